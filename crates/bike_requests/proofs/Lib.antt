@@ -1,0 +1,5 @@
+pub mod Splitting
+pub mod TabFree
+pub mod Chains
+pub mod CommandLaws
+pub mod OneText

@@ -1,0 +1,6 @@
+pub mod Fields
+pub mod Parts
+pub mod Reading
+pub mod Refusals
+pub mod Commands
+pub mod Readers

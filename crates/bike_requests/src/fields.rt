@@ -1,0 +1,84 @@
+//! The parts of a text between its TABs, from left to right.
+
+ghost use Rattle.std.specs.Prelude.{◌≡◌, ◌==◌};
+ghost use Rattle.std.specs.List.{slice_split};
+ghost use Rattle.bike_fixed.specs.Whole.{number_of};
+ghost use Rattle.bike_requests.specs.Reading.{Takes, Gives, part_at, field_at, no_more, exactly};
+
+use crate::fault::ReadFault;
+use bike_fixed::Within;
+use std::marker::Model;
+
+/// What is left of a text, seen as the list of its parts.
+#[derive(Drop)]
+pub struct Fields<'a> {
+    rest: Option<&'a str>,
+}
+
+impl<'a> Model for Fields<'a> {
+    ghost use Rattle.std.specs.Prelude.{List, ℕ};
+    ghost use Rattle.bike_requests.specs.Parts.{parts_of};
+
+    ghost Value = { List (List ℕ) };
+
+    ghost view = { λ a. parts_of a.rest };
+}
+
+impl<'a> Fields<'a> {
+    /// All parts of a text. The empty text has one, which is empty.
+    pub fn of(text: &'a str) -> Fields<'a>
+        ensures { result ≡ slice_split (λ b. b == 9) text.now }
+    {
+        Fields { rest: Some(text) }
+    }
+
+    /// The next part as it stands.
+    pub fn part(&mut self) -> Result<&'a str, ReadFault>
+        ensures { Takes (λ p. p.now) result (part_at self.old) self.new }
+    {
+        let Some(text) = self.rest else {
+            return Err(ReadFault::BadField);
+        };
+        match text.split_once('\t') {
+            Some((front, back)) => {
+                self.rest = Some(back);
+                Ok(front)
+            }
+            None => {
+                self.rest = None;
+                Ok(text)
+            }
+        }
+    }
+
+    /// The next part as a whole number of a range.
+    pub fn number<const LO: u32, const HI: u32>(&mut self) -> Result<Within<LO, HI>, ReadFault>
+        ensures { Takes (λ n. n) result (field_at (number_of LO HI) self.old) self.new }
+    {
+        let text = self.part()?;
+        Within::read(text).ok_or(ReadFault::BadField)
+    }
+
+    /// The next part, which has to be the word.
+    #[tactic(auto, unfolding(crate::specs::Reading::exactly))]
+    pub fn word(&mut self, word: &str) -> Result<(), ReadFault>
+        ensures { Takes (λ _. tt) result (field_at (exactly word.now) self.old) self.new }
+    {
+        let text = self.part()?;
+        if text == word {
+            Ok(())
+        } else {
+            Err(ReadFault::BadField)
+        }
+    }
+
+    /// Nothing is left.
+    pub fn end(self) -> Result<(), ReadFault>
+        ensures { Gives (λ _. tt) result (no_more self.entry) }
+    {
+        match self.rest {
+            None => Ok(()),
+            Some(_) => Err(ReadFault::BadField),
+        }
+    }
+}

@@ -1,0 +1,17 @@
+//! Requests and replies, and their texts.
+//!
+//! A command has one spelling. Reading a text is exact in both directions: a value is answered where
+//! the text spells one, and nothing only where it spells none.
+#![tactic(auto)]
+
+mod command;
+mod fault;
+mod fields;
+mod reading;
+mod refusal;
+mod writing;
+
+pub use command::{Command, Payment, RiderNumber};
+pub use reading::read_command;
+pub use refusal::Refusal;
+pub use writing::{command_text, command_text_law};
