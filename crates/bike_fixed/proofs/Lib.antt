@@ -1,1 +1,4 @@
 pub mod Numbers
+pub mod Rooms
+pub mod Coordinates
+pub mod Spellings

@@ -1,1 +1,4 @@
 pub mod Whole
+pub mod Calendar
+pub mod Text
+pub mod Coordinate

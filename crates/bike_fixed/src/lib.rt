@@ -4,10 +4,15 @@
 //! exact in both directions, and a text read back gives the value.
 #![tactic(auto)]
 
+mod cents;
+mod digits;
+mod micro;
 mod moment;
 mod whole;
 mod within;
 
+pub use cents::Cents;
+pub use micro::{Micro, coordinate_laws};
 pub use moment::Moment;
-pub use whole::{number_laws, read_whole};
+pub use whole::{number_laws, read_signed, read_whole, signed_text};
 pub use within::Within;

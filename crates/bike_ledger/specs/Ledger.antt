@@ -1,0 +1,71 @@
+-- The ledger: what its entries add to a rider's balance, to cash, to revenue and to a rental's refunds.
+use Rattle.std.specs.Prelude.{◌≡◌, ℕ, ℤ, pos, neg_ℤ, ◌+ℤ◌, ◌≤ℤ◌, List, [], ◌∷◌, ◌==◌, if◌then◌else◌}
+use Rattle.bike_ledger.specs.declared.entry.EntryKind.{EntryKind}
+use Rattle.bike_ledger.specs.declared.entry.EntryKind.TheVariants.{TopUp, Fare, Refund}
+use Rattle.bike_ledger.specs.declared.entry.Entry.{Entry}
+
+-- the sum of a figure of each entry
+abbrev pub total : (Entry → ℤ) → List Entry → ℤ
+total figure [] = pos 0
+total figure (e ∷ es) = figure e +ℤ total figure es
+
+-- what a kind adds to the balance of the entry's rider: a fare takes away
+abbrev pub credit : EntryKind → ℤ → ℤ
+credit TopUp amount = amount
+credit Fare amount = neg_ℤ amount
+credit Refund amount = amount
+
+-- what a kind adds to cash: money comes in by top-ups alone
+abbrev pub cash_in : EntryKind → ℤ → ℤ
+cash_in TopUp amount = amount
+cash_in Fare amount = pos 0
+cash_in Refund amount = pos 0
+
+-- what a kind adds to revenue
+abbrev pub earned : EntryKind → ℤ → ℤ
+earned TopUp amount = pos 0
+earned Fare amount = amount
+earned Refund amount = neg_ℤ amount
+
+-- what a kind adds to the refunds of the entry's rental
+abbrev pub given_back : EntryKind → ℤ → ℤ
+given_back TopUp amount = pos 0
+given_back Fare amount = pos 0
+given_back Refund amount = amount
+
+abbrev pub share : ℕ → Entry → ℤ
+share rider e = if e.rider == rider then credit e.kind e.amount else pos 0
+
+-- a rider's balance: top-ups and refunds less fares
+abbrev pub balance_of : ℕ → List Entry → ℤ
+balance_of rider = total (share rider)
+
+-- all top-ups
+abbrev pub cash_of : List Entry → ℤ
+cash_of = total (λ e. cash_in e.kind e.amount)
+
+-- all fares less all refunds
+abbrev pub revenue_of : List Entry → ℤ
+revenue_of = total (λ e. earned e.kind e.amount)
+
+-- all refunds of a rental
+abbrev pub refunded_of : ℕ → List Entry → ℤ
+refunded_of rental = total (λ e. if e.rental == rental then given_back e.kind e.amount else pos 0)
+
+-- the greatest amount of an entry, which is the greatest fare
+abbrev pub greatest_amount : ℤ
+greatest_amount = pos 34561800000
+
+-- what 99,999,999 entries of the greatest amount come to
+abbrev pub greatest_balance : ℤ
+greatest_balance = pos 3456179965438200000
+
+-- an amount that an entry may have
+pub record IsAmount (amount : ℤ) : Type 0 where
+  pub low : pos 0 ≤ℤ amount
+  pub high : amount ≤ℤ greatest_amount
+
+-- a balance to which one more entry can be added
+pub record IsBalance (balance : ℤ) : Type 0 where
+  pub low : neg_ℤ greatest_balance ≤ℤ balance
+  pub high : balance ≤ℤ greatest_balance

@@ -1,0 +1,11 @@
+//! The ledger: entries that book money between cash, riders and revenue.
+//!
+//! A balance is a sum over entries; one more entry changes it by the entry's credit. Money is neither
+//! made nor lost: the balances and the revenue together are the cash.
+#![tactic(auto)]
+
+mod entry;
+mod sums;
+
+pub use entry::{Entry, EntryKind};
+pub use sums::{balance_after, entry_law, money_law, refundable};
