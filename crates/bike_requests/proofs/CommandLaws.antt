@@ -1,5 +1,6 @@
 -- Commands are read exactly: both directions, kind by kind, then for the whole text.
 use Rattle.std.proofs.Common.{◌≡◌, ℕ, ◌++◌, List, [], ◌∷◌, cond, Option, Some, None, refl, sym, ap, ◌∙◌, subst, lit<, codes}
+use Rattle.std.specs.Prelude.{IfSome}
 use Rattle.std.specs.List.{slice_split, join_with_byte}
 use Rattle.std.proofs.lemmas.Option.{option_and_then_some}
 use Rattle.std.proofs.lemmas.List.Splits.{join_with_byte-slice_split}
@@ -97,3 +98,10 @@ command_full text c h =
       split = ap (slice_split is_tab) h.spelled.joined ∙ split_join (word_of c) h.spelled.parts (word_no_tab c) (parts_no_tab (fields_of c) h.spelled.parts read);
       read = read;
     })
+
+pub read_found : (text : List ℕ) (o : Option Command) → o ≡ command_at (slice_split is_tab text) → IfSome o (λ c. IsSpelling text c × IsCommand c)
+read_found text None e = tt
+read_found text (Some c) e = let s = command_sound text c (sym e) in (s.spelled, s.good)
+
+pub read_only : (text : List ℕ) (o : Option Command) → o ≡ command_at (slice_split is_tab text) → (c : Command) → IsCommand c → IsSpelling text c → o ≡ Some c
+read_only text o e c good spelled = e ∙ command_full text c (record { spelled = spelled; good = good })

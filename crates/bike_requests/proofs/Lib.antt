@@ -3,3 +3,4 @@ pub mod TabFree
 pub mod Chains
 pub mod CommandLaws
 pub mod OneText
+pub mod ReplyLaws

@@ -1,5 +1,5 @@
 -- The text that is written for a command spells it, so equal texts are of equal commands.
-use Rattle.std.proofs.Common.{◌≡◌, ℕ, List, [], ◌∷◌, ◌++◌, refl, sym, ap, ◌∙◌}
+use Rattle.std.proofs.Common.{◌≡◌, ℕ, List, [], ◌∷◌, ◌++◌, refl, sym, ap, ap₂, ◌∙◌}
 use Rattle.std.specs.Prelude.{map}
 use Rattle.std.specs.List.{slice_split, join_with_byte}
 use Rattle.std.proofs.lemmas.List.{append-nil}
@@ -9,6 +9,7 @@ use Rattle.bike_requests.specs.Fields.{Field, Number, Signed, Fixed, IsGood, Are
 use Rattle.bike_requests.specs.Commands.{word_of, fields_of, IsCommand, IsSpelling, text_of}
 use Rattle.bike_requests.specs.Readers.{command_at}
 use Rattle.bike_requests.proofs.Splitting.{is_tab}
+use Rattle.bike_requests.proofs.TabFree.{AreRead}
 use Rattle.bike_requests.proofs.CommandLaws.{command_full}
 
 field_spells : (f : Field) → IsGood f → Spells f (field_text f)
@@ -37,3 +38,14 @@ one_text c d g h e =
     same_Some c d (sym (command_full (text_of c) c (record { spelled = text_spells c g; good = g }))
       ∙ ap (λ (t : List ℕ). command_at (slice_split is_tab t)) e
       ∙ command_full (text_of d) d (record { spelled = text_spells d h; good = h }))
+
+-- fields have one spelling
+pub one_spelling : (word : List ℕ) (fs : List Field) (ps : List (List ℕ)) → AreRead fs ps → join_with_byte 9 (word ∷ ps) ≡ word ++ fields_text fs
+one_spelling word fs ps read = ap (λ (qs : List (List ℕ)). join_with_byte 9 (word ∷ qs)) (texts_of fs ps read) ∙ sym (joined_text word fs) where
+  texts_of : (fs : List Field) (ps : List (List ℕ)) → AreRead fs ps → ps ≡ map field_text fs
+  texts_of [] [] h = refl
+  texts_of [] (p ∷ ps) h = absurd h.each
+  texts_of (f ∷ fs) [] h = absurd h.each
+  texts_of (Number least greatest n ∷ fs) (p ∷ ps) h = ap₂ (λ (q : List ℕ) (qs : List (List ℕ)). q ∷ qs) h.each.0 (texts_of fs ps (record { each = h.each.1; good = h.good.1 }))
+  texts_of (Signed z ∷ fs) (p ∷ ps) h = ap₂ (λ (q : List ℕ) (qs : List (List ℕ)). q ∷ qs) h.each.0 (texts_of fs ps (record { each = h.each.1; good = h.good.1 }))
+  texts_of (Fixed word ∷ fs) (p ∷ ps) h = ap₂ (λ (q : List ℕ) (qs : List (List ℕ)). q ∷ qs) h.each.0 (texts_of fs ps (record { each = h.each.1; good = h.good.1 }))

@@ -4,3 +4,5 @@ pub mod Reading
 pub mod Refusals
 pub mod Commands
 pub mod Readers
+pub mod Replies
+pub mod ReplyReaders

@@ -1,5 +1,5 @@
 -- The refusals, by number and name.
-use Rattle.std.specs.Prelude.{ℕ, List, codes}
+use Rattle.std.specs.Prelude.{ℕ, List, [], ◌∷◌, codes, Option, find, ◌==◌}
 use Rattle.bike_requests.specs.declared.refusal.Refusal.{Refusal}
 use Rattle.bike_requests.specs.declared.refusal.Refusal.TheVariants as r
 
@@ -80,3 +80,17 @@ name_of r.KeyReused = codes "key_reused"
 name_of r.TruckFull = codes "truck_full"
 name_of r.RentalClosed = codes "rental_closed"
 name_of r.WrongTruckOrEnds = codes "wrong_truck_or_ends"
+
+-- all refusals, by number
+abbrev pub refusals : List Refusal
+refusals =
+    r.UnknownStation ∷ r.UnknownDock ∷ r.UnknownBike ∷ r.UnknownRider ∷ r.UnknownRental ∷ r.UnknownType ∷
+    r.UnknownPlan ∷ r.UnknownTruck ∷ r.UnknownOrder ∷ r.AlreadyThere ∷ r.BadField ∷ r.DockEmpty ∷
+    r.DockFull ∷ r.DockBroken ∷ r.BikeDisabled ∷ r.NotRenting ∷ r.NotReturning ∷ r.RiderBlocked ∷
+    r.BalanceNegative ∷ r.RiderIsRiding ∷ r.NotRented ∷ r.NotInDepot ∷ r.BikeRetired ∷ r.TruckTooSmall ∷
+    r.WrongPlace ∷ r.WrongType ∷ r.OrderClosed ∷ r.OrderFilled ∷ r.BikesOnTruck ∷ r.RefundTooLarge ∷
+    r.RentalOpen ∷ r.LimitReached ∷ r.KeyReused ∷ r.TruckFull ∷ r.RentalClosed ∷ r.WrongTruckOrEnds ∷ []
+
+-- the refusal that has the number
+unfoldable pub refusal_of : ℕ → Option Refusal
+refusal_of number = find (λ refusal. number_of refusal == number) refusals

@@ -3,10 +3,9 @@
 ghost use Rattle.std.specs.Prelude.{◌≡◌, ◌==◌};
 ghost use Rattle.std.specs.List.{slice_split};
 ghost use Rattle.bike_fixed.specs.Whole.{number_of};
-ghost use Rattle.bike_requests.specs.Reading.{Takes, Gives, part_at, field_at, no_more, exactly};
+ghost use Rattle.bike_requests.specs.Reading.{Takes, part_at, field_at, no_more, exactly, i64_of};
 
-use crate::fault::ReadFault;
-use bike_fixed::Within;
+use bike_fixed::{Within, read_signed};
 use std::marker::Model;
 
 /// What is left of a text, seen as the list of its parts.
@@ -33,52 +32,54 @@ impl<'a> Fields<'a> {
     }
 
     /// The next part as it stands.
-    pub fn part(&mut self) -> Result<&'a str, ReadFault>
+    pub fn part(&mut self) -> Option<&'a str>
         ensures { Takes (λ p. p.now) result (part_at self.old) self.new }
     {
-        let Some(text) = self.rest else {
-            return Err(ReadFault::BadField);
-        };
+        let text = self.rest?;
         match text.split_once('\t') {
             Some((front, back)) => {
                 self.rest = Some(back);
-                Ok(front)
+                Some(front)
             }
             None => {
                 self.rest = None;
-                Ok(text)
+                Some(text)
             }
         }
     }
 
     /// The next part as a whole number of a range.
-    pub fn number<const LO: u32, const HI: u32>(&mut self) -> Result<Within<LO, HI>, ReadFault>
+    pub fn number<const LO: u32, const HI: u32>(&mut self) -> Option<Within<LO, HI>>
         ensures { Takes (λ n. n) result (field_at (number_of LO HI) self.old) self.new }
     {
         let text = self.part()?;
-        Within::read(text).ok_or(ReadFault::BadField)
+        Within::read(text)
+    }
+
+    /// The next part as a whole number of 64 bits, with a minus sign exactly below zero.
+    pub fn signed(&mut self) -> Option<i64>
+        ensures { Takes (λ z. z) result (field_at i64_of self.old) self.new }
+    {
+        let text = self.part()?;
+        read_signed(text, i64::MIN, i64::MAX)
     }
 
     /// The next part, which has to be the word.
     #[tactic(auto, unfolding(crate::specs::Reading::exactly))]
-    pub fn word(&mut self, word: &str) -> Result<(), ReadFault>
+    pub fn word(&mut self, word: &str) -> Option<()>
         ensures { Takes (λ _. tt) result (field_at (exactly word.now) self.old) self.new }
     {
         let text = self.part()?;
-        if text == word {
-            Ok(())
-        } else {
-            Err(ReadFault::BadField)
-        }
+        if text == word { Some(()) } else { None }
     }
 
     /// Nothing is left.
-    pub fn end(self) -> Result<(), ReadFault>
-        ensures { Gives (λ _. tt) result (no_more self.entry) }
+    pub fn end(self) -> Option<()>
+        ensures { result ≡ no_more self.entry }
     {
         match self.rest {
-            None => Ok(()),
-            Some(_) => Err(ReadFault::BadField),
+            None => Some(()),
+            Some(_) => None,
         }
     }
 }

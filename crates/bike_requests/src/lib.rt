@@ -5,13 +5,14 @@
 #![tactic(auto)]
 
 mod command;
-mod fault;
 mod fields;
 mod reading;
 mod refusal;
+mod reply;
 mod writing;
 
 pub use command::{Command, Payment, RiderNumber};
 pub use reading::read_command;
 pub use refusal::Refusal;
+pub use reply::{REPLY_LENGTH, Reply};
 pub use writing::{command_text, command_text_law};

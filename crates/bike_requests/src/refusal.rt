@@ -1,6 +1,6 @@
 //! The refusals: why a request changes nothing.
 
-ghost use Rattle.std.specs.Prelude.{◌≡◌, IfSome, IfNone, ◌≢◌, ℕ, Some};
+ghost use Rattle.std.specs.Prelude.{◌≡◌, IfSome, ◌≤◌, length, ℕ, Some};
 ghost use Rattle.bike_requests.specs.Refusals.{number_of, name_of};
 ghost use Rattle.bike_requests.specs.declared.refusal.Refusal.{Refusal};
 
@@ -128,7 +128,8 @@ impl Refusal {
 
     /// The name that an answer line prints.
     pub fn name(self) -> &'static str
-        ensures { result.now ≡ name_of self }
+        ensures value { result.now ≡ name_of self }
+        ensures short { length result.now ≤ 19 }
     {
         match self {
             Refusal::UnknownStation => "unknown_station",

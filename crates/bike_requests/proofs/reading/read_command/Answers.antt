@@ -1,16 +1,10 @@
-use Rattle.std.proofs.Common.{ap, sym, ◌∙◌}
+use Rattle.std.proofs.Common.{ap, ◌∙◌}
 use Rattle.bike_requests.specs.Readers.{command_at}
-use Rattle.bike_requests.proofs.CommandLaws.{command_sound, command_full}
+use Rattle.bike_requests.proofs.CommandLaws.{read_found, read_only}
 use Rattle.bike_requests.proofs.reading.read_command.Goals as goal
 
-pub returns-in-Ok-clause-found : goal.returns-in-Ok-clause-found
-returns-in-Ok-clause-found c =
-    let s = command_sound c.args.text.now c.in-Ok.command (sym (ap command_at c.of.ensures) ∙ c.in-Ok.ensures) in (s.spelled, s.good)
+pub returns-clause-found : goal.returns-clause-found
+returns-clause-found c = read_found c.args.text.now c.read_rest.result (c.read_rest.ensures ∙ ap command_at c.of.ensures)
 
-pub returns-in-Ok-clause-only : goal.returns-in-Ok-clause-only
-returns-in-Ok-clause-only c =
-    λ d g s. sym (sym (ap command_at c.of.ensures) ∙ c.in-Ok.ensures) ∙ command_full c.args.text.now d (record { spelled = s; good = g })
-
-pub returns-in-Err-BadField-clause-only : goal.returns-in-Err-BadField-clause-only
-returns-in-Err-BadField-clause-only c =
-    λ d g s. sym (sym (ap command_at c.of.ensures) ∙ rw c.in-Err-BadField.field-0-is at c.in-Err-BadField.ensures) ∙ command_full c.args.text.now d (record { spelled = s; good = g })
+pub returns-clause-only : goal.returns-clause-only
+returns-clause-only c = read_only c.args.text.now c.read_rest.result (c.read_rest.ensures ∙ ap command_at c.of.ensures)
