@@ -60,15 +60,15 @@ shares_of_others (r ∷ rs) e none =
 shares_of_own : (riders : List ℕ) (e : Entry) → AreDistinct riders → is_among e.rider riders ≡ true → shares riders e ≡ credit e.kind e.amount
 shares_of_own [] e apart some = absurd cc
 shares_of_own (r ∷ rs) e apart some = elim (eqb_tells e.rider r) [
-    | inl w ↦
+  | inl w ↦
       let mine = share_of_own r e w.0 in
       let rest = shares_of_others rs e (ap (λ q. is_among q rs) w.1 ∙ apart.0) in
       omega (arith, ints, mine, rest)
-    | inr w ↦
+  | inr w ↦
       let mine = share_of_other r e w.0 in
       let rest = shares_of_own rs e apart.1 (second_true (eqb r e.rider) (is_among e.rider rs) (other_turned e.rider r w.1) some) in
       omega (arith, ints, mine, rest)
-  ]
+]
 
 kinds_agree : (kind : EntryKind) (amount : ℤ) → credit kind amount +ℤ earned kind amount ≡ cash_in kind amount
 kinds_agree TopUp amount = omega (arith, ints)

@@ -1,6 +1,11 @@
 //! Entries of the ledger.
 
+ghost use Rattle.std.specs.Prelude.{◌≡◌, pos};
+
 use bike_fixed::{Cents, Moment, Within};
+
+/// The number of an entry, 1 to 100,000,000.
+pub type EntryNumber = Within<1, 100_000_000>;
 
 /// What an entry books: from which account to which.
 #[derive(Clone, Copy, Debug, PartialEq, Eq)]
@@ -17,7 +22,7 @@ pub enum EntryKind {
 #[derive(Clone, Copy, Debug, PartialEq, Eq)]
 pub struct Entry {
     /// Its number: entries are numbered 1, 2, 3, ..
-    pub number: Within<1, 100_000_000>,
+    pub number: EntryNumber,
     /// What it books.
     pub kind: EntryKind,
     /// The rider whose balance it changes.
@@ -28,4 +33,35 @@ pub struct Entry {
     pub amount: Cents,
     /// When it was booked.
     pub at: Moment,
+}
+
+impl Entry {
+    /// The entry of a top-up, of 1 to 1,000,000 hundredths.
+    pub fn top_up(
+        number: EntryNumber,
+        rider: Within<1, 999_999>,
+        amount: Within<1, 1_000_000>,
+        at: Moment,
+    ) -> Entry
+        ensures { result ≡ record { number = number; kind = EntryKind.TopUp; rider = rider; rental = 0; amount = pos amount; at = at } }
+    {
+        Entry {
+            number,
+            kind: EntryKind::TopUp,
+            rider,
+            rental: none(),
+            amount: Cents::new(i64::from(amount.get())),
+            at,
+        }
+    }
+}
+
+/// No rental.
+fn none() -> Within<0, 100_000_000>
+    ensures { result ≡ 0 }
+{
+    match Within::new(0) {
+        Some(zero) => zero,
+        None => unreachable!(),
+    }
 }

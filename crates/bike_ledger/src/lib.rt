@@ -7,5 +7,5 @@
 mod entry;
 mod sums;
 
-pub use entry::{Entry, EntryKind};
+pub use entry::{Entry, EntryKind, EntryNumber};
 pub use sums::{balance_after, entry_law, money_law, refundable};

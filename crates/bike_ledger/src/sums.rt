@@ -35,12 +35,10 @@ pub fn refundable(fare: Cents, refunded: Cents) -> Cents
 pub fn entry_law()
     ensures balance { (es : List Entry) (e : Entry) (rider : ℕ) → balance_of rider (es ++ e ∷ []) ≡ balance_of rider es +ℤ share rider e }
     ensures any_sum { (figure : Entry → ℤ) (es : List Entry) (e : Entry) → total figure (es ++ e ∷ []) ≡ total figure es +ℤ figure e }
-{
-}
+{}
 
 /// The law of money: over every list of entries, the balances of all riders and the revenue together
 /// are the cash. The riders are any list without repeats in which each entry's rider stands.
 pub fn money_law()
     ensures { (riders : List ℕ) (es : List Entry) → AreDistinct riders → AreOf riders es → IsConserved riders es }
-{
-}
+{}

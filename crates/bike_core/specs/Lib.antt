@@ -1,0 +1,4 @@
+pub mod Operator
+pub mod View
+pub mod Steps
+pub mod Changes
