@@ -1,6 +1,7 @@
 -- The arithmetic of a midnight's instant, and the years that have bounds.
-use Rattle.std.proofs.Common.{◌≡◌, ℕ, ℤ, pos, neg_ℤ, ◌*ℤ◌, ◌+ℤ◌, ◌-ℤ◌, ◌<ℤ◌, ◌≤ℤ◌, ◌*◌, ◌/◌, ◌≤◌, arith, lit≤, refl, sym, ap, ◌∙◌, true, false, Result, Ok, Err, Option, Some, None, IsOk, IsSome, ◌↔◌, inl}
-use Rattle.std.specs.Prelude.{unsigned_abs, negsuc, int_lt}
+use Rattle.std.proofs.Common.{◌≡◌, ℕ, ℤ, pos, ◌*ℤ◌, ◌+ℤ◌, ◌-ℤ◌, ◌<ℤ◌, ◌≤ℤ◌, ◌*◌, ◌/◌, ◌≤◌, arith, lit≤, refl, sym, ap, ◌∙◌, true, false, Result, Ok, Err, Option, Some, None, IsOk, IsSome, ◌↔◌, inl, leb}
+use Rattle.std.proofs.lemmas.Bool.Decides.{nat_tests}
+use Rattle.std.specs.Prelude.{unsigned_abs, negsuc, int_lt, if◌then◌else◌}
 use Rattle.std.specs.Result.{result_ok, is_ok}
 use Rattle.std.proofs.lemmas.Bool.{false≢true}
 use Rattle.std.proofs.lemmas.Int.{ints}
@@ -118,3 +119,6 @@ year_bounds d low high =
 pub no_rule : {T E X : Type 0} (r : Result T E) (o : Option X) (e : E) → (IsOk r ↔ IsSome o) → r ≡ Err e → o ≡ None
 no_rule r None e h i = refl
 no_rule r (Some x) e h i = let k : is_ok r ≡ true = h.1 refl in let m : false ≡ true = rw i at k in absurd (false≢true m)
+
+pub is_made : (k : ℕ) (o : Option ℕ) → o ≡ (if leb k last_moment then Some k else None) → k ≤ last_moment → o ≡ Some k
+is_made k o e h = let t : leb k last_moment ≡ true = grind (arith, nat_tests) in e ∙ rw t refl

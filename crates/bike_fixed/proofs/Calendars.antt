@@ -1,13 +1,13 @@
 -- Counting off years and months finds the date that has the day number.
-use Rattle.std.proofs.Common.{◌≡◌, ℕ, ℤ, zero, suc, pos, negsuc, ◌+◌, ◌-◌, ◌<◌, ◌≤◌, ◌+ℤ◌, ◌-ℤ◌, ◌<ℤ◌, ◌≤ℤ◌, true, false, ltb, cond, unsigned_abs, refl, sym, ap, ◌∙◌, subst, arith, lit≤, inl, inr}
+use Rattle.std.proofs.Common.{◌≡◌, ℕ, ℤ, zero, suc, pos, negsuc, ◌+◌, ◌-◌, ◌<◌, ◌≤◌, ◌-ℤ◌, ◌<ℤ◌, ◌≤ℤ◌, true, false, ltb, unsigned_abs, refl, sym, ap, ◌∙◌, arith, lit≤, inl}
 use Rattle.std.proofs.lemmas.Bool.Decides.{nat_tests}
-use Rattle.std.proofs.lemmas.Int.{ints, by_lt_z}
+use Rattle.std.proofs.lemmas.Int.{by_lt_z}
 use Rattle.jiff.proofs.SpanFacts.{signed_arith}
 use Rattle.jiff.specs.Types.{Date}
-use Rattle.jiff.specs.Words.{epoch_day, ordinal}
+use Rattle.jiff.specs.Words.{epoch_day}
 use Rattle.jiff_core.specs.Calendar.{days_in_year, days_in_month, days_of_years, days_of_months, day_count, days_from_civil}
 use Rattle.jiff_core.proofs.DateLemmas.{epoch_day-lt, epoch_day-ordinal, civil}
-use Rattle.jiff_core.proofs.CalendarLemmas.{day_of_year_bound, days_of_months-zero, days_of_months_more, day_count-epoch}
+use Rattle.jiff_core.proofs.CalendarLemmas.{day_of_year_bound, days_of_months-zero}
 use Rattle.jiff_core.proofs.StandardFacts.{known_days}
 use Rattle.bike_fixed.specs.Calendar.{year_and_day, month_and_day, civil_date}
 

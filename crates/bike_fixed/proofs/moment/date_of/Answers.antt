@@ -1,4 +1,4 @@
-use Rattle.std.proofs.Common.{◌≡◌, ℤ, pos, arith}
+use Rattle.std.proofs.Common.{◌≡◌, pos, arith}
 use Rattle.jiff.proofs.SpanFacts.{signed_arith}
 use Rattle.jiff.specs.Words.{epoch_day}
 use Rattle.bike_fixed.proofs.Calendars.{civil_is}
