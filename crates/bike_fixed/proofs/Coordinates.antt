@@ -1,5 +1,5 @@
 -- A coordinate is read exactly where it is spelled.
-use Rattle.std.proofs.Common.{◌≡◌, ◌≢◌, ℕ, ℤ, suc, ◌+◌, ◌-◌, ◌*◌, ◌^◌, ◌<◌, ◌≤◌, List, [], ◌∷◌, ◌++◌, length, take, drop, Bool, true, false, cond, eqb, leb, ltb, ◌&&◌, Option, Some, None, Result, Ok, Err, refl, sym, ap, ◌∙◌, subst, add-one, arith, rules, pos, neg_ℤ, ◌≤ℤ◌, inl, inr, ◌⊎◌}
+use Rattle.std.proofs.Common.{◌≡◌, ◌≢◌, ℕ, ℤ, suc, ◌+◌, ◌-◌, ◌*◌, ◌^◌, ◌<◌, ◌≤◌, List, [], ◌∷◌, ◌++◌, length, take, drop, Bool, true, false, cond, eqb, leb, ltb, ◌&&◌, Option, Some, None, Result, Ok, refl, sym, ap, ◌∙◌, subst, add-one, arith, rules, inl, inr, ◌⊎◌}
 use Rattle.std.specs.List.{list_all, onto_first, position_or_len, before_first, after_first, slice_split, join_with_byte}
 use Rattle.std.specs.Char.{is_ascii_digit}
 use Rattle.std.specs.Str.Parse.{digits_value, ParsesUnsigned}
@@ -134,24 +134,36 @@ without_point text = digits_of 3 text >>= λ n. Some (n * 1000000)
 with_point_sound : (text w p : List ℕ) (n : ℕ) → text ≡ w ++ 46 ∷ p → with_point w p ≡ Some n → IsSize text n
 with_point_sound text w p n cut e =
     option_and_then_some (λ n. digits_of 6 p >>= λ m. Some (n * 1000000 + m * 10 ^ (6 - length p))) (digits_of 3 w) n e (λ a f g.
-      option_and_then_some (λ m. Some (a * 1000000 + m * 10 ^ (6 - length p))) (digits_of 6 p) n g (λ b h k.
-        let dw = digits_sound 3 w a f in
-        let dp = digits_sound 6 p b h in
-        record {
-          whole = w; part = p; whole_digits = dw.0.digits; part_digits = dp.0.digits; some_whole = dw.0.some; few_whole = dw.0.few; few_part = dp.0.few;
-          spelled = cut ∙ ap (λ (t : List ℕ). w ++ t) (sym (fraction_some p dp.0.some));
-          value = sym (same_Some _ n k) ∙ ap (λ (x : ℕ). x * 1000000 + b * 10 ^ (6 - length p)) (sym dw.1) ∙ ap (λ (x : ℕ). digits_value 10 w * 1000000 + x * 10 ^ (6 - length p)) (sym dp.1);
-        }))
+    option_and_then_some (λ m. Some (a * 1000000 + m * 10 ^ (6 - length p))) (digits_of 6 p) n g (λ b h k.
+    let dw = digits_sound 3 w a f in
+    let dp = digits_sound 6 p b h in
+    record {
+      whole = w;
+      part = p;
+      whole_digits = dw.0.digits;
+      part_digits = dp.0.digits;
+      some_whole = dw.0.some;
+      few_whole = dw.0.few;
+      few_part = dp.0.few;
+      spelled = cut ∙ ap (λ (t : List ℕ). w ++ t) (sym (fraction_some p dp.0.some));
+      value = sym (same_Some _ n k) ∙ ap (λ (x : ℕ). x * 1000000 + b * 10 ^ (6 - length p)) (sym dw.1) ∙ ap (λ (x : ℕ). digits_value 10 w * 1000000 + x * 10 ^ (6 - length p)) (sym dp.1);
+    }))
 
 without_point_sound : (text : List ℕ) (n : ℕ) → without_point text ≡ Some n → IsSize text n
 without_point_sound text n e =
     option_and_then_some (λ n. Some (n * 1000000)) (digits_of 3 text) n e (λ a f g.
-      let d = digits_sound 3 text a f in
-      record {
-        whole = text; part = []; whole_digits = d.0.digits; part_digits = refl; some_whole = d.0.some; few_whole = d.0.few; few_part = omega arith;
-        spelled = sym (append-nil text);
-        value = sym (same_Some _ n g) ∙ ap (λ (x : ℕ). x * 1000000) (sym d.1) ∙ omega arith;
-      })
+    let d = digits_sound 3 text a f in
+    record {
+      whole = text;
+      part = [];
+      whole_digits = d.0.digits;
+      part_digits = refl;
+      some_whole = d.0.some;
+      few_whole = d.0.few;
+      few_part = omega arith;
+      spelled = sym (append-nil text);
+      value = sym (same_Some _ n g) ∙ ap (λ (x : ℕ). x * 1000000) (sym d.1) ∙ omega arith;
+    })
 
 size_sound : (text : List ℕ) (n : ℕ) → size_of text ≡ Some n → IsSize text n
 unfolding size_of
@@ -218,14 +230,23 @@ micro_within false n h = (omega (arith, ints, h), omega (arith, ints, h))
 within_sound : (minus : Bool) (text : List ℕ) (z : ℤ) → within minus text ≡ Some z → IsCoordinate (minus_text minus ++ text) z × IsMicro z
 within_sound minus text z e =
     option_and_then_some (λ n. cond (leb n 180000000) (Some (signed minus n)) None) (size_of text) z e (λ n f g.
-      let s = size_sound text n f in
-      let c = cond_some (leb n 180000000) (signed minus n) z g in
-      let few : n ≤ 180000000 = grind (arith, nat_tests, c.0) in
-      (record {
-        minus = minus; whole = s.whole; part = s.part; whole_digits = s.whole_digits; part_digits = s.part_digits; some_whole = s.some_whole; few_whole = s.few_whole; few_part = s.few_part;
+    let s = size_sound text n f in
+    let c = cond_some (leb n 180000000) (signed minus n) z g in
+    let few : n ≤ 180000000 = grind (arith, nat_tests, c.0) in (
+      record {
+        minus = minus;
+        whole = s.whole;
+        part = s.part;
+        whole_digits = s.whole_digits;
+        part_digits = s.part_digits;
+        some_whole = s.some_whole;
+        few_whole = s.few_whole;
+        few_part = s.few_part;
         spelled = ap (λ (t : List ℕ). minus_text minus ++ t) s.spelled;
         value = sym c.1 ∙ ap (signed minus) s.value;
-      }, subst IsMicro c.1 (micro_within minus n few)))
+      },
+      subst IsMicro c.1 (micro_within minus n few),
+    ))
 
 pub micro_sound : (text : List ℕ) (z : ℤ) → micro_of text ≡ Some z → IsCoordinate text z × IsMicro z
 unfolding micro_of
@@ -250,6 +271,7 @@ unfolding micro_of
 micro_full text z c h = go c.minus refl where
   few : FewDigits 3 c.whole
   few = record { some = c.some_whole; few = c.few_whole; digits = c.whole_digits }
+
   go : (b : Bool) → c.minus ≡ b → micro_of text ≡ Some z
   go true i =
       let t : text ≡ 45 ∷ (c.whole ++ fraction c.part) = c.spelled ∙ ap (λ b. minus_text b ++ (c.whole ++ fraction c.part)) i in

@@ -1,5 +1,5 @@
 -- A coordinate's own text is one of its spellings.
-use Rattle.std.proofs.Common.{◌≡◌, ℕ, ℤ, suc, ◌+◌, ◌*◌, ◌/◌, ◌%◌, ◌<◌, ◌≤◌, List, ◌∷◌, Bool, true, false, cond, leb, Some, refl, sym, ap, ◌∙◌, arith, pos, negsuc, neg_ℤ, decimal, append_assoc}
+use Rattle.std.proofs.Common.{◌≡◌, ℕ, ℤ, suc, ◌+◌, ◌*◌, ◌/◌, ◌%◌, ◌<◌, ◌≤◌, ◌∷◌, true, false, cond, leb, Some, refl, sym, ap, ◌∙◌, arith, pos, negsuc, neg_ℤ, decimal, append_assoc}
 use Rattle.std.specs.List.{list_all}
 use Rattle.std.specs.Prelude.{int_lt, unsigned_abs}
 use Rattle.std.specs.Char.{is_ascii_digit, digit_value}
@@ -40,9 +40,14 @@ micro_text_spelled z h =
     let x : digits_value 10 (six_digits r) ≡ r = six_value r (omega arith) in
     let whole_is : digits_value 10 (decimal w) * 1000000 + digits_value 10 (six_digits r) * 1 ≡ unsigned_abs z = omega (arith, v, x) in
     record {
-      minus = int_lt z (pos 0); whole = decimal w; part = six_digits r;
-      whole_digits = digits_decimal decimal_digits w (omega arith); part_digits = six_are_digits r;
-      some_whole = decimal_nonempty w (omega arith); few_whole = length-decimal-le 3 w (omega arith) small (omega arith); few_part = omega arith;
+      minus = int_lt z (pos 0);
+      whole = decimal w;
+      part = six_digits r;
+      whole_digits = digits_decimal decimal_digits w (omega arith);
+      part_digits = six_are_digits r;
+      some_whole = decimal_nonempty w (omega arith);
+      few_whole = length-decimal-le 3 w (omega arith) small (omega arith);
+      few_part = omega arith;
       spelled = append_assoc (sign_text z) (decimal w) (46 ∷ six_digits r);
       value = sym (ap (signed (int_lt z (pos 0))) whole_is ∙ sign_is z);
     }

@@ -1,5 +1,5 @@
 -- How money, coordinates and moments are printed.
-use Rattle.std.specs.Prelude.{◌≡◌, ℕ, ℤ, ◌+◌, ◌*◌, ◌/◌, ◌%◌, pos, List, [], ◌∷◌, ◌++◌, decimal, unsigned_abs, int_lt, if◌then◌else◌}
+use Rattle.std.specs.Prelude.{ℕ, ℤ, ◌+◌, ◌/◌, ◌%◌, pos, List, [], ◌∷◌, ◌++◌, decimal, unsigned_abs, int_lt, if◌then◌else◌}
 use Rattle.bike_fixed.specs.Calendar.{civil_date}
 
 -- the decimal digit of n at the place of a power of ten

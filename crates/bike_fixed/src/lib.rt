@@ -5,6 +5,7 @@
 #![tactic(auto)]
 
 mod cents;
+mod day;
 mod digits;
 mod micro;
 mod moment;
@@ -12,6 +13,7 @@ mod whole;
 mod within;
 
 pub use cents::Cents;
+pub use day::{DayFault, day_bounds};
 pub use micro::{Micro, coordinate_laws};
 pub use moment::Moment;
 pub use whole::{number_laws, read_signed, read_whole, signed_text};

@@ -138,5 +138,4 @@ pub fn coordinate_laws()
     ensures full { (text : List ℕ) (z : ℤ) → IsCoordinate text z → IsMicro z → micro_of text ≡ Some z }
     ensures spelled { (z : ℤ) → IsMicro z → IsCoordinate (micro_text z) z }
     ensures read_back { (z : ℤ) → IsMicro z → micro_of (micro_text z) ≡ Some z }
-{
-}
+{}

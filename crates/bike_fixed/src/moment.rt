@@ -1,13 +1,22 @@
 //! Moments: whole seconds of Unix time.
 
-ghost use Rattle.std.specs.Prelude.{◌≡◌, ◌≤◌, ℕ, Some, None, nat_le, if◌then◌else◌, max};
+ghost use Rattle.std.specs.Prelude.{◌≡◌, ◌≤◌, ◌+◌, ◌++◌, ℕ, pos, Some, None, nat_le, if◌then◌else◌, max};
+ghost use Rattle.arrayvec.specs.ArrayString.{array_string_len};
+ghost use Rattle.bike_fixed.specs.Calendar.{civil_date};
+ghost use Rattle.bike_fixed.specs.Text.{clock_text, moment_text};
 ghost use Rattle.bike_fixed.specs.Whole.{number_of, last_moment};
 
+use crate::digits::{push_four, push_two};
 use crate::whole::read_whole;
+use arrayvec::ArrayString;
+use jiff_core::civil::Date;
 use std::marker::Model;
 
 /// The last moment: 9999-12-31T23:59:59Z.
 const LAST: u64 = 253_402_300_799;
+
+/// The days from -9999-01-01 to 1970-01-01.
+const DAYS_BEFORE_1970: u32 = 4_371_587;
 
 /// Whole seconds since 1970-01-01T00:00:00Z without leap seconds (POSIX's seconds since the Epoch), from 0
 /// to 253402300799, the last second of the year 9999. Moments are ordered by time.
@@ -27,6 +36,16 @@ impl Model for Moment {
     ghost invariant = { λ a. a.seconds ≤ last_moment };
 
     ghost inverse = { λ n. record { seconds = n } };
+}
+
+/// The civil date so many days after 1970-01-01.
+fn date_of(day: u32) -> Date
+    requires { day ≤ 2932896 }
+    ensures year { result.year ≡ pos (civil_date day).0 }
+    ensures month { result.month ≡ (civil_date day).1 }
+    ensures day { result.day ≡ (civil_date day).2 }
+{
+    Date::from_days_since_min(DAYS_BEFORE_1970 + day)
 }
 
 impl Moment {
@@ -64,5 +83,28 @@ impl Moment {
             return *other;
         }
         *self
+    }
+
+    /// The moment in UTC, as `2024-02-29T23:59:59Z` (RFC 3339, section 5.6).
+    #[tactic(auto, unfolding(crate::specs::Text::moment_text))]
+    pub fn text(&self) -> ArrayString<20>
+        ensures { result.bytes ≡ moment_text self.now }
+    {
+        let date = date_of((self.seconds / 86_400) as u32);
+        let second = (self.seconds % 86_400) as u32;
+        let mut out = ArrayString::new();
+        push_four(&mut out, u32::from(date.year.unsigned_abs()));
+        out.push('-');
+        push_two(&mut out, u32::from(date.month));
+        out.push('-');
+        push_two(&mut out, u32::from(date.day));
+        out.push('T');
+        push_two(&mut out, second / 3600);
+        out.push(':');
+        push_two(&mut out, second / 60 % 60);
+        out.push(':');
+        push_two(&mut out, second % 60);
+        out.push('Z');
+        out
     }
 }
