@@ -1,0 +1,33 @@
+//! Numbers with a name of their own.
+
+use bike_fixed::Within;
+
+/// A rider, 1 to 999,999.
+pub type RiderNumber = Within<1, 999_999>;
+
+/// A bicycle, 1 to 999,999.
+pub type BicycleNumber = Within<1, 999_999>;
+
+/// A truck, 1 to 999,999.
+pub type TruckNumber = Within<1, 999_999>;
+
+/// A dock of a station, 1 to 200.
+pub type DockNumber = Within<1, 200>;
+
+/// How many docks a station has, 1 to 200.
+pub type DockCount = Within<1, 200>;
+
+/// How many bicycles a truck holds, 1 to 60.
+pub type TruckCapacity = Within<1, 60>;
+
+/// How many bicycles an order moves, 1 to 60.
+pub type OrderQuantity = Within<1, 60>;
+
+/// A top-up or a refund, 1 to 1,000,000 hundredths.
+pub type Payment = Within<1, 1_000_000>;
+
+/// A rental, 1 to 100,000,000.
+pub type RentalNumber = Within<1, 100_000_000>;
+
+/// An order, 1 to 100,000,000.
+pub type OrderNumber = Within<1, 100_000_000>;
