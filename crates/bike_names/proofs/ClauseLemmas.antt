@@ -107,7 +107,7 @@ module _ {s s0 : Schema} {f : ℕ → ℕ} (r : Relocates s s0 f) (low : Context
   unfolding matching
   matching_same ls a b l core k =
       let p = body_parts s0 ok core k in
-      ap₂ (λ all where. all >>= (λ joined. where joined.filter >>= (λ filter. pure (record joined { filter = filter })))) (joins_same (l ∷ ls) false true l.tables (out-Core core).from p.0)
+      ap₂ (λ all later. all >>= (λ joined. later joined.filter >>= (λ filter. pure (record joined { filter = filter })))) (joins_same (l ∷ ls) false true l.tables (out-Core core).from p.0)
           (fun_ext (λ done. tests_same (l ∷ ls) false true done (out-Core core).filter p.2))
 
   -- ---- FROM, the columns and WHERE

@@ -6,3 +6,5 @@ pub mod SourceLemmas
 pub mod ClauseLemmas
 pub mod SubqueryLemmas
 pub mod CoreLemmas
+pub mod PlaceLemmas
+pub mod QueryLemmas
