@@ -5,3 +5,4 @@ pub mod Changes
 pub mod Inserts
 pub mod Makes
 pub mod Laws
+pub mod Shapes
