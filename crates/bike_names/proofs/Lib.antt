@@ -17,3 +17,4 @@ pub mod GrowLemmas
 pub mod ExampleTables
 pub mod ExampleReads
 pub mod ExampleChanges
+pub mod ExampleUnions
