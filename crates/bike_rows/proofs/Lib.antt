@@ -1,0 +1,4 @@
+pub mod OrderLemmas
+pub mod ListLemmas
+pub mod TreeLemmas
+pub mod KeyLemmas
