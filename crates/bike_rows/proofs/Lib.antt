@@ -2,3 +2,8 @@ pub mod OrderLemmas
 pub mod ListLemmas
 pub mod TreeLemmas
 pub mod KeyLemmas
+pub mod AnswerLemmas
+pub mod KeyOrderLemmas
+pub mod EffectLemmas
+pub mod CastLemmas
+pub mod ChangeLemmas
