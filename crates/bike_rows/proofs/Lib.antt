@@ -7,3 +7,10 @@ pub mod KeyOrderLemmas
 pub mod EffectLemmas
 pub mod CastLemmas
 pub mod ChangeLemmas
+pub mod FrameLemmas
+pub mod TestLemmas
+pub mod CrashLemmas
+pub mod ReadLemmas
+pub mod InsertLaw
+pub mod UpdateLaw
+pub mod LookupLaw

@@ -1,6 +1,5 @@
 pub mod Keyed
 pub mod Layout
 pub mod View
-pub mod Has
 pub mod Stands
 pub mod Queries
