@@ -19,12 +19,12 @@ use Rattle.sqlite_resolve.specs.Order.{keys, sorts}
 use Rattle.sqlite_resolve.specs.Expr.{lower}
 use Rattle.sqlite_resolve.specs.Select.{outermost, inside, having, parts, assembled, named, stepless, constant, constant_or, paging}
 use Rattle.bike_names.specs.Fragment.{covers, covers_option, covers_core, covers_page}
-use Rattle.bike_names.proofs.Relocation.{Relocates, level_at, body_at, scope, checked_map, with_state, then_over, then_into, then_same, both}
+use Rattle.bike_names.proofs.Relocation.{Relocates, bound_at, level_at, body_at, scope, checked_map, with_state, then_over, then_into, then_same, both}
 use Rattle.bike_names.proofs.CoverLemmas.{core_parts}
 use Rattle.bike_names.proofs.ClauseLemmas.{LowersAlike, tests_same, body_over, keys_same, sorts_same}
 use Rattle.bike_names.proofs.SubqueryLemmas.{lower_to_same}
 
-abbrev clauses_at : (ℕ → ℕ) → Clauses → Clauses
+abbrev pub clauses_at : (ℕ → ℕ) → Clauses → Clauses
 clauses_at f c = record c { body = body_at f c.body }
 
 module _ {s s0 : Schema} {f : ℕ → ℕ} (r : Relocates s s0 f) where
@@ -35,7 +35,7 @@ module _ {s s0 : Schema} {f : ℕ → ℕ} (r : Relocates s s0 f) where
   unfolding having
   having_same l is_grouped o k = ap (λ x. if is_some o && not is_grouped then fail Misuse else x) (tests_same r lower (covers s0) lower_same (l ∷ []) is_grouped true [] o k)
 
-  parts_over : (core : Core) (order : List Sort) → covers_core s0 core order ≡ true → (st : State) → parts s core order st ≡ checked_map (with_state (clauses_at f)) (parts s0 core order st)
+  pub parts_over : (core : Core) (order : List Sort) → covers_core s0 core order ≡ true → (st : State) → parts s core order st ≡ checked_map (with_state (clauses_at f)) (parts s0 core order st)
   unfolding parts
   parts_over core order k st =
       let p = core_parts s0 core order k in
@@ -53,7 +53,7 @@ module _ {s s0 : Schema} {f : ℕ → ℕ} (r : Relocates s s0 f) where
 
   assembled_same : (distinct : Bool) (limit offset : Term) (p : Clauses) (st : State) → assembled distinct limit offset (clauses_at f p) st ≡ assembled distinct limit offset p st
   unfolding assembled
-  assembled_same distinct limit offset p st = let e = length-map p.body.level.tables (Rattle.bike_names.proofs.Relocation.bound_at f) in rw e
+  assembled_same distinct limit offset p st = let e = length-map p.body.level.tables (bound_at f) in rw e
 
   pub named_same : (core : Core) (order : List Sort) (page : Term × Term) → covers_core s0 core order ≡ true → named s core order page ≡ named s0 core order page
   unfolding named

@@ -8,3 +8,7 @@ pub mod SubqueryLemmas
 pub mod CoreLemmas
 pub mod PlaceLemmas
 pub mod QueryLemmas
+pub mod ReadLaws
+pub mod ChangeLaws
+pub mod InsertLaws
+pub mod MakeLaws

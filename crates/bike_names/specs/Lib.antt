@@ -4,3 +4,4 @@ pub mod Reads
 pub mod Changes
 pub mod Inserts
 pub mod Makes
+pub mod Laws

@@ -18,7 +18,7 @@ use Rattle.sqlite_resolve.specs.Lowering.{Checked, and_then}
 use Rattle.sqlite_resolve.specs.Select.{named, paging}
 use Rattle.sqlite_resolve.specs.Program.{Shown, query}
 use Rattle.sqlite_resolve.specs.Compile.{first}
-use Rattle.bike_names.specs.Fragment.{is_nil, covers_core, covers_page, covers_select}
+use Rattle.bike_names.specs.Fragment.{is_nil, covers, covers_order, covers_core, covers_page, covers_select}
 
 -- what a reading gives of a statement that is a query and reads no clock; any other is refused
 abbrev pub of_query : {A : Type 0} → (Select → Checked A) → List Name → Statement → Checked A
@@ -54,7 +54,8 @@ covers_parts s (c ∷ more) = covers_part s c.1 && covers_parts s more
 
 -- a query of two or more covered parts, with no WITH
 abbrev pub covers_union : Schema → Select → Bool
-covers_union s q = covers_part s (out-Select q).first && (covers_parts s (out-Select q).others && (covers_page s q && (is_nil (out-Select q).with && not (is_nil (out-Select q).others))))
+covers_union s q =
+    (covers_part s (out-Select q).first && (covers_parts s (out-Select q).others && covers_order (covers s) (out-Select q).order)) && (covers_page s q && (is_nil (out-Select q).with && not (is_nil (out-Select q).others)))
 
 -- the draft that reads the rows of all parts, and the tables that are computed for it
 abbrev pub one_union : Schema → Select → Checked (Shown × List Let)
