@@ -11,6 +11,7 @@ use Rattle.sqlite.specs.Effect.{value_rows}
 use Rattle.sqlite.specs.Listing.{understood}
 use Rattle.sqlite.specs.State.{State, Executes}
 use Rattle.sqlite.proofs.Callers.{IsPlain, command_of, runs_as}
+use Rattle.bike_names.specs.Laws.{Means}
 use Rattle.bike_rows.specs.Layout.{Layout, table_of}
 use Rattle.bike_rows.specs.View.{columns_of, put_row_by}
 use Rattle.bike_rows.specs.Stands.{rows_of, Stands, Sets}
@@ -22,7 +23,7 @@ use Rattle.bike_rows.proofs.FrameLemmas.{rows_of_is, sets}
 
 -- The statement gives one source row: the rowid or NULL, and a value for each column. `row` is what the table shows of it.
 pub insert_sets : (keys : ℕ) (layout : Layout) → IsKeyOf keys layout → (old new : State) (was : Stands old.now keys layout) (text : List ℕ) (params : Row) (width : ℕ) (terms : List Term) (source row : Row)
-    → (command_of (understood old.now.schema text) ≡ Insert was.at (Values terms width)) × IsPlain (understood old.now.schema text) → value_rows params width (length terms / width) terms ≡ source ∷ [] → suits_row layout.columns source ≡ true
+    → Means old.now.schema text (Insert was.at (Values terms width)) → value_rows params width (length terms / width) terms ≡ source ∷ [] → suits_row layout.columns source ≡ true
     → ((rows : List Row) → columns_of (table_of layout was.tree) (with_rowid Chosen rows source) ≡ row) → (count : ℕ) → Executes text params old new (Ok count)
     → Sets old.now new.now keys layout (put_row_by keys row (rows_of keys layout.name old.now))
 insert_sets keys layout key old new was text params width terms source row means gives suit shows count ran =

@@ -1,5 +1,5 @@
 -- A look-up by key answers exactly the row with that key, or none.
-use Rattle.std.proofs.Common.{◌≡◌, ◌⊎◌, inl, inr, ℕ, List, [], ◌∷◌, map, take, Bool, true, false, Option, Some, None, Ok, Err, Ordering, Less, Equal, Greater, refl, sym, ap, subst, ◌∙◌}
+use Rattle.std.proofs.Common.{◌≡◌, ◌⊎◌, inl, inr, ℕ, List, [], ◌∷◌, map, take, Bool, true, false, Option, Some, None, Ok, Err, Result, IfOk, OnErr, Ordering, Less, Equal, Greater, refl, sym, ap, subst, ◌∙◌}
 use Rattle.std.specs.Ordering.{is_eq}
 use Rattle.std.specs.List.{list_any}
 use Rattle.std.proofs.lemmas.Bool.{true≢false}
@@ -12,8 +12,10 @@ use Rattle.sqlite_sql.specs.Term.{Term, eval_all}
 use Rattle.sqlite_sql.specs.Query.{Query}
 use Rattle.sqlite_schema.specs.declared.schema.Table.{Table}
 use Rattle.sqlite_rules.specs.Lists.{Has}
+use Rattle.sqlite.specs.declared.error.Error.{Error}
 use Rattle.sqlite.specs.declared.error.Error.TheVariants.{QueryReturnedNoRows}
 use Rattle.sqlite.specs.State.{State, QueriesRow, IsUnchanged}
+use Rattle.bike_rows.specs.Outcome.{IsLeft, if_any}
 use Rattle.bike_rows.specs.Keyed.{in_order}
 use Rattle.bike_rows.specs.Layout.{Layout, table_of}
 use Rattle.bike_rows.specs.View.{columns_of, by_key, row_with, IsKeyed}
@@ -24,7 +26,7 @@ use Rattle.bike_rows.proofs.ListLemmas.{has_map, map_has, find_only, find_none}
 use Rattle.bike_rows.proofs.TreeLemmas.{by_key_total, shown_apart}
 use Rattle.bike_rows.proofs.AnswerLemmas.{passes, answered, comes_from, goes_to}
 use Rattle.bike_rows.proofs.TestLemmas.{tests_key}
-use Rattle.bike_rows.proofs.ReadLemmas.{MeansQuery, first_answer, no_answer}
+use Rattle.bike_rows.proofs.ReadLemmas.{MeansQuery, first_answer, no_answer, row_stopped}
 use Rattle.bike_rows.proofs.FrameLemmas.{rows_of_is}
 
 tie_of : (o : Ordering) → is_eq o ≡ true → o ≡ Equal
@@ -54,7 +56,7 @@ module _ (keys : ℕ) (layout : Layout) (old new : State) (was : Stands old.now 
   tested : (r : Row) → passes was.tree (key_tests 0 places) [] project db params r ≡ is_eq (row_cmp (take keys (f r)) key)
   tested r = tests_key 0 places params r solid ∙ ap (λ k. is_eq (row_cmp k key)) (sym (first r))
 
-  pub finds : (row : Row) → QueriesRow text params old new (Ok row) → (row_with keys key (rows_of keys layout.name old.now) ≡ Some row) × IsUnchanged old new
+  finds : (row : Row) → QueriesRow text params old new (Ok row) → (row_with keys key (rows_of keys layout.name old.now) ≡ Some row) × IsUnchanged old new
   finds row h =
       let a = first_answer text params old new query names means row h in
       let answer = answered was.tree (key_tests 0 places) [] project db params Null (row ∷ a.0.0) a.0.1 in
@@ -69,7 +71,7 @@ module _ (keys : ℕ) (layout : Layout) (old new : State) (was : Stands old.now 
             apart y row (order_has (by_key_total keys) (map f (db was.tree)) y has) (rw is (has_map f (db was.tree) it.0 it.1)) tie) in
       (ap (row_with keys key) (rows_of_is old.now keys layout was) ∙ found, a.1)
 
-  pub misses : QueriesRow text params old new (Err QueryReturnedNoRows) → (row_with keys key (rows_of keys layout.name old.now) ≡ None) × IsUnchanged old new
+  misses : QueriesRow text params old new (Err QueryReturnedNoRows) → (row_with keys key (rows_of keys layout.name old.now) ≡ None) × IsUnchanged old new
   misses h =
       let a = no_answer text params old new query names means h in
       let answer = answered was.tree (key_tests 0 places) [] project db params Null [] a.0 in
@@ -81,3 +83,9 @@ module _ (keys : ℕ) (layout : Layout) (old new : State) (was : Stands old.now 
       fails : (r : Row) (b : Bool) → passes was.tree (key_tests 0 places) [] project db params r ≡ b → (passes was.tree (key_tests 0 places) [] project db params r ≡ true → ⊥) → passes was.tree (key_tests 0 places) [] project db params r ≡ false
       fails r true e never = absurd (never e)
       fails r false e never = e
+
+  -- an answer is the row with the key, or that there is none, and changes nothing; a failure leaves all as it was or undoes the transaction
+  pub looked_up : (r : Result Row Error) → QueriesRow text params old new r → IfOk (if_any r) (λ row. (row_with keys key (rows_of keys layout.name old.now) ≡ row) × IsUnchanged old new) × OnErr (if_any r) (IsLeft old new)
+  looked_up (Ok row) h = (finds row h, tt)
+  looked_up (Err QueryReturnedNoRows) h = (misses h, tt)
+  looked_up (Err e) h = (tt, row_stopped text params old new means.1 _ h)

@@ -15,11 +15,12 @@ use Rattle.sqlite.specs.Effect.{Database, RefusesToRead}
 use Rattle.sqlite.specs.Listing.{understood, reads_listing}
 use Rattle.sqlite.specs.State.{State, IsNotRun, IsUnchanged, FailsToQuery, FailsToShow, Shown, ShowsRows, QueriesRow, Fails, store_error}
 use Rattle.sqlite.proofs.Callers.{IsPlain, command_of, reads_as, first_as}
-use Rattle.bike_rows.proofs.CrashLemmas.{IsLeft}
+use Rattle.bike_names.specs.Laws.{Reads}
+use Rattle.bike_rows.specs.Outcome.{IsLeft}
 
--- the text stands for this query, shows no write and reads no list of the schema
+-- in the schema the text is this query, with columns of these names
 abbrev pub MeansQuery : Schema → List ℕ → Query → List (List ℕ) → Type 0
-MeansQuery schema text query names = (command_of (understood schema text) ≡ Select (record { lets = []; body = query }) names) × IsPlain (understood schema text) × (reads_listing schema text ≡ false)
+MeansQuery schema text query names = Reads schema text (Select (record { lets = []; body = query }) names)
 
 -- ---- "no row" is no other failure
 

@@ -19,6 +19,7 @@ use Rattle.sqlite_rules.proofs.TableLemmas.{int_is}
 use Rattle.sqlite.specs.Listing.{understood}
 use Rattle.sqlite.specs.State.{State, Executes}
 use Rattle.sqlite.proofs.Callers.{IsPlain, command_of, runs_as}
+use Rattle.bike_names.specs.Laws.{Means}
 use Rattle.bike_rows.specs.Layout.{Layout, table_of}
 use Rattle.bike_rows.specs.View.{columns_of, by_key, replaced}
 use Rattle.bike_rows.specs.Stands.{rows_of, Stands, Sets}
@@ -33,7 +34,7 @@ use Rattle.bike_rows.proofs.AnswerLemmas.{passes, answered}
 
 -- WHERE compares the key's columns, at `places`, with the first parameters; SET gives each column its value in `values`.
 module _ (keys : ℕ) (layout : Layout) (key : IsKeyOf keys layout) (old new : State) (was : Stands old.now keys layout) (text : List ℕ) (params : Row) (places : List ℕ) (project : List Term) (values row : Row)
-    (means : (command_of (understood old.now.schema text) ≡ Update was.at (record { lets = []; body = table_query was.tree (key_tests 0 places) [] project })) × IsPlain (understood old.now.schema text))
+    (means : Means old.now.schema text (Update was.at (record { lets = []; body = table_query was.tree (key_tests 0 places) [] project })))
     (first : (r : Row) → take keys (columns_of (table_of layout was.tree) r) ≡ map (column r) places) (solid : list_any is_null (key_in 0 places params) ≡ false) (has_key : take keys row ≡ key_in 0 places params)
     (suit : suit_all layout.columns values ≡ true) (projects : (r : Row) → eval_all project (params ∷ r ∷ []) ≡ rowid r ∷ rowid r ∷ values) where
   abbrev test : Row → Bool
@@ -62,7 +63,7 @@ tie_of Greater h = absurd (true≢false (sym h))
 
 -- the key is an INTEGER PRIMARY KEY, the first parameter
 pub update_number : (layout : Layout) → IsKeyOf 1 layout → (old new : State) (was : Stands old.now 1 layout) (text : List ℕ) (n : ℤ) (others : Row) (project : List Term) (values row : Row)
-    → (command_of (understood old.now.schema text) ≡ Update was.at (record { lets = []; body = table_query was.tree (key_tests 0 (0 ∷ [])) [] project })) × IsPlain (understood old.now.schema text)
+    → Means old.now.schema text (Update was.at (record { lets = []; body = table_query was.tree (key_tests 0 (0 ∷ [])) [] project }))
     → ((r : Row) → take 1 (columns_of (table_of layout was.tree) r) ≡ rowid r ∷ []) → take 1 row ≡ Int n ∷ [] → suit_all layout.columns values ≡ true → ((r : Row) → eval_all project ((Int n ∷ others) ∷ r ∷ []) ≡ rowid r ∷ rowid r ∷ values)
     → columns_of (table_of layout was.tree) (Int n ∷ values) ≡ row → (count : ℕ) → Executes text (Int n ∷ others) old new (Ok count) → Sets old.now new.now 1 layout (replaced 1 row (rows_of 1 layout.name old.now))
 update_number layout key old new was text n others project values row means first has_key suit projects shows =

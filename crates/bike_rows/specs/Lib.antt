@@ -3,3 +3,4 @@ pub mod Layout
 pub mod View
 pub mod Stands
 pub mod Queries
+pub mod Outcome
