@@ -1,0 +1,85 @@
+-- What a query of one table answers.
+use Rattle.std.proofs.Common.{◌≡◌, ◌⊎◌, inl, inr, ℕ, zero, suc, ◌+◌, ◌-◌, ◌^◌, ◌<◌, pos, negsuc, List, [], ◌∷◌, ◌++◌, length, map, take, filter, flat_map, get_or, Bool, true, false, cond, Option, Some, None, unwrap_or, slice_get, Ordering, Less, Equal, Greater, refl, sym, ap, ap₂, subst, subst₂, ◌∙◌, arith, nat_le}
+use Rattle.std.specs.List.{AllByRecursion, list_all, IsDistinct}
+use Rattle.std.specs.Ordering.{eq_by_cmp, is_eq, is_lt, ordering_reverse}
+use Rattle.std.specs.List.Sorted.{IsPermutation, IsSorted, IsStrictlySortedBy}
+use Rattle.std.proofs.lemmas.List.Sorted.{IsPermutation-sym}
+use Rattle.std.proofs.lemmas.Map.Keys.{IsDistinct-IsPermutation, sorted_from_all_adjacent}
+use Rattle.sqlite_value.specs.declared.value.Value.{Value}
+use Rattle.sqlite_value.specs.declared.value.Value.TheVariants.{Null}
+use Rattle.sqlite_value.specs.declared.keys.Key.{Key}
+use Rattle.sqlite_value.specs.Order.{Row, column, value_cmp, row_cmp}
+use Rattle.sqlite_value.specs.Keys.{rising}
+use Rattle.sqlite_trees.specs.Tree.{Trees, rowid, IsAscending}
+use Rattle.sqlite_sql.specs.Term.{Term, eval_all, holds}
+use Rattle.sqlite_sql.specs.Query.{Query, inner, end, matches_as, IsAnswerAs, output, output_cmp, page, Output}
+use Rattle.sqlite_sql.specs.Program.{overlay}
+use Rattle.sqlite_sql.proofs.QueryLemmas.{output_cmp_total, key_cmp_up}
+use Rattle.sqlite_schema.specs.declared.schema.Table.{Table}
+use Rattle.sqlite_rules.specs.Lists.{Has}
+use Rattle.bike_rows.specs.Keyed.{in_order}
+use Rattle.bike_rows.specs.View.{columns_of, by_key, AreSpread, IsKeyed}
+use Rattle.bike_rows.specs.Queries.{table_query, by_columns}
+use Rattle.bike_rows.proofs.OrderLemmas.{all_has, all_from, order_is}
+use Rattle.bike_rows.proofs.ListLemmas.{has_map, map_has, map_map, has_filter, filter_has, get_has, permuted}
+use Rattle.bike_rows.proofs.TreeLemmas.{by_key_total, shown_apart}
+
+pub no_overlay : (db : Trees) (tree : ℕ) → overlay db [] tree ≡ db tree
+no_overlay db tree = elim (nat_le (2 ^ 31) tree) as (λ b. unwrap_or (cond b (slice_get {X = List Row} [] (tree - 2 ^ 31)) None) (db tree) ≡ db tree) [ true ↦ refl | false ↦ refl ]
+
+chosen : {A B : Type 0} (p : A → Bool) (f : A → B) (xs : List A) → flat_map (λ x. cond (p x) (f x ∷ []) []) xs ≡ map f (filter p xs)
+chosen p f [] = refl
+chosen p f (x ∷ xs) = elim (p x) as (λ b. cond b (f x ∷ []) [] ++ flat_map (λ y. cond (p y) (f y ∷ []) []) xs ≡ map f (cond b (x ∷ filter p xs) (filter p xs))) [ true ↦ ap (λ l. f x ∷ l) (chosen p f xs) | false ↦ chosen p f xs ]
+
+-- ---- the answer
+
+module _ (tree : ℕ) (tests : List Term) (order : List (Term × Key)) (project : List Term) (db : Trees) (params : Row) where
+  abbrev q : Query
+  q = table_query tree tests order project
+
+  -- the stored row passes WHERE
+  abbrev pub passes : Row → Bool
+  passes r = list_all (holds (params ∷ r ∷ [])) tests
+
+  abbrev pub out : Row → Output
+  out r = output q (params ∷ r ∷ [])
+
+  matched : (lost : Value) → matches_as lost (overlay db []) tests (inner tree end) (params ∷ []) ≡ map (λ r. params ∷ r ∷ []) (filter passes (db tree))
+  matched lost = ap (flat_map (λ r. matches_as lost (overlay db []) tests end ((params ∷ []) ++ r ∷ []))) (no_overlay db tree) ∙ chosen passes (λ r. params ∷ r ∷ []) (db tree)
+
+  -- the rows that pass, as the query shows them, in an order that ORDER BY allows
+  pub record Answered (rows : List Row) : Type 0 where
+    pub outs : List Output
+    pub same : IsPermutation (map out (filter passes (db tree))) outs
+    pub sorted : IsSorted (output_cmp q) outs
+    pub shown : rows ≡ map (λ o. o.1) outs
+
+  -- whatever the LIMIT, the rows are a page of them
+  pub answered_page : (limit : Term) (lost : Value) (rows : List Row) → IsAnswerAs lost (record q { limit = limit }) (overlay db []) params rows → (all : List Row) × Answered all × (rows ≡ page (record q { limit = limit }) params all)
+  answered_page limit lost rows a = (map (λ o. o.1) a.ordered, record {
+    outs = a.ordered;
+    same = subst (λ k. IsPermutation k a.ordered) (a.distinct ∙ ap (map (output q)) (a.grouped ∙ matched lost) ∙ map_map (λ r. params ∷ r ∷ []) (output q) (filter passes (db tree))) a.same;
+    sorted = a.sorted;
+    shown = refl;
+  }, a.shown)
+
+  pub answered : (lost : Value) (rows : List Row) → IsAnswerAs lost q (overlay db []) params rows → Answered rows
+  answered lost rows a = let it = answered_page q.limit lost rows a in subst Answered (sym it.2) it.1
+
+  -- each row shown is that of a stored row that passes
+  pub comes_from : (rows : List Row) → Answered rows → (x : Row) → Has rows x → (r : Row) × Has (db tree) r × (passes r ≡ true) × (x ≡ eval_all project (params ∷ r ∷ []))
+  comes_from rows a x h =
+      let o = map_has (λ (o : Output). o.1) a.outs x (rw a.shown at h) in
+      let back = permuted a.outs (map out (filter passes (db tree))) o.0 (IsPermutation-sym _ _ a.same) o.1 in
+      let r = map_has out (filter passes (db tree)) o.0 back in
+      let it = has_filter passes (db tree) r.0 r.1 in
+      (r.0, it.0, it.1, o.2 ∙ ap (λ (p : Output). p.1) r.2)
+
+  -- each stored row that passes is shown
+  pub goes_to : (rows : List Row) → Answered rows → (r : Row) → Has (db tree) r → passes r ≡ true → Has rows (eval_all project (params ∷ r ∷ []))
+  goes_to rows a r h passed =
+      let o = permuted (map out (filter passes (db tree))) a.outs (out r) a.same (has_map out (filter passes (db tree)) r (filter_has passes (db tree) r h passed)) in
+      rw a.shown (has_map (λ (p : Output). p.1) a.outs (out r) o)
+
+  pub out_from : (rows : List Row) (a : Answered rows) (o : Output) → Has a.outs o → (r : Row) × Has (filter passes (db tree)) r × (o ≡ out r)
+  out_from rows a o h = map_has out (filter passes (db tree)) o (permuted a.outs (map out (filter passes (db tree))) o (IsPermutation-sym _ _ a.same) h)

@@ -1,0 +1,16 @@
+pub mod OrderLemmas
+pub mod ListLemmas
+pub mod TreeLemmas
+pub mod KeyLemmas
+pub mod AnswerLemmas
+pub mod KeyOrderLemmas
+pub mod EffectLemmas
+pub mod CastLemmas
+pub mod ChangeLemmas
+pub mod FrameLemmas
+pub mod TestLemmas
+pub mod CrashLemmas
+pub mod ReadLemmas
+pub mod InsertLaw
+pub mod UpdateLaw
+pub mod LookupLaw

@@ -1,0 +1,44 @@
+-- The queries of one table that the laws speak of.
+use Rattle.std.specs.Prelude.{ℕ, suc, List, [], ◌∷◌, map, pos, negsuc, None, false, true}
+use Rattle.sqlite_value.specs.declared.value.Value.TheVariants.{Int}
+use Rattle.sqlite_value.specs.declared.keys.Key.{Key}
+use Rattle.sqlite_value.specs.declared.keys.Collation.TheVariants.{Binary}
+use Rattle.sqlite_value.specs.Order.{Row, column}
+use Rattle.sqlite_value.specs.Keys.{ascending}
+use Rattle.sqlite_sql.specs.Term.{Term, lit, col, op2}
+use Rattle.sqlite_sql.specs.Query.{Query, inner, end}
+use Rattle.sqlite_sql.specs.declared.ops.BinaryOp.TheVariants.{Compare}
+use Rattle.sqlite_sql.specs.declared.ops.CompareOp.TheVariants.{Eq}
+
+-- SELECT project FROM the table in the tree WHERE each of the tests ORDER BY order
+abbrev pub table_query : ℕ → List Term → List (Term × Key) → List Term → Query
+table_query tree tests order project = record {
+  from = inner tree end;
+  filter = tests;
+  group = None;
+  project = project;
+  distinct = false;
+  collations = [];
+  order = order;
+  limit = lit (Int (negsuc 0));
+  offset = lit (Int (pos 0));
+}
+
+-- column = ?, for a place of the stored row and a parameter
+abbrev pub key_test : ℕ → ℕ → Term
+key_test place at = op2 (Compare Eq Binary) (col 1 place) (col 0 at)
+
+-- the columns at these places equal the parameters from one on
+abbrev pub key_tests : ℕ → List ℕ → List Term
+key_tests at [] = []
+key_tests at (place ∷ places) = key_test place at ∷ key_tests (suc at) places
+
+-- the parameters that those tests compare with
+abbrev pub key_in : ℕ → List ℕ → Row → Row
+key_in at [] params = []
+key_in at (place ∷ places) params = column params at ∷ key_in (suc at) places params
+
+-- ORDER BY the columns at these places
+abbrev pub by_columns : List ℕ → List (Term × Key)
+by_columns [] = []
+by_columns (place ∷ places) = (col 1 place, ascending Binary) ∷ by_columns places

@@ -1,0 +1,51 @@
+-- A table as the list of its rows in the order of their keys, with no rowid, tree or index in it.
+use Rattle.std.specs.Prelude.{◌≡◌, ℕ, true, List, map, take, find, length, Option, is_some, if◌then◌else◌}
+use Rattle.std.specs.List.{range_with_len}
+use Rattle.std.specs.declared.cmp.Ordering.{Ordering}
+use Rattle.std.specs.declared.cmp.Ordering.TheVariants.{Equal}
+use Rattle.std.specs.Ordering.{on, is_eq}
+use Rattle.sqlite_value.specs.Order.{Row, column, value_cmp, row_cmp}
+use Rattle.sqlite_trees.specs.View.{is_int}
+use Rattle.sqlite_trees.specs.Tree.{Trees, rowid, IsAscending}
+use Rattle.sqlite_schema.specs.declared.schema.Table.{Table}
+use Rattle.sqlite_schema.specs.Names.{place_of}
+use Rattle.sqlite_rules.specs.Lists.{Has}
+use Rattle.bike_rows.specs.Keyed.{put_in, in_order}
+
+-- a stored row as its columns show it
+abbrev pub columns_of : Table → Row → Row
+columns_of table row = map (λ at. column row (place_of table at)) (range_with_len 0 (length table.columns))
+
+-- the order of rows by their key, which is their first columns
+abbrev pub by_key : ℕ → Row → Row → Ordering
+by_key keys = on (take keys) row_cmp
+
+-- the rows of a table in the order of their keys
+abbrev pub rows_in : ℕ → Table → Trees → List Row
+rows_in keys table trees = in_order (by_key keys) (map (columns_of table) (trees table.tree))
+
+-- the row that has this key
+abbrev pub row_with : ℕ → Row → List Row → Option Row
+row_with keys key = find (λ row. is_eq (row_cmp (take keys row) key))
+
+-- the rows with this one at its place, where it stands for the row with its key, if there is one
+abbrev pub put_row_by : ℕ → Row → List Row → List Row
+put_row_by keys = put_in (by_key keys)
+
+-- the rows with this one in place of the row with its key, and unchanged if there is none
+abbrev pub replaced : ℕ → Row → List Row → List Row
+replaced keys row rows = if is_some (row_with keys (take keys row) rows) then put_row_by keys row rows else rows
+
+-- no two stored rows have one rowid, wherever they stand
+abbrev pub AreSpread : List Row → Type 0
+AreSpread = IsAscending (λ a b. value_cmp (rowid a) (rowid b) ≡ Equal → ⊥)
+
+-- each rowid is a number
+abbrev pub AreNumbered : List Row → Type 0
+AreNumbered rows = (r : Row) → Has rows r → is_int (rowid r) ≡ true
+
+-- The first columns are a key: no two stored rows have one rowid, and none have one key.
+pub record IsKeyed (keys : ℕ) (table : Table) (rows : List Row) : Type 0 where
+  pub spread : AreSpread rows
+  pub numbered : AreNumbered rows
+  pub apart : (a b : Row) → Has rows a → Has rows b → by_key keys (columns_of table a) (columns_of table b) ≡ Equal → value_cmp (rowid a) (rowid b) ≡ Equal

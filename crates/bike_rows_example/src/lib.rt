@@ -1,0 +1,4 @@
+//! Two tables over the laws of keyed tables: each statement is one line of code under its whole contract.
+#![tactic(auto)]
+
+pub mod parts;
