@@ -16,7 +16,7 @@ pub record IsReader {A : Type 0} (read : List ℕ → Option A) (field : A → F
   pub sound : (text : List ℕ) (a : A) → read text ≡ Some a → Spells (field a) text × IsGood (field a)
   pub full : (text : List ℕ) (a : A) → Spells (field a) text → IsGood (field a) → read text ≡ Some a
 
-pub number_reader : (least greatest : ℕ) → greatest < 2 ^ 32 → IsReader (number_of least greatest) (Number least greatest)
+pub number_reader : (least greatest : ℕ) → greatest < 2 ^ 64 → IsReader (number_of least greatest) (Number least greatest)
 number_reader least greatest small = record {
   sound = λ text n e. let s = number_sound least greatest text n e in (s.spelled, (s.low_le, s.le_high, small));
   full = λ text n e g. number_full least greatest text n (omega (arith, small)) (record { low_le = g.0; le_high = g.1; spelled = e });

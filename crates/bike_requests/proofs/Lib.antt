@@ -4,3 +4,4 @@ pub mod Chains
 pub mod CommandLaws
 pub mod OneText
 pub mod ReplyLaws
+pub mod RequestLaws

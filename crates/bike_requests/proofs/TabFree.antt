@@ -30,7 +30,7 @@ both_hold : (a b : Bool) → (a && b) ≡ true → (a ≡ true) × (b ≡ true)
 both_hold true b e = (refl, e)
 both_hold false b e = absurd cc
 
-all_weaker : (p q : ℕ → Bool) → ((x : ℕ) → p x ≡ true → q x ≡ true) → (xs : List ℕ) → list_all p xs ≡ true → list_all q xs ≡ true
+pub all_weaker : (p q : ℕ → Bool) → ((x : ℕ) → p x ≡ true → q x ≡ true) → (xs : List ℕ) → list_all p xs ≡ true → list_all q xs ≡ true
 all_weaker p q h [] e = refl
 all_weaker p q h (x ∷ xs) e = let b = both_hold (p x) (list_all p xs) e in rw (h x b.0, all_weaker p q h xs b.1) refl
 
@@ -43,7 +43,7 @@ digit_model = numerals_by_value _ (search rules)
 own_digits : (n : ℕ) → n < 2 ^ 64 → list_all is_ascii_digit (decimal n) ≡ true
 own_digits n small = digits_decimal digit_model n small
 
-decimal_no_tab : (n : ℕ) → n < 2 ^ 64 → HasNoTab (decimal n)
+pub decimal_no_tab : (n : ℕ) → n < 2 ^ 64 → HasNoTab (decimal n)
 decimal_no_tab n small = all_weaker is_ascii_digit (λ b. not (eqb b 9)) no_tab_of_digit (decimal n) (own_digits n small)
 
 field_no_tab : (f : Field) (p : List ℕ) → Spells f p → IsGood f → HasNoTab p

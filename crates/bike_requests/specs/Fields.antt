@@ -15,7 +15,7 @@ HasNoTab text = list_all (λ b. not (b == 9)) text ≡ true
 
 -- what a field may hold
 abbrev pub IsGood : Field → Type 0
-IsGood (Number least greatest n) = (least ≤ n) × (n ≤ greatest) × (greatest < 2 ^ 32)
+IsGood (Number least greatest n) = (least ≤ n) × (n ≤ greatest) × (greatest < 2 ^ 64)
 IsGood (Signed z) = (neg_ℤ (pos 9223372036854775808) ≤ℤ z) × (z ≤ℤ pos 9223372036854775807)
 IsGood (Fixed word) = HasNoTab word
 

@@ -6,3 +6,5 @@ pub mod Commands
 pub mod Readers
 pub mod Replies
 pub mod ReplyReaders
+pub mod Requests
+pub mod RequestReaders

@@ -1,11 +1,15 @@
 //! The parts of a text between its TABs, from left to right.
 
-ghost use Rattle.std.specs.Prelude.{◌≡◌, ◌==◌};
+ghost use Rattle.std.specs.Prelude.{◌≡◌, ◌==◌, IfOk};
 ghost use Rattle.std.specs.List.{slice_split};
-ghost use Rattle.bike_fixed.specs.Whole.{number_of};
+ghost use Rattle.bike_fixed.specs.Whole.{number_of, last_moment};
+ghost use Rattle.bike_catalogue.specs.Caller.{caller_of};
+ghost use Rattle.bike_catalogue.specs.Bytes.{key_of};
 ghost use Rattle.bike_requests.specs.Reading.{Takes, part_at, field_at, no_more, exactly, i64_of};
 
-use bike_fixed::{Within, read_signed};
+use bike_catalogue::{Caller, RequestKey};
+use bike_fixed::{Moment, Within, read_signed};
+use std::alloc::{AllocError, Global};
 use std::marker::Model;
 
 /// What is left of a text, seen as the list of its parts.
@@ -62,6 +66,34 @@ impl<'a> Fields<'a> {
     {
         let text = self.part()?;
         read_signed(text, i64::MIN, i64::MAX)
+    }
+
+    /// The next part as a moment, in seconds.
+    pub fn moment(&mut self) -> Option<Moment>
+        ensures { Takes (λ t. t) result (field_at (number_of 0 last_moment) self.old) self.new }
+    {
+        let text = self.part()?;
+        Moment::read(text)
+    }
+
+    /// The next part as a caller; an error where memory was refused.
+    pub fn caller(&mut self, alloc: Global) -> Result<Option<Caller>, AllocError>
+        ensures { IfOk result (λ o. Takes (λ c. c) o (field_at caller_of self.old) self.new) }
+    {
+        let Some(text) = self.part() else {
+            return Ok(None);
+        };
+        Caller::read(alloc, text)
+    }
+
+    /// The next part as a request key; an error where memory was refused.
+    pub fn key(&mut self, alloc: Global) -> Result<Option<RequestKey>, AllocError>
+        ensures { IfOk result (λ o. Takes (λ k. k) o (field_at key_of self.old) self.new) }
+    {
+        let Some(text) = self.part() else {
+            return Ok(None);
+        };
+        RequestKey::read(alloc, text)
     }
 
     /// The next part, which has to be the word.

@@ -1,0 +1,13 @@
+use Rattle.std.proofs.Common.{sym, ap, ◌∙◌}
+use Rattle.std.specs.Prelude.{IfOk}
+use Rattle.bike_requests.specs.RequestReaders.{request_at}
+use Rattle.bike_requests.proofs.RequestLaws.{line_found, line_only}
+use Rattle.bike_requests.proofs.line.read_line.Goals as goal
+
+pub returns-clause-found : goal.returns-clause-found
+returns-clause-found c =
+    line_found c.args.line.now c.read_request.result c.if-line-gt-LINE_LENGTH.false c.in-Ok.ensures.cases.1 (rw (c.of.ensures, c.in-Ok.ensures.cases.0) at c.read_request.ensures)
+
+pub returns-clause-only : goal.returns-clause-only
+returns-clause-only c =
+    line_only c.args.line.now c.read_request.result c.if-line-gt-LINE_LENGTH.false c.in-Ok.ensures.cases.1 (rw (c.of.ensures, c.in-Ok.ensures.cases.0) at c.read_request.ensures)

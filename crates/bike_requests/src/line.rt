@@ -1,0 +1,58 @@
+//! Request lines.
+
+ghost use Rattle.std.specs.Prelude.{◌≡◌, ◌≤◌, ℕ, IfOk, IfSome, Some};
+ghost use Rattle.bike_fixed.specs.Whole.{last_moment};
+ghost use Rattle.bike_requests.specs.declared.request.Request.{Request};
+ghost use Rattle.bike_requests.specs.Requests.{IsRequest, IsLine};
+ghost use Rattle.bike_requests.specs.RequestReaders.{request_at};
+
+use crate::fields::Fields;
+use crate::reading::read_rest;
+use crate::request::Request;
+use bike_fixed::Moment;
+use std::alloc::{AllocError, Global};
+
+/// The greatest length of a request line in bytes, its LF not counted.
+pub const LINE_LENGTH: usize = 4096;
+
+#[tactic(auto, unfolding(crate::specs::RequestReaders::request_at))]
+fn read_request(alloc: Global, mut fields: Fields) -> Result<Option<(Moment, Request)>, AllocError>
+    ensures { IfOk result (λ o. o ≡ request_at fields.entry) }
+{
+    let Some(moment) = fields.moment() else {
+        return Ok(None);
+    };
+    let Some(caller) = fields.caller(alloc)? else {
+        return Ok(None);
+    };
+    let Some(key) = fields.key(alloc)? else {
+        return Ok(None);
+    };
+    let Some(command) = read_rest(fields) else {
+        return Ok(None);
+    };
+    Ok(Some((
+        moment,
+        Request {
+            caller,
+            key,
+            command,
+        },
+    )))
+}
+
+/// The request that the line spells, and the moment at which it comes: `MOMENT⇥CALLER⇥KEY⇥COMMAND`,
+/// where `⇥` is a TAB and the moment is in seconds. None where the line is longer than 4,096 bytes, isn't
+/// UTF-8 or spells no request; an error where memory was refused. The line stands without its LF.
+pub fn read_line(alloc: Global, line: &[u8]) -> Result<Option<(Moment, Request)>, AllocError>
+    ensures found { IfOk result (λ o. IfSome o (λ r. IsLine line.now r.0 r.1 × IsRequest r.1 × (r.0 ≤ last_moment))) }
+    ensures only { IfOk result (λ o. (t : ℕ) (q : Request) → t ≤ last_moment → IsRequest q → IsLine line.now t q → o ≡ Some (t, q)) }
+{
+    if line.len() > LINE_LENGTH {
+        return Ok(None);
+    }
+    let Ok(text) = str::from_utf8(line) else {
+        return Ok(None);
+    };
+    read_request(alloc, Fields::of(text))
+}
