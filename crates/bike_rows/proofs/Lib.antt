@@ -14,3 +14,5 @@ pub mod ReadLemmas
 pub mod InsertLaw
 pub mod UpdateLaw
 pub mod LookupLaw
+pub mod WalkLaw
+pub mod RangeLaw
