@@ -16,3 +16,4 @@ pub mod UpdateLaw
 pub mod LookupLaw
 pub mod WalkLaw
 pub mod RangeLaw
+pub mod LastLaw
