@@ -12,3 +12,10 @@ pub mod ReadLaws
 pub mod ChangeLaws
 pub mod InsertLaws
 pub mod MakeLaws
+pub mod ListLemmas
+pub mod GrowLemmas
+pub mod ExampleTables
+pub mod ExampleReads
+pub mod ExampleChanges
+pub mod ExampleUnions
+pub mod FindLemmas
