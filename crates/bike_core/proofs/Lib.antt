@@ -1,1 +1,3 @@
 pub mod Decisions
+pub mod RunLemmas
+pub mod OrderLemmas

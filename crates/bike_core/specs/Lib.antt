@@ -1,4 +1,6 @@
 pub mod Operator
 pub mod View
 pub mod Steps
+pub mod Runs
 pub mod Changes
+pub mod Order

@@ -10,7 +10,8 @@ use crate::change::{Accepted, Change, Decision};
 use crate::view::View;
 use bike_fixed::Moment;
 use bike_ledger::{Entry, EntryNumber, balance_after};
-use bike_requests::{Command, Payment, Refusal, Reply, RiderNumber};
+use bike_catalogue::{Payment, RiderNumber};
+use bike_requests::{Command, Refusal, Reply};
 
 fn decide_add_rider(view: &View, rider: RiderNumber) -> Decision
     ensures { (s : Operator) (now : ℕ) → view.now ≡ view_of s (AddRider rider) → Decides s now (AddRider rider) result }

@@ -6,8 +6,12 @@
 
 mod change;
 mod decision;
+mod laws;
 mod view;
 
 pub use change::{Accepted, Change, Decision};
+pub use bike_catalogue::{Caller, Payment, RequestKey, RiderNumber};
+pub use bike_requests::{Command, LINE_LENGTH, REPLY_LENGTH, Refusal, Reply, Request, command_text, command_text_law, read_command, read_line};
 pub use decision::decide;
+pub use laws::{keeps_order, run_law};
 pub use view::{RiderView, View};

@@ -16,7 +16,7 @@ use Rattle.bike_names.specs.Changes.{change_of, IsChange}
 use Rattle.bike_names.specs.Inserts.{IsInsert}
 use Rattle.bike_names.specs.Makes.{IsFree, IsCreate, IsIndex}
 use Rattle.bike_names.specs.Laws.{Means}
-use Rattle.bike_names.specs.Shapes.{scan, no_limit, equals}
+use Rattle.bike_names.specs.Scans.{scan, no_limit, equals}
 use Rattle.bike_names.proofs.ChangeLaws.{change_is}
 use Rattle.bike_names.proofs.InsertLaws.{insert_is}
 use Rattle.bike_names.proofs.MakeLaws.{create_is, index_is}

@@ -16,7 +16,7 @@ use Rattle.sqlite_tied.specs.Compute.{everything}
 use Rattle.bike_names.specs.Has.{HasTable, of_tables}
 use Rattle.bike_names.specs.Reads.{draft_of, IsDraft}
 use Rattle.bike_names.specs.Laws.{Reads}
-use Rattle.bike_names.specs.Shapes.{scan, no_limit, test, equals, ascending, descending}
+use Rattle.bike_names.specs.Scans.{scan, no_limit, test, equals, ascending, descending}
 use Rattle.bike_names.proofs.ReadLaws.{select_is}
 use Rattle.bike_names.proofs.ExampleTables.{members, lockers}
 

@@ -15,7 +15,7 @@ use Rattle.sqlite_tied.specs.Compute.{everything}
 use Rattle.bike_names.specs.Has.{HasTable, of_tables}
 use Rattle.bike_names.specs.Reads.{union_of, IsUnion}
 use Rattle.bike_names.specs.Laws.{Reads}
-use Rattle.bike_names.specs.Shapes.{scan, no_limit, ascending}
+use Rattle.bike_names.specs.Scans.{scan, no_limit, ascending}
 use Rattle.bike_names.proofs.ReadLaws.{union_is}
 use Rattle.bike_names.proofs.ExampleTables.{members, lockers}
 

@@ -18,3 +18,4 @@ pub mod ExampleTables
 pub mod ExampleReads
 pub mod ExampleChanges
 pub mod ExampleUnions
+pub mod FindLemmas

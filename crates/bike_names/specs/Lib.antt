@@ -5,4 +5,5 @@ pub mod Changes
 pub mod Inserts
 pub mod Makes
 pub mod Laws
-pub mod Shapes
+pub mod Scans
+pub mod Found

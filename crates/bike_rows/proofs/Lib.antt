@@ -14,3 +14,6 @@ pub mod ReadLemmas
 pub mod InsertLaw
 pub mod UpdateLaw
 pub mod LookupLaw
+pub mod WalkLaw
+pub mod RangeLaw
+pub mod LastLaw

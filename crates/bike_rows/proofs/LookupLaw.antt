@@ -15,6 +15,7 @@ use Rattle.sqlite_rules.specs.Lists.{Has}
 use Rattle.sqlite.specs.declared.error.Error.{Error}
 use Rattle.sqlite.specs.declared.error.Error.TheVariants.{QueryReturnedNoRows}
 use Rattle.sqlite.specs.State.{State, QueriesRow, IsUnchanged}
+use Rattle.bike_rows.specs.Answer.{MeansQuery}
 use Rattle.bike_rows.specs.Outcome.{IsLeft, if_any}
 use Rattle.bike_rows.specs.Keyed.{in_order}
 use Rattle.bike_rows.specs.Layout.{Layout, table_of}
@@ -26,7 +27,7 @@ use Rattle.bike_rows.proofs.ListLemmas.{has_map, map_has, find_only, find_none}
 use Rattle.bike_rows.proofs.TreeLemmas.{by_key_total, shown_apart}
 use Rattle.bike_rows.proofs.AnswerLemmas.{passes, answered, comes_from, goes_to}
 use Rattle.bike_rows.proofs.TestLemmas.{tests_key}
-use Rattle.bike_rows.proofs.ReadLemmas.{MeansQuery, first_answer, no_answer, row_stopped}
+use Rattle.bike_rows.proofs.ReadLemmas.{first_answer, no_answer, row_stopped}
 use Rattle.bike_rows.proofs.FrameLemmas.{rows_of_is}
 
 tie_of : (o : Ordering) → is_eq o ≡ true → o ≡ Equal

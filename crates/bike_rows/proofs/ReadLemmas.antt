@@ -15,12 +15,8 @@ use Rattle.sqlite.specs.Effect.{Database, RefusesToRead}
 use Rattle.sqlite.specs.Listing.{understood, reads_listing}
 use Rattle.sqlite.specs.State.{State, IsNotRun, IsUnchanged, FailsToQuery, FailsToShow, Shown, ShowsRows, QueriesRow, Fails, store_error}
 use Rattle.sqlite.proofs.Callers.{IsPlain, command_of, reads_as, first_as}
-use Rattle.bike_names.specs.Laws.{Reads}
+use Rattle.bike_rows.specs.Answer.{MeansQuery}
 use Rattle.bike_rows.specs.Outcome.{IsLeft}
-
--- in the schema the text is this query, with columns of these names
-abbrev pub MeansQuery : Schema → List ℕ → Query → List (List ℕ) → Type 0
-MeansQuery schema text query names = Reads schema text (Select (record { lets = []; body = query }) names)
 
 -- ---- "no row" is no other failure
 
@@ -43,7 +39,7 @@ refuses_other limit (Rows values width names) db params h = let e = h.0 in cc
 refuses_other limit _ db params h = let e = h in cc
 
 module _ (text : List ℕ) (params : Row) (old new : State) (plain : IsPlain (understood old.now.schema text)) where
-  never_none : FailsToQuery text params old new QueryReturnedNoRows → ⊥
+  pub never_none : FailsToQuery text params old new QueryReturnedNoRows → ⊥
   unfolding FailsToQuery IsNotRun
   never_none (inl (inl (inl bad, same))) = let e = bad.2 in cc
   never_none (inl (inl (inr (c, is, inl h), same))) = let e = h.1 in cc

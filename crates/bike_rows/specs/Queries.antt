@@ -42,3 +42,7 @@ key_in at (place ∷ places) params = column params at ∷ key_in (suc at) place
 abbrev pub by_columns : List ℕ → List (Term × Key)
 by_columns [] = []
 by_columns (place ∷ places) = (col 1 place, ascending Binary) ∷ by_columns places
+
+-- SELECT project FROM the table in the tree ORDER BY its INTEGER PRIMARY KEY DESC LIMIT 1
+abbrev pub last_query : ℕ → List Term → Query
+last_query tree project = record (table_query tree [] ((col 1 0, record { collation = Binary; descending = true }) ∷ []) project) { limit = lit (Int (pos 1)) }

@@ -1,9 +1,10 @@
 -- A table as the list of its rows in the order of their keys, with no rowid, tree or index in it.
-use Rattle.std.specs.Prelude.{◌≡◌, ℕ, true, List, map, take, find, length, Option, is_some, if◌then◌else◌}
+use Rattle.std.specs.Prelude.{◌≡◌, ◌&&◌, ℕ, true, not, List, [], ◌∷◌, map, filter, take, find, length, Option, is_some, if◌then◌else◌}
 use Rattle.std.specs.List.{range_with_len}
 use Rattle.std.specs.declared.cmp.Ordering.{Ordering}
 use Rattle.std.specs.declared.cmp.Ordering.TheVariants.{Equal}
-use Rattle.std.specs.Ordering.{on, is_eq}
+use Rattle.std.specs.Ordering.{on, is_eq, is_lt}
+use Rattle.sqlite_value.specs.declared.value.Value.{Value}
 use Rattle.sqlite_value.specs.Order.{Row, column, value_cmp, row_cmp}
 use Rattle.sqlite_trees.specs.View.{is_int}
 use Rattle.sqlite_trees.specs.Tree.{Trees, rowid, IsAscending}
@@ -49,3 +50,17 @@ pub record IsKeyed (keys : ℕ) (table : Table) (rows : List Row) : Type 0 where
   pub spread : AreSpread rows
   pub numbered : AreNumbered rows
   pub apart : (a b : Row) → Has rows a → Has rows b → by_key keys (columns_of table a) (columns_of table b) ≡ Equal → value_cmp (rowid a) (rowid b) ≡ Equal
+
+-- the rows whose columns at these places have these values
+abbrev pub rows_where : List ℕ → Row → List Row → List Row
+rows_where columns values = filter (λ row. is_eq (row_cmp (map (column row) columns) values))
+
+-- the rows whose first column is not below the one value, and below the other
+abbrev pub rows_between : Value → Value → List Row → List Row
+rows_between from to = filter (λ row. not (is_lt (value_cmp (column row 0) from)) && is_lt (value_cmp (column row 0) to))
+
+-- the row whose key is the last, as a list of one; none of no rows
+abbrev pub last_of : List Row → List Row
+last_of [] = []
+last_of (row ∷ []) = row ∷ []
+last_of (row ∷ next ∷ rows) = last_of (next ∷ rows)

@@ -5,3 +5,4 @@
 #![tactic(auto)]
 
 pub mod lookup;
+pub mod walk;

@@ -1,2 +1,4 @@
 pub mod TableLemmas
 pub mod PartLemmas
+pub mod PartWalks
+pub mod NoteLemmas

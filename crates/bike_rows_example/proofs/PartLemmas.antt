@@ -23,6 +23,7 @@ use Rattle.bike_names.specs.Reads.{IsDraft, draft_of}
 use Rattle.bike_names.proofs.ReadLaws.{select_is}
 use Rattle.bike_names.proofs.InsertLaws.{insert_is}
 use Rattle.bike_names.proofs.ChangeLaws.{change_is}
+use Rattle.bike_rows.specs.Answer.{MeansQuery}
 use Rattle.bike_rows.specs.Outcome.{IsLeft, if_any}
 use Rattle.bike_rows.specs.Layout.{table_of}
 use Rattle.bike_rows.specs.View.{put_row_by, replaced, row_with}
@@ -30,7 +31,6 @@ use Rattle.bike_rows.specs.Queries.{table_query, key_test}
 use Rattle.bike_rows.proofs.InsertLaw.{insert_sets}
 use Rattle.bike_rows.proofs.UpdateLaw.{update_number}
 use Rattle.bike_rows.proofs.CrashLemmas.{done_inside, read_survives}
-use Rattle.bike_rows.proofs.ReadLemmas.{MeansQuery}
 use Rattle.bike_rows.proofs.LookupLaw.{looked_up}
 use Rattle.bike_rows_example.specs.Tables.{HasTables, Puts, tables_of, parts}
 use Rattle.bike_rows_example.proofs.TableLemmas.{parts_key, puts_parts}
