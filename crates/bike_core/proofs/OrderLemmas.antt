@@ -1,10 +1,10 @@
 -- A step keeps an operator in order.
 use Rattle.std.proofs.Common.{◌≡◌, ℕ, ℤ, pos, neg_ℤ, ◌+◌, ◌*◌, ◌≤◌, ◌<◌, ◌+ℤ◌, ◌≤ℤ◌, List, [], ◌∷◌, ◌++◌, length, length-append, Bool, true, false, cond, eqb, leb, Option, Some, None, refl, sym, ap, ◌∙◌, subst, arith, inl, inr}
-use Rattle.std.specs.Prelude.{max, is_some, nat_le}
+use Rattle.std.specs.Prelude.{max, is_some, is_none, nat_le}
 use Rattle.std.specs.Ordering.{nat_cmp, eq_by_cmp}
 use Rattle.std.specs.declared.cmp.Ordering.{Ordering}
 use Rattle.std.specs.declared.cmp.Ordering.TheVariants.{Less, Equal, Greater}
-use Rattle.std.specs.Cmp.{nat_cmp_total}
+use Rattle.std.specs.Cmp.{IsTotalOrder, nat_cmp_total}
 use Rattle.std.specs.Cmp.Lexicographic.{slice_cmp, nat_list_cmp_total, lists_total}
 use Rattle.std.specs.FinMap as map
 use Rattle.std.specs.FinMap.Entries.{put, by_order}
@@ -20,6 +20,7 @@ use Rattle.bike_requests.specs.declared.command.Command.{Command}
 use Rattle.bike_requests.specs.declared.command.Command.TheVariants.{AddRider, TopUp}
 use Rattle.bike_requests.specs.declared.request.Request.{Request}
 use Rattle.bike_requests.specs.declared.refusal.Refusal.{Refusal}
+use Rattle.bike_requests.specs.declared.refusal.Refusal.TheVariants as refusal
 use Rattle.bike_requests.specs.Commands.{IsCommand}
 use Rattle.bike_requests.specs.Replies.{IsReply}
 use Rattle.bike_requests.specs.Requests.{IsRequest}
@@ -70,7 +71,100 @@ entries_stand s next number (e ∷ es) known later h =
     let i = h.0 in
     (record { numbered = i.numbered; kind = i.kind; rider = known e.rider i.rider; no_rental = i.no_rental; amount = i.amount; by_now = omega (arith, i.by_now, later) }, entries_stand s next (number + 1) es known later h.1)
 
+renumbered : (s : Operator) (a b : ℕ) (e : Entry) → a ≡ b → IsEntry s a e → IsEntry s b e
+renumbered s a b e is h = subst (λ (n : ℕ). IsEntry s n e) is h
+
 -- one more entry
 entries_append : (s : Operator) (number : ℕ) (es : List Entry) (e : Entry) → AreEntries s number es → IsEntry s (number + length es) e → AreEntries s number (es ++ e ∷ [])
-entries_append s number [] e h last = ?
-entries_append s number (x ∷ es) e h last = (h.0, entries_append s (number + 1) es e h.1 ?)
+entries_append s number [] e h last = (renumbered s (number + 0) number e (omega arith) last, tt)
+entries_append s number (x ∷ es) e h last = (h.0, entries_append s (number + 1) es e h.1 (renumbered s (number + length (x ∷ es)) (number + 1 + length es) e (omega arith) last))
+
+-- ---- tests that do not hold
+
+none_of_two : (a b : Bool) (x y : Refusal) → first ((a, x) ∷ (b, y) ∷ []) ≡ None → (a ≡ false) × (b ≡ false)
+none_of_two true b x y e = absurd cc
+none_of_two false true x y e = absurd cc
+none_of_two false false x y e = (refl, refl)
+
+known_rider : (s : Operator) (rider : ℕ) (o : Option Rider) → is_none (rider_view s rider o) ≡ false → is_some o ≡ true
+known_rider s rider None e = absurd cc
+known_rider s rider (Some r) e = refl
+
+-- ---- an accepted request
+
+-- who was known stays so when one is added
+still_known : (s : Operator) (added : ℕ) (r : Rider) (rider : ℕ) → is_some (map.get s.riders rider) ≡ true → is_some (map.get (map.insert s.riders added r) rider) ≡ true
+still_known s added r rider known = rw (map.get-insert nat_cmp_total s.riders added r rider) (cases (eq_by_cmp nat_cmp rider added)) where
+  cases : (b : Bool) → is_some (cond b (Some r) (map.get s.riders rider)) ≡ true
+  cases true = refl
+  cases false = known
+
+keys_total : IsTotalOrder (slice_cmp (slice_cmp nat_cmp))
+keys_total = lists_total nat_list_cmp_total
+
+kept_stand : (s : Operator) (q : Request) (k : Kept) → IsInOrder s → IsRequest q → IsCommand k.command → IsReply k.reply → is_refused k.reply ≡ false → EachEntry IsKept (map.entries (map.insert s.kept (key_in q) k))
+kept_stand s q k order good command reply accepted =
+    rw (map.entries-insert keys_total s.kept (key_in q) k)
+      (each_put IsKept (map.slice_cmp-IsAntisymmetric (map.slice_cmp-IsAntisymmetric map.nat_cmp-IsAntisymmetric)) (key_in q) k (map.entries s.kept)
+        (record { caller = q.caller; name = q.key; key_is = refl; good_caller = good.caller; good_name = good.key; command = command; reply = reply; accepted = accepted }) order.kept)
+
+latest : (t now : ℕ) → t ≤ last_moment → now ≤ last_moment → (max t now ≤ last_moment) × (now ≤ max t now)
+latest t now a b = (omega arith, omega arith)
+
+-- each kind of command
+kind_in_order : (s : Operator) (t : ℕ) (q : Request) (c : Command) → q.command ≡ c → t ≤ last_moment → IsRequest q → IsCommand c → IsInOrder s → refused s c ≡ None
+    → IsInOrder (record (effect s (max t s.now) c) { now = max t s.now; kept = map.insert s.kept (key_in q) (record { command = c; reply = reply_of s (max t s.now) c }) })
+kind_in_order s t q (AddRider rider) is moment good command order none =
+    let free = none_of_two (is_some (rider_view s rider (map.get s.riders rider))) (leb most_riders (map.len s.riders)) refusal.AlreadyThere refusal.LimitReached none in
+    let now = latest t s.now moment order.now in
+    record {
+      riders = rw (map.entries-insert nat_cmp_total s.riders rider (record { blocked = false }))
+        (each_put (λ r _. IsRiderNumber r) map.nat_cmp-IsAntisymmetric rider (record { blocked = false }) (map.entries s.riders) (record { low = command.0.0; high = command.0.1 }) order.riders);
+      few_riders = fewer (map.contains_key s.riders rider) (map.len-insert nat_cmp_total s.riders rider (record { blocked = false })) (below free.1);
+      entries = entries_stand s (record (effect s (max t s.now) (AddRider rider)) { now = max t s.now; kept = map.insert s.kept (key_in q) (record { command = AddRider rider; reply = reply_of s (max t s.now) (AddRider rider) }) }) 1 s.entries (still_known s rider (record { blocked = false })) now.1 order.entries;
+      few_entries = order.few_entries;
+      kept = kept_stand s q (record { command = AddRider rider; reply = reply_of s (max t s.now) (AddRider rider) }) order good command tt refl;
+      now = now.0;
+    }
+  where
+  below : leb most_riders (map.len s.riders) ≡ false → map.len s.riders < most_riders
+  below f = grind (arith, nat_tests, f)
+  fewer : (b : Bool) → map.len (map.insert s.riders rider (record { blocked = false })) ≡ cond b (map.len s.riders) (map.len s.riders + 1) → map.len s.riders < most_riders → map.len (map.insert s.riders rider (record { blocked = false })) ≤ most_riders
+  fewer true e h = omega (arith, e, h)
+  fewer false e h = omega (arith, e, h)
+kind_in_order s t q (TopUp rider amount) is moment good command order none =
+    let free = none_of_two (is_none (rider_view s rider (map.get s.riders rider))) (leb most_entries (length s.entries)) refusal.UnknownRider refusal.LimitReached none in
+    let now = latest t s.now moment order.now in
+    let entry = top_up_entry (length s.entries) rider amount (max t s.now) in
+    let reply = reply_of s (max t s.now) (TopUp rider amount) in
+    let next : Operator = record (effect s (max t s.now) (TopUp rider amount)) { now = max t s.now; kept = map.insert s.kept (key_in q) (record { command = TopUp rider amount; reply = reply }) } in
+    let stand : AreEntries next 1 s.entries = entries_stand s next 1 s.entries (λ r h. h) now.1 order.entries in
+    let last : IsEntry next (1 + length s.entries) entry = record {
+      numbered = omega arith; kind = refl; rider = known_rider s rider (map.get s.riders rider) free.0; no_rental = refl;
+      amount = record { hundredths = amount; is = refl; low = command.1.0.0; high = command.1.0.1 }; by_now = omega arith;
+    } in
+    let all : AreEntries next 1 (s.entries ++ entry ∷ []) = entries_append next 1 s.entries entry stand last in
+    let few : length (s.entries ++ entry ∷ []) ≤ most_entries = one_more free.1 (length-append s.entries (entry ∷ [])) in
+    let sums = balance_of_entries next rider 1 (s.entries ++ entry ∷ []) all in
+    record {
+      riders = order.riders;
+      few_riders = order.few_riders;
+      entries = all;
+      few_entries = few;
+      kept = kept_stand s q (record { command = TopUp rider amount; reply = reply }) order good command ((omega (arith, ints, sums.0), omega (arith, ints, sums.1, few)), tt) refl;
+      now = now.0;
+    }
+  where
+  one_more : {n : ℕ} → leb most_entries (length s.entries) ≡ false → n ≡ length s.entries + 1 → n ≤ most_entries
+  one_more f e = let b : length s.entries < most_entries = grind (arith, nat_tests, f) in omega (arith, e, b)
+
+decided_in_order : (s : Operator) (t : ℕ) (q : Request) → t ≤ last_moment → IsRequest q → IsInOrder s → (o : Option Refusal) → refused s q.command ≡ o → IsInOrder (decided s (max t s.now) q o).1
+decided_in_order s t q moment good order (Some r) e = order
+decided_in_order s t q moment good order None e = kind_in_order s t q q.command refl moment good good.command order e
+
+answered_in_order : (s : Operator) (t : ℕ) (q : Request) → t ≤ last_moment → IsRequest q → IsInOrder s → (o : Option Kept) → IsInOrder (answered s t q o).1
+answered_in_order s t q moment good order (Some k) = order
+answered_in_order s t q moment good order None = decided_in_order s t q moment good order (refused s q.command) refl
+
+pub step_in_order : (s : Operator) (t : ℕ) (q : Request) → t ≤ last_moment → IsRequest q → IsInOrder s → IsInOrder (step s t q).1
+step_in_order s t q moment good order = answered_in_order s t q moment good order (map.get s.kept (key_in q))
