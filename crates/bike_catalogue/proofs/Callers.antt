@@ -92,7 +92,7 @@ abbrev IsOf : List ℕ → Caller → Type 0
 IsOf text c = IsCaller c × (text ≡ caller_text c)
 
 -- a test that passes and one that fails
-pick : {A : Type 0} (b : Bool) (x y : Option A) (a : A) (P : Type 0) → cond b x y ≡ Some a → (b ≡ true → x ≡ Some a → P) → (y ≡ Some a → P) → P
+pub pick : {A : Type 0} (b : Bool) (x y : Option A) (a : A) (P : Type 0) → cond b x y ≡ Some a → (b ≡ true → x ≡ Some a → P) → (y ≡ Some a → P) → P
 pick true x y a P e f g = f refl e
 pick false x y a P e f g = g e
 

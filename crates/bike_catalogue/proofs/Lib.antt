@@ -1,2 +1,5 @@
 pub mod Lengths
 pub mod Callers
+pub mod Names
+pub mod Checks
+pub mod Vehicles

@@ -4,18 +4,44 @@
 //! answers the value of the fields given, or names the first bad field and the first bound that it breaks.
 #![tactic(auto)]
 
+mod ascii;
 mod bytes;
 mod caller;
+mod currency;
 mod fault;
 mod ident;
 mod key;
+mod language;
+mod name;
 mod numbers;
+mod plan;
+mod range;
+mod rate;
+mod segment;
+mod station;
+mod system;
+mod vehicle;
+mod vehicle_type;
 
+pub use ascii::Ascii;
 pub use caller::{Caller, caller_laws};
+pub use currency::Currency;
 pub use fault::{Bound, Field, FieldFault};
 pub use ident::Ident;
 pub use key::RequestKey;
+pub use language::Language;
+pub use name::Name;
 pub use numbers::{
-    BicycleNumber, DockCount, DockNumber, OrderNumber, OrderQuantity, Payment, RentalNumber,
-    RiderNumber, TruckCapacity, TruckNumber,
+    BicycleNumber, DockCount, DockNumber, MaxRange, OrderNumber, OrderQuantity, Payment, Price,
+    RentalNumber, RiderNumber, SegmentMinute, TimeToLive, TruckCapacity, TruckNumber,
 };
+pub use plan::Plan;
+pub use rate::Rate;
+pub use segment::Segment;
+pub use station::Station;
+pub use system::System;
+pub use vehicle::{Form, Propulsion, vehicle_laws};
+pub use vehicle_type::VehicleType;
+
+#[cfg(test)]
+mod tests;

@@ -31,3 +31,15 @@ pub type RentalNumber = Within<1, 100_000_000>;
 
 /// An order, 1 to 100,000,000.
 pub type OrderNumber = Within<1, 100_000_000>;
+
+/// The price of a plan, 0 to 1,000,000 hundredths.
+pub type Price = Within<0, 1_000_000>;
+
+/// A minute of a rental at which a segment starts, ends or charges again, 0 to 100,000.
+pub type SegmentMinute = Within<0, 100_000>;
+
+/// The greatest range of a vehicle, 0 to 1,000,000 metres.
+pub type MaxRange = Within<0, 1_000_000>;
+
+/// How long a feed stays fresh, 0 to 86,400 seconds.
+pub type TimeToLive = Within<0, 86_400>;

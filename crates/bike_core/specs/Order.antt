@@ -11,6 +11,8 @@ use Rattle.bike_requests.specs.Commands.{IsCommand}
 use Rattle.bike_requests.specs.declared.reply.Reply.{Reply}
 use Rattle.bike_requests.specs.declared.reply.Reply.TheVariants.{Done, Balance, Refused}
 use Rattle.bike_requests.specs.Replies.{IsReply}
+use Rattle.bike_requests.specs.Requests.{IsRequest}
+use Rattle.bike_core.specs.Runs.{Call}
 use Rattle.bike_core.specs.Operator.{Operator, Rider, Kept, Key, key_of}
 use Rattle.bike_core.specs.View.{most_riders, most_entries}
 
@@ -69,3 +71,12 @@ pub record IsInOrder (s : Operator) : Type 0 where
   pub few_entries : length s.entries ≤ most_entries
   pub kept : EachEntry IsKept (map.entries s.kept)
   pub now : s.now ≤ last_moment
+
+-- a request of the program at a moment of the program
+pub record IsCall (c : Call) : Type 0 where
+  pub moment : c.0 ≤ last_moment
+  pub request : IsRequest c.1
+
+abbrev pub AreCalls : List Call → Type 0
+AreCalls [] = Unit {0}
+AreCalls (c ∷ cs) = IsCall c × AreCalls cs

@@ -4,13 +4,28 @@ ghost use Rattle.std.specs.Prelude.{◌≡◌, ◌≤◌, ◌++◌, ℕ, List};
 ghost use Rattle.bike_fixed.specs.Whole.{last_moment};
 ghost use Rattle.bike_requests.specs.declared.request.Request.{Request};
 ghost use Rattle.bike_requests.specs.Requests.{IsRequest};
-ghost use Rattle.bike_core.specs.Operator.{Operator};
-ghost use Rattle.bike_core.specs.Order.{IsInOrder};
+ghost use Rattle.std.specs.FinMap.{keys};
+ghost use Rattle.bike_ledger.specs.Money.{IsConserved};
+ghost use Rattle.bike_core.specs.Operator.{Operator, no_operator};
+ghost use Rattle.bike_core.specs.Order.{IsInOrder, AreCalls};
 ghost use Rattle.bike_core.specs.Runs.{Call, step, after, replies};
 
 /// The law of order: a step keeps an operator in order.
 pub fn keeps_order()
     ensures { (s : Operator) (t : ℕ) (q : Request) → t ≤ last_moment → IsRequest q → IsInOrder s → IsInOrder (step s t q).1 }
+{
+}
+
+/// The law of order over lists: every list of requests leaves an operator in order in order.
+pub fn keeps_order_over_lists()
+    ensures { (s : Operator) (cs : List Call) → AreCalls cs → IsInOrder s → IsInOrder (after s cs) }
+{
+}
+
+/// The law of money over lists: after every list of requests from the operator of whom nothing was asked,
+/// the balances of all riders and the revenue together are the cash.
+pub fn money_law_over_lists()
+    ensures { (cs : List Call) → AreCalls cs → IsConserved (keys (after no_operator cs).riders) (after no_operator cs).entries }
 {
 }
 

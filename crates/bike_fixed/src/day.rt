@@ -6,7 +6,7 @@ ghost use Rattle.bike_fixed.specs.Day.{BeginsAt, BeginsBefore1970, IsCovered, Ha
 
 use crate::moment::Moment;
 use jiff::civil::{Date, Time};
-use jiff::tz::TimeZone;
+use jiff::tz::{Disambiguation, TimeZone};
 
 /// Why a day has no bounds; of several reasons the first in this order.
 #[derive(Debug, Clone, Copy, PartialEq, Eq, Drop)]
@@ -28,7 +28,10 @@ fn begin_of(date: Date, zone: &TimeZone<'_>) -> Option<Moment>
     ensures before { IfNone result (BeginsBefore1970 (plain_zone zone.now) (epoch_day date)) }
 {
     let midnight = date.to_datetime(Time::midnight());
-    let instant = zone.to_ambiguous_timestamp(midnight).compatible().ok()?;
+    let instant = zone
+        .to_ambiguous_timestamp(midnight)
+        .disambiguate(Disambiguation::Compatible)
+        .ok()?;
     let nanos = instant.as_nanosecond();
     if nanos < 0 {
         return None;

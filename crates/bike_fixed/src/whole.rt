@@ -1,6 +1,6 @@
 //! Decimal texts of whole numbers.
 
-ghost use Rattle.std.specs.Prelude.{◌≡◌, ℕ, ℤ, List, Some, ◌<◌, ◌≤◌, ◌≤ℤ◌, ◌^◌, IfSome, FitsSigned};
+ghost use Rattle.std.specs.Prelude.{◌≡◌, ℕ, ℤ, List, Some, ◌<◌, ◌≤◌, ◌≤ℤ◌, ◌^◌, IfSome, FitsSigned, decimal};
 ghost use Rattle.std.specs.Fmt.{signed_decimal};
 ghost use Rattle.std.specs.Int.{w64};
 ghost use Rattle.bike_fixed.specs.Whole.{number_of, IsNumber, signed_of, IsSignedNumber};
@@ -39,8 +39,8 @@ pub fn read_signed(text: &str, least: i64, greatest: i64) -> Option<i64>
     if number < least || number > greatest {
         return None;
     }
-    let mut buffer = Buffer::new();
-    if buffer.format(number) != text {
+    let mut decimal = Buffer::new();
+    if decimal.format(number) != text {
         return None;
     }
     Some(number)
@@ -56,11 +56,13 @@ pub fn signed_text(number: i64) -> ArrayString<20>
     out
 }
 
-/// The law of reading: a number is read from a text exactly where the text is its decimal and it lies in
-/// the range.
+/// The laws of reading: a number is read from a text exactly where the text is its decimal and it lies in the range, so
+/// its own text is read back.
 pub fn number_laws()
     ensures sound { (low high : ℕ) (text : List ℕ) (n : ℕ) → number_of low high text ≡ Some n → IsNumber low high text n }
     ensures full { (low high : ℕ) (text : List ℕ) (n : ℕ) → high < 2 ^ 64 → IsNumber low high text n → number_of low high text ≡ Some n }
+    ensures read_back { (low high n : ℕ) → high < 2 ^ 64 → low ≤ n → n ≤ high → number_of low high (decimal n) ≡ Some n }
     ensures signed_sound { (low high : ℤ) (text : List ℕ) (z : ℤ) → signed_of low high text ≡ Some z → IsSignedNumber low high text z }
     ensures signed_full { (low high : ℤ) (text : List ℕ) (z : ℤ) → FitsSigned w64 z → IsSignedNumber low high text z → signed_of low high text ≡ Some z }
+    ensures signed_read_back { (low high z : ℤ) → FitsSigned w64 z → low ≤ℤ z → z ≤ℤ high → signed_of low high (signed_decimal z) ≡ Some z }
 {}

@@ -50,11 +50,11 @@ module _ {B : Type 0} {word_of : B → List ℕ} {fields_of : B → List Field} 
   takes next [] reader e k = absurd cc
   takes {A} {read} {field} {word} {front} {value} next (p ∷ ps) reader e k =
       option_and_then_some next (read p >>= λ a. Some (a, ps)) value e (λ x first second.
-        option_and_then_some (λ a. Some (a, ps)) (read p) x first (λ a r s.
-          let here : next (a, ps) ≡ Some value = ap next (same_Some (a, ps) x s) ∙ second in
-          let got = reader.sound p a r in
-          let t = k a ps here in
-          record { word_is = t.word_is; fields = field a ∷ t.fields; whole = t.whole ∙ append_assoc front (field a ∷ []) t.fields; read = record { each = (got.0, t.read.each); good = (got.1, t.read.good) } }))
+      option_and_then_some (λ a. Some (a, ps)) (read p) x first (λ a r s.
+      let here : next (a, ps) ≡ Some value = ap next (same_Some (a, ps) x s) ∙ second in
+      let got = reader.sound p a r in
+      let t = k a ps here in
+      record { word_is = t.word_is; fields = field a ∷ t.fields; whole = t.whole ∙ append_assoc front (field a ∷ []) t.fields; read = record { each = (got.0, t.read.each); good = (got.1, t.read.good) } }))
 
   -- all fields were read
   pub ends : {word : List ℕ} {front : List Field} {value : B} (made : B) (ps : Parts) → word ≡ word_of made → fields_of made ≡ front → (no_more ps >>= λ u. Some made) ≡ Some value → Rest word_of fields_of word value front ps

@@ -66,12 +66,12 @@ pub parts_sound : (ps : Parts) (c : Command) → command_at ps ≡ Some c → Is
 unfolding command_at
 parts_sound ps c e =
     option_and_then_some (λ x. command_by x.0 x.1) (part_at ps) c e (λ x p s.
-      let r = by_word_sound x.0 x.1 c s in
-      record {
-        parts = x.1;
-        split = part_is ps x p ∙ ap (λ (w : List ℕ). w ∷ x.1) r.word_is;
-        read = subst (λ (fs : List Field). AreRead fs x.1) (sym r.whole) r.read;
-      })
+    let r = by_word_sound x.0 x.1 c s in
+    record {
+      parts = x.1;
+      split = part_is ps x p ∙ ap (λ (w : List ℕ). w ∷ x.1) r.word_is;
+      read = subst (λ (fs : List Field). AreRead fs x.1) (sym r.whole) r.read;
+    })
 
 pub parts_full : (ps : Parts) (c : Command) → IsReadOf ps c → command_at ps ≡ Some c
 unfolding command_at

@@ -36,8 +36,8 @@ text_spells c g = spelled_text (word_of c) (fields_of c) g
 pub one_text : (c d : Command) → IsCommand c → IsCommand d → text_of c ≡ text_of d → c ≡ d
 one_text c d g h e =
     same_Some c d (sym (command_full (text_of c) c (record { spelled = text_spells c g; good = g }))
-      ∙ ap (λ (t : List ℕ). command_at (slice_split is_tab t)) e
-      ∙ command_full (text_of d) d (record { spelled = text_spells d h; good = h }))
+    ∙ ap (λ (t : List ℕ). command_at (slice_split is_tab t)) e
+    ∙ command_full (text_of d) d (record { spelled = text_spells d h; good = h }))
 
 -- fields have one spelling
 pub one_spelling : (word : List ℕ) (fs : List Field) (ps : List (List ℕ)) → AreRead fs ps → join_with_byte 9 (word ∷ ps) ≡ word ++ fields_text fs

@@ -115,9 +115,9 @@ name_no_tab r.WrongTruckOrEnds = refl
 refusal_sound : (number : ℕ) (refusal : Refusal) → refusal_of number ≡ Some refusal → number ≡ number_of refusal
 unfolding refusal_of
 refusal_sound number refusal e = elim (eqb_tells (number_of refusal) number) [
-    | inl w ↦ sym w.1
-    | inr w ↦ absurd (let t = found_passes (λ x. number_of x == number) refusals refusal e in let f = w.0 in cc)
-  ]
+  | inl w ↦ sym w.1
+  | inr w ↦ absurd (let t = found_passes (λ x. number_of x == number) refusals refusal e in let f = w.0 in cc)
+]
 
 -- a look-up that finds what has the number, wherever something has it, is the definition's
 pub refusal_found : (number : ℕ) (found : Option Refusal) → IfSome found (λ refusal. number_of refusal ≡ number) → ((refusal : Refusal) → number_of refusal ≡ number → found ≡ Some refusal) → refusal_of number ≡ found
@@ -173,7 +173,7 @@ refused_sound : (ps : Parts) (reply : Reply) → refused_at ps ≡ Some reply �
 unfolding refused_at
 refused_sound ps reply e = takes _ ps refusal_number e (λ n ps e.
     option_and_then_some (λ refusal. named_at refusal ps) (refusal_of n) reply e (λ refusal found named.
-      subst (λ (k : ℕ). Left (codes "refused") reply (Number 1 36 k ∷ []) ps) (sym (refusal_sound n refusal found)) (named_sound refusal ps reply named)))
+    subst (λ (k : ℕ). Left (codes "refused") reply (Number 1 36 k ∷ []) ps) (sym (refusal_sound n refusal found)) (named_sound refusal ps reply named)))
 
 refused_full : (refusal : Refusal) (ps : Parts) → AreRead (reply_fields (Refused refusal)) ps → refused_at ps ≡ Some (Refused refusal)
 unfolding refused_at
@@ -208,13 +208,13 @@ pub reply_sound : (text : List ℕ) (reply : Reply) → reply_at (slice_split is
 unfolding reply_at
 reply_sound text reply e =
     option_and_then_some (λ x. reply_by x.0 x.1) (part_at (slice_split is_tab text)) reply e (λ x p s.
-      let rest = by_word_sound x.0 x.1 reply s in
-      let read : AreRead (reply_fields reply) x.1 = subst (λ (fs : List Field). AreRead fs x.1) (sym rest.whole) rest.read in
-      let parts : slice_split is_tab text ≡ reply_word reply ∷ x.1 = part_is (slice_split is_tab text) x p ∙ ap (λ (w : List ℕ). w ∷ x.1) rest.word_is in
-      record {
-        spelled = sym (join_with_byte-slice_split 9 text) ∙ ap (join_with_byte 9) parts ∙ one_spelling (reply_word reply) (reply_fields reply) x.1 read;
-        good = read.good;
-      })
+    let rest = by_word_sound x.0 x.1 reply s in
+    let read : AreRead (reply_fields reply) x.1 = subst (λ (fs : List Field). AreRead fs x.1) (sym rest.whole) rest.read in
+    let parts : slice_split is_tab text ≡ reply_word reply ∷ x.1 = part_is (slice_split is_tab text) x p ∙ ap (λ (w : List ℕ). w ∷ x.1) rest.word_is in
+    record {
+      spelled = sym (join_with_byte-slice_split 9 text) ∙ ap (join_with_byte 9) parts ∙ one_spelling (reply_word reply) (reply_fields reply) x.1 read;
+      good = read.good;
+    })
 
 pub reply_full : (text : List ℕ) (reply : Reply) → IsReadReply text reply → reply_at (slice_split is_tab text) ≡ Some reply
 unfolding reply_at

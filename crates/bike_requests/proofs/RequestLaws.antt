@@ -97,22 +97,22 @@ request_sound ps x e =
     option_and_then_some (λ c. field_at key_of c.1 >>= λ k. command_at k.1 >>= λ command. Some (made m c k command)) (field_at caller_of m.1) x e (λ c ec e.
     option_and_then_some (λ k. command_at k.1 >>= λ command. Some (made m c k command)) (field_at key_of c.1) x e (λ k ek e.
     option_and_then_some (λ command. Some (made m c k command)) (command_at k.1) x e (λ command es e.
-      let moment = taken (number_of 0 last_moment) ps m em in
-      let caller = taken caller_of m.1 c ec in
-      let key = taken key_of c.1 k ek in
-      let number = number_sound 0 last_moment moment.part m.0 moment.value in
-      let sent = caller_sound caller.part c.0 caller.value in
-      let named = key_sound key.part k.0 key.value in
-      let split : ps ≡ decimal m.0 ∷ caller_text c.0 ∷ k.0 ∷ k.1 =
-          moment.first ∙ ap₂ (λ (p : List ℕ) (qs : Parts). p ∷ qs) number.spelled (caller.first ∙ ap₂ (λ (p : List ℕ) (qs : Parts). p ∷ qs) sent.1 (key.first ∙ ap (λ (p : List ℕ). p ∷ k.1) named.0)) in
-      subst (λ (y : ℕ × Request). IsRequestOf ps y.0 y.1) (same_Some (made m c k command) x e) (record {
-        rest = k.1;
-        split = split;
-        command = parts_sound k.1 command es;
-        moment = number.le_high;
-        caller = sent.0;
-        key = named.1;
-      })))))
+    let moment = taken (number_of 0 last_moment) ps m em in
+    let caller = taken caller_of m.1 c ec in
+    let key = taken key_of c.1 k ek in
+    let number = number_sound 0 last_moment moment.part m.0 moment.value in
+    let sent = caller_sound caller.part c.0 caller.value in
+    let named = key_sound key.part k.0 key.value in
+    let split : ps ≡ decimal m.0 ∷ caller_text c.0 ∷ k.0 ∷ k.1 =
+    moment.first ∙ ap₂ (λ (p : List ℕ) (qs : Parts). p ∷ qs) number.spelled (caller.first ∙ ap₂ (λ (p : List ℕ) (qs : Parts). p ∷ qs) sent.1 (key.first ∙ ap (λ (p : List ℕ). p ∷ k.1) named.0)) in
+    subst (λ (y : ℕ × Request). IsRequestOf ps y.0 y.1) (same_Some (made m c k command) x e) (record {
+      rest = k.1;
+      split = split;
+      command = parts_sound k.1 command es;
+      moment = number.le_high;
+      caller = sent.0;
+      key = named.1;
+    })))))
 
 pub request_full : (ps : Parts) (t : ℕ) (q : Request) → IsRequestOf ps t q → request_at ps ≡ Some (t, q)
 unfolding request_at
@@ -133,28 +133,35 @@ both_laws line o short utf8 e = (found o e, only) where
   found (Some r) e =
       let h = request_sound (slice_split is_tab line) r (sym e) in
       let joined : line ≡ join_with_byte 9 (decimal r.0 ∷ caller_text r.1.caller ∷ r.1.key ∷ word_of r.1.command ∷ h.command.parts) =
-          sym (join_with_byte-slice_split 9 line) ∙ ap (join_with_byte 9) (h.split ∙ ap (λ (ps : Parts). decimal r.0 ∷ caller_text r.1.caller ∷ r.1.key ∷ ps) h.command.split) in
-      (record {
-        short = short; utf8 = utf8;
-        command = join_with_byte 9 (word_of r.1.command ∷ h.command.parts);
-        spelled = record { parts = h.command.parts; each = h.command.read.each; joined = refl };
-        joined = joined;
-      }, record { caller = h.caller; key = h.key; command = h.command.read.good }, h.moment)
+      sym (join_with_byte-slice_split 9 line) ∙ ap (join_with_byte 9) (h.split ∙ ap (λ (ps : Parts). decimal r.0 ∷ caller_text r.1.caller ∷ r.1.key ∷ ps) h.command.split) in (
+        record {
+          short = short;
+          utf8 = utf8;
+          command = join_with_byte 9 (word_of r.1.command ∷ h.command.parts);
+          spelled = record { parts = h.command.parts; each = h.command.read.each; joined = refl };
+          joined = joined;
+        },
+        record { caller = h.caller; key = h.key; command = h.command.read.good },
+        h.moment,
+      )
+
   only : (t : ℕ) (q : Request) → t ≤ last_moment → IsRequest q → IsLine line t q → o ≡ Some (t, q)
   only t q moment good h =
       let parts = h.spelled.parts in
       let read : AreRead (fields_of q.command) parts = record { each = h.spelled.each; good = good.command } in
       let joined : line ≡ join_with_byte 9 (decimal t ∷ caller_text q.caller ∷ q.key ∷ word_of q.command ∷ parts) =
-          h.joined ∙ ap (λ (c : List ℕ). decimal t ++ 9 ∷ (caller_text q.caller ++ 9 ∷ (q.key ++ 9 ∷ c))) h.spelled.joined in
+      h.joined ∙ ap (λ (c : List ℕ). decimal t ++ 9 ∷ (caller_text q.caller ++ 9 ∷ (q.key ++ 9 ∷ c))) h.spelled.joined in
       let free : AreTabFree (caller_text q.caller ∷ q.key ∷ word_of q.command ∷ parts) =
-          (caller_no_tab q.caller good.caller, (key_no_tab q.key good.key, (word_no_tab q.command, parts_no_tab (fields_of q.command) parts read))) in
+      (caller_no_tab q.caller good.caller, (key_no_tab q.key good.key, (word_no_tab q.command, parts_no_tab (fields_of q.command) parts read))) in
       let split : slice_split is_tab line ≡ decimal t ∷ caller_text q.caller ∷ q.key ∷ word_of q.command ∷ parts =
-          ap (slice_split is_tab) joined ∙ split_join (decimal t) (caller_text q.caller ∷ q.key ∷ word_of q.command ∷ parts) (decimal_no_tab t (omega (arith, moment))) free in
+      ap (slice_split is_tab) joined ∙ split_join (decimal t) (caller_text q.caller ∷ q.key ∷ word_of q.command ∷ parts) (decimal_no_tab t (omega (arith, moment))) free in
       e ∙ request_full (slice_split is_tab line) t q (record {
         rest = word_of q.command ∷ parts;
         split = split;
         command = record { parts = parts; split = refl; read = read };
-        moment = moment; caller = good.caller; key = good.key;
+        moment = moment;
+        caller = good.caller;
+        key = good.key;
       })
 
 pub line_found : (line : List ℕ) (r : Result (Option (ℕ × Request)) AllocError) → length line ≤ line_length → IsUtf8 line → IfOk r (λ o. o ≡ request_at (slice_split is_tab line))

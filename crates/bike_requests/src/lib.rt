@@ -20,3 +20,6 @@ pub use refusal::Refusal;
 pub use reply::{REPLY_LENGTH, Reply};
 pub use request::Request;
 pub use writing::{command_text, command_text_law};
+
+#[cfg(test)]
+mod tests;

@@ -10,7 +10,10 @@ use bike_fixed::Within;
 use itoa::Buffer;
 use std::alloc::{AllocError, Global};
 
-fn put_number<const LO: u32, const HI: u32>(out: &mut String, number: &Within<LO, HI>) -> Result<(), AllocError>
+fn put_number<const LO: u32, const HI: u32>(
+    out: &mut String,
+    number: &Within<LO, HI>,
+) -> Result<(), AllocError>
     ensures { OnOk result (string_bytes out.new ≡ string_bytes out.old ++ 9 ∷ decimal number.now) }
 {
     out.push('\t')?;
@@ -49,5 +52,4 @@ pub fn command_text(alloc: Global, command: &Command) -> Result<String, AllocErr
 pub fn command_text_law()
     ensures spells { (c : Command) → IsCommand c → IsSpelling (text_of c) c }
     ensures apart { (c d : Command) → IsCommand c → IsCommand d → text_of c ≡ text_of d → c ≡ d }
-{
-}
+{}

@@ -44,7 +44,7 @@ module _ (tree : ℕ) (tests : List Term) (order : List (Term × Key)) (project 
   abbrev pub out : Row → Output
   out r = output q (params ∷ r ∷ [])
 
-  matched : (lost : Value) → matches_as lost (overlay db []) tests (inner tree end) (params ∷ []) ≡ map (λ r. params ∷ r ∷ []) (filter passes (db tree))
+  pub matched : (lost : Value) → matches_as lost (overlay db []) tests (inner tree end) (params ∷ []) ≡ map (λ r. params ∷ r ∷ []) (filter passes (db tree))
   matched lost = ap (flat_map (λ r. matches_as lost (overlay db []) tests end ((params ∷ []) ++ r ∷ []))) (no_overlay db tree) ∙ chosen passes (λ r. params ∷ r ∷ []) (db tree)
 
   -- the rows that pass, as the query shows them, in an order that ORDER BY allows

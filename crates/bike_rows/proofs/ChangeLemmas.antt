@@ -33,7 +33,7 @@ use Rattle.bike_rows.proofs.CastLemmas.{suit_all, suits_row, cast_same, cast_all
 use Rattle.bike_rows.proofs.AnswerLemmas.{passes, out, Answered}
 
 -- of rows whose rowids are apart, one at most passes a test that fixes the rowid
-one_passes : (p : Row → Bool) (rows : List Row) → AreSpread rows → ((a b : Row) → Has rows a → Has rows b → p a ≡ true → p b ≡ true → value_cmp (rowid a) (rowid b) ≡ Equal) → (filter p rows ≡ []) ⊎ ((r : Row) × Has rows r × (p r ≡ true) × (filter p rows ≡ r ∷ []))
+pub one_passes : (p : Row → Bool) (rows : List Row) → AreSpread rows → ((a b : Row) → Has rows a → Has rows b → p a ≡ true → p b ≡ true → value_cmp (rowid a) (rowid b) ≡ Equal) → (filter p rows ≡ []) ⊎ ((r : Row) × Has rows r × (p r ≡ true) × (filter p rows ≡ r ∷ []))
 one_passes p [] spread one = inl refl
 one_passes p (x ∷ rows) spread one = by (p x) refl (one_passes p rows spread.1 (λ a b q r. one a b (inr q) (inr r)))
   where

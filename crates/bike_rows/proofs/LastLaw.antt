@@ -7,7 +7,6 @@ use Rattle.std.proofs.lemmas.Cmp.{tied_itself}
 use Rattle.std.proofs.lemmas.Bool.{true≢false}
 use Rattle.std.proofs.lemmas.List.Sorted.{length_permutation}
 use Rattle.std.proofs.lemmas.List.{length-map}
-use native.Mathlib.Numerals.{unary_clauses}
 use Rattle.sqlite_value.specs.declared.value.Value.TheVariants.{Null, Int}
 use Rattle.sqlite_value.specs.declared.keys.Key.{Key}
 use Rattle.sqlite_value.specs.declared.keys.Collation.TheVariants.{Binary}
@@ -31,35 +30,8 @@ use Rattle.bike_rows.proofs.ListLemmas.{has_map, map_has, filter_has, has_filter
 use Rattle.bike_rows.proofs.TreeLemmas.{by_key_total, shown_apart}
 use Rattle.bike_rows.proofs.AnswerLemmas.{out, Answered, answered_page, out_from}
 use Rattle.bike_rows.proofs.FrameLemmas.{rows_of_is}
+use Rattle.bike_rows.proofs.SortLemmas.{ascends}
 use Rattle.bike_rows.proofs.WalkLaw.{one_answer}
-
--- ---- a list that is sorted place by place is sorted throughout
-
-module _ {X : Type 0} {R : X → X → Ordering} (o : IsTotalOrder R) where
-  abbrev pub NoneAbove : List X → Type 0
-  NoneAbove = IsAscending (λ a b. is_lt (R b a) ≡ false)
-
-  not_above : (x y z : X) → is_lt (R y x) ≡ false → is_lt (R z y) ≡ false → is_lt (R z x) ≡ false
-  not_above x y z a b = by (R z x) refl (R x y) refl
-    where
-      by : (p : Ordering) → R z x ≡ p → (q : Ordering) → R x y ≡ q → is_lt p ≡ false
-      by Less e Less f = absurd (let t : R z y ≡ Less = o.trans z x y e f in true≢false (rw t at b))
-      by Less e Equal f =
-          let back : R x z ≡ Greater = rw e at (o.antisymm x z) in
-          let far : R y z ≡ Greater = sym (o.congr x y z f) ∙ back in
-          let low : R z y ≡ Less = rw far at (o.antisymm z y) in
-          absurd (true≢false (rw low at b))
-      by Less e Greater f = absurd (let low : R y x ≡ Less = rw f at (o.antisymm y x) in true≢false (rw low at a))
-      by Equal e q f = refl
-      by Greater e q f = refl
-
-  pub ascends : (xs : List X) → IsSorted R xs → NoneAbove xs
-  ascends [] sorted = tt
-  ascends (x ∷ []) sorted = (tt, tt)
-  ascends (x ∷ y ∷ ys) sorted =
-      let first : is_lt (R y x) ≡ false = sorted 0 x (omega arith) (omega arith) in
-      let later = ascends (y ∷ ys) (λ k d low high. simp unary_clauses (simp unary_clauses at (sorted (k + 1) d (omega arith) (omega (arith, high))))) in
-      ((first, all_map (λ z. is_lt (R z y) ≡ false) (λ z. is_lt (R z x) ≡ false) (λ z h. not_above x y z first h) ys later.0), later)
 
 -- the last of rows that rise is the one that is below none
 last_is : (keys : ℕ) (rows : List Row) (row : Row) → IsAscending (λ a b. by_key keys a b ≡ Less) rows → Has rows row → ((y : Row) → Has rows y → by_key keys row y ≡ Less → ⊥) → last_of rows ≡ row ∷ []

@@ -2,6 +2,7 @@ pub mod OrderLemmas
 pub mod ListLemmas
 pub mod TreeLemmas
 pub mod KeyLemmas
+pub mod SortLemmas
 pub mod AnswerLemmas
 pub mod KeyOrderLemmas
 pub mod EffectLemmas
@@ -17,3 +18,7 @@ pub mod LookupLaw
 pub mod WalkLaw
 pub mod RangeLaw
 pub mod LastLaw
+pub mod JoinLaw
+pub mod CountLaw
+pub mod UnionLaw
+pub mod ParamLemmas

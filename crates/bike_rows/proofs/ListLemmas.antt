@@ -27,6 +27,10 @@ pub map_map : {A B C : Type 0} (f : A → B) (g : B → C) (xs : List A) → map
 map_map f g [] = refl
 map_map f g (x ∷ xs) = ap (λ l. g (f x) ∷ l) (map_map f g xs)
 
+pub map_same : {A B : Type 0} (f g : A → B) → ((x : A) → f x ≡ g x) → (xs : List A) → map f xs ≡ map g xs
+map_same f g same [] = refl
+map_same f g same (x ∷ xs) = let e = same x in let rest = map_same f g same xs in cc
+
 pub has_filter : {X : Type 0} (p : X → Bool) (xs : List X) (x : X) → Has (filter p xs) x → Has xs x × (p x ≡ true)
 has_filter p [] x h = elim h [ ]
 has_filter {X} p (y ∷ ys) x h = by (p y) refl h (has_filter p ys x)

@@ -33,7 +33,7 @@ eq_test (Real x) k h = rw h (truth_of (is_eq (value_cmp (Real x) k)))
 eq_test (Text t) k h = rw h (truth_of (is_eq (value_cmp (Text t) k)))
 eq_test (Blob b) k h = rw h (truth_of (is_eq (value_cmp (Blob b) k)))
 
-then_eq : (a b : Ordering) → is_eq (ordering_then a b) ≡ (is_eq a && is_eq b)
+pub then_eq : (a b : Ordering) → is_eq (ordering_then a b) ≡ (is_eq a && is_eq b)
 then_eq Less b = refl
 then_eq Equal b = refl
 then_eq Greater b = refl

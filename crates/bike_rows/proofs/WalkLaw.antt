@@ -8,14 +8,15 @@ use Rattle.sqlite_sql.specs.Program.{overlay}
 use Rattle.sqlite.specs.declared.error.Error.{Error}
 use Rattle.sqlite.specs.declared.error.Error.TheVariants.{QueryReturnedNoRows}
 use Rattle.sqlite.specs.Effect.{Database}
-use Rattle.sqlite.specs.Given.{HasBegun, Advances}
+use Rattle.sqlite.specs.Given.{HasBegun, Advances, IsRefused}
 use Rattle.sqlite.specs.Held.{Held, state}
-use Rattle.sqlite.specs.State.{State, Shown, QueriesRow, IsUnchanged}
+use Rattle.sqlite.specs.State.{State, Shown, QueriesRow, IsUnchanged, Survives, CommitsShowing}
 use Rattle.sqlite.proofs.Callers.{reads_as, begins_as, first_as, given_begin, begun_plain}
 use Rattle.bike_rows.specs.Answer.{MeansQuery, HasOneAnswer}
 use Rattle.bike_rows.specs.Outcome.{IsLeft, if_any}
-use Rattle.bike_rows.specs.Walk.{IsWalking, GoesOn}
-use Rattle.bike_rows.proofs.ReadLemmas.{shown_same, row_stopped, never_none}
+use Rattle.bike_rows.specs.Walk.{IsWalking, GoesOn, LeavesAll}
+use Rattle.bike_rows.proofs.CrashLemmas.{read_survives}
+use Rattle.bike_rows.proofs.ReadLemmas.{shown_same, row_stopped, query_stopped, never_none}
 
 -- a query that computes no table first
 pub one_answer : (db : Database) (text : List ℕ) (params : Row) (query : Query) (names : List (List ℕ)) (all : List Row) → MeansQuery db.schema text query names → ((rows : List Row) → IsAnswerAs Null query (overlay db.trees []) params rows → rows ≡ all)
@@ -52,6 +53,19 @@ module _ {S : Type 0} (g : Ghosts S) where
       let answer = reads_as it.text it.params (state g old) (state g new) old.schema refl _ it.answer.means.0 it.answer.means.1 it.answer.means.2 it.given (goes it.text it.params it.given it.gave) in
       let end = it.answer.whole it.given answer.answer in
       append_same it.given left [] (sym end ∙ sym (append-nil it.given))
+
+  -- a walk that does not begin leaves all as it was, or undoes the transaction
+  pub walk_refused : (old new : Held S) (text : List ℕ) (params : Row) (all : List Row) {X : Type 0} (r : Result X Error) → HasOneAnswer (state g old).now text params all → OnErr r (IsRefused g text params old r new) → OnErr r (LeavesAll g old new)
+  walk_refused old new text params all (Ok x) one h = tt
+  walk_refused old new text params all (Err e) one h = record {
+    mode = h.mode;
+    left = λ clean. query_stopped text params (state g old) (state g new) one.means.1 e (h.err clean);
+    survives = read_survives text params (state g old) (state g new) one.means.1 h.survives;
+  }
+
+-- A query that has one answer leaves unchanged what a crash may leave.
+pub answer_survives : (text : List ℕ) (params : Row) (old new : State) (all : List Row) → HasOneAnswer old.now text params all → Survives old new (CommitsShowing text params old) → Survives old new (λ _. ⊥)
+answer_survives text params old new all one = read_survives text params old new one.means.1
 
 -- ---- all at once, or the first row
 

@@ -1,11 +1,12 @@
 -- A table as the list of its rows in the order of their keys, with no rowid, tree or index in it.
-use Rattle.std.specs.Prelude.{◌≡◌, ◌&&◌, ℕ, true, not, List, [], ◌∷◌, map, filter, take, find, length, Option, is_some, if◌then◌else◌}
-use Rattle.std.specs.List.{range_with_len}
+use Rattle.std.specs.Prelude.{◌≡◌, ◌&&◌, ℕ, true, not, List, [], ◌∷◌, map, filter, take, find, length, Option, None, is_some, if◌then◌else◌}
+use Rattle.std.specs.List.{range_with_len, list_any}
 use Rattle.std.specs.declared.cmp.Ordering.{Ordering}
 use Rattle.std.specs.declared.cmp.Ordering.TheVariants.{Equal}
 use Rattle.std.specs.Ordering.{on, is_eq, is_lt}
 use Rattle.sqlite_value.specs.declared.value.Value.{Value}
 use Rattle.sqlite_value.specs.Order.{Row, column, value_cmp, row_cmp}
+use Rattle.sqlite_sql.specs.Ops.{is_null}
 use Rattle.sqlite_trees.specs.View.{is_int}
 use Rattle.sqlite_trees.specs.Tree.{Trees, rowid, IsAscending}
 use Rattle.sqlite_schema.specs.declared.schema.Table.{Table}
@@ -64,3 +65,11 @@ abbrev pub last_of : List Row → List Row
 last_of [] = []
 last_of (row ∷ []) = row ∷ []
 last_of (row ∷ next ∷ rows) = last_of (next ∷ rows)
+
+-- the row with this key, and none where a part of the key is NULL
+abbrev pub partner : ℕ → Row → List Row → Option Row
+partner keys key rows = if list_any is_null key then None else row_with keys key rows
+
+-- LEFT JOIN: each row with its partner, the row of the other table that has its columns at these places as key
+abbrev pub left_joined : (Row → Option Row → Row) → List ℕ → ℕ → List Row → List Row → List Row
+left_joined show columns keys others = map (λ row. show row (partner keys (map (column row) columns) others))

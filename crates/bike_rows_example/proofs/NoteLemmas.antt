@@ -12,7 +12,6 @@ use Rattle.sqlite_resolve.specs.Compile.{first}
 use Rattle.sqlite_typing.specs.Types.{accepts_program}
 use Rattle.sqlite_tied.specs.Compute.{everything}
 use Rattle.sqlite.specs.declared.error.Error.{Error}
-use Rattle.sqlite.specs.Values.{or_null}
 use Rattle.sqlite.specs.Effect.{Database}
 use Rattle.sqlite.specs.State.{State, ExecutesInside, QueriesRow, IsUnchanged, Survives, CommitsShowing}
 use Rattle.bike_names.specs.Has.{HasTable, of_tables}
@@ -34,11 +33,8 @@ use Rattle.bike_rows.proofs.UpdateLaw.{update_columns}
 use Rattle.bike_rows.proofs.LookupLaw.{looked_up}
 use Rattle.bike_rows.proofs.RangeLaw.{where_answer}
 use Rattle.bike_rows.proofs.CrashLemmas.{done_inside, read_survives}
-use Rattle.bike_rows_example.specs.Tables.{HasTables, Puts, tables_of, notes}
+use Rattle.bike_rows_example.specs.Tables.{HasTables, Puts, tables_of, notes, note_row}
 use Rattle.bike_rows_example.proofs.TableLemmas.{notes_key, puts_notes}
-
-abbrev row : List ℕ → List ℕ → Option (List ℕ) → Row
-row author title body = Text author ∷ Text title ∷ or_null Text body ∷ []
 
 -- ---- INSERT
 
@@ -56,12 +52,12 @@ module _ (s : Schema) (at tree : ℕ) (h : HasTable s at (table_of notes tree)) 
   inserts : Means s insert_text (Insert at (Values insert_terms 4))
   inserts = insert_is s at (table_of notes tree) h insert_text (Values insert_terms 4) reads_insert
 
-pub insert_puts : (old new : State) (has : HasTables old.now) (author title : List ℕ) (body : Option (List ℕ)) (r : Result ℕ Error) → ExecutesInside 0 insert_text (row author title body) old new r
-    → OnOk r (Puts old new (record (tables_of old.now) { notes = put_row_by 2 (row author title body) (tables_of old.now).notes }))
-insert_puts old new has author title body r = done_inside 0 insert_text (row author title body) old new r (λ count shown ran. puts_notes old new has _ shown
-    (insert_sets 2 notes notes_key old new has.notes insert_text (row author title body) 4 insert_terms (Null ∷ row author title body) (row author title body) (inserts old.now.schema has.notes.at has.notes.tree has.notes.has) refl (suit body) (λ rows. refl) count ran))
+pub insert_puts : (old new : State) (has : HasTables old.now) (author title : List ℕ) (body : Option (List ℕ)) (r : Result ℕ Error) → ExecutesInside 0 insert_text (note_row author title body) old new r
+    → OnOk r (Puts old new (record (tables_of old.now) { notes = put_row_by 2 (note_row author title body) (tables_of old.now).notes }))
+insert_puts old new has author title body r = done_inside 0 insert_text (note_row author title body) old new r (λ count shown ran. puts_notes old new has _ shown
+    (insert_sets 2 notes notes_key old new has.notes insert_text (note_row author title body) 4 insert_terms (Null ∷ note_row author title body) (note_row author title body) (inserts old.now.schema has.notes.at has.notes.tree has.notes.has) refl (suit body) (λ rows. refl) count ran))
   where
-    suit : (text : Option (List ℕ)) → suits_row notes.columns (Null ∷ row author title text) ≡ true
+    suit : (text : Option (List ℕ)) → suits_row notes.columns (Null ∷ note_row author title text) ≡ true
     suit None = refl
     suit (Some t) = refl
 
@@ -87,12 +83,12 @@ module _ (s : Schema) (at tree : ℕ) (h : HasTable s at (table_of notes tree)) 
   updates : Means s update_text (Update at (record { lets = []; body = new_rows }))
   updates = change_is s (at ∷ []) (table_of notes tree ∷ []) (h, tt) update_text 0 new_rows true reads_update update_typed
 
-pub update_puts : (old new : State) (has : HasTables old.now) (author title : List ℕ) (body : Option (List ℕ)) (r : Result ℕ Error) → ExecutesInside 0 update_text (row author title body) old new r
-    → OnOk r (Puts old new (record (tables_of old.now) { notes = replaced 2 (row author title body) (tables_of old.now).notes }))
-update_puts old new has author title body r = done_inside 0 update_text (row author title body) old new r (λ count shown ran. puts_notes old new has _ shown
-    (update_columns 2 notes notes_key old new has.notes update_text (row author title body) (1 ∷ 2 ∷ []) new_row (row author title body) (row author title body) (updates old.now.schema has.notes.at has.notes.tree has.notes.has) (λ r. refl) refl refl (suit body) (λ r. refl) (λ id. refl) count ran))
+pub update_puts : (old new : State) (has : HasTables old.now) (author title : List ℕ) (body : Option (List ℕ)) (r : Result ℕ Error) → ExecutesInside 0 update_text (note_row author title body) old new r
+    → OnOk r (Puts old new (record (tables_of old.now) { notes = replaced 2 (note_row author title body) (tables_of old.now).notes }))
+update_puts old new has author title body r = done_inside 0 update_text (note_row author title body) old new r (λ count shown ran. puts_notes old new has _ shown
+    (update_columns 2 notes notes_key old new has.notes update_text (note_row author title body) (1 ∷ 2 ∷ []) new_row (note_row author title body) (note_row author title body) (updates old.now.schema has.notes.at has.notes.tree has.notes.has) (λ r. refl) refl refl (suit body) (λ r. refl) (λ id. refl) count ran))
   where
-    suit : (text : Option (List ℕ)) → suit_all notes.columns (row author title text) ≡ true
+    suit : (text : Option (List ℕ)) → suit_all notes.columns (note_row author title text) ≡ true
     suit None = refl
     suit (Some t) = refl
 

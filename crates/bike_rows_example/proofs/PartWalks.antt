@@ -13,7 +13,7 @@ use Rattle.bike_names.proofs.ReadLaws.{select_is}
 use Rattle.bike_rows.specs.Answer.{MeansQuery, HasOneAnswer}
 use Rattle.bike_rows.specs.Layout.{table_of}
 use Rattle.bike_rows.specs.View.{rows_between, last_of}
-use Rattle.bike_rows.specs.Queries.{table_query, last_query, by_columns}
+use Rattle.bike_rows.specs.Queries.{table_query, last_query, count_query, key_tests, by_columns}
 use Rattle.bike_rows.proofs.RangeLaw.{ordered_answer, range_tests, range_answer}
 use Rattle.bike_rows.proofs.LastLaw.{last_answer}
 use Rattle.bike_rows_example.specs.Tables.{HasTables, tables_of, parts}
@@ -84,5 +84,18 @@ module _ (s : Schema) (at tree : ℕ) (h : HasTable s at (table_of parts tree)) 
   finds_last : MeansQuery s last_text (last_query tree shown) names
   finds_last = select_is s (at ∷ []) (table_of parts tree ∷ []) (h, tt) last_text (last_query tree shown) names reads_last last_typed
 
-pub last_part : (db : Database) (has : HasTables db) → HasOneAnswer db last_text [] (last_of (tables_of db).parts)
-last_part db has = last_answer parts db has.parts last_text [] shown names (finds_last db.schema has.parts.at has.parts.tree has.parts.has) (λ r. refl) (λ r. refl)
+pub last_answers : (db : Database) (has : HasTables db) → HasOneAnswer db last_text [] (last_of (tables_of db).parts)
+last_answers db has = last_answer parts db has.parts last_text [] shown names (finds_last db.schema has.parts.at has.parts.tree has.parts.has) (λ r. refl) (λ r. refl)
+
+-- ---- how many parts have this stock
+
+abbrev pub count_text : List ℕ
+count_text = codes "SELECT count(*) FROM parts WHERE stock = ?1"
+
+module _ (s : Schema) (at tree : ℕ) (h : HasTable s at (table_of parts tree)) where
+  count_typed : accepts_program s [] (count_query tree (key_tests 0 (2 ∷ []))) [] ≡ true
+  count_typed = rw (h.stored, h.by_tree)
+
+  reads_count : IsDraft (draft_of (of_tables (table_of parts tree ∷ [])) count_text) (count_query tree (key_tests 0 (2 ∷ []))) (codes "count(*)" ∷ [])
+  unfolding everything
+  reads_count = (refl, refl)

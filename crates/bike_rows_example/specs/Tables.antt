@@ -1,8 +1,10 @@
 -- Two tables, as lists of rows in the order of their keys.
-use Rattle.std.specs.Prelude.{◌≡◌, ℕ, true, false, List, [], ◌∷◌, Some, None, codes}
+use Rattle.std.specs.Prelude.{◌≡◌, ℕ, true, false, List, [], ◌∷◌, Option, Some, None, codes}
+use Rattle.sqlite_value.specs.declared.value.Value.TheVariants.{Text as Words}
 use Rattle.sqlite_value.specs.Order.{Row}
 use Rattle.sqlite_value.specs.Keys.{plain}
 use Rattle.sqlite_schema.specs.declared.schema.Kind.TheVariants.{Integer, Text}
+use Rattle.sqlite.specs.Values.{or_null}
 use Rattle.sqlite.specs.Effect.{Database, IsDatabase}
 use Rattle.sqlite.specs.State.{State, Shows}
 use Rattle.bike_rows.specs.Layout.{Layout, strict}
@@ -22,6 +24,10 @@ notes = record {
   uniques = (1 ∷ 2 ∷ []) ∷ [];
   orders = plain ∷ [];
 }
+
+-- a note with or without a body
+abbrev pub note_row : List ℕ → List ℕ → Option (List ℕ) → Row
+note_row author title body = Words author ∷ Words title ∷ or_null Words body ∷ []
 
 pub record Tables : Type 0 where
   pub parts : List Row

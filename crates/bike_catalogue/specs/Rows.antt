@@ -1,0 +1,117 @@
+-- The records of the catalogue, as contracts see them.
+use Rattle.std.specs.Prelude.{◌≡◌, ℕ, ℤ, pos, neg_ℤ, ◌≤◌, ◌<◌, ◌≤ℤ◌, List, length, Bool, true, Option, None, Some, nat_lt, nat_le, int_le, ◌==◌, ◌&&◌}
+use Rattle.bike_fixed.specs.Coordinate.{IsMicro}
+use Rattle.bike_catalogue.specs.declared.vehicle.Form.{Form}
+use Rattle.bike_catalogue.specs.declared.vehicle.Propulsion.{Propulsion}
+use Rattle.bike_catalogue.specs.declared.vehicle.Propulsion.TheVariants.{Human, ElectricAssist}
+use Rattle.bike_catalogue.specs.Bytes.{is_ident, is_name, is_ascii_field, is_language, is_currency}
+
+-- minutes from the start of a rental; the rate in hundredths; no end means that the segment goes on
+pub record SegmentRow : Type 0 where
+  pub start : ℕ
+  pub rate : ℤ
+  pub interval : ℕ
+  pub end : Option ℕ
+
+pub record PlanRow : Type 0 where
+  pub plan_id : List ℕ
+  pub name : List ℕ
+  pub price : ℕ
+  pub taxable : Bool
+  pub description : List ℕ
+  pub segments : List SegmentRow
+
+pub record TypeRow : Type 0 where
+  pub type_id : List ℕ
+  pub name : List ℕ
+  pub form : Form
+  pub propulsion : Propulsion
+  pub max_range : ℕ
+  pub plan_id : List ℕ
+
+pub record StationRow : Type 0 where
+  pub station_id : List ℕ
+  pub name : List ℕ
+  pub lat : ℤ
+  pub lon : ℤ
+  pub docks : ℕ
+
+pub record SystemRow : Type 0 where
+  pub system_id : List ℕ
+  pub language : List ℕ
+  pub name : List ℕ
+  pub opening_hours : List ℕ
+  pub feed_contact_email : List ℕ
+  pub timezone : List ℕ
+  pub currency : List ℕ
+  pub base_url : List ℕ
+  pub ttl : ℕ
+
+-- the bounds of each record
+
+abbrev pub IsRate : ℤ → Type 0
+IsRate z = (neg_ℤ (pos 100000) ≤ℤ z) × (z ≤ℤ pos 100000)
+
+-- an end is a minute after the start
+abbrev pub IsEnd : ℕ → Option ℕ → Type 0
+IsEnd start None = Unit {0}
+IsEnd start (Some end) = (end ≤ 100000) × (start < end)
+
+abbrev pub is_after : ℕ → Option ℕ → Bool
+is_after start None = true
+is_after start (Some end) = nat_lt start end
+
+pub record IsSegment (s : SegmentRow) : Type 0 where
+  pub start : s.start ≤ 100000
+  pub rate : IsRate s.rate
+  pub interval : s.interval ≤ 100000
+  pub end : IsEnd s.start s.end
+
+pub record IsPlan (p : PlanRow) : Type 0 where
+  pub plan_id : is_ident p.plan_id ≡ true
+  pub name : is_name p.name ≡ true
+  pub price : p.price ≤ 1000000
+  pub description : is_name p.description ≡ true
+  pub segments : length p.segments ≤ 8
+
+-- in metres: 0 exactly with human propulsion
+abbrev pub IsRange : Propulsion → ℕ → Type 0
+IsRange Human n = n ≡ 0
+IsRange ElectricAssist n = (1 ≤ n) × (n ≤ 1000000)
+
+-- the same as a test
+abbrev pub is_range : Propulsion → ℕ → Bool
+is_range Human n = n == 0
+is_range ElectricAssist n = nat_le 1 n && nat_le n 1000000
+
+pub record IsType (t : TypeRow) : Type 0 where
+  pub type_id : is_ident t.type_id ≡ true
+  pub name : is_name t.name ≡ true
+  pub max_range : IsRange t.propulsion t.max_range
+  pub plan_id : is_ident t.plan_id ≡ true
+
+-- from 90 degrees south to 90 degrees north
+abbrev pub IsLatitude : ℤ → Type 0
+IsLatitude z = (neg_ℤ (pos 90000000) ≤ℤ z) × (z ≤ℤ pos 90000000)
+
+abbrev pub is_latitude : ℤ → Bool
+is_latitude z = int_le (neg_ℤ (pos 90000000)) z && int_le z (pos 90000000)
+
+pub record IsStation (s : StationRow) : Type 0 where
+  pub station_id : is_ident s.station_id ≡ true
+  pub name : is_name s.name ≡ true
+  pub lat : IsLatitude s.lat
+  pub lon : IsMicro s.lon
+  pub some_docks : 1 ≤ s.docks
+  pub few_docks : s.docks ≤ 200
+
+pub record IsSystem (s : SystemRow) : Type 0 where
+  pub system_id : is_ident s.system_id ≡ true
+  pub language : is_language s.language ≡ true
+  pub name : is_name s.name ≡ true
+  pub opening_hours : is_ascii_field s.opening_hours ≡ true
+  pub feed_contact_email : is_ascii_field s.feed_contact_email ≡ true
+  pub timezone : is_ascii_field s.timezone ≡ true
+  pub currency : is_currency s.currency ≡ true
+  pub base_url : is_ascii_field s.base_url ≡ true
+  pub ttl : s.ttl ≤ 86400

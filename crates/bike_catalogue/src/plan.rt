@@ -1,0 +1,154 @@
+//! Pricing plans.
+
+ghost use Rattle.std.specs.Prelude.{◌≡◌, nat_le, length, Some, None, if◌then◌else◌};
+ghost use Rattle.bike_catalogue.specs.Fault.{Makes};
+ghost use Rattle.bike_catalogue.specs.RowFaults.{plan_fault};
+ghost use Rattle.bike_catalogue.specs.Rows.{PlanRow, IsPlan};
+
+use crate::fault::{Bound, Field, FieldFault};
+use crate::ident::Ident;
+use crate::name::Name;
+use crate::numbers::Price;
+use crate::range::in_range;
+use crate::segment::Segment;
+use std::alloc::Global;
+use std::marker::Model;
+
+/// The most segments of a plan.
+const MOST_SEGMENTS: usize = 8;
+
+/// A pricing plan: a price in hundredths, and up to eight segments that charge by the minute (GBFS's
+/// `system_pricing_plans`).
+#[derive(Debug, Drop)]
+pub struct Plan {
+    plan_id: Ident,
+    name: Name,
+    price: Price,
+    taxable: bool,
+    description: Name,
+    segments: Vec<Segment>,
+}
+
+impl Model for Plan {
+    ghost use Rattle.std.specs.Prelude.{◌≤◌, length};
+    ghost use Rattle.bike_catalogue.specs.Rows.{PlanRow};
+
+    ghost Value = { PlanRow };
+
+    ghost view = { λ a. record { plan_id = a.plan_id; name = a.name; price = a.price; taxable = a.taxable; description = a.description; segments = a.segments.items } };
+
+    ghost invariant = { λ a. length a.segments.items ≤ 8 };
+}
+
+impl Plan {
+    /// The plan of these fields, else the first bad field with the first bound that it breaks: an identifier, a name,
+    /// a price from 0 to 1,000,000 hundredths, a description and at most eight segments.
+    #[tactic(auto, unfolding(crate::specs::RowFaults::plan_fault))]
+    pub fn new(
+        alloc: Global,
+        plan_id: &str,
+        name: &str,
+        price: u32,
+        taxable: bool,
+        description: &str,
+        segments: &[Segment],
+    ) -> Result<Plan, FieldFault>
+        ensures { let row : PlanRow = record { plan_id = plan_id.now; name = name.now; price = price; taxable = taxable; description = description.now; segments = segments.now } in Makes row (plan_fault row) result }
+    {
+        let plan_id = Ident::new(alloc, Field::Plan, plan_id)?;
+        let name = Name::new(alloc, Field::Name, name)?;
+        let price: Price = in_range(Field::Price, price)?;
+        let description = Name::new(alloc, Field::Description, description)?;
+        if segments.len() > MOST_SEGMENTS {
+            return Err(FieldFault::Broken {
+                field: Field::Segments,
+                bound: Bound::Length,
+            });
+        }
+        let segments = Vec::from_slice(alloc, segments)?;
+        Ok(Plan {
+            plan_id,
+            name,
+            price,
+            taxable,
+            description,
+            segments,
+        })
+    }
+
+    /// The plan of these fields, where there are at most eight segments.
+    pub fn from_fields(
+        plan_id: Ident,
+        name: Name,
+        price: Price,
+        taxable: bool,
+        description: Name,
+        segments: Vec<Segment>,
+    ) -> Option<Plan>
+        ensures { result ≡ (if nat_le (length segments.items) 8 then Some (record { plan_id = plan_id; name = name; price = price; taxable = taxable; description = description; segments = segments.items }) else None) }
+    {
+        if segments.len() > MOST_SEGMENTS {
+            return None;
+        }
+        Some(Plan {
+            plan_id,
+            name,
+            price,
+            taxable,
+            description,
+            segments,
+        })
+    }
+
+    /// Tells the bounds of a plan to a proof.
+    pub fn bounds(&self)
+        ensures { IsPlan self.now }
+    {
+        let _plan_id = self.plan_id.as_str();
+        let _name = self.name.as_str();
+        let _price = self.price.get();
+        let _description = self.description.as_str();
+    }
+
+    /// The plan's identifier.
+    pub fn plan_id(&self) -> &Ident
+        ensures { result.now ≡ self.now.plan_id }
+    {
+        &self.plan_id
+    }
+
+    /// The plan's name.
+    pub fn name(&self) -> &Name
+        ensures { result.now ≡ self.now.name }
+    {
+        &self.name
+    }
+
+    /// What each rental costs before its segments, in hundredths.
+    pub fn price(&self) -> Price
+        ensures { result ≡ self.now.price }
+    {
+        self.price
+    }
+
+    /// Whether a tax is added to the fare; only printed.
+    pub fn taxable(&self) -> bool
+        ensures { result ≡ self.now.taxable }
+    {
+        self.taxable
+    }
+
+    /// The plan's description.
+    pub fn description(&self) -> &Name
+        ensures { result.now ≡ self.now.description }
+    {
+        &self.description
+    }
+
+    /// The plan's segments, at most eight.
+    pub fn segments(&self) -> &[Segment]
+        ensures { result.now ≡ self.now.segments }
+    {
+        self.segments.as_slice()
+    }
+}

@@ -1,0 +1,132 @@
+//! Stations.
+
+ghost use Rattle.std.specs.Prelude.{◌≡◌, Some, None, pos, neg_ℤ, int_le, ◌&&◌, if◌then◌else◌};
+ghost use Rattle.bike_catalogue.specs.Fault.{Makes};
+ghost use Rattle.bike_catalogue.specs.RowFaults.{station_fault};
+ghost use Rattle.bike_catalogue.specs.Rows.{StationRow, IsStation, is_latitude};
+
+use crate::fault::{Field, FieldFault};
+use crate::ident::Ident;
+use crate::name::Name;
+use crate::numbers::DockCount;
+use crate::range::{coordinate, in_range};
+use bike_fixed::Micro;
+use std::alloc::Global;
+use std::marker::Model;
+
+/// A station with its place in microdegrees and its docks (GBFS's `station_information`).
+#[derive(Debug, Drop)]
+pub struct Station {
+    station_id: Ident,
+    name: Name,
+    lat: Micro,
+    lon: Micro,
+    docks: DockCount,
+}
+
+impl Model for Station {
+    ghost use Rattle.bike_catalogue.specs.Rows.{StationRow, IsLatitude};
+
+    ghost Value = { StationRow };
+
+    ghost view = { λ a. record { station_id = a.station_id; name = a.name; lat = a.lat; lon = a.lon; docks = a.docks } };
+
+    ghost invariant = { λ a. IsLatitude a.lat };
+}
+
+impl Station {
+    /// The station of these fields, else the first bad field with the first bound that it breaks: an identifier, a
+    /// name, a latitude from -90,000,000 to 90,000,000 and a longitude from -180,000,000 to 180,000,000 microdegrees,
+    /// and 1 to 200 docks.
+    #[tactic(auto, unfolding(crate::specs::RowFaults::station_fault))]
+    pub fn new(
+        alloc: Global,
+        station_id: &str,
+        name: &str,
+        lat: i32,
+        lon: i32,
+        docks: u32,
+    ) -> Result<Station, FieldFault>
+        ensures { let row : StationRow = record { station_id = station_id.now; name = name.now; lat = lat; lon = lon; docks = docks } in Makes row (station_fault row) result }
+    {
+        let station_id = Ident::new(alloc, Field::Station, station_id)?;
+        let name = Name::new(alloc, Field::Name, name)?;
+        let lat = coordinate(Field::Lat, lat, 90_000_000)?;
+        let lon = coordinate(Field::Lon, lon, 180_000_000)?;
+        let docks: DockCount = in_range(Field::Docks, docks)?;
+        Ok(Station {
+            station_id,
+            name,
+            lat,
+            lon,
+            docks,
+        })
+    }
+
+    /// The station of these fields, where the latitude is within 90 degrees.
+    pub fn from_fields(
+        station_id: Ident,
+        name: Name,
+        lat: Micro,
+        lon: Micro,
+        docks: DockCount,
+    ) -> Option<Station>
+        ensures { result ≡ (if is_latitude lat then Some (record { station_id = station_id; name = name; lat = lat; lon = lon; docks = docks }) else None) }
+    {
+        if lat.microdegrees() < -90_000_000 || lat.microdegrees() > 90_000_000 {
+            return None;
+        }
+        Some(Station {
+            station_id,
+            name,
+            lat,
+            lon,
+            docks,
+        })
+    }
+
+    /// Tells the bounds of a station to a proof.
+    pub fn bounds(&self)
+        ensures { IsStation self.now }
+    {
+        let _station_id = self.station_id.as_str();
+        let _name = self.name.as_str();
+        let _lon = self.lon.microdegrees();
+        let _docks = self.docks.get();
+    }
+
+    /// The station's identifier.
+    pub fn station_id(&self) -> &Ident
+        ensures { result.now ≡ self.now.station_id }
+    {
+        &self.station_id
+    }
+
+    /// The station's name.
+    pub fn name(&self) -> &Name
+        ensures { result.now ≡ self.now.name }
+    {
+        &self.name
+    }
+
+    /// The latitude, within 90 degrees.
+    pub fn lat(&self) -> Micro
+        ensures { result ≡ self.now.lat }
+    {
+        self.lat
+    }
+
+    /// The longitude, within 180 degrees.
+    pub fn lon(&self) -> Micro
+        ensures { result ≡ self.now.lon }
+    {
+        self.lon
+    }
+
+    /// How many docks it has.
+    pub fn docks(&self) -> DockCount
+        ensures { result ≡ self.now.docks }
+    {
+        self.docks
+    }
+}

@@ -1,0 +1,177 @@
+//! The system.
+
+ghost use Rattle.std.specs.Prelude.{◌≡◌};
+ghost use Rattle.bike_catalogue.specs.Fault.{Makes};
+ghost use Rattle.bike_catalogue.specs.RowFaults.{system_fault};
+ghost use Rattle.bike_catalogue.specs.Rows.{SystemRow, IsSystem};
+
+use crate::ascii::Ascii;
+use crate::currency::Currency;
+use crate::fault::{Field, FieldFault};
+use crate::ident::Ident;
+use crate::language::Language;
+use crate::name::Name;
+use crate::numbers::TimeToLive;
+use crate::range::in_range;
+use std::alloc::Global;
+use std::marker::Model;
+
+/// What is published of the system as a whole (GBFS's `system_information`), with the base of its feeds' URLs and how
+/// long they stay fresh, in seconds.
+#[derive(Debug, Drop)]
+pub struct System {
+    system_id: Ident,
+    language: Language,
+    name: Name,
+    opening_hours: Ascii,
+    feed_contact_email: Ascii,
+    timezone: Ascii,
+    currency: Currency,
+    base_url: Ascii,
+    ttl: TimeToLive,
+}
+
+impl Model for System {
+    ghost use Rattle.bike_catalogue.specs.Rows.{SystemRow};
+
+    ghost Value = { SystemRow };
+
+    ghost view = { λ a. record { system_id = a.system_id; language = a.language; name = a.name; opening_hours = a.opening_hours; feed_contact_email = a.feed_contact_email; timezone = a.timezone; currency = a.currency; base_url = a.base_url; ttl = a.ttl } };
+}
+
+impl System {
+    /// The system of these fields, else the first bad field with the first bound that it breaks: an identifier, a
+    /// language, a name, four ASCII fields round a currency, and a time to live from 0 to 86,400 seconds.
+    #[tactic(auto, unfolding(crate::specs::RowFaults::system_fault))]
+    pub fn new(
+        alloc: Global,
+        system_id: &str,
+        language: &str,
+        name: &str,
+        opening_hours: &str,
+        feed_contact_email: &str,
+        timezone: &str,
+        currency: &str,
+        base_url: &str,
+        ttl: u32,
+    ) -> Result<System, FieldFault>
+        ensures { let row : SystemRow = record { system_id = system_id.now; language = language.now; name = name.now; opening_hours = opening_hours.now; feed_contact_email = feed_contact_email.now; timezone = timezone.now; currency = currency.now; base_url = base_url.now; ttl = ttl } in Makes row (system_fault row) result }
+    {
+        Ok(System {
+            system_id: Ident::new(alloc, Field::SystemId, system_id)?,
+            language: Language::new(alloc, Field::Language, language)?,
+            name: Name::new(alloc, Field::Name, name)?,
+            opening_hours: Ascii::new(alloc, Field::OpeningHours, opening_hours)?,
+            feed_contact_email: Ascii::new(alloc, Field::FeedContactEmail, feed_contact_email)?,
+            timezone: Ascii::new(alloc, Field::Timezone, timezone)?,
+            currency: Currency::new(alloc, Field::Currency, currency)?,
+            base_url: Ascii::new(alloc, Field::BaseUrl, base_url)?,
+            ttl: in_range(Field::Ttl, ttl)?,
+        })
+    }
+
+    /// The system of these fields.
+    pub fn from_fields(
+        system_id: Ident,
+        language: Language,
+        name: Name,
+        opening_hours: Ascii,
+        feed_contact_email: Ascii,
+        timezone: Ascii,
+        currency: Currency,
+        base_url: Ascii,
+        ttl: TimeToLive,
+    ) -> System
+        ensures { result ≡ record { system_id = system_id; language = language; name = name; opening_hours = opening_hours; feed_contact_email = feed_contact_email; timezone = timezone; currency = currency; base_url = base_url; ttl = ttl } }
+    {
+        System {
+            system_id,
+            language,
+            name,
+            opening_hours,
+            feed_contact_email,
+            timezone,
+            currency,
+            base_url,
+            ttl,
+        }
+    }
+
+    /// Tells the bounds of a system to a proof.
+    pub fn bounds(&self)
+        ensures { IsSystem self.now }
+    {
+        let _system_id = self.system_id.as_str();
+        let _language = self.language.as_str();
+        let _name = self.name.as_str();
+        let _opening_hours = self.opening_hours.as_str();
+        let _feed_contact_email = self.feed_contact_email.as_str();
+        let _timezone = self.timezone.as_str();
+        let _currency = self.currency.as_str();
+        let _base_url = self.base_url.as_str();
+        let _ttl = self.ttl.get();
+    }
+
+    /// The system's identifier.
+    pub fn system_id(&self) -> &Ident
+        ensures { result.now ≡ self.now.system_id }
+    {
+        &self.system_id
+    }
+
+    /// The language of its texts.
+    pub fn language(&self) -> &Language
+        ensures { result.now ≡ self.now.language }
+    {
+        &self.language
+    }
+
+    /// The system's name.
+    pub fn name(&self) -> &Name
+        ensures { result.now ≡ self.now.name }
+    {
+        &self.name
+    }
+
+    /// Its opening hours, printed as given.
+    pub fn opening_hours(&self) -> &Ascii
+        ensures { result.now ≡ self.now.opening_hours }
+    {
+        &self.opening_hours
+    }
+
+    /// The contact of its feeds, printed as given.
+    pub fn feed_contact_email(&self) -> &Ascii
+        ensures { result.now ≡ self.now.feed_contact_email }
+    {
+        &self.feed_contact_email
+    }
+
+    /// Its time zone, printed as given.
+    pub fn timezone(&self) -> &Ascii
+        ensures { result.now ≡ self.now.timezone }
+    {
+        &self.timezone
+    }
+
+    /// The currency of its plans.
+    pub fn currency(&self) -> &Currency
+        ensures { result.now ≡ self.now.currency }
+    {
+        &self.currency
+    }
+
+    /// The base of its feeds' URLs.
+    pub fn base_url(&self) -> &Ascii
+        ensures { result.now ≡ self.now.base_url }
+    {
+        &self.base_url
+    }
+
+    /// How long a feed stays fresh.
+    pub fn ttl(&self) -> TimeToLive
+        ensures { result ≡ self.now.ttl }
+    {
+        self.ttl
+    }
+}

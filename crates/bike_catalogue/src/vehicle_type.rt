@@ -1,0 +1,166 @@
+//! Vehicle types.
+
+ghost use Rattle.std.specs.Prelude.{◌≡◌, Some, None, if◌then◌else◌};
+ghost use Rattle.bike_catalogue.specs.Fault.{Makes, at_field};
+ghost use Rattle.bike_catalogue.specs.RowFaults.{type_fault, checked, max_range_fault};
+ghost use Rattle.bike_catalogue.specs.Rows.{TypeRow, IsType, is_range};
+
+use crate::fault::{Bound, Field, FieldFault};
+use crate::ident::Ident;
+use crate::name::Name;
+use crate::numbers::MaxRange;
+use crate::range::in_range;
+use crate::vehicle::{Form, Propulsion};
+use std::alloc::Global;
+use std::marker::Model;
+
+/// A vehicle type with the plan by which its rentals are priced (GBFS's `vehicle_types`). The greatest range in metres
+/// is 0 exactly with human propulsion.
+#[derive(Debug, Drop)]
+pub struct VehicleType {
+    type_id: Ident,
+    name: Name,
+    form: Form,
+    propulsion: Propulsion,
+    max_range: MaxRange,
+    plan_id: Ident,
+}
+
+impl Model for VehicleType {
+    ghost use Rattle.bike_catalogue.specs.Rows.{TypeRow, IsRange};
+
+    ghost Value = { TypeRow };
+
+    ghost view = { λ a. record { type_id = a.type_id; name = a.name; form = a.form; propulsion = a.propulsion; max_range = a.max_range; plan_id = a.plan_id } };
+
+    ghost invariant = { λ a. IsRange a.propulsion a.max_range };
+}
+
+/// The greatest range, in metres, of a vehicle with that propulsion.
+fn max_range_of(propulsion: Propulsion, metres: u32) -> Result<MaxRange, FieldFault>
+    ensures { result ≡ checked metres (at_field Field.MaxRange (max_range_fault propulsion metres)) }
+{
+    let max_range: MaxRange = in_range(Field::MaxRange, metres)?;
+    if is_range(propulsion, metres) {
+        return Ok(max_range);
+    }
+    Err(FieldFault::Broken {
+        field: Field::MaxRange,
+        bound: Bound::Range,
+    })
+}
+
+/// Whether a range in metres goes with the propulsion.
+fn is_range(propulsion: Propulsion, metres: u32) -> bool
+    ensures { result ≡ is_range propulsion metres }
+{
+    match propulsion {
+        Propulsion::Human => metres == 0,
+        Propulsion::ElectricAssist => 1 <= metres && metres <= 1_000_000,
+    }
+}
+
+impl VehicleType {
+    /// The vehicle type of these fields, else the first bad field with the first bound that it breaks: identifiers, a
+    /// name, and a range of 0 with human propulsion, else from 1 to 1,000,000 metres.
+    #[tactic(auto, unfolding(crate::specs::RowFaults::type_fault))]
+    pub fn new(
+        alloc: Global,
+        type_id: &str,
+        name: &str,
+        form: Form,
+        propulsion: Propulsion,
+        max_range: u32,
+        plan_id: &str,
+    ) -> Result<VehicleType, FieldFault>
+        ensures { let row : TypeRow = record { type_id = type_id.now; name = name.now; form = form; propulsion = propulsion; max_range = max_range; plan_id = plan_id.now } in Makes row (type_fault row) result }
+    {
+        let type_id = Ident::new(alloc, Field::TypeId, type_id)?;
+        let name = Name::new(alloc, Field::Name, name)?;
+        let max_range = max_range_of(propulsion, max_range)?;
+        let plan_id = Ident::new(alloc, Field::Plan, plan_id)?;
+        Ok(VehicleType {
+            type_id,
+            name,
+            form,
+            propulsion,
+            max_range,
+            plan_id,
+        })
+    }
+
+    /// The vehicle type of these fields, where the range goes with the propulsion.
+    pub fn from_fields(
+        type_id: Ident,
+        name: Name,
+        form: Form,
+        propulsion: Propulsion,
+        max_range: MaxRange,
+        plan_id: Ident,
+    ) -> Option<VehicleType>
+        ensures { result ≡ (if is_range propulsion max_range then Some (record { type_id = type_id; name = name; form = form; propulsion = propulsion; max_range = max_range; plan_id = plan_id }) else None) }
+    {
+        if !is_range(propulsion, max_range.get()) {
+            return None;
+        }
+        Some(VehicleType {
+            type_id,
+            name,
+            form,
+            propulsion,
+            max_range,
+            plan_id,
+        })
+    }
+
+    /// Tells the bounds of a vehicle type to a proof.
+    pub fn bounds(&self)
+        ensures { IsType self.now }
+    {
+        let _type_id = self.type_id.as_str();
+        let _name = self.name.as_str();
+        let _plan_id = self.plan_id.as_str();
+    }
+
+    /// The type's identifier.
+    pub fn type_id(&self) -> &Ident
+        ensures { result.now ≡ self.now.type_id }
+    {
+        &self.type_id
+    }
+
+    /// The type's name.
+    pub fn name(&self) -> &Name
+        ensures { result.now ≡ self.now.name }
+    {
+        &self.name
+    }
+
+    /// The form of its vehicles.
+    pub fn form(&self) -> Form
+        ensures { result ≡ self.now.form }
+    {
+        self.form
+    }
+
+    /// The propulsion of its vehicles.
+    pub fn propulsion(&self) -> Propulsion
+        ensures { result ≡ self.now.propulsion }
+    {
+        self.propulsion
+    }
+
+    /// The greatest range of its vehicles in metres, 0 with human propulsion.
+    pub fn max_range(&self) -> MaxRange
+        ensures { result ≡ self.now.max_range }
+    {
+        self.max_range
+    }
+
+    /// The plan by which new rentals are priced.
+    pub fn plan_id(&self) -> &Ident
+        ensures { result.now ≡ self.now.plan_id }
+    {
+        &self.plan_id
+    }
+}

@@ -1,0 +1,111 @@
+-- UNION ALL of two tables, sorted by what it shows, answers the rows of both in that order.
+use Rattle.std.proofs.Common.{◌≡◌, ◌⊎◌, inl, inr, ℕ, ◌-◌, ◌^◌, List, [], ◌∷◌, ◌++◌, map, filter, flat_map, take, cond, true, false, nat_le, slice_get, Option, Some, None, unwrap_or, Ordering, refl, sym, ap, ap₂, subst, ◌∙◌}
+use Rattle.std.specs.Ordering.{is_lt}
+use Rattle.std.specs.List.Sorted.{IsPermutation}
+use Rattle.std.proofs.lemmas.List.Sorted.{IsPermutation-map, IsPermutation-sym, IsPermutation-trans, IsPermutation-append}
+use Rattle.sqlite_value.specs.declared.value.Value.TheVariants.{Null}
+use Rattle.sqlite_value.specs.declared.keys.Key.{Key}
+use Rattle.sqlite_value.specs.declared.keys.Collation.{Collation}
+use Rattle.sqlite_value.specs.Order.{Row, column, row_cmp}
+use Rattle.sqlite_trees.specs.Tree.{Trees}
+use Rattle.sqlite_sql.specs.Term.{Term, eval_all}
+use Rattle.sqlite_sql.specs.Query.{Query, inner, end, matches_as, IsAnswerAs, IsSureAnswer, output, Output, output_cmp}
+use Rattle.sqlite_sql.specs.Program.{overlay, selected, combined, Computes}
+use Rattle.sqlite_sql.specs.declared.query.SetOp.TheVariants.{UnionAll}
+use Rattle.sqlite_sql.proofs.QueryLemmas.{output_cmp_total}
+use Rattle.bike_rows.specs.Keyed.{in_order}
+use Rattle.bike_rows.specs.View.{by_key}
+use Rattle.bike_rows.specs.Queries.{table_query, by_columns}
+use Rattle.bike_rows.proofs.OrderLemmas.{all_from, all_has}
+use Rattle.bike_rows.proofs.ListLemmas.{map_has, map_map, map_same, filter_all, permuted}
+use Rattle.bike_rows.proofs.TreeLemmas.{by_key_total}
+use Rattle.bike_rows.proofs.SortLemmas.{NoneAbove, AreApartAll, ascends, ordered_is}
+use Rattle.bike_rows.proofs.AnswerLemmas.{no_overlay, out, Answered, answered}
+use Rattle.bike_rows.proofs.KeyOrderLemmas.{compares}
+
+-- ---- one part: the rows of a table, in some order
+
+module _ (tree : ℕ) (project : List Term) (collations : List Collation) (db : Trees) (params : Row) where
+  abbrev pub part : Query
+  part = record (table_query tree [] [] project) { collations = collations }
+
+  each : (rows : List Row) → flat_map (λ r. cond true ((params ∷ r ∷ []) ∷ []) []) rows ≡ map (λ r. params ∷ r ∷ []) rows
+  each [] = refl
+  each (r ∷ rows) = ap (λ l. (params ∷ r ∷ []) ∷ l) (each rows)
+
+  part_rows : (rows : List Row) → IsAnswerAs Null part db params rows → IsPermutation (map (λ r. eval_all project (params ∷ r ∷ [])) (db tree)) rows
+  part_rows rows a =
+      let kept : a.kept ≡ map (output part) (map (λ r. params ∷ r ∷ []) (db tree)) = a.distinct ∙ ap (map (output part)) (a.grouped ∙ each (db tree)) in
+      let moved : IsPermutation (map (λ (o : Output). o.1) a.kept) (map (λ (o : Output). o.1) a.ordered) = IsPermutation-map (λ (o : Output). o.1) a.kept a.ordered a.same in
+      let from : map (λ (o : Output). o.1) a.kept ≡ map (λ r. eval_all project (params ∷ r ∷ [])) (db tree) =
+        ap (map (λ (o : Output). o.1)) (kept ∙ map_map (λ r. params ∷ r ∷ []) (output part) (db tree)) ∙ map_map (λ r. output part (params ∷ r ∷ [])) (λ (o : Output). o.1) (db tree) in
+      subst (IsPermutation (map (λ r. eval_all project (params ∷ r ∷ [])) (db tree))) (sym a.shown) (subst (λ xs. IsPermutation xs (map (λ (o : Output). o.1) a.ordered)) from moved)
+
+-- the number of the tree that the parts' union has, after the two parts
+abbrev pub union_tree : ℕ
+union_tree = 2147483650
+
+module _ (t u : ℕ) (first second : List Term) (collations by : List Collation) (width : ℕ) (order : List (Term × Key)) (project : List Term) (db : Trees) (params : Row) (stored_t : nat_le (2 ^ 31) t ≡ false) (stored_u : nat_le (2 ^ 31) u ≡ false) where
+  -- the rows of each part, and both in turn
+  pub record Parts (P : List (List Row) → Type 0) : Type 0 where
+    pub left : List Row
+    pub right : List Row
+    pub left_is : IsPermutation (map (λ r. eval_all first (params ∷ r ∷ [])) (db t)) left
+    pub right_is : IsPermutation (map (λ r. eval_all second (params ∷ r ∷ [])) (db u)) right
+    pub whole : P (left ∷ right ∷ (left ++ right) ∷ [])
+
+  under : (tables : List (List Row)) (tree : ℕ) → nat_le (2 ^ 31) tree ≡ false → overlay db tables tree ≡ db tree
+  under tables tree low = rw low refl
+
+  pub parted : (P : List (List Row) → Type 0) → Computes db params [] (selected (part t first collations db params) ∷ selected (part u second collations db params) ∷ combined UnionAll 0 1 width by ∷ []) P → Parts P
+  parted P (inr (going, none, more)) = elim none [ ]
+  parted P (inl (left, a, inr (going, none, more))) = elim none [ ]
+  parted P (inl (left, a, inl (right, b, inr (going, none, more)))) = elim none [ ]
+  parted P (inl (left, a, inl (right, b, inl (both, is, whole)))) = record {
+    left = left;
+    right = right;
+    left_is = subst (λ rows. IsPermutation (map (λ r. eval_all first (params ∷ r ∷ [])) rows) left) (under [] t stored_t) (part_rows t first collations (overlay db []) params left (a Null));
+    right_is = subst (λ rows. IsPermutation (map (λ r. eval_all second (params ∷ r ∷ [])) rows) right) (under (left ∷ []) u stored_u) (part_rows u second collations (overlay db (left ∷ [])) params right (b Null));
+    whole = subst (λ l. P (left ∷ right ∷ l ∷ [])) is whole;
+  }
+
+-- ---- both, in the order of what is shown
+
+module _ (keys : ℕ) (places : List ℕ) (project : List Term) (trees : Trees) (params : Row) where
+  abbrev shown : Row → Row
+  shown r = eval_all project (params ∷ r ∷ [])
+
+  abbrev query : Query
+  query = table_query union_tree [] (by_columns places) project
+
+  abbrev o : Row → Output
+  o = out union_tree [] (by_columns places) project trees params
+
+  unlaid : overlay trees [] ≡ trees
+  unlaid = λ i tree. no_overlay trees tree i
+
+  -- a permutation of the rows, in which no key falls
+  pub union_rows : ((r : Row) → take keys (shown r) ≡ map (column r) places) → (rows : List Row) → IsAnswerAs Null query trees params rows → IsPermutation (map shown (trees union_tree)) rows × NoneAbove (by_key_total keys) rows
+  union_rows first rows answer =
+      let a = answered union_tree [] (by_columns places) project trees params Null rows (subst (λ d. IsAnswerAs Null query d params rows) (sym unlaid) answer) in
+      let same : IsPermutation (map o (trees union_tree)) a.outs = subst (λ rs. IsPermutation (map o rs) a.outs) (filter_all (trees union_tree)) a.same in
+      let moved : IsPermutation (map (λ (x : Output). x.1) (map o (trees union_tree))) (map (λ (x : Output). x.1) a.outs) = IsPermutation-map (λ (x : Output). x.1) (map o (trees union_tree)) a.outs same in
+      (subst (IsPermutation (map shown (trees union_tree))) (sym a.shown) (subst (λ xs. IsPermutation xs (map (λ (x : Output). x.1) a.outs)) (map_map o (λ (x : Output). x.1) (trees union_tree)) moved),
+      subst (NoneAbove (by_key_total keys)) (sym a.shown) (rise a.outs (λ x h. map_has o (trees union_tree) x (permuted a.outs (map o (trees union_tree)) x (IsPermutation-sym _ _ same) h)) (ascends (output_cmp_total query) a.outs a.sorted)))
+    where
+      compared : (a b : Row) → output_cmp query (o a) (o b) ≡ by_key keys (shown a) (shown b)
+      compared a b = compares places params a b [] [] ∙ sym (ap₂ row_cmp (first a) (first b))
+
+      rise : (outs : List Output) → ((x : Output) → Rattle.sqlite_rules.specs.Lists.Has outs x → (r : Row) × Rattle.sqlite_rules.specs.Lists.Has (trees union_tree) r × (x ≡ o r)) → NoneAbove (output_cmp_total query) outs → NoneAbove (by_key_total keys) (map (λ (x : Output). x.1) outs)
+      rise [] from up = tt
+      rise (x ∷ outs) from up =
+          (all_from (λ y. is_lt (by_key keys y x.1) ≡ false) (map (λ (p : Output). p.1) outs) (λ y has.
+            let p = map_has (λ (p : Output). p.1) outs y has in
+            let a = from x (inl refl) in
+            let b = from p.0 (inr p.1) in
+            let not_below : is_lt (output_cmp query p.0 x) ≡ false = all_has (λ z. is_lt (output_cmp query z x) ≡ false) outs p.0 up.0 p.1 in
+            let turned : is_lt (output_cmp query (o b.0) (o a.0)) ≡ false = subst (λ z. is_lt (output_cmp query (o b.0) z) ≡ false) a.2 (subst (λ z. is_lt (output_cmp query z x) ≡ false) b.2 not_below) in
+            let low : y ≡ shown b.0 = p.2 ∙ ap (λ (z : Output). z.1) b.2 in
+            let high : x.1 ≡ shown a.0 = ap (λ (z : Output). z.1) a.2 in
+            rw (low, high) (ap is_lt (sym (compared b.0 a.0)) ∙ turned)),
+          rise outs (λ y has. from y (inr has)) up.1)
