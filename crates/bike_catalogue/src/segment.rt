@@ -102,6 +102,7 @@ impl Segment {
     pub fn bounds(&self)
         ensures { IsSegment self.now }
     {
+        // a value that is opened tells its invariant
         let _opened = self.start;
     }
 

@@ -47,9 +47,9 @@ both_true false b t = absurd t
 
 same_tests : (q r : ℕ) → eqb r q ≡ eq_by_cmp nat_cmp q r
 same_tests q r = elim (eqb_tells r q) [
-    | inl w ↦ w.0 ∙ sym (ap is_eq (sym (nat_cmp_is q r Equal (sym w.1))))
-    | inr w ↦ w.0 ∙ sym (unequal (nat_cmp q r) refl w.1)
-  ] where
+  | inl w ↦ w.0 ∙ sym (ap is_eq (sym (nat_cmp_is q r Equal (sym w.1))))
+  | inr w ↦ w.0 ∙ sym (unequal (nat_cmp q r) refl w.1)
+] where
   unequal : (o : Ordering) → nat_cmp q r ≡ o → (r ≡ q → ⊥) → is_eq o ≡ false
   unequal Less e apart = refl
   unequal Equal e apart = absurd (apart (sym (map.nat_cmp-IsAntisymmetric q r e)))
@@ -65,10 +65,10 @@ below_apart x (e ∷ es) h =
     let parts = both_true (is_lt (nat_cmp x e.0)) (below_all nat_cmp x es) h in
     ap₂ (λ a b. a || b) (apart (nat_cmp x e.0) refl parts.0) (below_apart x es parts.1)
   where
-  apart : (r : Ordering) → nat_cmp x e.0 ≡ r → T (is_lt r) → eqb e.0 x ≡ false
-  apart Less is t = same_tests x e.0 ∙ ap is_eq is
-  apart Equal is t = absurd t
-  apart Greater is t = absurd t
+    apart : (r : Ordering) → nat_cmp x e.0 ≡ r → T (is_lt r) → eqb e.0 x ≡ false
+    apart Less is t = same_tests x e.0 ∙ ap is_eq is
+    apart Equal is t = absurd t
+    apart Greater is t = absurd t
 
 distinct : (es : List (ℕ × Rider)) → T (is_sorted nat_cmp es) → AreDistinct (map (λ e. e.0) es)
 distinct [] h = tt

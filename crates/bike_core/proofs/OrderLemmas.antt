@@ -50,11 +50,12 @@ balance_of_entries s rider number (e ∷ es) h =
     let own = share_bounds (eqb e.rider rider) in
     (omega (arith, ints, rest.0, own.0), omega (arith, ints, rest.1, own.1))
   where
-  paid : credit e.kind e.amount ≡ pos h.0.amount.hundredths
-  paid = ap (λ (k : EntryKind). credit k e.amount) h.0.kind ∙ h.0.amount.is
-  share_bounds : (b : Bool) → (pos 0 ≤ℤ cond b (credit e.kind e.amount) (pos 0)) × (cond b (credit e.kind e.amount) (pos 0) ≤ℤ pos 1000000)
-  share_bounds true = rw paid (omega (arith, ints), omega (arith, ints, h.0.amount.high))
-  share_bounds false = (omega (arith, ints), omega (arith, ints))
+    paid : credit e.kind e.amount ≡ pos h.0.amount.hundredths
+    paid = ap (λ (k : EntryKind). credit k e.amount) h.0.kind ∙ h.0.amount.is
+
+    share_bounds : (b : Bool) → (pos 0 ≤ℤ cond b (credit e.kind e.amount) (pos 0)) × (cond b (credit e.kind e.amount) (pos 0) ≤ℤ pos 1000000)
+    share_bounds true = rw paid (omega (arith, ints), omega (arith, ints, h.0.amount.high))
+    share_bounds false = (omega (arith, ints), omega (arith, ints))
 
 -- a rider's balance lies within what so many entries can come to
 pub balance_within : (s : Operator) (rider : ℕ) → IsInOrder s → IsWithin (length s.entries) (balance_of rider s.entries)
@@ -105,8 +106,8 @@ keys_total = lists_total nat_list_cmp_total
 kept_stand : (s : Operator) (q : Request) (k : Kept) → IsInOrder s → IsRequest q → IsCommand k.command → IsReply k.reply → is_refused k.reply ≡ false → EachEntry IsKept (map.entries (map.insert s.kept (key_in q) k))
 kept_stand s q k order good command reply accepted =
     rw (map.entries-insert keys_total s.kept (key_in q) k)
-      (each_put IsKept (map.slice_cmp-IsAntisymmetric (map.slice_cmp-IsAntisymmetric map.nat_cmp-IsAntisymmetric)) (key_in q) k (map.entries s.kept)
-        (record { caller = q.caller; name = q.key; key_is = refl; good_caller = good.caller; good_name = good.key; command = command; reply = reply; accepted = accepted }) order.kept)
+    (each_put IsKept (map.slice_cmp-IsAntisymmetric (map.slice_cmp-IsAntisymmetric map.nat_cmp-IsAntisymmetric)) (key_in q) k (map.entries s.kept)
+    (record { caller = q.caller; name = q.key; key_is = refl; good_caller = good.caller; good_name = good.key; command = command; reply = reply; accepted = accepted }) order.kept)
 
 latest : (t now : ℕ) → t ≤ last_moment → now ≤ last_moment → (max t now ≤ last_moment) × (now ≤ max t now)
 latest t now a b = (omega arith, omega arith)
@@ -119,7 +120,7 @@ kind_in_order s t q (AddRider rider) is moment good command order none =
     let now = latest t s.now moment order.now in
     record {
       riders = rw (map.entries-insert nat_cmp_total s.riders rider (record { blocked = false }))
-        (each_put (λ r _. IsRiderNumber r) map.nat_cmp-IsAntisymmetric rider (record { blocked = false }) (map.entries s.riders) (record { low = command.0.0; high = command.0.1 }) order.riders);
+          (each_put (λ r _. IsRiderNumber r) map.nat_cmp-IsAntisymmetric rider (record { blocked = false }) (map.entries s.riders) (record { low = command.0.0; high = command.0.1 }) order.riders);
       few_riders = fewer (map.contains_key s.riders rider) (map.len-insert nat_cmp_total s.riders rider (record { blocked = false })) (below free.1);
       entries = entries_stand s (record (effect s (max t s.now) (AddRider rider)) { now = max t s.now; kept = map.insert s.kept (key_in q) (record { command = AddRider rider; reply = reply_of s (max t s.now) (AddRider rider) }) }) 1 s.entries (still_known s rider (record { blocked = false })) now.1 order.entries;
       few_entries = order.few_entries;
@@ -127,11 +128,12 @@ kind_in_order s t q (AddRider rider) is moment good command order none =
       now = now.0;
     }
   where
-  below : leb most_riders (map.len s.riders) ≡ false → map.len s.riders < most_riders
-  below f = grind (arith, nat_tests, f)
-  fewer : (b : Bool) → map.len (map.insert s.riders rider (record { blocked = false })) ≡ cond b (map.len s.riders) (map.len s.riders + 1) → map.len s.riders < most_riders → map.len (map.insert s.riders rider (record { blocked = false })) ≤ most_riders
-  fewer true e h = omega (arith, e, h)
-  fewer false e h = omega (arith, e, h)
+    below : leb most_riders (map.len s.riders) ≡ false → map.len s.riders < most_riders
+    below f = grind (arith, nat_tests, f)
+
+    fewer : (b : Bool) → map.len (map.insert s.riders rider (record { blocked = false })) ≡ cond b (map.len s.riders) (map.len s.riders + 1) → map.len s.riders < most_riders → map.len (map.insert s.riders rider (record { blocked = false })) ≤ most_riders
+    fewer true e h = omega (arith, e, h)
+    fewer false e h = omega (arith, e, h)
 kind_in_order s t q (TopUp rider amount) is moment good command order none =
     let free = none_of_two (is_none (rider_view s rider (map.get s.riders rider))) (leb most_entries (length s.entries)) refusal.UnknownRider refusal.LimitReached none in
     let now = latest t s.now moment order.now in
@@ -140,8 +142,12 @@ kind_in_order s t q (TopUp rider amount) is moment good command order none =
     let next : Operator = record (effect s (max t s.now) (TopUp rider amount)) { now = max t s.now; kept = map.insert s.kept (key_in q) (record { command = TopUp rider amount; reply = reply }) } in
     let stand : AreEntries next 1 s.entries = entries_stand s next 1 s.entries (λ r h. h) now.1 order.entries in
     let last : IsEntry next (1 + length s.entries) entry = record {
-      numbered = omega arith; kind = refl; rider = known_rider s rider (map.get s.riders rider) free.0; no_rental = refl;
-      amount = record { hundredths = amount; is = refl; low = command.1.0.0; high = command.1.0.1 }; by_now = omega arith;
+      numbered = omega arith;
+      kind = refl;
+      rider = known_rider s rider (map.get s.riders rider) free.0;
+      no_rental = refl;
+      amount = record { hundredths = amount; is = refl; low = command.1.0.0; high = command.1.0.1 };
+      by_now = omega arith;
     } in
     let all : AreEntries next 1 (s.entries ++ entry ∷ []) = entries_append next 1 s.entries entry stand last in
     let few : length (s.entries ++ entry ∷ []) ≤ most_entries = one_more free.1 (length-append s.entries (entry ∷ [])) in
@@ -155,8 +161,8 @@ kind_in_order s t q (TopUp rider amount) is moment good command order none =
       now = now.0;
     }
   where
-  one_more : {n : ℕ} → leb most_entries (length s.entries) ≡ false → n ≡ length s.entries + 1 → n ≤ most_entries
-  one_more f e = let b : length s.entries < most_entries = grind (arith, nat_tests, f) in omega (arith, e, b)
+    one_more : {n : ℕ} → leb most_entries (length s.entries) ≡ false → n ≡ length s.entries + 1 → n ≤ most_entries
+    one_more f e = let b : length s.entries < most_entries = grind (arith, nat_tests, f) in omega (arith, e, b)
 
 decided_in_order : (s : Operator) (t : ℕ) (q : Request) → t ≤ last_moment → IsRequest q → IsInOrder s → (o : Option Refusal) → refused s q.command ≡ o → IsInOrder (decided s (max t s.now) q o).1
 decided_in_order s t q moment good order (Some r) e = order

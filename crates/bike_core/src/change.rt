@@ -1,7 +1,7 @@
 //! Changes of the operator, one record each.
 
-use bike_ledger::Entry;
 use bike_catalogue::RiderNumber;
+use bike_ledger::Entry;
 use bike_requests::{Refusal, Reply};
 
 /// One record that is put or added.

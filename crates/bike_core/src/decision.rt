@@ -8,9 +8,9 @@ ghost use Rattle.bike_core.specs.Changes.{Decides};
 
 use crate::change::{Accepted, Change, Decision};
 use crate::view::View;
+use bike_catalogue::{Payment, RiderNumber};
 use bike_fixed::Moment;
 use bike_ledger::{Entry, EntryNumber, balance_after};
-use bike_catalogue::{Payment, RiderNumber};
 use bike_requests::{Command, Refusal, Reply};
 
 fn decide_add_rider(view: &View, rider: RiderNumber) -> Decision
@@ -24,7 +24,16 @@ fn decide_add_rider(view: &View, rider: RiderNumber) -> Decision
     }
     Ok(Accepted {
         reply: Reply::Done,
-        changes: [Some(Change::AddRider(rider)), None, None, None, None, None, None, None],
+        changes: [
+            Some(Change::AddRider(rider)),
+            None,
+            None,
+            None,
+            None,
+            None,
+            None,
+            None,
+        ],
     })
 }
 
@@ -41,7 +50,16 @@ fn decide_top_up(view: &View, now: Moment, rider: RiderNumber, amount: Payment) 
     let entry = Entry::top_up(number, rider, amount, now);
     Ok(Accepted {
         reply: Reply::Balance(balance_after(row.balance, &entry)),
-        changes: [Some(Change::AddEntry(entry)), None, None, None, None, None, None, None],
+        changes: [
+            Some(Change::AddEntry(entry)),
+            None,
+            None,
+            None,
+            None,
+            None,
+            None,
+            None,
+        ],
     })
 }
 

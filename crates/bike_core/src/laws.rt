@@ -13,25 +13,21 @@ ghost use Rattle.bike_core.specs.Runs.{Call, step, after, replies};
 /// The law of order: a step keeps an operator in order.
 pub fn keeps_order()
     ensures { (s : Operator) (t : ℕ) (q : Request) → t ≤ last_moment → IsRequest q → IsInOrder s → IsInOrder (step s t q).1 }
-{
-}
+{}
 
 /// The law of order over lists: every list of requests leaves an operator in order in order.
 pub fn keeps_order_over_lists()
     ensures { (s : Operator) (cs : List Call) → AreCalls cs → IsInOrder s → IsInOrder (after s cs) }
-{
-}
+{}
 
 /// The law of money over lists: after every list of requests from the operator of whom nothing was asked,
 /// the balances of all riders and the revenue together are the cash.
 pub fn money_law_over_lists()
     ensures { (cs : List Call) → AreCalls cs → IsConserved (keys (after no_operator cs).riders) (after no_operator cs).entries }
-{
-}
+{}
 
 /// The law of runs: a list that is served in two parts is served as one.
 pub fn run_law()
     ensures operator { (s : Operator) (cs ds : List Call) → after s (cs ++ ds) ≡ after (after s cs) ds }
     ensures answers { (s : Operator) (cs ds : List Call) → replies s (cs ++ ds) ≡ replies s cs ++ replies (after s cs) ds }
-{
-}
+{}

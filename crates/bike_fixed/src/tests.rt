@@ -1,6 +1,8 @@
 //! Outside facts: printed texts, spellings, and days of known zones.
 
-use crate::{Cents, DayFault, Micro, Moment, Within, day_bounds, read_signed, read_whole, signed_text};
+use crate::{
+    Cents, DayFault, Micro, Moment, Within, day_bounds, read_signed, read_whole, signed_text,
+};
 
 #[test]
 fn prints_money(rt: HostRuntime) {
@@ -39,7 +41,19 @@ fn reads_and_prints_coordinates(rt: HostRuntime) {
         assert!(rt; micro.text().as_str() == printed, "{text}");
     }
     for text in [
-        "180.000001", "-180.000001", "1000", ".5", "1.", "+1", "1.0000000", "", "-", "--1", "1 ", "1.5.5", "1e1",
+        "180.000001",
+        "-180.000001",
+        "1000",
+        ".5",
+        "1.",
+        "+1",
+        "1.0000000",
+        "",
+        "-",
+        "--1",
+        "1 ",
+        "1.5.5",
+        "1e1",
     ] {
         assert!(rt; Micro::read(text).is_none(), "{text}");
     }
@@ -80,9 +94,22 @@ fn reads_numbers(rt: HostRuntime) {
         let dock = Within::<1, 200>::read(text);
         assert!(rt; dock == Within::new(number), "{text}");
         assert!(rt; dock.is_some_and(|dock| dock.get() == number), "{text}");
-        assert!(rt; read_whole(text, 1, 200) == Some(u64::from(number)), "{text}");
+        assert!(rt;
+            read_whole(text, 1, 200) == Some(u64::from(number)),
+            "{text}"
+        );
     }
-    for text in ["0", "201", "01", "+1", "-1", "", " 1", "1x", "30000000000000000000000000000"] {
+    for text in [
+        "0",
+        "201",
+        "01",
+        "+1",
+        "-1",
+        "",
+        " 1",
+        "1x",
+        "30000000000000000000000000000",
+    ] {
         assert!(rt; Within::<1, 200>::read(text).is_none(), "{text}");
     }
     for (text, number) in [
@@ -92,10 +119,23 @@ fn reads_numbers(rt: HostRuntime) {
         ("9223372036854775807", i64::MAX),
         ("-9223372036854775808", i64::MIN),
     ] {
-        assert!(rt; read_signed(text, i64::MIN, i64::MAX) == Some(number), "{text}");
+        assert!(rt;
+            read_signed(text, i64::MIN, i64::MAX) == Some(number),
+            "{text}"
+        );
         assert!(rt; signed_text(number).as_str() == text, "{text}");
     }
-    for text in ["-0", "+1", "-01", "01", "", "-", "100001", "-100001", "9223372036854775808"] {
+    for text in [
+        "-0",
+        "+1",
+        "-01",
+        "01",
+        "",
+        "-",
+        "100001",
+        "-100001",
+        "9223372036854775808",
+    ] {
         assert!(rt; read_signed(text, -100_000, 100_000).is_none(), "{text}");
     }
 }

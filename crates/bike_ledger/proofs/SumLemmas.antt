@@ -1,12 +1,12 @@
 -- Sums over entries.
-use Rattle.std.proofs.Common.{◌≡◌, ◌≢◌, ℕ, ℤ, pos, neg_ℤ, ◌+ℤ◌, List, [], ◌∷◌, ◌++◌, Bool, true, false, cond, eqb, refl, sym, ap, ◌∙◌, arith, inl, inr}
-use Rattle.std.specs.Prelude.{◌||◌, ◌==◌}
+use Rattle.std.proofs.Common.{◌≡◌, ◌≢◌, ℕ, ℤ, pos, ◌+ℤ◌, List, [], ◌∷◌, ◌++◌, Bool, true, false, cond, eqb, refl, sym, ap, ◌∙◌, arith, inl, inr}
+use Rattle.std.specs.Prelude.{◌||◌}
 use Rattle.std.proofs.lemmas.Int.{ints}
 use Rattle.std.proofs.lemmas.Bool.Decides.{eqb_tells}
 use Rattle.bike_ledger.specs.declared.entry.EntryKind.{EntryKind}
 use Rattle.bike_ledger.specs.declared.entry.EntryKind.TheVariants.{TopUp, Fare, Refund}
 use Rattle.bike_ledger.specs.declared.entry.Entry.{Entry}
-use Rattle.bike_ledger.specs.Ledger.{total, credit, cash_in, earned, share, balance_of, cash_of, revenue_of}
+use Rattle.bike_ledger.specs.Ledger.{total, credit, cash_in, earned, share, balance_of}
 use Rattle.bike_ledger.specs.Money.{is_among, AreDistinct, AreOf, balances, IsConserved}
 
 pub total-append : (figure : Entry → ℤ) (es : List Entry) (e : Entry) → total figure (es ++ e ∷ []) ≡ total figure es +ℤ figure e
@@ -45,6 +45,18 @@ share_of_own r e is = ap (λ b. cond b (credit e.kind e.amount) (pos 0)) is
 
 share_of_other : (r : ℕ) (e : Entry) → eqb e.rider r ≡ false → share r e ≡ pos 0
 share_of_other r e is = ap (λ b. cond b (credit e.kind e.amount) (pos 0)) is
+
+-- one more entry: its rider's balance changes by its credit
+pub balance_of-own : (es : List Entry) (e : Entry) → balance_of e.rider (es ++ e ∷ []) ≡ balance_of e.rider es +ℤ credit e.kind e.amount
+balance_of-own es e =
+    total-append (share e.rider) es e ∙ ap (λ z. balance_of e.rider es +ℤ z) (share_of_own e.rider e (same_turned e.rider e.rider refl))
+
+-- and no other rider's does
+pub balance_of-other : (es : List Entry) (e : Entry) (rider : ℕ) → e.rider ≢ rider → balance_of rider (es ++ e ∷ []) ≡ balance_of rider es
+balance_of-other es e rider apart =
+    let all = total-append (share rider) es e in
+    let none = share_of_other rider e (other_turned rider e.rider (λ i. apart (sym i))) in
+    omega (arith, ints, all, none)
 
 -- an entry adds nothing to riders other than its own
 shares_of_others : (riders : List ℕ) (e : Entry) → is_among e.rider riders ≡ false → shares riders e ≡ pos 0

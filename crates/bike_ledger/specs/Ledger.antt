@@ -1,5 +1,5 @@
 -- The ledger: what its entries add to a rider's balance, to cash, to revenue and to a rental's refunds.
-use Rattle.std.specs.Prelude.{◌≡◌, ℕ, ℤ, pos, neg_ℤ, ◌+ℤ◌, ◌≤ℤ◌, List, [], ◌∷◌, ◌==◌, if◌then◌else◌}
+use Rattle.std.specs.Prelude.{ℕ, ℤ, pos, neg_ℤ, ◌+ℤ◌, ◌≤ℤ◌, List, [], ◌∷◌, ◌==◌, if◌then◌else◌}
 use Rattle.bike_ledger.specs.declared.entry.EntryKind.{EntryKind}
 use Rattle.bike_ledger.specs.declared.entry.EntryKind.TheVariants.{TopUp, Fare, Refund}
 use Rattle.bike_ledger.specs.declared.entry.Entry.{Entry}
@@ -33,6 +33,7 @@ given_back TopUp amount = pos 0
 given_back Fare amount = pos 0
 given_back Refund amount = amount
 
+-- what an entry adds to a rider's balance
 abbrev pub share : ℕ → Entry → ℤ
 share rider e = if e.rider == rider then credit e.kind e.amount else pos 0
 
@@ -48,9 +49,13 @@ cash_of = total (λ e. cash_in e.kind e.amount)
 abbrev pub revenue_of : List Entry → ℤ
 revenue_of = total (λ e. earned e.kind e.amount)
 
+-- what an entry adds to the refunds of a rental
+abbrev pub given_back_of : ℕ → Entry → ℤ
+given_back_of rental e = if e.rental == rental then given_back e.kind e.amount else pos 0
+
 -- all refunds of a rental
 abbrev pub refunded_of : ℕ → List Entry → ℤ
-refunded_of rental = total (λ e. if e.rental == rental then given_back e.kind e.amount else pos 0)
+refunded_of rental = total (given_back_of rental)
 
 -- the greatest amount of an entry, which is the greatest fare
 abbrev pub greatest_amount : ℤ
@@ -65,7 +70,12 @@ pub record IsAmount (amount : ℤ) : Type 0 where
   pub low : pos 0 ≤ℤ amount
   pub high : amount ≤ℤ greatest_amount
 
--- a balance to which one more entry can be added
+-- entries of such amounts
+abbrev pub AreAmounts : List Entry → Type 0
+AreAmounts [] = Unit {0}
+AreAmounts (e ∷ es) = IsAmount e.amount × AreAmounts es
+
+-- the balance of a rider, of cash or of revenue, to which one more entry can be added
 pub record IsBalance (balance : ℤ) : Type 0 where
   pub low : neg_ℤ greatest_balance ≤ℤ balance
   pub high : balance ≤ℤ greatest_balance

@@ -1,6 +1,6 @@
 //! Entries of the ledger.
 
-ghost use Rattle.std.specs.Prelude.{◌≡◌, pos};
+ghost use Rattle.std.specs.Prelude.{◌≡◌, ◌≤ℤ◌, pos};
 
 use bike_fixed::{Cents, Moment, Within};
 
@@ -27,7 +27,7 @@ pub struct Entry {
     pub kind: EntryKind,
     /// The rider whose balance it changes.
     pub rider: Within<1, 999_999>,
-    /// The rental of a fare or refund; 0 with a top-up.
+    /// The rental of a fare or refund, 1 or more; 0 exactly with a top-up.
     pub rental: Within<0, 100_000_000>,
     /// The amount in hundredths of the currency, not below 0.
     pub amount: Cents,
@@ -54,6 +54,48 @@ impl Entry {
             at,
         }
     }
+
+    /// The entry of a rental's fare, of 0 to 34,561,800,000 hundredths.
+    pub fn fare(
+        number: EntryNumber,
+        rider: Within<1, 999_999>,
+        rental: Within<1, 100_000_000>,
+        amount: Cents,
+        at: Moment,
+    ) -> Entry
+        requires low { pos 0 ≤ℤ amount }
+        requires high { amount ≤ℤ pos 34561800000 }
+        ensures { result ≡ record { number = number; kind = EntryKind.Fare; rider = rider; rental = rental; amount = amount; at = at } }
+    {
+        Entry {
+            number,
+            kind: EntryKind::Fare,
+            rider,
+            rental: some(rental),
+            amount,
+            at,
+        }
+    }
+
+    /// The entry of a refund to the rider of a rental, of 1 to 1,000,000 hundredths.
+    pub fn refund(
+        number: EntryNumber,
+        rider: Within<1, 999_999>,
+        rental: Within<1, 100_000_000>,
+        amount: Within<1, 1_000_000>,
+        at: Moment,
+    ) -> Entry
+        ensures { result ≡ record { number = number; kind = EntryKind.Refund; rider = rider; rental = rental; amount = pos amount; at = at } }
+    {
+        Entry {
+            number,
+            kind: EntryKind::Refund,
+            rider,
+            rental: some(rental),
+            amount: Cents::new(i64::from(amount.get())),
+            at,
+        }
+    }
 }
 
 /// No rental.
@@ -62,6 +104,16 @@ fn none() -> Within<0, 100_000_000>
 {
     match Within::new(0) {
         Some(zero) => zero,
+        None => unreachable!(),
+    }
+}
+
+/// This rental.
+fn some(rental: Within<1, 100_000_000>) -> Within<0, 100_000_000>
+    ensures { result ≡ rental }
+{
+    match Within::new(rental.get()) {
+        Some(rental) => rental,
         None => unreachable!(),
     }
 }

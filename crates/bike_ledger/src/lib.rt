@@ -8,4 +8,9 @@ mod entry;
 mod sums;
 
 pub use entry::{Entry, EntryKind, EntryNumber};
-pub use sums::{balance_after, entry_law, money_law, refundable};
+pub use sums::{
+    balance_after, bound_law, cash_after, entry_law, money_law, refundable, revenue_after,
+};
+
+#[cfg(test)]
+mod tests;

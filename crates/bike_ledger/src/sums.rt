@@ -1,8 +1,8 @@
 //! What one more entry does to the sums.
 
-ghost use Rattle.std.specs.Prelude.{◌≡◌, ◌++◌, ◌∷◌, [], ◌+ℤ◌, ◌-ℤ◌, ◌≤ℤ◌, pos, List, ℕ, ℤ};
+ghost use Rattle.std.specs.Prelude.{◌≡◌, ◌≢◌, ◌≤◌, ◌++◌, ◌∷◌, [], ◌+ℤ◌, ◌-ℤ◌, ◌≤ℤ◌, pos, length, List, ℕ, ℤ};
 ghost use Rattle.bike_ledger.specs.declared.entry.Entry.{Entry};
-ghost use Rattle.bike_ledger.specs.Ledger.{total, credit, share, balance_of, cash_of, revenue_of, refunded_of, IsAmount, IsBalance};
+ghost use Rattle.bike_ledger.specs.Ledger.{total, credit, cash_in, earned, given_back_of, share, balance_of, cash_of, revenue_of, refunded_of, IsAmount, IsBalance, AreAmounts};
 ghost use Rattle.bike_ledger.specs.Money.{AreDistinct, AreOf, IsConserved};
 
 use crate::entry::{Entry, EntryKind};
@@ -21,6 +21,32 @@ pub fn balance_after(balance: i64, entry: &Entry) -> i64
     }
 }
 
+/// The cash after the entry, in hundredths: a top-up comes in, nothing else moves cash.
+pub fn cash_after(cash: Cents, entry: &Entry) -> Cents
+    requires cash { IsBalance cash }
+    requires amount { IsAmount entry.now.amount }
+    ensures { result ≡ cash +ℤ cash_in entry.now.kind entry.now.amount }
+{
+    match entry.kind {
+        EntryKind::TopUp => Cents::new(cash.hundredths() + entry.amount.hundredths()),
+        EntryKind::Fare | EntryKind::Refund => cash,
+    }
+}
+
+/// The revenue after the entry, in hundredths: a fare is earned, and a refund is given back out of it.
+pub fn revenue_after(revenue: Cents, entry: &Entry) -> Cents
+    requires revenue { IsBalance revenue }
+    requires amount { IsAmount entry.now.amount }
+    ensures { result ≡ revenue +ℤ earned entry.now.kind entry.now.amount }
+{
+    let earned = entry.amount.hundredths();
+    match entry.kind {
+        EntryKind::TopUp => revenue,
+        EntryKind::Fare => Cents::new(revenue.hundredths() + earned),
+        EntryKind::Refund => Cents::new(revenue.hundredths() - earned),
+    }
+}
+
 /// What of a fare may still be refunded.
 pub fn refundable(fare: Cents, refunded: Cents) -> Cents
     requires low { pos 0 ≤ℤ refunded }
@@ -34,7 +60,20 @@ pub fn refundable(fare: Cents, refunded: Cents) -> Cents
 /// and cash, revenue and the refunds of a rental change by what its kind adds.
 pub fn entry_law()
     ensures balance { (es : List Entry) (e : Entry) (rider : ℕ) → balance_of rider (es ++ e ∷ []) ≡ balance_of rider es +ℤ share rider e }
+    ensures own { (es : List Entry) (e : Entry) → balance_of e.rider (es ++ e ∷ []) ≡ balance_of e.rider es +ℤ credit e.kind e.amount }
+    ensures others { (es : List Entry) (e : Entry) (rider : ℕ) → e.rider ≢ rider → balance_of rider (es ++ e ∷ []) ≡ balance_of rider es }
+    ensures cash { (es : List Entry) (e : Entry) → cash_of (es ++ e ∷ []) ≡ cash_of es +ℤ cash_in e.kind e.amount }
+    ensures revenue { (es : List Entry) (e : Entry) → revenue_of (es ++ e ∷ []) ≡ revenue_of es +ℤ earned e.kind e.amount }
+    ensures refunded { (es : List Entry) (e : Entry) (rental : ℕ) → refunded_of rental (es ++ e ∷ []) ≡ refunded_of rental es +ℤ given_back_of rental e }
     ensures any_sum { (figure : Entry → ℤ) (es : List Entry) (e : Entry) → total figure (es ++ e ∷ []) ≡ total figure es +ℤ figure e }
+{}
+
+/// The law of bounds: up to 99,999,999 entries of amounts that an entry may have leave every balance, the
+/// cash and the revenue where one more entry can be added.
+pub fn bound_law()
+    ensures balance { (es : List Entry) (rider : ℕ) → AreAmounts es → length es ≤ 99999999 → IsBalance (balance_of rider es) }
+    ensures cash { (es : List Entry) → AreAmounts es → length es ≤ 99999999 → IsBalance (cash_of es) }
+    ensures revenue { (es : List Entry) → AreAmounts es → length es ≤ 99999999 → IsBalance (revenue_of es) }
 {}
 
 /// The law of money: over every list of entries, the balances of all riders and the revenue together

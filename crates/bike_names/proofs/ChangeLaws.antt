@@ -6,7 +6,7 @@ use Rattle.sqlite_ast.specs.declared.Shown.{Shown}
 use Rattle.sqlite_ast.specs.declared.Statement.{Statement}
 use Rattle.sqlite_ast.specs.declared.Statement.TheVariants as written
 use Rattle.sqlite_syntax.specs.declared.statement.Parsed.{Parsed}
-use Rattle.sqlite_sql.specs.Term.{Term, col}
+use Rattle.sqlite_sql.specs.Term.{Term}
 use Rattle.sqlite_sql.specs.Query.{Query}
 use Rattle.sqlite_schema.specs.declared.schema.Schema.{Schema}
 use Rattle.sqlite_schema.specs.declared.schema.Table.{Table}
@@ -23,11 +23,10 @@ use Rattle.sqlite_resolve.specs.Expr.{lower}
 use Rattle.sqlite_resolve.specs.Body.{table_at}
 use Rattle.sqlite_resolve.specs.Program.{program}
 use Rattle.sqlite_resolve.specs.Write.{sets_from, sets, assigned, picked, updated_in, updated, deleted, level_of, with_place}
-use Rattle.sqlite_resolve.specs.Compile.{first, planned, meaning, returning, shows, command, timed, compiled, update, delete, target}
+use Rattle.sqlite_resolve.specs.Compile.{first, planned, meaning, returning, shows, command, timed, compiled, update, delete}
 use Rattle.sqlite.specs.Listing.{understood}
-use Rattle.bike_names.specs.Has.{of_tables, place}
 use Rattle.bike_names.specs.Fragment.{is_nil, covers, covers_option, covers_sets}
-use Rattle.bike_names.specs.Changes.{Change, change_on, change_at, change_of, IsChange, changes}
+use Rattle.bike_names.specs.Changes.{change_on, change_at, IsChange, changes}
 use Rattle.bike_names.specs.Laws.{Means, ChangeLaw}
 use Rattle.bike_names.proofs.Relocation.{Relocates, level_at, scope, both}
 use Rattle.bike_names.proofs.CoverLemmas.{both3, both4}

@@ -86,10 +86,10 @@ module _ {s s0 : Schema} {f : ℕ → ℕ} (r : Relocates s s0 f) (low : Context
       let left : (λ terms. tests low (in_s ls a false) terms (out-Source src).on) ≡ (λ terms. tests low (in_s0 ls a false) terms (out-Source src).on) = fun_ext (λ terms. tests_same ls a false terms (out-Source src).on k) in
       let inner : (λ terms. tests low (in_s ls a b) terms (out-Source src).on) ≡ (λ terms. tests low (in_s0 ls a b) terms (out-Source src).on) = fun_ext (λ terms. tests_same ls a b terms (out-Source src).on k) in
       rw (there, using)
-         (ap₂ (λ x y. lift (table_at s0 t.table) >>= (λ table. shared (in_s0 ls a b) bs t >>= (λ terms.
-             if (out-Source src).is_left
-             then (x terms >>= (λ all. if list_all (reads_below (t.slot + 1)) all then pure (record done { steps = done.steps ++ Left table.tree all ∷ [] }) else fail Unsupported))
-             else ((λ filter. record { steps = done.steps ++ Inner table.tree ∷ []; filter = filter }) <$> y (done.filter ++ terms))))) left inner)
+      (ap₂ (λ x y. lift (table_at s0 t.table) >>= (λ table. shared (in_s0 ls a b) bs t >>= (λ terms.
+      if (out-Source src).is_left
+      then (x terms >>= (λ all. if list_all (reads_below (t.slot + 1)) all then pure (record done { steps = done.steps ++ Left table.tree all ∷ [] }) else fail Unsupported))
+      else ((λ filter. record { steps = done.steps ++ Inner table.tree ∷ []; filter = filter }) <$> y (done.filter ++ terms))))) left inner)
 
   joins_from_same : (ls : List Level) (a b : Bool) (bs : List Bound) (done : Joined) (ts : List Bound) (srcs : List Source) → covers_sources s0 ok srcs ≡ true
       → joins_from low (in_s ls a b) (map (bound_at f) bs) done (map (bound_at f) ts) srcs ≡ joins_from low (in_s0 ls a b) bs done ts srcs
@@ -108,7 +108,7 @@ module _ {s s0 : Schema} {f : ℕ → ℕ} (r : Relocates s s0 f) (low : Context
   matching_same ls a b l core k =
       let p = body_parts s0 ok core k in
       ap₂ (λ all later. all >>= (λ joined. later joined.filter >>= (λ filter. pure (record joined { filter = filter })))) (joins_same (l ∷ ls) false true l.tables (out-Core core).from p.0)
-          (fun_ext (λ done. tests_same (l ∷ ls) false true done (out-Core core).filter p.2))
+      (fun_ext (λ done. tests_same (l ∷ ls) false true done (out-Core core).filter p.2))
 
   -- ---- FROM, the columns and WHERE
 
@@ -117,11 +117,11 @@ module _ {s s0 : Schema} {f : ℕ → ℕ} (r : Relocates s s0 f) (low : Context
   body_over ls a b core k st =
       let p = body_parts s0 ok core k in
       rw (bounds_over r ok (out-Core core).from p.0 st)
-         (then_over (bounds s0 (out-Core core).from st) (with_state (map (bound_at f))) _ _ (with_state (body_at f)) (λ t.
-             rw (result_same ls a b (record { tables = t.0; shown = [] }) core p.1)
-                (then_into (result low (in_s0 ls a b) (record { tables = t.0; shown = [] }) core t.1) _ _ (with_state (body_at f)) (λ c.
-                    rw (matching_same ls a b (record { tables = t.0; shown = c.0 }) core k)
-                       (then_into (matching low (in_s0 ls a b) (record { tables = t.0; shown = c.0 }) core c.1) _ _ (with_state (body_at f)) (λ j. refl))))))
+      (then_over (bounds s0 (out-Core core).from st) (with_state (map (bound_at f))) _ _ (with_state (body_at f)) (λ t.
+      rw (result_same ls a b (record { tables = t.0; shown = [] }) core p.1)
+      (then_into (result low (in_s0 ls a b) (record { tables = t.0; shown = [] }) core t.1) _ _ (with_state (body_at f)) (λ c.
+      rw (matching_same ls a b (record { tables = t.0; shown = c.0 }) core k)
+      (then_into (matching low (in_s0 ls a b) (record { tables = t.0; shown = c.0 }) core c.1) _ _ (with_state (body_at f)) (λ j. refl))))))
 
   -- ---- GROUP BY and ORDER BY
 
@@ -135,7 +135,7 @@ module _ {s s0 : Schema} {f : ℕ → ℕ} (r : Relocates s s0 f) (low : Context
   keys_from_same ls a b shown done (e ∷ es) k =
       let p = parts (ok (peeled e)) (covers_group ok es) k in
       ap₂ (λ first later. (first >>= (λ t. collation_of e >>= (λ c. pure (done.0 ++ t ∷ [], done.1 ++ c ∷ [])))) >>= later) (key_same ls a b shown (peeled e) p.0)
-          (fun_ext (λ longer. keys_from_same ls a b shown longer es p.1))
+      (fun_ext (λ longer. keys_from_same ls a b shown longer es p.1))
 
   pub keys_same : (ls : List Level) (a b : Bool) (shown : List Output) (es : List Expr) → covers_group ok es ≡ true → keys low (in_s ls a b) shown es ≡ keys low (in_s0 ls a b) shown es
   unfolding keys

@@ -1,5 +1,5 @@
 -- One SELECT has the same draft under both schemas: a draft has the numbers of trees in it, and no place of a table.
-use Rattle.std.proofs.Common.{◌≡◌, ℕ, Bool, true, false, not, ◌&&◌, if◌then◌else◌, List, [], ◌∷◌, map, length, ◌==◌, negsuc, Option, Some, None, is_some, refl, ap}
+use Rattle.std.proofs.Common.{◌≡◌, ℕ, Bool, true, false, not, ◌&&◌, if◌then◌else◌, List, [], ◌∷◌, length, ◌==◌, negsuc, Option, Some, None, is_some, refl, ap}
 use Rattle.std.proofs.lemmas.List.{length-map}
 use Rattle.sqlite_value.specs.declared.value.Value.TheVariants.{Int}
 use Rattle.sqlite_ast.specs.declared.Expr.{Expr}
@@ -19,7 +19,7 @@ use Rattle.sqlite_resolve.specs.Order.{keys, sorts}
 use Rattle.sqlite_resolve.specs.Expr.{lower}
 use Rattle.sqlite_resolve.specs.Select.{outermost, inside, having, parts, assembled, named, stepless, constant, constant_or, paging}
 use Rattle.bike_names.specs.Fragment.{covers, covers_option, covers_core, covers_page}
-use Rattle.bike_names.proofs.Relocation.{Relocates, bound_at, level_at, body_at, scope, checked_map, with_state, then_over, then_into, then_same, both}
+use Rattle.bike_names.proofs.Relocation.{Relocates, bound_at, level_at, body_at, checked_map, with_state, then_over, then_into, then_same, both}
 use Rattle.bike_names.proofs.CoverLemmas.{core_parts}
 use Rattle.bike_names.proofs.ClauseLemmas.{LowersAlike, tests_same, body_over, keys_same, sorts_same}
 use Rattle.bike_names.proofs.SubqueryLemmas.{lower_to_same}
@@ -40,16 +40,16 @@ module _ {s s0 : Schema} {f : ℕ → ℕ} (r : Relocates s s0 f) where
   parts_over core order k st =
       let p = core_parts s0 core order k in
       rw (body_over r lower (covers s0) lower_same [] false true core p.0 st)
-         (then_over (body lower (outermost s0) core st) (with_state (body_at f)) _ _ (with_state (clauses_at f)) (λ w.
-             let g = not (length (out-Core core).group == 0 && length w.1.aggregates == 0) in
-             rw (
-               keys_same r lower (covers s0) lower_same (w.0.level ∷ []) false true w.0.level.shown (out-Core core).group p.1,
-               having_same w.0.level g (out-Core core).having p.2,
-               sorts_same r lower (covers s0) lower_same (w.0.level ∷ []) g true w.0.level.shown order p.3,
-             )
-             (then_into (keys lower (inside s0 w.0.level false) w.0.level.shown (out-Core core).group w.1) _ _ (with_state (clauses_at f)) (λ by.
-                 then_into (having (inside s0 w.0.level g) (out-Core core).having by.1) _ _ (with_state (clauses_at f)) (λ kept.
-                     then_into (sorts lower (inside s0 w.0.level g) w.0.level.shown order kept.1) _ _ (with_state (clauses_at f)) (λ o. refl))))))
+      (then_over (body lower (outermost s0) core st) (with_state (body_at f)) _ _ (with_state (clauses_at f)) (λ w.
+      let g = not (length (out-Core core).group == 0 && length w.1.aggregates == 0) in
+      rw (
+        keys_same r lower (covers s0) lower_same (w.0.level ∷ []) false true w.0.level.shown (out-Core core).group p.1,
+        having_same w.0.level g (out-Core core).having p.2,
+        sorts_same r lower (covers s0) lower_same (w.0.level ∷ []) g true w.0.level.shown order p.3,
+      )
+      (then_into (keys lower (inside s0 w.0.level false) w.0.level.shown (out-Core core).group w.1) _ _ (with_state (clauses_at f)) (λ by.
+      then_into (having (inside s0 w.0.level g) (out-Core core).having by.1) _ _ (with_state (clauses_at f)) (λ kept.
+      then_into (sorts lower (inside s0 w.0.level g) w.0.level.shown order kept.1) _ _ (with_state (clauses_at f)) (λ o. refl))))))
 
   assembled_same : (distinct : Bool) (limit offset : Term) (p : Clauses) (st : State) → assembled distinct limit offset (clauses_at f p) st ≡ assembled distinct limit offset p st
   unfolding assembled
@@ -59,7 +59,7 @@ module _ {s s0 : Schema} {f : ℕ → ℕ} (r : Relocates s s0 f) where
   unfolding named
   named_same core order page k =
       rw (parts_over core order k (fresh 1 max_budget))
-         (then_same (parts s0 core order (fresh 1 max_budget)) (with_state (clauses_at f)) _ _ (λ p. rw (assembled_same (out-Core core).distinct page.0 page.1 p.0 p.1)))
+      (then_same (parts s0 core order (fresh 1 max_budget)) (with_state (clauses_at f)) _ _ (λ p. rw (assembled_same (out-Core core).distinct page.0 page.1 p.0 p.1)))
 
   -- ---- LIMIT and OFFSET
 

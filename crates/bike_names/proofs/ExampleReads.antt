@@ -1,16 +1,15 @@
 -- Queries over the example tables, in any schema that has these, at any places and with any trees.
-use Rattle.std.proofs.Common.{◌≡◌, ℕ, List, [], ◌∷◌, codes, pos, Some, None, refl, true, false}
+use Rattle.std.proofs.Common.{ℕ, List, [], ◌∷◌, codes, pos, Some, None, refl, false}
 use Rattle.sqlite_value.specs.declared.value.Value.TheVariants.{Null, Int}
 use Rattle.sqlite_value.specs.declared.keys.Collation.TheVariants.{Binary}
 use Rattle.sqlite_sql.specs.Term.{Term, lit, col, op1, op2}
 use Rattle.sqlite_sql.specs.Query.{Query, inner, left, counted, end}
 use Rattle.sqlite_sql.specs.declared.ops.UnaryOp.TheVariants.{Not}
-use Rattle.sqlite_sql.specs.declared.aggregate.AggregateOp.TheVariants.{CountRows}
+use Rattle.sqlite_sql.specs.declared.aggregate.AggregateOp.TheVariants.{CountRows, Max}
 use Rattle.sqlite_sql.specs.declared.ops.BinaryOp.TheVariants.{Compare}
 use Rattle.sqlite_sql.specs.declared.ops.CompareOp.TheVariants.{Eq, Ge, Lt}
 use Rattle.sqlite_schema.specs.declared.schema.Schema.{Schema}
 use Rattle.sqlite_schema.specs.declared.command.Command.TheVariants.{Select}
-use Rattle.sqlite_typing.specs.Types.{accepts_program}
 use Rattle.sqlite_resolve.specs.Scope.{Name}
 use Rattle.sqlite_tied.specs.Compute.{everything}
 use Rattle.bike_names.specs.Has.{HasTable, of_tables}
@@ -127,6 +126,35 @@ module _ (s : Schema) (at tree : ℕ) (h : HasTable s at (lockers tree)) where
 
   pub count : Reads s count_text (Select (record { lets = []; body = count_query }) (codes "count(*)" ∷ []))
   count = select_is s (at ∷ []) (lockers tree ∷ []) (h, tt) count_text count_query (codes "count(*)" ∷ []) count_draft (rw (h.stored, h.by_tree))
+
+  -- the rows of each site, counted, and the greatest label there
+  abbrev sites_text : List ℕ
+  sites_text = codes "SELECT site, count(*), max(label) FROM lockers GROUP BY site ORDER BY site"
+
+  abbrev sites_query : Query
+  sites_query = record {
+    from = inner tree end;
+    filter = [];
+    group = Some (record {
+      keys = col 1 1 ∷ [];
+      collations = Binary ∷ [];
+      aggregates = record { op = CountRows; distinct = false; collation = Binary; argument = lit Null } ∷ record { op = Max; distinct = false; collation = Binary; argument = col 1 2 } ∷ [];
+      having = [];
+    });
+    project = col 1 0 ∷ col 1 1 ∷ col 1 2 ∷ [];
+    distinct = false;
+    collations = [];
+    order = ascending 0 ∷ [];
+    limit = no_limit;
+    offset = lit (Int (pos 0));
+  }
+
+  sites_draft : IsDraft (draft_of (of_tables (lockers tree ∷ [])) sites_text) sites_query (codes "site" ∷ codes "count(*)" ∷ codes "max(label)" ∷ [])
+  unfolding everything
+  sites_draft = (refl, refl)
+
+  pub sites : Reads s sites_text (Select (record { lets = []; body = sites_query }) (codes "site" ∷ codes "count(*)" ∷ codes "max(label)" ∷ []))
+  sites = select_is s (at ∷ []) (lockers tree ∷ []) (h, tt) sites_text sites_query (codes "site" ∷ codes "count(*)" ∷ codes "max(label)" ∷ []) sites_draft (rw (h.stored, h.by_tree))
 
 module _ (s : Schema) (at tree bt tree2 : ℕ) (h : HasTable s at (lockers tree)) (k : HasTable s bt (members tree2)) where
   -- each locker with its member's credit, or NULL

@@ -1,5 +1,5 @@
 -- What making a table or an index leaves of HasTable and of free names, and what it gives.
-use Rattle.std.proofs.Common.{◌≡◌, ◌<◌, ◌^◌, ℕ, ◌+◌, ◌==◌, nat_le, ◌≢◌, true, false, List, [], ◌∷◌, ◌++◌, slice_get, length, find, Some, None, unwrap_or, inl, inr, refl, sym, ap, ◌∙◌, arith, eq-eqb}
+use Rattle.std.proofs.Common.{◌≡◌, ◌<◌, ◌^◌, ℕ, ◌==◌, nat_le, ◌≢◌, false, List, [], ◌∷◌, ◌++◌, slice_get, length, find, Some, None, unwrap_or, inl, inr, refl, sym, ap, ◌∙◌, arith, eq-eqb}
 use Rattle.std.proofs.lemmas.Bool.{ne_eqb, lt-leb}
 use Rattle.std.specs.List.{position_from}
 use Rattle.sqlite_rules.specs.Lists.{Has}

@@ -1,5 +1,5 @@
 -- What `find`, `position_from` and `slice_get` give of a list that grew at its end.
-use Rattle.std.proofs.Common.{◌≡◌, ℕ, zero, suc, ◌+◌, Bool, true, false, cond, List, [], ◌∷◌, ◌++◌, slice_get, length, find, Option, Some, None, ap, ◌∙◌, refl, arith}
+use Rattle.std.proofs.Common.{◌≡◌, ℕ, zero, suc, ◌+◌, Bool, true, false, cond, List, [], ◌∷◌, ◌++◌, slice_get, length, find, Some, None, ap, ◌∙◌, refl, arith}
 use Rattle.std.specs.List.{position_from}
 
 -- a step of a search, that hits or goes on
@@ -25,7 +25,7 @@ module _ {X : Type 0} (p : X → Bool) where
   position_last base [] y none hit = rw hit (ap Some (omega arith))
   position_last base (x ∷ xs) y none hit =
       step (p x) (Some base) (Some base) None (Some (base + length (x ∷ xs))) (position_from p (base + 1) xs) (position_from p (base + 1) (xs ++ y ∷ [])) none
-          (λ e. absurd (cc)) (λ e. position_last (base + 1) xs y e hit ∙ ap Some (omega arith))
+      (λ e. absurd (cc)) (λ e. position_last (base + 1) xs y e hit ∙ ap Some (omega arith))
 
   pub find_first : (xs ys : List X) (x : X) → find p xs ≡ Some x → find p (xs ++ ys) ≡ Some x
   find_first [] ys x is = absurd (cc)

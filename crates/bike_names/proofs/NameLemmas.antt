@@ -181,7 +181,7 @@ module _ {s s0 : Schema} {f : ℕ → ℕ} (r : Relocates s s0 f) where
   slot_over slot [] = refl
   slot_over slot (b ∷ bs) =
       elim (b.slot == slot) as (λ c. option_map (λ b. b.table) (cond c (Some (bound_at f b)) (first_such (λ b. b.slot == slot) (map (bound_at f) bs))) ≡ option_map f (option_map (λ b. b.table) (cond c (Some b) (first_such (λ b. b.slot == slot) bs))))
-        [ true ↦ refl | false ↦ slot_over slot bs ]
+      [ true ↦ refl | false ↦ slot_over slot bs ]
 
   or_over : (a b : Option ℕ) → compare.or_else (option_map f a) (option_map f b) ≡ option_map f (compare.or_else a b)
   or_over (Some x) b = refl

@@ -1,5 +1,5 @@
 -- A schema that has a statement's tables reads names as the schema of these tables alone does, but for their places.
-use Rattle.std.proofs.Common.{◌≡◌, ℕ, zero, suc, ◌+◌, Bool, true, false, cond, List, [], ◌∷◌, map, slice_get, length, Option, Some, None, is_some, option_map, refl, sym, ap, ◌∙◌, arith}
+use Rattle.std.proofs.Common.{◌≡◌, ℕ, zero, suc, ◌+◌, Bool, true, false, cond, List, [], ◌∷◌, map, slice_get, length, Some, is_some, option_map, refl, sym, ap, ◌∙◌, arith}
 use Rattle.std.specs.List.{position_from}
 use Rattle.std.specs.Char.{to_ascii_lowercase}
 use Rattle.std.specs.Ordering.{nat_cmp, is_eq}
@@ -9,7 +9,7 @@ use Rattle.sqlite_schema.specs.declared.schema.Schema.{Schema}
 use Rattle.sqlite_schema.specs.declared.schema.Table.{Table}
 use Rattle.sqlite_schema.specs.Names.{table_named, same_name}
 use Rattle.sqlite_catalog.proofs.SoundLemmas.{lowered}
-use Rattle.bike_names.specs.Has.{HasTable, HaveTables, of_tables, place}
+use Rattle.bike_names.specs.Has.{HaveTables, of_tables, place}
 use Rattle.bike_names.proofs.Relocation.{Relocates}
 
 tables_at : (s : Schema) (ats : List ℕ) (ts : List Table) → HaveTables s ats ts → (k : ℕ) → slice_get s.tables (place s ats k) ≡ slice_get ts k

@@ -1,5 +1,5 @@
 -- A whole query has the same draft under both schemas: one SELECT, or SELECTs joined by UNION and its like.
-use Rattle.std.proofs.Common.{◌≡◌, ℕ, ◌+◌, suc, Bool, true, false, ◌&&◌, ◌||◌, not, nat_lt, if◌then◌else◌, List, [], ◌∷◌, ◌++◌, length, ◌==◌, Option, Ok, Err, is_ok, refl, ap, ap₂, ◌∙◌}
+use Rattle.std.proofs.Common.{◌≡◌, ℕ, ◌+◌, suc, Bool, true, false, ◌&&◌, not, nat_lt, if◌then◌else◌, List, [], ◌∷◌, ◌++◌, length, ◌==◌, Option, Ok, Err, is_ok, refl, ap, ap₂, ◌∙◌}
 use Rattle.std.proofs.Math.Path.{fun_ext}
 use Rattle.std.proofs.Math.Dec.{eqb-suc-zero}
 use Rattle.sqlite_value.specs.declared.keys.Collation.{Collation}
@@ -23,7 +23,7 @@ use Rattle.sqlite_resolve.specs.Order.{peeled}
 use Rattle.sqlite_resolve.specs.Compound.{unnamed, sort_key, sort_keys_from, sort_keys, order_of}
 use Rattle.sqlite_resolve.specs.Select.{named, paging, parts}
 use Rattle.sqlite_resolve.specs.Program.{Shown, Building, ◌>>=◌, lift, Joined, computed, reading, source_by, sources_from, sources, source, viewing, single, alone, part, joined, others_from, others, combined, compound, whole, level, with, query_to, query}
-use Rattle.bike_names.specs.Fragment.{is_nil, covers, covers_option, covers_origin, covers_sources, covers_order, covers_core, covers_page, covers_select}
+use Rattle.bike_names.specs.Fragment.{is_nil, covers, covers_origin, covers_sources, covers_order, covers_core, covers_page, covers_select}
 use Rattle.bike_names.specs.Reads.{whole_part, covers_part, covers_parts, covers_union}
 use Rattle.bike_names.proofs.Relocation.{Relocates, level_at, with_state, then_same, both}
 use Rattle.bike_names.proofs.CoverLemmas.{both3, source_parts, body_parts, core_parts, select_parts}
@@ -87,7 +87,7 @@ module _ {s s0 : Schema} {f : ℕ → ℕ} (r : Relocates s s0 f) where
       go (Ok page) paged h =
           let p = select_parts s0 q k in
           level_is (query_to 15) s0 s q page shown p.2 p.3 (covers_from s0 (out-Select q).first (out-Select q).order p.0)
-              (paging_same r q p.1 ∙ paged) (named_same r (out-Select q).first (out-Select q).order page p.0 ∙ h) []
+          (paging_same r q p.1 ∙ paged) (named_same r (out-Select q).first (out-Select q).order page p.0 ∙ h) []
 
   -- ---- ORDER BY of parts that are joined by UNION and its like
 

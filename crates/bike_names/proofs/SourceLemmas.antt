@@ -84,14 +84,14 @@ module _ {s s0 : Schema} {f : ℕ → ℕ} (r : Relocates s s0 f) where
   bounds_from_over ok done (src ∷ more) k st =
       let p = source_parts s0 ok src more k in
       rw (bound_over src p.0 st)
-         (then_over (bound s0 src st) (with_state (bound_at f)) _ _ (with_state (map (bound_at f))) (λ a.
-             ap (λ l. bounds_from s l more a.1) (sym (map-append (bound_at f) done (a.0 ∷ []))) ∙ bounds_from_over ok (done ++ a.0 ∷ []) more p.2 a.1))
+      (then_over (bound s0 src st) (with_state (bound_at f)) _ _ (with_state (map (bound_at f))) (λ a.
+      ap (λ l. bounds_from s l more a.1) (sym (map-append (bound_at f) done (a.0 ∷ []))) ∙ bounds_from_over ok (done ++ a.0 ∷ []) more p.2 a.1))
 
   pub bounds_over : (ok : Expr → Bool) (srcs : List Source) → covers_sources s0 ok srcs ≡ true → (st : State) → bounds s srcs st ≡ checked_map (with_state (map (bound_at f))) (bounds s0 srcs st)
   unfolding bounds
   bounds_over ok srcs k st =
       elim (nat_lt 64 (length srcs)) as (λ c. (if c then fail TooBig else bounds_from s [] srcs) st ≡ checked_map (with_state (map (bound_at f))) ((if c then fail TooBig else bounds_from s0 [] srcs) st))
-        [ true ↦ refl | false ↦ bounds_from_over ok [] srcs k st ]
+      [ true ↦ refl | false ↦ bounds_from_over ok [] srcs k st ]
 
   -- ---- `*` and `t.*`
 
@@ -136,8 +136,8 @@ module _ {s s0 : Schema} {f : ℕ → ℕ} (r : Relocates s s0 f) where
   unfolding agreeing first_with
   agreeing_same ls a b bs t name =
       ap₂ (λ x y. x >>= (λ l. last >>= (λ p. y >>= (λ r. last >>= (λ q. if reads_below t.slot l then pure (equal (chosen p q) l r) else fail NoSuchColumn)))))
-          (lowered_same ls a b (leftmost s name (map (bound_at f) bs)) (leftmost s0 name bs) (leftmost_over name bs))
-          (lowered_same ls a b (column_in s name (bound_at f t)) (column_in s0 name t) (column_in_over r name t))
+      (lowered_same ls a b (leftmost s name (map (bound_at f) bs)) (leftmost s0 name bs) (leftmost_over name bs))
+      (lowered_same ls a b (column_in s name (bound_at f t)) (column_in s0 name t) (column_in_over r name t))
 
   shared_from_same : (ls : List Level) (a b : Bool) (bs : List Bound) (t : Bound) (done : List Term) (names : List Name)
       → shared_from (scope s (map (level_at f) ls) a b) (map (bound_at f) bs) (bound_at f t) done names ≡ shared_from (scope s0 ls a b) bs t done names

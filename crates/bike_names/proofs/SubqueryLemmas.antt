@@ -58,7 +58,7 @@ module _ {s s0 : Schema} {f : ℕ → ℕ} (r : Relocates s s0 f) where
     unfolding counting
     counting_same ls a b p core k st =
         rw (body_over r low ok same ls a b core k st)
-           (then_same (body low (in_s0 ls a b) core st) (with_state (body_at f)) _ _ (λ w. let e = wanted_same (w.0.level ∷ ls) false true p w.0.level.shown w.1.aggregates in rw e))
+        (then_same (body low (in_s0 ls a b) core st) (with_state (body_at f)) _ _ (λ w. let e = wanted_same (w.0.level ∷ ls) false true p w.0.level.shown w.1.aggregates in rw e))
 
     counted_same : (ls : List Level) (a b : Bool) (p : Purpose) (q : Select) → covers_body s0 ok (out-Select q).first ≡ true → counted low (in_s ls a b) p q ≡ counted low (in_s0 ls a b) p q
     unfolding counted
@@ -71,10 +71,10 @@ module _ {s s0 : Schema} {f : ℕ → ℕ} (r : Relocates s s0 f) where
     valuing_same ls a b first q k st =
         let p = parts (covers_body s0 ok (out-Select q).first) (covers_order ok (out-Select q).order) k in
         rw (body_over r low ok same ls a b (out-Select q).first p.0 st)
-           (then_same (body low (in_s0 ls a b) (out-Select q).first st) (with_state (body_at f)) _ _ (λ w.
-               let order = sorts_same r low ok same (w.0.level ∷ ls) false true w.0.level.shown (out-Select q).order p.1 in
-               let own = own_same f w.0.level.tables in
-               rw (order, own)))
+        (then_same (body low (in_s0 ls a b) (out-Select q).first st) (with_state (body_at f)) _ _ (λ w.
+        let order = sorts_same r low ok same (w.0.level ∷ ls) false true w.0.level.shown (out-Select q).order p.1 in
+        let own = own_same f w.0.level.tables in
+        rw (order, own)))
 
     valued_same : (ls : List Level) (a b : Bool) (q : Select) → covers_inner s0 ok q ≡ true → valued low (in_s ls a b) q ≡ valued low (in_s0 ls a b) q
     unfolding valued

@@ -1,5 +1,5 @@
 -- An expression with no query in it is lowered to the same term in two contexts that read each name alike.
-use Rattle.std.proofs.Common.{◌≡◌, Bool, true, false, ◌&&◌, if◌then◌else◌, Option, Some, None, refl, ap}
+use Rattle.std.proofs.Common.{◌≡◌, Bool, true, ◌&&◌, if◌then◌else◌, Option, Some, None, refl, ap}
 use Rattle.std.proofs.Math.Path.{fun_ext}
 use Rattle.sqlite_value.specs.declared.keys.Collation.{Collation}
 use Rattle.sqlite_ast.specs.declared.Unary.{Unary}

@@ -1,5 +1,5 @@
 -- The queries that most statements over one table mean.
-use Rattle.std.specs.Prelude.{ℕ, pos, negsuc, Bool, true, false, List, [], ◌∷◌, None}
+use Rattle.std.specs.Prelude.{ℕ, pos, negsuc, true, false, List, [], None}
 use Rattle.sqlite_value.specs.declared.value.Value.TheVariants.{Int}
 use Rattle.sqlite_value.specs.declared.keys.Key.{Key}
 use Rattle.sqlite_value.specs.declared.keys.Collation.TheVariants.{Binary}

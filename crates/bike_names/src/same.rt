@@ -27,7 +27,8 @@ fn same_keys(a: &[Items<usize>], b: &[Items<usize>]) -> bool
 {
     match (a, b) {
         ([], []) => true,
-        ([key, keys @ ..], [other, others @ ..]) => same_places(key, other) && same_keys(keys, others),
+        ([key, keys @ ..], [other, others @ ..]) => same_places(key, other)
+            && same_keys(keys, others),
         _ => false,
     }
 }

@@ -1,28 +1,18 @@
 -- What a query of one table answers.
-use Rattle.std.proofs.Common.{◌≡◌, ◌⊎◌, inl, inr, ℕ, zero, suc, ◌+◌, ◌-◌, ◌^◌, ◌<◌, pos, negsuc, List, [], ◌∷◌, ◌++◌, length, map, take, filter, flat_map, get_or, Bool, true, false, cond, Option, Some, None, unwrap_or, slice_get, Ordering, Less, Equal, Greater, refl, sym, ap, ap₂, subst, subst₂, ◌∙◌, arith, nat_le}
-use Rattle.std.specs.List.{AllByRecursion, list_all, IsDistinct}
-use Rattle.std.specs.Ordering.{eq_by_cmp, is_eq, is_lt, ordering_reverse}
-use Rattle.std.specs.List.Sorted.{IsPermutation, IsSorted, IsStrictlySortedBy}
+use Rattle.std.proofs.Common.{◌≡◌, ℕ, ◌-◌, ◌^◌, List, [], ◌∷◌, ◌++◌, map, filter, flat_map, Bool, true, false, cond, None, unwrap_or, slice_get, refl, sym, ap, subst, ◌∙◌, nat_le}
+use Rattle.std.specs.List.{list_all}
+use Rattle.std.specs.List.Sorted.{IsPermutation, IsSorted}
 use Rattle.std.proofs.lemmas.List.Sorted.{IsPermutation-sym}
-use Rattle.std.proofs.lemmas.Map.Keys.{IsDistinct-IsPermutation, sorted_from_all_adjacent}
 use Rattle.sqlite_value.specs.declared.value.Value.{Value}
-use Rattle.sqlite_value.specs.declared.value.Value.TheVariants.{Null}
 use Rattle.sqlite_value.specs.declared.keys.Key.{Key}
-use Rattle.sqlite_value.specs.Order.{Row, column, value_cmp, row_cmp}
-use Rattle.sqlite_value.specs.Keys.{rising}
-use Rattle.sqlite_trees.specs.Tree.{Trees, rowid, IsAscending}
+use Rattle.sqlite_value.specs.Order.{Row}
+use Rattle.sqlite_trees.specs.Tree.{Trees}
 use Rattle.sqlite_sql.specs.Term.{Term, eval_all, holds}
 use Rattle.sqlite_sql.specs.Query.{Query, inner, end, matches_as, IsAnswerAs, output, output_cmp, page, Output}
 use Rattle.sqlite_sql.specs.Program.{overlay}
-use Rattle.sqlite_sql.proofs.QueryLemmas.{output_cmp_total, key_cmp_up}
-use Rattle.sqlite_schema.specs.declared.schema.Table.{Table}
 use Rattle.sqlite_rules.specs.Lists.{Has}
-use Rattle.bike_rows.specs.Keyed.{in_order}
-use Rattle.bike_rows.specs.View.{columns_of, by_key, AreSpread, IsKeyed}
-use Rattle.bike_rows.specs.Queries.{table_query, by_columns}
-use Rattle.bike_rows.proofs.OrderLemmas.{all_has, all_from, order_is}
-use Rattle.bike_rows.proofs.ListLemmas.{has_map, map_has, map_map, has_filter, filter_has, get_has, permuted}
-use Rattle.bike_rows.proofs.TreeLemmas.{by_key_total, shown_apart}
+use Rattle.bike_rows.specs.Queries.{table_query}
+use Rattle.bike_rows.proofs.ListLemmas.{has_map, map_has, map_map, has_filter, filter_has, permuted}
 
 pub no_overlay : (db : Trees) (tree : ℕ) → overlay db [] tree ≡ db tree
 no_overlay db tree = elim (nat_le (2 ^ 31) tree) as (λ b. unwrap_or (cond b (slice_get {X = List Row} [] (tree - 2 ^ 31)) None) (db tree) ≡ db tree) [ true ↦ refl | false ↦ refl ]
@@ -56,12 +46,16 @@ module _ (tree : ℕ) (tests : List Term) (order : List (Term × Key)) (project 
 
   -- whatever the LIMIT, the rows are a page of them
   pub answered_page : (limit : Term) (lost : Value) (rows : List Row) → IsAnswerAs lost (record q { limit = limit }) (overlay db []) params rows → (all : List Row) × Answered all × (rows ≡ page (record q { limit = limit }) params all)
-  answered_page limit lost rows a = (map (λ o. o.1) a.ordered, record {
-    outs = a.ordered;
-    same = subst (λ k. IsPermutation k a.ordered) (a.distinct ∙ ap (map (output q)) (a.grouped ∙ matched lost) ∙ map_map (λ r. params ∷ r ∷ []) (output q) (filter passes (db tree))) a.same;
-    sorted = a.sorted;
-    shown = refl;
-  }, a.shown)
+  answered_page limit lost rows a = (
+    map (λ o. o.1) a.ordered,
+    record {
+      outs = a.ordered;
+      same = subst (λ k. IsPermutation k a.ordered) (a.distinct ∙ ap (map (output q)) (a.grouped ∙ matched lost) ∙ map_map (λ r. params ∷ r ∷ []) (output q) (filter passes (db tree))) a.same;
+      sorted = a.sorted;
+      shown = refl;
+    },
+    a.shown,
+  )
 
   pub answered : (lost : Value) (rows : List Row) → IsAnswerAs lost q (overlay db []) params rows → Answered rows
   answered lost rows a = let it = answered_page q.limit lost rows a in subst Answered (sym it.2) it.1

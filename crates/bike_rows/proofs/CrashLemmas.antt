@@ -1,12 +1,10 @@
 -- What a refusal leaves, and what a crash may leave.
-use Rattle.std.proofs.Common.{◌≡◌, ◌⊎◌, inl, inr, ℕ, List, Bool, true, false, Ok, Err, Result, OnOk, OnErr, refl, subst}
+use Rattle.std.proofs.Common.{inl, inr, ℕ, List, true, false, Ok, Err, Result, OnOk, OnErr}
 use Rattle.std.proofs.lemmas.Bool.{cases_Bool}
 use Rattle.sqlite_value.specs.Order.{Row}
-use Rattle.sqlite_trees.specs.Tree.{Trees}
-use Rattle.sqlite_resolve.specs.declared.compiled.Compiled.{Compiled}
 use Rattle.sqlite.specs.declared.error.Error.{Error}
 use Rattle.sqlite.specs.Listing.{understood}
-use Rattle.sqlite.specs.State.{State, Executes, ExecutesIn, ExecutesInside, IsNotRun, IsUnchanged, IsRolledBack, Shows, Survives, CommitsShowing, shows_rows}
+use Rattle.sqlite.specs.State.{State, Executes, ExecutesIn, ExecutesInside, IsNotRun, Shows, Survives, CommitsShowing, shows_rows}
 use Rattle.sqlite.proofs.Callers.{IsPlain, never_commits}
 use Rattle.bike_rows.specs.Outcome.{IsLeft}
 
@@ -17,9 +15,9 @@ stopped sql params old new (Ok n) h = tt
 stopped sql params old new (Err e) (inl (inl refused)) = inl refused.1
 stopped sql params old new (Err e) (inl (inr failed)) = inr failed.3
 stopped sql params old new (Err e) (inr ran) = elim (cases_Bool (shows_rows false ran.0)) [
-    | inl shows ↦ inl (rw shows at ran.2).1
-    | inr runs ↦ elim (rw runs at ran.2) [ inl refused ↦ inl refused.1 | inr failed ↦ inr failed.3 ]
-  ]
+  | inl shows ↦ inl (rw shows at ran.2).1
+  | inr runs ↦ elim (rw runs at ran.2) [ inl refused ↦ inl refused.1 | inr failed ↦ inr failed.3 ]
+]
 
 -- So it does inside a transaction.
 pub stopped_inside : (held : ℕ) (sql : List ℕ) (params : Row) (old new : State) (r : Result ℕ Error) → ExecutesInside held sql params old new r → OnErr r (IsLeft old new)

@@ -1,9 +1,8 @@
 -- What a change of one table is to the tables of other names.
-use Rattle.std.proofs.Common.{◌≡◌, ◌≢◌, ◌==◌, ◌&&◌, ℕ, List, [], ◌∷◌, Bool, true, false, slice_get, Option, Some, None, find, refl, sym, ap, subst, ◌∙◌}
+use Rattle.std.proofs.Common.{◌≡◌, ◌≢◌, ◌==◌, ℕ, List, [], ◌∷◌, true, false, find, refl, sym, ap, subst, ◌∙◌}
 use Rattle.std.specs.List.{AllByRecursion}
 use Rattle.std.proofs.lemmas.Bool.{and_from, eq-eqb, true≢false}
 use Rattle.sqlite_value.specs.Order.{Row}
-use Rattle.sqlite_trees.specs.Tree.{Trees}
 use Rattle.sqlite_schema.specs.declared.schema.Table.{Table}
 use Rattle.sqlite_schema.specs.declared.schema.Schema.{Schema}
 use Rattle.sqlite.specs.Effect.{Database, IsDatabase}
@@ -55,7 +54,7 @@ sets old new keys layout was rows same sound others keyed is =
       stands = it.0;
       rows_are = it.1;
       others = λ more other apart stood. kept old new same more other stood
-        (all_at (λ t. t.tree ≢ was.tree → new.trees t.tree ≡ old.trees t.tree) old.schema.tables stood.at (table_of other stood.tree) others stood.has.there
+          (all_at (λ t. t.tree ≢ was.tree → new.trees t.tree ≡ old.trees t.tree) old.schema.tables stood.at (table_of other stood.tree) others stood.has.there
           (trees_apart old.schema was.at stood.at (table_of layout was.tree) (table_of other stood.tree) was.has stood.has apart));
     }
 

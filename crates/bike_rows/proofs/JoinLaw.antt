@@ -1,19 +1,18 @@
 -- A LEFT JOIN with a table's key answers each row with its partner, in the order of the first table's keys.
-use Rattle.std.proofs.Common.{◌≡◌, ◌⊎◌, inl, inr, ℕ, pos, negsuc, List, [], ◌∷◌, ◌++◌, map, filter, find, flat_map, take, length, Bool, true, false, cond, ◌&&◌, Option, Some, None, if◌then◌else◌, Ordering, Less, Equal, Greater, refl, sym, ap, ap₂, subst, ◌∙◌, arith}
-use Rattle.std.specs.List.{list_any, list_all, IsDistinct}
-use Rattle.std.specs.Ordering.{is_eq, eq_by_cmp}
+use Rattle.std.proofs.Common.{◌≡◌, ◌⊎◌, inl, inr, ℕ, List, [], ◌∷◌, ◌++◌, map, filter, flat_map, take, length, Bool, true, false, ◌&&◌, Option, Some, None, if◌then◌else◌, Equal, refl, sym, ap, ap₂, subst, ◌∙◌, arith}
+use Rattle.std.specs.List.{list_any, list_all}
+use Rattle.std.specs.Ordering.{is_eq}
 use Rattle.std.specs.List.Sorted.{IsPermutation}
 use Rattle.std.proofs.lemmas.Bool.{true≢false, or_parts, cases_Bool}
 use Rattle.sqlite_value.specs.declared.value.Value.{Value}
 use Rattle.sqlite_value.specs.declared.value.Value.TheVariants.{Null, Int, Real, Text, Blob}
 use Rattle.sqlite_value.specs.declared.keys.Collation.TheVariants.{Binary}
-use Rattle.sqlite_value.specs.declared.keys.Key.{Key}
 use Rattle.sqlite_value.specs.Order.{Row, column, value_cmp, row_cmp}
 use Rattle.sqlite_value.proofs.OrderLemmas.{row_cmp_total}
-use Rattle.sqlite_trees.specs.Tree.{Trees, rowid}
+use Rattle.sqlite_trees.specs.Tree.{rowid}
 use Rattle.sqlite_sql.specs.Ops.{binary, is_true, is_null}
 use Rattle.sqlite_sql.specs.Term.{Term, eval_all, holds}
-use Rattle.sqlite_sql.specs.Query.{Query, end, or_nulls, matches_as, IsAnswerAs, output, output_cmp, Output}
+use Rattle.sqlite_sql.specs.Query.{Query, or_nulls, matches_as, IsAnswerAs, output, output_cmp, Output}
 use Rattle.sqlite_sql.specs.Program.{overlay}
 use Rattle.sqlite_sql.specs.declared.ops.BinaryOp.TheVariants.{Compare}
 use Rattle.sqlite_sql.specs.declared.ops.CompareOp.TheVariants.{Eq}
@@ -29,7 +28,7 @@ use Rattle.bike_rows.specs.Answer.{MeansQuery, HasOneAnswer}
 use Rattle.bike_rows.proofs.OrderLemmas.{order_has, has_order}
 use Rattle.bike_rows.proofs.ListLemmas.{has_map, map_has, map_map, map_same, filter_has, filter_none, find_only, find_none}
 use Rattle.bike_rows.proofs.TreeLemmas.{by_key_total, one_row, shown_apart}
-use Rattle.bike_rows.proofs.TestLemmas.{eq_test, then_eq}
+use Rattle.bike_rows.proofs.TestLemmas.{eq_test, then_eq, tie_of}
 use Rattle.bike_rows.proofs.SortLemmas.{sorted_is, order_map, apart_map}
 use Rattle.bike_rows.proofs.AnswerLemmas.{no_overlay}
 use Rattle.bike_rows.proofs.KeyOrderLemmas.{compares, keyed_apart}
@@ -123,21 +122,16 @@ module _ (keys : ℕ) (layout : Layout) (more : ℕ) (other : Layout) (db : Data
   key_is : (r s : Row) → list_any is_null (map (column r) joined) ≡ false → on r s ≡ is_eq (row_cmp (take more (h s)) (map (column (f r)) columns))
   key_is r s solid = on_solid other_places joined params r s as_many solid ∙ ap₂ (λ a b. is_eq (row_cmp a b)) (sym (second s)) (sym (same r))
 
-  tie_of : (c : Ordering) → is_eq c ≡ true → c ≡ Equal
-  tie_of Less e = absurd (true≢false (sym e))
-  tie_of Equal e = refl
-  tie_of Greater e = absurd (true≢false (sym e))
-
   one_id : (r x y : Row) → Has others x → Has others y → on r x ≡ true → on r y ≡ true → value_cmp (rowid x) (rowid y) ≡ Equal
   one_id r x y p q s t = elim (solid_or r) [
-      | inl null ↦ absurd (true≢false (sym s ∙ on_null other_places joined params r x as_many null))
-      | inr solid ↦ (
+    | inl null ↦ absurd (true≢false (sym s ∙ on_null other_places joined params r x as_many null))
+    | inr solid ↦ (
         let key = map (column (f r)) columns in
         let a : row_cmp (take more (h x)) key ≡ Equal = tie_of _ (sym (key_is r x solid) ∙ s) in
         let b : row_cmp (take more (h y)) key ≡ Equal = tie_of _ (sym (key_is r y solid) ∙ t) in
         with_.keyed.apart x y p q (row_cmp_total.congr (take more (h x)) key (take more (h y)) a ∙ (rw b at (row_cmp_total.antisymm key (take more (h y)))))
-      )
-    ]
+        )
+  ]
 
   one_match : (r : Row) → (filter (on r) others ≡ []) ⊎ ((s : Row) × Has others s × (on r s ≡ true) × (filter (on r) others ≡ s ∷ []))
   one_match r = one_passes (on r) others with_.keyed.spread (one_id r)
@@ -147,12 +141,12 @@ module _ (keys : ℕ) (layout : Layout) (more : ℕ) (other : Layout) (db : Data
 
   shows_joined : (r : Row) → eval_all project (params ∷ r ∷ match r ∷ []) ≡ g (f r)
   shows_joined r = elim (solid_or r) [
-      | inl null ↦ (
+    | inl null ↦ (
         let none : filter (on r) others ≡ [] = filter_none (on r) others (λ s has. on_null other_places joined params r s as_many null) in
         let is_null_key : list_any is_null (map (column (f r)) columns) ≡ true = ap (list_any is_null) (same r) ∙ null in
         ap (λ ss. eval_all project (params ∷ r ∷ first_of ss ∷ [])) none ∙ shows_none r ∙ ap (λ b. show (f r) (if b then None else row_with more (map (column (f r)) columns) (rows_of more other.name db))) (sym is_null_key)
-      )
-      | inr solid ↦ (
+        )
+    | inr solid ↦ (
         let key = map (column (f r)) columns in
         let is_solid : list_any is_null key ≡ false = ap (list_any is_null) (same r) ∙ solid in
         let all = in_order (by_key more) (map h others) in
@@ -160,22 +154,22 @@ module _ (keys : ℕ) (layout : Layout) (more : ℕ) (other : Layout) (db : Data
         let found : (p : Option Row) → row_with more key all ≡ p → show (f r) p ≡ g (f r) = λ p e. ap (show (f r)) (sym e ∙ rest) ∙ ap (λ b. show (f r) (if b then None else row_with more key (rows_of more other.name db))) (sym is_solid) in
         elim (one_match r) [
           | inl none ↦ ap (λ ss. eval_all project (params ∷ r ∷ first_of ss ∷ [])) none ∙ shows_none r
-            ∙ found None (find_none (λ y. is_eq (row_cmp (take more y) key)) all (λ y has.
+              ∙ found None (find_none (λ y. is_eq (row_cmp (take more y) key)) all (λ y has.
               let s = map_has h others y (order_has (by_key_total more) (map h others) y has) in
               rw s.2 (sym (key_is r s.0 solid) ∙ fails r s.0 (on r s.0) refl none s.1)))
           | inr one ↦ (
-            let s = one.0 in
-            let apart = shown_apart more (table_of other with_.tree) others with_.keyed in
-            ap (λ ss. eval_all project (params ∷ r ∷ first_of ss ∷ [])) one.3 ∙ shows_some r s
-            ∙ found (Some (h s)) (find_only (λ y. is_eq (row_cmp (take more y) key)) all (h s) (has_order (by_key_total more) (map h others) apart (h s) (has_map h others s one.1)) (sym (key_is r s solid) ∙ one.2)
+              let s = one.0 in
+              let apart = shown_apart more (table_of other with_.tree) others with_.keyed in
+              ap (λ ss. eval_all project (params ∷ r ∷ first_of ss ∷ [])) one.3 ∙ shows_some r s
+              ∙ found (Some (h s)) (find_only (λ y. is_eq (row_cmp (take more y) key)) all (h s) (has_order (by_key_total more) (map h others) apart (h s) (has_map h others s one.1)) (sym (key_is r s solid) ∙ one.2)
               (λ y has t.
-                let x = map_has h others y (order_has (by_key_total more) (map h others) y has) in
-                let passed : on r x.0 ≡ true = key_is r x.0 solid ∙ subst (λ z. is_eq (row_cmp (take more z) key) ≡ true) x.2 t in
-                x.2 ∙ ap h (one_row others with_.keyed.spread x.0 s x.1 one.1 (one_id r x.0 s x.1 one.1 passed one.2))))
-          )
+              let x = map_has h others y (order_has (by_key_total more) (map h others) y has) in
+              let passed : on r x.0 ≡ true = key_is r x.0 solid ∙ subst (λ z. is_eq (row_cmp (take more z) key) ≡ true) x.2 t in
+              x.2 ∙ ap h (one_row others with_.keyed.spread x.0 s x.1 one.1 (one_id r x.0 s x.1 one.1 passed one.2))))
+              )
         ]
-      )
-    ]
+        )
+  ]
     where
       fails : (q s : Row) (b : Bool) → on q s ≡ b → filter (on q) others ≡ [] → Has others s → on q s ≡ false
       fails q s true e none has = absurd (subst (λ xs. Has xs s) none (filter_has (on q) others s has e))
@@ -188,7 +182,7 @@ module _ (keys : ℕ) (layout : Layout) (more : ℕ) (other : Layout) (db : Data
   left_join_answer = one_answer db text params query names (left_joined show columns more (rows_of more other.name db) (rows_of keys layout.name db)) means (λ rows answer.
       let a : IsAnswerAs Null query db.trees params rows = subst (λ trees. IsAnswerAs Null query trees params rows) unlaid answer in
       let matched : matches_as Null db.trees [] query.from (params ∷ []) ≡ map (λ r. params ∷ r ∷ match r ∷ []) stored =
-        each_one (λ r. flat_map (λ s. (params ∷ r ∷ s ∷ []) ∷ []) (or_nulls (filter (on r) others))) (λ r. params ∷ r ∷ match r ∷ []) joins stored in
+      each_one (λ r. flat_map (λ s. (params ∷ r ∷ s ∷ []) ∷ []) (or_nulls (filter (on r) others))) (λ r. params ∷ r ∷ match r ∷ []) joins stored in
       let same_rows = subst (λ k. IsPermutation k a.ordered) (a.distinct ∙ ap (map (output query)) (a.grouped ∙ matched) ∙ map_map (λ r. params ∷ r ∷ match r ∷ []) (output query) stored) a.same in
       let by = λ (x y : Row). by_key keys (f x) (f y) in
       let same_order = λ (x y : Row). compares places params x y (match x ∷ []) (match y ∷ []) ∙ sym (ap₂ row_cmp (first x) (first y)) in

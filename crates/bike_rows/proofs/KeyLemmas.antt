@@ -1,8 +1,7 @@
 -- Why no two rows of a table have one key.
-use Rattle.std.proofs.Common.{◌≡◌, inl, inr, ℕ, zero, suc, ◌+◌, List, [], ◌∷◌, map, take, slice_get, Bool, true, false, not, ◌&&◌, ◌||◌, ◌==◌, Some, None, Option, ◌⊎◌, Ordering, Less, Equal, Greater, refl, sym, ap, subst, ◌∙◌}
+use Rattle.std.proofs.Common.{◌≡◌, inl, inr, ℕ, ◌+◌, List, [], ◌∷◌, map, take, slice_get, Bool, true, false, not, ◌&&◌, ◌||◌, ◌==◌, Some, Option, Ordering, Less, Equal, Greater, refl, sym, subst, ◌∙◌}
 use Rattle.std.specs.Prelude.{slice_index_or}
-use Rattle.std.specs.List.{AllByRecursion, list_any, list_all}
-use Rattle.std.specs.Ordering.{is_eq}
+use Rattle.std.specs.List.{AllByRecursion, list_all}
 use Rattle.std.proofs.lemmas.Bool.{and_parts, or_cases, true≢false, not-true, eqb-true, eq-eqb}
 use Rattle.sqlite_value.specs.declared.value.Value.{Value}
 use Rattle.sqlite_value.specs.declared.value.Value.TheVariants.{Null, Int, Real, Text, Blob}
@@ -16,7 +15,6 @@ use Rattle.sqlite_trees.specs.Tree.{rowid}
 use Rattle.sqlite_sql.specs.Ops.{binary, is_true, is_null, from_truth, test}
 use Rattle.sqlite_sql.specs.declared.ops.CompareOp.TheVariants.{Ne}
 use Rattle.sqlite_schema.specs.declared.schema.Column.{Column}
-use Rattle.sqlite_schema.specs.declared.schema.Index.{Index}
 use Rattle.sqlite_schema.specs.declared.schema.Table.{Table}
 use Rattle.sqlite_schema.specs.declared.schema.Constraint.TheVariants.{Unique, NotNull}
 use Rattle.sqlite_schema.specs.Names.{is_key}
@@ -25,7 +23,7 @@ use Rattle.sqlite_rules.specs.Lists.{Has}
 use Rattle.sqlite_catalog.specs.Listing.{IsGuarded, automatic}
 use Rattle.sqlite.specs.Effect.{Database, IsDatabase}
 use Rattle.bike_rows.specs.Layout.{Layout, table_of}
-use Rattle.bike_rows.specs.View.{columns_of, by_key, AreSpread, AreNumbered, IsKeyed}
+use Rattle.bike_rows.specs.View.{columns_of, AreSpread, AreNumbered, IsKeyed}
 use Rattle.bike_rows.proofs.OrderLemmas.{all_has}
 use Rattle.bike_rows.proofs.ListLemmas.{list_all_has, list_any_has, all_at}
 
@@ -47,7 +45,7 @@ number_key layout first = record { holds = λ db at tree there sound. keyed_by_r
 
 -- ---- the key is a UNIQUE of columns that are NOT NULL
 
-int_whole : (v : Value) → is_int v ≡ true → is_null v ≡ false
+pub int_whole : (v : Value) → is_int v ≡ true → is_null v ≡ false
 int_whole Null h = absurd (true≢false (sym h))
 int_whole (Int n) h = refl
 int_whole (Real x) h = refl
@@ -102,10 +100,10 @@ solid_at key at (c ∷ cs) row place present required =
     let now = and_parts (is_key key at || not c.not_null || not (is_null (column row (at + 1)))) (are_present key (at + 1) cs row) present in
     elim (or_cases ((place == at + 1) && (c.not_null && not (is_key key at))) (is_required key (at + 1) cs place) required) [
       | inl here ↦ (
-        let it = and_parts (place == at + 1) (c.not_null && not (is_key key at)) here in
-        let rules = and_parts c.not_null (not (is_key key at)) it.1 in
-        subst (λ p. is_null (column row p) ≡ false) (sym (eqb-true place (at + 1) it.0)) (filled (is_key key at) c.not_null (is_null (column row (at + 1))) (not-true (is_key key at) rules.1) rules.0 now.0)
-      )
+          let it = and_parts (place == at + 1) (c.not_null && not (is_key key at)) here in
+          let rules = and_parts c.not_null (not (is_key key at)) it.1 in
+          subst (λ p. is_null (column row p) ≡ false) (sym (eqb-true place (at + 1) it.0)) (filled (is_key key at) c.not_null (is_null (column row (at + 1))) (not-true (is_key key at) rules.1) rules.0 now.0)
+          )
       | inr later ↦ solid_at key (at + 1) cs row place now.1 later
     ]
   where
@@ -129,8 +127,8 @@ columns_key keys layout which places is_unique in_plain_order required first = r
       let unique = all_at (λ t. AllByRecursion (λ row. passes Unique db.schema db.trees t row ≡ true) (db.trees t.tree)) tables at table (sound.obeys.rules Unique) there in
       let present = all_at (λ t. AllByRecursion (λ row. passes NotNull db.schema db.trees t row ≡ true) (db.trees t.tree)) tables at table (sound.obeys.rules NotNull) there in
       keyed_by_unique keys table rows places (first tree) spread numbered (λ r h. solid_all layout.key layout.columns places r required (all_has (λ row. passes NotNull db.schema db.trees table row ≡ true) rows r present h))
-        (λ r h.
-          let one = list_all_has (λ i. not (guards i table && clashes i.order i.columns rows r)) db.schema.indexes (automatic table which places guard.0) (all_has (λ row. passes Unique db.schema db.trees table row ≡ true) rows r unique h) guard.1 in
-          let free : not (guards (automatic table which places guard.0) table && clashes plain places rows r) ≡ true = subst (λ o. not (guards (automatic table which places guard.0) table && clashes o places rows r) ≡ true) in_plain_order one in
-          not-true (clashes plain places rows r) (rw (eq-eqb tree tree refl) at free));
+      (λ r h.
+      let one = list_all_has (λ i. not (guards i table && clashes i.order i.columns rows r)) db.schema.indexes (automatic table which places guard.0) (all_has (λ row. passes Unique db.schema db.trees table row ≡ true) rows r unique h) guard.1 in
+      let free : not (guards (automatic table which places guard.0) table && clashes plain places rows r) ≡ true = subst (λ o. not (guards (automatic table which places guard.0) table && clashes o places rows r) ≡ true) in_plain_order one in
+      not-true (clashes plain places rows r) (rw (eq-eqb tree tree refl) at free));
 }

@@ -1,32 +1,26 @@
 -- What a query of a table answers that is sorted by the table's key.
-use Rattle.std.proofs.Common.{◌≡◌, ◌⊎◌, inl, inr, ℕ, zero, suc, ◌+◌, ◌-◌, ◌^◌, ◌<◌, pos, negsuc, List, [], ◌∷◌, ◌++◌, length, map, take, filter, flat_map, get_or, Bool, true, false, cond, Option, Some, None, unwrap_or, slice_get, Ordering, Less, Equal, Greater, refl, sym, ap, ap₂, subst, subst₂, ◌∙◌, arith, nat_le}
-use Rattle.std.specs.List.{AllByRecursion, list_all, IsDistinct}
-use Rattle.std.specs.Ordering.{eq_by_cmp, is_eq, is_lt, ordering_reverse}
-use Rattle.std.specs.List.Sorted.{IsPermutation, IsSorted, IsStrictlySortedBy}
-use Rattle.std.proofs.lemmas.List.Sorted.{IsPermutation-sym}
-use Rattle.std.proofs.lemmas.Map.Keys.{IsDistinct-IsPermutation, sorted_from_all_adjacent}
-use Rattle.sqlite_value.specs.declared.value.Value.{Value}
-use Rattle.sqlite_value.specs.declared.value.Value.TheVariants.{Null}
+use Rattle.std.proofs.Common.{◌≡◌, inl, inr, ℕ, suc, List, [], ◌∷◌, length, map, take, filter, Bool, true, false, cond, Ordering, Less, Equal, Greater, refl, sym, ap, ap₂, ◌∙◌}
+use Rattle.std.specs.List.{IsDistinct}
+use Rattle.std.specs.Ordering.{eq_by_cmp, is_eq}
 use Rattle.sqlite_value.specs.declared.keys.Key.{Key}
 use Rattle.sqlite_value.specs.Order.{Row, column, value_cmp, row_cmp}
 use Rattle.sqlite_value.specs.Keys.{rising}
-use Rattle.sqlite_trees.specs.Tree.{Trees, rowid, IsAscending}
-use Rattle.sqlite_sql.specs.Term.{Term, eval_all, holds}
-use Rattle.sqlite_sql.specs.Query.{key_cmp, Query, inner, end, matches_as, IsAnswerAs, output, output_cmp, page, Output}
-use Rattle.sqlite_sql.specs.Program.{overlay}
+use Rattle.sqlite_trees.specs.Tree.{Trees, rowid}
+use Rattle.sqlite_sql.specs.Term.{Term, eval_all}
+use Rattle.sqlite_sql.specs.Query.{key_cmp, Query, output_cmp, Output}
 use Rattle.sqlite_sql.proofs.QueryLemmas.{output_cmp_total, key_cmp_up}
 use Rattle.sqlite_schema.specs.declared.schema.Table.{Table}
 use Rattle.sqlite_rules.specs.Lists.{Has}
 use Rattle.bike_rows.specs.Keyed.{in_order}
 use Rattle.bike_rows.specs.View.{columns_of, by_key, AreSpread, IsKeyed}
 use Rattle.bike_rows.specs.Queries.{table_query, by_columns}
-use Rattle.bike_rows.proofs.OrderLemmas.{all_has, all_from, order_is}
+use Rattle.bike_rows.proofs.OrderLemmas.{all_has, all_from}
 use Rattle.bike_rows.proofs.ListLemmas.{map_has, map_map, map_same, has_filter}
-use Rattle.bike_rows.proofs.TreeLemmas.{by_key_total, shown_apart}
+use Rattle.bike_rows.proofs.TreeLemmas.{by_key_total}
 use Rattle.sqlite_value.specs.Keys.{ascending}
 use Rattle.sqlite_value.specs.declared.keys.Collation.TheVariants.{Binary}
 use Rattle.bike_rows.proofs.SortLemmas.{AreApartAll, sorted_is, order_map}
-use Rattle.bike_rows.proofs.AnswerLemmas.{passes, out, Answered, comes_from, goes_to, out_from}
+use Rattle.bike_rows.proofs.AnswerLemmas.{passes, out, Answered}
 
 keys_rise : (places : List ℕ) → map (λ (k : Term × Key). k.1) (by_columns places) ≡ rising (length places) []
 keys_rise [] = refl
@@ -58,12 +52,13 @@ keyed_apart keys table rows keyed = each rows keyed.spread keyed.apart
 
     each : (rs : List Row) → AreSpread rs → ((a b : Row) → Has rs a → Has rs b → by_key keys (columns_of table a) (columns_of table b) ≡ Equal → value_cmp (rowid a) (rowid b) ≡ Equal) → AreApartAll (by_key_total keys) (map (columns_of table) rs)
     each [] spread apart = tt
-    each (r ∷ rs) spread apart =
-        (all_from (λ y. is_eq (by_key keys (columns_of table r) y) ≡ false) (map (columns_of table) rs) (λ y has.
+    each (r ∷ rs) spread apart = (
+      all_from (λ y. is_eq (by_key keys (columns_of table r) y) ≡ false) (map (columns_of table) rs) (λ y has.
           let b = map_has (columns_of table) rs y has in
           let far = all_has (λ x. value_cmp (rowid r) (rowid x) ≡ Equal → ⊥) rs b.0 spread.0 b.1 in
           unequal (by_key keys (columns_of table r) y) (λ tie. far (apart r b.0 (inl refl) (inr b.1) (ap (by_key keys (columns_of table r)) (sym b.2) ∙ tie)))),
-        each rs spread.1 (λ a b p s. apart a b (inr p) (inr s)))
+      each rs spread.1 (λ a b p s. apart a b (inr p) (inr s)),
+    )
 
 module _ (tree : ℕ) (tests : List Term) (places : List ℕ) (project : List Term) (db : Trees) (params : Row) (keys : ℕ) (table : Table)
     (first : (row : Row) → take keys (columns_of table row) ≡ map (column row) places) where
@@ -91,10 +86,10 @@ module _ (tree : ℕ) (tests : List Term) (places : List ℕ) (project : List Te
       elim (test r) as (λ b. IsDistinct (eq_by_cmp (output_cmp query)) (map o (cond b (r ∷ filter test rows) (filter test rows)))) [
         | true ↦ (
           all_from (λ y. is_eq (output_cmp query (o r) y) ≡ false) (map o (filter test rows)) (λ y has.
-            let b = map_has o (filter test rows) y has in
-            let there = (has_filter test rows b.0 b.1).0 in
-            let far = all_has (λ x. value_cmp (rowid r) (rowid x) ≡ Equal → ⊥) rows b.0 spread.0 there in
-            unequal (output_cmp query (o r) y) (λ tie. far (apart r b.0 (inl refl) (inr there) (sym (same_order r b.0) ∙ ap (output_cmp query (o r)) (sym b.2) ∙ tie)))),
+              let b = map_has o (filter test rows) y has in
+              let there = (has_filter test rows b.0 b.1).0 in
+              let far = all_has (λ x. value_cmp (rowid r) (rowid x) ≡ Equal → ⊥) rows b.0 spread.0 there in
+              unequal (output_cmp query (o r) y) (λ tie. far (apart r b.0 (inl refl) (inr there) (sym (same_order r b.0) ∙ ap (output_cmp query (o r)) (sym b.2) ∙ tie)))),
           rest,
         )
         | false ↦ rest

@@ -95,10 +95,13 @@ module _ {X : Type 0} {R : X → X → Ordering} (o : IsTotalOrder R) where
       by Equal e (inl is) rest = inl is
       by Equal e (inr later) rest =
           let below : R x y ≡ Less = all_has (λ z. R x z ≡ Less) xs y up.0 later in
-          inr (inr later, λ tie.
-            let back : R y x ≡ Equal = o.congr y new x tie ∙ (rw e at (o.antisymm new x)) in
-            let again : R x y ≡ Equal = rw back at (o.antisymm x y) in
-            cc)
+          inr (
+            inr later,
+            λ tie.
+                let back : R y x ≡ Equal = o.congr y new x tie ∙ (rw e at (o.antisymm new x)) in
+                let again : R x y ≡ Equal = rw back at (o.antisymm x y) in
+                cc,
+          )
       by Greater e (inl is) rest = inl is
       by Greater e (inr (inl is)) rest = inr (inl is, λ tie. let t : R x new ≡ Equal = subst (λ z. R z new ≡ Equal) is tie in cc)
       by Greater e (inr (inr later)) rest =
@@ -116,8 +119,8 @@ module _ {X : Type 0} {R : X → X → Ordering} (o : IsTotalOrder R) where
   same_list (x ∷ xs) (y ∷ ys) a b f g =
       let heads : x ≡ y = first (f x (inl refl)) (g y (inl refl)) in
       let tails : xs ≡ ys = same_list xs ys a.1 b.1
-        (λ z later. elim (f z (inr later)) [ inl is ↦ absurd (not_below x z (all_has (λ w. R x w ≡ Less) xs z a.0 later) (is ∙ sym heads)) | inr there ↦ there ])
-        (λ z later. elim (g z (inr later)) [ inl is ↦ absurd (not_below y z (all_has (λ w. R y w ≡ Less) ys z b.0 later) (is ∙ heads)) | inr there ↦ there ]) in
+      (λ z later. elim (f z (inr later)) [ inl is ↦ absurd (not_below x z (all_has (λ w. R x w ≡ Less) xs z a.0 later) (is ∙ sym heads)) | inr there ↦ there ])
+      (λ z later. elim (g z (inr later)) [ inl is ↦ absurd (not_below y z (all_has (λ w. R y w ≡ Less) ys z b.0 later) (is ∙ heads)) | inr there ↦ there ]) in
       cc
     where
       not_below : (v z : X) → R v z ≡ Less → z ≡ v → ⊥
@@ -152,5 +155,5 @@ module _ {X : Type 0} {R : X → X → Ordering} (o : IsTotalOrder R) where
   order_put old now new old_apart now_apart it came kept =
       let was = in_order R old in
       order_is now (put_in R new was) now_apart (rises_put new was (rises old))
-        (λ x h. elim (came x h) [ inl is ↦ subst (Has (put_in R new was)) (sym is) (has_put new was) | inr stayed ↦ put_keeps new was x stayed.1 (has_order old old_apart x stayed.0) ])
-        (λ x h. elim (put_apart new was x (rises old) h) [ inl is ↦ subst (Has now) (sym is) it | inr stayed ↦ kept x (order_has old x stayed.0) stayed.1 ])
+      (λ x h. elim (came x h) [ inl is ↦ subst (Has (put_in R new was)) (sym is) (has_put new was) | inr stayed ↦ put_keeps new was x stayed.1 (has_order old old_apart x stayed.0) ])
+      (λ x h. elim (put_apart new was x (rises old) h) [ inl is ↦ subst (Has now) (sym is) it | inr stayed ↦ kept x (order_has old x stayed.0) stayed.1 ])

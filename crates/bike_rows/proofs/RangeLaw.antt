@@ -1,18 +1,16 @@
 -- A query that is sorted by the key answers the table's rows that pass its WHERE, in the order of their keys.
-use Rattle.std.proofs.Common.{◌≡◌, ◌⊎◌, inl, inr, ℕ, ℤ, List, [], ◌∷◌, map, filter, take, not, ◌&&◌, Bool, true, false, cond, Some, Ordering, Less, Equal, Greater, refl, sym, ap, ap₂, subst, ◌∙◌}
+use Rattle.std.proofs.Common.{◌≡◌, inl, inr, ℕ, ℤ, List, [], ◌∷◌, map, filter, take, not, ◌&&◌, Bool, true, false, cond, Ordering, Less, Equal, Greater, refl, sym, ap, ap₂, subst, ◌∙◌}
 use Rattle.std.specs.Cmp.{IsTotalOrder}
 use Rattle.std.specs.Ordering.{is_eq, is_lt, is_ge}
-use Rattle.std.specs.List.{AllByRecursion, list_any, list_all}
-use Rattle.std.proofs.lemmas.Bool.{true≢false}
+use Rattle.std.specs.List.{AllByRecursion, list_any}
 use Rattle.sqlite_value.specs.declared.value.Value.{Value}
-use Rattle.sqlite_value.specs.declared.value.Value.TheVariants.{Null, Int, Real, Text, Blob}
+use Rattle.sqlite_value.specs.declared.value.Value.TheVariants.{Null, Int}
 use Rattle.sqlite_value.specs.declared.keys.Collation.TheVariants.{Binary}
 use Rattle.sqlite_value.specs.Order.{Row, column, value_cmp, row_cmp}
-use Rattle.sqlite_trees.specs.Tree.{Trees, rowid, IsAscending}
-use Rattle.sqlite_trees.specs.View.{is_int}
+use Rattle.sqlite_trees.specs.Tree.{rowid, IsAscending}
 use Rattle.sqlite_trees.proofs.ListLemmas.{filter-map}
-use Rattle.sqlite_sql.specs.Ops.{binary, is_true, is_null, from_truth}
-use Rattle.sqlite_sql.specs.Term.{Term, col, op2, eval_all, holds}
+use Rattle.sqlite_sql.specs.Ops.{binary, is_true, is_null}
+use Rattle.sqlite_sql.specs.Term.{Term, col, op2, eval_all}
 use Rattle.sqlite_sql.specs.declared.ops.BinaryOp.TheVariants.{Compare}
 use Rattle.sqlite_sql.specs.declared.ops.CompareOp.TheVariants.{Ge, Lt}
 use Rattle.sqlite_rules.specs.Lists.{Has}
@@ -27,6 +25,7 @@ use Rattle.bike_rows.proofs.OrderLemmas.{AreApart, rises, order_is, order_has, h
 use Rattle.bike_rows.proofs.ListLemmas.{has_filter, filter_has, filter_all}
 use Rattle.bike_rows.proofs.TreeLemmas.{by_key_total, shown_apart}
 use Rattle.bike_rows.proofs.AnswerLemmas.{passes, answered}
+use Rattle.bike_rows.proofs.KeyLemmas.{int_whole}
 use Rattle.bike_rows.proofs.KeyOrderLemmas.{in_key_order}
 use Rattle.bike_rows.proofs.TestLemmas.{tests_key, truth_of}
 use Rattle.bike_rows.proofs.FrameLemmas.{rows_of_is}
@@ -44,8 +43,8 @@ rises_filter {X} R p (x ∷ xs) h =
 pub order_filter : {X : Type 0} {R : X → X → Ordering} (o : IsTotalOrder R) (p : X → Bool) (xs : List X) → AreApart o xs → in_order R (filter p xs) ≡ filter p (in_order R xs)
 order_filter {R = R} o p xs apart =
     order_is o (filter p xs) (filter p (in_order R xs)) (λ a b g h tie. apart a b (has_filter p xs a g).0 (has_filter p xs b h).0 tie) (rises_filter (λ a b. R a b ≡ Less) p (in_order R xs) (rises o xs))
-      (λ x h. let it = has_filter p xs x h in filter_has p (in_order R xs) x (has_order o xs apart x it.0) it.1)
-      (λ x h. let it = has_filter p (in_order R xs) x h in filter_has p xs x (order_has o xs x it.0) it.1)
+    (λ x h. let it = has_filter p xs x h in filter_has p (in_order R xs) x (has_order o xs apart x it.0) it.1)
+    (λ x h. let it = has_filter p (in_order R xs) x h in filter_has p xs x (order_has o xs x it.0) it.1)
 
 filter_has_same : {X : Type 0} (p q : X → Bool) (xs : List X) → ((x : X) → Has xs x → p x ≡ q x) → filter p xs ≡ filter q xs
 filter_has_same p q [] same = refl
@@ -87,7 +86,7 @@ pub where_answer : (keys : ℕ) (layout : Layout) (db : Database) (was : Stands 
     → HasOneAnswer db text params (rows_where columns (key_in at tested params) (rows_of keys layout.name db))
 where_answer keys layout db was text params places at tested columns project names means first shows solid same =
     filter_answer keys layout db was text params places (key_tests at tested) project names means first shows (λ row. is_eq (row_cmp (map (column row) columns) (key_in at tested params)))
-      (λ r has. tests_key at tested params r solid ∙ ap (λ k. is_eq (row_cmp k (key_in at tested params))) (sym (same r)))
+    (λ r has. tests_key at tested params r solid ∙ ap (λ k. is_eq (row_cmp k (key_in at tested params))) (sym (same r)))
 
 -- ---- a range of numbers
 
@@ -104,13 +103,6 @@ lt_test : (v k : Value) → is_null v ≡ false → is_null k ≡ false → is_t
 unfolding binary
 lt_test v k p q = rw (p, q) (truth_of (is_lt (value_cmp v k)))
 
-int_whole : (v : Value) → is_int v ≡ true → is_null v ≡ false
-int_whole Null h = absurd (true≢false (sym h))
-int_whole (Int n) h = refl
-int_whole (Real x) h = refl
-int_whole (Text t) h = refl
-int_whole (Blob b) h = refl
-
 -- key >= ? AND key < ?
 abbrev pub range_tests : List Term
 range_tests = op2 (Compare Ge Binary) (col 1 0) (col 0 0) ∷ op2 (Compare Lt Binary) (col 1 0) (col 0 1) ∷ []
@@ -122,11 +114,11 @@ pub range_answer : (layout : Layout) (db : Database) (was : Stands db 1 layout) 
     → HasOneAnswer db text (Int from ∷ Int to ∷ []) (rows_between (Int from) (Int to) (rows_of 1 layout.name db))
 range_answer layout db was text from to project names means first shows head =
     filter_answer 1 layout db was text (Int from ∷ Int to ∷ []) (0 ∷ []) range_tests project names means first shows (λ row. not (is_lt (value_cmp (column row 0) (Int from))) && is_lt (value_cmp (column row 0) (Int to)))
-      (λ r has.
-        let whole = int_whole (rowid r) (was.keyed.numbered r has) in
-        ap₂ (λ a b. a && (b && true)) (ge_test (rowid r) (Int from) whole refl) (lt_test (rowid r) (Int to) whole refl)
-        ∙ ap (λ b. not (is_lt (value_cmp (rowid r) (Int from))) && b) (and_true (is_lt (value_cmp (rowid r) (Int to))))
-        ∙ ap (λ v. not (is_lt (value_cmp v (Int from))) && is_lt (value_cmp v (Int to))) (sym (head r)))
+    (λ r has.
+    let whole = int_whole (rowid r) (was.keyed.numbered r has) in
+    ap₂ (λ a b. a && (b && true)) (ge_test (rowid r) (Int from) whole refl) (lt_test (rowid r) (Int to) whole refl)
+    ∙ ap (λ b. not (is_lt (value_cmp (rowid r) (Int from))) && b) (and_true (is_lt (value_cmp (rowid r) (Int to))))
+    ∙ ap (λ v. not (is_lt (value_cmp v (Int from))) && is_lt (value_cmp v (Int to))) (sym (head r)))
   where
     and_true : (b : Bool) → (b && true) ≡ b
     and_true true = refl

@@ -1,5 +1,5 @@
 -- A sorted list whose elements are apart is the list in order.
-use Rattle.std.proofs.Common.{◌≡◌, ◌⊎◌, inl, inr, ℕ, ◌+◌, List, [], ◌∷◌, map, Bool, true, false, Ordering, Less, Equal, Greater, refl, sym, ap, subst, ◌∙◌, arith}
+use Rattle.std.proofs.Common.{◌≡◌, inl, inr, ◌+◌, List, [], ◌∷◌, map, false, Ordering, Less, Equal, Greater, refl, sym, ap, subst, ◌∙◌, arith}
 use Rattle.std.specs.Cmp.{IsTotalOrder}
 use Rattle.std.specs.List.{AllByRecursion, IsDistinct}
 use Rattle.std.specs.List.Sorted.{IsPermutation, IsSorted}
@@ -80,10 +80,10 @@ module _ {X : Type 0} {R : X → X → Ordering} (o : IsTotalOrder R) where
   one_tie (x ∷ xs) apart a b (inl p) (inr q) tie = absurd (let t : R x b ≡ Equal = subst (λ z. R z b ≡ Equal) p tie in let far : is_eq (R x b) ≡ false = all_has (λ y. eq_by_cmp R x y ≡ false) xs b apart.0 q in true≢false (rw t at far))
   one_tie (x ∷ xs) apart a b (inr p) (inl q) tie =
       absurd (
-        let t : R a x ≡ Equal = subst (λ z. R a z ≡ Equal) q tie in
-        let back : R x a ≡ Equal = rw t at (o.antisymm x a) in
-        let far : is_eq (R x a) ≡ false = all_has (λ y. eq_by_cmp R x y ≡ false) xs a apart.0 p in
-        true≢false (rw back at far)
+      let t : R a x ≡ Equal = subst (λ z. R a z ≡ Equal) q tie in
+      let back : R x a ≡ Equal = rw t at (o.antisymm x a) in
+      let far : is_eq (R x a) ≡ false = all_has (λ y. eq_by_cmp R x y ≡ false) xs a apart.0 p in
+      true≢false (rw back at far)
       )
   one_tie (x ∷ xs) apart a b (inr p) (inr q) tie = one_tie xs apart.1 a b p q tie
 
@@ -110,10 +110,10 @@ module _ {X : Type 0} {R : X → X → Ordering} (o : IsTotalOrder R) where
   order_permutes [] apart = IsPermutation-refl []
   order_permutes (x ∷ xs) apart =
       IsPermutation-trans _ _ _ (IsPermutation-cons x xs (in_order R xs) (order_permutes xs apart.1))
-        (put_permutes x (in_order R xs) (λ y h tie.
-          let back : R x y ≡ Equal = rw tie at (o.antisymm x y) in
-          let far : is_eq (R x y) ≡ false = all_has (λ z. eq_by_cmp R x z ≡ false) xs y apart.0 (order_has o xs y h) in
-          true≢false (rw back at far)))
+      (put_permutes x (in_order R xs) (λ y h tie.
+      let back : R x y ≡ Equal = rw tie at (o.antisymm x y) in
+      let far : is_eq (R x y) ≡ false = all_has (λ z. eq_by_cmp R x z ≡ false) xs y apart.0 (order_has o xs y h) in
+      true≢false (rw back at far)))
 
 -- putting in order goes by the comparison alone
 pub order_map : {X Y : Type 0} (R : X → X → Ordering) (Q : Y → Y → Ordering) (f : X → Y) → ((a b : X) → Q (f a) (f b) ≡ R a b) → (xs : List X) → in_order Q (map f xs) ≡ map f (in_order R xs)

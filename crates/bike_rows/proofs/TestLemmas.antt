@@ -8,10 +8,9 @@ use Rattle.sqlite_value.specs.declared.value.Value.TheVariants.{Null, Int, Real,
 use Rattle.sqlite_value.specs.declared.keys.Collation.TheVariants.{Binary}
 use Rattle.sqlite_value.specs.Order.{Row, column, value_cmp, row_cmp}
 use Rattle.sqlite_value.proofs.OrderLemmas.{value_cmp-Null}
-use Rattle.sqlite_sql.specs.Ops.{binary, is_true, is_null, from_truth, test}
+use Rattle.sqlite_sql.specs.Ops.{binary, is_true, is_null, from_truth}
 use Rattle.sqlite_sql.specs.Term.{holds}
 use Rattle.sqlite_sql.specs.declared.ops.BinaryOp.TheVariants.{Compare}
-use Rattle.sqlite_sql.specs.declared.ops.CompareOp.{CompareOp}
 use Rattle.sqlite_sql.specs.declared.ops.CompareOp.TheVariants.{Eq}
 use Rattle.bike_rows.specs.Queries.{key_tests, key_in}
 
@@ -19,6 +18,11 @@ pub truth_of : (b : Bool) → is_true (from_truth (Some b)) ≡ b
 unfolding binary
 truth_of true = refl
 truth_of false = refl
+
+pub tie_of : (o : Ordering) → is_eq o ≡ true → o ≡ Equal
+tie_of Less h = absurd (true≢false (sym h))
+tie_of Equal h = refl
+tie_of Greater h = absurd (true≢false (sym h))
 
 -- `=` with a value that is not NULL is a tie in the order of values
 pub eq_test : (v k : Value) → is_null k ≡ false → is_true (binary (Compare Eq Binary) v k) ≡ is_eq (value_cmp v k)

@@ -1,27 +1,37 @@
 -- UNION ALL of two tables, sorted by what it shows, answers the rows of both in that order.
-use Rattle.std.proofs.Common.{◌≡◌, ◌⊎◌, inl, inr, ℕ, ◌-◌, ◌^◌, List, [], ◌∷◌, ◌++◌, map, filter, flat_map, take, cond, true, false, nat_le, slice_get, Option, Some, None, unwrap_or, Ordering, refl, sym, ap, ap₂, subst, ◌∙◌}
+use Rattle.std.proofs.Common.{◌≡◌, inl, inr, ℕ, ◌^◌, List, [], ◌∷◌, ◌++◌, map, flat_map, take, cond, true, false, nat_le, refl, sym, ap, ap₂, subst, ◌∙◌}
 use Rattle.std.specs.Ordering.{is_lt}
 use Rattle.std.specs.List.Sorted.{IsPermutation}
+use Rattle.std.proofs.lemmas.List.{map-append}
 use Rattle.std.proofs.lemmas.List.Sorted.{IsPermutation-map, IsPermutation-sym, IsPermutation-trans, IsPermutation-append}
 use Rattle.sqlite_value.specs.declared.value.Value.TheVariants.{Null}
-use Rattle.sqlite_value.specs.declared.keys.Key.{Key}
 use Rattle.sqlite_value.specs.declared.keys.Collation.{Collation}
 use Rattle.sqlite_value.specs.Order.{Row, column, row_cmp}
 use Rattle.sqlite_trees.specs.Tree.{Trees}
 use Rattle.sqlite_sql.specs.Term.{Term, eval_all}
-use Rattle.sqlite_sql.specs.Query.{Query, inner, end, matches_as, IsAnswerAs, IsSureAnswer, output, Output, output_cmp}
+use Rattle.sqlite_sql.specs.Query.{Query, IsAnswerAs, IsSureAnswer, output, Output, output_cmp}
 use Rattle.sqlite_sql.specs.Program.{overlay, selected, combined, Computes}
 use Rattle.sqlite_sql.specs.declared.query.SetOp.TheVariants.{UnionAll}
 use Rattle.sqlite_sql.proofs.QueryLemmas.{output_cmp_total}
+use Rattle.sqlite_schema.specs.declared.program.Table.{Table as Let}
+use Rattle.sqlite_schema.specs.declared.command.Command.TheVariants.{Select}
+use Rattle.sqlite_schema.specs.Program.{let_in}
+use Rattle.sqlite_rules.specs.Lists.{Has}
+use Rattle.sqlite.specs.Effect.{Database}
+use Rattle.bike_names.specs.Laws.{Reads}
+use Rattle.bike_rows.specs.Layout.{Layout, table_of}
+use Rattle.bike_rows.specs.Stands.{rows_of, Stands}
+use Rattle.bike_rows.specs.Answer.{HasOneAnswer}
 use Rattle.bike_rows.specs.Keyed.{in_order}
-use Rattle.bike_rows.specs.View.{by_key}
+use Rattle.bike_rows.specs.View.{columns_of, by_key}
 use Rattle.bike_rows.specs.Queries.{table_query, by_columns}
 use Rattle.bike_rows.proofs.OrderLemmas.{all_from, all_has}
 use Rattle.bike_rows.proofs.ListLemmas.{map_has, map_map, map_same, filter_all, permuted}
 use Rattle.bike_rows.proofs.TreeLemmas.{by_key_total}
-use Rattle.bike_rows.proofs.SortLemmas.{NoneAbove, AreApartAll, ascends, ordered_is}
-use Rattle.bike_rows.proofs.AnswerLemmas.{no_overlay, out, Answered, answered}
-use Rattle.bike_rows.proofs.KeyOrderLemmas.{compares}
+use Rattle.bike_rows.proofs.SortLemmas.{NoneAbove, AreApartAll, ascends, ordered_is, order_permutes}
+use Rattle.bike_rows.proofs.AnswerLemmas.{no_overlay, out, answered}
+use Rattle.bike_rows.proofs.KeyOrderLemmas.{compares, keyed_apart}
+use Rattle.bike_rows.proofs.FrameLemmas.{rows_of_is}
 
 -- ---- one part: the rows of a table, in some order
 
@@ -38,14 +48,14 @@ module _ (tree : ℕ) (project : List Term) (collations : List Collation) (db : 
       let kept : a.kept ≡ map (output part) (map (λ r. params ∷ r ∷ []) (db tree)) = a.distinct ∙ ap (map (output part)) (a.grouped ∙ each (db tree)) in
       let moved : IsPermutation (map (λ (o : Output). o.1) a.kept) (map (λ (o : Output). o.1) a.ordered) = IsPermutation-map (λ (o : Output). o.1) a.kept a.ordered a.same in
       let from : map (λ (o : Output). o.1) a.kept ≡ map (λ r. eval_all project (params ∷ r ∷ [])) (db tree) =
-        ap (map (λ (o : Output). o.1)) (kept ∙ map_map (λ r. params ∷ r ∷ []) (output part) (db tree)) ∙ map_map (λ r. output part (params ∷ r ∷ [])) (λ (o : Output). o.1) (db tree) in
+      ap (map (λ (o : Output). o.1)) (kept ∙ map_map (λ r. params ∷ r ∷ []) (output part) (db tree)) ∙ map_map (λ r. output part (params ∷ r ∷ [])) (λ (o : Output). o.1) (db tree) in
       subst (IsPermutation (map (λ r. eval_all project (params ∷ r ∷ [])) (db tree))) (sym a.shown) (subst (λ xs. IsPermutation xs (map (λ (o : Output). o.1) a.ordered)) from moved)
 
 -- the number of the tree that the parts' union has, after the two parts
 abbrev pub union_tree : ℕ
 union_tree = 2147483650
 
-module _ (t u : ℕ) (first second : List Term) (collations by : List Collation) (width : ℕ) (order : List (Term × Key)) (project : List Term) (db : Trees) (params : Row) (stored_t : nat_le (2 ^ 31) t ≡ false) (stored_u : nat_le (2 ^ 31) u ≡ false) where
+module _ (t u : ℕ) (first second : List Term) (db : Trees) (params : Row) where
   -- the rows of each part, and both in turn
   pub record Parts (P : List (List Row) → Type 0) : Type 0 where
     pub left : List Row
@@ -54,20 +64,21 @@ module _ (t u : ℕ) (first second : List Term) (collations by : List Collation)
     pub right_is : IsPermutation (map (λ r. eval_all second (params ∷ r ∷ [])) (db u)) right
     pub whole : P (left ∷ right ∷ (left ++ right) ∷ [])
 
-  under : (tables : List (List Row)) (tree : ℕ) → nat_le (2 ^ 31) tree ≡ false → overlay db tables tree ≡ db tree
-  under tables tree low = rw low refl
+  module _ (collations by : List Collation) (width : ℕ) (stored_t : nat_le (2 ^ 31) t ≡ false) (stored_u : nat_le (2 ^ 31) u ≡ false) where
+    under : (tables : List (List Row)) (tree : ℕ) → nat_le (2 ^ 31) tree ≡ false → overlay db tables tree ≡ db tree
+    under tables tree low = rw low refl
 
-  pub parted : (P : List (List Row) → Type 0) → Computes db params [] (selected (part t first collations db params) ∷ selected (part u second collations db params) ∷ combined UnionAll 0 1 width by ∷ []) P → Parts P
-  parted P (inr (going, none, more)) = elim none [ ]
-  parted P (inl (left, a, inr (going, none, more))) = elim none [ ]
-  parted P (inl (left, a, inl (right, b, inr (going, none, more)))) = elim none [ ]
-  parted P (inl (left, a, inl (right, b, inl (both, is, whole)))) = record {
-    left = left;
-    right = right;
-    left_is = subst (λ rows. IsPermutation (map (λ r. eval_all first (params ∷ r ∷ [])) rows) left) (under [] t stored_t) (part_rows t first collations (overlay db []) params left (a Null));
-    right_is = subst (λ rows. IsPermutation (map (λ r. eval_all second (params ∷ r ∷ [])) rows) right) (under (left ∷ []) u stored_u) (part_rows u second collations (overlay db (left ∷ [])) params right (b Null));
-    whole = subst (λ l. P (left ∷ right ∷ l ∷ [])) is whole;
-  }
+    pub parted : (P : List (List Row) → Type 0) → Computes db params [] (selected (part t first collations db params) ∷ selected (part u second collations db params) ∷ combined UnionAll 0 1 width by ∷ []) P → Parts P
+    parted P (inr (going, none, more)) = elim none [ ]
+    parted P (inl (left, a, inr (going, none, more))) = elim none [ ]
+    parted P (inl (left, a, inl (right, b, inr (going, none, more)))) = elim none [ ]
+    parted P (inl (left, a, inl (right, b, inl (both, is, whole)))) = record {
+      left = left;
+      right = right;
+      left_is = subst (λ rows. IsPermutation (map (λ r. eval_all first (params ∷ r ∷ [])) rows) left) (under [] t stored_t) (part_rows t first collations (overlay db []) params left (a Null));
+      right_is = subst (λ rows. IsPermutation (map (λ r. eval_all second (params ∷ r ∷ [])) rows) right) (under (left ∷ []) u stored_u) (part_rows u second collations (overlay db (left ∷ [])) params right (b Null));
+      whole = subst (λ l. P (left ∷ right ∷ l ∷ [])) is whole;
+    }
 
 -- ---- both, in the order of what is shown
 
@@ -89,17 +100,18 @@ module _ (keys : ℕ) (places : List ℕ) (project : List Term) (trees : Trees) 
   union_rows first rows answer =
       let a = answered union_tree [] (by_columns places) project trees params Null rows (subst (λ d. IsAnswerAs Null query d params rows) (sym unlaid) answer) in
       let same : IsPermutation (map o (trees union_tree)) a.outs = subst (λ rs. IsPermutation (map o rs) a.outs) (filter_all (trees union_tree)) a.same in
-      let moved : IsPermutation (map (λ (x : Output). x.1) (map o (trees union_tree))) (map (λ (x : Output). x.1) a.outs) = IsPermutation-map (λ (x : Output). x.1) (map o (trees union_tree)) a.outs same in
-      (subst (IsPermutation (map shown (trees union_tree))) (sym a.shown) (subst (λ xs. IsPermutation xs (map (λ (x : Output). x.1) a.outs)) (map_map o (λ (x : Output). x.1) (trees union_tree)) moved),
-      subst (NoneAbove (by_key_total keys)) (sym a.shown) (rise a.outs (λ x h. map_has o (trees union_tree) x (permuted a.outs (map o (trees union_tree)) x (IsPermutation-sym _ _ same) h)) (ascends (output_cmp_total query) a.outs a.sorted)))
+      let moved : IsPermutation (map (λ (x : Output). x.1) (map o (trees union_tree))) (map (λ (x : Output). x.1) a.outs) = IsPermutation-map (λ (x : Output). x.1) (map o (trees union_tree)) a.outs same in (
+        subst (IsPermutation (map shown (trees union_tree))) (sym a.shown) (subst (λ xs. IsPermutation xs (map (λ (x : Output). x.1) a.outs)) (map_map o (λ (x : Output). x.1) (trees union_tree)) moved),
+        subst (NoneAbove (by_key_total keys)) (sym a.shown) (rise a.outs (λ x h. map_has o (trees union_tree) x (permuted a.outs (map o (trees union_tree)) x (IsPermutation-sym _ _ same) h)) (ascends (output_cmp_total query) a.outs a.sorted)),
+      )
     where
       compared : (a b : Row) → output_cmp query (o a) (o b) ≡ by_key keys (shown a) (shown b)
       compared a b = compares places params a b [] [] ∙ sym (ap₂ row_cmp (first a) (first b))
 
-      rise : (outs : List Output) → ((x : Output) → Rattle.sqlite_rules.specs.Lists.Has outs x → (r : Row) × Rattle.sqlite_rules.specs.Lists.Has (trees union_tree) r × (x ≡ o r)) → NoneAbove (output_cmp_total query) outs → NoneAbove (by_key_total keys) (map (λ (x : Output). x.1) outs)
+      rise : (outs : List Output) → ((x : Output) → Has outs x → (r : Row) × Has (trees union_tree) r × (x ≡ o r)) → NoneAbove (output_cmp_total query) outs → NoneAbove (by_key_total keys) (map (λ (x : Output). x.1) outs)
       rise [] from up = tt
-      rise (x ∷ outs) from up =
-          (all_from (λ y. is_lt (by_key keys y x.1) ≡ false) (map (λ (p : Output). p.1) outs) (λ y has.
+      rise (x ∷ outs) from up = (
+        all_from (λ y. is_lt (by_key keys y x.1) ≡ false) (map (λ (p : Output). p.1) outs) (λ y has.
             let p = map_has (λ (p : Output). p.1) outs y has in
             let a = from x (inl refl) in
             let b = from p.0 (inr p.1) in
@@ -108,4 +120,56 @@ module _ (keys : ℕ) (places : List ℕ) (project : List Term) (trees : Trees) 
             let low : y ≡ shown b.0 = p.2 ∙ ap (λ (z : Output). z.1) b.2 in
             let high : x.1 ≡ shown a.0 = ap (λ (z : Output). z.1) a.2 in
             rw (low, high) (ap is_lt (sym (compared b.0 a.0)) ∙ turned)),
-          rise outs (λ y has. from y (inr has)) up.1)
+        rise outs (λ y has. from y (inr has)) up.1,
+      )
+
+-- A union of two keyed tables, of which it shows `left` and `right`, has one answer where no two of its rows have one key.
+module _ (keys : ℕ) (k1 k2 : ℕ) (a b : Layout) (db : Database) (was : Stands db k1 a) (also : Stands db k2 b) (text : List ℕ) (params : Row) (lets : List Let) (names : List (List ℕ)) (first second project : List Term) (collations by : List Collation) (width : ℕ) (places : List ℕ)
+    (left right : Row → Row) (means : Reads db.schema text (Select (record { lets = lets; body = table_query union_tree [] (by_columns places) project }) names))
+    (lets_are : map let_in lets ≡ selected (part was.tree first collations db.trees params) ∷ selected (part also.tree second collations db.trees params) ∷ combined UnionAll 0 1 width by ∷ [])
+    (keyed_by : (r : Row) → take keys (eval_all project (params ∷ r ∷ [])) ≡ map (column r) places) (shows_left : (r : Row) → eval_all project (params ∷ eval_all first (params ∷ r ∷ []) ∷ []) ≡ left (columns_of (table_of a was.tree) r))
+    (shows_right : (r : Row) → eval_all project (params ∷ eval_all second (params ∷ r ∷ []) ∷ []) ≡ right (columns_of (table_of b also.tree) r))
+    (apart : AreApartAll (by_key_total keys) (map left (rows_of k1 a.name db) ++ map right (rows_of k2 b.name db))) where
+  abbrev both : List Row
+  both = map left (rows_of k1 a.name db) ++ map right (rows_of k2 b.name db)
+
+  abbrev body : Query
+  body = table_query union_tree [] (by_columns places) project
+
+  abbrev seen : Row → Row
+  seen r = eval_all project (params ∷ r ∷ [])
+
+  -- the rows of one table, as the union shows them
+  side : (n : ℕ) (layout : Layout) (it : Stands db n layout) (parts : List Term) (show : Row → Row) (rows : List Row) → ((r : Row) → eval_all project (params ∷ eval_all parts (params ∷ r ∷ []) ∷ []) ≡ show (columns_of (table_of layout it.tree) r))
+      → IsPermutation (map (λ r. eval_all parts (params ∷ r ∷ [])) (db.trees it.tree)) rows → IsPermutation (map show (rows_of n layout.name db)) (map seen rows)
+  side n layout it parts show rows shows same =
+      let f = columns_of (table_of layout it.tree) in
+      let stored = db.trees it.tree in
+      let ordered : IsPermutation (map f stored) (rows_of n layout.name db) = subst (IsPermutation (map f stored)) (sym (rows_of_is db n layout it)) (order_permutes (by_key_total n) (map f stored) (keyed_apart n (table_of layout it.tree) stored it.keyed)) in
+      let shown_rows : map show (map f stored) ≡ map seen (map (λ r. eval_all parts (params ∷ r ∷ [])) stored) =
+      map_map f show stored ∙ sym (map_same (λ r. eval_all project (params ∷ eval_all parts (params ∷ r ∷ []) ∷ [])) (λ r. show (f r)) shows stored) ∙ sym (map_map (λ r. eval_all parts (params ∷ r ∷ [])) seen stored) in
+      IsPermutation-trans _ _ _ (IsPermutation-sym _ _ (IsPermutation-map show (map f stored) (rows_of n layout.name db) ordered))
+      (subst (λ xs. IsPermutation xs (map seen rows)) (sym shown_rows) (IsPermutation-map seen (map (λ r. eval_all parts (params ∷ r ∷ [])) stored) rows same))
+
+  one : (rows : List Row) (p : Parts was.tree also.tree first second db.trees params (λ tables. IsAnswerAs Null body (overlay db.trees tables) params rows)) → rows ≡ in_order (by_key keys) both
+  one rows p =
+      let trees = overlay db.trees (p.left ∷ p.right ∷ (p.left ++ p.right) ∷ []) in
+      let it = union_rows keys places project trees params keyed_by rows p.whole in
+      let sides : IsPermutation both (map seen (p.left ++ p.right)) = subst (IsPermutation both) (sym (map-append seen p.left p.right))
+      (IsPermutation-append (map left (rows_of k1 a.name db)) (map seen p.left) (map right (rows_of k2 b.name db)) (map seen p.right) (side k1 a was first left p.left shows_left p.left_is) (side k2 b also second right p.right shows_right p.right_is)) in
+      ordered_is (by_key_total keys) both rows (IsPermutation-trans _ _ _ sides it.0) it.1 apart
+
+  pub union_answer : HasOneAnswer db text params (in_order (by_key keys) both)
+  union_answer = record {
+    program = record { lets = lets; body = body };
+    names = names;
+    means = means;
+    whole = λ rows answer.
+        let p = parted was.tree also.tree first second db.trees params collations by width was.has.stored also.has.stored (λ tables. IsSureAnswer body (overlay db.trees tables) params rows)
+        (subst (λ ls. Computes db.trees params [] ls (λ tables. IsSureAnswer body (overlay db.trees tables) params rows)) lets_are answer) in
+        one rows (record { left = p.left; right = p.right; left_is = p.left_is; right_is = p.right_is; whole = p.whole Null });
+    begins = λ rows start.
+        let p = parted was.tree also.tree first second db.trees params collations by width was.has.stored also.has.stored (λ tables. (tail : List Row) × IsSureAnswer body (overlay db.trees tables) params (rows ++ tail))
+        (subst (λ ls. Computes db.trees params [] ls (λ tables. (tail : List Row) × IsSureAnswer body (overlay db.trees tables) params (rows ++ tail))) lets_are start) in
+        (p.whole.0, one (rows ++ p.whole.0) (record { left = p.left; right = p.right; left_is = p.left_is; right_is = p.right_is; whole = p.whole.1 Null }));
+  }

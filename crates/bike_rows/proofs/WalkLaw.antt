@@ -1,5 +1,5 @@
 -- What is answered of a query that has one answer: row by row, all at once, or its first row.
-use Rattle.std.proofs.Common.{◌≡◌, ◌⊎◌, inl, inr, ℕ, List, [], ◌∷◌, ◌++◌, slice_get, append_assoc, append-nil, Option, Some, None, Result, Ok, Err, IfOk, OnErr, refl, sym, ap, subst, ◌∙◌}
+use Rattle.std.proofs.Common.{◌≡◌, inl, inr, ℕ, List, [], ◌∷◌, ◌++◌, slice_get, append_assoc, append-nil, Option, Some, None, Result, Ok, Err, IfOk, OnErr, refl, sym, ap, subst, ◌∙◌}
 use Rattle.sqlite_value.specs.declared.value.Value.TheVariants.{Null}
 use Rattle.sqlite_value.specs.Order.{Row}
 use Rattle.sqlite_trees.specs.declared.store.Store.{Ghosts}
@@ -54,13 +54,13 @@ module _ {S : Type 0} (g : Ghosts S) where
       let end = it.answer.whole it.given answer.answer in
       append_same it.given left [] (sym end ∙ sym (append-nil it.given))
 
-  -- a walk that does not begin leaves all as it was, or undoes the transaction
-  pub walk_refused : (old new : Held S) (text : List ℕ) (params : Row) (all : List Row) {X : Type 0} (r : Result X Error) → HasOneAnswer (state g old).now text params all → OnErr r (IsRefused g text params old r new) → OnErr r (LeavesAll g old new)
+  -- A walk that does not begin leaves all as it was, or undoes the transaction.
+  pub walk_refused : (old new : Held S) (text : List ℕ) (params : Row) (all : List Row) {X P : Type 0} (r : Result X Error) → (P → HasOneAnswer (state g old).now text params all) → OnErr r (IsRefused g text params old r new) → OnErr r (P → LeavesAll g old new)
   walk_refused old new text params all (Ok x) one h = tt
-  walk_refused old new text params all (Err e) one h = record {
+  walk_refused old new text params all (Err e) one h = λ p. record {
     mode = h.mode;
-    left = λ clean. query_stopped text params (state g old) (state g new) one.means.1 e (h.err clean);
-    survives = read_survives text params (state g old) (state g new) one.means.1 h.survives;
+    left = λ clean. query_stopped text params (state g old) (state g new) (one p).means.1 e (h.err clean);
+    survives = read_survives text params (state g old) (state g new) (one p).means.1 h.survives;
   }
 
 -- A query that has one answer leaves unchanged what a crash may leave.

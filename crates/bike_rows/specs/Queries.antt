@@ -1,5 +1,5 @@
 -- The queries of one table that the laws speak of.
-use Rattle.std.specs.Prelude.{ℕ, suc, List, [], ◌∷◌, map, pos, negsuc, Some, None, false, true}
+use Rattle.std.specs.Prelude.{ℕ, suc, List, [], ◌∷◌, pos, negsuc, Some, None, false, true}
 use Rattle.sqlite_value.specs.declared.value.Value.TheVariants.{Null, Int}
 use Rattle.sqlite_value.specs.declared.keys.Key.{Key}
 use Rattle.sqlite_value.specs.declared.keys.Collation.TheVariants.{Binary}

@@ -1,5 +1,5 @@
 -- The statements on parts.
-use Rattle.std.proofs.Common.{◌≡◌, ℕ, ℤ, List, [], ◌∷◌, codes, Some, None, Ok, Err, Result, OnOk, OnErr, IfOk, refl, true}
+use Rattle.std.proofs.Common.{◌≡◌, ℕ, ℤ, List, [], ◌∷◌, codes, Result, OnOk, OnErr, IfOk, refl, true}
 use Rattle.sqlite_value.specs.declared.value.Value.TheVariants.{Null, Int}
 use Rattle.sqlite_value.specs.Order.{Row}
 use Rattle.sqlite_sql.specs.Term.{Term, lit, col}
@@ -11,10 +11,7 @@ use Rattle.sqlite_resolve.specs.Compile.{first}
 use Rattle.sqlite_typing.specs.Types.{accepts_program}
 use Rattle.sqlite_tied.specs.Compute.{everything}
 use Rattle.sqlite.specs.declared.error.Error.{Error}
-use Rattle.sqlite.specs.declared.error.Error.TheVariants.{QueryReturnedNoRows}
-use Rattle.sqlite.specs.Listing.{understood}
 use Rattle.sqlite.specs.State.{State, ExecutesInside, QueriesRow, IsUnchanged, Survives, CommitsShowing}
-use Rattle.sqlite.proofs.Callers.{IsPlain}
 use Rattle.bike_names.specs.Has.{HasTable, of_tables}
 use Rattle.bike_names.specs.Laws.{Means}
 use Rattle.bike_names.specs.Inserts.{IsInsert}

@@ -1,6 +1,7 @@
 -- The walks over parts.
-use Rattle.std.proofs.Common.{◌≡◌, ℕ, ℤ, List, [], ◌∷◌, codes, refl, true}
+use Rattle.std.proofs.Common.{◌≡◌, ℕ, ℤ, List, [], ◌∷◌, codes, length, refl, true}
 use Rattle.sqlite_value.specs.declared.value.Value.TheVariants.{Int}
+use Rattle.sqlite_sql.specs.Aggregate.{count}
 use Rattle.sqlite_sql.specs.Term.{Term, col}
 use Rattle.sqlite_sql.specs.Query.{Query}
 use Rattle.sqlite_schema.specs.declared.schema.Schema.{Schema}
@@ -12,9 +13,10 @@ use Rattle.bike_names.specs.Reads.{IsDraft, draft_of}
 use Rattle.bike_names.proofs.ReadLaws.{select_is}
 use Rattle.bike_rows.specs.Answer.{MeansQuery, HasOneAnswer}
 use Rattle.bike_rows.specs.Layout.{table_of}
-use Rattle.bike_rows.specs.View.{rows_between, last_of}
+use Rattle.bike_rows.specs.View.{rows_between, rows_where, last_of}
 use Rattle.bike_rows.specs.Queries.{table_query, last_query, count_query, key_tests, by_columns}
 use Rattle.bike_rows.proofs.RangeLaw.{ordered_answer, range_tests, range_answer}
+use Rattle.bike_rows.proofs.CountLaw.{count_answer}
 use Rattle.bike_rows.proofs.LastLaw.{last_answer}
 use Rattle.bike_rows_example.specs.Tables.{HasTables, tables_of, parts}
 
@@ -99,3 +101,9 @@ module _ (s : Schema) (at tree : ℕ) (h : HasTable s at (table_of parts tree)) 
   reads_count : IsDraft (draft_of (of_tables (table_of parts tree ∷ [])) count_text) (count_query tree (key_tests 0 (2 ∷ []))) (codes "count(*)" ∷ [])
   unfolding everything
   reads_count = (refl, refl)
+
+  counts_parts : MeansQuery s count_text (count_query tree (key_tests 0 (2 ∷ []))) (codes "count(*)" ∷ [])
+  counts_parts = select_is s (at ∷ []) (table_of parts tree ∷ []) (h, tt) count_text (count_query tree (key_tests 0 (2 ∷ []))) (codes "count(*)" ∷ []) reads_count count_typed
+
+pub parts_counted : (db : Database) (has : HasTables db) (stock : ℤ) → HasOneAnswer db count_text (Int stock ∷ []) ((count (length (rows_where (1 ∷ []) (Int stock ∷ []) (tables_of db).parts)) ∷ []) ∷ [])
+parts_counted db has stock = count_answer 1 parts db has.parts count_text (Int stock ∷ []) 0 (2 ∷ []) (1 ∷ []) (codes "count(*)" ∷ []) (counts_parts db.schema has.parts.at has.parts.tree has.parts.has) refl (λ r. refl)

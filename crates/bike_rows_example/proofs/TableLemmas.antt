@@ -1,10 +1,10 @@
 -- The two tables: their keys, and that a change of one leaves the other.
-use Rattle.std.proofs.Common.{◌≡◌, ℕ, List, [], ◌∷◌, true, refl}
+use Rattle.std.proofs.Common.{List, [], ◌∷◌, true, refl}
 use Rattle.sqlite_value.specs.Order.{Row}
 use Rattle.sqlite.specs.State.{State, Shows}
 use Rattle.bike_rows.specs.Stands.{Sets}
 use Rattle.bike_rows.proofs.KeyLemmas.{IsKeyOf, number_key, columns_key}
-use Rattle.bike_rows_example.specs.Tables.{Tables, HasTables, Puts, tables_of, parts, notes}
+use Rattle.bike_rows_example.specs.Tables.{HasTables, Puts, tables_of, parts, notes}
 
 pub parts_key : IsKeyOf 1 parts
 parts_key = number_key parts (λ tree row. refl)

@@ -3,4 +3,6 @@
 
 pub mod notes;
 pub mod parts;
+#[cfg(test)]
+mod tests;
 pub mod walks;

@@ -54,11 +54,10 @@ pub fn find_note<S: Alter>(
     author: &str,
     title: &str,
 ) -> Result<Option<Row>, Error>
-    requires { HasTables (state S.Store conn.old).now }
-    ensures found { HasCleanDisk (state S.Store conn.new) → IfOk result (λ row. (row_with 2 (Text author.now ∷ Text title.now ∷ []) (tables_of (state S.Store conn.old).now).notes ≡ row) × IsUnchanged (state S.Store conn.old) (state S.Store conn.new)) }
-    ensures failed { HasCleanDisk (state S.Store conn.new) → OnErr result (IsLeft (state S.Store conn.old) (state S.Store conn.new)) }
+    ensures found { HasTables (state S.Store conn.old).now → HasCleanDisk (state S.Store conn.new) → IfOk result (λ row. (row_with 2 (Text author.now ∷ Text title.now ∷ []) (tables_of (state S.Store conn.old).now).notes ≡ row) × IsUnchanged (state S.Store conn.old) (state S.Store conn.new)) }
+    ensures failed { HasTables (state S.Store conn.old).now → HasCleanDisk (state S.Store conn.new) → OnErr result (IsLeft (state S.Store conn.old) (state S.Store conn.new)) }
     ensures mode { conn.old.in_transaction ≡ false → conn.new.in_transaction ≡ false }
-    ensures survives { Survives (state S.Store conn.old) (state S.Store conn.new) (λ _. ⊥) }
+    ensures survives { HasTables (state S.Store conn.old).now → Survives (state S.Store conn.old) (state S.Store conn.new) (λ _. ⊥) }
 {
     row_if_any(conn.query_row(
         "SELECT * FROM notes WHERE author = ?1 AND title = ?2",

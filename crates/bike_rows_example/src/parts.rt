@@ -44,11 +44,10 @@ pub fn update_part<S: Alter>(
 
 /// The part with this number.
 pub fn find_part<S: Alter>(conn: &mut Connection<S>, part: i64) -> Result<Option<Row>, Error>
-    requires { HasTables (state S.Store conn.old).now }
-    ensures found { HasCleanDisk (state S.Store conn.new) → IfOk result (λ row. (row_with 1 (Int part ∷ []) (tables_of (state S.Store conn.old).now).parts ≡ row) × IsUnchanged (state S.Store conn.old) (state S.Store conn.new)) }
-    ensures failed { HasCleanDisk (state S.Store conn.new) → OnErr result (IsLeft (state S.Store conn.old) (state S.Store conn.new)) }
+    ensures found { HasTables (state S.Store conn.old).now → HasCleanDisk (state S.Store conn.new) → IfOk result (λ row. (row_with 1 (Int part ∷ []) (tables_of (state S.Store conn.old).now).parts ≡ row) × IsUnchanged (state S.Store conn.old) (state S.Store conn.new)) }
+    ensures failed { HasTables (state S.Store conn.old).now → HasCleanDisk (state S.Store conn.new) → OnErr result (IsLeft (state S.Store conn.old) (state S.Store conn.new)) }
     ensures mode { conn.old.in_transaction ≡ false → conn.new.in_transaction ≡ false }
-    ensures survives { Survives (state S.Store conn.old) (state S.Store conn.new) (λ _. ⊥) }
+    ensures survives { HasTables (state S.Store conn.old).now → Survives (state S.Store conn.old) (state S.Store conn.new) (λ _. ⊥) }
 {
     row_if_any(conn.query_row("SELECT * FROM parts WHERE part = ?1", params![part]))
 }

@@ -1,7 +1,8 @@
 //! The queries that answer many rows, in the order of their keys.
 
-ghost use Rattle.std.specs.Prelude.{◌≡◌, [], ◌∷◌, IfOk, OnErr, false, slice_get};
+ghost use Rattle.std.specs.Prelude.{◌≡◌, [], ◌∷◌, IfOk, OnErr, Some, false, length, slice_get};
 ghost use Rattle.sqlite.specs.declared.types.Value.TheVariants.{Int, Text};
+ghost use Rattle.sqlite_sql.specs.Aggregate.{count};
 ghost use Rattle.sqlite.specs.State.{HasCleanDisk, IsUnchanged, Survives};
 ghost use Rattle.sqlite.specs.Held.{state};
 ghost use Rattle.bike_rows.specs.View.{rows_where, rows_between, last_of};
@@ -16,12 +17,11 @@ use sqlite::{Alter, Connection, Error, Row, Rows, params};
 
 /// All parts, in the order of their numbers. `bike_rows::walk::next_row` gives them in turn.
 pub fn walk_parts<S: Alter>(conn: &mut Connection<S>) -> Result<Rows<'_, S>, Error>
-    requires { HasTables (state S.Store conn.old).now }
-    ensures* refused { sem 𝓛 (RestsIfErr (the_row S.row S.Store) conn.entry (λ rows. rows.conn.ghost_name) result (LeavesAll S.Store conn.old)) }
+    ensures* refused { sem 𝓛 (RestsIfErr (the_row S.row S.Store) conn.entry (λ rows. rows.conn.ghost_name) result (λ last. HasTables (state S.Store conn.old).now → LeavesAll S.Store conn.old last)) }
     ensures same_reference { IfOk result (λ rows. rows.conn.ghost_name ≡ conn.entry.ghost_name) }
-    ensures begun { IfOk result (λ rows. HasCleanDisk (state S.Store rows.conn.now) → IsWalking S.Store rows.conn.now (tables_of (state S.Store conn.old).now).parts × IsUnchanged (state S.Store conn.old) (state S.Store rows.conn.now)) }
+    ensures begun { IfOk result (λ rows. HasTables (state S.Store conn.old).now → HasCleanDisk (state S.Store rows.conn.now) → IsWalking S.Store rows.conn.now (tables_of (state S.Store conn.old).now).parts × IsUnchanged (state S.Store conn.old) (state S.Store rows.conn.now)) }
     ensures mode { IfOk result (λ rows. conn.old.in_transaction ≡ false → rows.conn.now.in_transaction ≡ false) }
-    ensures survives { IfOk result (λ rows. Survives (state S.Store conn.old) (state S.Store rows.conn.now) (λ _. ⊥)) }
+    ensures survives { IfOk result (λ rows. HasTables (state S.Store conn.old).now → Survives (state S.Store conn.old) (state S.Store rows.conn.now) (λ _. ⊥)) }
 {
     conn.query("SELECT * FROM parts ORDER BY part", &[])
 }
@@ -32,12 +32,11 @@ pub fn walk_parts_between<S: Alter>(
     from: i64,
     to: i64,
 ) -> Result<Rows<'_, S>, Error>
-    requires { HasTables (state S.Store conn.old).now }
-    ensures* refused { sem 𝓛 (RestsIfErr (the_row S.row S.Store) conn.entry (λ rows. rows.conn.ghost_name) result (LeavesAll S.Store conn.old)) }
+    ensures* refused { sem 𝓛 (RestsIfErr (the_row S.row S.Store) conn.entry (λ rows. rows.conn.ghost_name) result (λ last. HasTables (state S.Store conn.old).now → LeavesAll S.Store conn.old last)) }
     ensures same_reference { IfOk result (λ rows. rows.conn.ghost_name ≡ conn.entry.ghost_name) }
-    ensures begun { IfOk result (λ rows. HasCleanDisk (state S.Store rows.conn.now) → IsWalking S.Store rows.conn.now (rows_between (Int from) (Int to) (tables_of (state S.Store conn.old).now).parts) × IsUnchanged (state S.Store conn.old) (state S.Store rows.conn.now)) }
+    ensures begun { IfOk result (λ rows. HasTables (state S.Store conn.old).now → HasCleanDisk (state S.Store rows.conn.now) → IsWalking S.Store rows.conn.now (rows_between (Int from) (Int to) (tables_of (state S.Store conn.old).now).parts) × IsUnchanged (state S.Store conn.old) (state S.Store rows.conn.now)) }
     ensures mode { IfOk result (λ rows. conn.old.in_transaction ≡ false → rows.conn.now.in_transaction ≡ false) }
-    ensures survives { IfOk result (λ rows. Survives (state S.Store conn.old) (state S.Store rows.conn.now) (λ _. ⊥)) }
+    ensures survives { IfOk result (λ rows. HasTables (state S.Store conn.old).now → Survives (state S.Store conn.old) (state S.Store rows.conn.now) (λ _. ⊥)) }
 {
     conn.query(
         "SELECT * FROM parts WHERE part >= ?1 AND part < ?2 ORDER BY part",
@@ -50,12 +49,11 @@ pub fn walk_notes_of<'a, S: Alter>(
     conn: &'a mut Connection<S>,
     author: &str,
 ) -> Result<Rows<'a, S>, Error>
-    requires { HasTables (state S.Store conn.old).now }
-    ensures* refused { sem 𝓛 (RestsIfErr (the_row S.row S.Store) conn.entry (λ rows. rows.conn.ghost_name) result (LeavesAll S.Store conn.old)) }
+    ensures* refused { sem 𝓛 (RestsIfErr (the_row S.row S.Store) conn.entry (λ rows. rows.conn.ghost_name) result (λ last. HasTables (state S.Store conn.old).now → LeavesAll S.Store conn.old last)) }
     ensures same_reference { IfOk result (λ rows. rows.conn.ghost_name ≡ conn.entry.ghost_name) }
-    ensures begun { IfOk result (λ rows. HasCleanDisk (state S.Store rows.conn.now) → IsWalking S.Store rows.conn.now (rows_where (0 ∷ []) (Text author.now ∷ []) (tables_of (state S.Store conn.old).now).notes) × IsUnchanged (state S.Store conn.old) (state S.Store rows.conn.now)) }
+    ensures begun { IfOk result (λ rows. HasTables (state S.Store conn.old).now → HasCleanDisk (state S.Store rows.conn.now) → IsWalking S.Store rows.conn.now (rows_where (0 ∷ []) (Text author.now ∷ []) (tables_of (state S.Store conn.old).now).notes) × IsUnchanged (state S.Store conn.old) (state S.Store rows.conn.now)) }
     ensures mode { IfOk result (λ rows. conn.old.in_transaction ≡ false → rows.conn.now.in_transaction ≡ false) }
-    ensures survives { IfOk result (λ rows. Survives (state S.Store conn.old) (state S.Store rows.conn.now) (λ _. ⊥)) }
+    ensures survives { IfOk result (λ rows. HasTables (state S.Store conn.old).now → Survives (state S.Store conn.old) (state S.Store rows.conn.now) (λ _. ⊥)) }
 {
     conn.query(
         "SELECT * FROM notes WHERE author = ?1 ORDER BY author, title",
@@ -65,11 +63,26 @@ pub fn walk_notes_of<'a, S: Alter>(
 
 /// The part with the last number.
 pub fn last_part<S: Alter>(conn: &mut Connection<S>) -> Result<Option<Row>, Error>
-    requires { HasTables (state S.Store conn.old).now }
-    ensures found { HasCleanDisk (state S.Store conn.new) → IfOk result (λ row. (slice_get (last_of (tables_of (state S.Store conn.old).now).parts) 0 ≡ row) × IsUnchanged (state S.Store conn.old) (state S.Store conn.new)) }
-    ensures failed { HasCleanDisk (state S.Store conn.new) → OnErr result (IsLeft (state S.Store conn.old) (state S.Store conn.new)) }
+    ensures found { HasTables (state S.Store conn.old).now → HasCleanDisk (state S.Store conn.new) → IfOk result (λ row. (slice_get (last_of (tables_of (state S.Store conn.old).now).parts) 0 ≡ row) × IsUnchanged (state S.Store conn.old) (state S.Store conn.new)) }
+    ensures failed { HasTables (state S.Store conn.old).now → HasCleanDisk (state S.Store conn.new) → OnErr result (IsLeft (state S.Store conn.old) (state S.Store conn.new)) }
     ensures mode { conn.old.in_transaction ≡ false → conn.new.in_transaction ≡ false }
-    ensures survives { Survives (state S.Store conn.old) (state S.Store conn.new) (λ _. ⊥) }
+    ensures survives { HasTables (state S.Store conn.old).now → Survives (state S.Store conn.old) (state S.Store conn.new) (λ _. ⊥) }
 {
     row_if_any(conn.query_row("SELECT * FROM parts ORDER BY part DESC LIMIT 1", &[]))
+}
+
+/// How many parts have this stock, as the one row of one number that SQL answers.
+pub fn count_parts_with<S: Alter>(
+    conn: &mut Connection<S>,
+    stock: i64,
+) -> Result<Option<Row>, Error>
+    ensures found { HasTables (state S.Store conn.old).now → HasCleanDisk (state S.Store conn.new) → IfOk result (λ row. (Some (count (length (rows_where (1 ∷ []) (Int stock ∷ []) (tables_of (state S.Store conn.old).now).parts)) ∷ []) ≡ row) × IsUnchanged (state S.Store conn.old) (state S.Store conn.new)) }
+    ensures failed { HasTables (state S.Store conn.old).now → HasCleanDisk (state S.Store conn.new) → OnErr result (IsLeft (state S.Store conn.old) (state S.Store conn.new)) }
+    ensures mode { conn.old.in_transaction ≡ false → conn.new.in_transaction ≡ false }
+    ensures survives { HasTables (state S.Store conn.old).now → Survives (state S.Store conn.old) (state S.Store conn.new) (λ _. ⊥) }
+{
+    row_if_any(conn.query_row(
+        "SELECT count(*) FROM parts WHERE stock = ?1",
+        params![stock],
+    ))
 }

@@ -1,9 +1,9 @@
 -- The look and its tests are those of `FindLemmas`: where the tests pass the table stands, and where it stands they pass.
-use Rattle.std.proofs.Common.{◌≡◌, ◌<◌, ◌==◌, ℕ, Bool, true, false, Some, None, find, refl, sym, ap, subst, ◌∙◌, arith, true≢false}
+use Rattle.std.proofs.Common.{◌==◌, Some, find, refl, sym, ap, subst, ◌∙◌, arith, true≢false}
 use Rattle.sqlite_schema.specs.declared.schema.Table.{Table}
 use Rattle.sqlite_schema.specs.Names.{table_named}
-use Rattle.bike_names.specs.Found.{StandsAt, IsPlainTable}
-use Rattle.bike_names.proofs.FindLemmas.{some_is, Looks, Sees, stands_of, sees_of}
+use Rattle.bike_names.specs.Found.{StandsAt}
+use Rattle.bike_names.proofs.FindLemmas.{some_is, Looks, stands_of, sees_of}
 use Rattle.bike_names.proofs.find.place_of_table.Goals as goal
 use Rattle.bike_names.proofs.find.place_of_table.Goals.{else-table-lt-COMPUTED-via-then-table-lt-COMPUTED+then-is_wanted+else-is_wanted-2, else-table-lt-COMPUTED-via-then-table-lt-COMPUTED+else-is_wanted, else-table-lt-COMPUTED-via-else-table-lt-COMPUTED}
 
@@ -30,10 +30,13 @@ returns-else-table-lt-COMPUTED c =
       there = sym c.in_ok-table.ensures.value;
       by_tree = ap (find (λ (t : Table). t.tree == c.in_ok-table.table.now.tree)) (sym c.as_slice-2.ensures) ∙ sym c.in_ok-first.ensures;
     } in
-    λ at. (λ is. absurd (cc), λ h. absurd (
-      let seen = (sees_of s wanted c.in_ok-at.at c.in_ok-table.table.now c.in_ok-first.first.now look at h.0).1 in
-      elim c.else-table-lt-COMPUTED.branch [
-          else-table-lt-COMPUTED-via-then-table-lt-COMPUTED+then-is_wanted+else-is_wanted-2 w ↦ true≢false (sym (w.if-is_wanted-2.ensures.1 (seen.is_first, h.1)))
-        | else-table-lt-COMPUTED-via-then-table-lt-COMPUTED+else-is_wanted w ↦ true≢false (sym (w.if-is_wanted.ensures.1 (seen.is, h.1)))
-        | else-table-lt-COMPUTED-via-else-table-lt-COMPUTED w ↦ omega (arith, seen.stored, w.if-table-lt-COMPUTED.false)
-      ]))
+    λ at. (
+      λ is. absurd (cc),
+      λ h. absurd (
+          let seen = (sees_of s wanted c.in_ok-at.at c.in_ok-table.table.now c.in_ok-first.first.now look at h.0).1 in
+          elim c.else-table-lt-COMPUTED.branch [
+            | else-table-lt-COMPUTED-via-then-table-lt-COMPUTED+then-is_wanted+else-is_wanted-2 w ↦ true≢false (sym (w.if-is_wanted-2.ensures.1 (seen.is_first, h.1)))
+            | else-table-lt-COMPUTED-via-then-table-lt-COMPUTED+else-is_wanted w ↦ true≢false (sym (w.if-is_wanted.ensures.1 (seen.is, h.1)))
+            | else-table-lt-COMPUTED-via-else-table-lt-COMPUTED w ↦ omega (arith, seen.stored, w.if-table-lt-COMPUTED.false)
+          ]),
+    )

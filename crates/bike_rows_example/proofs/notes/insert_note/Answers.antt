@@ -7,4 +7,4 @@ use Rattle.bike_rows_example.proofs.notes.insert_note.Goals as goal
 pub returns-clause-puts : goal.returns-clause-puts
 returns-clause-puts g c clean inside has =
     insert_puts (state g.S.Store c.args.tx.now.conn.now) (state g.S.Store c.execute.new.self.conn.now) has c.args.author.now c.args.title.now (option_map (λ text. text.now) c.args.body) c.execute.result
-      (rw (c.params-to_sql.ensures, c.params-to_sql-2.ensures, c.params-to_sql-3.ensures, text_or_null (λ (text : Bor (List ℕ)). text.now) c.args.body) at (c.execute.ensures.runs clean inside))
+    (rw (c.params-to_sql.ensures, c.params-to_sql-2.ensures, c.params-to_sql-3.ensures, text_or_null (λ (text : Bor (List ℕ)). text.now) c.args.body) at (c.execute.ensures.runs clean inside))

@@ -1,0 +1,6 @@
+//! The product's edges: request lines in, answer lines out.
+#![tactic(auto)]
+
+mod lines;
+
+pub use lines::{LinesFault, run_lines};

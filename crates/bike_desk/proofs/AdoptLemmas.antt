@@ -1,0 +1,125 @@
+-- From an empty database to a desk.
+use Rattle.std.proofs.Common.{◌≡◌, inl, inr, ℕ, ◌+◌, pos, true, false, IsTrue, List, [], ◌∷◌, length, Ok, Some, None, Result, codes, refl, sym, ap, ◌∙◌, subst, arith}
+use Rattle.std.specs.List.{AllZip}
+use Rattle.sqlite_value.specs.declared.value.Value.{Value}
+use Rattle.sqlite_value.specs.declared.value.Value.TheVariants.{Int, Text}
+use Rattle.sqlite_trees.specs.Tree.{rowid}
+use Rattle.sqlite_schema.specs.Names.{table_named}
+use Rattle.sqlite_resolve.specs.Compile.{table_defined_by}
+use Rattle.sqlite_catalog.specs.Listing.{IsTableRow, IsSound}
+use Rattle.sqlite.specs.Order.{Row, column}
+use Rattle.sqlite.specs.Tree.{Trees}
+use Rattle.sqlite.specs.Table.{Table}
+use Rattle.sqlite.specs.Schema.{Schema}
+use Rattle.sqlite.specs.Store.{Ghosts}
+use Rattle.sqlite.specs.Effect.{Database, IsDatabase}
+use Rattle.sqlite.specs.State.{HasCleanDisk, Survives, Shows, IsLive}
+use Rattle.sqlite.specs.Held.{Held, state}
+use Rattle.sqlite.proofs.StateLemmas.{survives_then}
+use Rattle.sqlite.proofs.Callers.{survives_begin}
+use Rattle.std.specs.Ordering.{nat_cmp}
+use Rattle.std.specs.Cmp.Lexicographic.{slice_cmp}
+use Rattle.std.specs.FinMap as map
+use Rattle.bike_core.specs.Operator.{Operator, Rider, Kept, no_operator}
+use Rattle.bike_core.specs.Order.{IsInOrder, IsRiderNumber, IsKept, EachEntry}
+use Rattle.bike_tables.specs.Tables.{HasNone}
+use Rattle.bike_tables.specs.Stored.{IsOf, StandsFor, TreesStandFor, AllLeft}
+use Rattle.bike_tables.specs.Changes.{IsFresh, Creates}
+use Rattle.bike_desk.specs.Adoption.{AreFresh}
+use Rattle.bike_desk.specs.Desk.{IsAt}
+use Rattle.bike_desk.proofs.KeepLemmas.{Settles, stands_in, settled_keeps}
+
+-- ---- trees list one set of tables
+
+same_tree : (a b : ℕ) (v : Value) → v ≡ Int (pos (a + 1)) → v ≡ Int (pos (b + 1)) → a ≡ b
+same_tree a b v p q = let e : a + 1 ≡ b + 1 = cc in omega (arith, e)
+
+same_text : (a b : List ℕ) (v : Value) → v ≡ Text a → v ≡ Text b → a ≡ b
+same_text a b v p q = cc
+
+same_ok : {A E : Type 0} (x y : A) (r : Result A E) → r ≡ Ok x → r ≡ Ok y → x ≡ y
+same_ok x y r p q = cc
+
+same_table : (row : Row) (a b : Table) → IsTableRow row a → IsTableRow row b → a ≡ b
+same_table row a b p q =
+    let tree = same_tree a.tree b.tree (rowid row) p.described.id q.described.id in
+    let sql = same_text p.sql q.sql (column row 4) p.sql_is q.sql_is in
+    let made = same_ok p.defined.0 q.defined.0 (table_defined_by p.sql) p.defined.1 (ap table_defined_by sql ∙ q.defined.1) in
+    p.defined.2 ∙ ap (λ (m : Table). record m { tree = a.tree }) made ∙ ap (λ n. let t : Table = record q.defined.0 { tree = n } in t) tree ∙ sym q.defined.2
+
+same_listed : (rows : List Row) (ts us : List Table) → AllZip IsTableRow rows ts → AllZip IsTableRow rows us → ts ≡ us
+same_listed [] [] [] p q = refl
+same_listed [] [] (b ∷ us) p q = absurd q
+same_listed [] (a ∷ ts) us p q = absurd p
+same_listed (r ∷ rows) (a ∷ ts) [] p q = absurd q
+same_listed (r ∷ rows) [] us p q = absurd p
+same_listed (r ∷ rows) (a ∷ ts) (b ∷ us) p q = ap (λ x. x ∷ ts) (same_table r a b p.0 q.0) ∙ ap (λ xs. b ∷ xs) (same_listed rows ts us p.1 q.1)
+
+pub same_tables : (a b : Schema) (trees : Trees) → IsSound a trees → IsSound b trees → a.tables ≡ b.tables
+same_tables a b trees p q = same_listed _ a.tables b.tables p.lists.listed.tables q.lists.listed.tables
+
+same_place : (a b : Schema) (name : List ℕ) (at : ℕ) → a.tables ≡ b.tables → table_named a name ≡ Some at → table_named b name ≡ None → ⊥
+same_place a b name at same there none =
+    let here : table_named b name ≡ Some at = subst (λ ts. table_named (record { tables = ts; indexes = []; views = [] }) name ≡ Some at) same there in absurd (cc)
+
+nobody_in : (schema : Schema) (db : Database) (s : Operator) → schema.tables ≡ db.schema.tables → HasNone db.schema → IsOf (record { schema = schema; trees = db.trees }) s → s ≡ no_operator
+nobody_in schema db s same none (inl h) = h.1
+nobody_in schema db s same none (inr h) = absurd (same_place schema db.schema (codes "meta") h.0.meta.at same h.0.meta.has.found none.meta)
+
+-- where there are none of the tables, the trees stand for the empty operator alone
+pub nobody_else : (db : Database) (s : Operator) → IsDatabase db → HasNone db.schema → TreesStandFor s db.trees → s ≡ no_operator
+nobody_else db s sound none h = nobody_in h.0 db s (same_tables h.0 db.schema db.trees h.1.sound sound) none h.1.is
+
+-- ---- the empty tables
+
+pub fresh_stands : (db : Database) → IsFresh db → IsInOrder no_operator → StandsFor db no_operator
+fresh_stands db h order = record { sound = h.sound; is = inr (h.has, order, h.tables) }
+
+each_of_none : {K X : Type 0} (P : K → X → Type 0) (es : List (K × X)) → length es ≡ 0 → EachEntry P es
+each_of_none P [] none = tt
+each_of_none P (e ∷ es) none = absurd (omega (arith, none))
+
+pub empty_in_order : IsInOrder no_operator
+empty_in_order =
+    let riders = map.len-empty nat_cmp Rider in
+    let kept = map.len-empty (slice_cmp (slice_cmp nat_cmp)) Kept in
+    record {
+      riders = each_of_none (λ rider _. IsRiderNumber rider) (map.entries no_operator.riders) (sym (map.len-entries no_operator.riders) ∙ riders);
+      few_riders = omega (arith, riders);
+      entries = tt;
+      few_entries = omega arith;
+      kept = each_of_none IsKept (map.entries no_operator.kept) (sym (map.len-entries no_operator.kept) ∙ kept);
+      now = omega arith;
+    }
+
+module _ {S : Type 0} (g : Ghosts S) (old last end : Held S)
+    (made : HasCleanDisk (state g last) → Creates (state g (record old { in_transaction = true })) (state g last)) (calm : Survives (state g (record old { in_transaction = true })) (state g last) (λ _. ⊥)) where
+  pub tables_leave : Survives (state g last) (state g end) (λ db. db ≡ (state g last).now.trees) → Survives (state g old) (state g end) AreFresh
+  tables_leave commit = survives_then (state g old) (state g last) (state g end) _ _ AreFresh (λ _ db none. absurd none)
+      (λ clean db is. ((state g last).now, (made (omega (arith, commit.clean))).fresh, is))
+      (survives_begin g old (state g last) _ calm) commit
+
+-- an adopted connection is at the empty operator
+pub fresh_at : {S : Type 0} (g : Ghosts S) → Settles g → (old end : Held S) → Shows (state g old) (state g end) (state g end).now (state g end).now false → IsFresh (state g end).now
+    → IsAt g (record { conn = end; is_stopped = end.in_transaction }) no_operator
+fresh_at g settles old end shown fresh = record {
+  goes_on = shown.mode;
+  keeps = settled_keeps g settles end no_operator shown.is_open shown.mode shown.committed_is (fresh_stands (state g end).now fresh empty_in_order) fresh.has;
+}
+
+module _ {S : Type 0} (g : Ghosts S) (settles : Settles g) (old : Held S) (settled : IsTrue (state g old).is_open → (state g old).now ≡ (state g old).committed) where
+  -- an open connection on which nothing is pending can leave nothing but what it shows
+  pub in_left : (s : Operator) → TreesStandFor s (state g old).now.trees → IsTrue (state g old).is_open → AllLeft (state g old) (TreesStandFor s)
+  in_left s stands live db h = subst (TreesStandFor s) (sym (settles old.store db live h ∙ sym (ap (λ (d : Database). d.trees) (settled live)))) stands
+
+  pub left_after : (end : Held S) → IsLive (state g old) → HasNone (state g old).now.schema → HasCleanDisk (state g end) → Survives (state g old) (state g end) AreFresh
+      → (s : Operator) → TreesStandFor s (state g old).now.trees → IsTrue (state g old).is_open → AllLeft (state g end) (TreesStandFor s)
+  left_after end sound none clean crash s stands live db h = elim (crash.crash clean db h) [
+    | inl before ↦ in_left s stands live db before
+    | inr made ↦ subst (λ o. TreesStandFor o db) (sym (nobody_else (state g old).now s (sound live).0 none stands)) (stands_in made.0 db no_operator (fresh_stands made.0 made.1 empty_in_order) made.2)
+  ]
+
+-- an adopted connection is at whomever its trees stood for
+pub nobody_here : {S : Type 0} (g : Ghosts S) (old end : Held S) (s : Operator) → IsLive (state g old) → IsTrue (state g old).is_open → HasNone (state g old).now.schema → TreesStandFor s (state g old).now.trees
+    → IsAt g (record { conn = end; is_stopped = end.in_transaction }) no_operator → IsAt g (record { conn = end; is_stopped = end.in_transaction }) s
+nobody_here g old end s sound live none stands at = subst (IsAt g (record { conn = end; is_stopped = end.in_transaction })) (sym (nobody_else (state g old).now s (sound live).0 none stands)) at

@@ -1,0 +1,58 @@
+use Rattle.std.proofs.Common.{◌≡◌, ℤ, ◌+ℤ◌, false, [], ◌∷◌, sym, ap, ◌∙◌, subst, subst₂}
+use Rattle.bike_ledger.specs.Ledger.{cash_in, earned}
+use Rattle.bike_requests.specs.declared.request.Request.{Request}
+use Rattle.bike_core.specs.Operator.{Operator}
+use Rattle.bike_core.specs.Runs.{accepted}
+use Rattle.bike_core.specs.Steps.{reply_of}
+use Rattle.bike_core.specs.View.{view_of}
+use Rattle.bike_tables.specs.declared.rows.RowChange.TheVariants as row
+use Rattle.bike_tables.specs.declared.rows.MetaRow.{MetaRow}
+use Rattle.bike_core.specs.Order.{IsInOrder}
+use Rattle.bike_desk.specs.Serving.{meta_of, Accepts, AreOf, LeadsTo}
+use Rattle.bike_desk.proofs.KeepLemmas.{order_of}
+use Rattle.bike_desk.proofs.BookLemmas.{leads_rider, leads_entry}
+use Rattle.bike_desk.proofs.serve.book.Given.{Over}
+use Rattle.bike_desk.proofs.serve.book.Goals as goal
+
+-- a rider is added
+rider_leads : (g : Over) (c : goal.After-make_all g) (s : Operator) (q : Request) → IsInOrder s → c.args.meta.now ≡ meta_of s → Accepts s c.args.now q (c.args.change.now ∷ []) → AreOf c.args.kept.now q (reply_of s c.args.now q.command)
+    → LeadsTo (row.AddRider (record { rider = c.in-AddRider.rider; blocked = false; balance = c.new.result })
+    ∷ row.SetMeta (record { now = c.args.now; cash = c.args.meta.now.cash; revenue = c.args.meta.now.revenue })
+    ∷ row.AddKept c.args.kept.now.caller c.args.kept.now.key c.args.kept.now.command c.args.kept.now.reply ∷ []) s (accepted s c.args.now q)
+rider_leads g c s q order is_meta accepts of =
+    let kept = c.args.kept.now in
+    let changes = λ (z : ℤ) (m : MetaRow). row.AddRider (record { rider = c.in-AddRider.rider; blocked = false; balance = z }) ∷ row.SetMeta (record { now = c.args.now; cash = m.cash; revenue = m.revenue }) ∷ row.AddKept kept.caller kept.key kept.command kept.reply ∷ [] in
+    subst₂ (λ z m. LeadsTo (changes z m) s (accepted s c.args.now q)) (sym c.new.ensures) (sym is_meta)
+    (leads_rider s q c.args.now order c.in-AddRider.rider kept.caller kept.key kept.command kept.reply (subst (λ x. Accepts s c.args.now q (x ∷ [])) c.in-AddRider.is accepts) of.0 of.1 of.2 of.3)
+
+pub returns-in-AddRider-clause-made : goal.returns-in-AddRider-clause-made
+returns-in-AddRider-clause-made g c clean s q keeps is_meta seen accepts of =
+    c.make_all.ensures.made clean s (accepted s c.args.now q) keeps (rider_leads g c s q (order_of g.S.Store c.args.conn.now c.args.conn.now s keeps) is_meta accepts of)
+
+pub returns-in-AddRider-clause-left : goal.returns-in-AddRider-clause-left
+returns-in-AddRider-clause-left g c clean s q keeps is_meta seen accepts of =
+    c.make_all.ensures.left clean s (accepted s c.args.now q) keeps (rider_leads g c s q (order_of g.S.Store c.args.conn.now c.args.conn.now s keeps) is_meta accepts of)
+
+-- an entry is booked
+entry_leads : (g : Over) (c : goal.After-make_all-in-AddEntry g) (s : Operator) (q : Request) → IsInOrder s → c.args.meta.now ≡ meta_of s → c.args.view.now ≡ view_of s q.command → Accepts s c.args.now q (c.args.change.now ∷ [])
+    → AreOf c.args.kept.now q (reply_of s c.args.now q.command)
+    → LeadsTo (row.AddEntry c.in-AddEntry.entry
+    ∷ row.SetRider c.in-Some.row
+    ∷ row.SetMeta c.in-Some-booked_meta.meta
+    ∷ row.AddKept c.args.kept.now.caller c.args.kept.now.key c.args.kept.now.command c.args.kept.now.reply ∷ []) s (accepted s c.args.now q)
+entry_leads g c s q order is_meta seen accepts of =
+    let kept = c.args.kept.now in
+    let entry = c.in-AddEntry.entry in
+    let after = c.in-Some.row in
+    let changes = λ (m : MetaRow). row.AddEntry entry ∷ row.SetRider after ∷ row.SetMeta m ∷ row.AddKept kept.caller kept.key kept.command kept.reply ∷ [] in
+    let booked = c.in-Some-booked_meta.ensures ∙ ap (λ (m : MetaRow). let r : MetaRow = record { now = c.args.now; cash = m.cash +ℤ cash_in entry.kind entry.amount; revenue = m.revenue +ℤ earned entry.kind entry.amount } in r) is_meta in
+    subst (λ m. LeadsTo (changes m) s (accepted s c.args.now q)) (sym booked)
+    (leads_entry s q c.args.now order entry c.args.view.now after kept.caller kept.key kept.command kept.reply seen (subst (λ x. Accepts s c.args.now q (x ∷ [])) c.in-AddEntry.is accepts) c.in-Some.ensures of.0 of.1 of.2 of.3)
+
+pub returns-in-Some-booked_meta-clause-made : goal.returns-in-Some-booked_meta-clause-made
+returns-in-Some-booked_meta-clause-made g c clean s q keeps is_meta seen accepts of =
+    c.make_all-in-AddEntry.ensures.made clean s (accepted s c.args.now q) keeps (entry_leads g c s q (order_of g.S.Store c.args.conn.now c.args.conn.now s keeps) is_meta seen accepts of)
+
+pub returns-in-Some-booked_meta-clause-left : goal.returns-in-Some-booked_meta-clause-left
+returns-in-Some-booked_meta-clause-left g c clean s q keeps is_meta seen accepts of =
+    c.make_all-in-AddEntry.ensures.left clean s (accepted s c.args.now q) keeps (entry_leads g c s q (order_of g.S.Store c.args.conn.now c.args.conn.now s keeps) is_meta seen accepts of)

@@ -1,0 +1,27 @@
+-- What an adoption that fails hands back.
+use Rattle.std.specs.Prelude.{◌≡◌}
+use Rattle.sqlite.specs.Store.{Ghosts}
+use Rattle.sqlite.specs.Held.{Held, state}
+use Rattle.sqlite.specs.Tree.{Trees}
+use Rattle.sqlite.specs.Effect.{Database}
+use Rattle.bike_tables.specs.Tables.{HasNone}
+use Rattle.bike_tables.specs.Changes.{IsFresh}
+use Rattle.bike_desk.specs.declared.adopt.AdoptFault.{AdoptFault}
+use Rattle.bike_desk.specs.declared.adopt.AdoptFault.TheVariants.{Foreign, NoMemory, StoreFailed}
+
+-- the trees hold the empty tables
+abbrev pub AreFresh : Trees → Type 0
+AreFresh trees = (db : Database) × IsFresh db × (trees ≡ db.trees)
+
+module _ {S : Type 0} where
+  -- the connection in a fault
+  abbrev pub handed : AdoptFault S → Held S
+  handed (Foreign c) = c
+  handed (NoMemory c) = c
+  handed (StoreFailed c) = c
+
+  -- foreign is a database with some of the tables, and it stays as it is; the other faults are told only where there are none
+  abbrev pub IsToldOf : Ghosts S → Held S → AdoptFault S → Type 0
+  IsToldOf g old (Foreign c) = (¬ HasNone (state g old).now.schema) × (c ≡ old)
+  IsToldOf g old (NoMemory c) = HasNone (state g old).now.schema
+  IsToldOf g old (StoreFailed c) = HasNone (state g old).now.schema

@@ -1,0 +1,29 @@
+-- What a run over a list of requests leaves, and what it answers.
+use Rattle.std.specs.Prelude.{◌≡◌, ◌≤◌, ◌<◌, ◌+◌, ℕ, IsTrue, List, length, take, Option, Some, None}
+use Rattle.sqlite.specs.Tree.{Trees}
+use Rattle.sqlite.specs.Store.{Ghosts}
+use Rattle.bike_requests.specs.declared.reply.Reply.{Reply}
+use Rattle.bike_core.specs.Operator.{Operator}
+use Rattle.bike_core.specs.Runs.{Call, after, replies}
+use Rattle.bike_tables.specs.Stored.{AllLeft, TreesStandFor}
+use Rattle.bike_desk.specs.declared.fault.DeskFault.{DeskFault}
+use Rattle.bike_desk.specs.declared.fault.DeskFault.TheVariants.{NoMemory, StoreFailed, Stopped}
+use Rattle.bike_desk.specs.Desk.{DeskValue, shown, IsAt, TreesStandForEither}
+
+module _ {S : Type 0} (g : Ghosts S) (desk : DeskValue S) (s : Operator) (calls : List Call) where
+  -- the desk after k answers, as the fault tells, if there is one: an unstopped desk is not told that it is stopped
+  abbrev pub EndsAt : ℕ → Option DeskFault → Type 0
+  EndsAt k None = (k ≡ length calls) × IsAt g desk (after s calls)
+  EndsAt k (Some NoMemory) = IsAt g desk (after s (take k calls))
+  EndsAt k (Some StoreFailed) = (k < length calls) × IsTrue desk.is_stopped × AllLeft (shown g desk) (TreesStandForEither (after s (take k calls)) (after s (take (k + 1) calls)))
+  EndsAt k (Some Stopped) = ⊥
+
+  -- The answers are the replies to a front of the list, and the desk is as the end tells.
+  pub record Ran (told : List Reply) (end : Option DeskFault) : Type 0 where
+    pub within : length told ≤ length calls
+    pub front : told ≡ replies s (take (length told) calls)
+    pub ends : EndsAt (length told) end
+
+-- the trees stand for the operator after a front of the list that holds the k acknowledged requests and at most one more
+abbrev pub IsAfterFront : Operator → List Call → ℕ → Trees → Type 0
+IsAfterFront s calls k trees = (j : ℕ) × (k ≤ j) × (j ≤ k + 1) × (j ≤ length calls) × TreesStandFor (after s (take j calls)) trees

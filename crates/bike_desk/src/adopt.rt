@@ -1,0 +1,68 @@
+//! Taking a database into service.
+
+ghost use Rattle.std.specs.Prelude.{◌≡◌, ◌≤◌, false, IsTrue, IfOk, IfErr, MatchResult};
+ghost use Rattle.sqlite.specs.State.{HasCleanDisk};
+ghost use Rattle.sqlite.specs.Held.{state};
+ghost use Rattle.sqlite_trees.specs.View.{doubt};
+ghost use Rattle.bike_core.specs.Operator.{Operator, no_operator};
+ghost use Rattle.bike_tables.specs.Tables.{HasNone};
+ghost use Rattle.bike_tables.specs.Stored.{AllLeft, IsOf, TreesStandFor};
+ghost use Rattle.bike_desk.specs.Desk.{shown, IsAt};
+ghost use Rattle.bike_desk.specs.Adoption.{handed, IsToldOf};
+
+use crate::desk::Desk;
+use crate::transaction::make_tables;
+use bike_tables::{StatementFault, has_none};
+use sqlite::{Alter, Connection};
+
+/// Why a connection wasn't adopted. Each fault hands it back.
+#[derive(Drop)]
+pub enum AdoptFault<S: Alter> {
+    /// The database has some of the product's tables. It is as it was.
+    Foreign(Connection<S>),
+    /// Memory was refused. What is stored stands for the empty operator.
+    NoMemory(Connection<S>),
+    /// The store failed. What is stored stands for the empty operator.
+    StoreFailed(Connection<S>),
+}
+
+impl<S: Alter> AdoptFault<S> {
+    /// The connection that was handed in.
+    pub fn into_connection(self) -> Connection<S>
+        ensures { result ≡ handed self }
+    {
+        match self {
+            AdoptFault::Foreign(conn) => conn,
+            AdoptFault::NoMemory(conn) => conn,
+            AdoptFault::StoreFailed(conn) => conn,
+        }
+    }
+}
+
+impl<S: Alter> Desk<S> {
+    /// Takes a connection outside a transaction whose database has none of the product's tables, and makes
+    /// them in one transaction: the desk begins with the operator of whom nothing was asked. Every other
+    /// database comes back as `Foreign`.
+    pub fn adopt(mut conn: Connection<S>) -> Result<Desk<S>, AdoptFault<S>>
+        requires { conn.in_transaction ≡ false }
+        ensures clean { MatchResult result (λ d. doubt (state S.Store conn).is_clean ≤ doubt (shown S.Store d).is_clean) (λ e. doubt (state S.Store conn).is_clean ≤ doubt (state S.Store (handed e)).is_clean) }
+        ensures found { (s : Operator) → TreesStandFor s (state S.Store conn).now.trees → IfOk result (λ d. HasCleanDisk (shown S.Store d) → IsAt S.Store d s) }
+        ensures only { IfOk result (λ d. HasNone (state S.Store conn).now.schema × (HasCleanDisk (shown S.Store d) → IsAt S.Store d no_operator)) }
+        ensures told { IfErr result (IsToldOf S.Store conn) }
+        ensures left { (s : Operator) → TreesStandFor s (state S.Store conn).now.trees → IsTrue (state S.Store conn).is_open → IfErr result (λ e. HasCleanDisk (state S.Store (handed e)) → AllLeft (state S.Store (handed e)) (TreesStandFor s)) }
+        ensures stays { ((s : Operator) → ¬ IsOf (state S.Store conn).now s) → IfErr result (λ e. HasCleanDisk (state S.Store (handed e)) → AllLeft (state S.Store (handed e)) (state S.Store conn).may_leave) }
+        ensures autocommit { IfErr result (λ e. (handed e).in_transaction ≡ false) }
+    {
+        // These tell that nothing is pending and that the database obeys its schema.
+        let _ = conn.is_autocommit();
+        let _ = conn.schema();
+        if !has_none(&conn) {
+            return Err(AdoptFault::Foreign(conn));
+        }
+        match make_tables(&mut conn) {
+            Ok(()) => Ok(Desk::over(conn)),
+            Err(StatementFault::NoMemory) => Err(AdoptFault::NoMemory(conn)),
+            Err(StatementFault::StoreFailed) => Err(AdoptFault::StoreFailed(conn)),
+        }
+    }
+}

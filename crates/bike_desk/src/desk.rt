@@ -1,0 +1,127 @@
+//! The desk, and the one call that changes what it keeps.
+
+ghost use Rattle.std.specs.Prelude.{◌≡◌, ◌≤◌, false, IsTrue, IsErr, IfOk, Err, option_map, Option, Some, None};
+ghost use Rattle.std.specs.FinMap as map;
+ghost use Rattle.sqlite.specs.State.{HasCleanDisk};
+ghost use Rattle.sqlite_trees.specs.View.{doubt};
+ghost use Rattle.bike_ledger.specs.Ledger.{balance_of};
+ghost use Rattle.bike_core.specs.Operator.{Operator};
+ghost use Rattle.bike_core.specs.Runs.{step};
+ghost use Rattle.bike_tables.specs.Stored.{AllLeft};
+ghost use Rattle.bike_desk.specs.Desk.{shown, IsAt, TreesStandForEither};
+
+use crate::fault::DeskFault;
+use crate::reads::find_rider;
+use crate::serve::serve;
+use bike_catalogue::RiderNumber;
+use bike_fixed::{Cents, Moment};
+use bike_requests::{Reply, Request, command_text};
+use sqlite::{Alter, Connection};
+use std::alloc::Global;
+use std::marker::Model;
+
+/// A connection whose tables stand for an operator.
+#[derive(Drop)]
+pub struct Desk<S: Alter> {
+    conn: Connection<S>,
+    stopped: bool,
+}
+
+impl<S: Alter> Model for Desk<S> {
+    ghost use Rattle.std.specs.Prelude.{◌||◌};
+    ghost use Rattle.bike_desk.specs.Desk.{DeskValue, desk_code};
+
+    ghost Value = { DeskValue S };
+
+    ghost coded = { desk_code S.code };
+
+    // An open transaction counts as a stop.
+    ghost view = { λ d. record { conn = d.conn; is_stopped = d.stopped || d.conn.in_transaction } };
+}
+
+impl<S: Alter> Desk<S> {
+    /// A desk over a connection that was adopted.
+    pub(crate) fn over(conn: Connection<S>) -> Desk<S>
+        ensures { result ≡ record { conn = conn; is_stopped = conn.in_transaction } }
+    {
+        Desk {
+            conn,
+            stopped: false,
+        }
+    }
+
+    /// Whether the desk serves no more, because its store failed.
+    pub fn stopped(&self) -> bool
+        ensures { result ≡ self.now.is_stopped }
+    {
+        self.stopped || !self.conn.is_autocommit()
+    }
+
+    /// Gives the connection back.
+    pub fn close(self) -> Connection<S>
+        ensures same { result ≡ self.conn }
+        ensures autocommit { self.is_stopped ≡ false → result.in_transaction ≡ false }
+    {
+        let Desk { conn, stopped: _ } = self;
+        conn
+    }
+
+    /// Serves one request that comes at the moment, in one transaction.
+    ///
+    /// `NoMemory` comes before anything changes and leaves everything as it was. `StoreFailed` stops the
+    /// desk, and what a crash may leave then stands for the operator before or after the request. `Stopped`
+    /// comes from a stopped desk alone, which stays as it is.
+    pub fn apply(
+        &mut self,
+        alloc: Global,
+        moment: Moment,
+        request: &Request,
+    ) -> Result<Reply, DeskFault>
+        ensures clean { doubt (shown S.Store self.old).is_clean ≤ doubt (shown S.Store self.new).is_clean }
+        ensures ok { HasCleanDisk (shown S.Store self.new) → (s : Operator) → IsAt S.Store self.old s → IfOk result (λ reply. (reply ≡ (step s moment request.now).0) × IsAt S.Store self.new (step s moment request.now).1) }
+        ensures no_memory { result ≡ Err DeskFault.NoMemory → self.new ≡ self.old }
+        ensures store_failed { HasCleanDisk (shown S.Store self.new) → (s : Operator) → IsAt S.Store self.old s → result ≡ Err DeskFault.StoreFailed → AllLeft (shown S.Store self.new) (TreesStandForEither s (step s moment request.now).1) }
+        ensures stops { result ≡ Err DeskFault.StoreFailed → IsTrue self.new.is_stopped }
+        ensures stopped { result ≡ Err DeskFault.Stopped → IsTrue self.old.is_stopped }
+        ensures stays { IsTrue self.old.is_stopped → IsErr result × (self.new ≡ self.old) }
+    {
+        // All that takes memory comes before the transaction.
+        let Ok(text) = command_text(alloc, &request.command) else {
+            return Err(DeskFault::NoMemory);
+        };
+        if self.stopped() {
+            return Err(DeskFault::Stopped);
+        }
+        match serve(&mut self.conn, moment, request, text.as_str()) {
+            Ok(reply) => Ok(reply),
+            Err(_) => {
+                self.stopped = true;
+                Err(DeskFault::StoreFailed)
+            }
+        }
+    }
+
+    /// The rider's balance, the sum of what the ledger books for the rider; None where there is no such
+    /// rider. Nothing that is kept changes; `StoreFailed` stops the desk.
+    pub fn balance(&mut self, rider: RiderNumber) -> Result<Option<Cents>, DeskFault>
+        ensures clean { doubt (shown S.Store self.old).is_clean ≤ doubt (shown S.Store self.new).is_clean }
+        ensures ok { HasCleanDisk (shown S.Store self.new) → (s : Operator) → IsAt S.Store self.old s → IfOk result (λ balance. (balance ≡ option_map (λ _. balance_of rider s.entries) (map.get s.riders rider)) × IsAt S.Store self.new s) }
+        ensures no_memory { result ≡ Err DeskFault.NoMemory → ⊥ }
+        ensures left { HasCleanDisk (shown S.Store self.new) → (s : Operator) → IsAt S.Store self.old s → AllLeft (shown S.Store self.new) (shown S.Store self.old).may_leave }
+        ensures stops { result ≡ Err DeskFault.StoreFailed → IsTrue self.new.is_stopped }
+        ensures stopped { result ≡ Err DeskFault.Stopped → IsTrue self.old.is_stopped }
+        ensures stays { IsTrue self.old.is_stopped → IsErr result × (self.new ≡ self.old) }
+    {
+        if self.stopped() {
+            return Err(DeskFault::Stopped);
+        }
+        match find_rider(&mut self.conn, rider) {
+            Ok(Some(row)) => Ok(Some(Cents::new(row.balance))),
+            Ok(None) => Ok(None),
+            Err(_) => {
+                self.stopped = true;
+                Err(DeskFault::StoreFailed)
+            }
+        }
+    }
+}

@@ -1,0 +1,22 @@
+//! The desk: it serves requests over a database, each in one transaction.
+//!
+//! After every call, what is stored, and all that a crash at that moment may leave, stands for the operator
+//! after the acknowledged requests, or after one more where the store failed in its midst.
+#![tactic(auto)]
+
+mod adopt;
+mod bounds;
+mod desk;
+mod fault;
+mod reads;
+mod run;
+mod serve;
+mod transaction;
+
+pub use adopt::AdoptFault;
+pub use desk::Desk;
+pub use fault::DeskFault;
+pub use run::Run;
+
+#[cfg(test)]
+mod tests;

@@ -1,0 +1,67 @@
+//! Serving a list of requests.
+
+ghost use Rattle.std.specs.Prelude.{◌≡◌, ◌≤◌, ◌<◌, ◌+◌, ◌++◌, [], ◌∷◌, length, vec_len, vec_capacity};
+ghost use Rattle.sqlite.specs.State.{HasCleanDisk};
+ghost use Rattle.sqlite_trees.specs.View.{doubt};
+ghost use Rattle.bike_core.specs.Operator.{Operator};
+ghost use Rattle.bike_tables.specs.Stored.{AllLeft};
+ghost use Rattle.bike_desk.specs.Desk.{shown, IsAt};
+ghost use Rattle.bike_desk.specs.Runs.{Ran, IsAfterFront};
+
+use crate::desk::Desk;
+use crate::fault::DeskFault;
+use bike_fixed::Moment;
+use bike_requests::{Reply, Request};
+use sqlite::Alter;
+use std::alloc::Global;
+
+/// The replies to a front of a list, and the fault that ended it.
+#[derive(Drop)]
+pub struct Run {
+    /// The replies, in order.
+    pub replies: Vec<Reply>,
+    /// The fault of the request after them; None where the whole list is answered.
+    pub end: Option<DeskFault>,
+}
+
+/// Adds a reply, for which there is room.
+fn note(replies: &mut Vec<Reply>, reply: Reply)
+    requires { vec_len replies.old < vec_capacity replies.old }
+    ensures items { replies.new.items ≡ replies.old.items ++ reply ∷ [] }
+    ensures len { vec_len replies.new ≡ vec_len replies.old + 1 }
+    ensures capacity { vec_capacity replies.old ≤ vec_capacity replies.new }
+{
+    let _ = replies.push(reply);
+}
+
+impl<S: Alter> Desk<S> {
+    /// Serves requests in order, each with the moment at which it comes, up to the first fault. Room for
+    /// the replies is taken first.
+    pub fn run_list(&mut self, alloc: Global, calls: &[(Moment, Request)]) -> Run
+        ensures clean { doubt (shown S.Store self.old).is_clean ≤ doubt (shown S.Store self.new).is_clean }
+        ensures ran { HasCleanDisk (shown S.Store self.new) → (s : Operator) → IsAt S.Store self.old s → Ran S.Store self.new s calls.now result.replies.items result.end }
+        ensures front { HasCleanDisk (shown S.Store self.new) → (s : Operator) → IsAt S.Store self.old s → AllLeft (shown S.Store self.new) (IsAfterFront s calls.now (length result.replies.items)) }
+    {
+        let mut replies = match Vec::with_capacity(alloc, calls.len()) {
+            Ok(replies) => replies,
+            Err(_) => {
+                return Run {
+                    replies: Vec::new(alloc),
+                    end: Some(DeskFault::NoMemory),
+                };
+            }
+        };
+        'calls: for (moment, request) in calls {
+            match self.apply(alloc, *moment, request) {
+                Ok(reply) => note(&mut replies, reply),
+                Err(fault) => {
+                    return Run {
+                        replies,
+                        end: Some(fault),
+                    };
+                }
+            }
+        }
+        Run { replies, end: None }
+    }
+}

@@ -1,0 +1,4 @@
+pub mod DueLemmas
+pub mod CountLemmas
+pub mod SumLemmas
+pub mod BoundLemmas

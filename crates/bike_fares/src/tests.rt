@@ -1,0 +1,131 @@
+//! Known fares, and the slow program beside the fast one.
+
+use crate::{fare, fare_by_minutes};
+use bike_catalogue::{FieldFault, Plan, Segment};
+use bike_fixed::{Cents, Moment};
+use std::alloc::Global;
+
+/// The segments of a row: start, rate, interval and end.
+type Row = (u32, i32, u32, Option<u32>);
+
+/// The plan of this price and these segments.
+fn plan_of(alloc: Global, price: u32, rows: &[Row]) -> Result<Plan, FieldFault> {
+    let mut segments = Vec::new(alloc);
+    for (start, rate, interval, end) in rows {
+        segments.push(Segment::new(*start, *rate, *interval, *end)?)?;
+    }
+    Plan::new(
+        alloc,
+        "plan",
+        "Plan",
+        price,
+        false,
+        "A plan",
+        segments.as_slice(),
+    )
+}
+
+#[test]
+fn known_fares(rt: HostRuntime) -> Result<(), FieldFault> {
+    let alloc = rt.alloc();
+    let most = [(0, 100_000, 1, None); 8];
+    let basic: &[Row] = &[(30, 25, 5, None)];
+    let stepped: &[Row] = &[(0, 10, 1, Some(20)), (20, 50, 10, None)];
+    let gift: &[Row] = &[(0, -200, 0, None)];
+    let discount: &[Row] = &[(0, -60, 0, None)];
+    let last: &[Row] = &[(43_200, 10, 0, None)];
+    let beyond: &[Row] = &[(43_201, 10, 0, None)];
+    for (price, rows, seconds, hundredths) in [
+        (100, basic, 0, 100),
+        (100, basic, 1799, 100),
+        (100, basic, 1800, 125),
+        (100, basic, 2099, 125),
+        (100, basic, 2100, 150),
+        (100, basic, 2_592_000, 215_975),
+        (100, basic, 3_456_000, 215_975),
+        (0, stepped, 1199, 200),
+        (0, stepped, 1200, 250),
+        (100, gift, 0, 0),
+        (100, gift, 59, 0),
+        (100, gift, 3_456_000, 0),
+        (100, discount, 0, 40),
+        (100, discount, 2100, 40),
+        (100, discount, 3_456_000, 40),
+        (1_000_000, most.as_slice(), 2_592_000, 34_561_800_000),
+        (0, last, 2_591_999, 0),
+        (0, last, 2_592_000, 10),
+        (0, last, 3_456_000, 10),
+        (0, beyond, 2_592_000, 0),
+        (0, beyond, 3_456_000, 0),
+        (7, [].as_slice(), 3_456_000, 7),
+    ] {
+        let plan = plan_of(alloc, price, rows)?;
+        let start = Moment::new(1_700_000_000);
+        let end = Moment::new(1_700_000_000 + seconds);
+        assert!(rt; start.is_some() && end.is_some(), "{seconds}");
+        let (Some(start), Some(end)) = (start, end) else {
+            continue;
+        };
+        assert!(rt; start.seconds() <= end.seconds(), "{seconds}");
+        let found = fare(&plan, start, end);
+        assert!(rt; found == Cents::new(hundredths), "{price} {seconds}");
+    }
+    Ok(())
+}
+
+#[test]
+fn slow_and_fast_agree(rt: HostRuntime) -> Result<(), FieldFault> {
+    let alloc = rt.alloc();
+    let most = [(0, 100_000, 1, None); 8];
+    let least = [(0, -100_000, 1, None); 8];
+    let bounds: &[Row] = &[
+        (0, 1, 0, Some(1)),
+        (43_200, 7, 1, Some(43_201)),
+        (43_201, 11, 1, None),
+        (100_000, 13, 100_000, None),
+        (0, 17, 43_200, None),
+        (0, 19, 43_201, None),
+        (0, 23, 100_000, Some(100_000)),
+        (99_999, 29, 0, Some(100_000)),
+    ];
+    let mixed: &[Row] = &[
+        (30, 25, 5, None),
+        (10, -3, 7, Some(24)),
+        (20, 50, 10, Some(21)),
+        (1, 0, 59, Some(43_200)),
+        (43_199, 5, 1, None),
+    ];
+    for (price, rows) in [
+        (0, [].as_slice()),
+        (1_000_000, most.as_slice()),
+        (1_000_000, least.as_slice()),
+        (500, bounds),
+        (100, mixed),
+    ] {
+        let plan = plan_of(alloc, price, rows)?;
+        for (start, end) in [
+            (0, 0),
+            (0, 59),
+            (0, 60),
+            (1000, 2799),
+            (1000, 2800),
+            (0, 2_591_999),
+            (0, 2_592_000),
+            (0, 2_592_060),
+            (0, 253_402_300_799),
+            (253_402_300_799, 253_402_300_799),
+        ] {
+            let (Some(start), Some(end)) = (Moment::new(start), Moment::new(end)) else {
+                assert!(rt; false, "{start} {end}");
+                continue;
+            };
+            assert!(rt; start.seconds() <= end.seconds());
+            let slow = fare_by_minutes(&plan, start, end);
+            assert!(rt;
+                fare(&plan, start, end) == slow,
+                "{price} {start:?} {end:?}"
+            );
+        }
+    }
+    Ok(())
+}

@@ -1,0 +1,8 @@
+use Rattle.std.proofs.Common.{append_assoc, append-nil}
+use Rattle.bike_feeds.proofs.Series.{Wrote_then, Wrote_as}
+use Rattle.bike_feeds.proofs.tests.rows.write_row.Goals as goal
+
+pub returns-clause-wrote : goal.returns-clause-wrote
+returns-clause-wrote g c =
+    Wrote_as (rw (c.name.ensures.place.0, c.begin_object.ensures.place.0) (simp (append_assoc, append-nil)))
+    (Wrote_then (Wrote_then (Wrote_then c.begin_object.ensures.wrote c.name.ensures.wrote) c.whole.ensures.wrote) c.end_object.ensures.wrote)

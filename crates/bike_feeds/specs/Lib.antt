@@ -1,0 +1,8 @@
+pub mod Escapes
+pub mod Front
+pub mod Strings
+pub mod Tree
+pub mod State
+pub mod Rows
+pub mod Buffered
+pub mod Example

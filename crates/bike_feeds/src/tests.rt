@@ -1,0 +1,135 @@
+//! Texts that are written to writers that take few bytes, and fail.
+mod rows;
+
+use crate::{JsonWriter, TokenBuffer};
+use bike_fixed::{Cents, Micro};
+use bike_stream::WriteFault;
+use rows::write_report;
+use serde_json::Value;
+use std::io;
+use std::io::{ErrorKind, Write};
+use std::test::Fail;
+
+/// Takes so many bytes, at most one a write, and then takes none or fails.
+#[derive(Drop)]
+struct Short {
+    bytes: Vec<u8>,
+    room: usize,
+    fails: bool,
+}
+
+impl Write for Short {
+    fn write(&mut self, buf: &[u8]) -> io::Result<usize> {
+        let count = buf.len().min(self.room).min(1);
+        if count == 0 && self.fails {
+            return Err(ErrorKind::Other.into());
+        }
+        self.bytes.extend_from_slice(&buf[..count])?;
+        self.room -= count;
+        Ok(count)
+    }
+
+    fn flush(&mut self) -> io::Result<()> {
+        Ok(())
+    }
+}
+
+/// A name with every kind of escape, and with characters of one to four bytes.
+const NAME: &str = "a\"\\\u{8}\t\n\u{c}\r\u{1f}\0/\u{7f}\u{e9}\u{20ac}\u{1f6b2}";
+
+/// What RFC 8259 makes of the calls of `write_text`.
+const TEXT: &str =
+    "{\"a\\\"\\\\\\b\\t\\n\\f\\r\\u001f\\u0000/\u{7f}\u{e9}\u{20ac}\u{1f6b2}\":\"\",\"n\":[0,18446744073709551615,-0.25,0.00,-92233720368547758.08,-0.000001,180.000000,true,false,{},[[]]]}";
+
+/// Makes every kind of call; gives the outcome of the last, the count and the writer.
+fn write_text<W: Write + Drop>(out: W) -> (Result<(), WriteFault>, u64, W) {
+    let mut json = JsonWriter::new(out);
+    let _ = json.begin_object();
+    let _ = json.name(NAME);
+    let _ = json.text("");
+    let _ = json.name("n");
+    let _ = json.begin_array();
+    let _ = json.whole(0);
+    let _ = json.whole(u64::MAX);
+    let _ = json.cents(Cents::new(-25));
+    let _ = json.cents(Cents::new(0));
+    let _ = json.cents(Cents::new(i64::MIN));
+    if let (Some(west), Some(east)) = (Micro::new(-1), Micro::new(180_000_000)) {
+        let _ = json.micro(west);
+        let _ = json.micro(east);
+    }
+    let _ = json.flag(true);
+    let _ = json.flag(false);
+    let _ = json.begin_object();
+    let _ = json.end_object();
+    let _ = json.begin_array();
+    let _ = json.begin_array();
+    let _ = json.end_array();
+    let _ = json.end_array();
+    let _ = json.end_array();
+    let last = json.end_object();
+    let count = json.count();
+    (last, count, json.into_inner())
+}
+
+#[test]
+fn writes_the_text(rt: HostRuntime) -> Result<(), Fail> {
+    let (last, count, out) = write_text(Vec::new(rt.alloc()));
+    last?;
+    assert_eq!(rt; out.as_slice(), TEXT.as_bytes());
+    assert_eq!(rt; count, TEXT.len() as u64);
+    let (last, count, _) = write_text(io::sink());
+    last?;
+    assert_eq!(rt; count, TEXT.len() as u64);
+    let (last, count, mut buffer) = write_text(TokenBuffer::new(Vec::new(rt.alloc())));
+    last?;
+    assert_eq!(rt; count, TEXT.len() as u64);
+    buffer.flush()?;
+    assert_eq!(rt; buffer.into_inner().as_slice(), TEXT.as_bytes());
+    Ok(())
+}
+
+#[test]
+fn is_read_back(rt: HostRuntime) -> Result<(), Fail> {
+    let value = Value::from_str(rt.alloc(), TEXT)?;
+    assert_eq!(rt; value.get(NAME).and_then(Value::as_str), Some(""));
+    let numbers = value.get("n").and_then(Value::as_array).ok_or("an array")?;
+    assert_eq!(rt; numbers.len(), 11);
+    assert_eq!(rt; numbers.get(1).and_then(Value::as_u64), Some(u64::MAX));
+    Ok(())
+}
+
+#[test]
+fn stops_at_each_byte(rt: HostRuntime) -> Result<(), Fail> {
+    for fails in [false, true] {
+        for room in 0..=TEXT.len() {
+            let short = Short {
+                bytes: Vec::new(rt.alloc()),
+                room,
+                fails,
+            };
+            let (last, count, out) = write_text(short);
+            assert_eq!(rt; last.is_ok(), room == TEXT.len());
+            assert!(rt; count <= room as u64);
+            assert_eq!(rt; out.bytes.as_slice(), &TEXT.as_bytes()[..room]);
+        }
+    }
+    Ok(())
+}
+
+#[test]
+fn writes_many_rows(rt: HostRuntime) -> Result<(), Fail> {
+    let mut rows = Vec::new(rt.alloc());
+    for row in 0..5000u64 {
+        rows.push(row)?;
+    }
+    let mut counting = io::sink();
+    let count = write_report(&mut counting, rows.as_slice())?;
+    let mut buffer = TokenBuffer::new(Vec::new(rt.alloc()));
+    assert_eq!(rt; write_report(&mut buffer, rows.as_slice())?, count);
+    buffer.flush()?;
+    let text = buffer.into_inner();
+    assert_eq!(rt; text.len() as u64, count);
+    assert!(rt; text.as_slice().starts_with(b"[{\"n\":0},{\"n\":1},"));
+    Ok(())
+}

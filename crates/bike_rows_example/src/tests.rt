@@ -1,0 +1,116 @@
+use crate::notes::{find_note, insert_note, update_note};
+use crate::parts::{find_part, insert_part, update_part};
+use crate::walks::{count_parts_with, last_part, walk_notes_of, walk_parts, walk_parts_between};
+use bike_rows::walk::next_row;
+use sqlite::{Alter, Connection, Error, Row, Transaction};
+use std::test::Fail;
+
+// These have no clause, so that the proof of the test does not carry the state of each call.
+fn make<S: Alter>(conn: &mut Connection<S>) -> Result<(), Error> {
+    conn.execute_batch(
+        "CREATE TABLE other (a); CREATE TABLE parts (part INTEGER PRIMARY KEY, stock INTEGER NOT NULL) STRICT; CREATE TABLE notes (author TEXT NOT NULL, title TEXT NOT NULL, body TEXT, PRIMARY KEY (author, title)) STRICT",
+    )
+}
+
+fn put_parts<S: Alter>(tx: &mut Transaction<'_, S>) -> Result<(), Error> {
+    insert_part(tx, 7, 10)?;
+    insert_part(tx, 1, 10)?;
+    insert_part(tx, 3, 30)?;
+    update_part(tx, 3, 10)?;
+    Ok(())
+}
+
+fn put_notes<S: Alter>(tx: &mut Transaction<'_, S>) -> Result<(), Error> {
+    insert_note(tx, "ann", "b", None)?;
+    insert_note(tx, "ann", "a", Some("first"))?;
+    insert_note(tx, "bob", "a", Some("other"))?;
+    update_note(tx, "bob", "a", None)?;
+    Ok(())
+}
+
+fn fill<S: Alter>(conn: &mut Connection<S>) -> Result<(), Error> {
+    if !conn.is_autocommit() {
+        return Err(Error::InvalidQuery);
+    }
+    let mut tx = conn.transaction();
+    put_parts(&mut tx)?;
+    put_notes(&mut tx)?;
+    tx.commit()
+}
+
+fn number(row: Option<Row>, at: usize) -> Result<Option<i64>, Error> {
+    match row {
+        Some(row) => Ok(Some(row.get(at)?)),
+        None => Ok(None),
+    }
+}
+
+fn has_body<S: Alter>(conn: &mut Connection<S>, author: &str) -> Result<Option<bool>, Error> {
+    match find_note(conn, author, "a")? {
+        Some(row) => {
+            let body: Option<String> = row.get(2)?;
+            Ok(Some(body.is_some()))
+        }
+        None => Ok(None),
+    }
+}
+
+// The numbers of the parts in turn, as the digits of one number.
+fn all_parts<S: Alter>(conn: &mut Connection<S>) -> Result<i64, Error> {
+    let mut rows = walk_parts(conn)?;
+    let mut digits = 0i64;
+    'rows: for _ in 0..9u8 {
+        match next_row(&mut rows)? {
+            Some(row) => digits = digits.wrapping_mul(10).wrapping_add(row.get(0)?),
+            None => return Ok(digits),
+        }
+    }
+    Err(Error::InvalidQuery)
+}
+
+fn parts_between<S: Alter>(conn: &mut Connection<S>, from: i64, to: i64) -> Result<i64, Error> {
+    let mut rows = walk_parts_between(conn, from, to)?;
+    let mut digits = 0i64;
+    'rows: for _ in 0..9u8 {
+        match next_row(&mut rows)? {
+            Some(row) => digits = digits.wrapping_mul(10).wrapping_add(row.get(0)?),
+            None => return Ok(digits),
+        }
+    }
+    Err(Error::InvalidQuery)
+}
+
+fn notes_of<S: Alter>(conn: &mut Connection<S>, author: &str) -> Result<usize, Error> {
+    let mut rows = walk_notes_of(conn, author)?;
+    'rows: for count in 0..9usize {
+        if next_row(&mut rows)?.is_none() {
+            return Ok(count);
+        }
+    }
+    Err(Error::InvalidQuery)
+}
+
+#[test]
+fn statements_do_what_they_say(rt: HostRuntime) -> Result<(), Fail> {
+    let mut conn = Connection::open_in_memory(rt.alloc())?;
+    make(&mut conn)?;
+    fill(&mut conn)?;
+    for (part, want) in [(1, Some(10)), (2, None), (3, Some(10))] {
+        assert_eq!(rt;
+            number(find_part(&mut conn, part)?, 1)?,
+            want,
+            "part {part}"
+        );
+    }
+    assert_eq!(rt; all_parts(&mut conn)?, 137);
+    assert_eq!(rt; parts_between(&mut conn, 1, 7)?, 13);
+    assert_eq!(rt; number(last_part(&mut conn)?, 0)?, Some(7));
+    assert_eq!(rt; number(count_parts_with(&mut conn, 10)?, 0)?, Some(3));
+    for (author, want) in [("ann", Some(true)), ("bob", Some(false)), ("cy", None)] {
+        assert_eq!(rt; has_body(&mut conn, author)?, want, "{author}");
+    }
+    for (author, want) in [("ann", 2), ("bob", 1), ("cy", 0)] {
+        assert_eq!(rt; notes_of(&mut conn, author)?, want, "{author}");
+    }
+    Ok(())
+}

@@ -1,0 +1,5 @@
+pub mod Feeds
+pub mod LineLemmas
+pub mod Pieces
+pub mod Takings
+pub mod Writes

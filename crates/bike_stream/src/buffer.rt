@@ -1,0 +1,132 @@
+//! Lines out of a reader's bytes.
+
+ghost use Rattle.std.specs.Prelude.{◌≡◌, ℕ, ◌-◌, ◌≤◌, ◌<◌, ◌==◌, List, [], ◌++◌, IfOk, OnOk, OnErr, true, false, length, take, drop, vec_len};
+ghost use Rattle.std.specs.Io.KnownBytes.{Consumes, Keeps, IsAtEnd, prepend_known};
+ghost use Rattle.std.specs.Io.BufRead.{drop_through};
+ghost use Rattle.bike_stream.specs.Lines.{first_line, has_feed};
+ghost use Rattle.bike_stream.specs.Taking.{Takes, Interrupts};
+
+use crate::line::Line;
+use memchr::memchr;
+use std::alloc::{AllocError, Global};
+use std::io::Read;
+use std::marker::Model;
+
+/// How many bytes one read asks for.
+const ROOM: usize = 65536;
+
+/// The input failed, or gave its bytes in more reads than were allowed.
+#[derive(Clone, Copy, Debug, PartialEq, Eq, Drop)]
+pub struct ReadFault;
+
+/// The bytes that were read and aren't taken yet: seen as a list, what comes before all that is left in the
+/// reader.
+#[derive(Drop)]
+pub struct LineBuffer {
+    bytes: Vec<u8>,
+    start: usize,
+    end: usize,
+}
+
+impl Model for LineBuffer {
+    ghost Value = { List ℕ };
+
+    ghost view = { λ b. take (b.end - b.start) (drop b.start b.bytes.items) };
+
+    ghost invariant = { λ b. (b.start ≤ b.end) × (b.end ≤ vec_len b.bytes) × (0 < vec_len b.bytes) };
+}
+
+impl LineBuffer {
+    /// Holds nothing yet, and asks for 65,536 bytes at each read.
+    pub fn new(alloc: Global) -> Result<LineBuffer, AllocError>
+        ensures { IfOk result (λ b. b ≡ []) }
+    {
+        let bytes = vec![in alloc; 0; ROOM]?;
+        Ok(LineBuffer {
+            bytes,
+            start: 0,
+            end: 0,
+        })
+    }
+
+    fn is_empty(&self) -> bool
+        ensures { result ≡ (length self.now == 0) }
+    {
+        self.start == self.end
+    }
+
+    /// Reads once; false at the end of the input.
+    fn fill<R: Read>(&mut self, reader: &mut R) -> Result<bool, ReadFault>
+        requires { self.old ≡ [] }
+        ensures bytes { OnOk result (Consumes (R.remaining reader.old) (R.remaining reader.new) self.new) }
+        ensures more { IfOk result (λ more. more ≡ true → 0 < length self.new) }
+        ensures end { IfOk result (λ more. more ≡ false → (self.new ≡ []) × IsAtEnd (R.remaining reader.new)) }
+        ensures err { OnErr result ((self.new ≡ []) × Keeps (R.remaining reader.old) (R.remaining reader.new)) }
+    {
+        self.start = 0;
+        self.end = 0;
+        match reader.read(self.bytes.as_mut_slice()) {
+            Ok(count) => {
+                self.end = count;
+                Ok(count != 0)
+            }
+            Err(_) => Err(ReadFault),
+        }
+    }
+
+    /// Takes the bytes up to the next line feed, which is taken too, or all; true where a line feed came.
+    fn take_piece<const KEPT: usize>(&mut self, line: &mut Line<KEPT>) -> bool
+        ensures found { result ≡ has_feed self.old }
+        ensures rest { self.new ≡ drop_through 10 self.old }
+        ensures line { line.new ≡ take KEPT (line.old ++ first_line self.old) }
+        ensures drained { result ≡ false → self.new ≡ [] }
+    {
+        let held = &self.bytes[self.start..self.end];
+        match memchr(b'\n', held) {
+            Some(at) => {
+                line.add(&held[..at]);
+                self.start += at + 1;
+                true
+            }
+            None => {
+                line.add(held);
+                self.start = self.end;
+                false
+            }
+        }
+    }
+
+    /// Takes the next line, as far as it is kept, and its line feed; false at the end of the input.
+    ///
+    /// The last line needs no line feed. Each read takes one off `reads`; fails where the input does and
+    /// where a read is needed and `reads` is 0, and has then taken a front of the line.
+    pub fn next_line<R: Read, const KEPT: usize>(
+        &mut self,
+        reader: &mut R,
+        line: &mut Line<KEPT>,
+        reads: &mut u32,
+    ) -> Result<bool, ReadFault>
+        ensures taken { IfOk result (λ more. Takes KEPT (prepend_known self.old (R.remaining reader.old))
+            (prepend_known self.new (R.remaining reader.new)) more line.new) }
+        ensures fault { OnErr result (Interrupts KEPT (prepend_known self.old (R.remaining reader.old))
+            (prepend_known self.new (R.remaining reader.new)) line.new) }
+    {
+        line.clear();
+        let mut started = false;
+        loop {
+            if self.is_empty() {
+                if *reads == 0 {
+                    return Err(ReadFault);
+                }
+                *reads -= 1;
+                if !self.fill(reader)? {
+                    return Ok(started);
+                }
+            }
+            started = true;
+            if self.take_piece(line) {
+                return Ok(true);
+            }
+        }
+    }
+}
