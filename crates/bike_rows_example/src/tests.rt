@@ -12,20 +12,48 @@ fn make<S: Alter>(conn: &mut Connection<S>) -> Result<(), Error> {
     )
 }
 
+fn add_part<S: Alter>(tx: &mut Transaction<'_, S>, part: i64, stock: i64) -> Result<(), Error> {
+    insert_part(tx, part, stock)?;
+    Ok(())
+}
+
+fn set_part<S: Alter>(tx: &mut Transaction<'_, S>, part: i64, stock: i64) -> Result<(), Error> {
+    update_part(tx, part, stock)?;
+    Ok(())
+}
+
 fn put_parts<S: Alter>(tx: &mut Transaction<'_, S>) -> Result<(), Error> {
-    insert_part(tx, 7, 10)?;
-    insert_part(tx, 1, 10)?;
-    insert_part(tx, 3, 30)?;
-    update_part(tx, 3, 10)?;
+    add_part(tx, 7, 10)?;
+    add_part(tx, 1, 10)?;
+    add_part(tx, 3, 30)?;
+    set_part(tx, 3, 10)
+}
+
+fn add_note<S: Alter>(
+    tx: &mut Transaction<'_, S>,
+    author: &str,
+    title: &str,
+    body: Option<&str>,
+) -> Result<(), Error> {
+    insert_note(tx, author, title, body)?;
+    Ok(())
+}
+
+fn set_note<S: Alter>(
+    tx: &mut Transaction<'_, S>,
+    author: &str,
+    title: &str,
+    body: Option<&str>,
+) -> Result<(), Error> {
+    update_note(tx, author, title, body)?;
     Ok(())
 }
 
 fn put_notes<S: Alter>(tx: &mut Transaction<'_, S>) -> Result<(), Error> {
-    insert_note(tx, "ann", "b", None)?;
-    insert_note(tx, "ann", "a", Some("first"))?;
-    insert_note(tx, "bob", "a", Some("other"))?;
-    update_note(tx, "bob", "a", None)?;
-    Ok(())
+    add_note(tx, "ann", "b", None)?;
+    add_note(tx, "ann", "a", Some("first"))?;
+    add_note(tx, "bob", "a", Some("other"))?;
+    set_note(tx, "bob", "a", None)
 }
 
 fn fill<S: Alter>(conn: &mut Connection<S>) -> Result<(), Error> {
@@ -43,6 +71,18 @@ fn number(row: Option<Row>, at: usize) -> Result<Option<i64>, Error> {
         Some(row) => Ok(Some(row.get(at)?)),
         None => Ok(None),
     }
+}
+
+fn stock_of<S: Alter>(conn: &mut Connection<S>, part: i64) -> Result<Option<i64>, Error> {
+    number(find_part(conn, part)?, 1)
+}
+
+fn greatest<S: Alter>(conn: &mut Connection<S>) -> Result<Option<i64>, Error> {
+    number(last_part(conn)?, 0)
+}
+
+fn count_with<S: Alter>(conn: &mut Connection<S>, stock: i64) -> Result<Option<i64>, Error> {
+    number(count_parts_with(conn, stock)?, 0)
 }
 
 fn has_body<S: Alter>(conn: &mut Connection<S>, author: &str) -> Result<Option<bool>, Error> {
@@ -96,16 +136,12 @@ fn statements_do_what_they_say(rt: HostRuntime) -> Result<(), Fail> {
     make(&mut conn)?;
     fill(&mut conn)?;
     for (part, want) in [(1, Some(10)), (2, None), (3, Some(10))] {
-        assert_eq!(rt;
-            number(find_part(&mut conn, part)?, 1)?,
-            want,
-            "part {part}"
-        );
+        assert_eq!(rt; stock_of(&mut conn, part)?, want, "part {part}");
     }
     assert_eq!(rt; all_parts(&mut conn)?, 137);
     assert_eq!(rt; parts_between(&mut conn, 1, 7)?, 13);
-    assert_eq!(rt; number(last_part(&mut conn)?, 0)?, Some(7));
-    assert_eq!(rt; number(count_parts_with(&mut conn, 10)?, 0)?, Some(3));
+    assert_eq!(rt; greatest(&mut conn)?, Some(7));
+    assert_eq!(rt; count_with(&mut conn, 10)?, Some(3));
     for (author, want) in [("ann", Some(true)), ("bob", Some(false)), ("cy", None)] {
         assert_eq!(rt; has_body(&mut conn, author)?, want, "{author}");
     }

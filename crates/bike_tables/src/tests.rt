@@ -83,6 +83,95 @@ fn moment(seconds: u64) -> Result<Moment, StatementFault> {
     Moment::new(seconds).ok_or(StatementFault::StoreFailed)
 }
 
+fn no_money(seconds: u64) -> Result<MetaRow, StatementFault> {
+    Ok(MetaRow {
+        now: moment(seconds)?,
+        cash: Cents::new(0),
+        revenue: Cents::new(0),
+    })
+}
+
+fn rider_row(blocked: bool, balance: i64) -> Result<RiderRow, StatementFault> {
+    Ok(RiderRow {
+        rider: number(999_999)?,
+        blocked,
+        balance: Cents::new(balance),
+    })
+}
+
+fn booked(n: u32) -> Result<Entry, StatementFault> {
+    Ok(Entry {
+        number: number(n)?,
+        kind: EntryKind::Refund,
+        rider: number(3)?,
+        rental: number(4)?,
+        amount: Cents::new(125),
+        at: moment(9)?,
+    })
+}
+
+fn sets_meta(conn: &mut Connection<MemStore>) -> Result<bool, StatementFault> {
+    let was = meta(conn)? == Some(no_money(0)?);
+    let later = MetaRow {
+        now: moment(253_402_300_799)?,
+        cash: Cents::new(-5),
+        revenue: Cents::new(70_000_000_000),
+    };
+    change(conn, &RowChange::SetMeta(later))?;
+    Ok(was && meta(conn)? == Some(later))
+}
+
+fn adds_riders(conn: &mut Connection<MemStore>) -> Result<bool, StatementFault> {
+    let added = rider_row(false, 0)?;
+    change(conn, &RowChange::AddRider(added))?;
+    let again = change(conn, &RowChange::AddRider(added)) == Err(StatementFault::StoreFailed);
+    Ok(again && rider(conn, added.rider)? == Some(added) && rider(conn, number(7)?)?.is_none())
+}
+
+fn sets_riders(conn: &mut Connection<MemStore>) -> Result<bool, StatementFault> {
+    let set = rider_row(true, -350)?;
+    change(conn, &RowChange::SetRider(set))?;
+    Ok(rider(conn, set.rider)? == Some(set) && !is_full(conn)?)
+}
+
+fn adds_entries(conn: &mut Connection<MemStore>) -> Result<bool, StatementFault> {
+    let was = entry(conn)?;
+    for n in [1, 2, 100_000_000] {
+        change(conn, &RowChange::AddEntry(booked(n)?))?;
+    }
+    Ok(was == 0 && entry(conn)? == 100_000_000)
+}
+
+fn adds_kept(conn: &mut Connection<MemStore>) -> Result<bool, StatementFault> {
+    let kept = RowChange::AddKept {
+        caller: "rider:7",
+        key: "k-1",
+        command: "add-rider\t7",
+        reply: "balance\t-125",
+    };
+    change(conn, &kept)?;
+    let again = change(conn, &kept) == Err(StatementFault::StoreFailed);
+    let found = keeps(conn, "rider:7", "k-1", "add-rider\t7", Reply::Balance(-125))?;
+    let other = keeps(conn, "k-1", "rider:7", "", Reply::Done)?;
+    Ok(again && found == Some(true) && other.is_none())
+}
+
+// Whether neither making the tables nor reading one goes well.
+fn refuses(conn: &mut Connection<MemStore>) -> bool {
+    make(conn) == Err(StatementFault::StoreFailed) && meta(conn) == Err(StatementFault::StoreFailed)
+}
+
+// Rows that the product never writes: a flag of 2, a reply that is none, another product's name.
+fn refuses_rows(conn: &mut Connection<MemStore>) -> Result<bool, StatementFault> {
+    run(
+        conn,
+        "INSERT INTO riders VALUES (1, 2, 0); INSERT INTO kept VALUES ('office', 'a', '', 'no'); UPDATE meta SET app = 'other'",
+    )?;
+    let failed = Err(StatementFault::StoreFailed);
+    let kept = keeps(conn, "office", "a", "", Reply::Done) == Err(StatementFault::StoreFailed);
+    Ok(kept && rider(conn, number(1)?) == failed && meta(conn) == Err(StatementFault::StoreFailed))
+}
+
 #[test]
 fn puts_rows_and_reads_them_back(rt: HostRuntime) -> Result<(), Fail> {
     let mut conn = Connection::open_in_memory(rt.alloc())?;
@@ -93,83 +182,16 @@ fn puts_rows_and_reads_them_back(rt: HostRuntime) -> Result<(), Fail> {
     assert!(rt; has_no_tables(&conn), "before");
     make(&mut conn)?;
     assert!(rt; !has_no_tables(&conn), "after");
-    let fresh = MetaRow {
-        now: moment(0)?,
-        cash: Cents::new(0),
-        revenue: Cents::new(0),
-    };
-    assert_eq!(rt; meta(&mut conn), Ok(Some(fresh)));
-    assert_eq!(rt; entry(&mut conn), Ok(0));
-    assert_eq!(rt; is_full(&mut conn), Ok(false));
-
-    let later = MetaRow {
-        now: moment(253_402_300_799)?,
-        cash: Cents::new(-5),
-        revenue: Cents::new(70_000_000_000),
-    };
-    change(&mut conn, &RowChange::SetMeta(later))?;
-    assert_eq!(rt; meta(&mut conn), Ok(Some(later)));
-
-    let added = RiderRow {
-        rider: number(999_999)?,
-        blocked: false,
-        balance: Cents::new(0),
-    };
-    assert_eq!(rt; rider(&mut conn, number(7)?), Ok(None));
-    change(&mut conn, &RowChange::AddRider(added))?;
-    assert_eq!(rt; rider(&mut conn, number(999_999)?), Ok(Some(added)));
-    assert_eq!(rt;
-        change(&mut conn, &RowChange::AddRider(added)),
-        Err(StatementFault::StoreFailed)
-    );
-    let set = RiderRow {
-        rider: number(999_999)?,
-        blocked: true,
-        balance: Cents::new(-350),
-    };
-    change(&mut conn, &RowChange::SetRider(set))?;
-    assert_eq!(rt; rider(&mut conn, number(999_999)?), Ok(Some(set)));
-
-    for n in [1, 2, 100_000_000] {
-        let booked = Entry {
-            number: number(n)?,
-            kind: EntryKind::Refund,
-            rider: number(3)?,
-            rental: number(4)?,
-            amount: Cents::new(125),
-            at: moment(9)?,
-        };
-        change(&mut conn, &RowChange::AddEntry(booked))?;
-        assert_eq!(rt; entry(&mut conn), Ok(n));
-    }
-
-    let kept = RowChange::AddKept {
-        caller: "rider:7",
-        key: "k-1",
-        command: "add-rider\t7",
-        reply: "balance\t-125",
-    };
-    change(&mut conn, &kept)?;
-    assert_eq!(rt; change(&mut conn, &kept), Err(StatementFault::StoreFailed));
-    assert_eq!(rt;
-        keeps(
-            &mut conn,
-            "rider:7",
-            "k-1",
-            "add-rider\t7",
-            Reply::Balance(-125)
-        ),
-        Ok(Some(true))
-    );
-    assert_eq!(rt;
-        keeps(&mut conn, "rider:7", "k-2", "", Reply::Done),
-        Ok(None)
-    );
+    assert!(rt; sets_meta(&mut conn)?, "meta");
+    assert!(rt; adds_riders(&mut conn)?, "riders");
+    assert!(rt; sets_riders(&mut conn)?, "riders again");
+    assert!(rt; adds_entries(&mut conn)?, "entries");
+    assert!(rt; adds_kept(&mut conn)?, "kept");
     Ok(())
 }
 
 #[test]
-fn refuses_names_that_are_taken_and_rows_out_of_bounds(rt: HostRuntime) -> Result<(), Fail> {
+fn refuses_taken_names_and_rows_out_of_bounds(rt: HostRuntime) -> Result<(), Fail> {
     for taken in [
         "CREATE TABLE Riders (r INTEGER) STRICT",
         "CREATE VIEW kept AS SELECT 1",
@@ -177,38 +199,15 @@ fn refuses_names_that_are_taken_and_rows_out_of_bounds(rt: HostRuntime) -> Resul
     ] {
         let mut conn = Connection::open_in_memory(rt.alloc())?;
         run(&mut conn, taken)?;
-        assert_eq!(rt;
-            make(&mut conn),
-            Err(StatementFault::StoreFailed),
-            "{taken}"
-        );
-        assert_eq!(rt;
-            meta(&mut conn),
-            Err(StatementFault::StoreFailed),
-            "{taken}"
-        );
+        assert!(rt; refuses(&mut conn), "{taken}");
     }
     let mut conn = Connection::open_in_memory(rt.alloc())?;
+    make(&mut conn)?;
+    assert!(rt; refuses_rows(&mut conn)?, "rows");
     run(
         &mut conn,
-        "CREATE TABLE pages (riders INTEGER REFERENCES riders (rider)) STRICT",
+        "DROP TABLE meta; DROP TABLE riders; DROP TABLE entries; DROP TABLE kept; CREATE TABLE pages (rider INTEGER REFERENCES riders (rider)) STRICT",
     )?;
     assert!(rt; !has_no_tables(&conn), "a foreign key");
-    let mut conn = Connection::open_in_memory(rt.alloc())?;
-    make(&mut conn)?;
-    run(
-        &mut conn,
-        "INSERT INTO riders VALUES (1, 2, 0); INSERT INTO kept VALUES ('office', 'a', '', 'no')",
-    )?;
-    assert_eq!(rt;
-        rider(&mut conn, number(1)?),
-        Err(StatementFault::StoreFailed)
-    );
-    assert_eq!(rt;
-        keeps(&mut conn, "office", "a", "", Reply::Done),
-        Err(StatementFault::StoreFailed)
-    );
-    run(&mut conn, "UPDATE meta SET app = 'other'")?;
-    assert_eq!(rt; meta(&mut conn), Err(StatementFault::StoreFailed));
     Ok(())
 }

@@ -43,8 +43,8 @@ pub fn put<S: Alter>(
     }
 }
 
-/// Makes the empty tables and the one row of `meta`. An error leaves the tables as before the call, or as
-/// before the transaction.
+/// Makes the empty tables and the one row of `meta`, in a database that has none of them (`has_none`). It fails
+/// where a view or an index has the name of one. After an error some may stand in the transaction: let it go.
 pub fn create_tables<S: Alter>(staged: &mut Staged<'_, S>) -> Result<(), StatementFault>
     ensures same_reference { staged.new.conn.ghost_name ≡ staged.old.conn.ghost_name }
     ensures creates { HasCleanDisk (state S.Store staged.new.conn.now) → IsTrue staged.old.conn.now.in_transaction → HasNone (state S.Store staged.old.conn.now).now.schema → OnOk result (Creates (state S.Store staged.old.conn.now) (state S.Store staged.new.conn.now)) }
