@@ -4,3 +4,6 @@
 mod lines;
 
 pub use lines::{LinesFault, run_lines};
+
+#[cfg(test)]
+mod tests;
