@@ -7,7 +7,7 @@ use Rattle.std.specs.Io.KnownBytes.{Appends, prepend_known}
 use Rattle.sqlite.specs.Store.{Ghosts}
 use Rattle.bike_core.specs.Operator.{Operator}
 use Rattle.bike_core.specs.Runs.{Call, step}
-use Rattle.bike_requests.specs.Requests.{IsLine, line_length}
+use Rattle.bike_commands.specs.Requests.{IsLine, line_length}
 use Rattle.bike_tables.specs.Stored.{AllLeft}
 use Rattle.bike_desk.specs.Desk.{DeskValue, shown, IsAt, TreesStandForEither}
 use Rattle.bike_stream.specs.Lines.{lines_of, first_line}

@@ -1,12 +1,12 @@
 -- What each line of an input asks for, and what it is answered.
 use Rattle.std.specs.Prelude.{◌≡◌, ℕ, ◌≤◌, List, [], ◌∷◌, ◌++◌, Option, Some, None}
 use Rattle.bike_fixed.specs.Whole.{last_moment}
-use Rattle.bike_requests.specs.declared.request.Request.{Request}
-use Rattle.bike_requests.specs.declared.reply.Reply.{Reply}
-use Rattle.bike_requests.specs.declared.reply.Reply.TheVariants.{Refused}
-use Rattle.bike_requests.specs.declared.refusal.Refusal.TheVariants.{BadField}
-use Rattle.bike_requests.specs.Replies.{reply_text}
-use Rattle.bike_requests.specs.Requests.{IsRequest, IsLine}
+use Rattle.bike_commands.specs.declared.request.Request.{Request}
+use Rattle.bike_commands.specs.declared.reply.Reply.{Reply}
+use Rattle.bike_commands.specs.declared.reply.Reply.TheVariants.{Refused}
+use Rattle.bike_commands.specs.declared.refusal.Refusal.TheVariants.{BadField}
+use Rattle.bike_commands.specs.Replies.{reply_text}
+use Rattle.bike_commands.specs.Requests.{IsRequest, IsLine}
 use Rattle.bike_core.specs.Operator.{Operator}
 use Rattle.bike_core.specs.Runs.{Call, step}
 

@@ -3,7 +3,7 @@
 ghost use Rattle.std.specs.Prelude.{◌≡◌, ◌≤◌, ◌++◌, ◌∷◌, [], IsTrue, IfOk, IfErr, IfSome, Option, Some, None, Err};
 ghost use Rattle.sqlite.specs.State.{HasCleanDisk};
 ghost use Rattle.sqlite_trees.specs.View.{doubt};
-ghost use Rattle.bike_requests.specs.Replies.{reply_text};
+ghost use Rattle.bike_commands.specs.Replies.{reply_text};
 ghost use Rattle.bike_core.specs.Operator.{Operator};
 ghost use Rattle.bike_core.specs.Runs.{Call, step};
 ghost use Rattle.bike_tables.specs.Stored.{AllLeft};
@@ -13,9 +13,10 @@ ghost use Rattle.bike_app.specs.Answers.{IsReadAs, after_line, answer};
 ghost use Rattle.bike_app.specs.Runs.{AnswersAll, EndsBy};
 
 use arrayvec::ArrayString;
-use bike_core::{LINE_LENGTH, Refusal, Reply, Request, read_line};
+use bike_commands::{Refusal, Reply, Request};
 use bike_desk::{Desk, DeskFault};
 use bike_fixed::Moment;
+use bike_requests::{LINE_LENGTH, read_line};
 use bike_stream::{Line, LineBuffer, write_whole};
 use sqlite::Alter;
 use std::alloc::Global;
@@ -71,6 +72,27 @@ fn serve_call<S: Alter>(
     }
 }
 
+/// The answer to a line that was read so.
+fn answer_read<S: Alter>(
+    alloc: Global,
+    desk: &mut Desk<S>,
+    read: &Option<(Moment, Request)>,
+) -> Result<ArrayString<ANSWER_LENGTH>, DeskFault>
+    ensures clean { doubt (shown S.Store desk.old).is_clean ≤ doubt (shown S.Store desk.new).is_clean }
+    ensures ok { HasCleanDisk (shown S.Store desk.new) → (s : Operator) → IsAt S.Store desk.old s → IfOk result (λ a. (a.bytes ≡ answer s read.now) × IsAt S.Store desk.new (after_line s read.now)) }
+    ensures no_memory { result ≡ Err DeskFault.NoMemory → desk.new ≡ desk.old }
+    ensures store_failed { HasCleanDisk (shown S.Store desk.new) → (s : Operator) → IsAt S.Store desk.old s → result ≡ Err DeskFault.StoreFailed → (c : Call) × (read.now ≡ Some c) × IsTrue desk.new.is_stopped × AllLeft (shown S.Store desk.new) (TreesStandForEither s (step s c.0 c.1).1) }
+    ensures stopped { result ≡ Err DeskFault.Stopped → IsTrue desk.old.is_stopped }
+{
+    match read {
+        None => Ok(answer_text(&Reply::Refused(Refusal::BadField))),
+        Some(call) => match serve_call(alloc, desk, call) {
+            Ok(answer) => Ok(answer),
+            Err(fault) => Err(fault),
+        },
+    }
+}
+
 /// Serves one line, and gives its answer.
 fn answer_line<S: Alter>(
     alloc: Global,
@@ -87,12 +109,9 @@ fn answer_line<S: Alter>(
         Ok(read) => read,
         Err(_) => return Err(DeskFault::NoMemory),
     };
-    match &read {
-        None => Ok(answer_text(&Reply::Refused(Refusal::BadField))),
-        Some(call) => match serve_call(alloc, desk, call) {
-            Ok(answer) => Ok(answer),
-            Err(fault) => Err(fault),
-        },
+    match answer_read(alloc, desk, &read) {
+        Ok(answer) => Ok(answer),
+        Err(fault) => Err(fault),
     }
 }
 

@@ -1,11 +1,11 @@
 -- What passed and failed checks say of a record.
 use Rattle.std.proofs.Common.{◌≡◌, ℕ, ℤ, List, Option, Some, None, Result, Ok, Err, IsErr, refl, sym, ◌∙◌, subst}
 use Rattle.std.specs.Result.{IsErrAnd}
-use Rattle.bike_catalogue.specs.declared.fault.Bound.{Bound}
-use Rattle.bike_catalogue.specs.declared.fault.Field.{Field}
-use Rattle.bike_catalogue.specs.declared.fault.FieldFault.{FieldFault}
-use Rattle.bike_catalogue.specs.declared.fault.FieldFault.TheVariants.{Broken}
-use Rattle.bike_catalogue.specs.Fault.{Makes}
+use Rattle.bike_fields.specs.declared.fault.Bound.{Bound}
+use Rattle.bike_fields.specs.declared.fault.Field.{Field}
+use Rattle.bike_fields.specs.declared.fault.FieldFault.{FieldFault}
+use Rattle.bike_fields.specs.declared.fault.FieldFault.TheVariants.{Broken}
+use Rattle.bike_fields.specs.Fault.{Makes}
 use Rattle.bike_catalogue.specs.Rows.{StationRow, SystemRow}
 use Rattle.bike_catalogue.specs.RowFaults.{checked, or_else}
 

@@ -1,5 +1,2 @@
-pub mod Lengths
-pub mod Callers
-pub mod Names
 pub mod Checks
 pub mod Vehicles

@@ -1,5 +1,5 @@
 -- A form or a propulsion is read exactly from its name.
-use Rattle.std.proofs.Common.{◌≡◌, ℕ, List, Bool, Option, Some, None, refl, ap, ◌∙◌}
+use Rattle.std.proofs.Common.{◌≡◌, ℕ, List, Some, refl, ap, ◌∙◌}
 use Rattle.std.specs.Prelude.{codes}
 use Rattle.std.specs.Str.{bytes_eq}
 use Rattle.std.proofs.lemmas.Option.{same_Some}
@@ -9,7 +9,7 @@ use Rattle.bike_catalogue.specs.declared.vehicle.Form.{Form}
 use Rattle.bike_catalogue.specs.declared.vehicle.Form.TheVariants.{Bicycle, CargoBicycle}
 use Rattle.bike_catalogue.specs.declared.vehicle.Propulsion.{Propulsion}
 use Rattle.bike_catalogue.specs.declared.vehicle.Propulsion.TheVariants.{Human, ElectricAssist}
-use Rattle.bike_catalogue.proofs.Callers.{pick}
+use Rattle.bike_fields.proofs.Callers.{pick}
 
 pub form_sound : (text : List ℕ) (form : Form) → form_of text ≡ Some form → text ≡ form_text form
 unfolding form_of

@@ -1,14 +1,14 @@
 -- The first bad field of a record, in the order of the commands' fields, and the first bound that it breaks.
 use Rattle.std.specs.Prelude.{ℕ, ℤ, pos, neg_ℤ, List, [], ◌∷◌, length, nat_le, nat_lt, int_le, ◌&&◌, if◌then◌else◌, Option, Some, None, Result, Ok, Err}
-use Rattle.bike_catalogue.specs.declared.fault.Bound.{Bound}
-use Rattle.bike_catalogue.specs.declared.fault.Bound.TheVariants.{Length, Range, Order}
-use Rattle.bike_catalogue.specs.declared.fault.Field.{Field}
-use Rattle.bike_catalogue.specs.declared.fault.Field.TheVariants.{SystemId, Language, Name, OpeningHours, FeedContactEmail, Timezone, Currency, BaseUrl, Ttl, Plan, Price, Description, Segments, Start, Rate, Interval, End, TypeId, MaxRange, Station, Lat, Lon, Docks}
-use Rattle.bike_catalogue.specs.declared.fault.FieldFault.{FieldFault}
-use Rattle.bike_catalogue.specs.declared.fault.FieldFault.TheVariants.{Broken}
+use Rattle.bike_fields.specs.declared.fault.Bound.{Bound}
+use Rattle.bike_fields.specs.declared.fault.Bound.TheVariants.{Length, Range, Order}
+use Rattle.bike_fields.specs.declared.fault.Field.{Field}
+use Rattle.bike_fields.specs.declared.fault.Field.TheVariants.{SystemId, Language, Name, OpeningHours, FeedContactEmail, Timezone, Currency, BaseUrl, Ttl, Plan, Price, Description, Segments, Start, Rate, Interval, End, TypeId, MaxRange, Station, Lat, Lon, Docks}
+use Rattle.bike_fields.specs.declared.fault.FieldFault.{FieldFault}
+use Rattle.bike_fields.specs.declared.fault.FieldFault.TheVariants.{Broken}
 use Rattle.bike_catalogue.specs.declared.vehicle.Propulsion.{Propulsion}
 use Rattle.bike_catalogue.specs.declared.vehicle.Propulsion.TheVariants.{Human, ElectricAssist}
-use Rattle.bike_catalogue.specs.Fault.{at_field, ident_fault, name_fault, ascii_fault, language_fault, currency_fault}
+use Rattle.bike_fields.specs.Fault.{at_field, ident_fault, name_fault, ascii_fault, language_fault, currency_fault}
 use Rattle.bike_catalogue.specs.Rows.{SegmentRow, PlanRow, TypeRow, StationRow, SystemRow}
 
 -- the first of the fields' faults

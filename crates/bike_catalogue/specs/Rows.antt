@@ -4,7 +4,7 @@ use Rattle.bike_fixed.specs.Coordinate.{IsMicro}
 use Rattle.bike_catalogue.specs.declared.vehicle.Form.{Form}
 use Rattle.bike_catalogue.specs.declared.vehicle.Propulsion.{Propulsion}
 use Rattle.bike_catalogue.specs.declared.vehicle.Propulsion.TheVariants.{Human, ElectricAssist}
-use Rattle.bike_catalogue.specs.Bytes.{is_ident, is_name, is_ascii_field, is_language, is_currency}
+use Rattle.bike_fields.specs.Bytes.{is_ident, is_name, is_ascii_field, is_language, is_currency}
 
 -- minutes from the start of a rental; the rate in hundredths; no end means that the segment goes on
 pub record SegmentRow : Type 0 where

@@ -1,19 +1,9 @@
-//! The typed records of the catalogue, and the small texts and numbers that name things.
+//! The typed records of the catalogue.
 //!
 //! A value of a type here keeps the type's bounds, and a method tells them to a proof. A constructor
 //! answers the value of the fields given, or names the first bad field and the first bound that it breaks.
 #![tactic(auto)]
 
-mod ascii;
-mod bytes;
-mod caller;
-mod currency;
-mod fault;
-mod ident;
-mod key;
-mod language;
-mod name;
-mod numbers;
 mod plan;
 mod range;
 mod rate;
@@ -23,18 +13,6 @@ mod system;
 mod vehicle;
 mod vehicle_type;
 
-pub use ascii::Ascii;
-pub use caller::{Caller, caller_laws};
-pub use currency::Currency;
-pub use fault::{Bound, Field, FieldFault};
-pub use ident::Ident;
-pub use key::RequestKey;
-pub use language::Language;
-pub use name::Name;
-pub use numbers::{
-    BicycleNumber, DockCount, DockNumber, MaxRange, OrderNumber, OrderQuantity, Payment, Price,
-    RentalNumber, RiderNumber, SegmentMinute, TimeToLive, TruckCapacity, TruckNumber,
-};
 pub use plan::Plan;
 pub use rate::Rate;
 pub use segment::Segment;

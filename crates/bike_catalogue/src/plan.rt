@@ -1,16 +1,13 @@
 //! Pricing plans.
 
 ghost use Rattle.std.specs.Prelude.{◌≡◌, nat_le, length, Some, None, if◌then◌else◌};
-ghost use Rattle.bike_catalogue.specs.Fault.{Makes};
+ghost use Rattle.bike_fields.specs.Fault.{Makes};
 ghost use Rattle.bike_catalogue.specs.RowFaults.{plan_fault};
 ghost use Rattle.bike_catalogue.specs.Rows.{PlanRow, IsPlan};
 
-use crate::fault::{Bound, Field, FieldFault};
-use crate::ident::Ident;
-use crate::name::Name;
-use crate::numbers::Price;
 use crate::range::in_range;
 use crate::segment::Segment;
+use bike_fields::{Bound, Field, FieldFault, Ident, Name, Price};
 use std::alloc::Global;
 use std::marker::Model;
 

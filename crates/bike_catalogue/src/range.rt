@@ -1,11 +1,11 @@
 //! Numbers of a record's fields, tested against their ranges.
 
 ghost use Rattle.std.specs.Prelude.{◌≡◌, ◌≤◌, ◌≤ℤ◌, pos, neg_ℤ, IfOk};
-ghost use Rattle.bike_catalogue.specs.Fault.{at_field};
+ghost use Rattle.bike_fields.specs.Fault.{at_field};
 ghost use Rattle.bike_catalogue.specs.RowFaults.{checked, range_fault, signed_fault};
 
-use crate::fault::{Bound, Field, FieldFault};
 use crate::rate::Rate;
+use bike_fields::{Bound, Field, FieldFault};
 use bike_fixed::{Micro, Within};
 
 /// The number as that field.

@@ -2,13 +2,12 @@
 
 ghost use Rattle.std.specs.Prelude.{◌≡◌, Some, None, if◌then◌else◌};
 ghost use Rattle.bike_catalogue.specs.Rows.{SegmentRow, IsSegment, is_after};
-ghost use Rattle.bike_catalogue.specs.Fault.{at_field};
+ghost use Rattle.bike_fields.specs.Fault.{at_field};
 ghost use Rattle.bike_catalogue.specs.RowFaults.{checked, segment_fault, end_fault};
 
-use crate::fault::{Bound, Field, FieldFault};
-use crate::numbers::SegmentMinute;
 use crate::range::{in_range, rate_of};
 use crate::rate::Rate;
+use bike_fields::{Bound, Field, FieldFault, SegmentMinute};
 use std::marker::Model;
 
 /// One segment of a plan's per-minute pricing: from the minute `start` on, before the minute `end` where there is

@@ -1,15 +1,12 @@
 //! Stations.
 
 ghost use Rattle.std.specs.Prelude.{◌≡◌, Some, None, pos, neg_ℤ, int_le, ◌&&◌, if◌then◌else◌};
-ghost use Rattle.bike_catalogue.specs.Fault.{Makes};
+ghost use Rattle.bike_fields.specs.Fault.{Makes};
 ghost use Rattle.bike_catalogue.specs.RowFaults.{station_fault};
 ghost use Rattle.bike_catalogue.specs.Rows.{StationRow, IsStation, is_latitude};
 
-use crate::fault::{Field, FieldFault};
-use crate::ident::Ident;
-use crate::name::Name;
-use crate::numbers::DockCount;
 use crate::range::{coordinate, in_range};
+use bike_fields::{DockCount, Field, FieldFault, Ident, Name};
 use bike_fixed::Micro;
 use std::alloc::Global;
 use std::marker::Model;

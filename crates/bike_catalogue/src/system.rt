@@ -1,18 +1,12 @@
 //! The system.
 
 ghost use Rattle.std.specs.Prelude.{◌≡◌};
-ghost use Rattle.bike_catalogue.specs.Fault.{Makes};
+ghost use Rattle.bike_fields.specs.Fault.{Makes};
 ghost use Rattle.bike_catalogue.specs.RowFaults.{system_fault};
 ghost use Rattle.bike_catalogue.specs.Rows.{SystemRow, IsSystem};
 
-use crate::ascii::Ascii;
-use crate::currency::Currency;
-use crate::fault::{Field, FieldFault};
-use crate::ident::Ident;
-use crate::language::Language;
-use crate::name::Name;
-use crate::numbers::TimeToLive;
 use crate::range::in_range;
+use bike_fields::{Ascii, Currency, Field, FieldFault, Ident, Language, Name, TimeToLive};
 use std::alloc::Global;
 use std::marker::Model;
 

@@ -1,337 +1,276 @@
-//! Each constructor at its bounds and past them, each text read back, and the first of two faults.
+//! Each constructor at its bounds and past them, the first of two faults, and a refused request for memory.
 
-use crate::{
-    Ascii, Bound, Caller, Currency, Field, FieldFault, Form, Ident, Language, Name, Plan,
-    Propulsion, Rate, RequestKey, Segment, Station, System, VehicleType,
-};
-use std::alloc::{AllocError, Global};
+use crate::{Form, Plan, Propulsion, Rate, Segment, Station, System, VehicleType};
+use bike_fields::{Bound, Field, FieldFault, SegmentMinute};
+use std::alloc::Global;
 
-/// The text of so many times `a`.
-fn repeated(alloc: Global, count: usize) -> Result<String, AllocError> {
-    let mut text = String::new(alloc);
-    for _ in 0..count {
-        text.push('a')?;
-    }
-    Ok(text)
+fn is_broken<T: Drop>(made: Result<T, FieldFault>, field: Field, bound: Bound) -> bool {
+    made.err() == Some(FieldFault::Broken { field, bound })
 }
 
-fn fault<T: Drop>(made: Result<T, FieldFault>) -> Option<FieldFault> {
-    made.err()
-}
-
-fn broken(field: Field, bound: Bound) -> Option<FieldFault> {
-    Some(FieldFault::Broken { field, bound })
+fn keeps_segment(start: u32, rate: i32, interval: u32, end: Option<u32>) -> bool {
+    let Ok(it) = Segment::new(start, rate, interval, end) else {
+        return false;
+    };
+    it.start() == start && it.rate() == rate && it.interval() == interval && it.end() == end
 }
 
 #[test]
-fn bounds_texts(rt: HostRuntime) -> Result<(), AllocError> {
-    let alloc = rt.alloc();
-    for (most, field) in [
-        (36, Field::Station),
-        (64, Field::Key),
-        (35, Field::Language),
-        (120, Field::Name),
-        (200, Field::BaseUrl),
+fn bounds_segments(rt: HostRuntime) {
+    for (start, rate, interval, end) in [
+        (0, 0, 0, None),
+        (100_000, 100_000, 100_000, None),
+        (99_999, -100_000, 1, Some(100_000)),
+        (0, 0, 0, Some(1)),
     ] {
-        let kept = repeated(alloc, most)?;
-        let long = repeated(alloc, most + 1)?;
-        for (text, want) in [
-            (kept.as_str(), None),
-            (long.as_str(), broken(field, Bound::Length)),
-            ("", broken(field, Bound::Length)),
-            ("aa\0", broken(field, Bound::Charset)),
-        ] {
-            let got = match field {
-                Field::Station => fault(Ident::new(alloc, field, text)),
-                Field::Key => fault(RequestKey::new(alloc, field, text)),
-                Field::Language => fault(Language::new(alloc, field, text)),
-                Field::Name => fault(Name::new(alloc, field, text)),
-                _ => fault(Ascii::new(alloc, field, text)),
-            };
-            assert!(rt; got == want, "{most} {text}");
-        }
+        assert!(rt; keeps_segment(start, rate, interval, end), "{start}");
     }
-    for (text, is_ident, is_key, is_language, is_currency, is_ascii, is_name) in [
-        ("az_09-", true, true, false, false, true, true),
-        ("AZ", false, true, true, false, true, true),
-        ("EUR", false, true, true, true, true, true),
-        ("eur", true, true, true, false, true, true),
-        ("EURO", false, true, true, false, true, true),
-        ("a", true, true, false, false, true, true),
-        (" ~", false, false, false, false, true, true),
-        ("\u{7f}", false, false, false, false, false, true),
-        ("\u{1f}", false, false, false, false, false, true),
-        ("\u{e9}t\u{e9}", false, false, false, false, false, true),
-    ] {
-        assert!(rt; Ident::read(alloc, text)?.is_some() == is_ident, "{text}");
-        assert!(rt;
-            RequestKey::read(alloc, text)?.is_some() == is_key,
-            "{text}"
-        );
-        assert!(rt;
-            Language::read(alloc, text)?.is_some() == is_language,
-            "{text}"
-        );
-        assert!(rt;
-            Currency::read(alloc, text)?.is_some() == is_currency,
-            "{text}"
-        );
-        assert!(rt; Ascii::read(alloc, text)?.is_some() == is_ascii, "{text}");
-        assert!(rt; Name::read(alloc, text)?.is_some() == is_name, "{text}");
-    }
-    Ok(())
-}
-
-#[test]
-fn reads_callers(rt: HostRuntime) -> Result<(), AllocError> {
-    let alloc = rt.alloc();
-    for text in [
-        "office",
-        "rider:1",
-        "rider:999999",
-        "dock:a1",
-        "crew:7",
-        "import:csv-2024",
-        "import:aaaaaaaaaaaaaaaaaaaaaaaaaaaaaaaaaaaa",
-    ] {
-        let caller = Caller::read(alloc, text)?;
-        assert!(rt; caller.is_some(), "{text}");
-        if let Some(caller) = caller {
-            assert!(rt; caller.text().as_str() == text, "{text}");
-        }
-    }
-    for text in [
-        "",
-        "Office",
-        "office:",
-        "rider",
-        "rider:",
-        "rider:0",
-        "rider:01",
-        "rider:1000000",
-        "dock:",
-        "dock:A",
-        "crew:x",
-        "bank:1",
-        "import:a:b",
-    ] {
-        assert!(rt; Caller::read(alloc, text)?.is_none(), "{text}");
-    }
-    Ok(())
-}
-
-#[test]
-fn bounds_segments_and_plans(rt: HostRuntime) -> Result<(), AllocError> {
-    let alloc = rt.alloc();
-    for (start, rate, interval, end, want) in [
-        (0, 0, 0, None, None),
-        (100_000, 100_000, 100_000, None, None),
-        (99_999, -100_000, 1, Some(100_000), None),
-        (
-            100_001,
-            100_001,
-            0,
-            None,
-            broken(Field::Start, Bound::Range),
-        ),
-        (0, 100_001, 100_001, None, broken(Field::Rate, Bound::Range)),
-        (0, -100_001, 0, None, broken(Field::Rate, Bound::Range)),
-        (
-            0,
-            0,
-            100_001,
-            Some(0),
-            broken(Field::Interval, Bound::Range),
-        ),
-        (0, 0, 0, Some(100_001), broken(Field::End, Bound::Range)),
-        (5, 0, 0, Some(5), broken(Field::End, Bound::Order)),
-        (0, 0, 0, Some(0), broken(Field::End, Bound::Order)),
+    for (start, rate, interval, end, field, bound) in [
+        (100_001, 100_001, 0, None, Field::Start, Bound::Range),
+        (0, 100_001, 100_001, None, Field::Rate, Bound::Range),
+        (0, -100_001, 0, None, Field::Rate, Bound::Range),
+        (0, 0, 100_001, Some(0), Field::Interval, Bound::Range),
+        (0, 0, 0, Some(100_001), Field::End, Bound::Range),
+        (5, 0, 0, Some(5), Field::End, Bound::Order),
+        (0, 0, 0, Some(0), Field::End, Bound::Order),
     ] {
         let segment = Segment::new(start, rate, interval, end);
-        if let Ok(segment) = segment {
-            assert!(rt;
-                segment.start() == start && segment.interval() == interval && segment.end() == end
-            );
-            assert!(rt; segment.rate() == rate);
-        }
-        assert!(rt; fault(segment) == want, "{start} {rate} {interval}");
+        assert!(rt;
+            is_broken(segment, field, bound),
+            "{start} {rate} {interval}"
+        );
     }
-    let Ok(segment) = Segment::new(0, 25, 10, None) else {
-        return Err(AllocError);
-    };
-    let nine = [segment; 9];
-    let (none, eight) = (&nine[..0], &nine[..8]);
-    for (plan_id, price, description, segments, want) in [
-        ("day", 0, "d", none, None),
-        ("day", 1_000_000, "d", eight, None),
-        (
-            "Day",
-            1_000_001,
-            "d",
-            &nine,
-            broken(Field::Plan, Bound::Charset),
-        ),
-        (
-            "day",
-            1_000_001,
-            "",
-            &nine,
-            broken(Field::Price, Bound::Range),
-        ),
-        (
-            "day",
-            0,
-            "",
-            &nine,
-            broken(Field::Description, Bound::Length),
-        ),
-        ("day", 0, "d", &nine, broken(Field::Segments, Bound::Length)),
-    ] {
-        let count = segments.len();
-        let plan = Plan::new(alloc, plan_id, "Day", price, true, description, segments);
-        if let Ok(plan) = &plan {
-            assert!(rt;
-                plan.plan_id().as_str() == plan_id && plan.price().get() == price && plan.taxable()
-            );
-            assert!(rt;
-                plan.description().as_str() == description && plan.segments().len() == count
-            );
-        }
-        assert!(rt; fault(plan) == want, "{price} {count}");
-    }
-    Ok(())
+}
+
+/// The segment with its minutes read from texts.
+fn read_segment(start: &str, end: &str) -> Option<Segment> {
+    let start = SegmentMinute::read(start)?;
+    let rate = Rate::read("-25")?;
+    Segment::from_fields(start, rate, start, Some(SegmentMinute::read(end)?))
+}
+
+fn is_rate(text: &str, hundredths: i32) -> bool {
+    Rate::read(text) == Rate::new(hundredths)
+        && Rate::new(hundredths).is_some_and(|rate| rate.hundredths() == hundredths)
 }
 
 #[test]
-fn bounds_types_and_stations(rt: HostRuntime) {
+fn reads_segments(rt: HostRuntime) {
+    for (start, end, is_kept) in [
+        ("9", "10", true),
+        ("9", "9", false),
+        ("10", "9", false),
+        ("99999", "100001", false),
+    ] {
+        assert!(rt; read_segment(start, end).is_some() == is_kept, "{start}");
+    }
+}
+
+#[test]
+fn bounds_rates(rt: HostRuntime) {
+    for (text, hundredths) in [("-100000", -100_000), ("100000", 100_000)] {
+        assert!(rt; is_rate(text, hundredths), "{text}");
+    }
+    for (text, hundredths) in [("-100001", -100_001), ("100001", 100_001), ("-0", i32::MIN)] {
+        assert!(rt; Rate::read(text).is_none(), "{text}");
+        assert!(rt; Rate::new(hundredths).is_none(), "{text}");
+    }
+}
+
+fn plan_of(
+    alloc: Global,
+    plan_id: &str,
+    price: u32,
+    description: &str,
+    count: usize,
+) -> Result<Plan, FieldFault> {
+    let segment = Segment::new(0, 25, 10, None)?;
+    let segments = [segment; 9];
+    let some = segments.get(..count).unwrap_or(&segments);
+    Plan::new(alloc, plan_id, "Day", price, true, description, some)
+}
+
+fn keeps_plan(alloc: Global, price: u32, count: usize) -> bool {
+    let Ok(plan) = plan_of(alloc, "day", price, "d", count) else {
+        return false;
+    };
+    plan.price().get() == price && plan.segments().len() == count
+}
+
+#[test]
+fn bounds_plans(rt: HostRuntime) {
     let alloc = rt.alloc();
-    for (propulsion, max_range, plan_id, want) in [
-        (Propulsion::Human, 0, "day", None),
-        (Propulsion::ElectricAssist, 1, "day", None),
-        (Propulsion::ElectricAssist, 1_000_000, "day", None),
-        (
-            Propulsion::Human,
-            1,
-            "",
-            broken(Field::MaxRange, Bound::Range),
-        ),
-        (
-            Propulsion::ElectricAssist,
-            0,
-            "",
-            broken(Field::MaxRange, Bound::Range),
-        ),
+    for (price, count) in [(0, 0), (1_000_000, 8)] {
+        assert!(rt; keeps_plan(alloc, price, count), "{price}");
+    }
+    for (plan_id, price, description, field, bound) in [
+        ("Day", 1_000_001, "", Field::Plan, Bound::Charset),
+        ("day", 1_000_001, "", Field::Price, Bound::Range),
+        ("day", 0, "", Field::Description, Bound::Length),
+        ("day", 0, "d", Field::Segments, Bound::Length),
+    ] {
+        let plan = plan_of(alloc, plan_id, price, description, 9);
+        assert!(rt; is_broken(plan, field, bound), "{plan_id} {price}");
+    }
+}
+
+fn type_of(
+    alloc: Global,
+    propulsion: Propulsion,
+    max_range: u32,
+    plan_id: &str,
+) -> Result<VehicleType, FieldFault> {
+    let form = Form::CargoBicycle;
+    VehicleType::new(alloc, "city", "City", form, propulsion, max_range, plan_id)
+}
+
+fn keeps_type(alloc: Global, propulsion: Propulsion, max_range: u32) -> bool {
+    let Ok(it) = type_of(alloc, propulsion, max_range, "day") else {
+        return false;
+    };
+    it.propulsion() == propulsion && it.max_range().get() == max_range
+}
+
+#[test]
+fn bounds_types(rt: HostRuntime) {
+    let alloc = rt.alloc();
+    for (propulsion, max_range) in [
+        (Propulsion::Human, 0),
+        (Propulsion::ElectricAssist, 1),
+        (Propulsion::ElectricAssist, 1_000_000),
+    ] {
+        assert!(rt; keeps_type(alloc, propulsion, max_range), "{max_range}");
+    }
+    for (propulsion, max_range, field, bound) in [
+        (Propulsion::Human, 1, Field::MaxRange, Bound::Range),
+        (Propulsion::ElectricAssist, 0, Field::MaxRange, Bound::Range),
         (
             Propulsion::ElectricAssist,
             1_000_001,
-            "",
-            broken(Field::MaxRange, Bound::Range),
+            Field::MaxRange,
+            Bound::Range,
         ),
-        (Propulsion::Human, 0, "", broken(Field::Plan, Bound::Length)),
+        (Propulsion::Human, 0, Field::Plan, Bound::Length),
     ] {
-        let vehicle_type = VehicleType::new(
-            alloc,
-            "city",
-            "City",
-            Form::Bicycle,
-            propulsion,
-            max_range,
-            plan_id,
-        );
-        if let Ok(vehicle_type) = &vehicle_type {
-            assert!(rt;
-                vehicle_type.max_range().get() == max_range
-                    && vehicle_type.propulsion() == propulsion
-            );
-        }
-        assert!(rt; fault(vehicle_type) == want, "{max_range} {plan_id}");
+        let vehicle_type = type_of(alloc, propulsion, max_range, "");
+        assert!(rt; is_broken(vehicle_type, field, bound), "{max_range}");
     }
-    for (lat, lon, docks, want) in [
-        (90_000_000, 180_000_000, 1, None),
-        (-90_000_000, -180_000_000, 200, None),
-        (90_000_001, 180_000_001, 0, broken(Field::Lat, Bound::Range)),
-        (-90_000_001, 0, 1, broken(Field::Lat, Bound::Range)),
-        (0, 180_000_001, 0, broken(Field::Lon, Bound::Range)),
-        (0, -180_000_001, 1, broken(Field::Lon, Bound::Range)),
-        (0, 0, 0, broken(Field::Docks, Bound::Range)),
-        (0, 0, 201, broken(Field::Docks, Bound::Range)),
+}
+
+fn keeps_station(alloc: Global, lat: i32, lon: i32, docks: u32) -> bool {
+    let Ok(it) = Station::new(alloc, "a1", "Main St", lat, lon, docks) else {
+        return false;
+    };
+    it.lat().microdegrees() == lat && it.lon().microdegrees() == lon && it.docks().get() == docks
+}
+
+#[test]
+fn bounds_stations(rt: HostRuntime) {
+    let alloc = rt.alloc();
+    for (lat, lon, docks) in [
+        (90_000_000, 180_000_000, 1),
+        (-90_000_000, -180_000_000, 200),
+    ] {
+        assert!(rt; keeps_station(alloc, lat, lon, docks), "{lat}");
+    }
+    for (lat, lon, docks, field) in [
+        (90_000_001, 180_000_001, 0, Field::Lat),
+        (-90_000_001, 0, 1, Field::Lat),
+        (0, 180_000_001, 0, Field::Lon),
+        (0, -180_000_001, 1, Field::Lon),
+        (0, 0, 0, Field::Docks),
+        (0, 0, 201, Field::Docks),
     ] {
         let station = Station::new(alloc, "a1", "Main St", lat, lon, docks);
-        if let Ok(station) = &station {
-            assert!(rt; station.lat().microdegrees() == lat && station.lon().microdegrees() == lon);
-            assert!(rt; station.docks().get() == docks && station.name().as_str() == "Main St");
-        }
-        assert!(rt; fault(station) == want, "{lat} {lon} {docks}");
+        assert!(rt; is_broken(station, field, Bound::Range), "{lat} {lon}");
     }
-    assert!(rt;
-        Form::read("cargo_bicycle") == Some(Form::CargoBicycle)
-            && Form::Bicycle.as_str() == "bicycle"
-    );
-    assert!(rt; Propulsion::read("human") == Some(Propulsion::Human));
-    assert!(rt;
-        Propulsion::ElectricAssist.as_str() == "electric_assist" && Form::read("tricycle").is_none()
-    );
-    assert!(rt; Rate::read("-100000").is_some_and(|rate| rate.hundredths() == -100_000));
-    assert!(rt;
-        Rate::read("100001").is_none() && Rate::new(100_001).is_none() && Rate::read("-0").is_none()
-    );
+}
+
+fn system_of(
+    alloc: Global,
+    language: &str,
+    hours: &str,
+    currency: &str,
+    ttl: u32,
+) -> Result<System, FieldFault> {
+    System::new(
+        alloc,
+        "city",
+        language,
+        "City",
+        hours,
+        "a@example.org",
+        "Europe/Rome",
+        currency,
+        "https://example.org",
+        ttl,
+    )
+}
+
+fn keeps_system(alloc: Global, language: &str, ttl: u32) -> bool {
+    let Ok(it) = system_of(alloc, language, "24/7", "EUR", ttl) else {
+        return false;
+    };
+    it.ttl().get() == ttl
 }
 
 #[test]
 fn bounds_systems(rt: HostRuntime) {
     let alloc = rt.alloc();
-    for (language, hours, currency, ttl, want) in [
-        ("en", "24/7", "EUR", 0, None),
-        ("pt-BR", "Mo-Fr 08:00-18:00", "EUR", 86_400, None),
-        (
-            "e",
-            "",
-            "eur",
-            86_401,
-            broken(Field::Language, Bound::Length),
-        ),
-        (
-            "en",
-            "",
-            "eur",
-            86_401,
-            broken(Field::OpeningHours, Bound::Length),
-        ),
-        (
-            "en",
-            "x",
-            "EU",
-            86_401,
-            broken(Field::Currency, Bound::Length),
-        ),
-        (
-            "en",
-            "x",
-            "eur",
-            86_401,
-            broken(Field::Currency, Bound::Charset),
-        ),
-        ("en", "x", "EUR", 86_401, broken(Field::Ttl, Bound::Range)),
+    for (language, ttl) in [("en", 0), ("pt-BR", 86_400)] {
+        assert!(rt; keeps_system(alloc, language, ttl), "{language}");
+    }
+    for (language, hours, currency, field, bound) in [
+        ("e", "", "eur", Field::Language, Bound::Length),
+        ("en", "", "eur", Field::OpeningHours, Bound::Length),
+        ("en", "x", "EU", Field::Currency, Bound::Length),
+        ("en", "x", "eur", Field::Currency, Bound::Charset),
+        ("en", "x", "EUR", Field::Ttl, Bound::Range),
     ] {
-        let url = "https://example.org";
-        let system = System::new(
-            alloc,
-            "city",
-            language,
-            "City",
-            hours,
-            "a@example.org",
-            "Europe/Rome",
-            currency,
-            url,
-            ttl,
-        );
-        if let Ok(system) = &system {
-            assert!(rt; system.language().as_str() == language && system.ttl().get() == ttl);
-            assert!(rt;
-                system.opening_hours().as_str() == hours && system.base_url().as_str() == url
-            );
-        }
-        assert!(rt; fault(system) == want, "{ttl}");
+        let system = system_of(alloc, language, hours, currency, 86_401);
+        assert!(rt; is_broken(system, field, bound), "{hours} {currency}");
+    }
+}
+
+fn is_form(form: Form, text: &str) -> bool {
+    Form::read(text) == Some(form) && form.as_str() == text
+}
+
+fn is_propulsion(propulsion: Propulsion, text: &str) -> bool {
+    Propulsion::read(text) == Some(propulsion) && propulsion.as_str() == text
+}
+
+#[test]
+fn reads_words(rt: HostRuntime) {
+    assert!(rt; is_form(Form::Bicycle, "bicycle"));
+    assert!(rt; is_form(Form::CargoBicycle, "cargo_bicycle"));
+    assert!(rt; Form::read("tricycle").is_none());
+    assert!(rt; is_propulsion(Propulsion::Human, "human"));
+    assert!(rt; is_propulsion(Propulsion::ElectricAssist, "electric_assist"));
+}
+
+/// The fault of a good record, by the field that names it.
+fn fault_of(alloc: Global, key: Field) -> Option<FieldFault> {
+    match key {
+        Field::Plan => plan_of(alloc, "day", 0, "d", 8).err(),
+        Field::TypeId => type_of(alloc, Propulsion::Human, 0, "day").err(),
+        Field::Station => Station::new(alloc, "a1", "Main St", 0, 0, 1).err(),
+        _ => system_of(alloc, "en", "24/7", "EUR", 60).err(),
+    }
+}
+
+/// Under `rt try --test --fail-alloc N` the Nth request for memory is refused, for N from 1 to 17: its call alone says
+/// so, and is answered when it is made again.
+#[test]
+fn asks_again_for_memory(rt: HostRuntime) {
+    let alloc = rt.alloc();
+    for key in [Field::Plan, Field::TypeId, Field::Station, Field::SystemId] {
+        let first = fault_of(alloc, key);
+        let fault = if first == Some(FieldFault::NoMemory) {
+            fault_of(alloc, key)
+        } else {
+            first
+        };
+        assert!(rt; fault.is_none(), "{key:?}");
     }
 }

@@ -1,16 +1,13 @@
 //! Vehicle types.
 
 ghost use Rattle.std.specs.Prelude.{◌≡◌, Some, None, if◌then◌else◌};
-ghost use Rattle.bike_catalogue.specs.Fault.{Makes, at_field};
+ghost use Rattle.bike_fields.specs.Fault.{Makes, at_field};
 ghost use Rattle.bike_catalogue.specs.RowFaults.{type_fault, checked, max_range_fault};
 ghost use Rattle.bike_catalogue.specs.Rows.{TypeRow, IsType, is_range};
 
-use crate::fault::{Bound, Field, FieldFault};
-use crate::ident::Ident;
-use crate::name::Name;
-use crate::numbers::MaxRange;
 use crate::range::in_range;
 use crate::vehicle::{Form, Propulsion};
+use bike_fields::{Bound, Field, FieldFault, Ident, MaxRange, Name};
 use std::alloc::Global;
 use std::marker::Model;
 

@@ -7,11 +7,11 @@ use Rattle.std.specs.FinMap as map
 use Rattle.std.proofs.lemmas.Option.{same_Some, cond_some}
 use Rattle.std.proofs.lemmas.Bool.Decides.{nat_tests, eqb_tells}
 use Rattle.std.proofs.lemmas.Int.{ints}
-use Rattle.bike_ledger.specs.declared.entry.Entry.{Entry}
+use Rattle.bike_ledger.specs.Entries.{Entry}
 use Rattle.bike_ledger.specs.Ledger.{balance_of, credit, share}
 use Rattle.bike_ledger.proofs.SumLemmas.{total-append}
-use Rattle.bike_requests.specs.declared.command.Command.TheVariants.{AddRider, TopUp}
-use Rattle.bike_requests.specs.declared.reply.Reply.TheVariants.{Balance}
+use Rattle.bike_commands.specs.declared.command.Command.TheVariants.{AddRider, TopUp}
+use Rattle.bike_commands.specs.declared.reply.Reply.TheVariants.{Balance}
 use Rattle.bike_core.specs.declared.view.RiderView.{RiderView}
 use Rattle.bike_core.specs.declared.view.View.{View}
 use Rattle.bike_core.specs.Operator.{Operator, Rider}

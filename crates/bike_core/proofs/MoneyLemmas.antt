@@ -11,7 +11,7 @@ use Rattle.std.specs.FinMap as map
 use Rattle.std.specs.FinMap.Entries.{is_sorted, below_all}
 use Rattle.std.proofs.lemmas.Bool.Decides.{nat_tests, eqb_tells}
 use Rattle.bike_fixed.specs.Whole.{last_moment}
-use Rattle.bike_ledger.specs.declared.entry.Entry.{Entry}
+use Rattle.bike_ledger.specs.Entries.{Entry}
 use Rattle.bike_ledger.specs.Money.{is_among, AreDistinct, AreOf, IsConserved}
 use Rattle.bike_ledger.proofs.SumLemmas.{conserved}
 use Rattle.bike_core.specs.Operator.{Operator, Rider, no_operator}

@@ -12,18 +12,19 @@ use Rattle.std.proofs.lemmas.Option.{same_Some}
 use Rattle.std.proofs.lemmas.Bool.Decides.{nat_tests, eqb_tells}
 use Rattle.std.proofs.lemmas.Int.{ints}
 use Rattle.bike_fixed.specs.Whole.{last_moment}
-use Rattle.bike_ledger.specs.declared.entry.Entry.{Entry}
+use Rattle.bike_ledger.specs.Entries.{Entry}
 use Rattle.bike_ledger.specs.declared.entry.EntryKind.{EntryKind}
 use Rattle.bike_ledger.specs.declared.entry.EntryKind.TheVariants as kind
 use Rattle.bike_ledger.specs.Ledger.{credit, share, balance_of}
-use Rattle.bike_requests.specs.declared.command.Command.{Command}
-use Rattle.bike_requests.specs.declared.command.Command.TheVariants.{AddRider, TopUp}
-use Rattle.bike_requests.specs.declared.request.Request.{Request}
-use Rattle.bike_requests.specs.declared.refusal.Refusal.{Refusal}
-use Rattle.bike_requests.specs.declared.refusal.Refusal.TheVariants as refusal
-use Rattle.bike_requests.specs.Commands.{IsCommand}
-use Rattle.bike_requests.specs.Replies.{IsReply}
-use Rattle.bike_requests.specs.Requests.{IsRequest}
+use Rattle.bike_commands.specs.declared.command.Command.{Command}
+use Rattle.bike_commands.specs.declared.command.Command.TheVariants as command
+use Rattle.bike_commands.specs.declared.command.Command.TheVariants.{AddRider, TopUp}
+use Rattle.bike_commands.specs.declared.request.Request.{Request}
+use Rattle.bike_commands.specs.declared.refusal.Refusal.{Refusal}
+use Rattle.bike_commands.specs.declared.refusal.Refusal.TheVariants as refusal
+use Rattle.bike_commands.specs.Commands.{IsCommand}
+use Rattle.bike_commands.specs.Replies.{IsReply}
+use Rattle.bike_commands.specs.Requests.{IsRequest}
 use Rattle.bike_core.specs.Operator.{Operator, Rider, Kept, Key}
 use Rattle.bike_core.specs.View.{view_of, rider_view, most_riders, most_entries, IsWithin}
 use Rattle.bike_core.specs.Steps.{first, tests, refused, effect, reply_of, top_up_entry}
@@ -115,16 +116,16 @@ latest t now a b = (omega arith, omega arith)
 -- each kind of command
 kind_in_order : (s : Operator) (t : ℕ) (q : Request) (c : Command) → q.command ≡ c → t ≤ last_moment → IsRequest q → IsCommand c → IsInOrder s → refused s c ≡ None
     → IsInOrder (record (effect s (max t s.now) c) { now = max t s.now; kept = map.insert s.kept (key_in q) (record { command = c; reply = reply_of s (max t s.now) c }) })
-kind_in_order s t q (AddRider rider) is moment good command order none =
+kind_in_order s t q (AddRider rider) is moment good fields order none =
     let free = none_of_two (is_some (rider_view s rider (map.get s.riders rider))) (leb most_riders (map.len s.riders)) refusal.AlreadyThere refusal.LimitReached none in
     let now = latest t s.now moment order.now in
     record {
       riders = rw (map.entries-insert nat_cmp_total s.riders rider (record { blocked = false }))
-          (each_put (λ r _. IsRiderNumber r) map.nat_cmp-IsAntisymmetric rider (record { blocked = false }) (map.entries s.riders) (record { low = command.0.0; high = command.0.1 }) order.riders);
+          (each_put (λ r _. IsRiderNumber r) map.nat_cmp-IsAntisymmetric rider (record { blocked = false }) (map.entries s.riders) (record { low = fields.0.0; high = fields.0.1 }) order.riders);
       few_riders = fewer (map.contains_key s.riders rider) (map.len-insert nat_cmp_total s.riders rider (record { blocked = false })) (below free.1);
       entries = entries_stand s (record (effect s (max t s.now) (AddRider rider)) { now = max t s.now; kept = map.insert s.kept (key_in q) (record { command = AddRider rider; reply = reply_of s (max t s.now) (AddRider rider) }) }) 1 s.entries (still_known s rider (record { blocked = false })) now.1 order.entries;
       few_entries = order.few_entries;
-      kept = kept_stand s q (record { command = AddRider rider; reply = reply_of s (max t s.now) (AddRider rider) }) order good command tt refl;
+      kept = kept_stand s q (record { command = AddRider rider; reply = reply_of s (max t s.now) (AddRider rider) }) order good fields tt refl;
       now = now.0;
     }
   where
@@ -134,7 +135,7 @@ kind_in_order s t q (AddRider rider) is moment good command order none =
     fewer : (b : Bool) → map.len (map.insert s.riders rider (record { blocked = false })) ≡ cond b (map.len s.riders) (map.len s.riders + 1) → map.len s.riders < most_riders → map.len (map.insert s.riders rider (record { blocked = false })) ≤ most_riders
     fewer true e h = omega (arith, e, h)
     fewer false e h = omega (arith, e, h)
-kind_in_order s t q (TopUp rider amount) is moment good command order none =
+kind_in_order s t q (TopUp rider amount) is moment good fields order none =
     let free = none_of_two (is_none (rider_view s rider (map.get s.riders rider))) (leb most_entries (length s.entries)) refusal.UnknownRider refusal.LimitReached none in
     let now = latest t s.now moment order.now in
     let entry = top_up_entry (length s.entries) rider amount (max t s.now) in
@@ -146,7 +147,7 @@ kind_in_order s t q (TopUp rider amount) is moment good command order none =
       kind = refl;
       rider = known_rider s rider (map.get s.riders rider) free.0;
       no_rental = refl;
-      amount = record { hundredths = amount; is = refl; low = command.1.0.0; high = command.1.0.1 };
+      amount = record { hundredths = amount; is = refl; low = fields.1.0.0; high = fields.1.0.1 };
       by_now = omega arith;
     } in
     let all : AreEntries next 1 (s.entries ++ entry ∷ []) = entries_append next 1 s.entries entry stand last in
@@ -157,12 +158,32 @@ kind_in_order s t q (TopUp rider amount) is moment good command order none =
       few_riders = order.few_riders;
       entries = all;
       few_entries = few;
-      kept = kept_stand s q (record { command = TopUp rider amount; reply = reply }) order good command ((omega (arith, ints, sums.0), omega (arith, ints, sums.1, few)), tt) refl;
+      kept = kept_stand s q (record { command = TopUp rider amount; reply = reply }) order good fields ((omega (arith, ints, sums.0), omega (arith, ints, sums.1, few), omega (arith, ints), omega (arith, ints)), tt) refl;
       now = now.0;
     }
   where
     one_more : {n : ℕ} → leb most_entries (length s.entries) ≡ false → n ≡ length s.entries + 1 → n ≤ most_entries
     one_more f e = let b : length s.entries < most_entries = grind (arith, nat_tests, f) in omega (arith, e, b)
+kind_in_order s t q (command.SetSystem x) is moment good fields order none = absurd cc
+kind_in_order s t q (command.AddPlan p) is moment good fields order none = absurd cc
+kind_in_order s t q (command.AddType x) is moment good fields order none = absurd cc
+kind_in_order s t q (command.SetPlan type_id plan) is moment good fields order none = absurd cc
+kind_in_order s t q (command.AddStation x) is moment good fields order none = absurd cc
+kind_in_order s t q (command.SetStation station installed renting returning) is moment good fields order none = absurd cc
+kind_in_order s t q (command.MarkDock station dock broken) is moment good fields order none = absurd cc
+kind_in_order s t q (command.AddBike bike type_id) is moment good fields order none = absurd cc
+kind_in_order s t q (command.MarkBike bike disabled) is moment good fields order none = absurd cc
+kind_in_order s t q (command.RetireBike bike) is moment good fields order none = absurd cc
+kind_in_order s t q (command.AddTruck truck capacity) is moment good fields order none = absurd cc
+kind_in_order s t q (command.SetRider rider blocked) is moment good fields order none = absurd cc
+kind_in_order s t q (command.Start rider station dock) is moment good fields order none = absurd cc
+kind_in_order s t q (command.End bike station dock) is moment good fields order none = absurd cc
+kind_in_order s t q (command.Recover rental) is moment good fields order none = absurd cc
+kind_in_order s t q (command.Refund rental amount) is moment good fields order none = absurd cc
+kind_in_order s t q (command.OpenOrder truck from_end to_end type_id many) is moment good fields order none = absurd cc
+kind_in_order s t q (command.Load truck number bike) is moment good fields order none = absurd cc
+kind_in_order s t q (command.Unload truck number bike side dock) is moment good fields order none = absurd cc
+kind_in_order s t q (command.CloseOrder number) is moment good fields order none = absurd cc
 
 decided_in_order : (s : Operator) (t : ℕ) (q : Request) → t ≤ last_moment → IsRequest q → IsInOrder s → (o : Option Refusal) → refused s q.command ≡ o → IsInOrder (decided s (max t s.now) q o).1
 decided_in_order s t q moment good order (Some r) e = order

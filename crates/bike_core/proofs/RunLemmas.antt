@@ -1,6 +1,6 @@
 -- Lists of requests in parts.
 use Rattle.std.proofs.Common.{◌≡◌, List, [], ◌∷◌, ◌++◌, refl, ap}
-use Rattle.bike_requests.specs.declared.reply.Reply.{Reply}
+use Rattle.bike_commands.specs.declared.reply.Reply.{Reply}
 use Rattle.bike_core.specs.Operator.{Operator}
 use Rattle.bike_core.specs.Runs.{Call, step, after, replies}
 

@@ -1,9 +1,9 @@
 -- Changes of one record each, and what a decision owes.
 use Rattle.std.specs.Prelude.{◌≡◌, ℕ, List, [], ◌∷◌, ◌++◌, Bool, false, Option, Some, None, Result, Ok, Err}
 use Rattle.std.specs.FinMap as map
-use Rattle.bike_requests.specs.declared.command.Command.{Command}
-use Rattle.bike_requests.specs.declared.reply.Reply.{Reply}
-use Rattle.bike_requests.specs.declared.refusal.Refusal.{Refusal}
+use Rattle.bike_commands.specs.declared.command.Command.{Command}
+use Rattle.bike_commands.specs.declared.reply.Reply.{Reply}
+use Rattle.bike_commands.specs.declared.refusal.Refusal.{Refusal}
 use Rattle.bike_core.specs.declared.change.Change.{Change}
 use Rattle.bike_core.specs.declared.change.Change.TheVariants.{AddRider, AddEntry}
 use Rattle.bike_core.specs.declared.change.Accepted.{Accepted}

@@ -3,9 +3,9 @@ use Rattle.std.specs.Prelude.{ℕ, List, [], ◌∷◌, Bool}
 use Rattle.std.specs.Ordering.{nat_cmp}
 use Rattle.std.specs.Cmp.Lexicographic.{slice_cmp}
 use Rattle.std.specs.FinMap.{FinMap, empty}
-use Rattle.bike_ledger.specs.declared.entry.Entry.{Entry}
-use Rattle.bike_requests.specs.declared.command.Command.{Command}
-use Rattle.bike_requests.specs.declared.reply.Reply.{Reply}
+use Rattle.bike_ledger.specs.Entries.{Entry}
+use Rattle.bike_commands.specs.declared.command.Command.{Command}
+use Rattle.bike_commands.specs.declared.reply.Reply.{Reply}
 
 -- a rider is open or blocked
 pub record Rider : Type 0 where

@@ -2,16 +2,16 @@
 use Rattle.std.specs.Prelude.{◌≡◌, ℕ, ◌+◌, ◌≤◌, List, [], ◌∷◌, length, Bool, true, false, Option, Some, None, pos, ℤ, is_some}
 use Rattle.std.specs.FinMap as map
 use Rattle.bike_fixed.specs.Whole.{last_moment}
-use Rattle.bike_catalogue.specs.Bytes.{is_key}
-use Rattle.bike_catalogue.specs.declared.caller.Caller.{Caller}
-use Rattle.bike_catalogue.specs.Caller.{IsCaller, caller_text}
-use Rattle.bike_ledger.specs.declared.entry.Entry.{Entry}
+use Rattle.bike_fields.specs.Bytes.{is_key}
+use Rattle.bike_fields.specs.declared.caller.Caller.{Caller}
+use Rattle.bike_fields.specs.Caller.{IsCaller, caller_text}
+use Rattle.bike_ledger.specs.Entries.{Entry}
 use Rattle.bike_ledger.specs.declared.entry.EntryKind.TheVariants.{TopUp}
-use Rattle.bike_requests.specs.Commands.{IsCommand}
-use Rattle.bike_requests.specs.declared.reply.Reply.{Reply}
-use Rattle.bike_requests.specs.declared.reply.Reply.TheVariants.{Done, Balance, Refused}
-use Rattle.bike_requests.specs.Replies.{IsReply}
-use Rattle.bike_requests.specs.Requests.{IsRequest}
+use Rattle.bike_commands.specs.Commands.{IsCommand}
+use Rattle.bike_commands.specs.declared.reply.Reply.{Reply}
+use Rattle.bike_commands.specs.declared.reply.Reply.TheVariants.{Done, Balance, Started, Ended, Ordered, Refused}
+use Rattle.bike_commands.specs.Replies.{IsReply}
+use Rattle.bike_commands.specs.Requests.{IsRequest}
 use Rattle.bike_core.specs.Runs.{Call}
 use Rattle.bike_core.specs.Operator.{Operator, Rider, Kept, Key, key_of}
 use Rattle.bike_core.specs.View.{most_riders, most_entries}
@@ -50,6 +50,9 @@ EachEntry P (e ∷ es) = P e.0 e.1 × EachEntry P es
 abbrev pub is_refused : Reply → Bool
 is_refused Done = false
 is_refused (Balance balance) = false
+is_refused (Started rental bike) = false
+is_refused (Ended fare balance) = false
+is_refused (Ordered order) = false
 is_refused (Refused refusal) = true
 
 -- a kept request: its caller, its key, its command and the reply, which isn't a refusal

@@ -2,14 +2,14 @@
 use Rattle.std.specs.Prelude.{◌≡◌, ℕ, max, List, [], ◌∷◌, Bool, Option, Some, None, if◌then◌else◌}
 use Rattle.std.specs.Str.{bytes_eq}
 use Rattle.std.specs.FinMap as map
-use Rattle.bike_catalogue.specs.Caller.{caller_text}
-use Rattle.bike_requests.specs.declared.command.Command.{Command}
-use Rattle.bike_requests.specs.declared.reply.Reply.{Reply}
-use Rattle.bike_requests.specs.declared.reply.Reply.TheVariants.{Refused}
-use Rattle.bike_requests.specs.declared.refusal.Refusal.{Refusal}
-use Rattle.bike_requests.specs.declared.refusal.Refusal.TheVariants as refusal
-use Rattle.bike_requests.specs.declared.request.Request.{Request}
-use Rattle.bike_requests.specs.Commands.{text_of}
+use Rattle.bike_fields.specs.Caller.{caller_text}
+use Rattle.bike_commands.specs.declared.command.Command.{Command}
+use Rattle.bike_commands.specs.declared.reply.Reply.{Reply}
+use Rattle.bike_commands.specs.declared.reply.Reply.TheVariants.{Refused}
+use Rattle.bike_commands.specs.declared.refusal.Refusal.{Refusal}
+use Rattle.bike_commands.specs.declared.refusal.Refusal.TheVariants as refusal
+use Rattle.bike_commands.specs.declared.request.Request.{Request}
+use Rattle.bike_commands.specs.Commands.{text_of}
 use Rattle.bike_core.specs.Operator.{Operator, Kept, Key, key_of}
 use Rattle.bike_core.specs.Steps.{refused, effect, reply_of}
 

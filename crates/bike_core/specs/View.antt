@@ -2,8 +2,9 @@
 use Rattle.std.specs.Prelude.{ℕ, ℤ, ◌*◌, pos, neg_ℤ, ◌≤ℤ◌, length, nat_le, Bool, true, false, ◌≡◌, Option, Some, None, IfSome}
 use Rattle.std.specs.FinMap as map
 use Rattle.bike_ledger.specs.Ledger.{balance_of}
-use Rattle.bike_requests.specs.declared.command.Command.{Command}
-use Rattle.bike_requests.specs.declared.command.Command.TheVariants.{AddRider, TopUp}
+use Rattle.bike_commands.specs.declared.command.Command.{Command}
+use Rattle.bike_commands.specs.declared.command.Command.TheVariants as command
+use Rattle.bike_commands.specs.declared.command.Command.TheVariants.{AddRider, TopUp}
 use Rattle.bike_core.specs.declared.view.RiderView.{RiderView}
 use Rattle.bike_core.specs.declared.view.View.{View}
 use Rattle.bike_core.specs.Operator.{Operator, Rider}
@@ -27,6 +28,26 @@ no_rows s = record { rider = None; riders_full = false; entries = length s.entri
 abbrev pub view_of : Operator → Command → View
 view_of s (AddRider rider) = record (no_rows s) { rider = rider_view s rider (map.get s.riders rider); riders_full = nat_le most_riders (map.len s.riders) }
 view_of s (TopUp rider amount) = record (no_rows s) { rider = rider_view s rider (map.get s.riders rider) }
+view_of s (command.SetSystem x) = no_rows s
+view_of s (command.AddPlan p) = no_rows s
+view_of s (command.AddType t) = no_rows s
+view_of s (command.SetPlan type_id plan) = no_rows s
+view_of s (command.AddStation x) = no_rows s
+view_of s (command.SetStation station installed renting returning) = no_rows s
+view_of s (command.MarkDock station dock broken) = no_rows s
+view_of s (command.AddBike bike type_id) = no_rows s
+view_of s (command.MarkBike bike disabled) = no_rows s
+view_of s (command.RetireBike bike) = no_rows s
+view_of s (command.AddTruck truck capacity) = no_rows s
+view_of s (command.SetRider rider blocked) = no_rows s
+view_of s (command.Start rider station dock) = no_rows s
+view_of s (command.End bike station dock) = no_rows s
+view_of s (command.Recover rental) = no_rows s
+view_of s (command.Refund rental amount) = no_rows s
+view_of s (command.OpenOrder truck from_end to_end type_id count) = no_rows s
+view_of s (command.Load truck order bike) = no_rows s
+view_of s (command.Unload truck order bike side dock) = no_rows s
+view_of s (command.CloseOrder order) = no_rows s
 
 -- the balance is one that so many entries can come to
 pub record IsWithin (entries : ℕ) (balance : ℤ) : Type 0 where

@@ -1,8 +1,8 @@
 //! Changes of the operator, one record each.
 
-use bike_catalogue::RiderNumber;
+use bike_commands::{Refusal, Reply};
+use bike_fields::RiderNumber;
 use bike_ledger::Entry;
-use bike_requests::{Refusal, Reply};
 
 /// One record that is put or added.
 #[derive(Clone, Copy, Debug)]

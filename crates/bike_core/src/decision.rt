@@ -1,17 +1,17 @@
 //! The decision on a command: refused, or what is answered and changed.
 
 ghost use Rattle.std.specs.Prelude.{◌≡◌, ℕ};
-ghost use Rattle.bike_requests.specs.declared.command.Command.TheVariants.{AddRider, TopUp};
+ghost use Rattle.bike_commands.specs.declared.command.Command.TheVariants.{AddRider, TopUp};
 ghost use Rattle.bike_core.specs.Operator.{Operator};
 ghost use Rattle.bike_core.specs.View.{view_of, IsBounded};
 ghost use Rattle.bike_core.specs.Changes.{Decides};
 
 use crate::change::{Accepted, Change, Decision};
 use crate::view::View;
-use bike_catalogue::{Payment, RiderNumber};
+use bike_commands::{Command, Refusal, Reply};
+use bike_fields::{Payment, RiderNumber};
 use bike_fixed::Moment;
 use bike_ledger::{Entry, EntryNumber, balance_after};
-use bike_requests::{Command, Refusal, Reply};
 
 fn decide_add_rider(view: &View, rider: RiderNumber) -> Decision
     ensures { (s : Operator) (now : ℕ) → view.now ≡ view_of s (AddRider rider) → Decides s now (AddRider rider) result }
@@ -72,5 +72,6 @@ pub fn decide(view: &View, now: Moment, command: &Command) -> Decision
     match command {
         Command::AddRider { rider } => decide_add_rider(view, *rider),
         Command::TopUp { rider, amount } => decide_top_up(view, now, *rider, *amount),
+        _ => Err(Refusal::BadField),
     }
 }

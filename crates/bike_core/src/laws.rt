@@ -2,8 +2,8 @@
 
 ghost use Rattle.std.specs.Prelude.{◌≡◌, ◌≤◌, ◌++◌, ℕ, List};
 ghost use Rattle.bike_fixed.specs.Whole.{last_moment};
-ghost use Rattle.bike_requests.specs.declared.request.Request.{Request};
-ghost use Rattle.bike_requests.specs.Requests.{IsRequest};
+ghost use Rattle.bike_commands.specs.declared.request.Request.{Request};
+ghost use Rattle.bike_commands.specs.Requests.{IsRequest};
 ghost use Rattle.std.specs.FinMap.{keys};
 ghost use Rattle.bike_ledger.specs.Money.{IsConserved};
 ghost use Rattle.bike_core.specs.Operator.{Operator, no_operator};

@@ -9,11 +9,8 @@ mod decision;
 mod laws;
 mod view;
 
-pub use bike_catalogue::{Caller, Payment, RequestKey, RiderNumber};
-pub use bike_requests::{
-    Command, LINE_LENGTH, REPLY_LENGTH, Refusal, Reply, Request, command_text, command_text_law,
-    read_command, read_line,
-};
+pub use bike_commands::{Command, REPLY_LENGTH, Refusal, Reply, Request};
+pub use bike_fields::{Caller, Payment, RequestKey, RiderNumber};
 pub use change::{Accepted, Change, Decision};
 pub use decision::decide;
 pub use laws::{keeps_order, keeps_order_over_lists, money_law_over_lists, run_law};

@@ -8,14 +8,15 @@ use Rattle.std.specs.declared.cmp.Ordering.TheVariants.{Less, Equal, Greater}
 use Rattle.std.specs.Cmp.{nat_cmp_total, eq_by_cmp_equiv}
 use Rattle.std.specs.FinMap as map
 use Rattle.std.proofs.lemmas.Int.{ints}
-use Rattle.bike_ledger.specs.declared.entry.Entry.{Entry}
+use Rattle.bike_ledger.specs.Entries.{Entry}
 use Rattle.bike_ledger.specs.Ledger.{credit, cash_in, earned, balance_of, cash_of, revenue_of}
-use Rattle.bike_catalogue.specs.Caller.{caller_text}
-use Rattle.bike_requests.specs.declared.command.Command.{Command}
-use Rattle.bike_requests.specs.declared.command.Command.TheVariants.{AddRider, TopUp}
-use Rattle.bike_requests.specs.declared.request.Request.{Request}
-use Rattle.bike_requests.specs.Commands.{text_of}
-use Rattle.bike_requests.specs.Replies.{reply_text}
+use Rattle.bike_fields.specs.Caller.{caller_text}
+use Rattle.bike_commands.specs.declared.command.Command.{Command}
+use Rattle.bike_commands.specs.declared.command.Command.TheVariants as command
+use Rattle.bike_commands.specs.declared.command.Command.TheVariants.{AddRider, TopUp}
+use Rattle.bike_commands.specs.declared.request.Request.{Request}
+use Rattle.bike_commands.specs.Commands.{text_of}
+use Rattle.bike_commands.specs.Replies.{reply_text}
 use Rattle.bike_core.specs.declared.change.Change.TheVariants as change
 use Rattle.bike_core.specs.declared.view.View.{View}
 use Rattle.bike_tables.specs.declared.rows.RiderRow.{RiderRow}
@@ -82,6 +83,26 @@ module _ (s : Operator) (q : Request) (now : ℕ) (order : IsInOrder s) where
         let same : r ≡ rider = same_added s rider r (record { blocked = false }) none (ap (λ (o : Operator). o.riders) makes) in
         add_rider_made s rider now caller key text reply order (rw (← same) none) (rw (← same) is_text) is_reply ∙ ap (λ n. tables_for (after_command s now (key_of caller.now key.now) (AddRider n))) (sym same)
     rider_made (TopUp r amount) free makes is_text is_reply = absurd (no_longer s.entries (top_up_entry (length s.entries) r amount now) (ap (λ (o : Operator). o.entries) makes))
+    rider_made (command.SetSystem x) free makes is_text is_reply = absurd cc
+    rider_made (command.AddPlan x) free makes is_text is_reply = absurd cc
+    rider_made (command.AddType x) free makes is_text is_reply = absurd cc
+    rider_made (command.SetPlan type_id plan) free makes is_text is_reply = absurd cc
+    rider_made (command.AddStation x) free makes is_text is_reply = absurd cc
+    rider_made (command.SetStation station installed renting returning) free makes is_text is_reply = absurd cc
+    rider_made (command.MarkDock station dock broken) free makes is_text is_reply = absurd cc
+    rider_made (command.AddBike bike type_id) free makes is_text is_reply = absurd cc
+    rider_made (command.MarkBike bike disabled) free makes is_text is_reply = absurd cc
+    rider_made (command.RetireBike bike) free makes is_text is_reply = absurd cc
+    rider_made (command.AddTruck truck capacity) free makes is_text is_reply = absurd cc
+    rider_made (command.SetRider r blocked) free makes is_text is_reply = absurd cc
+    rider_made (command.Start r station dock) free makes is_text is_reply = absurd cc
+    rider_made (command.End bike station dock) free makes is_text is_reply = absurd cc
+    rider_made (command.Recover rental) free makes is_text is_reply = absurd cc
+    rider_made (command.Refund rental amount) free makes is_text is_reply = absurd cc
+    rider_made (command.OpenOrder truck from_end to_end type_id many) free makes is_text is_reply = absurd cc
+    rider_made (command.Load truck number bike) free makes is_text is_reply = absurd cc
+    rider_made (command.Unload truck number bike side dock) free makes is_text is_reply = absurd cc
+    rider_made (command.CloseOrder number) free makes is_text is_reply = absurd cc
 
     pub leads_rider : Accepts s now q (change.AddRider rider ∷ []) → caller.now ≡ caller_text q.caller → key.now ≡ q.key → text.now ≡ text_of q.command → reply.now ≡ reply_text (reply_of s now q.command) → LeadsTo rider_changes s (accepted s now q)
     leads_rider accepts is_caller is_key is_text is_reply = record {
@@ -125,6 +146,26 @@ module _ (s : Operator) (q : Request) (now : ℕ) (order : IsInOrder s) where
     entry_booked (AddRider r) makes is some is_text is_reply = absurd (no_longer s.entries entry (sym (ap (λ (o : Operator). o.entries) makes)))
     entry_booked (TopUp r amount) makes is some is_text is_reply =
         top_up_booked r amount (map.get s.riders r) refl is some (same_last s.entries entry (top_up_entry (length s.entries) r amount now) (ap (λ (o : Operator). o.entries) makes)) is_text is_reply
+    entry_booked (command.SetSystem x) makes is some is_text is_reply = absurd cc
+    entry_booked (command.AddPlan x) makes is some is_text is_reply = absurd cc
+    entry_booked (command.AddType x) makes is some is_text is_reply = absurd cc
+    entry_booked (command.SetPlan type_id plan) makes is some is_text is_reply = absurd cc
+    entry_booked (command.AddStation x) makes is some is_text is_reply = absurd cc
+    entry_booked (command.SetStation station installed renting returning) makes is some is_text is_reply = absurd cc
+    entry_booked (command.MarkDock station dock broken) makes is some is_text is_reply = absurd cc
+    entry_booked (command.AddBike bike type_id) makes is some is_text is_reply = absurd cc
+    entry_booked (command.MarkBike bike disabled) makes is some is_text is_reply = absurd cc
+    entry_booked (command.RetireBike bike) makes is some is_text is_reply = absurd cc
+    entry_booked (command.AddTruck truck capacity) makes is some is_text is_reply = absurd cc
+    entry_booked (command.SetRider r blocked) makes is some is_text is_reply = absurd cc
+    entry_booked (command.Start r station dock) makes is some is_text is_reply = absurd cc
+    entry_booked (command.End bike station dock) makes is some is_text is_reply = absurd cc
+    entry_booked (command.Recover rental) makes is some is_text is_reply = absurd cc
+    entry_booked (command.Refund rental amount) makes is some is_text is_reply = absurd cc
+    entry_booked (command.OpenOrder truck from_end to_end type_id many) makes is some is_text is_reply = absurd cc
+    entry_booked (command.Load truck number bike) makes is some is_text is_reply = absurd cc
+    entry_booked (command.Unload truck number bike side dock) makes is some is_text is_reply = absurd cc
+    entry_booked (command.CloseOrder number) makes is some is_text is_reply = absurd cc
 
     pub leads_entry : view ≡ view_of s q.command → Accepts s now q (change.AddEntry entry ∷ []) → IfSome view.rider (λ before. after ≡ record { rider = entry.rider; blocked = before.blocked; balance = before.balance +ℤ credit entry.kind entry.amount }) × IsSome view.rider
         → caller.now ≡ caller_text q.caller → key.now ≡ q.key → text.now ≡ text_of q.command → reply.now ≡ reply_text (reply_of s now q.command) → LeadsTo entry_changes s (accepted s now q)

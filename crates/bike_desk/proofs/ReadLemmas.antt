@@ -10,10 +10,10 @@ use Rattle.std.specs.FinMap as map
 use Rattle.std.specs.FinMap.Entries.{find}
 use Rattle.std.specs.Prelude.{IfSome}
 use Rattle.std.proofs.lemmas.Option.{same_Some}
-use Rattle.bike_requests.specs.declared.reply.Reply.{Reply}
-use Rattle.bike_requests.specs.Commands.{text_of}
-use Rattle.bike_requests.specs.Replies.{reply_text, IsReply}
-use Rattle.bike_requests.proofs.ReplyLaws.{reply_full}
+use Rattle.bike_commands.specs.declared.reply.Reply.{Reply}
+use Rattle.bike_commands.specs.Commands.{text_of}
+use Rattle.bike_commands.specs.Replies.{reply_text, IsReply}
+use Rattle.bike_commands.proofs.ReplyLaws.{reply_full}
 use Rattle.bike_core.specs.Operator.{Kept, Key}
 use Rattle.bike_core.specs.Order.{IsInOrder, IsKept, EachEntry}
 use Rattle.bike_desk.specs.Serving.{KeepsSame}

@@ -3,7 +3,7 @@ use Rattle.std.proofs.Common.{IsTrue, ◌≡◌, inl, inr, ℕ, ◌+◌, ◌<◌
 use Rattle.std.proofs.lemmas.List.{take_all}
 use Rattle.std.proofs.lemmas.Bool.{both_ways}
 use Rattle.sqlite.specs.Store.{Ghosts}
-use Rattle.bike_requests.specs.declared.reply.Reply.{Reply}
+use Rattle.bike_commands.specs.declared.reply.Reply.{Reply}
 use Rattle.bike_core.specs.Operator.{Operator}
 use Rattle.bike_core.specs.Runs.{Call, step, after, replies}
 use Rattle.bike_core.proofs.RunLemmas.{after-append, replies-append}

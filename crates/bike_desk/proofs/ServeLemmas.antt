@@ -4,13 +4,13 @@ use Rattle.std.specs.Prelude.{max, string_bytes}
 use Rattle.std.specs.Str.{bytes_eq}
 use Rattle.std.specs.FinMap as map
 use Rattle.bike_fixed.specs.Whole.{last_moment}
-use Rattle.bike_requests.specs.declared.request.Request.{Request}
-use Rattle.bike_requests.specs.declared.reply.Reply.{Reply}
-use Rattle.bike_requests.specs.declared.reply.Reply.TheVariants.{Refused}
-use Rattle.bike_requests.specs.declared.refusal.Refusal.{Refusal}
-use Rattle.bike_requests.specs.declared.refusal.Refusal.TheVariants as refusal
-use Rattle.bike_requests.specs.Commands.{text_of}
-use Rattle.bike_requests.specs.Requests.{IsRequest}
+use Rattle.bike_commands.specs.declared.request.Request.{Request}
+use Rattle.bike_commands.specs.declared.reply.Reply.{Reply}
+use Rattle.bike_commands.specs.declared.reply.Reply.TheVariants.{Refused}
+use Rattle.bike_commands.specs.declared.refusal.Refusal.{Refusal}
+use Rattle.bike_commands.specs.declared.refusal.Refusal.TheVariants as refusal
+use Rattle.bike_commands.specs.Commands.{text_of}
+use Rattle.bike_commands.specs.Requests.{IsRequest}
 use Rattle.bike_core.specs.declared.change.Accepted.{Accepted}
 use Rattle.bike_core.specs.declared.change.Change.{Change}
 use Rattle.bike_core.specs.Operator.{Operator, Kept}

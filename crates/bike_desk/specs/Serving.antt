@@ -2,11 +2,11 @@
 use Rattle.std.specs.Prelude.{◌≡◌, ◌≤◌, ℕ, List, Option, Some, None, string_bytes}
 use Rattle.std.specs.FinMap as map
 use Rattle.bike_ledger.specs.Ledger.{cash_of, revenue_of}
-use Rattle.bike_requests.specs.declared.request.Request.{Request}
-use Rattle.bike_requests.specs.declared.reply.Reply.{Reply}
-use Rattle.bike_requests.specs.Commands.{text_of}
-use Rattle.bike_catalogue.specs.Caller.{caller_text}
-use Rattle.bike_requests.specs.Replies.{reply_text}
+use Rattle.bike_commands.specs.declared.request.Request.{Request}
+use Rattle.bike_commands.specs.declared.reply.Reply.{Reply}
+use Rattle.bike_commands.specs.Commands.{text_of}
+use Rattle.bike_fields.specs.Caller.{caller_text}
+use Rattle.bike_commands.specs.Replies.{reply_text}
 use Rattle.bike_core.specs.declared.change.Change.{Change}
 use Rattle.bike_core.specs.Operator.{Operator, Kept}
 use Rattle.bike_core.specs.Order.{IsInOrder}

@@ -5,7 +5,6 @@
 #![tactic(auto)]
 
 mod adopt;
-mod bounds;
 mod desk;
 mod fault;
 mod reads;

@@ -10,14 +10,17 @@ ghost use Rattle.bike_core.specs.View.{view_of, rider_view, most_riders, IsBound
 ghost use Rattle.bike_tables.specs.Stored.{AllLeft, Keeps};
 ghost use Rattle.bike_desk.specs.Serving.{KeepsSame, meta_of};
 
-use crate::bounds::tell_reply;
-use bike_catalogue::RiderNumber;
+use bike_commands::Command;
 use bike_core::{RiderView, View};
-use bike_requests::Command;
+use bike_fields::RiderNumber;
 use bike_tables::{
-    KeptRow, MetaRow, StatementFault, last_entry, read_kept, read_meta, read_rider, riders_full,
+    KeptRow, MetaRow, StatementFault, last_entry, last_rider, read_kept, read_meta, read_rider,
+    riders_full,
 };
 use sqlite::{Alter, Connection};
+
+/// As many riders as there may be.
+const MOST_RIDERS: u32 = 500_000;
 
 /// What is kept under a caller's text and key.
 pub fn find_kept<S: Alter>(
@@ -33,7 +36,7 @@ pub fn find_kept<S: Alter>(
 {
     match read_kept(conn, caller, key) {
         Ok(Some(row)) => {
-            tell_reply(&row.reply);
+            row.reply.bounds();
             Ok(Some(row))
         }
         Ok(None) => Ok(None),
@@ -77,8 +80,23 @@ pub fn find_rider<S: Alter>(
     }
 }
 
-/// Whether there are as many riders as there may be.
-fn find_riders_full<S: Alter>(conn: &mut Connection<S>) -> Result<bool, StatementFault>
+/// The last rider's number, 0 where there is none. There are at most so many riders, since their numbers begin
+/// at 1.
+fn find_last_rider<S: Alter>(conn: &mut Connection<S>) -> Result<u32, StatementFault>
+    requires { conn.old.in_transaction ≡ false }
+    ensures ended { conn.new.in_transaction ≡ false }
+    ensures clean { doubt (state S.Store conn.old).is_clean ≤ doubt (state S.Store conn.new).is_clean }
+    ensures ok { HasCleanDisk (state S.Store conn.new) → (s : Operator) → Keeps (state S.Store conn.old) s → IfOk result (λ last. (map.len s.riders ≤ last) × Keeps (state S.Store conn.new) s) }
+    ensures quiet { HasCleanDisk (state S.Store conn.new) → (s : Operator) → Keeps (state S.Store conn.old) s → AllLeft (state S.Store conn.new) (state S.Store conn.old).may_leave }
+{
+    match last_rider(conn) {
+        Ok(number) => Ok(number),
+        Err(fault) => Err(fault),
+    }
+}
+
+/// Whether the count of all riders is as many as there may be.
+fn count_is_full<S: Alter>(conn: &mut Connection<S>) -> Result<bool, StatementFault>
     requires { conn.old.in_transaction ≡ false }
     ensures ended { conn.new.in_transaction ≡ false }
     ensures clean { doubt (state S.Store conn.old).is_clean ≤ doubt (state S.Store conn.new).is_clean }
@@ -89,6 +107,23 @@ fn find_riders_full<S: Alter>(conn: &mut Connection<S>) -> Result<bool, Statemen
         Ok(full) => Ok(full),
         Err(fault) => Err(fault),
     }
+}
+
+/// Whether there are as many riders as there may be.
+fn find_riders_full<S: Alter>(conn: &mut Connection<S>) -> Result<bool, StatementFault>
+    requires { conn.old.in_transaction ≡ false }
+    ensures ended { conn.new.in_transaction ≡ false }
+    ensures clean { doubt (state S.Store conn.old).is_clean ≤ doubt (state S.Store conn.new).is_clean }
+    ensures ok { HasCleanDisk (state S.Store conn.new) → (s : Operator) → Keeps (state S.Store conn.old) s → IfOk result (λ full. (full ≡ nat_le most_riders (map.len s.riders)) × Keeps (state S.Store conn.new) s) }
+    ensures quiet { HasCleanDisk (state S.Store conn.new) → (s : Operator) → Keeps (state S.Store conn.old) s → AllLeft (state S.Store conn.new) (state S.Store conn.old).may_leave }
+{
+    // A count goes over all riders, so it is asked only where the last number doesn't tell.
+    let last = find_last_rider(conn)?;
+    if last < MOST_RIDERS {
+        return Ok(false);
+    }
+    let full = count_is_full(conn)?;
+    Ok(full)
 }
 
 /// How many entries there are.
@@ -135,5 +170,10 @@ pub fn find_view<S: Alter>(
                 entries,
             })
         }
+        _ => Ok(View {
+            rider: None,
+            riders_full: false,
+            entries,
+        }),
     }
 }

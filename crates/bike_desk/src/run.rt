@@ -10,8 +10,8 @@ ghost use Rattle.bike_desk.specs.Runs.{Ran, IsAfterFront};
 
 use crate::desk::Desk;
 use crate::fault::DeskFault;
+use bike_commands::{Reply, Request};
 use bike_fixed::Moment;
-use bike_requests::{Reply, Request};
 use sqlite::Alter;
 use std::alloc::Global;
 

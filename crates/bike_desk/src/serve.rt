@@ -6,9 +6,9 @@ ghost use Rattle.std.specs.FinMap as map;
 ghost use Rattle.sqlite.specs.State.{HasCleanDisk};
 ghost use Rattle.sqlite.specs.Held.{state};
 ghost use Rattle.sqlite_trees.specs.View.{doubt};
-ghost use Rattle.bike_catalogue.specs.Caller.{caller_text};
-ghost use Rattle.bike_requests.specs.Commands.{text_of};
-ghost use Rattle.bike_requests.specs.declared.request.Request.{Request};
+ghost use Rattle.bike_fields.specs.Caller.{caller_text};
+ghost use Rattle.bike_commands.specs.Commands.{text_of};
+ghost use Rattle.bike_commands.specs.declared.request.Request.{Request};
 ghost use Rattle.bike_core.specs.Operator.{Operator};
 ghost use Rattle.bike_core.specs.Runs.{step, accepted, key_in};
 ghost use Rattle.bike_core.specs.View.{view_of, IsBounded};
@@ -19,13 +19,12 @@ ghost use Rattle.bike_tables.specs.Stored.{AllLeft, Keeps};
 ghost use Rattle.bike_desk.specs.Desk.{TreesStandForEither};
 ghost use Rattle.bike_desk.specs.Serving.{meta_of, Accepts, AreOf};
 
-use crate::bounds::tell_request;
 use crate::reads::{find_kept, find_meta, find_view};
 use crate::transaction::make_all;
+use bike_commands::{Refusal, Reply, Request};
 use bike_core::{Change, View, decide};
 use bike_fixed::{Cents, Moment};
 use bike_ledger::{Entry, EntryKind, balance_after};
-use bike_requests::{Refusal, Reply, Request};
 use bike_tables::{KeptRow, MetaRow, RiderRow, RowChange, StatementFault};
 use sqlite::{Alter, Connection};
 
@@ -76,34 +75,36 @@ fn booked_rider(view: &View, entry: &Entry) -> Option<RiderRow>
     ensures { IfSome result (λ after. IfSome view.now.rider (λ before. after ≡ record { rider = entry.now.rider; blocked = before.blocked; balance = before.balance +ℤ credit entry.now.kind entry.now.amount }) × IsSome view.now.rider) }
 {
     let row = view.rider?;
-    let amount = entry.amount.hundredths();
-    if view.entries >= MOST_ENTRIES || amount < 0 || amount > GREATEST_AMOUNT {
+    if view.entries >= MOST_ENTRIES {
         return None;
     }
     Some(RiderRow {
-        rider: entry.rider,
+        rider: entry.rider(),
         blocked: row.blocked,
         balance: Cents::new(balance_after(row.balance, entry)),
     })
+}
+
+/// Cash and revenue after an entry of this kind and amount, where they are of 64 bits.
+fn booked_sums(meta: &MetaRow, kind: EntryKind, amount: &Cents) -> Option<(Cents, Cents)>
+    ensures { IfSome result (λ sums. (sums.0 ≡ meta.entry.now.cash +ℤ cash_in kind amount.now) × (sums.1 ≡ meta.entry.now.revenue +ℤ earned kind amount.now)) }
+{
+    let amount = amount.hundredths();
+    let cash = meta.cash.hundredths();
+    let revenue = meta.revenue.hundredths();
+    match kind {
+        EntryKind::TopUp => Some((Cents::new(cash.checked_add(amount)?), meta.revenue)),
+        EntryKind::Fare => Some((meta.cash, Cents::new(revenue.checked_add(amount)?))),
+        EntryKind::Refund => Some((meta.cash, Cents::new(revenue.checked_sub(amount)?))),
+    }
 }
 
 /// The operator's moment and sums after the entry, where the sums are of 64 bits.
 fn booked_meta(meta: &MetaRow, now: Moment, entry: &Entry) -> Option<MetaRow>
     ensures { IfSome result (λ after. after ≡ record { now = now; cash = meta.entry.now.cash +ℤ cash_in entry.now.kind entry.now.amount; revenue = meta.entry.now.revenue +ℤ earned entry.now.kind entry.now.amount }) }
 {
-    let amount = entry.amount.hundredths();
-    let cash = meta.cash.hundredths();
-    let revenue = meta.revenue.hundredths();
-    let (cash, revenue) = match entry.kind {
-        EntryKind::TopUp => (cash.checked_add(amount)?, revenue),
-        EntryKind::Fare => (cash, revenue.checked_add(amount)?),
-        EntryKind::Refund => (cash, revenue.checked_sub(amount)?),
-    };
-    Some(MetaRow {
-        now,
-        cash: Cents::new(cash),
-        revenue: Cents::new(revenue),
-    })
+    let (cash, revenue) = booked_sums(meta, entry.kind(), &entry.amount())?;
+    Some(MetaRow { now, cash, revenue })
 }
 
 /// The texts by which an accepted request is kept.
@@ -196,7 +197,7 @@ fn serve_anew<S: Alter>(
     }
     let now = moment.later(&meta.now);
     let _ = moment.seconds();
-    tell_request(request);
+    request.bounds();
     match decide(&view, now, &request.command) {
         Err(refusal) => Ok(Reply::Refused(refusal)),
         Ok(accepted) => {

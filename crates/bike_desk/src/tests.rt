@@ -1,9 +1,10 @@
 //! Requests served over a database in memory.
 
 use crate::desk::Desk;
-use bike_catalogue::RiderNumber;
+use bike_commands::{Refusal, Reply, Request};
+use bike_fields::RiderNumber;
 use bike_fixed::{Cents, Moment};
-use bike_requests::{Refusal, Reply, Request, read_line};
+use bike_requests::read_line;
 use sqlite::Connection;
 use std::alloc::Global;
 use std::test::Fail;

@@ -1,7 +1,8 @@
 //! Known fares, and the slow program beside the fast one.
 
 use crate::{fare, fare_by_minutes};
-use bike_catalogue::{FieldFault, Plan, Segment};
+use bike_catalogue::{Plan, Segment};
+use bike_fields::FieldFault;
 use bike_fixed::{Cents, Moment};
 use std::alloc::Global;
 

@@ -1,12 +1,13 @@
 -- An array whose items are the rows of a list, written one row after the other.
-use Rattle.std.proofs.Common.{◌≡◌, ℕ, zero, suc, ◌+◌, ◌<◌, List, [], ◌∷◌, ◌++◌, Bool, true, false, IsTrue, Option, length, get_or, drop, refl, sym, ap, ◌∙◌, arith, append_assoc, append-nil}
+use Rattle.std.proofs.Common.{◌≡◌, ℕ, ◌<◌, List, [], ◌∷◌, ◌++◌, Bool, true, false, IsTrue, Option, length, refl, sym, ap, ◌∙◌, subst, arith, append_assoc, append-nil, length-append}
+use Rattle.bike_stream.specs.Writing.{AppendsFront}
 use Rattle.bike_feeds.specs.Tree.{Tree, comma, text_of, items_text}
 use Rattle.bike_feeds.specs.Rows.{items, WroteFront}
 use Rattle.bike_feeds.specs.State.{Place, Writes, Wrote, IsAt, takes_array_end, has_more, after_value}
 use Rattle.bike_feeds.specs.declared.level.Level.{Level}
 use Rattle.bike_feeds.specs.declared.level.Level.TheVariants.{Start, Done, EmptyArray, FilledArray, EmptyObject, FilledObject, NamedObject}
 use Rattle.std.proofs.KnownBytes.{Appends-nil, Keeps-refl}
-use Rattle.bike_feeds.proofs.Series.{Wrote_then, Wrote_as}
+use Rattle.bike_feeds.proofs.Series.{Wrote_then, Wrote_as, Wrote_front}
 
 module _ {X : Type 0} (tree : X → Tree) where
   -- in an array: what was written, with the text of the rows that are left, is the text of all rows
@@ -66,13 +67,11 @@ pub rows_front : {X : Type 0} (tree : X → Tree) {p q : Place} {a b : Option (L
     → WroteFront p q a b (items_text false (items tree all))
 rows_front tree s = record { front = s.front; rest = _; split = s.split; wrote = s.wrote }
 
--- the rows from one on, in a loop over a slice
-pub drop_next : {X : Type 0} (xs : List X) (i : ℕ) (x : X) → i < length xs → x ≡ get_or xs i x → drop i xs ≡ x ∷ drop (i + 1) xs
-drop_next [] i x lt e = absurd (omega arith)
-drop_next (y ∷ ys) zero x lt e = ap (λ z. z ∷ ys) (sym e)
-drop_next (y ∷ ys) (suc i) x lt e = let next : suc i + 1 ≡ suc (i + 1) = omega arith in rw next (drop_next ys i x (omega arith) e)
-
-pub drop_item : {X : Type 0} (xs : List X) (i : ℕ) (d : X) → i < length xs → drop i xs ≡ get_or xs i d ∷ drop (i + 1) xs
-drop_item [] i d lt = absurd (omega arith)
-drop_item (y ∷ ys) zero d lt = refl
-drop_item (y ∷ ys) (suc i) d lt = let next : suc i + 1 ≡ suc (i + 1) = omega arith in rw next (drop_item ys i d (omega arith))
+-- a text that ends in its rows: a front of it, whether or not a write failed
+pub cut_short : {p q r : Place} {a b c : Option (List ℕ)} {head bytes : List ℕ} (tail : List ℕ)
+    → Wrote p q a b head → WroteFront q r b c bytes → p.failed ≡ false → 0 < length tail → AppendsFront a c (head ++ (bytes ++ tail))
+cut_short {p} {q} {r} {a} {b} {c} {head} {bytes} tail w f e more =
+    let longer : 0 < length (f.rest ++ tail) = omega (arith, length-append f.rest tail, more) in
+    let same : (head ++ f.front) ++ (f.rest ++ tail) ≡ head ++ (bytes ++ tail) =
+    append_assoc head f.front (f.rest ++ tail) ∙ ap (λ l. head ++ l) (sym (append_assoc f.front f.rest tail) ∙ ap (λ l. l ++ tail) (sym f.split)) in
+    subst (AppendsFront a c) same (Wrote_front (f.rest ++ tail) (Wrote_then w f.wrote) e longer)

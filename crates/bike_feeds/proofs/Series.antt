@@ -73,3 +73,15 @@ Wrote_ok {A} {E} {p} {q} {a} {b} {x} r w e h = ok_bytes q.failed p.count q.count
 -- or a front of it
 pub Wrote_err : {A E : Type 0} {p q : Place} {a b : Option (List ℕ)} {x : List ℕ} (r : Result A E) → Wrote p q a b x → p.failed ≡ false → is_ok r ≡ not q.failed → OnErr r (AppendsFront a b x)
 Wrote_err {A} {E} {p} {q} {a} {b} {x} r w e h = err_bytes q.failed p.count q.count a b x r h (rw e at w.are)
+
+first_only : (x y : List ℕ) → take (length x) (x ++ y) ≡ x
+first_only [] y = refl
+first_only (b ∷ x) y = ap (λ l. b ∷ l) (first_only x y)
+
+front_bytes : (failed : Bool) (m n : ℕ) (a b : Option (List ℕ)) (x y : List ℕ) → 0 < length y → Writes false failed m n a b x → AppendsFront a b (x ++ y)
+front_bytes true m n a b x y more w = front_first a b x y w
+front_bytes false m n a b x y more w = (length x, omega (arith, length-append x y, more), rw (first_only x y) w.0)
+
+-- a series that ends before the bytes do: a front of them, whether or not a write failed
+pub Wrote_front : {p q : Place} {a b : Option (List ℕ)} {x : List ℕ} (y : List ℕ) → Wrote p q a b x → p.failed ≡ false → 0 < length y → AppendsFront a b (x ++ y)
+Wrote_front {p} {q} {a} {b} {x} y w e more = front_bytes q.failed p.count q.count a b x y more (rw e at w.are)

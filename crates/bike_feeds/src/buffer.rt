@@ -1,7 +1,8 @@
 //! A buffer between the tokens and a slow writer.
 
-ghost use Rattle.std.specs.Prelude.{◌≡◌, ◌<◌, ◌==◌, [], length, OnOk};
-ghost use Rattle.std.specs.Io.KnownBytes.{Keeps, append_known};
+ghost use Rattle.std.specs.Prelude.{◌≡◌, ◌-◌, ◌<◌, ◌==◌, [], length, min, Ok, OnOk, IfOk};
+ghost use Rattle.std.specs.Io.{WritesAtMost};
+ghost use Rattle.std.specs.Io.KnownBytes.{Keeps, WriteAppends, append_known};
 ghost use Rattle.bike_feeds.specs.Buffered.{contents_of};
 
 use arrayvec::ArrayVec;
@@ -17,7 +18,7 @@ const ROOM: usize = 4096;
 ///
 /// What it holds counts as written, and reaches the inner writer once the room is full and at `flush`, which the
 /// caller calls at the end; what isn't flushed is lost. A proof sees the bytes that are `held` and those that the
-/// inner writer has (`sent`).
+/// inner writer has (`sent`), and for how many there is `room`: so many a write takes at once.
 #[derive(Drop)]
 pub struct TokenBuffer<W: Write + Drop> {
     inner: W,
@@ -26,12 +27,12 @@ pub struct TokenBuffer<W: Write + Drop> {
 }
 
 impl<W: Write + Drop> Model for TokenBuffer<W> {
-    ghost use Rattle.std.specs.Prelude.{◌≤◌, drop, length};
+    ghost use Rattle.std.specs.Prelude.{◌≤◌, ◌-◌, drop, length};
     ghost use Rattle.bike_feeds.specs.Buffered.{Buffered};
 
     ghost Value = { Buffered };
 
-    ghost view = { λ b. record { held = drop b.start b.bytes.items; sent = W.contents b.inner } };
+    ghost view = { λ b. record { held = drop b.start b.bytes.items; sent = W.contents b.inner; room = 4096 - length b.bytes.items } };
 
     ghost invariant = { λ b. b.start ≤ length b.bytes.items };
 }
@@ -41,6 +42,7 @@ impl<W: Write + Drop> TokenBuffer<W> {
     pub fn new(inner: W) -> TokenBuffer<W>
         ensures held { result.held ≡ [] }
         ensures sent { result.sent ≡ W.contents inner }
+        ensures room { result.room ≡ 4096 }
     {
         TokenBuffer {
             inner,
@@ -87,6 +89,7 @@ impl<W: Write + Drop> TokenBuffer<W> {
     fn send(&mut self) -> io::Result<()>
         ensures kept { Keeps (contents_of self.old) (contents_of self.new) }
         ensures empty { OnOk result (self.new.held ≡ []) }
+        ensures room { OnOk result (self.new.room ≡ 4096) }
     {
         while !self.is_empty() {
             self.send_some()?;
@@ -100,7 +103,15 @@ impl<W: Write + Drop> TokenBuffer<W> {
 impl<W: Write + Drop> Write for TokenBuffer<W> {
     ghost contents = { contents_of };
 
-    fn write(&mut self, buf: &[u8]) -> io::Result<usize> {
+    /// Takes at least a byte of those that it is given; fails only where the room is full and the inner
+    /// writer fails.
+    fn write(&mut self, buf: &[u8]) -> io::Result<usize>
+        ensures bound { WritesAtMost result buf.now }
+        ensures bytes { WriteAppends (contents_of self.old) (contents_of self.new) result buf.now }
+        ensures some { 0 < length buf.now → IfOk result (λ count. 0 < count) }
+        ensures room { 0 < self.old.room → result ≡ Ok (min (length buf.now) self.old.room) }
+        ensures less { 0 < self.old.room → self.new.room ≡ self.old.room - min (length buf.now) self.old.room }
+    {
         if self.bytes.len() == ROOM {
             self.send()?;
         }
@@ -112,6 +123,7 @@ impl<W: Write + Drop> Write for TokenBuffer<W> {
     fn flush(&mut self) -> io::Result<()>
         ensures bytes { Keeps (contents_of self.old) (contents_of self.new) }
         ensures empty { OnOk result (self.new.held ≡ []) }
+        ensures room { OnOk result (self.new.room ≡ 4096) }
     {
         self.send()?;
         self.inner.flush()

@@ -4,7 +4,7 @@ mod rows;
 use crate::{JsonWriter, TokenBuffer};
 use bike_fixed::{Cents, Micro};
 use bike_stream::WriteFault;
-use rows::write_report;
+use rows::{ReportFault, RowFault, RowSource, report_length, write_report};
 use serde_json::Value;
 use std::io;
 use std::io::{ErrorKind, Write};
@@ -117,19 +117,67 @@ fn stops_at_each_byte(rt: HostRuntime) -> Result<(), Fail> {
     Ok(())
 }
 
+/// Gives the numbers, and fails after them where it is to.
+#[derive(Drop)]
+struct Numbers<'a> {
+    numbers: &'a [u64],
+    fails: bool,
+}
+
+impl<'a> RowSource for Numbers<'a> {
+    ghost left = { λ n. n.numbers.now };
+
+    fn next(&mut self) -> Result<Option<u64>, RowFault> {
+        match self.numbers.split_first() {
+            Some((first, rest)) => {
+                self.numbers = rest;
+                Ok(Some(*first))
+            }
+            None if self.fails => Err(RowFault),
+            None => Ok(None),
+        }
+    }
+}
+
 #[test]
 fn writes_many_rows(rt: HostRuntime) -> Result<(), Fail> {
     let mut rows = Vec::new(rt.alloc());
     for row in 0..5000u64 {
         rows.push(row)?;
     }
-    let mut counting = io::sink();
-    let count = write_report(&mut counting, rows.as_slice())?;
+    let numbers = rows.as_slice();
+    let fails = false;
+    let count = report_length(&mut Numbers { numbers, fails }).map_err(|_| "a length")?;
     let mut buffer = TokenBuffer::new(Vec::new(rt.alloc()));
-    assert_eq!(rt; write_report(&mut buffer, rows.as_slice())?, count);
+    let outcome = write_report(&mut buffer, &mut Numbers { numbers, fails });
+    assert_eq!(rt; outcome, Ok(count));
     buffer.flush()?;
     let text = buffer.into_inner();
     assert_eq!(rt; text.len() as u64, count);
     assert!(rt; text.as_slice().starts_with(b"[{\"n\":0},{\"n\":1},"));
+    Ok(())
+}
+
+#[test]
+fn stops_at_a_failed_row(rt: HostRuntime) -> Result<(), Fail> {
+    let mut out = Vec::new(rt.alloc());
+    let mut source = Numbers {
+        numbers: &[7, 8],
+        fails: true,
+    };
+    assert_eq!(rt; write_report(&mut out, &mut source), Err(ReportFault::Rows));
+    assert_eq!(rt; out.as_slice(), b"[{\"n\":7},{\"n\":8}".as_slice());
+    let mut short = Short {
+        bytes: Vec::new(rt.alloc()),
+        room: 3,
+        fails: false,
+    };
+    source.numbers = &[7, 8];
+    source.fails = false;
+    assert_eq!(rt;
+        write_report(&mut short, &mut source),
+        Err(ReportFault::Write)
+    );
+    assert_eq!(rt; short.bytes.as_slice(), b"[{\"".as_slice());
     Ok(())
 }

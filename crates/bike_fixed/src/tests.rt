@@ -4,6 +4,11 @@ use crate::{
     Cents, DayFault, Micro, Moment, Within, day_bounds, read_signed, read_whole, signed_text,
 };
 
+fn prints_cents(hundredths: i64, text: &str) -> bool {
+    let cents = Cents::new(hundredths);
+    cents.text().as_str() == text && cents.hundredths() == hundredths
+}
+
 #[test]
 fn prints_money(rt: HostRuntime) {
     for (hundredths, text) in [
@@ -15,10 +20,16 @@ fn prints_money(rt: HostRuntime) {
         (i64::MAX, "92233720368547758.07"),
         (i64::MIN, "-92233720368547758.08"),
     ] {
-        let cents = Cents::new(hundredths);
-        assert!(rt; cents.text().as_str() == text, "{text}");
-        assert!(rt; cents.hundredths() == hundredths, "{text}");
+        assert!(rt; prints_cents(hundredths, text), "{text}");
     }
+}
+
+/// Whether the text is read as the coordinate, which is printed so.
+fn reads_micro(text: &str, microdegrees: i32, printed: &str) -> bool {
+    let Some(micro) = Micro::read(text) else {
+        return false;
+    };
+    micro.microdegrees() == microdegrees && micro.text().as_str() == printed
 }
 
 #[test]
@@ -32,14 +43,12 @@ fn reads_and_prints_coordinates(rt: HostRuntime) {
         ("-180.000000", -180_000_000, "-180.000000"),
         ("12.034567", 12_034_567, "12.034567"),
     ] {
-        let micro = Micro::read(text);
-        assert!(rt; micro == Micro::new(microdegrees), "{text}");
-        let Some(micro) = micro else {
-            continue;
-        };
-        assert!(rt; micro.microdegrees() == microdegrees, "{text}");
-        assert!(rt; micro.text().as_str() == printed, "{text}");
+        assert!(rt; reads_micro(text, microdegrees, printed), "{text}");
     }
+}
+
+#[test]
+fn refuses_other_coordinates(rt: HostRuntime) {
     for text in [
         "180.000001",
         "-180.000001",
@@ -57,13 +66,29 @@ fn reads_and_prints_coordinates(rt: HostRuntime) {
     ] {
         assert!(rt; Micro::read(text).is_none(), "{text}");
     }
-    for beyond in [180_000_001, -180_000_001, i32::MIN] {
-        assert!(rt; Micro::new(beyond).is_none(), "{beyond}");
+    for (microdegrees, is_kept) in [
+        (180_000_000, true),
+        (-180_000_000, true),
+        (180_000_001, false),
+        (-180_000_001, false),
+        (i32::MIN, false),
+    ] {
+        assert!(rt;
+            Micro::new(microdegrees).is_some() == is_kept,
+            "{microdegrees}"
+        );
     }
 }
 
+fn prints_moment(seconds: u64, text: &str) -> bool {
+    let Some(moment) = Moment::new(seconds) else {
+        return false;
+    };
+    moment.seconds() == seconds && moment.text().as_str() == text && moment.later(&moment) == moment
+}
+
 #[test]
-fn prints_and_reads_moments(rt: HostRuntime) {
+fn prints_moments(rt: HostRuntime) {
     for (seconds, text) in [
         (0, "1970-01-01T00:00:00Z"),
         (951_782_400, "2000-02-29T00:00:00Z"),
@@ -72,15 +97,12 @@ fn prints_and_reads_moments(rt: HostRuntime) {
         (4_107_542_400, "2100-03-01T00:00:00Z"),
         (253_402_300_799, "9999-12-31T23:59:59Z"),
     ] {
-        let moment = Moment::new(seconds);
-        assert!(rt; moment.is_some(), "{text}");
-        let Some(moment) = moment else {
-            continue;
-        };
-        assert!(rt; moment.seconds() == seconds, "{text}");
-        assert!(rt; moment.text().as_str() == text, "{text}");
-        assert!(rt; moment.later(&moment) == moment, "{text}");
+        assert!(rt; prints_moment(seconds, text), "{text}");
     }
+}
+
+#[test]
+fn bounds_moments(rt: HostRuntime) {
     assert!(rt; Moment::new(253_402_300_800).is_none());
     assert!(rt; Moment::read("253402300799") == Moment::new(253_402_300_799));
     for text in ["253402300800", "-1", "", "1 ", "00", "18446744073709551616"] {
@@ -88,16 +110,31 @@ fn prints_and_reads_moments(rt: HostRuntime) {
     }
 }
 
+fn reads_dock(text: &str, number: u32) -> bool {
+    let Some(dock) = Within::<1, 200>::read(text) else {
+        return false;
+    };
+    dock.get() == number && read_whole(text, 1, 200) == Some(u64::from(number))
+}
+
+#[test]
+fn bounds_numbers(rt: HostRuntime) {
+    for (number, is_kept) in [(0, false), (1, true), (200, true), (201, false)] {
+        assert!(rt;
+            Within::<1, 200>::new(number).is_some() == is_kept,
+            "{number}"
+        );
+    }
+}
+
+fn reads_signed(text: &str, number: i64) -> bool {
+    read_signed(text, i64::MIN, i64::MAX) == Some(number) && signed_text(number).as_str() == text
+}
+
 #[test]
 fn reads_numbers(rt: HostRuntime) {
     for (text, number) in [("1", 1), ("17", 17), ("200", 200)] {
-        let dock = Within::<1, 200>::read(text);
-        assert!(rt; dock == Within::new(number), "{text}");
-        assert!(rt; dock.is_some_and(|dock| dock.get() == number), "{text}");
-        assert!(rt;
-            read_whole(text, 1, 200) == Some(u64::from(number)),
-            "{text}"
-        );
+        assert!(rt; reads_dock(text, number), "{text}");
     }
     for text in [
         "0",
@@ -112,6 +149,10 @@ fn reads_numbers(rt: HostRuntime) {
     ] {
         assert!(rt; Within::<1, 200>::read(text).is_none(), "{text}");
     }
+}
+
+#[test]
+fn reads_signed_numbers(rt: HostRuntime) {
     for (text, number) in [
         ("0", 0),
         ("-1", -1),
@@ -119,11 +160,7 @@ fn reads_numbers(rt: HostRuntime) {
         ("9223372036854775807", i64::MAX),
         ("-9223372036854775808", i64::MIN),
     ] {
-        assert!(rt;
-            read_signed(text, i64::MIN, i64::MAX) == Some(number),
-            "{text}"
-        );
-        assert!(rt; signed_text(number).as_str() == text, "{text}");
+        assert!(rt; reads_signed(text, number), "{text}");
     }
     for text in [
         "-0",
@@ -158,6 +195,10 @@ fn bounds_local_days(rt: HostRuntime) {
     ] {
         assert!(rt; bounds(date, zone) == Ok(want), "{date}");
     }
+}
+
+#[test]
+fn refuses_other_days(rt: HostRuntime) {
     for (date, zone, fault) in [
         ("2024-02-30", "UTC0", DayFault::BadDate),
         ("2024-02-30", "x", DayFault::BadDate),

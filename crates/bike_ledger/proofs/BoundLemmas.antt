@@ -3,8 +3,9 @@ use Rattle.std.proofs.Common.{ℕ, ℤ, pos, neg_ℤ, ◌*◌, ◌≤◌, ◌≤
 use Rattle.std.proofs.lemmas.Int.{ints}
 use Rattle.bike_ledger.specs.declared.entry.EntryKind.{EntryKind}
 use Rattle.bike_ledger.specs.declared.entry.EntryKind.TheVariants.{TopUp, Fare, Refund}
-use Rattle.bike_ledger.specs.declared.entry.Entry.{Entry}
-use Rattle.bike_ledger.specs.Ledger.{total, credit, cash_in, earned, share, balance_of, cash_of, revenue_of, IsAmount, AreAmounts, IsBalance, greatest_amount}
+use Rattle.bike_ledger.specs.Entries.{Entry}
+use Rattle.bike_ledger.specs.Ledger.{total, credit, cash_in, earned, share, balance_of, cash_of, revenue_of, IsAmount, AreAmounts, IsBalance}
+use Rattle.bike_ledger.specs.Entries.{greatest_amount}
 
 -- neither above the greatest amount nor below what takes it away
 record IsFigure (z : ℤ) : Type 0 where

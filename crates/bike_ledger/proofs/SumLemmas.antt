@@ -5,7 +5,7 @@ use Rattle.std.proofs.lemmas.Int.{ints}
 use Rattle.std.proofs.lemmas.Bool.Decides.{eqb_tells}
 use Rattle.bike_ledger.specs.declared.entry.EntryKind.{EntryKind}
 use Rattle.bike_ledger.specs.declared.entry.EntryKind.TheVariants.{TopUp, Fare, Refund}
-use Rattle.bike_ledger.specs.declared.entry.Entry.{Entry}
+use Rattle.bike_ledger.specs.Entries.{Entry}
 use Rattle.bike_ledger.specs.Ledger.{total, credit, cash_in, earned, share, balance_of}
 use Rattle.bike_ledger.specs.Money.{is_among, AreDistinct, AreOf, balances, IsConserved}
 

@@ -2,7 +2,7 @@
 use Rattle.std.specs.Prelude.{ℕ, ℤ, pos, neg_ℤ, ◌+ℤ◌, ◌≤ℤ◌, List, [], ◌∷◌, ◌==◌, if◌then◌else◌}
 use Rattle.bike_ledger.specs.declared.entry.EntryKind.{EntryKind}
 use Rattle.bike_ledger.specs.declared.entry.EntryKind.TheVariants.{TopUp, Fare, Refund}
-use Rattle.bike_ledger.specs.declared.entry.Entry.{Entry}
+use Rattle.bike_ledger.specs.Entries.{Entry, greatest_amount}
 
 -- the sum of a figure of each entry
 abbrev pub total : (Entry → ℤ) → List Entry → ℤ
@@ -56,10 +56,6 @@ given_back_of rental e = if e.rental == rental then given_back e.kind e.amount e
 -- all refunds of a rental
 abbrev pub refunded_of : ℕ → List Entry → ℤ
 refunded_of rental = total (given_back_of rental)
-
--- the greatest amount of an entry, which is the greatest fare
-abbrev pub greatest_amount : ℤ
-greatest_amount = pos 34561800000
 
 -- what 99,999,999 entries of the greatest amount come to
 abbrev pub greatest_balance : ℤ

@@ -1,7 +1,7 @@
 -- The law of money.
 use Rattle.std.specs.Prelude.{◌≡◌, ℕ, ℤ, pos, ◌+ℤ◌, List, [], ◌∷◌, Bool, true, false, ◌==◌}
 use Rattle.std.specs.List.{list_any}
-use Rattle.bike_ledger.specs.declared.entry.Entry.{Entry}
+use Rattle.bike_ledger.specs.Entries.{Entry}
 use Rattle.bike_ledger.specs.Ledger.{balance_of, cash_of, revenue_of}
 
 -- the rider stands in the list

@@ -1,8 +1,10 @@
 //! Entries of the ledger.
 
-ghost use Rattle.std.specs.Prelude.{◌≡◌, ◌≤ℤ◌, pos};
+ghost use Rattle.std.specs.Prelude.{◌≡◌, ◌≤◌, ◌≤ℤ◌, pos};
+ghost use Rattle.bike_ledger.specs.Entries.{IsEntry};
 
 use bike_fixed::{Cents, Moment, Within};
+use std::marker::Model;
 
 /// The number of an entry, 1 to 100,000,000.
 pub type EntryNumber = Within<1, 100_000_000>;
@@ -18,21 +20,28 @@ pub enum EntryKind {
     Refund,
 }
 
-/// One entry of the ledger.
+/// One entry of the ledger. It is of no rental exactly where it is a top-up, and its amount is 0 to
+/// 34,561,800,000 hundredths.
 #[derive(Clone, Copy, Debug, PartialEq, Eq)]
 pub struct Entry {
-    /// Its number: entries are numbered 1, 2, 3, ..
-    pub number: EntryNumber,
-    /// What it books.
-    pub kind: EntryKind,
-    /// The rider whose balance it changes.
-    pub rider: Within<1, 999_999>,
-    /// The rental of a fare or refund, 1 or more; 0 exactly with a top-up.
-    pub rental: Within<0, 100_000_000>,
-    /// The amount in hundredths of the currency, not below 0.
-    pub amount: Cents,
-    /// When it was booked.
-    pub at: Moment,
+    number: EntryNumber,
+    kind: EntryKind,
+    rider: Within<1, 999_999>,
+    rental: Within<0, 100_000_000>,
+    amount: Cents,
+    at: Moment,
+}
+
+impl Model for Entry {
+    ghost use Rattle.bike_ledger.specs.Entries.{Entry as EntryValue, IsEntry};
+
+    ghost Value = { EntryValue };
+
+    ghost view = { λ a. record { number = a.number; kind = a.kind; rider = a.rider; rental = a.rental; amount = a.amount; at = a.at } };
+
+    ghost invariant = { λ a. IsEntry (record { number = a.number; kind = a.kind; rider = a.rider; rental = a.rental; amount = a.amount; at = a.at }) };
+
+    ghost inverse = { λ e. record { number = e.number; kind = e.kind; rider = e.rider; rental = e.rental; amount = e.amount; at = e.at } };
 }
 
 impl Entry {
@@ -67,11 +76,12 @@ impl Entry {
         requires high { amount ≤ℤ pos 34561800000 }
         ensures { result ≡ record { number = number; kind = EntryKind.Fare; rider = rider; rental = rental; amount = amount; at = at } }
     {
+        let rental = some(rental);
         Entry {
             number,
             kind: EntryKind::Fare,
             rider,
-            rental: some(rental),
+            rental,
             amount,
             at,
         }
@@ -87,14 +97,66 @@ impl Entry {
     ) -> Entry
         ensures { result ≡ record { number = number; kind = EntryKind.Refund; rider = rider; rental = rental; amount = pos amount; at = at } }
     {
+        let rental = some(rental);
         Entry {
             number,
             kind: EntryKind::Refund,
             rider,
-            rental: some(rental),
+            rental,
             amount: Cents::new(i64::from(amount.get())),
             at,
         }
+    }
+
+    /// Tells the bounds of an entry to a proof.
+    pub fn bounds(&self)
+        ensures { IsEntry self.now }
+    {
+        let _ = &self.number;
+    }
+
+    /// Its number: entries are numbered 1, 2, 3, ..
+    pub fn number(&self) -> EntryNumber
+        ensures { result ≡ self.now.number }
+    {
+        self.number
+    }
+
+    /// What it books.
+    pub fn kind(&self) -> EntryKind
+        ensures { result ≡ self.now.kind }
+    {
+        self.kind
+    }
+
+    /// The rider whose balance it changes.
+    pub fn rider(&self) -> Within<1, 999_999>
+        ensures { result ≡ self.now.rider }
+    {
+        self.rider
+    }
+
+    /// The rental of a fare or refund, 1 or more; 0 exactly with a top-up.
+    pub fn rental(&self) -> Within<0, 100_000_000>
+        ensures { result ≡ self.now.rental }
+    {
+        self.rental
+    }
+
+    /// The amount, 0 to 34,561,800,000 hundredths of the currency.
+    pub fn amount(&self) -> Cents
+        ensures value { result ≡ self.now.amount }
+        ensures low { pos 0 ≤ℤ result }
+        ensures high { result ≤ℤ pos 34561800000 }
+    {
+        self.amount
+    }
+
+    /// When it was booked.
+    pub fn at(&self) -> Moment
+        ensures { result ≡ self.now.at }
+    {
+        self.at
     }
 }
 
@@ -108,9 +170,10 @@ fn none() -> Within<0, 100_000_000>
     }
 }
 
-/// This rental.
+/// This rental, and that it isn't none.
 fn some(rental: Within<1, 100_000_000>) -> Within<0, 100_000_000>
-    ensures { result ≡ rental }
+    ensures value { result ≡ rental }
+    ensures low { 1 ≤ result }
 {
     match Within::new(rental.get()) {
         Some(rental) => rental,

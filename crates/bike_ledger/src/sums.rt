@@ -1,7 +1,7 @@
 //! What one more entry does to the sums.
 
 ghost use Rattle.std.specs.Prelude.{◌≡◌, ◌≢◌, ◌≤◌, ◌++◌, ◌∷◌, [], ◌+ℤ◌, ◌-ℤ◌, ◌≤ℤ◌, pos, length, List, ℕ, ℤ};
-ghost use Rattle.bike_ledger.specs.declared.entry.Entry.{Entry};
+ghost use Rattle.bike_ledger.specs.Entries.{Entry};
 ghost use Rattle.bike_ledger.specs.Ledger.{total, credit, cash_in, earned, given_back_of, share, balance_of, cash_of, revenue_of, refunded_of, IsAmount, IsBalance, AreAmounts};
 ghost use Rattle.bike_ledger.specs.Money.{AreDistinct, AreOf, IsConserved};
 
@@ -11,11 +11,10 @@ use bike_fixed::Cents;
 /// The balance of the entry's rider after the entry, in hundredths.
 pub fn balance_after(balance: i64, entry: &Entry) -> i64
     requires balance { IsBalance balance }
-    requires amount { IsAmount entry.now.amount }
     ensures { result ≡ balance +ℤ credit entry.now.kind entry.now.amount }
 {
-    let amount = entry.amount.hundredths();
-    match entry.kind {
+    let amount = entry.amount().hundredths();
+    match entry.kind() {
         EntryKind::TopUp | EntryKind::Refund => balance + amount,
         EntryKind::Fare => balance - amount,
     }
@@ -24,11 +23,10 @@ pub fn balance_after(balance: i64, entry: &Entry) -> i64
 /// The cash after the entry, in hundredths: a top-up comes in, nothing else moves cash.
 pub fn cash_after(cash: Cents, entry: &Entry) -> Cents
     requires cash { IsBalance cash }
-    requires amount { IsAmount entry.now.amount }
     ensures { result ≡ cash +ℤ cash_in entry.now.kind entry.now.amount }
 {
-    match entry.kind {
-        EntryKind::TopUp => Cents::new(cash.hundredths() + entry.amount.hundredths()),
+    match entry.kind() {
+        EntryKind::TopUp => Cents::new(cash.hundredths() + entry.amount().hundredths()),
         EntryKind::Fare | EntryKind::Refund => cash,
     }
 }
@@ -36,11 +34,10 @@ pub fn cash_after(cash: Cents, entry: &Entry) -> Cents
 /// The revenue after the entry, in hundredths: a fare is earned, and a refund is given back out of it.
 pub fn revenue_after(revenue: Cents, entry: &Entry) -> Cents
     requires revenue { IsBalance revenue }
-    requires amount { IsAmount entry.now.amount }
     ensures { result ≡ revenue +ℤ earned entry.now.kind entry.now.amount }
 {
-    let earned = entry.amount.hundredths();
-    match entry.kind {
+    let earned = entry.amount().hundredths();
+    match entry.kind() {
         EntryKind::TopUp => revenue,
         EntryKind::Fare => Cents::new(revenue.hundredths() + earned),
         EntryKind::Refund => Cents::new(revenue.hundredths() - earned),

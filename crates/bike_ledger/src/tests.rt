@@ -31,11 +31,11 @@ fn books_entries(rt: HostRuntime) {
         assert!(rt; row < 3);
         let entry = booked[row];
         row += 1;
-        let hundredths = entry.amount.hundredths();
-        assert!(rt; entry.kind == kind, "{row}");
-        assert!(rt; entry.number.get() as usize == row, "{row}");
-        assert!(rt; entry.rider.get() == 17, "{row}");
-        assert!(rt; entry.rental.get() == rental, "{row}");
+        let hundredths = entry.amount().hundredths();
+        assert!(rt; entry.kind() == kind, "{row}");
+        assert!(rt; entry.number().get() as usize == row, "{row}");
+        assert!(rt; entry.rider().get() == 17, "{row}");
+        assert!(rt; entry.rental().get() == rental, "{row}");
         assert!(rt; hundredths == amount, "{row}");
         assert!(rt; 0 <= hundredths && hundredths <= 2500, "{row}");
         assert!(rt; balance_after(-100, &entry) == balance, "{row}");

@@ -1,60 +1,101 @@
--- Commands are read exactly: both directions, kind by kind, then for the whole text.
-use Rattle.std.proofs.Common.{◌≡◌, ℕ, ◌++◌, List, [], ◌∷◌, cond, Option, Some, None, refl, sym, ap, ◌∙◌, subst, lit<, codes}
-use Rattle.std.specs.Prelude.{IfSome}
+-- Commands are read exactly, both ways, in a whole text.
+use Rattle.std.proofs.Common.{◌≡◌, ℕ, List, [], ◌∷◌, Option, Some, None, Result, Ok, Err, refl, sym, ap, ◌∙◌, subst}
+use Rattle.std.specs.Prelude.{IfSome, IfOk}
+use Rattle.std.specs.declared.alloc.AllocError.{AllocError}
 use Rattle.std.specs.List.{slice_split, join_with_byte}
 use Rattle.std.proofs.lemmas.Option.{option_and_then_some}
 use Rattle.std.proofs.lemmas.List.Splits.{join_with_byte-slice_split}
-use Rattle.bike_fixed.specs.Whole.{number_of}
-use Rattle.bike_requests.specs.declared.command.Command.{Command}
-use Rattle.bike_requests.specs.declared.command.Command.TheVariants.{AddRider, TopUp}
-use Rattle.bike_requests.specs.Parts.{Parts}
-use Rattle.bike_requests.specs.Fields.{Field, Number, AreGood, EachSpells, IsSpelled, HasNoTab}
-use Rattle.bike_requests.specs.Commands.{word_of, fields_of, IsCommand, IsSpelling}
-use Rattle.bike_requests.specs.Readers.{add_rider_at, top_up_at, command_by, command_at}
-use Rattle.bike_requests.specs.Reading.{part_at}
-use Rattle.bike_requests.proofs.Splitting.{is_tab}
-use Rattle.bike_requests.proofs.TabFree.{AreRead, split_join, parts_no_tab, part_is}
-use Rattle.bike_requests.proofs.Chains.{IsReader, number_reader, Rest, takes, ends, gives, given_all, pick}
+use Rattle.bike_commands.specs.declared.command.Command.{Command}
+use Rattle.bike_commands.specs.declared.command.Command.TheVariants.{SetSystem, AddPlan, AddType, SetPlan, AddStation, SetStation, MarkDock, AddBike, MarkBike, RetireBike, AddTruck, AddRider, SetRider, TopUp, Start, End, Recover, Refund, OpenOrder, Load, Unload, CloseOrder}
+use Rattle.bike_commands.specs.Parts.{Parts}
+use Rattle.bike_commands.specs.Fields.{Field, HasNoTab}
+use Rattle.bike_commands.specs.Commands.{word_of, fields_of, IsCommand, IsSpelling}
+use Rattle.bike_commands.specs.Reading.{part_at}
+use Rattle.bike_commands.proofs.Splitting.{is_tab}
+use Rattle.bike_commands.proofs.TabFree.{AreRead, split_join, parts_no_tab, part_is}
+use Rattle.bike_commands.proofs.Chains.{pick}
+use Rattle.bike_requests.specs.Readers.{command_by, command_at}
+use Rattle.bike_requests.proofs.KindLaws.{Left, set_plan_sound, set_plan_full, set_station_sound, set_station_full, mark_dock_sound, mark_dock_full, add_bike_sound, add_bike_full, mark_bike_sound, mark_bike_full, retire_bike_sound, retire_bike_full, add_truck_sound, add_truck_full, add_rider_sound, add_rider_full, set_rider_sound, set_rider_full, top_up_sound, top_up_full, start_sound, start_full, end_sound, end_full, recover_sound, recover_full, refund_sound, refund_full, open_order_sound, open_order_full, load_sound, load_full, unload_sound, unload_full, close_order_sound, close_order_full}
+use Rattle.bike_requests.proofs.RecordLaws.{set_system_sound, set_system_full, add_plan_sound, add_plan_full, add_type_sound, add_type_full, add_station_sound, add_station_full}
 
-abbrev pub Left : List ℕ → Command → List Field → Parts → Type 0
-Left = Rest word_of fields_of
-
-rider_number : IsReader (number_of 1 999999) (Number 1 999999)
-rider_number = number_reader 1 999999 (lit< tt)
-
-payment : IsReader (number_of 1 1000000) (Number 1 1000000)
-payment = number_reader 1 1000000 (lit< tt)
-
-add_rider_sound : (ps : Parts) (c : Command) → add_rider_at ps ≡ Some c → Left (codes "add-rider") c [] ps
-unfolding add_rider_at
-add_rider_sound ps c e = takes _ ps rider_number e (λ r ps e. ends (AddRider r) ps refl refl e)
-
-add_rider_full : (r : ℕ) (ps : Parts) → AreRead (fields_of (AddRider r)) ps → add_rider_at ps ≡ Some (AddRider r)
-unfolding add_rider_at
-add_rider_full r ps e = gives _ r ps rider_number e given_all
-
-top_up_sound : (ps : Parts) (c : Command) → top_up_at ps ≡ Some c → Left (codes "top-up") c [] ps
-unfolding top_up_at
-top_up_sound ps c e = takes _ ps rider_number e (λ r ps e. takes _ ps payment e (λ a ps e. ends (TopUp r a) ps refl refl e))
-
-top_up_full : (r a : ℕ) (ps : Parts) → AreRead (fields_of (TopUp r a)) ps → top_up_at ps ≡ Some (TopUp r a)
-unfolding top_up_at
-top_up_full r a ps e = gives _ r ps rider_number e (λ ps e. gives _ a ps payment e given_all)
+as_word : {word w : List ℕ} {c : Command} {ps : Parts} → word ≡ w → Left w c [] ps → Left word c [] ps
+as_word {c = c} {ps = ps} same left = subst (λ (v : List ℕ). Left v c [] ps) (sym same) left
 
 by_word_sound : (word : List ℕ) (ps : Parts) (c : Command) → command_by word ps ≡ Some c → Left word c [] ps
 unfolding command_by
 by_word_sound word ps c e =
-    pick e (λ w e. subst (λ v. Left v c [] ps) (sym w) (add_rider_sound ps c e)) (λ e.
-    pick e (λ w e. subst (λ v. Left v c [] ps) (sym w) (top_up_sound ps c e)) (λ e. absurd cc))
+    pick e (λ w e. as_word w (set_system_sound ps c e)) (λ e.
+    pick e (λ w e. as_word w (add_plan_sound ps c e)) (λ e.
+    pick e (λ w e. as_word w (add_type_sound ps c e)) (λ e.
+    pick e (λ w e. as_word w (set_plan_sound ps c e)) (λ e.
+    pick e (λ w e. as_word w (add_station_sound ps c e)) (λ e.
+    pick e (λ w e. as_word w (set_station_sound ps c e)) (λ e.
+    pick e (λ w e. as_word w (mark_dock_sound ps c e)) (λ e.
+    pick e (λ w e. as_word w (add_bike_sound ps c e)) (λ e.
+    pick e (λ w e. as_word w (mark_bike_sound ps c e)) (λ e.
+    pick e (λ w e. as_word w (retire_bike_sound ps c e)) (λ e.
+    pick e (λ w e. as_word w (add_truck_sound ps c e)) (λ e.
+    pick e (λ w e. as_word w (add_rider_sound ps c e)) (λ e.
+    pick e (λ w e. as_word w (set_rider_sound ps c e)) (λ e.
+    pick e (λ w e. as_word w (top_up_sound ps c e)) (λ e.
+    pick e (λ w e. as_word w (start_sound ps c e)) (λ e.
+    pick e (λ w e. as_word w (end_sound ps c e)) (λ e.
+    pick e (λ w e. as_word w (recover_sound ps c e)) (λ e.
+    pick e (λ w e. as_word w (refund_sound ps c e)) (λ e.
+    pick e (λ w e. as_word w (open_order_sound ps c e)) (λ e.
+    pick e (λ w e. as_word w (load_sound ps c e)) (λ e.
+    pick e (λ w e. as_word w (unload_sound ps c e)) (λ e.
+    pick e (λ w e. as_word w (close_order_sound ps c e)) (λ e.
+    absurd cc))))))))))))))))))))))
 
 by_word_full : (c : Command) (ps : Parts) → AreRead (fields_of c) ps → command_by (word_of c) ps ≡ Some c
 unfolding command_by
-by_word_full (AddRider r) ps e = add_rider_full r ps e
-by_word_full (TopUp r a) ps e = top_up_full r a ps e
+by_word_full (SetSystem row) ps read = set_system_full row ps read
+by_word_full (AddPlan row) ps read = add_plan_full row ps read
+by_word_full (AddType row) ps read = add_type_full row ps read
+by_word_full (SetPlan type_id plan) ps read = set_plan_full type_id plan ps read
+by_word_full (AddStation row) ps read = add_station_full row ps read
+by_word_full (SetStation station installed renting returning) ps read = set_station_full station installed renting returning ps read
+by_word_full (MarkDock station dock broken) ps read = mark_dock_full station dock broken ps read
+by_word_full (AddBike bike type_id) ps read = add_bike_full bike type_id ps read
+by_word_full (MarkBike bike disabled) ps read = mark_bike_full bike disabled ps read
+by_word_full (RetireBike bike) ps read = retire_bike_full bike ps read
+by_word_full (AddTruck truck capacity) ps read = add_truck_full truck capacity ps read
+by_word_full (AddRider rider) ps read = add_rider_full rider ps read
+by_word_full (SetRider rider blocked) ps read = set_rider_full rider blocked ps read
+by_word_full (TopUp rider amount) ps read = top_up_full rider amount ps read
+by_word_full (Start rider station dock) ps read = start_full rider station dock ps read
+by_word_full (End bike station dock) ps read = end_full bike station dock ps read
+by_word_full (Recover rental) ps read = recover_full rental ps read
+by_word_full (Refund rental amount) ps read = refund_full rental amount ps read
+by_word_full (OpenOrder truck from_end to_end type_id count) ps read = open_order_full truck from_end to_end type_id count ps read
+by_word_full (Load truck order bike) ps read = load_full truck order bike ps read
+by_word_full (Unload truck order bike side dock) ps read = unload_full truck order bike side dock ps read
+by_word_full (CloseOrder order) ps read = close_order_full order ps read
 
 pub word_no_tab : (c : Command) → HasNoTab (word_of c)
-word_no_tab (AddRider r) = refl
-word_no_tab (TopUp r a) = refl
+word_no_tab (SetSystem row) = refl
+word_no_tab (AddPlan row) = refl
+word_no_tab (AddType row) = refl
+word_no_tab (SetPlan type_id plan) = refl
+word_no_tab (AddStation row) = refl
+word_no_tab (SetStation station installed renting returning) = refl
+word_no_tab (MarkDock station dock broken) = refl
+word_no_tab (AddBike bike type_id) = refl
+word_no_tab (MarkBike bike disabled) = refl
+word_no_tab (RetireBike bike) = refl
+word_no_tab (AddTruck truck capacity) = refl
+word_no_tab (AddRider rider) = refl
+word_no_tab (SetRider rider blocked) = refl
+word_no_tab (TopUp rider amount) = refl
+word_no_tab (Start rider station dock) = refl
+word_no_tab (End bike station dock) = refl
+word_no_tab (Recover rental) = refl
+word_no_tab (Refund rental amount) = refl
+word_no_tab (OpenOrder truck from_end to_end type_id count) = refl
+word_no_tab (Load truck order bike) = refl
+word_no_tab (Unload truck order bike side dock) = refl
+word_no_tab (CloseOrder order) = refl
 
 -- the parts are the command's word and fields
 pub record IsReadOf (ps : Parts) (c : Command) : Type 0 where
@@ -99,9 +140,18 @@ command_full text c h =
       read = read;
     })
 
-pub read_found : (text : List ℕ) (o : Option Command) → o ≡ command_at (slice_split is_tab text) → IfSome o (λ c. IsSpelling text c × IsCommand c)
-read_found text None e = tt
-read_found text (Some c) e = let s = command_sound text c (sym e) in (s.spelled, s.good)
+both_laws : (text : List ℕ) (o : Option Command) → o ≡ command_at (slice_split is_tab text)
+    → IfSome o (λ c. IsSpelling text c × IsCommand c) × ((c : Command) → IsCommand c → IsSpelling text c → o ≡ Some c)
+both_laws text o e = (found o e, λ c good spelled. e ∙ command_full text c (record { spelled = spelled; good = good })) where
+  found : (o : Option Command) → o ≡ command_at (slice_split is_tab text) → IfSome o (λ c. IsSpelling text c × IsCommand c)
+  found None e = tt
+  found (Some c) e = let s = command_sound text c (sym e) in (s.spelled, s.good)
 
-pub read_only : (text : List ℕ) (o : Option Command) → o ≡ command_at (slice_split is_tab text) → (c : Command) → IsCommand c → IsSpelling text c → o ≡ Some c
-read_only text o e c good spelled = e ∙ command_full text c (record { spelled = spelled; good = good })
+pub read_found : (text : List ℕ) (r : Result (Option Command) AllocError) → IfOk r (λ o. o ≡ command_at (slice_split is_tab text)) → IfOk r (λ o. IfSome o (λ c. IsSpelling text c × IsCommand c))
+read_found text (Ok o) e = (both_laws text o e).0
+read_found text (Err x) e = tt
+
+pub read_only : (text : List ℕ) (r : Result (Option Command) AllocError) → IfOk r (λ o. o ≡ command_at (slice_split is_tab text))
+    → IfOk r (λ o. (c : Command) → IsCommand c → IsSpelling text c → o ≡ Some c)
+read_only text (Ok o) e = (both_laws text o e).1
+read_only text (Err x) e = tt

@@ -1,7 +1,7 @@
-pub mod Splitting
-pub mod TabFree
-pub mod Chains
+pub mod Escaping
+pub mod SegmentTexts
+pub mod KindLaws
+pub mod RecordLaws
 pub mod CommandLaws
 pub mod OneText
-pub mod ReplyLaws
 pub mod RequestLaws

@@ -1,53 +1,43 @@
 -- A request line is read exactly.
-use Rattle.std.proofs.Common.{◌≡◌, ℕ, ◌≤◌, ◌<◌, ◌^◌, List, [], ◌∷◌, ◌++◌, Bool, true, false, not, eqb, Option, Some, None, refl, sym, ap, ap₂, ◌∙◌, subst, arith, inl, inr, decimal, codes, length, Result, Ok, Err}
-use Rattle.std.specs.Prelude.{IfSome, ◌&&◌, nat_le, ◌||◌, ◌==◌, IfOk, ◌*◌}
+use Rattle.std.proofs.Common.{◌≡◌, ℕ, ◌≤◌, List, [], ◌∷◌, ◌++◌, true, not, eqb, Option, Some, None, refl, sym, ap, ap₂, ◌∙◌, subst, arith, decimal, codes, length, Result, Ok, Err}
+use Rattle.std.specs.Prelude.{IfSome, IfOk}
 use Rattle.std.specs.declared.alloc.AllocError.{AllocError}
 use Rattle.std.specs.Str.{IsUtf8}
 use Rattle.std.specs.List.{slice_split, join_with_byte, list_all}
 use Rattle.std.proofs.lemmas.Option.{option_and_then_some, cond_some, same_Some}
-use Rattle.std.proofs.lemmas.Bool.Decides.{eqb_tells, nat_tests}
 use Rattle.std.proofs.lemmas.List.Splits.{join_with_byte-slice_split}
-use Rattle.bike_fixed.specs.Whole.{number_of, IsNumber, last_moment}
+use Rattle.bike_fixed.specs.Whole.{number_of, last_moment}
 use Rattle.bike_fixed.proofs.Numbers.{number_sound, number_full}
-use Rattle.bike_catalogue.specs.Bytes.{is_key, key_of, is_key_byte, is_ident, is_ident_byte, has_length}
-use Rattle.bike_catalogue.specs.Caller.{IsCaller, caller_text, caller_of}
-use Rattle.bike_catalogue.specs.declared.caller.Caller.{Caller}
-use Rattle.bike_catalogue.specs.declared.caller.Caller.TheVariants.{Office, Rider, Dock, Crew, Import}
-use Rattle.bike_catalogue.proofs.Callers.{caller_sound, caller_full}
-use Rattle.bike_requests.specs.declared.request.Request.{Request}
-use Rattle.bike_requests.specs.declared.command.Command.{Command}
-use Rattle.bike_requests.specs.Parts.{Parts}
-use Rattle.bike_requests.specs.Fields.{HasNoTab, IsSpelled}
-use Rattle.bike_requests.specs.Commands.{word_of, fields_of, IsCommand, IsSpelling}
-use Rattle.bike_requests.specs.Reading.{◌>>=◌, field_at}
+use Rattle.bike_fields.specs.Bytes.{is_key, key_of, is_key_byte, is_ident, is_ident_byte, has_length}
+use Rattle.bike_fields.specs.Caller.{IsCaller, caller_text, caller_of}
+use Rattle.bike_fields.specs.declared.caller.Caller.{Caller}
+use Rattle.bike_fields.specs.declared.caller.Caller.TheVariants.{Office, Rider, Dock, Crew, Import}
+use Rattle.bike_fields.proofs.Callers.{caller_sound, caller_full}
+use Rattle.bike_commands.specs.declared.request.Request.{Request}
+use Rattle.bike_commands.specs.declared.command.Command.{Command}
+use Rattle.bike_commands.specs.Parts.{Parts}
+use Rattle.bike_commands.specs.Fields.{HasNoTab}
+use Rattle.bike_commands.specs.Commands.{word_of, fields_of}
+use Rattle.bike_commands.specs.Reading.{◌>>=◌, field_at}
 use Rattle.bike_requests.specs.Readers.{command_at}
-use Rattle.bike_requests.specs.Requests.{IsRequest, IsLine, line_length}
+use Rattle.bike_commands.specs.Requests.{IsRequest, IsLine, line_length}
 use Rattle.bike_requests.specs.RequestReaders.{request_at}
-use Rattle.bike_requests.proofs.Splitting.{is_tab}
-use Rattle.bike_requests.proofs.TabFree.{AreRead, AreTabFree, decimal_no_tab, all_weaker, split_join, parts_no_tab}
+use Rattle.bike_commands.proofs.Splitting.{is_tab}
+use Rattle.bike_commands.proofs.Absent.{set_lacks, all_append}
+use Rattle.bike_commands.proofs.TabFree.{AreRead, AreTabFree, decimal_no_tab, split_join, parts_no_tab}
+use Rattle.bike_fields.proofs.Lengths.{both_hold}
 use Rattle.bike_requests.proofs.CommandLaws.{IsReadOf, parts_sound, parts_full, word_no_tab}
 
 -- ---- no part of a line has a TAB
 
 append_no_tab : (xs ys : List ℕ) → HasNoTab xs → HasNoTab ys → HasNoTab (xs ++ ys)
-append_no_tab [] ys a b = b
-append_no_tab (x ∷ xs) ys a b = let t = both_hold (not (x == 9)) (list_all (λ b. not (b == 9)) xs) a in rw (t.0, append_no_tab xs ys t.1 b) refl where
-  both_hold : (a b : Bool) → (a && b) ≡ true → (a ≡ true) × (b ≡ true)
-  both_hold true b e = (refl, e)
-  both_hold false b e = absurd cc
-
-both : (a b : Bool) → (a && b) ≡ true → (a ≡ true) × (b ≡ true)
-both true b e = (refl, e)
-both false b e = absurd cc
-
-other_than_tab : (test : ℕ → Bool) → test 9 ≡ false → (x : ℕ) → test x ≡ true → not (eqb x 9) ≡ true
-other_than_tab test none x e = elim (eqb_tells x 9) [ inl w ↦ absurd (let f : test x ≡ false = ap test w.1 ∙ none in cc) | inr w ↦ ap not w.0 ]
+append_no_tab xs ys a b = all_append (λ x. not (eqb x 9)) xs ys a b
 
 key_no_tab : (key : List ℕ) → is_key key ≡ true → HasNoTab key
-key_no_tab key good = all_weaker is_key_byte (λ b. not (eqb b 9)) (other_than_tab is_key_byte refl) key (both (has_length 1 64 key) (list_all is_key_byte key) good).1
+key_no_tab key good = set_lacks is_key_byte 9 refl key (both_hold (has_length 1 64 key) (list_all is_key_byte key) good).1
 
 ident_no_tab : (name : List ℕ) → is_ident name ≡ true → HasNoTab name
-ident_no_tab name good = all_weaker is_ident_byte (λ b. not (eqb b 9)) (other_than_tab is_ident_byte refl) name (both (has_length 1 36 name) (list_all is_ident_byte name) good).1
+ident_no_tab name good = set_lacks is_ident_byte 9 refl name (both_hold (has_length 1 36 name) (list_all is_ident_byte name) good).1
 
 caller_no_tab : (c : Caller) → IsCaller c → HasNoTab (caller_text c)
 caller_no_tab Office good = refl

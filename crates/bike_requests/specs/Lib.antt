@@ -1,10 +1,4 @@
-pub mod Fields
-pub mod Parts
-pub mod Reading
-pub mod Refusals
-pub mod Commands
+pub mod Writing
+pub mod RecordReaders
 pub mod Readers
-pub mod Replies
-pub mod ReplyReaders
-pub mod Requests
 pub mod RequestReaders

@@ -1,30 +1,193 @@
 -- What is read of a command, a block for each kind.
-use Rattle.std.specs.Prelude.{ℕ, List, Option, Some, None, ◌==◌, if◌then◌else◌, codes}
-use Rattle.std.specs.List.{slice_split}
+use Rattle.std.specs.Prelude.{ℕ, List, Bool, Option, Some, None, if◌then◌else◌, codes}
 use Rattle.std.specs.Str.{bytes_eq}
 use Rattle.bike_fixed.specs.Whole.{number_of}
-use Rattle.bike_requests.specs.declared.command.Command.{Command}
-use Rattle.bike_requests.specs.declared.command.Command.TheVariants.{AddRider, TopUp}
-use Rattle.bike_requests.specs.Parts.{Parts}
-use Rattle.bike_requests.specs.Reading.{◌>>=◌, part_at, field_at, no_more}
+use Rattle.bike_fields.specs.Bytes.{ident_of}
+use Rattle.bike_commands.specs.declared.command.Command.{Command}
+use Rattle.bike_commands.specs.declared.command.Command.TheVariants.{SetPlan, SetStation, MarkDock, AddBike, MarkBike, RetireBike, AddTruck, AddRider, SetRider, TopUp, Start, End, Recover, Refund, OpenOrder, Load, Unload, CloseOrder}
+use Rattle.bike_commands.specs.Parts.{Parts}
+use Rattle.bike_commands.specs.Reading.{◌>>=◌, part_at, field_at, no_more, choice_of, side_of, end_of}
+use Rattle.bike_requests.specs.RecordReaders.{set_system_at, add_plan_at, add_type_at, add_station_at}
+
+-- riders, bicycles and trucks; docks; rentals and orders; payments in hundredths; bicycles on a truck
+abbrev pub numbered_of : List ℕ → Option ℕ
+numbered_of = number_of 1 999999
+
+abbrev pub dock_of : List ℕ → Option ℕ
+dock_of = number_of 1 200
+
+abbrev pub serial_of : List ℕ → Option ℕ
+serial_of = number_of 1 100000000
+
+abbrev pub payment_of : List ℕ → Option ℕ
+payment_of = number_of 1 1000000
+
+abbrev pub few_of : List ℕ → Option ℕ
+few_of = number_of 1 60
+
+-- a truth value
+abbrev pub flag_of : List ℕ → Option Bool
+flag_of = choice_of (codes "true") (codes "false")
+
+unfoldable pub set_plan_at : Parts → Option Command
+set_plan_at ps = do
+  type_id ← field_at ident_of ps
+  plan ← field_at ident_of type_id.1
+  end ← no_more plan.1
+  Some (SetPlan type_id.0 plan.0)
+
+unfoldable pub set_station_at : Parts → Option Command
+set_station_at ps = do
+  station ← field_at ident_of ps
+  installed ← field_at flag_of station.1
+  renting ← field_at flag_of installed.1
+  returning ← field_at flag_of renting.1
+  end ← no_more returning.1
+  Some (SetStation station.0 installed.0 renting.0 returning.0)
+
+unfoldable pub mark_dock_at : Parts → Option Command
+mark_dock_at ps = do
+  station ← field_at ident_of ps
+  dock ← field_at dock_of station.1
+  broken ← field_at (choice_of (codes "broken") (codes "working")) dock.1
+  end ← no_more broken.1
+  Some (MarkDock station.0 dock.0 broken.0)
+
+unfoldable pub add_bike_at : Parts → Option Command
+add_bike_at ps = do
+  bike ← field_at numbered_of ps
+  type_id ← field_at ident_of bike.1
+  end ← no_more type_id.1
+  Some (AddBike bike.0 type_id.0)
+
+unfoldable pub mark_bike_at : Parts → Option Command
+mark_bike_at ps = do
+  bike ← field_at numbered_of ps
+  disabled ← field_at (choice_of (codes "disabled") (codes "fit")) bike.1
+  end ← no_more disabled.1
+  Some (MarkBike bike.0 disabled.0)
+
+unfoldable pub retire_bike_at : Parts → Option Command
+retire_bike_at ps = do
+  bike ← field_at numbered_of ps
+  end ← no_more bike.1
+  Some (RetireBike bike.0)
+
+unfoldable pub add_truck_at : Parts → Option Command
+add_truck_at ps = do
+  truck ← field_at numbered_of ps
+  capacity ← field_at few_of truck.1
+  end ← no_more capacity.1
+  Some (AddTruck truck.0 capacity.0)
 
 unfoldable pub add_rider_at : Parts → Option Command
 add_rider_at ps = do
-  rider ← field_at (number_of 1 999999) ps
+  rider ← field_at numbered_of ps
   end ← no_more rider.1
   Some (AddRider rider.0)
 
+unfoldable pub set_rider_at : Parts → Option Command
+set_rider_at ps = do
+  rider ← field_at numbered_of ps
+  blocked ← field_at (choice_of (codes "blocked") (codes "open")) rider.1
+  end ← no_more blocked.1
+  Some (SetRider rider.0 blocked.0)
+
 unfoldable pub top_up_at : Parts → Option Command
 top_up_at ps = do
-  rider ← field_at (number_of 1 999999) ps
-  amount ← field_at (number_of 1 1000000) rider.1
+  rider ← field_at numbered_of ps
+  amount ← field_at payment_of rider.1
   end ← no_more amount.1
   Some (TopUp rider.0 amount.0)
 
+unfoldable pub start_at : Parts → Option Command
+start_at ps = do
+  rider ← field_at numbered_of ps
+  station ← field_at ident_of rider.1
+  dock ← field_at dock_of station.1
+  end ← no_more dock.1
+  Some (Start rider.0 station.0 dock.0)
+
+unfoldable pub end_at : Parts → Option Command
+end_at ps = do
+  bike ← field_at numbered_of ps
+  station ← field_at ident_of bike.1
+  dock ← field_at dock_of station.1
+  end ← no_more dock.1
+  Some (End bike.0 station.0 dock.0)
+
+unfoldable pub recover_at : Parts → Option Command
+recover_at ps = do
+  rental ← field_at serial_of ps
+  end ← no_more rental.1
+  Some (Recover rental.0)
+
+unfoldable pub refund_at : Parts → Option Command
+refund_at ps = do
+  rental ← field_at serial_of ps
+  amount ← field_at payment_of rental.1
+  end ← no_more amount.1
+  Some (Refund rental.0 amount.0)
+
+unfoldable pub open_order_at : Parts → Option Command
+open_order_at ps = do
+  truck ← field_at numbered_of ps
+  from_end ← field_at end_of truck.1
+  to_end ← field_at end_of from_end.1
+  type_id ← field_at ident_of to_end.1
+  count ← field_at few_of type_id.1
+  end ← no_more count.1
+  Some (OpenOrder truck.0 from_end.0 to_end.0 type_id.0 count.0)
+
+unfoldable pub load_at : Parts → Option Command
+load_at ps = do
+  truck ← field_at numbered_of ps
+  order ← field_at serial_of truck.1
+  bike ← field_at numbered_of order.1
+  end ← no_more bike.1
+  Some (Load truck.0 order.0 bike.0)
+
+unfoldable pub unload_at : Parts → Option Command
+unload_at ps = do
+  truck ← field_at numbered_of ps
+  order ← field_at serial_of truck.1
+  bike ← field_at numbered_of order.1
+  side ← field_at side_of bike.1
+  dock ← field_at (number_of 0 200) side.1
+  end ← no_more dock.1
+  Some (Unload truck.0 order.0 bike.0 side.0 dock.0)
+
+unfoldable pub close_order_at : Parts → Option Command
+close_order_at ps = do
+  order ← field_at serial_of ps
+  end ← no_more order.1
+  Some (CloseOrder order.0)
+
 unfoldable pub command_by : List ℕ → Parts → Option Command
 command_by word ps =
+    if bytes_eq word (codes "set-system") then set_system_at ps else (
+    if bytes_eq word (codes "add-plan") then add_plan_at ps else (
+    if bytes_eq word (codes "add-type") then add_type_at ps else (
+    if bytes_eq word (codes "set-plan") then set_plan_at ps else (
+    if bytes_eq word (codes "add-station") then add_station_at ps else (
+    if bytes_eq word (codes "set-station") then set_station_at ps else (
+    if bytes_eq word (codes "mark-dock") then mark_dock_at ps else (
+    if bytes_eq word (codes "add-bike") then add_bike_at ps else (
+    if bytes_eq word (codes "mark-bike") then mark_bike_at ps else (
+    if bytes_eq word (codes "retire-bike") then retire_bike_at ps else (
+    if bytes_eq word (codes "add-truck") then add_truck_at ps else (
     if bytes_eq word (codes "add-rider") then add_rider_at ps else (
-    if bytes_eq word (codes "top-up") then top_up_at ps else None)
+    if bytes_eq word (codes "set-rider") then set_rider_at ps else (
+    if bytes_eq word (codes "top-up") then top_up_at ps else (
+    if bytes_eq word (codes "start") then start_at ps else (
+    if bytes_eq word (codes "end") then end_at ps else (
+    if bytes_eq word (codes "recover") then recover_at ps else (
+    if bytes_eq word (codes "refund") then refund_at ps else (
+    if bytes_eq word (codes "open-order") then open_order_at ps else (
+    if bytes_eq word (codes "load") then load_at ps else (
+    if bytes_eq word (codes "unload") then unload_at ps else (
+    if bytes_eq word (codes "close-order") then close_order_at ps else (
+    None))))))))))))))))))))))
 
 unfoldable pub command_at : Parts → Option Command
 command_at ps = do

@@ -2,13 +2,12 @@
 
 ghost use Rattle.std.specs.Prelude.{◌≡◌, ◌≤◌, ℕ, IfOk, IfSome, Some};
 ghost use Rattle.bike_fixed.specs.Whole.{last_moment};
-ghost use Rattle.bike_requests.specs.declared.request.Request.{Request};
-ghost use Rattle.bike_requests.specs.Requests.{IsRequest, IsLine};
+ghost use Rattle.bike_commands.specs.declared.request.Request.{Request};
+ghost use Rattle.bike_commands.specs.Requests.{IsRequest, IsLine};
 ghost use Rattle.bike_requests.specs.RequestReaders.{request_at};
 
-use crate::fields::Fields;
 use crate::reading::read_rest;
-use crate::request::Request;
+use bike_commands::{Fields, Request};
 use bike_fixed::Moment;
 use std::alloc::{AllocError, Global};
 
@@ -28,7 +27,7 @@ fn read_request(alloc: Global, mut fields: Fields) -> Result<Option<(Moment, Req
     let Some(key) = fields.key(alloc)? else {
         return Ok(None);
     };
-    let Some(command) = read_rest(fields) else {
+    let Some(command) = read_rest(alloc, fields)? else {
         return Ok(None);
     };
     Ok(Some((

@@ -1,58 +1,69 @@
 //! Reading the text of a command.
 
 ghost use Rattle.std.specs.Prelude.{◌≡◌, IfOk, IfSome, Some};
-ghost use Rattle.bike_requests.specs.declared.command.Command.{Command};
-ghost use Rattle.bike_requests.specs.Commands.{IsSpelling, IsCommand};
-ghost use Rattle.bike_requests.specs.Readers.{add_rider_at, top_up_at, command_by, command_at};
+ghost use Rattle.bike_commands.specs.declared.command.Command.{Command};
+ghost use Rattle.bike_commands.specs.Commands.{IsSpelling, IsCommand};
+ghost use Rattle.bike_requests.specs.Readers.{command_by, command_at};
 
-use crate::command::Command;
-use crate::fields::Fields;
+use crate::read_network::{
+    read_add_bike, read_add_truck, read_mark_bike, read_mark_dock, read_retire_bike, read_set_plan,
+    read_set_station,
+};
+use crate::read_orders::{read_close_order, read_load, read_open_order, read_unload};
+use crate::read_records::{read_add_plan, read_add_station, read_add_type, read_set_system};
+use crate::read_riding::{
+    read_add_rider, read_end, read_recover, read_refund, read_set_rider, read_start, read_top_up,
+};
+use bike_commands::{Command, Fields};
 use std::alloc::{AllocError, Global};
 
-#[tactic(auto, unfolding(crate::specs::Readers::add_rider_at))]
-fn read_add_rider(mut fields: Fields) -> Option<Command>
-    ensures { result ≡ add_rider_at fields.entry }
-{
-    let rider = fields.number()?;
-    fields.end()?;
-    Some(Command::AddRider { rider })
-}
-
-#[tactic(auto, unfolding(crate::specs::Readers::top_up_at))]
-fn read_top_up(mut fields: Fields) -> Option<Command>
-    ensures { result ≡ top_up_at fields.entry }
-{
-    let rider = fields.number()?;
-    let amount = fields.number()?;
-    fields.end()?;
-    Some(Command::TopUp { rider, amount })
-}
-
 #[tactic(auto, unfolding(crate::specs::Readers::command_by))]
-fn read_kind(word: &str, fields: Fields) -> Option<Command>
-    ensures { result ≡ command_by word.now fields.entry }
+fn read_kind(alloc: Global, word: &str, fields: Fields) -> Result<Option<Command>, AllocError>
+    ensures { IfOk result (λ o. o ≡ command_by word.now fields.entry) }
 {
     match word {
-        "add-rider" => read_add_rider(fields),
-        "top-up" => read_top_up(fields),
-        _ => None,
+        "set-system" => read_set_system(alloc, fields),
+        "add-plan" => read_add_plan(alloc, fields),
+        "add-type" => read_add_type(alloc, fields),
+        "set-plan" => read_set_plan(alloc, fields),
+        "add-station" => read_add_station(alloc, fields),
+        "set-station" => read_set_station(alloc, fields),
+        "mark-dock" => read_mark_dock(alloc, fields),
+        "add-bike" => read_add_bike(alloc, fields),
+        "mark-bike" => Ok(read_mark_bike(fields)),
+        "retire-bike" => Ok(read_retire_bike(fields)),
+        "add-truck" => Ok(read_add_truck(fields)),
+        "add-rider" => Ok(read_add_rider(fields)),
+        "set-rider" => Ok(read_set_rider(fields)),
+        "top-up" => Ok(read_top_up(fields)),
+        "start" => read_start(alloc, fields),
+        "end" => read_end(alloc, fields),
+        "recover" => Ok(read_recover(fields)),
+        "refund" => Ok(read_refund(fields)),
+        "open-order" => read_open_order(alloc, fields),
+        "load" => Ok(read_load(fields)),
+        "unload" => Ok(read_unload(fields)),
+        "close-order" => Ok(read_close_order(fields)),
+        _ => Ok(None),
     }
 }
 
-/// The command whose word and fields are all that is left.
+/// The command whose word and fields are all that is left; an error where memory was refused.
 #[tactic(auto, unfolding(crate::specs::Readers::command_at))]
-pub fn read_rest(mut fields: Fields) -> Option<Command>
-    ensures { result ≡ command_at fields.entry }
+pub fn read_rest(alloc: Global, mut fields: Fields) -> Result<Option<Command>, AllocError>
+    ensures { IfOk result (λ o. o ≡ command_at fields.entry) }
 {
-    let word = fields.part()?;
-    read_kind(word, fields)
+    let Some(word) = fields.part() else {
+        return Ok(None);
+    };
+    read_kind(alloc, word, fields)
 }
 
 /// The command that the text spells: its word and its fields, joined by single TABs. None where it
 /// spells none; an error where memory was refused.
-pub fn read_command(_alloc: Global, text: &str) -> Result<Option<Command>, AllocError>
+pub fn read_command(alloc: Global, text: &str) -> Result<Option<Command>, AllocError>
     ensures found { IfOk result (λ o. IfSome o (λ c. IsSpelling text.now c × IsCommand c)) }
     ensures only { IfOk result (λ o. (c : Command) → IsCommand c → IsSpelling text.now c → o ≡ Some c) }
 {
-    Ok(read_rest(Fields::of(text)))
+    read_rest(alloc, Fields::of(text))
 }

@@ -103,7 +103,7 @@ lt_test : (v k : Value) → is_null v ≡ false → is_null k ≡ false → is_t
 unfolding binary
 lt_test v k p q = rw (p, q) (truth_of (is_lt (value_cmp v k)))
 
--- key >= ? AND key < ?
+-- key >= the first parameter AND key < the second
 abbrev pub range_tests : List Term
 range_tests = op2 (Compare Ge Binary) (col 1 0) (col 0 0) ∷ op2 (Compare Lt Binary) (col 1 0) (col 0 1) ∷ []
 

@@ -1,19 +1,19 @@
--- UNION ALL of two tables, sorted by what it shows, answers the rows of both in that order.
-use Rattle.std.proofs.Common.{◌≡◌, inl, inr, ℕ, ◌^◌, List, [], ◌∷◌, ◌++◌, map, flat_map, take, cond, true, false, nat_le, refl, sym, ap, ap₂, subst, ◌∙◌}
+-- UNION ALL of two tables, sorted by what it shows, answers the rows of both in that order. Where what comes first tells the tables apart, these are the rows of the one and then those of the other.
+use Rattle.std.proofs.Common.{◌≡◌, inl, inr, ℕ, ◌^◌, List, [], ◌∷◌, ◌++◌, map, flat_map, take, length, cond, true, false, nat_le, Less, refl, sym, ap, ap₂, subst, ◌∙◌}
 use Rattle.std.specs.Ordering.{is_lt}
 use Rattle.std.specs.List.Sorted.{IsPermutation}
 use Rattle.std.proofs.lemmas.List.{map-append}
 use Rattle.std.proofs.lemmas.List.Sorted.{IsPermutation-map, IsPermutation-sym, IsPermutation-trans, IsPermutation-append}
 use Rattle.sqlite_value.specs.declared.value.Value.TheVariants.{Null}
 use Rattle.sqlite_value.specs.declared.keys.Collation.{Collation}
+use Rattle.sqlite_value.specs.declared.keys.Collation.TheVariants.{Binary}
 use Rattle.sqlite_value.specs.Order.{Row, column, row_cmp}
 use Rattle.sqlite_trees.specs.Tree.{Trees}
-use Rattle.sqlite_sql.specs.Term.{Term, eval_all}
+use Rattle.sqlite_sql.specs.Term.{Term, lit, eval_all}
 use Rattle.sqlite_sql.specs.Query.{Query, IsAnswerAs, IsSureAnswer, output, Output, output_cmp}
 use Rattle.sqlite_sql.specs.Program.{overlay, selected, combined, Computes}
 use Rattle.sqlite_sql.specs.declared.query.SetOp.TheVariants.{UnionAll}
 use Rattle.sqlite_sql.proofs.QueryLemmas.{output_cmp_total}
-use Rattle.sqlite_schema.specs.declared.program.Table.{Table as Let}
 use Rattle.sqlite_schema.specs.declared.command.Command.TheVariants.{Select}
 use Rattle.sqlite_schema.specs.Program.{let_in}
 use Rattle.sqlite_rules.specs.Lists.{Has}
@@ -24,11 +24,11 @@ use Rattle.bike_rows.specs.Stands.{rows_of, Stands}
 use Rattle.bike_rows.specs.Answer.{HasOneAnswer}
 use Rattle.bike_rows.specs.Keyed.{in_order}
 use Rattle.bike_rows.specs.View.{columns_of, by_key}
-use Rattle.bike_rows.specs.Queries.{table_query, by_columns}
-use Rattle.bike_rows.proofs.OrderLemmas.{all_from, all_has}
+use Rattle.bike_rows.specs.Queries.{table_query, by_columns, union_tree, union_tables, union_query}
+use Rattle.bike_rows.proofs.OrderLemmas.{all_from, all_has, Rises, rises, rises_append}
 use Rattle.bike_rows.proofs.ListLemmas.{map_has, map_map, map_same, filter_all, permuted}
 use Rattle.bike_rows.proofs.TreeLemmas.{by_key_total}
-use Rattle.bike_rows.proofs.SortLemmas.{NoneAbove, AreApartAll, ascends, ordered_is, order_permutes}
+use Rattle.bike_rows.proofs.SortLemmas.{NoneAbove, AreApartAll, ascends, ordered_is, order_permutes, order_map, rising_apart, rising_is}
 use Rattle.bike_rows.proofs.AnswerLemmas.{no_overlay, out, answered}
 use Rattle.bike_rows.proofs.KeyOrderLemmas.{compares, keyed_apart}
 use Rattle.bike_rows.proofs.FrameLemmas.{rows_of_is}
@@ -50,10 +50,6 @@ module _ (tree : ℕ) (project : List Term) (collations : List Collation) (db : 
       let from : map (λ (o : Output). o.1) a.kept ≡ map (λ r. eval_all project (params ∷ r ∷ [])) (db tree) =
       ap (map (λ (o : Output). o.1)) (kept ∙ map_map (λ r. params ∷ r ∷ []) (output part) (db tree)) ∙ map_map (λ r. output part (params ∷ r ∷ [])) (λ (o : Output). o.1) (db tree) in
       subst (IsPermutation (map (λ r. eval_all project (params ∷ r ∷ [])) (db tree))) (sym a.shown) (subst (λ xs. IsPermutation xs (map (λ (o : Output). o.1) a.ordered)) from moved)
-
--- the number of the tree that the parts' union has, after the two parts
-abbrev pub union_tree : ℕ
-union_tree = 2147483650
 
 module _ (t u : ℕ) (first second : List Term) (db : Trees) (params : Row) where
   -- the rows of each part, and both in turn
@@ -123,21 +119,22 @@ module _ (keys : ℕ) (places : List ℕ) (project : List Term) (trees : Trees) 
         rise outs (λ y has. from y (inr has)) up.1,
       )
 
--- A union of two keyed tables, of which it shows `left` and `right`, has one answer where no two of its rows have one key.
-module _ (keys : ℕ) (k1 k2 : ℕ) (a b : Layout) (db : Database) (was : Stands db k1 a) (also : Stands db k2 b) (text : List ℕ) (params : Row) (lets : List Let) (names : List (List ℕ)) (first second project : List Term) (collations by : List Collation) (width : ℕ) (places : List ℕ)
-    (left right : Row → Row) (means : Reads db.schema text (Select (record { lets = lets; body = table_query union_tree [] (by_columns places) project }) names))
-    (lets_are : map let_in lets ≡ selected (part was.tree first collations db.trees params) ∷ selected (part also.tree second collations db.trees params) ∷ combined UnionAll 0 1 width by ∷ [])
-    (keyed_by : (r : Row) → take keys (eval_all project (params ∷ r ∷ [])) ≡ map (column r) places) (shows_left : (r : Row) → eval_all project (params ∷ eval_all first (params ∷ r ∷ []) ∷ []) ≡ left (columns_of (table_of a was.tree) r))
-    (shows_right : (r : Row) → eval_all project (params ∷ eval_all second (params ∷ r ∷ []) ∷ []) ≡ right (columns_of (table_of b also.tree) r))
-    (apart : AreApartAll (by_key_total keys) (map left (rows_of k1 a.name db) ++ map right (rows_of k2 b.name db))) where
+-- A union of two keyed tables, of whose rows it shows `left` and `right`.
+module _ (keys : ℕ) (k1 k2 : ℕ) (a b : Layout) (db : Database) (was : Stands db k1 a) (also : Stands db k2 b) (text : List ℕ) (params : Row) (first second project : List Term) (collations : List Collation) (places : List ℕ) (names : List (List ℕ)) (left right : Row → Row)
+    (means : Reads db.schema text (Select (record { lets = union_tables was.tree also.tree first second collations; body = union_query places project }) names)) (keyed_by : (r : Row) → take keys (eval_all project (params ∷ r ∷ [])) ≡ map (column r) places)
+    (shows_left : (r : Row) → eval_all project (params ∷ eval_all (lit Null ∷ first) (params ∷ r ∷ []) ∷ []) ≡ left (columns_of (table_of a was.tree) r))
+    (shows_right : (r : Row) → eval_all project (params ∷ eval_all (lit Null ∷ second) (params ∷ r ∷ []) ∷ []) ≡ right (columns_of (table_of b also.tree) r)) where
   abbrev both : List Row
   both = map left (rows_of k1 a.name db) ++ map right (rows_of k2 b.name db)
 
   abbrev body : Query
-  body = table_query union_tree [] (by_columns places) project
+  body = union_query places project
 
   abbrev seen : Row → Row
   seen r = eval_all project (params ∷ r ∷ [])
+
+  abbrev computed : (P : List (List Row) → Type 0) → Computes db.trees params [] (map let_in (union_tables was.tree also.tree first second collations)) P → Parts was.tree also.tree (lit Null ∷ first) (lit Null ∷ second) db.trees params P
+  computed = parted was.tree also.tree (lit Null ∷ first) (lit Null ∷ second) db.trees params (Binary ∷ []) collations (length collations) was.has.stored also.has.stored
 
   -- the rows of one table, as the union shows them
   side : (n : ℕ) (layout : Layout) (it : Stands db n layout) (parts : List Term) (show : Row → Row) (rows : List Row) → ((r : Row) → eval_all project (params ∷ eval_all parts (params ∷ r ∷ []) ∷ []) ≡ show (columns_of (table_of layout it.tree) r))
@@ -151,25 +148,49 @@ module _ (keys : ℕ) (k1 k2 : ℕ) (a b : Layout) (db : Database) (was : Stands
       IsPermutation-trans _ _ _ (IsPermutation-sym _ _ (IsPermutation-map show (map f stored) (rows_of n layout.name db) ordered))
       (subst (λ xs. IsPermutation xs (map seen rows)) (sym shown_rows) (IsPermutation-map seen (map (λ r. eval_all parts (params ∷ r ∷ [])) stored) rows same))
 
-  one : (rows : List Row) (p : Parts was.tree also.tree first second db.trees params (λ tables. IsAnswerAs Null body (overlay db.trees tables) params rows)) → rows ≡ in_order (by_key keys) both
-  one rows p =
+  one : AreApartAll (by_key_total keys) both → (rows : List Row) (p : Parts was.tree also.tree (lit Null ∷ first) (lit Null ∷ second) db.trees params (λ tables. IsAnswerAs Null body (overlay db.trees tables) params rows)) → rows ≡ in_order (by_key keys) both
+  one apart rows p =
       let trees = overlay db.trees (p.left ∷ p.right ∷ (p.left ++ p.right) ∷ []) in
       let it = union_rows keys places project trees params keyed_by rows p.whole in
       let sides : IsPermutation both (map seen (p.left ++ p.right)) = subst (IsPermutation both) (sym (map-append seen p.left p.right))
-      (IsPermutation-append (map left (rows_of k1 a.name db)) (map seen p.left) (map right (rows_of k2 b.name db)) (map seen p.right) (side k1 a was first left p.left shows_left p.left_is) (side k2 b also second right p.right shows_right p.right_is)) in
+      (IsPermutation-append (map left (rows_of k1 a.name db)) (map seen p.left) (map right (rows_of k2 b.name db)) (map seen p.right) (side k1 a was (lit Null ∷ first) left p.left shows_left p.left_is) (side k2 b also (lit Null ∷ second) right p.right shows_right p.right_is)) in
       ordered_is (by_key_total keys) both rows (IsPermutation-trans _ _ _ sides it.0) it.1 apart
 
-  pub union_answer : HasOneAnswer db text params (in_order (by_key keys) both)
-  union_answer = record {
-    program = record { lets = lets; body = body };
+  -- where no two rows have one key: the rows of both, in the order of what it shows
+  pub union_answer : AreApartAll (by_key_total keys) both → HasOneAnswer db text params (in_order (by_key keys) both)
+  union_answer apart = record {
+    program = record { lets = union_tables was.tree also.tree first second collations; body = body };
     names = names;
     means = means;
     whole = λ rows answer.
-        let p = parted was.tree also.tree first second db.trees params collations by width was.has.stored also.has.stored (λ tables. IsSureAnswer body (overlay db.trees tables) params rows)
-        (subst (λ ls. Computes db.trees params [] ls (λ tables. IsSureAnswer body (overlay db.trees tables) params rows)) lets_are answer) in
-        one rows (record { left = p.left; right = p.right; left_is = p.left_is; right_is = p.right_is; whole = p.whole Null });
+        let p = computed (λ tables. IsSureAnswer body (overlay db.trees tables) params rows) answer in
+        one apart rows (record { left = p.left; right = p.right; left_is = p.left_is; right_is = p.right_is; whole = p.whole Null });
     begins = λ rows start.
-        let p = parted was.tree also.tree first second db.trees params collations by width was.has.stored also.has.stored (λ tables. (tail : List Row) × IsSureAnswer body (overlay db.trees tables) params (rows ++ tail))
-        (subst (λ ls. Computes db.trees params [] ls (λ tables. (tail : List Row) × IsSureAnswer body (overlay db.trees tables) params (rows ++ tail))) lets_are start) in
-        (p.whole.0, one (rows ++ p.whole.0) (record { left = p.left; right = p.right; left_is = p.left_is; right_is = p.right_is; whole = p.whole.1 Null }));
+        let p = computed (λ tables. (tail : List Row) × IsSureAnswer body (overlay db.trees tables) params (rows ++ tail)) start in
+        (p.whole.0, one apart (rows ++ p.whole.0) (record { left = p.left; right = p.right; left_is = p.left_is; right_is = p.right_is; whole = p.whole.1 Null }));
   }
+
+  -- what is shown of a table's rows rises, where it is in the order of their keys
+  shown_rises : (n : ℕ) (layout : Layout) (it : Stands db n layout) (show : Row → Row) → ((r s : Row) → by_key keys (show (columns_of (table_of layout it.tree) r)) (show (columns_of (table_of layout it.tree) s)) ≡ by_key n (columns_of (table_of layout it.tree) r) (columns_of (table_of layout it.tree) s))
+      → Rises (by_key_total keys) (map show (rows_of n layout.name db))
+  shown_rises n layout it show keeps =
+      let f = columns_of (table_of layout it.tree) in
+      let stored = db.trees it.tree in
+      let by = λ (x y : Row). by_key n (f x) (f y) in
+      let ordered : in_order (by_key keys) (map (λ r. show (f r)) stored) ≡ map show (rows_of n layout.name db) =
+      order_map by (by_key keys) (λ r. show (f r)) keeps stored ∙ sym (map_map f show (in_order by stored)) ∙ ap (map show) (sym (order_map by (by_key n) f (λ x y. refl) stored) ∙ sym (rows_of_is db n layout it)) in
+      subst (Rises (by_key_total keys)) ordered (rises (by_key_total keys) (map (λ r. show (f r)) stored))
+
+  -- where it shows each table in the order of its keys, and what comes first tells the tables apart: the rows of the one, and then those of the other
+  pub ranked_answer : ((r s : Row) → by_key keys (left (columns_of (table_of a was.tree) r)) (left (columns_of (table_of a was.tree) s)) ≡ by_key k1 (columns_of (table_of a was.tree) r) (columns_of (table_of a was.tree) s))
+      → ((r s : Row) → by_key keys (right (columns_of (table_of b also.tree) r)) (right (columns_of (table_of b also.tree) s)) ≡ by_key k2 (columns_of (table_of b also.tree) r) (columns_of (table_of b also.tree) s))
+      → ((r s : Row) → by_key keys (left r) (right s) ≡ Less) → HasOneAnswer db text params both
+  ranked_answer keeps_left keeps_right ranks =
+      let one_side = map left (rows_of k1 a.name db) in
+      let other_side = map right (rows_of k2 b.name db) in
+      let up : Rises (by_key_total keys) both = rises_append (by_key_total keys) one_side other_side (shown_rises k1 a was left keeps_left) (shown_rises k2 b also right keeps_right)
+      (λ x y p q.
+      let r = map_has left (rows_of k1 a.name db) x p in
+      let s = map_has right (rows_of k2 b.name db) y q in
+      rw (r.2, s.2) (ranks r.0 s.0)) in
+      subst (HasOneAnswer db text params) (rising_is (by_key_total keys) both up) (union_answer (rising_apart (by_key_total keys) both up))

@@ -1,7 +1,8 @@
 -- The queries of one table that the laws speak of.
-use Rattle.std.specs.Prelude.{ℕ, suc, List, [], ◌∷◌, pos, negsuc, Some, None, false, true}
+use Rattle.std.specs.Prelude.{ℕ, suc, List, [], ◌∷◌, length, pos, negsuc, Some, None, false, true}
 use Rattle.sqlite_value.specs.declared.value.Value.TheVariants.{Null, Int}
 use Rattle.sqlite_value.specs.declared.keys.Key.{Key}
+use Rattle.sqlite_value.specs.declared.keys.Collation.{Collation}
 use Rattle.sqlite_value.specs.declared.keys.Collation.TheVariants.{Binary}
 use Rattle.sqlite_value.specs.Order.{Row, column}
 use Rattle.sqlite_value.specs.Keys.{ascending}
@@ -10,6 +11,9 @@ use Rattle.sqlite_sql.specs.Query.{Query, inner, left, end}
 use Rattle.sqlite_sql.specs.declared.aggregate.AggregateOp.TheVariants.{CountRows}
 use Rattle.sqlite_sql.specs.declared.ops.BinaryOp.TheVariants.{Compare}
 use Rattle.sqlite_sql.specs.declared.ops.CompareOp.TheVariants.{Eq}
+use Rattle.sqlite_sql.specs.declared.query.SetOp.TheVariants.{UnionAll}
+use Rattle.sqlite_schema.specs.declared.program.Table.{Table as Let}
+use Rattle.sqlite_schema.specs.declared.program.Table.TheVariants.{Selected, Combined}
 
 -- SELECT project FROM the table in the tree WHERE each of the tests ORDER BY order
 abbrev pub table_query : ℕ → List Term → List (Term × Key) → List Term → Query
@@ -25,7 +29,7 @@ table_query tree tests order project = record {
   offset = lit (Int (pos 0));
 }
 
--- column = ?, for a place of the stored row and a parameter
+-- the column at a place of the stored row = a parameter
 abbrev pub key_test : ℕ → ℕ → Term
 key_test place at = op2 (Compare Eq Binary) (col 1 place) (col 0 at)
 
@@ -63,3 +67,19 @@ abbrev pub count_query : ℕ → List Term → Query
 count_query tree tests = record (table_query tree tests [] (col 1 0 ∷ [])) {
   group = Some (record { keys = []; collations = []; aggregates = record { op = CountRows; distinct = false; collation = Binary; argument = lit Null } ∷ []; having = [] });
 }
+
+-- one SELECT of a UNION: the NULL that stands in the place of a rowid, and the terms
+abbrev pub part_query : ℕ → List Term → Query
+part_query tree terms = record (table_query tree [] [] (lit Null ∷ terms)) { collations = Binary ∷ [] }
+
+-- SELECT first FROM the one table UNION ALL SELECT second FROM the other, with the collation of each place: the rows of each, and then both
+abbrev pub union_tables : ℕ → ℕ → List Term → List Term → List Collation → List Let
+union_tables tree other first second collations = Selected (part_query tree first) ∷ Selected (part_query other second) ∷ Combined UnionAll 0 1 (length collations) collations ∷ []
+
+-- the number of the tree that both together have, after the two parts
+abbrev pub union_tree : ℕ
+union_tree = 2147483650
+
+-- .. ORDER BY the columns at these places of both together
+abbrev pub union_query : List ℕ → List Term → Query
+union_query places project = table_query union_tree [] (by_columns places) project

@@ -1,7 +1,7 @@
--- Two tables, as lists of rows in the order of their keys.
-use Rattle.std.specs.Prelude.{◌≡◌, ℕ, true, false, List, [], ◌∷◌, Option, Some, None, codes}
-use Rattle.sqlite_value.specs.declared.value.Value.TheVariants.{Text as Words}
-use Rattle.sqlite_value.specs.Order.{Row}
+-- Three tables, as lists of rows in the order of their keys.
+use Rattle.std.specs.Prelude.{◌≡◌, ℕ, true, false, List, [], ◌∷◌, ◌++◌, map, Option, Some, None, codes, pos}
+use Rattle.sqlite_value.specs.declared.value.Value.TheVariants.{Null, Int, Text as Words}
+use Rattle.sqlite_value.specs.Order.{Row, column}
 use Rattle.sqlite_value.specs.Keys.{plain}
 use Rattle.sqlite_schema.specs.declared.schema.Kind.TheVariants.{Integer, Text}
 use Rattle.sqlite.specs.Values.{or_null}
@@ -25,6 +25,17 @@ notes = record {
   orders = plain ∷ [];
 }
 
+-- CREATE TABLE shelves (shelf INTEGER PRIMARY KEY, part INTEGER, room INTEGER NOT NULL) STRICT
+abbrev pub shelves : Layout
+shelves = record {
+  name = codes "shelves";
+  columns = strict (codes "shelf") Integer false ∷ strict (codes "part") Integer false ∷ strict (codes "room") Integer true ∷ [];
+  key = Some 0;
+  primary = 0 ∷ [];
+  uniques = [];
+  orders = [];
+}
+
 -- a note with or without a body
 abbrev pub note_row : List ℕ → List ℕ → Option (List ℕ) → Row
 note_row author title body = Words author ∷ Words title ∷ or_null Words body ∷ []
@@ -32,14 +43,16 @@ note_row author title body = Words author ∷ Words title ∷ or_null Words body
 pub record Tables : Type 0 where
   pub parts : List Row
   pub notes : List Row
+  pub shelves : List Row
 
--- the database has the two tables, wherever they stand
+-- the database has the three tables, wherever they stand
 pub record HasTables (db : Database) : Type 0 where
   pub parts : Stands db 1 parts
   pub notes : Stands db 2 notes
+  pub shelves : Stands db 1 shelves
 
 abbrev pub tables_of : Database → Tables
-tables_of db = record { parts = rows_of 1 (codes "parts") db; notes = rows_of 2 (codes "notes") db }
+tables_of db = record { parts = rows_of 1 (codes "parts") db; notes = rows_of 2 (codes "notes") db; shelves = rows_of 1 (codes "shelves") db }
 
 -- Inside a transaction the tables are these now, and what is committed is as it was.
 pub record Puts (old new : State) (tables : Tables) : Type 0 where
@@ -47,3 +60,20 @@ pub record Puts (old new : State) (tables : Tables) : Type 0 where
   pub sound : IsDatabase new.now
   pub has : HasTables new.now
   pub tables_are : tables_of new.now ≡ tables
+
+-- a shelf's number and the stock of its part, NULL where no part is there
+abbrev pub shelf_stock : Row → Option Row → Row
+shelf_stock shelf None = column shelf 0 ∷ Null ∷ []
+shelf_stock shelf (Some part) = column shelf 0 ∷ column part 1 ∷ []
+
+-- a part's number and stock, with the 0 that ranks it before the shelves
+abbrev pub part_line : Row → Row
+part_line part = Int (pos 0) ∷ column part 0 ∷ column part 1 ∷ []
+
+-- a shelf's number and room, with the 1 that ranks it after the parts
+abbrev pub shelf_line : Row → Row
+shelf_line shelf = Int (pos 1) ∷ column shelf 0 ∷ column shelf 2 ∷ []
+
+-- the parts, and then the shelves
+abbrev pub inventory : Tables → List Row
+inventory tables = map part_line tables.parts ++ map shelf_line tables.shelves

@@ -1,14 +1,15 @@
 use crate::notes::{find_note, insert_note, update_note};
 use crate::parts::{find_part, insert_part, update_part};
+use crate::shelves::{walk_inventory, walk_shelf_stocks};
 use crate::walks::{count_parts_with, last_part, walk_notes_of, walk_parts, walk_parts_between};
 use bike_rows::walk::next_row;
-use sqlite::{Alter, Connection, Error, Row, Transaction};
+use sqlite::{Alter, Connection, Error, Row, Rows, Transaction};
 use std::test::Fail;
 
 // These have no clause, so that the proof of the test does not carry the state of each call.
 fn make<S: Alter>(conn: &mut Connection<S>) -> Result<(), Error> {
     conn.execute_batch(
-        "CREATE TABLE other (a); CREATE TABLE parts (part INTEGER PRIMARY KEY, stock INTEGER NOT NULL) STRICT; CREATE TABLE notes (author TEXT NOT NULL, title TEXT NOT NULL, body TEXT, PRIMARY KEY (author, title)) STRICT",
+        "CREATE TABLE other (a); CREATE TABLE parts (part INTEGER PRIMARY KEY, stock INTEGER NOT NULL) STRICT; CREATE TABLE notes (author TEXT NOT NULL, title TEXT NOT NULL, body TEXT, PRIMARY KEY (author, title)) STRICT; CREATE TABLE shelves (shelf INTEGER PRIMARY KEY, part INTEGER, room INTEGER NOT NULL) STRICT; INSERT INTO shelves VALUES (4, 8, 1), (1, 3, 5), (2, NULL, 6)",
     )
 }
 
@@ -95,29 +96,41 @@ fn has_body<S: Alter>(conn: &mut Connection<S>, author: &str) -> Result<Option<b
     }
 }
 
-// The numbers of the parts in turn, as the digits of one number.
-fn all_parts<S: Alter>(conn: &mut Connection<S>) -> Result<i64, Error> {
-    let mut rows = walk_parts(conn)?;
+// The numbers in a column of the rows in turn, as the digits of one number, with 0 for NULL.
+fn digits_of<S: Alter>(rows: &mut Rows<'_, S>, at: usize) -> Result<i64, Error> {
     let mut digits = 0i64;
     'rows: for _ in 0..9u8 {
-        match next_row(&mut rows)? {
-            Some(row) => digits = digits.wrapping_mul(10).wrapping_add(row.get(0)?),
+        match next_row(rows)? {
+            Some(row) => digits = digits.wrapping_mul(10).wrapping_add(digit_of(&row, at)?),
             None => return Ok(digits),
         }
     }
     Err(Error::InvalidQuery)
 }
 
+fn digit_of(row: &Row, at: usize) -> Result<i64, Error> {
+    let digit: Option<i64> = row.get(at)?;
+    Ok(digit.unwrap_or(0))
+}
+
+fn all_parts<S: Alter>(conn: &mut Connection<S>) -> Result<i64, Error> {
+    let mut rows = walk_parts(conn)?;
+    digits_of(&mut rows, 0)
+}
+
 fn parts_between<S: Alter>(conn: &mut Connection<S>, from: i64, to: i64) -> Result<i64, Error> {
     let mut rows = walk_parts_between(conn, from, to)?;
-    let mut digits = 0i64;
-    'rows: for _ in 0..9u8 {
-        match next_row(&mut rows)? {
-            Some(row) => digits = digits.wrapping_mul(10).wrapping_add(row.get(0)?),
-            None => return Ok(digits),
-        }
-    }
-    Err(Error::InvalidQuery)
+    digits_of(&mut rows, 0)
+}
+
+fn shelf_stocks<S: Alter>(conn: &mut Connection<S>, at: usize) -> Result<i64, Error> {
+    let mut rows = walk_shelf_stocks(conn)?;
+    digits_of(&mut rows, at)
+}
+
+fn all_inventory<S: Alter>(conn: &mut Connection<S>, at: usize) -> Result<i64, Error> {
+    let mut rows = walk_inventory(conn)?;
+    digits_of(&mut rows, at)
 }
 
 fn notes_of<S: Alter>(conn: &mut Connection<S>, author: &str) -> Result<usize, Error> {
@@ -147,6 +160,20 @@ fn statements_do_what_they_say(rt: HostRuntime) -> Result<(), Fail> {
     }
     for (author, want) in [("ann", 2), ("bob", 1), ("cy", 0)] {
         assert_eq!(rt; notes_of(&mut conn, author)?, want, "{author}");
+    }
+    Ok(())
+}
+
+#[test]
+fn shelves_stand_beside_their_parts(rt: HostRuntime) -> Result<(), Fail> {
+    let mut conn = Connection::open_in_memory(rt.alloc())?;
+    make(&mut conn)?;
+    fill(&mut conn)?;
+    for (at, want) in [(0, 124), (1, 1000)] {
+        assert_eq!(rt; shelf_stocks(&mut conn, at)?, want, "column {at}");
+    }
+    for (at, want) in [(0, 111), (1, 137_124)] {
+        assert_eq!(rt; all_inventory(&mut conn, at)?, want, "column {at}");
     }
     Ok(())
 }

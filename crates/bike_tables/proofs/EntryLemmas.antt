@@ -27,7 +27,7 @@ use Rattle.bike_rows.proofs.InsertLaw.{insert_sets}
 use Rattle.bike_rows.proofs.LastLaw.{last_answer}
 use Rattle.bike_rows.proofs.WalkLaw.{answers_first, answer_survives}
 use Rattle.bike_rows.proofs.CrashLemmas.{done_inside}
-use Rattle.bike_ledger.specs.declared.entry.Entry.{Entry}
+use Rattle.bike_ledger.specs.Entries.{Entry}
 use Rattle.bike_tables.specs.declared.rows.RowChange.TheVariants as change
 use Rattle.bike_tables.specs.Answers.{Answers, number_or_zero}
 use Rattle.bike_tables.specs.Changes.{Puts}

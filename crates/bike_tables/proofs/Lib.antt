@@ -11,3 +11,5 @@ mod MakeFacts
 mod MakeLemmas
 mod FreshLemmas
 mod CountLemmas
+mod LastLemmas
+pub mod NumberLemmas

@@ -18,16 +18,16 @@ use Rattle.bike_rows.specs.View.{row_with, put_row_by, replaced}
 use Rattle.bike_core.specs.Operator.{Operator, Rider, Kept, Key, key_of}
 use Rattle.bike_core.specs.Steps.{effect, reply_of, top_up_entry}
 use Rattle.bike_core.specs.Order.{IsInOrder, IsKept, EachEntry, AreEntries}
-use Rattle.bike_catalogue.specs.Caller.{caller_text}
-use Rattle.bike_ledger.specs.declared.entry.Entry.{Entry}
+use Rattle.bike_fields.specs.Caller.{caller_text}
+use Rattle.bike_ledger.specs.Entries.{Entry}
 use Rattle.std.specs.Borrow.{Bor}
 use Rattle.bike_ledger.specs.Ledger.{credit, cash_in, earned, share, balance_of, cash_of, revenue_of}
 use Rattle.bike_ledger.proofs.SumLemmas.{total-append}
-use Rattle.bike_requests.specs.declared.command.Command.{Command}
-use Rattle.bike_requests.specs.declared.command.Command.TheVariants.{AddRider, TopUp}
-use Rattle.bike_requests.specs.declared.reply.Reply.TheVariants.{Done, Balance}
-use Rattle.bike_requests.specs.Commands.{text_of}
-use Rattle.bike_requests.specs.Replies.{reply_text}
+use Rattle.bike_commands.specs.declared.command.Command.{Command}
+use Rattle.bike_commands.specs.declared.command.Command.TheVariants.{AddRider, TopUp}
+use Rattle.bike_commands.specs.declared.reply.Reply.TheVariants.{Done, Balance}
+use Rattle.bike_commands.specs.Commands.{text_of}
+use Rattle.bike_commands.specs.Replies.{reply_text}
 use Rattle.bike_tables.specs.Rows.{meta_row, rider_row, entry_row, kept_row, last_number}
 use Rattle.bike_tables.specs.declared.rows.RowChange.TheVariants as row
 use Rattle.bike_tables.specs.Changes.{all_made}

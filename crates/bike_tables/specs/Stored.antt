@@ -7,8 +7,8 @@ use Rattle.sqlite.specs.Schema.{Schema}
 use Rattle.sqlite.specs.Effect.{Database, IsDatabase}
 use Rattle.sqlite.specs.State.{State}
 use Rattle.bike_ledger.specs.Ledger.{balance_of, cash_of, revenue_of}
-use Rattle.bike_requests.specs.Commands.{text_of}
-use Rattle.bike_requests.specs.Replies.{reply_text}
+use Rattle.bike_commands.specs.Commands.{text_of}
+use Rattle.bike_commands.specs.Replies.{reply_text}
 use Rattle.bike_core.specs.Operator.{Operator, Rider, Kept, Key, no_operator}
 use Rattle.bike_core.specs.Order.{IsInOrder}
 use Rattle.bike_tables.specs.Rows.{meta_row, rider_row, entry_row, kept_row}

@@ -1,14 +1,14 @@
 //! Columns of a row as values of the product, and back.
 
-ghost use Rattle.std.specs.Prelude.{◌≡◌, IfOk, IsTrue, pos, string_bytes};
+ghost use Rattle.std.specs.Prelude.{◌≡◌, IfOk, IsTrue, Some, pos, string_bytes};
 ghost use Rattle.sqlite.specs.declared.types.Value.TheVariants.{Int, Text};
 ghost use Rattle.sqlite.specs.Order.{column};
-ghost use Rattle.bike_requests.specs.Replies.{reply_text};
-ghost use Rattle.bike_tables.specs.Rows.{truth};
+ghost use Rattle.bike_commands.specs.Replies.{reply_text};
+ghost use Rattle.bike_tables.specs.Rows.{row_number, truth};
 
 use crate::fault::StatementFault;
+use bike_commands::Reply;
 use bike_fixed::{Cents, Moment, Within};
-use bike_requests::Reply;
 use sqlite::Row;
 use sqlite::types::ValueRef;
 
@@ -17,6 +17,13 @@ pub(crate) fn seconds_of(moment: &Moment) -> i64
     ensures { result ≡ pos moment.now }
 {
     moment.seconds() as i64
+}
+
+/// The number that the row begins with.
+pub(crate) fn leading_number(row: &Row) -> Result<u32, StatementFault>
+    ensures { IfOk result (λ n. row_number row.now ≡ Some (pos n)) }
+{
+    Ok(row.get(0)?)
 }
 
 /// The column as a number from `LO` to `HI`.

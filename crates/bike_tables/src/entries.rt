@@ -1,13 +1,13 @@
 //! The statements on `entries`.
 
-ghost use Rattle.std.specs.Prelude.{◌≡◌, ◌≤◌, false, IsTrue, IfOk, OnOk, [], ◌∷◌, pos, Some};
+ghost use Rattle.std.specs.Prelude.{◌≡◌, ◌≤◌, false, IsTrue, IfOk, OnOk, [], ◌∷◌};
 ghost use Rattle.sqlite.specs.State.{HasCleanDisk, IsUnchanged, Survives};
 ghost use Rattle.sqlite.specs.Held.{state};
 ghost use Rattle.sqlite_trees.specs.View.{doubt};
 ghost use Rattle.bike_tables.specs.declared.rows.RowChange.TheVariants as change;
 ghost use Rattle.bike_tables.specs.Answers.{number_or_zero};
 ghost use Rattle.bike_tables.specs.Changes.{Puts};
-ghost use Rattle.bike_tables.specs.Rows.{kind_number, row_number, last_number};
+ghost use Rattle.bike_tables.specs.Rows.{kind_number, last_number};
 ghost use Rattle.bike_tables.specs.Tables.{tables_of, HasTables};
 
 use crate::answer::first_row;
@@ -40,12 +40,12 @@ pub(crate) fn add_entry<S: Alter>(
     staged.execute(
         "INSERT INTO entries VALUES (?1, ?2, ?3, ?4, ?5, ?6)",
         params![
-            entry.number.get(),
-            number_of(entry.kind),
-            entry.rider.get(),
-            entry.rental.get(),
-            entry.amount.hundredths(),
-            seconds_of(&entry.at)
+            entry.number().get(),
+            number_of(entry.kind()),
+            entry.rider().get(),
+            entry.rental().get(),
+            entry.amount().hundredths(),
+            seconds_of(&entry.at())
         ],
     )?;
     Ok(())
@@ -65,11 +65,4 @@ pub(crate) fn find_last_entry<S: Alter>(
         "SELECT * FROM entries ORDER BY entry DESC LIMIT 1",
         &[],
     )
-}
-
-/// The number of a stored entry.
-pub(crate) fn entry_number_of(row: &Row) -> Result<u32, StatementFault>
-    ensures { IfOk result (λ n. row_number row.now ≡ Some (pos n)) }
-{
-    Ok(row.get(0)?)
 }

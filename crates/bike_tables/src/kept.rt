@@ -6,7 +6,7 @@ ghost use Rattle.sqlite.specs.State.{HasCleanDisk, IsUnchanged, Survives};
 ghost use Rattle.sqlite.specs.Held.{state};
 ghost use Rattle.sqlite_trees.specs.View.{doubt};
 ghost use Rattle.bike_rows.specs.View.{row_with};
-ghost use Rattle.bike_requests.specs.Replies.{reply_text};
+ghost use Rattle.bike_commands.specs.Replies.{reply_text};
 ghost use Rattle.bike_tables.specs.declared.rows.RowChange.TheVariants as change;
 ghost use Rattle.bike_tables.specs.Changes.{Puts};
 ghost use Rattle.bike_tables.specs.Rows.{kept_row};

@@ -15,7 +15,7 @@ mod schema;
 mod writes;
 
 pub use fault::StatementFault;
-pub use reads::{last_entry, read_kept, read_meta, read_rider, riders_full};
+pub use reads::{last_entry, last_rider, read_kept, read_meta, read_rider, riders_full};
 pub use rows::{KeptRow, MetaRow, RiderRow, RowChange};
 pub use schema::has_none;
 pub use writes::{Staged, create_tables, put};

@@ -6,18 +6,19 @@ ghost use Rattle.sqlite.specs.Held.{state};
 ghost use Rattle.sqlite.specs.declared.types.Value.TheVariants.{Int, Text};
 ghost use Rattle.sqlite_trees.specs.View.{doubt};
 ghost use Rattle.bike_rows.specs.View.{row_with};
-ghost use Rattle.bike_requests.specs.Replies.{reply_text};
+ghost use Rattle.bike_commands.specs.Replies.{reply_text};
 ghost use Rattle.bike_core.specs.View.{most_riders};
 ghost use Rattle.bike_tables.specs.Rows.{meta_row, rider_row, kept_row, last_number};
 ghost use Rattle.bike_tables.specs.Tables.{tables_of, HasTables};
 
-use crate::entries::{entry_number_of, find_last_entry};
+use crate::columns::leading_number;
+use crate::entries::find_last_entry;
 use crate::fault::StatementFault;
 use crate::kept::{find_kept, kept_of};
 use crate::meta::{find_meta, meta_of};
-use crate::riders::{count_riders, find_rider, is_full, rider_of};
+use crate::riders::{count_riders, find_last_rider, find_rider, is_full, rider_of};
 use crate::rows::{KeptRow, MetaRow, RiderRow};
-use bike_catalogue::RiderNumber;
+use bike_fields::RiderNumber;
 use sqlite::{Alter, Connection};
 
 /// The one row of `meta`.
@@ -78,12 +79,26 @@ pub fn last_entry<S: Alter>(conn: &mut Connection<S>) -> Result<u32, StatementFa
     ensures survives { HasTables (state S.Store conn.old).now → Survives (state S.Store conn.old) (state S.Store conn.new) (λ _. ⊥) }
 {
     match find_last_entry(conn)? {
-        Some(row) => entry_number_of(&row),
+        Some(row) => leading_number(&row),
         None => Ok(0),
     }
 }
 
-/// Whether there are as many riders as there may be.
+/// The last rider's number, 0 where there is none.
+pub fn last_rider<S: Alter>(conn: &mut Connection<S>) -> Result<u32, StatementFault>
+    ensures found { HasCleanDisk (state S.Store conn.new) → HasTables (state S.Store conn.old).now → IfOk result (λ n. last_number (tables_of (state S.Store conn.old).now).riders ≡ Some (pos n)) }
+    ensures same { HasCleanDisk (state S.Store conn.new) → HasTables (state S.Store conn.old).now → OnOk result (IsUnchanged (state S.Store conn.old) (state S.Store conn.new)) }
+    ensures clean { doubt (state S.Store conn.old).is_clean ≤ doubt (state S.Store conn.new).is_clean }
+    ensures mode { conn.old.in_transaction ≡ false → conn.new.in_transaction ≡ false }
+    ensures survives { HasTables (state S.Store conn.old).now → Survives (state S.Store conn.old) (state S.Store conn.new) (λ _. ⊥) }
+{
+    match find_last_rider(conn)? {
+        Some(row) => leading_number(&row),
+        None => Ok(0),
+    }
+}
+
+/// Whether there are as many riders as there may be, by a count over all of them.
 pub fn riders_full<S: Alter>(conn: &mut Connection<S>) -> Result<bool, StatementFault>
     ensures found { HasCleanDisk (state S.Store conn.new) → HasTables (state S.Store conn.old).now → IfOk result (λ full. full ≡ nat_le most_riders (length (tables_of (state S.Store conn.old).now).riders)) }
     ensures same { HasCleanDisk (state S.Store conn.new) → HasTables (state S.Store conn.old).now → OnOk result (IsUnchanged (state S.Store conn.old) (state S.Store conn.new)) }

@@ -9,8 +9,9 @@ ghost use Rattle.sqlite_sql.specs.Aggregate.{count};
 ghost use Rattle.bike_rows.specs.View.{row_with};
 ghost use Rattle.bike_core.specs.View.{most_riders};
 ghost use Rattle.bike_tables.specs.declared.rows.RowChange.TheVariants as change;
+ghost use Rattle.bike_tables.specs.Answers.{number_or_zero};
 ghost use Rattle.bike_tables.specs.Changes.{Puts};
-ghost use Rattle.bike_tables.specs.Rows.{rider_row};
+ghost use Rattle.bike_tables.specs.Rows.{rider_row, last_number};
 ghost use Rattle.bike_tables.specs.Tables.{tables_of, HasTables};
 
 use crate::answer::first_row;
@@ -18,7 +19,7 @@ use crate::columns::{cents_at, flag_at, number_at};
 use crate::fault::StatementFault;
 use crate::rows::RiderRow;
 use crate::writes::Staged;
-use bike_catalogue::RiderNumber;
+use bike_fields::RiderNumber;
 use sqlite::{Alter, Connection, Row, params};
 
 /// As many riders as there may be.
@@ -88,6 +89,22 @@ pub(crate) fn rider_of(row: &Row) -> Result<RiderRow, StatementFault>
         blocked,
         balance,
     })
+}
+
+/// The row of the rider with the last number, as it is stored.
+pub(crate) fn find_last_rider<S: Alter>(
+    conn: &mut Connection<S>,
+) -> Result<Option<Row>, StatementFault>
+    ensures found { HasCleanDisk (state S.Store conn.new) → HasTables (state S.Store conn.old).now → IfOk result (λ row. (last_number (tables_of (state S.Store conn.old).now).riders ≡ number_or_zero row) × IsUnchanged (state S.Store conn.old) (state S.Store conn.new)) }
+    ensures clean { doubt (state S.Store conn.old).is_clean ≤ doubt (state S.Store conn.new).is_clean }
+    ensures mode { conn.old.in_transaction ≡ false → conn.new.in_transaction ≡ false }
+    ensures survives { HasTables (state S.Store conn.old).now → Survives (state S.Store conn.old) (state S.Store conn.new) (λ _. ⊥) }
+{
+    first_row(
+        conn,
+        "SELECT * FROM riders ORDER BY rider DESC LIMIT 1",
+        &[],
+    )
 }
 
 /// How many riders there are, as the database answers it.

@@ -1,9 +1,9 @@
 //! Rows as records, and changes of one row each.
 
-use bike_catalogue::RiderNumber;
+use bike_commands::Reply;
+use bike_fields::RiderNumber;
 use bike_fixed::{Cents, Moment};
 use bike_ledger::Entry;
-use bike_requests::Reply;
 
 /// The one row of `meta`, but for the name of the product and the version.
 #[derive(Clone, Copy, Debug, PartialEq, Eq)]

@@ -5,10 +5,10 @@ use crate::reads::{last_entry, read_kept, read_meta, read_rider, riders_full};
 use crate::rows::{MetaRow, RiderRow, RowChange};
 use crate::schema::has_none;
 use crate::writes::{create_tables, put};
-use bike_catalogue::RiderNumber;
+use bike_commands::Reply;
+use bike_fields::RiderNumber;
 use bike_fixed::{Cents, Moment, Within};
-use bike_ledger::{Entry, EntryKind};
-use bike_requests::Reply;
+use bike_ledger::Entry;
 use sqlite::{Connection, MemStore};
 use std::test::Fail;
 
@@ -100,14 +100,7 @@ fn rider_row(blocked: bool, balance: i64) -> Result<RiderRow, StatementFault> {
 }
 
 fn booked(n: u32) -> Result<Entry, StatementFault> {
-    Ok(Entry {
-        number: number(n)?,
-        kind: EntryKind::Refund,
-        rider: number(3)?,
-        rental: number(4)?,
-        amount: Cents::new(125),
-        at: moment(9)?,
-    })
+    Ok(Entry::refund(number(n)?, number(3)?, number(4)?, number(125)?, moment(9)?))
 }
 
 fn sets_meta(conn: &mut Connection<MemStore>) -> Result<bool, StatementFault> {

@@ -1,15 +1,35 @@
-//! A list of rows as an array: the form of every function that writes a value.
-ghost use Rattle.std.specs.Prelude.{◌≡◌, ◌<◌, ◌++◌, ◌∷◌, [], false, IsTrue, length, IfOk, OnErr};
+//! An array of rows from a source that may fail: the form of every function that writes a feed.
+ghost use Rattle.std.specs.Prelude.{◌≡◌, ◌<◌, ◌++◌, ◌∷◌, [], ℕ, List, false, IsTrue, length, IfOk, OnOk, OnErr, MatchOption};
 ghost use Rattle.std.specs.Io.KnownBytes.{Appends};
 ghost use Rattle.bike_stream.specs.Writing.{AppendsFront};
 ghost use Rattle.bike_feeds.specs.Example.{numbered};
-ghost use Rattle.bike_feeds.specs.Rows.{items};
+ghost use Rattle.bike_feeds.specs.Rows.{items, WroteFront};
 ghost use Rattle.bike_feeds.specs.State.{Wrote, IsAt, takes_value, takes_array_end, has_more, after_value};
 ghost use Rattle.bike_feeds.specs.Tree.{comma, text_of, items_text, array};
 
 use crate::{JsonState, Level};
-use bike_stream::WriteFault;
+use std::io;
 use std::io::Write;
+
+/// The source failed.
+#[derive(Clone, Copy, Debug, PartialEq, Eq, Drop)]
+pub struct RowFault;
+
+/// Why a report wasn't written whole.
+#[derive(Clone, Copy, Debug, PartialEq, Eq, Drop)]
+pub enum ReportFault {
+    Rows,
+    Write,
+}
+
+/// Rows that come one at a time.
+pub trait RowSource {
+    // the rows that are to come
+    ghost left: { Self → List ℕ };
+
+    fn next(&mut self) -> Result<Option<u64>, RowFault>
+        ensures rows { IfOk result (λ row. MatchOption row (left self.old ≡ []) (λ number. left self.old ≡ number ∷ left self.new)) };
+}
 
 fn write_row<W: Write>(json: &mut JsonState, out: &mut W, number: u64)
     requires value { IsTrue (takes_value json.old.top) }
@@ -23,30 +43,47 @@ fn write_row<W: Write>(json: &mut JsonState, out: &mut W, number: u64)
     let _ = json.end_object(out);
 }
 
-fn write_rows<W: Write>(json: &mut JsonState, out: &mut W, rows: &[u64])
+/// Writes an item for each row. Where the source fails, the items of the rows before are written.
+fn write_rows<W: Write, S: RowSource>(
+    json: &mut JsonState,
+    out: &mut W,
+    source: &mut S,
+) -> Result<(), RowFault>
     requires start { json.old.top ≡ Level.EmptyArray }
     requires room { length json.old.round < 16 }
-    ensures wrote { Wrote json.old json.new (W.contents out.old) (W.contents out.new) (items_text false (items numbered rows.now)) }
-    ensures top { IsTrue (takes_array_end json.new.top) }
-    ensures round { json.new.round ≡ json.old.round }
+    ensures wrote { OnOk result (Wrote json.old json.new (W.contents out.old) (W.contents out.new) (items_text false (items numbered (S.left source.old)))) }
+    ensures place { OnOk result (IsTrue (takes_array_end json.new.top) × (json.new.round ≡ json.old.round)) }
+    ensures front { OnErr result (WroteFront json.old json.new (W.contents out.old) (W.contents out.new) (items_text false (items numbered (S.left source.old)))) }
 {
-    for row in rows {
-        write_row(json, out, *row);
+    while let Some(row) = source.next()? {
+        write_row(json, out, row);
     }
+    Ok(())
 }
 
-/// Writes the rows, and gives the text's length.
-pub fn write_report<W: Write>(out: &mut W, rows: &[u64]) -> Result<u64, WriteFault>
-    ensures ok { IfOk result (λ count. Appends (W.contents out.old) (W.contents out.new) (text_of (array (items numbered rows.now)))
-        × (count ≡ length (text_of (array (items numbered rows.now))))) }
-    ensures err { OnErr result (AppendsFront (W.contents out.old) (W.contents out.new) (text_of (array (items numbered rows.now)))) }
+/// Writes the rows as an array, and gives the text's length. After a fault a front of that text is written.
+pub fn write_report<W: Write, S: RowSource>(out: &mut W, source: &mut S) -> Result<u64, ReportFault>
+    ensures ok { IfOk result (λ count. Appends (W.contents out.old) (W.contents out.new) (text_of (array (items numbered (S.left source.old))))
+        × (count ≡ length (text_of (array (items numbered (S.left source.old)))))) }
+    ensures err { OnErr result (AppendsFront (W.contents out.old) (W.contents out.new) (text_of (array (items numbered (S.left source.old))))) }
 {
     let mut json = JsonState::new();
     let _ = json.begin_array(out);
-    write_rows(&mut json, out, rows);
-    let _ = json.end_array(out);
-    match json.outcome() {
-        Ok(()) => Ok(json.count()),
-        Err(fault) => Err(fault),
+    match write_rows(&mut json, out, source) {
+        Ok(()) => {
+            let _ = json.end_array(out);
+            match json.outcome() {
+                Ok(()) => Ok(json.count()),
+                Err(_) => Err(ReportFault::Write),
+            }
+        }
+        Err(RowFault) => Err(ReportFault::Rows),
     }
+}
+
+/// The length of the text that `write_report` writes.
+pub fn report_length<S: RowSource>(source: &mut S) -> Result<u64, ReportFault>
+    ensures { IfOk result (λ count. count ≡ length (text_of (array (items numbered (S.left source.old))))) }
+{
+    write_report(&mut io::sink(), source)
 }

@@ -3,8 +3,8 @@ use Rattle.std.specs.Prelude.{option_map, string_bytes}
 use Rattle.std.specs.FinMap as map
 use Rattle.sqlite.specs.declared.types.Value.TheVariants.{Text}
 use Rattle.bike_rows.specs.View.{row_with}
-use Rattle.bike_requests.specs.Commands.{text_of}
-use Rattle.bike_requests.specs.Replies.{reply_text}
+use Rattle.bike_commands.specs.Commands.{text_of}
+use Rattle.bike_commands.specs.Replies.{reply_text}
 use Rattle.bike_core.specs.Operator.{Kept, key_of}
 use Rattle.bike_tables.specs.Rows.{kept_row}
 use Rattle.bike_tables.specs.Tables.{Tables}
@@ -23,7 +23,7 @@ returns-in-Ok-Some-clause-ok g c clean s keeps =
     let found = rw c.in-Ok-Some.field-0-is at (c.in-Ok-Some.ensures.found clean keeps.tables) in
     let row : option_map (λ (k : Kept). kept_row caller key (text_of k.command) (reply_text k.reply)) (map.get s.kept (key_of caller key)) ≡ Some (kept_row caller key (string_bytes c.in-Ok-Some.row.command) (reply_text c.in-Ok-Some.row.reply)) =
     sym (kept_lookup s order caller key) ∙ sym (ap (λ (t : Tables). row_with 2 (Text caller ∷ Text key ∷ []) t.kept) (rows_of g.S.Store old new s keeps)) ∙ found in
-    (kept_shown caller key (map.get s.kept (key_of caller key)) c.in-Ok-Some.row (kept_good s order (key_of caller key)) c.tell_reply.ensures row, still g.S.Store old new s keeps clean (c.in-Ok-Some.ensures.same clean keeps.tables) (c.read_kept.ensures.survives keeps.tables))
+    (kept_shown caller key (map.get s.kept (key_of caller key)) c.in-Ok-Some.row (kept_good s order (key_of caller key)) c.bounds.ensures row, still g.S.Store old new s keeps clean (c.in-Ok-Some.ensures.same clean keeps.tables) (c.read_kept.ensures.survives keeps.tables))
 
 pub returns-in-Ok-None-clause-ok : goal.returns-in-Ok-None-clause-ok
 returns-in-Ok-None-clause-ok g c clean s keeps =

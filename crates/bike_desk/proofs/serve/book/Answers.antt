@@ -1,6 +1,6 @@
 use Rattle.std.proofs.Common.{◌≡◌, ℤ, ◌+ℤ◌, false, [], ◌∷◌, sym, ap, ◌∙◌, subst, subst₂}
 use Rattle.bike_ledger.specs.Ledger.{cash_in, earned}
-use Rattle.bike_requests.specs.declared.request.Request.{Request}
+use Rattle.bike_commands.specs.declared.request.Request.{Request}
 use Rattle.bike_core.specs.Operator.{Operator}
 use Rattle.bike_core.specs.Runs.{accepted}
 use Rattle.bike_core.specs.Steps.{reply_of}

@@ -3,8 +3,8 @@ use Rattle.std.specs.Prelude.{max}
 use Rattle.sqlite.specs.State.{HasCleanDisk}
 use Rattle.sqlite.specs.Held.{state}
 use Rattle.bike_fixed.specs.Whole.{last_moment}
-use Rattle.bike_requests.specs.declared.reply.Reply.{Reply}
-use Rattle.bike_requests.specs.Replies.{reply_text}
+use Rattle.bike_commands.specs.declared.reply.Reply.{Reply}
+use Rattle.bike_commands.specs.Replies.{reply_text}
 use Rattle.bike_core.specs.Operator.{Operator}
 use Rattle.bike_core.specs.Changes.{Decides}
 use Rattle.bike_core.specs.Runs.{step}
@@ -39,7 +39,7 @@ returns-in_err-book-in-Ok-clause-failed g c clean s keeps anew =
     let later : now ≡ max t s.now = c.later-now.ensures ∙ ap (λ (m : MetaRow). max t m.now) meta.0 in
     let moment : t ≤ last_moment = omega (arith, c.seconds.ensures.value, c.seconds.ensures.high) in
     let decides : Decides s now q.command (Ok c.in-Ok.accepted) = c.in-Ok.ensures s view.0 in
-    let accepts = accepts_of s t q now later anew c.in-Ok.accepted c.in-Some.change moment c.tell_request.ensures (order_of g.S.Store c.args.conn.now c.args.conn.now s keeps) decides c.in-Some.ensures in
+    let accepts = accepts_of s t q now later anew c.in-Ok.accepted c.in-Some.change moment c.bounds.ensures (order_of g.S.Store c.args.conn.now c.args.conn.now s keeps) decides c.in-Some.ensures in
     let left = c.book.ensures.left clean s q view.1 meta.0 view.0 accepts (c.requires.caller, c.as_str.ensures.text, c.requires.text, c.as_str-in-Ok.ensures.value ∙ c.text-reply.ensures ∙ ap reply_text decides.1) in
     on_err _ (subst (λ (p : Reply × Operator). AllLeft (state g.S.Store c.book.new.conn) (TreesStandForEither s p.1)) (sym (step_accepted s t q now later anew decides.0)) left)
 
@@ -55,7 +55,7 @@ returns-in_ok-book-in-Ok-clause-ok g c clean s keeps anew =
     let later : now ≡ max t s.now = c.later-now.ensures ∙ ap (λ (m : MetaRow). max t m.now) meta.0 in
     let moment : t ≤ last_moment = omega (arith, c.seconds.ensures.value, c.seconds.ensures.high) in
     let decides : Decides s now q.command (Ok c.in-Ok.accepted) = c.in-Ok.ensures s view.0 in
-    let accepts = accepts_of s t q now later anew c.in-Ok.accepted c.in-Some.change moment c.tell_request.ensures (order_of g.S.Store c.args.conn.now c.args.conn.now s keeps) decides c.in-Some.ensures in
+    let accepts = accepts_of s t q now later anew c.in-Ok.accepted c.in-Some.change moment c.bounds.ensures (order_of g.S.Store c.args.conn.now c.args.conn.now s keeps) decides c.in-Some.ensures in
     let made = c.in_ok-book-in-Ok.ensures.made clean s q view.1 meta.0 view.0 accepts (c.requires.caller, c.as_str.ensures.text, c.requires.text, c.as_str-in-Ok.ensures.value ∙ c.text-reply.ensures ∙ ap reply_text decides.1) in
     let step_is = step_accepted s t q now later anew decides.0 in
     (decides.1 ∙ sym (ap (λ (p : Reply × Operator). p.0) step_is), subst (λ (p : Reply × Operator). Keeps (state g.S.Store c.book.new.conn) p.1) (sym step_is) made)

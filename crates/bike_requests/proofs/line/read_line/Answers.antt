@@ -1,6 +1,3 @@
-use Rattle.std.proofs.Common.{sym, ap, ◌∙◌}
-use Rattle.std.specs.Prelude.{IfOk}
-use Rattle.bike_requests.specs.RequestReaders.{request_at}
 use Rattle.bike_requests.proofs.RequestLaws.{line_found, line_only}
 use Rattle.bike_requests.proofs.line.read_line.Goals as goal
 

@@ -1,10 +1,8 @@
-use Rattle.std.proofs.Common.{ap, ◌∙◌}
-use Rattle.bike_requests.specs.Readers.{command_at}
 use Rattle.bike_requests.proofs.CommandLaws.{read_found, read_only}
 use Rattle.bike_requests.proofs.reading.read_command.Goals as goal
 
 pub returns-clause-found : goal.returns-clause-found
-returns-clause-found c = read_found c.args.text.now c.read_rest.result (c.read_rest.ensures ∙ ap command_at c.of.ensures)
+returns-clause-found c = read_found c.args.text.now c.read_rest.result (rw c.of.ensures at c.read_rest.ensures)
 
 pub returns-clause-only : goal.returns-clause-only
-returns-clause-only c = read_only c.args.text.now c.read_rest.result (c.read_rest.ensures ∙ ap command_at c.of.ensures)
+returns-clause-only c = read_only c.args.text.now c.read_rest.result (rw c.of.ensures at c.read_rest.ensures)

@@ -1,5 +1,0 @@
-use Rattle.bike_catalogue.proofs.Callers.{caller_sound, caller_full}
-use Rattle.bike_catalogue.proofs.caller.caller_laws.Goals as goal
-
-pub returns : goal.returns
-returns c = record { sound = caller_sound; full = caller_full }

@@ -1,0 +1,98 @@
+-- How a command is spelled.
+use Rattle.std.specs.Prelude.{ℕ, List, [], ◌∷◌, ◌++◌, Bool, codes, if◌then◌else◌}
+use Rattle.bike_catalogue.specs.Vehicle.{form_text, propulsion_text}
+use Rattle.bike_commands.specs.declared.command.Command.{Command}
+use Rattle.bike_commands.specs.declared.command.Command.TheVariants as command
+use Rattle.bike_commands.specs.declared.command.Side.{Side}
+use Rattle.bike_commands.specs.declared.command.Side.TheVariants.{From, To}
+use Rattle.bike_commands.specs.Fields.{Field, Number, Fixed, Id, Language, Currency, Name, Ascii, Degrees, Metres, Segments, End, AreGood, IsSpelled, fields_text}
+
+-- THE TABLE: each command's word ..
+abbrev pub word_of : Command → List ℕ
+word_of (command.SetSystem s) = codes "set-system"
+word_of (command.AddPlan p) = codes "add-plan"
+word_of (command.AddType t) = codes "add-type"
+word_of (command.SetPlan type_id plan) = codes "set-plan"
+word_of (command.AddStation s) = codes "add-station"
+word_of (command.SetStation station installed renting returning) = codes "set-station"
+word_of (command.MarkDock station dock broken) = codes "mark-dock"
+word_of (command.AddBike bike type_id) = codes "add-bike"
+word_of (command.MarkBike bike disabled) = codes "mark-bike"
+word_of (command.RetireBike bike) = codes "retire-bike"
+word_of (command.AddTruck truck capacity) = codes "add-truck"
+word_of (command.AddRider rider) = codes "add-rider"
+word_of (command.SetRider rider blocked) = codes "set-rider"
+word_of (command.TopUp rider amount) = codes "top-up"
+word_of (command.Start rider station dock) = codes "start"
+word_of (command.End bike station dock) = codes "end"
+word_of (command.Recover rental) = codes "recover"
+word_of (command.Refund rental amount) = codes "refund"
+word_of (command.OpenOrder truck from_end to_end type_id count) = codes "open-order"
+word_of (command.Load truck order bike) = codes "load"
+word_of (command.Unload truck order bike side dock) = codes "unload"
+word_of (command.CloseOrder order) = codes "close-order"
+
+-- a truth value, and a choice between two words
+abbrev pub Choice : List ℕ → List ℕ → Bool → Field
+Choice word other b = Fixed (if b then word else other)
+
+abbrev pub Flag : Bool → Field
+Flag = Choice (codes "true") (codes "false")
+
+abbrev pub side_text : Side → List ℕ
+side_text From = codes "from"
+side_text To = codes "to"
+
+-- numbers with a name of their own: riders, bicycles and trucks; docks; rentals and orders; payments in hundredths
+abbrev pub Numbered : ℕ → Field
+Numbered = Number 1 999999
+
+abbrev pub Dock : ℕ → Field
+Dock = Number 1 200
+
+abbrev pub Serial : ℕ → Field
+Serial = Number 1 100000000
+
+abbrev pub Payment : ℕ → Field
+Payment = Number 1 1000000
+
+-- .. and its fields, in order
+abbrev pub fields_of : Command → List Field
+fields_of (command.SetSystem s) =
+    Id s.system_id ∷ Language s.language ∷ Name s.name ∷ Ascii s.opening_hours ∷ Ascii s.feed_contact_email
+    ∷ Ascii s.timezone ∷ Currency s.currency ∷ Ascii s.base_url ∷ Number 0 86400 s.ttl ∷ []
+fields_of (command.AddPlan p) =
+    Id p.plan_id ∷ Name p.name ∷ Number 0 1000000 p.price ∷ Flag p.taxable ∷ Name p.description ∷ Segments p.segments ∷ []
+fields_of (command.AddType t) =
+    Id t.type_id ∷ Name t.name ∷ Fixed (form_text t.form) ∷ Fixed (propulsion_text t.propulsion) ∷ Metres t.propulsion t.max_range ∷ Id t.plan_id ∷ []
+fields_of (command.SetPlan type_id plan) = Id type_id ∷ Id plan ∷ []
+fields_of (command.AddStation s) = Id s.station_id ∷ Name s.name ∷ Degrees 90000000 s.lat ∷ Degrees 180000000 s.lon ∷ Dock s.docks ∷ []
+fields_of (command.SetStation station installed renting returning) = Id station ∷ Flag installed ∷ Flag renting ∷ Flag returning ∷ []
+fields_of (command.MarkDock station dock broken) = Id station ∷ Dock dock ∷ Choice (codes "broken") (codes "working") broken ∷ []
+fields_of (command.AddBike bike type_id) = Numbered bike ∷ Id type_id ∷ []
+fields_of (command.MarkBike bike disabled) = Numbered bike ∷ Choice (codes "disabled") (codes "fit") disabled ∷ []
+fields_of (command.RetireBike bike) = Numbered bike ∷ []
+fields_of (command.AddTruck truck capacity) = Numbered truck ∷ Number 1 60 capacity ∷ []
+fields_of (command.AddRider rider) = Numbered rider ∷ []
+fields_of (command.SetRider rider blocked) = Numbered rider ∷ Choice (codes "blocked") (codes "open") blocked ∷ []
+fields_of (command.TopUp rider amount) = Numbered rider ∷ Payment amount ∷ []
+fields_of (command.Start rider station dock) = Numbered rider ∷ Id station ∷ Dock dock ∷ []
+fields_of (command.End bike station dock) = Numbered bike ∷ Id station ∷ Dock dock ∷ []
+fields_of (command.Recover rental) = Serial rental ∷ []
+fields_of (command.Refund rental amount) = Serial rental ∷ Payment amount ∷ []
+fields_of (command.OpenOrder truck from_end to_end type_id count) = Numbered truck ∷ End from_end ∷ End to_end ∷ Id type_id ∷ Number 1 60 count ∷ []
+fields_of (command.Load truck order bike) = Numbered truck ∷ Serial order ∷ Numbered bike ∷ []
+fields_of (command.Unload truck order bike side dock) = Numbered truck ∷ Serial order ∷ Numbered bike ∷ Fixed (side_text side) ∷ Number 0 200 dock ∷ []
+fields_of (command.CloseOrder order) = Serial order ∷ []
+
+-- the fields keep their bounds, as those of every command of the program do
+abbrev pub IsCommand : Command → Type 0
+IsCommand c = AreGood (fields_of c)
+
+-- the text spells the command
+abbrev pub IsSpelling : List ℕ → Command → Type 0
+IsSpelling text c = IsSpelled text (word_of c) (fields_of c)
+
+-- the one text that is written for a command
+abbrev pub text_of : Command → List ℕ
+text_of c = word_of c ++ fields_text (fields_of c)

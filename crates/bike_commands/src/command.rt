@@ -1,0 +1,140 @@
+//! Commands: what a request asks the operator to do.
+
+use bike_catalogue::{Plan, Station, System, VehicleType};
+use bike_fields::{
+    BicycleNumber, DockNumber, Ident, OrderNumber, OrderQuantity, Payment, RentalNumber,
+    RiderNumber, TruckCapacity, TruckNumber,
+};
+use bike_fixed::Within;
+
+/// The dock of a station at which a bicycle is unloaded, 1 to 200, or 0 at the depot.
+pub type UnloadDock = Within<0, 200>;
+
+/// An end of an order: where its bicycles are taken from or brought to.
+#[derive(Debug, Drop)]
+pub enum OrderEnd {
+    /// The depot, written `*`.
+    Depot,
+    /// The station of that identifier.
+    Station(Ident),
+}
+
+/// The end of an order at which a bicycle is unloaded.
+#[derive(Clone, Copy, Debug, PartialEq, Eq)]
+pub enum Side {
+    /// Where the order takes its bicycles from.
+    From,
+    /// Where it brings them to.
+    To,
+}
+
+/// What a request asks for. Its fields keep their bounds by their types.
+#[derive(Debug, Drop)]
+pub enum Command {
+    /// Sets the system, once.
+    SetSystem(System),
+    /// Adds a pricing plan, which never changes.
+    AddPlan(Plan),
+    /// Adds a vehicle type with its default plan.
+    AddType(VehicleType),
+    /// Changes the default plan of a vehicle type.
+    SetPlan {
+        type_id: Ident,
+        plan: Ident,
+    },
+    /// Adds a station that is installed, renting and returning, with all docks working.
+    AddStation(Station),
+    /// Sets the three flags of a station.
+    SetStation {
+        station: Ident,
+        installed: bool,
+        renting: bool,
+        returning: bool,
+    },
+    /// Marks a dock as broken or working.
+    MarkDock {
+        station: Ident,
+        dock: DockNumber,
+        broken: bool,
+    },
+    /// Adds a bicycle, which is fit and in the depot.
+    AddBike {
+        bike: BicycleNumber,
+        type_id: Ident,
+    },
+    /// Marks a bicycle as disabled or fit.
+    MarkBike {
+        bike: BicycleNumber,
+        disabled: bool,
+    },
+    /// Retires a bicycle for good.
+    RetireBike {
+        bike: BicycleNumber,
+    },
+    /// Adds a truck.
+    AddTruck {
+        truck: TruckNumber,
+        capacity: TruckCapacity,
+    },
+    /// Adds a rider, who is open and has a balance of 0.
+    AddRider {
+        rider: RiderNumber,
+    },
+    /// Blocks a rider, or lets the rider ride again.
+    SetRider {
+        rider: RiderNumber,
+        blocked: bool,
+    },
+    /// Adds an amount to a rider's balance.
+    TopUp {
+        rider: RiderNumber,
+        amount: Payment,
+    },
+    /// Starts a rental of the bicycle in a dock.
+    Start {
+        rider: RiderNumber,
+        station: Ident,
+        dock: DockNumber,
+    },
+    /// Ends the rental of a bicycle, at a dock.
+    End {
+        bike: BicycleNumber,
+        station: Ident,
+        dock: DockNumber,
+    },
+    /// Closes a rental whose bicycle was brought to the depot.
+    Recover {
+        rental: RentalNumber,
+    },
+    /// Gives an amount of a rental's fare back to its rider.
+    Refund {
+        rental: RentalNumber,
+        amount: Payment,
+    },
+    /// Opens an order of a truck, to bring so many bicycles of a type from one end to the other.
+    OpenOrder {
+        truck: TruckNumber,
+        from_end: OrderEnd,
+        to_end: OrderEnd,
+        type_id: Ident,
+        count: OrderQuantity,
+    },
+    /// Loads a bicycle on a truck for an order.
+    Load {
+        truck: TruckNumber,
+        order: OrderNumber,
+        bike: BicycleNumber,
+    },
+    /// Unloads a bicycle from a truck at an end of its order.
+    Unload {
+        truck: TruckNumber,
+        order: OrderNumber,
+        bike: BicycleNumber,
+        side: Side,
+        dock: UnloadDock,
+    },
+    /// Closes an order.
+    CloseOrder {
+        order: OrderNumber,
+    },
+}

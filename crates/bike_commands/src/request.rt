@@ -1,0 +1,16 @@
+//! Requests.
+
+use crate::command::Command;
+use bike_fields::{Caller, RequestKey};
+
+/// A command, by whom it is sent and under which key. A caller that sends the same command again under
+/// the same key is answered as before.
+#[derive(Debug, Drop)]
+pub struct Request {
+    /// Who sends it.
+    pub caller: Caller,
+    /// The caller's own name for it.
+    pub key: RequestKey,
+    /// What it asks for.
+    pub command: Command,
+}

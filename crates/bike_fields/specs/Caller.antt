@@ -1,0 +1,46 @@
+-- Who sent a request, and its text.
+use Rattle.std.specs.Prelude.{◌≡◌, ℕ, ◌≤◌, List, ◌∷◌, ◌++◌, length, Bool, true, nat_lt, ◌==◌, if◌then◌else◌, Option, Some, None, option_and_then, codes, decimal}
+use Rattle.std.specs.List.{position_or_len, before_first, after_first}
+use Rattle.std.specs.Str.{bytes_eq}
+use Rattle.bike_fixed.specs.Whole.{number_of}
+use Rattle.bike_fields.specs.Bytes.{is_ident, ident_of}
+use Rattle.bike_fields.specs.declared.caller.Caller.{Caller}
+use Rattle.bike_fields.specs.declared.caller.Caller.TheVariants.{Office, Rider, Dock, Crew, Import}
+
+-- a caller whose number or identifier keeps its bounds
+abbrev pub IsCaller : Caller → Type 0
+IsCaller Office = Unit {0}
+IsCaller (Rider n) = (1 ≤ n) × (n ≤ 999999)
+IsCaller (Dock station) = is_ident station ≡ true
+IsCaller (Crew n) = (1 ≤ n) × (n ≤ 999999)
+IsCaller (Import name) = is_ident name ≡ true
+
+-- office, rider:N, dock:STATION, crew:TRUCK, import:NAME
+abbrev pub caller_text : Caller → List ℕ
+caller_text Office = codes "office"
+caller_text (Rider n) = codes "rider" ++ 58 ∷ decimal n
+caller_text (Dock station) = codes "dock" ++ 58 ∷ station
+caller_text (Crew n) = codes "crew" ++ 58 ∷ decimal n
+caller_text (Import name) = codes "import" ++ 58 ∷ name
+
+infixl 10 ◌>>=◌
+abbrev pub ◌>>=◌ : {A B : Type 0} → Option A → (A → Option B) → Option B
+o >>= f = option_and_then f o
+
+abbrev pub is_colon : ℕ → Bool
+is_colon b = b == 58
+
+-- the caller of that kind
+unfoldable pub caller_named : List ℕ → List ℕ → Option Caller
+caller_named kind name =
+    if bytes_eq kind (codes "rider") then (number_of 1 999999 name >>= λ n. Some (Rider n)) else (
+    if bytes_eq kind (codes "dock") then (ident_of name >>= λ i. Some (Dock i)) else (
+    if bytes_eq kind (codes "crew") then (number_of 1 999999 name >>= λ n. Some (Crew n)) else (
+    if bytes_eq kind (codes "import") then (ident_of name >>= λ i. Some (Import i)) else None)))
+
+-- the caller whose text this is
+unfoldable pub caller_of : List ℕ → Option Caller
+caller_of text =
+    if nat_lt (position_or_len is_colon text) (length text)
+    then caller_named (before_first is_colon text) (after_first is_colon text)
+    else (if bytes_eq text (codes "office") then Some Office else None)

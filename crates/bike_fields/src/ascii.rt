@@ -1,0 +1,81 @@
+//! ASCII fields.
+
+ghost use Rattle.std.specs.Prelude.{◌≡◌, true, IfOk, List, ℕ, string_bytes};
+ghost use Rattle.bike_fields.specs.Bytes.{is_ascii_field, ascii_of};
+ghost use Rattle.bike_fields.specs.Fault.{Makes, at_field, ascii_fault};
+
+use crate::bytes::{are_printable, has_length};
+use crate::fault::{Bound, Field, FieldFault};
+use std::alloc::{AllocError, Global};
+use std::marker::Model;
+
+/// Opening hours, a contact, a time zone or a URL: 1 to 200 bytes of 0x20 to 0x7E.
+#[derive(Debug, Drop)]
+pub struct Ascii {
+    text: String,
+}
+
+impl Model for Ascii {
+    ghost use Rattle.std.specs.Prelude.{List, ℕ, ◌≡◌, true, string_bytes};
+    ghost use Rattle.bike_fields.specs.Bytes.{is_ascii_field};
+
+    ghost Value = { List ℕ };
+
+    ghost view = { λ a. string_bytes a.text };
+
+    ghost invariant = { λ a. is_ascii_field (string_bytes a.text) ≡ true };
+}
+
+impl Ascii {
+    /// The text as that field of a record, or the first bound that it breaks: its length before its characters.
+    #[tactic(auto, unfolding(crate::specs::Fault::ascii_fault))]
+    pub fn new(alloc: Global, field: Field, text: &str) -> Result<Ascii, FieldFault>
+        ensures { Makes text.now (at_field field (ascii_fault text.now)) result }
+    {
+        if !has_length(text, 1, 200) {
+            return Err(FieldFault::Broken {
+                field,
+                bound: Bound::Length,
+            });
+        }
+        if !are_printable(text.as_bytes()) {
+            return Err(FieldFault::Broken {
+                field,
+                bound: Bound::Charset,
+            });
+        }
+        Ok(Ascii {
+            text: String::from_str(alloc, text)?,
+        })
+    }
+
+    /// The text, where it is an ASCII field; an error is a want of memory.
+    #[tactic(auto, unfolding(crate::specs::Bytes::ascii_of))]
+    pub fn read(alloc: Global, text: &str) -> Result<Option<Ascii>, AllocError>
+        ensures { IfOk result (λ o. o ≡ ascii_of text.now) }
+    {
+        if !has_length(text, 1, 200) || !are_printable(text.as_bytes()) {
+            return Ok(None);
+        }
+        Ok(Some(Ascii {
+            text: String::from_str(alloc, text)?,
+        }))
+    }
+
+    /// The text, and its bounds.
+    pub fn as_str(&self) -> &str
+        ensures text { result.now ≡ self.now }
+        ensures good { is_ascii_field self.now ≡ true }
+    {
+        self.text.as_str()
+    }
+
+    /// Another value with the same text.
+    pub fn try_clone(&self, alloc: Global) -> Result<Ascii, AllocError>
+        ensures { IfOk result (λ copy. copy ≡ self.now) }
+    {
+        Ok(Ascii {
+            text: String::from_str(alloc, self.text.as_str())?,
+        })
+    }
+}

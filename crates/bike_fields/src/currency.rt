@@ -1,0 +1,81 @@
+//! Currencies.
+
+ghost use Rattle.std.specs.Prelude.{◌≡◌, true, IfOk, List, ℕ, string_bytes};
+ghost use Rattle.bike_fields.specs.Bytes.{is_currency, currency_of};
+ghost use Rattle.bike_fields.specs.Fault.{Makes, at_field, currency_fault};
+
+use crate::bytes::{are_uppercase, has_length};
+use crate::fault::{Bound, Field, FieldFault};
+use std::alloc::{AllocError, Global};
+use std::marker::Model;
+
+/// A currency code (ISO 4217) by its form alone: three of `A-Z`.
+#[derive(Debug, Drop)]
+pub struct Currency {
+    text: String,
+}
+
+impl Model for Currency {
+    ghost use Rattle.std.specs.Prelude.{List, ℕ, ◌≡◌, true, string_bytes};
+    ghost use Rattle.bike_fields.specs.Bytes.{is_currency};
+
+    ghost Value = { List ℕ };
+
+    ghost view = { λ a. string_bytes a.text };
+
+    ghost invariant = { λ a. is_currency (string_bytes a.text) ≡ true };
+}
+
+impl Currency {
+    /// The text as that field of a record, or the first bound that it breaks: its length before its characters.
+    #[tactic(auto, unfolding(crate::specs::Fault::currency_fault))]
+    pub fn new(alloc: Global, field: Field, text: &str) -> Result<Currency, FieldFault>
+        ensures { Makes text.now (at_field field (currency_fault text.now)) result }
+    {
+        if !has_length(text, 3, 3) {
+            return Err(FieldFault::Broken {
+                field,
+                bound: Bound::Length,
+            });
+        }
+        if !are_uppercase(text.as_bytes()) {
+            return Err(FieldFault::Broken {
+                field,
+                bound: Bound::Charset,
+            });
+        }
+        Ok(Currency {
+            text: String::from_str(alloc, text)?,
+        })
+    }
+
+    /// The text, where it is a currency; an error is a want of memory.
+    #[tactic(auto, unfolding(crate::specs::Bytes::currency_of))]
+    pub fn read(alloc: Global, text: &str) -> Result<Option<Currency>, AllocError>
+        ensures { IfOk result (λ o. o ≡ currency_of text.now) }
+    {
+        if !has_length(text, 3, 3) || !are_uppercase(text.as_bytes()) {
+            return Ok(None);
+        }
+        Ok(Some(Currency {
+            text: String::from_str(alloc, text)?,
+        }))
+    }
+
+    /// The text, and its bounds.
+    pub fn as_str(&self) -> &str
+        ensures text { result.now ≡ self.now }
+        ensures good { is_currency self.now ≡ true }
+    {
+        self.text.as_str()
+    }
+
+    /// Another value with the same text.
+    pub fn try_clone(&self, alloc: Global) -> Result<Currency, AllocError>
+        ensures { IfOk result (λ copy. copy ≡ self.now) }
+    {
+        Ok(Currency {
+            text: String::from_str(alloc, self.text.as_str())?,
+        })
+    }
+}

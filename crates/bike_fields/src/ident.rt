@@ -1,0 +1,81 @@
+//! Identifiers.
+
+ghost use Rattle.std.specs.Prelude.{◌≡◌, true, IfOk, List, ℕ, string_bytes};
+ghost use Rattle.bike_fields.specs.Bytes.{is_ident, ident_of};
+ghost use Rattle.bike_fields.specs.Fault.{Makes, at_field, ident_fault};
+
+use crate::bytes::{are_ident_bytes, has_length};
+use crate::fault::{Bound, Field, FieldFault};
+use std::alloc::{AllocError, Global};
+use std::marker::Model;
+
+/// The name of a station, vehicle type, plan, import or system: 1 to 36 of `a-z 0-9 _ -`.
+#[derive(Debug, Drop)]
+pub struct Ident {
+    text: String,
+}
+
+impl Model for Ident {
+    ghost use Rattle.std.specs.Prelude.{List, ℕ, ◌≡◌, true, string_bytes};
+    ghost use Rattle.bike_fields.specs.Bytes.{is_ident};
+
+    ghost Value = { List ℕ };
+
+    ghost view = { λ a. string_bytes a.text };
+
+    ghost invariant = { λ a. is_ident (string_bytes a.text) ≡ true };
+}
+
+impl Ident {
+    /// The text as that field of a record, or the first bound that it breaks: its length before its characters.
+    #[tactic(auto, unfolding(crate::specs::Fault::ident_fault))]
+    pub fn new(alloc: Global, field: Field, text: &str) -> Result<Ident, FieldFault>
+        ensures { Makes text.now (at_field field (ident_fault text.now)) result }
+    {
+        if !has_length(text, 1, 36) {
+            return Err(FieldFault::Broken {
+                field,
+                bound: Bound::Length,
+            });
+        }
+        if !are_ident_bytes(text.as_bytes()) {
+            return Err(FieldFault::Broken {
+                field,
+                bound: Bound::Charset,
+            });
+        }
+        Ok(Ident {
+            text: String::from_str(alloc, text)?,
+        })
+    }
+
+    /// The text, where it is an identifier; an error is a want of memory.
+    #[tactic(auto, unfolding(crate::specs::Bytes::ident_of))]
+    pub fn read(alloc: Global, text: &str) -> Result<Option<Ident>, AllocError>
+        ensures { IfOk result (λ o. o ≡ ident_of text.now) }
+    {
+        if !has_length(text, 1, 36) || !are_ident_bytes(text.as_bytes()) {
+            return Ok(None);
+        }
+        Ok(Some(Ident {
+            text: String::from_str(alloc, text)?,
+        }))
+    }
+
+    /// The text, and its bounds.
+    pub fn as_str(&self) -> &str
+        ensures text { result.now ≡ self.now }
+        ensures good { is_ident self.now ≡ true }
+    {
+        self.text.as_str()
+    }
+
+    /// Another value with the same text.
+    pub fn try_clone(&self, alloc: Global) -> Result<Ident, AllocError>
+        ensures { IfOk result (λ copy. copy ≡ self.now) }
+    {
+        Ok(Ident {
+            text: String::from_str(alloc, self.text.as_str())?,
+        })
+    }
+}

@@ -1,0 +1,81 @@
+//! Request keys.
+
+ghost use Rattle.std.specs.Prelude.{◌≡◌, true, IfOk, List, ℕ, string_bytes};
+ghost use Rattle.bike_fields.specs.Bytes.{is_key, key_of};
+ghost use Rattle.bike_fields.specs.Fault.{Makes, at_field, key_fault};
+
+use crate::bytes::{are_key_bytes, has_length};
+use crate::fault::{Bound, Field, FieldFault};
+use std::alloc::{AllocError, Global};
+use std::marker::Model;
+
+/// What a caller names a request by: 1 to 64 of `A-Z a-z 0-9 _ -`.
+#[derive(Debug, Drop)]
+pub struct RequestKey {
+    text: String,
+}
+
+impl Model for RequestKey {
+    ghost use Rattle.std.specs.Prelude.{List, ℕ, ◌≡◌, true, string_bytes};
+    ghost use Rattle.bike_fields.specs.Bytes.{is_key};
+
+    ghost Value = { List ℕ };
+
+    ghost view = { λ a. string_bytes a.text };
+
+    ghost invariant = { λ a. is_key (string_bytes a.text) ≡ true };
+}
+
+impl RequestKey {
+    /// The text as that field of a record, or the first bound that it breaks: its length before its characters.
+    #[tactic(auto, unfolding(crate::specs::Fault::key_fault))]
+    pub fn new(alloc: Global, field: Field, text: &str) -> Result<RequestKey, FieldFault>
+        ensures { Makes text.now (at_field field (key_fault text.now)) result }
+    {
+        if !has_length(text, 1, 64) {
+            return Err(FieldFault::Broken {
+                field,
+                bound: Bound::Length,
+            });
+        }
+        if !are_key_bytes(text.as_bytes()) {
+            return Err(FieldFault::Broken {
+                field,
+                bound: Bound::Charset,
+            });
+        }
+        Ok(RequestKey {
+            text: String::from_str(alloc, text)?,
+        })
+    }
+
+    /// The text, where it is a request key; an error is a want of memory.
+    #[tactic(auto, unfolding(crate::specs::Bytes::key_of))]
+    pub fn read(alloc: Global, text: &str) -> Result<Option<RequestKey>, AllocError>
+        ensures { IfOk result (λ o. o ≡ key_of text.now) }
+    {
+        if !has_length(text, 1, 64) || !are_key_bytes(text.as_bytes()) {
+            return Ok(None);
+        }
+        Ok(Some(RequestKey {
+            text: String::from_str(alloc, text)?,
+        }))
+    }
+
+    /// The text, and its bounds.
+    pub fn as_str(&self) -> &str
+        ensures text { result.now ≡ self.now }
+        ensures good { is_key self.now ≡ true }
+    {
+        self.text.as_str()
+    }
+
+    /// Another value with the same text.
+    pub fn try_clone(&self, alloc: Global) -> Result<RequestKey, AllocError>
+        ensures { IfOk result (λ copy. copy ≡ self.now) }
+    {
+        Ok(RequestKey {
+            text: String::from_str(alloc, self.text.as_str())?,
+        })
+    }
+}

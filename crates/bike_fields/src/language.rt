@@ -1,0 +1,81 @@
+//! Languages.
+
+ghost use Rattle.std.specs.Prelude.{◌≡◌, true, IfOk, List, ℕ, string_bytes};
+ghost use Rattle.bike_fields.specs.Bytes.{is_language, language_of};
+ghost use Rattle.bike_fields.specs.Fault.{Makes, at_field, language_fault};
+
+use crate::bytes::{are_language_bytes, has_length};
+use crate::fault::{Bound, Field, FieldFault};
+use std::alloc::{AllocError, Global};
+use std::marker::Model;
+
+/// A language tag (RFC 5646) by its form alone: 2 to 35 of `A-Z a-z 0-9 -`.
+#[derive(Debug, Drop)]
+pub struct Language {
+    text: String,
+}
+
+impl Model for Language {
+    ghost use Rattle.std.specs.Prelude.{List, ℕ, ◌≡◌, true, string_bytes};
+    ghost use Rattle.bike_fields.specs.Bytes.{is_language};
+
+    ghost Value = { List ℕ };
+
+    ghost view = { λ a. string_bytes a.text };
+
+    ghost invariant = { λ a. is_language (string_bytes a.text) ≡ true };
+}
+
+impl Language {
+    /// The text as that field of a record, or the first bound that it breaks: its length before its characters.
+    #[tactic(auto, unfolding(crate::specs::Fault::language_fault))]
+    pub fn new(alloc: Global, field: Field, text: &str) -> Result<Language, FieldFault>
+        ensures { Makes text.now (at_field field (language_fault text.now)) result }
+    {
+        if !has_length(text, 2, 35) {
+            return Err(FieldFault::Broken {
+                field,
+                bound: Bound::Length,
+            });
+        }
+        if !are_language_bytes(text.as_bytes()) {
+            return Err(FieldFault::Broken {
+                field,
+                bound: Bound::Charset,
+            });
+        }
+        Ok(Language {
+            text: String::from_str(alloc, text)?,
+        })
+    }
+
+    /// The text, where it is a language; an error is a want of memory.
+    #[tactic(auto, unfolding(crate::specs::Bytes::language_of))]
+    pub fn read(alloc: Global, text: &str) -> Result<Option<Language>, AllocError>
+        ensures { IfOk result (λ o. o ≡ language_of text.now) }
+    {
+        if !has_length(text, 2, 35) || !are_language_bytes(text.as_bytes()) {
+            return Ok(None);
+        }
+        Ok(Some(Language {
+            text: String::from_str(alloc, text)?,
+        }))
+    }
+
+    /// The text, and its bounds.
+    pub fn as_str(&self) -> &str
+        ensures text { result.now ≡ self.now }
+        ensures good { is_language self.now ≡ true }
+    {
+        self.text.as_str()
+    }
+
+    /// Another value with the same text.
+    pub fn try_clone(&self, alloc: Global) -> Result<Language, AllocError>
+        ensures { IfOk result (λ copy. copy ≡ self.now) }
+    {
+        Ok(Language {
+            text: String::from_str(alloc, self.text.as_str())?,
+        })
+    }
+}

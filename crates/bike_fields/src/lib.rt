@@ -1,0 +1,32 @@
+//! The fields of records and requests: the small texts and numbers that name things.
+//!
+//! A value of a type here keeps the type's bounds, and a method tells them to a proof. A constructor
+//! answers the value of the text or number given, or names the first bound that it breaks.
+#![tactic(auto)]
+
+mod ascii;
+mod bytes;
+mod caller;
+mod currency;
+mod fault;
+mod ident;
+mod key;
+mod language;
+mod name;
+mod numbers;
+
+pub use ascii::Ascii;
+pub use caller::{Caller, caller_laws};
+pub use currency::Currency;
+pub use fault::{Bound, Field, FieldFault};
+pub use ident::Ident;
+pub use key::RequestKey;
+pub use language::Language;
+pub use name::Name;
+pub use numbers::{
+    BicycleNumber, DockCount, DockNumber, MaxRange, OrderNumber, OrderQuantity, Payment, Price,
+    RentalNumber, RiderNumber, SegmentMinute, TimeToLive, TruckCapacity, TruckNumber,
+};
+
+#[cfg(test)]
+mod tests;

@@ -1,0 +1,81 @@
+//! Names.
+
+ghost use Rattle.std.specs.Prelude.{◌≡◌, true, IfOk, List, ℕ, string_bytes};
+ghost use Rattle.bike_fields.specs.Bytes.{is_name, name_of};
+ghost use Rattle.bike_fields.specs.Fault.{Makes, at_field, name_fault};
+
+use crate::bytes::{are_name_bytes, has_length};
+use crate::fault::{Bound, Field, FieldFault};
+use std::alloc::{AllocError, Global};
+use std::marker::Model;
+
+/// A name or a description: UTF-8, 1 to 120 bytes, without U+0000.
+#[derive(Debug, Drop)]
+pub struct Name {
+    text: String,
+}
+
+impl Model for Name {
+    ghost use Rattle.std.specs.Prelude.{List, ℕ, ◌≡◌, true, string_bytes};
+    ghost use Rattle.bike_fields.specs.Bytes.{is_name};
+
+    ghost Value = { List ℕ };
+
+    ghost view = { λ a. string_bytes a.text };
+
+    ghost invariant = { λ a. is_name (string_bytes a.text) ≡ true };
+}
+
+impl Name {
+    /// The text as that field of a record, or the first bound that it breaks: its length before its characters.
+    #[tactic(auto, unfolding(crate::specs::Fault::name_fault))]
+    pub fn new(alloc: Global, field: Field, text: &str) -> Result<Name, FieldFault>
+        ensures { Makes text.now (at_field field (name_fault text.now)) result }
+    {
+        if !has_length(text, 1, 120) {
+            return Err(FieldFault::Broken {
+                field,
+                bound: Bound::Length,
+            });
+        }
+        if !are_name_bytes(text.as_bytes()) {
+            return Err(FieldFault::Broken {
+                field,
+                bound: Bound::Charset,
+            });
+        }
+        Ok(Name {
+            text: String::from_str(alloc, text)?,
+        })
+    }
+
+    /// The text, where it is a name; an error is a want of memory.
+    #[tactic(auto, unfolding(crate::specs::Bytes::name_of))]
+    pub fn read(alloc: Global, text: &str) -> Result<Option<Name>, AllocError>
+        ensures { IfOk result (λ o. o ≡ name_of text.now) }
+    {
+        if !has_length(text, 1, 120) || !are_name_bytes(text.as_bytes()) {
+            return Ok(None);
+        }
+        Ok(Some(Name {
+            text: String::from_str(alloc, text)?,
+        }))
+    }
+
+    /// The text, and its bounds.
+    pub fn as_str(&self) -> &str
+        ensures text { result.now ≡ self.now }
+        ensures good { is_name self.now ≡ true }
+    {
+        self.text.as_str()
+    }
+
+    /// Another value with the same text.
+    pub fn try_clone(&self, alloc: Global) -> Result<Name, AllocError>
+        ensures { IfOk result (λ copy. copy ≡ self.now) }
+    {
+        Ok(Name {
+            text: String::from_str(alloc, self.text.as_str())?,
+        })
+    }
+}

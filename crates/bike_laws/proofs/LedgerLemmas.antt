@@ -1,0 +1,229 @@
+-- The ledger stays in order.
+use Rattle.std.proofs.Common.{◌≡◌, ℕ, ◌+◌, ◌≤◌, pos, List, [], ◌∷◌, ◌++◌, length, length-append, true, false, Option, Some, None, refl, sym, ap, ◌∙◌, subst, arith, inl, inr}
+use Rattle.std.specs.Prelude.{is_none}
+use Rattle.std.specs.FinMap as finmap
+use Rattle.std.specs.FinMap.{FinMap}
+use Rattle.std.proofs.lemmas.Option.{same_Some}
+use Rattle.bike_ledger.specs.Entries.{Entry}
+use Rattle.bike_ledger.specs.declared.entry.EntryKind.{EntryKind}
+use Rattle.bike_ledger.specs.declared.entry.EntryKind.TheVariants.{TopUp, Fare, Refund}
+use Rattle.bike_operator.specs.declared.records.Rental.{Rental}
+use Rattle.bike_operator.specs.declared.records.Closing.{Closing}
+use Rattle.bike_operator.specs.declared.view.RentalView.{RentalView}
+use Rattle.bike_operator.specs.declared.view.DockedBike.{DockedBike}
+use Rattle.bike_operator.specs.Operator.{Operator, Rider, Kept, texts_cmp, numbered, number_changed}
+use Rattle.bike_operator.specs.Counts.{count, open_rentals, is_open}
+use Rattle.bike_operator.specs.View.{most_riders, most_entries}
+use Rattle.bike_operator.specs.Steps.{fare_now, booked, charged, started, ended, recovered, refunded_by}
+use Rattle.bike_operator.specs.Order.{IsPayment, IsRiderNumber, IsOfRental, IsBooking, IsEntryAt, IsLedgerInOrder, IsInOrder}
+use Rattle.bike_places.proofs.ItemLemmas.{number_stays, number_or_last, number_apart}
+use Rattle.bike_places.proofs.Moment.{at_moment}
+use Rattle.bike_laws.proofs.NumberLemmas.{number_same, count_added, count_changed}
+use Rattle.bike_laws.proofs.FoundLemmas.{IsViewOf, IsRentalOf, closing_now, closed_by}
+use Rattle.bike_laws.proofs.NameLemmas.{get_other, Either, either}
+use Rattle.bike_laws.proofs.NameLemmas.Either.{Same, Other}
+use Rattle.bike_laws.proofs.ReplyLemmas.{IsPaid, fare_amount, HasRoom}
+use Rattle.bike_laws.proofs.QuietLemmas.{IsQuiet, quiet_fields}
+
+-- ---- entries that go on standing
+
+-- riders stay, and closed rentals stay as they are
+pub record KeepsBooked (s next : Operator) : Type 0 where
+  pub riders : (id : ℕ) → finmap.contains_key s.riders id ≡ true → finmap.contains_key next.riders id ≡ true
+  pub closed : (n : ℕ) (x : Rental) (c : Closing) → numbered n s.rentals ≡ Some x → x.closing ≡ Some c → numbered n next.rentals ≡ Some x
+  pub later : s.now ≤ next.now
+
+of_rental_stands : (s next : Operator) (e : Entry) → KeepsBooked s next → IsOfRental s e → IsOfRental next e
+of_rental_stands s next e k o = record { row = o.row; closing = o.closing; found = k.closed e.rental o.row o.closing o.found o.closed; closed = o.closed; rider_is = o.rider_is }
+
+booking_stands : (s next : Operator) (e : Entry) (kind : EntryKind) → KeepsBooked s next → IsBooking s e kind → IsBooking next e kind
+booking_stands s next e TopUp k b = b
+booking_stands s next e Fare k b = (of_rental_stands s next e k b.0, b.1, b.2)
+booking_stands s next e Refund k b = (of_rental_stands s next e k b.0, b.1)
+
+entry_stands : (s next : Operator) (number : ℕ) (e : Entry) → KeepsBooked s next → IsEntryAt s number e → IsEntryAt next number e
+entry_stands s next number e k at =
+    let by_now = at.by_now in
+    let later = k.later in
+    record { number_is = at.number_is; rider_is = k.riders e.rider at.rider_is; booking = booking_stands s next e e.kind k at.booking; by_now = omega (arith, by_now, later) }
+
+-- no entry is added, and riders stay as they are
+ledger_same : (s next : Operator) → IsLedgerInOrder s → KeepsBooked s next → next.riders ≡ s.riders → next.entries ≡ s.entries → open_rentals next ≡ open_rentals s → IsLedgerInOrder next
+ledger_same s next ledger k riders entries ongoing =
+    let few_riders = ledger.few_riders in
+    let few_entries = ledger.few_entries in
+    let count_riders : finmap.len next.riders ≡ finmap.len s.riders = ap (λ m. finmap.len m) riders in
+    let count_entries : length next.entries ≡ length s.entries = ap (λ (es : List Entry). length es) entries in
+    record {
+      riders = λ number r i. ledger.riders number r (ap (λ m. finmap.get m number) (sym riders) ∙ i);
+      entries = λ number e i. entry_stands s next number e k (ledger.entries number e (ap (λ (es : List Entry). numbered number es) (sym entries) ∙ i));
+      few_riders = omega (arith, few_riders, count_riders);
+      few_entries = omega (arith, few_entries, count_entries, ongoing);
+    }
+
+-- an entry is added
+ledger_booked : (s next : Operator) (e : Entry) → IsLedgerInOrder s → KeepsBooked s next → next.riders ≡ s.riders → next.entries ≡ s.entries ++ e ∷ [] → IsEntryAt next (length s.entries + 1) e
+    → length s.entries + 1 + open_rentals next ≤ most_entries → IsLedgerInOrder next
+ledger_booked s next e ledger k riders entries last few =
+    let few_riders = ledger.few_riders in
+    let count_riders : finmap.len next.riders ≡ finmap.len s.riders = ap (λ m. finmap.len m) riders in
+    let count_entries : length next.entries ≡ length s.entries + 1 = ap (λ (es : List Entry). length es) entries ∙ length-append s.entries (e ∷ []) in
+    record {
+      riders = λ number r i. ledger.riders number r (ap (λ m. finmap.get m number) (sym riders) ∙ i);
+      entries = λ number x i. each number x (ap (λ (es : List Entry). numbered number es) (sym entries) ∙ i);
+      few_riders = omega (arith, few_riders, count_riders);
+      few_entries = omega (arith, few, count_entries);
+    }
+  where
+    each : (number : ℕ) (x : Entry) → numbered number (s.entries ++ e ∷ []) ≡ Some x → IsEntryAt next number x
+    each number x i = elim (number_or_last number s.entries e x i) [
+      | inl w ↦ entry_stands s next number x k (ledger.entries number x w)
+      | inr w ↦ subst (λ (y : Entry). IsEntryAt next number y) (sym w.1) (subst (λ (n : ℕ). IsEntryAt next n e) (sym w.0) last)
+    ]
+
+-- ---- quiet commands
+
+quiet_keeps : (s x : Operator) (now : ℕ) (kept : FinMap texts_cmp Kept) → s.now ≤ now → IsQuiet s x → KeepsBooked s (at_moment x now kept)
+quiet_keeps s x now kept later q = record {
+  riders = q.riders;
+  closed = λ n y c found closed. ap (λ (rs : List Rental). numbered n rs) q.rentals ∙ found;
+  later = later;
+}
+
+pub ledger_quiet : (s x : Operator) (now : ℕ) (kept : FinMap texts_cmp Kept) → IsLedgerInOrder s → s.now ≤ now → IsQuiet s x → x.riders ≡ s.riders → IsLedgerInOrder (at_moment x now kept)
+ledger_quiet s x now kept ledger later q riders =
+    ledger_same s (at_moment x now kept) ledger (quiet_keeps s x now kept later q) riders q.entries (ap (λ (rs : List Rental). count is_open rs) q.rentals)
+
+-- a rider is added or changed
+pub ledger_rider : (s : Operator) (now : ℕ) (kept : FinMap texts_cmp Kept) (rider : ℕ) (r : Rider) → IsLedgerInOrder s → s.now ≤ now → IsRiderNumber rider → finmap.len (finmap.insert s.riders rider r) ≤ most_riders
+    → IsQuiet s (record s { riders = finmap.insert s.riders rider r }) → IsLedgerInOrder (at_moment (record s { riders = finmap.insert s.riders rider r }) now kept)
+ledger_rider s now kept rider r ledger later good few q = record {
+  riders = λ number x i. each number x i (either number rider);
+  entries = λ number e i. entry_stands s (at_moment (record s { riders = finmap.insert s.riders rider r }) now kept) number e (quiet_keeps s (record s { riders = finmap.insert s.riders rider r }) now kept later q) (ledger.entries number e i);
+  few_riders = few;
+  few_entries = ledger.few_entries;
+} where
+  each : (number : ℕ) (x : Rider) → finmap.get (finmap.insert s.riders rider r) number ≡ Some x → Either number rider → IsRiderNumber number
+  each number x i (Same e) = subst (λ (n : ℕ). IsRiderNumber n) (sym e) good
+  each number x i (Other apart) = ledger.riders number x (sym (get_other s.riders rider r number apart) ∙ i)
+
+-- ---- rentals that begin and end
+
+open_apart : (x y : Rental) (c : Closing) → x ≡ y → x.closing ≡ Some c → is_open y ≡ true → ⊥
+open_apart x y c same closed ongoing =
+    let none : is_none (Some c) ≡ true = ap (λ (o : Option Closing). is_none o) (sym closed) ∙ ap (λ (z : Rental). is_open z) same ∙ ongoing in
+    absurd cc
+
+-- the rental is closed and its fare is booked
+pub ledger_charged : (s x : Operator) (now : ℕ) (kept : FinMap texts_cmp Kept) (r : RentalView) (to_station : Option (List ℕ)) → IsInOrder s → s.now ≤ now → IsViewOf s r → is_open r.rental ≡ true
+    → x.riders ≡ s.riders → x.rentals ≡ (charged r to_station now s).rentals → x.entries ≡ (charged r to_station now s).entries → IsLedgerInOrder (at_moment x now kept)
+ledger_charged s x now kept r to_station order later v ongoing riders rentals entries =
+    ledger_booked s (at_moment x now kept) _ order.ledger keeps riders entries last few
+  where
+    c : Closing
+    c = closing_now r to_station now
+
+    changed : x.rentals ≡ number_changed r.number (closed_by c) s.rentals
+    changed = rentals
+
+    keeps : KeepsBooked s (at_moment x now kept)
+    keeps = record {
+      riders = λ id h. ap (λ m. finmap.contains_key m id) riders ∙ h;
+      closed = λ n y d found closed.
+          ap (λ (rs : List Rental). numbered n rs) changed
+          ∙ number_apart r.number (closed_by c) s.rentals n (λ same. open_apart y r.rental d (same_Some y r.rental (sym found ∙ ap (λ (m : ℕ). numbered m s.rentals) same ∙ v.found)) closed ongoing)
+          ∙ found;
+      later = later;
+    }
+
+    last : IsEntryAt (at_moment x now kept) (length s.entries + 1) (record { number = length s.entries + 1; kind = Fare; rider = r.rental.rider; rental = r.number; amount = fare_now r now; at = now })
+    last =
+        let amount = fare_amount s now r order v in
+        let of = order.rentals.rentals r.number r.rental v.found in
+        record {
+          number_is = refl;
+          rider_is = ap (λ m. finmap.contains_key m r.rental.rider) riders ∙ of.rider_is;
+          booking = (
+            record {
+              row = closed_by c r.rental;
+              closing = c;
+              found = ap (λ (rs : List Rental). numbered r.number rs) changed ∙ number_same r.number (closed_by c) s.rentals r.rental v.found;
+              closed = refl;
+              rider_is = refl;
+            },
+            amount.low,
+            amount.high,
+          );
+          by_now = omega arith;
+        }
+
+    few : length s.entries + 1 + open_rentals (at_moment x now kept) ≤ most_entries
+    few =
+        let fewer : open_rentals (at_moment x now kept) + 1 ≡ open_rentals s =
+        ap (λ (rs : List Rental). count is_open rs + 1) changed ∙ count_changed is_open r.number (closed_by c) s.rentals r.rental v.found ongoing refl in
+        let before = order.ledger.few_entries in
+        omega (arith, before, fewer)
+
+-- nothing is touched
+ledger_untouched : (s : Operator) (now : ℕ) (kept : FinMap texts_cmp Kept) → IsLedgerInOrder s → s.now ≤ now → IsLedgerInOrder (at_moment s now kept)
+ledger_untouched s now kept ledger later = ledger_quiet s s now kept ledger later (quiet_fields s s refl refl refl refl refl refl) refl
+
+pub ledger_ended : (s : Operator) (now : ℕ) (kept : FinMap texts_cmp Kept) (bike : ℕ) (station : List ℕ) (dock : ℕ) (o : Option RentalView) → IsInOrder s → s.now ≤ now
+    → ((r : RentalView) → o ≡ Some r → IsRentalOf s bike r) → IsLedgerInOrder (at_moment (ended bike station dock now o s) now kept)
+ledger_ended s now kept bike station dock None order later is = ledger_untouched s now kept order.ledger later
+ledger_ended s now kept bike station dock (Some r) order later is =
+    let at = is r refl in
+    ledger_charged s (ended bike station dock now (Some r) s) now kept r (Some station) order later at.view at.not_closed refl refl refl
+
+pub ledger_recovered : (s : Operator) (now : ℕ) (kept : FinMap texts_cmp Kept) (o : Option RentalView) → IsInOrder s → s.now ≤ now
+    → ((r : RentalView) → o ≡ Some r → IsViewOf s r × (is_open r.rental ≡ true)) → IsLedgerInOrder (at_moment (recovered now o s) now kept)
+ledger_recovered s now kept None order later is = ledger_untouched s now kept order.ledger later
+ledger_recovered s now kept (Some r) order later is =
+    let at = is r refl in
+    ledger_charged s (recovered now (Some r) s) now kept r None order later at.0 at.1 refl refl refl
+
+-- a rental is added
+pub ledger_started : (s : Operator) (now : ℕ) (kept : FinMap texts_cmp Kept) (rider : ℕ) (station : List ℕ) (o : Option DockedBike) → IsInOrder s → HasRoom s → s.now ≤ now → IsLedgerInOrder (at_moment (started rider station now o s) now kept)
+ledger_started s now kept rider station None order has later = ledger_untouched s now kept order.ledger later
+ledger_started s now kept rider station (Some b) order has later = record {
+  riders = order.ledger.riders;
+  entries = λ number e i. entry_stands s (at_moment (started rider station now (Some b) s) now kept) number e
+      (record { riders = λ id h. h; closed = λ n y c found closed. number_stays n s.rentals added y found; later = later }) (order.ledger.entries number e i);
+  few_riders = order.ledger.few_riders;
+  few_entries =
+      let more : open_rentals (at_moment (started rider station now (Some b) s) now kept) ≡ open_rentals s + 1 = count_added is_open s.rentals added in
+      let room = has.room in
+      omega (arith, more, room);
+} where
+  added : Rental
+  added = record { rider = rider; bike = b.bike; plan = b.plan; from_station = station; start = now; closing = None }
+
+-- ---- payments
+
+pub is_payment : (amount : ℕ) → IsPaid amount → IsPayment (pos amount)
+is_payment amount p = record { hundredths = amount; is = refl; low = p.low; high = p.high }
+
+pub ledger_paid : (s : Operator) (now : ℕ) (kept : FinMap texts_cmp Kept) (kind : EntryKind) (rider rental amount : ℕ) → IsInOrder s → HasRoom s → s.now ≤ now → finmap.contains_key s.riders rider ≡ true
+    → IsBooking (at_moment (booked kind rider rental (pos amount) now s) now kept) (record { number = length s.entries + 1; kind = kind; rider = rider; rental = rental; amount = pos amount; at = now }) kind
+    → IsLedgerInOrder (at_moment (booked kind rider rental (pos amount) now s) now kept)
+ledger_paid s now kept kind rider rental amount order has later known booking =
+    let room = has.room in
+    ledger_booked s (at_moment (booked kind rider rental (pos amount) now s) now kept) _ order.ledger
+    (record { riders = λ id h. h; closed = λ n y c found closed. found; later = later }) refl refl
+    (record { number_is = refl; rider_is = known; booking = booking; by_now = omega arith }) (omega (arith, room))
+
+-- the rental that is refunded is closed
+pub ledger_refunded : (s : Operator) (now : ℕ) (kept : FinMap texts_cmp Kept) (amount : ℕ) (o : Option RentalView) → IsInOrder s → HasRoom s → IsPaid amount → s.now ≤ now
+    → ((r : RentalView) → o ≡ Some r → IsViewOf s r × (is_open r.rental ≡ false)) → IsLedgerInOrder (at_moment (refunded_by amount now o s) now kept)
+ledger_refunded s now kept amount None order has paid later is = ledger_untouched s now kept order.ledger later
+ledger_refunded s now kept amount (Some r) order has paid later is =
+    let at = is r refl in
+    let v = at.0 in
+    let of = order.rentals.rentals r.number r.rental v.found in
+    of_closing r.rental.closing refl at.1 v of.rider_is
+  where
+    of_closing : (c : Option Closing) → r.rental.closing ≡ c → is_open r.rental ≡ false → IsViewOf s r → finmap.contains_key s.riders r.rental.rider ≡ true → IsLedgerInOrder (at_moment (refunded_by amount now (Some r) s) now kept)
+    of_closing None same shut v known = let ongoing : is_open r.rental ≡ true = ap (λ (c : Option Closing). is_none c) same in absurd cc
+    of_closing (Some c) same shut v known =
+        ledger_paid s now kept Refund r.rental.rider r.number amount order has later known
+        (record { row = r.rental; closing = c; found = v.found; closed = same; rider_is = refl }, is_payment amount paid)

@@ -1,0 +1,66 @@
+-- The operator of whom nothing was asked yet is in order.
+use Rattle.std.proofs.Common.{◌≡◌, ℕ, zero, suc, List, [], true, Some, arith}
+use Rattle.std.specs.FinMap as finmap
+use Rattle.std.specs.FinSet as finset
+use Rattle.std.specs.Ordering.{nat_cmp}
+use Rattle.bike_catalogue.specs.Rows.{PlanRow, TypeRow}
+use Rattle.bike_operator.specs.declared.records.Bike.{Bike}
+use Rattle.bike_operator.specs.Operator.{Station, Truck, Rider, Kept, Key, text_cmp, texts_cmp, no_operator, numbered}
+use Rattle.bike_operator.specs.Order.{IsInOrder, IsCatalogueInOrder, AreBikesInOrder, AreOrdersInOrder, AreRentalsInOrder, IsLedgerInOrder}
+
+no_number : {A : Type 0} (n : ℕ) (x : A) → numbered n [] ≡ Some x → ⊥
+no_number zero x e = absurd cc
+no_number (suc n) x e = absurd cc
+
+no_plan : (id : List ℕ) (x : PlanRow) → finmap.get (finmap.empty {X = PlanRow} {R = text_cmp}) id ≡ Some x → ⊥
+no_plan id x e = let none = finmap.get-empty {X = PlanRow} text_cmp id in absurd cc
+
+no_type : (id : List ℕ) (x : TypeRow) → finmap.get (finmap.empty {X = TypeRow} {R = text_cmp}) id ≡ Some x → ⊥
+no_type id x e = let none = finmap.get-empty {X = TypeRow} text_cmp id in absurd cc
+
+no_station : (id : List ℕ) (x : Station) → finmap.get (finmap.empty {X = Station} {R = text_cmp}) id ≡ Some x → ⊥
+no_station id x e = let none = finmap.get-empty {X = Station} text_cmp id in absurd cc
+
+no_key : (X : Type 0) (n : ℕ) (x : X) → finmap.get (finmap.empty {X = X} {R = nat_cmp}) n ≡ Some x → ⊥
+no_key X n x e = let none = finmap.get-empty {X = X} nat_cmp n in absurd cc
+
+no_kept : (key : Key) (k : Kept) → finmap.get (finmap.empty {X = Kept} {R = texts_cmp}) key ≡ Some k → ⊥
+no_kept key k e = let none = finmap.get-empty {X = Kept} texts_cmp key in absurd cc
+
+no_broken : (key : Key) → finset.contains (finset.empty {R = texts_cmp}) key ≡ true → ⊥
+no_broken key e = let none = finset.contains-empty texts_cmp key in absurd cc
+
+none_catalogue : IsCatalogueInOrder no_operator
+none_catalogue = record {
+  system = tt;
+  plans = λ id x e. absurd (no_plan id x e);
+  types = λ id x e. absurd (no_type id x e);
+  stations = λ id x e. absurd (no_station id x e);
+  broken = λ key e. absurd (no_broken key e);
+  few_plans = omega (arith, finmap.len-empty text_cmp PlanRow);
+  few_types = omega (arith, finmap.len-empty text_cmp TypeRow);
+  few_stations = omega (arith, finmap.len-empty text_cmp Station);
+}
+
+none_bikes : AreBikesInOrder no_operator
+none_bikes = record { bikes = λ n b e. absurd (no_key Bike n b e); apart = λ a b x y station dock e f p q. absurd (no_key Bike a x e); few = omega (arith, finmap.len-empty nat_cmp Bike) }
+
+none_orders : AreOrdersInOrder no_operator
+none_orders = record { trucks = λ n t e. absurd (no_key Truck n t e); orders = λ n o e. absurd (no_number n o e); few_trucks = omega (arith, finmap.len-empty nat_cmp Truck); few_orders = omega arith }
+
+none_rentals : AreRentalsInOrder no_operator
+none_rentals = record { rentals = λ n r e. absurd (no_number n r e); riding = λ a b q r e f p i same. absurd (no_number a q e); few_rentals = omega arith }
+
+none_ledger : IsLedgerInOrder no_operator
+none_ledger = record { riders = λ n r e. absurd (no_key Rider n r e); entries = λ n e i. absurd (no_number n e i); few_riders = omega (arith, finmap.len-empty nat_cmp Rider); few_entries = omega arith }
+
+pub none_in_order : IsInOrder no_operator
+none_in_order = record {
+  catalogue = none_catalogue;
+  bikes = none_bikes;
+  orders = none_orders;
+  rentals = none_rentals;
+  ledger = none_ledger;
+  kept = λ key k e. absurd (no_kept key k e);
+  now = omega arith;
+}

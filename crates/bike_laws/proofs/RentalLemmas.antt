@@ -1,0 +1,152 @@
+-- Rentals stay in order.
+use Rattle.std.proofs.Common.{◌≡◌, ℕ, ℤ, ◌+◌, ◌≤◌, ◌+ℤ◌, ◌-ℤ◌, ◌≤ℤ◌, pos, List, [], ◌∷◌, ◌++◌, length, length-append, Bool, true, false, cond, eqb, Option, Some, None, refl, sym, ap, ◌∙◌, subst, arith}
+use Rattle.std.specs.Prelude.{is_none, ◌&&◌, int_lt}
+use Rattle.std.specs.FinMap as finmap
+use Rattle.std.specs.FinMap.{FinMap}
+use Rattle.std.proofs.lemmas.Option.{same_Some}
+use Rattle.std.proofs.lemmas.Int.{ints}
+use Rattle.bike_ledger.specs.Entries.{Entry}
+use Rattle.bike_ledger.specs.declared.entry.EntryKind.TheVariants.{TopUp, Refund}
+use Rattle.bike_ledger.specs.Ledger.{given_back_of, refunded_of}
+use Rattle.bike_operator.specs.declared.records.Rental.{Rental}
+use Rattle.bike_operator.specs.declared.records.Closing.{Closing}
+use Rattle.bike_operator.specs.declared.view.RentalView.{RentalView}
+use Rattle.bike_operator.specs.Operator.{Operator, Kept, texts_cmp, numbered}
+use Rattle.bike_operator.specs.Counts.{count, open_rentals, is_open}
+use Rattle.bike_operator.specs.Steps.{on, booked, refunded_by}
+use Rattle.bike_operator.specs.Order.{IsOut, IsStop, IsOpenOrClosed, is_fare, fares_of, most_refunded, IsRentalAt, AreRentalsInOrder, IsInOrder}
+use Rattle.bike_places.proofs.Moment.{at_moment}
+use Rattle.bike_laws.proofs.EntryLemmas.{refunded_added, fares_apart, same_either, other_number}
+use Rattle.bike_laws.proofs.FoundLemmas.{IsViewOf}
+use Rattle.bike_laws.proofs.NameLemmas.{Either, either}
+use Rattle.bike_laws.proofs.NameLemmas.Either.{Same, Other}
+use Rattle.bike_laws.proofs.QuietLemmas.{IsQuiet, quiet_fields}
+
+-- ---- rentals that go on standing
+
+-- no name is gone, and it isn't earlier
+pub record KeepsNames (s next : Operator) : Type 0 where
+  pub riders : (id : ℕ) → finmap.contains_key s.riders id ≡ true → finmap.contains_key next.riders id ≡ true
+  pub bikes : (id : ℕ) → finmap.contains_key s.bikes id ≡ true → finmap.contains_key next.bikes id ≡ true
+  pub plans : (id : List ℕ) → finmap.contains_key s.plans id ≡ true → finmap.contains_key next.plans id ≡ true
+  pub stations : (id : List ℕ) → finmap.contains_key s.stations id ≡ true → finmap.contains_key next.stations id ≡ true
+  pub later : s.now ≤ next.now
+
+stop_stands : (s next : Operator) (o : Option (List ℕ)) → KeepsNames s next → IsStop s o → IsStop next o
+stop_stands s next None k is = tt
+stop_stands s next (Some station) k is = k.stations station is
+
+closing_stands : (s next : Operator) (number : ℕ) (x : Rental) (o : Option Closing) → KeepsNames s next → (IsOut s number x.bike → IsOut next number x.bike) → IsOpenOrClosed s number x o → IsOpenOrClosed next number x o
+closing_stands s next number x None k out is = out is
+closing_stands s next number x (Some c) k out is =
+    let by_now = is.by_now in
+    let later = k.later in
+    record { stop = stop_stands s next c.to_station k is.stop; after = is.after; by_now = omega (arith, by_now, later); low = is.low; high = is.high }
+
+pub rental_stands : (s next : Operator) (number : ℕ) (x : Rental) → KeepsNames s next → (IsOut s number x.bike → IsOut next number x.bike) → fares_of number next.entries ≡ fares_of number s.entries
+    → refunded_of number next.entries ≤ℤ most_refunded x.closing → IsRentalAt s number x → IsRentalAt next number x
+rental_stands s next number x k out fares refunded at =
+    let by_now = at.by_now in
+    let later = k.later in
+    record {
+      rider_is = k.riders x.rider at.rider_is;
+      bike_is = k.bikes x.bike at.bike_is;
+      plan_is = k.plans x.plan at.plan_is;
+      from_is = k.stations x.from_station at.from_is;
+      by_now = omega (arith, by_now, later);
+      closing = closing_stands s next number x x.closing k out at.closing;
+      booked = fares ∙ at.booked;
+      refunded = refunded;
+    }
+
+-- what was refunded before still is
+pub as_refunded : (number : ℕ) (es fs : List Entry) (z : ℤ) → refunded_of number fs ≡ refunded_of number es → refunded_of number es ≤ℤ z → refunded_of number fs ≤ℤ z
+as_refunded number es fs z same high = subst (λ (y : ℤ). y ≤ℤ z) (sym same) high
+
+pub out_settled : (s x : Operator) (now : ℕ) (kept : FinMap texts_cmp Kept) (number bike : ℕ) → IsOut x number bike → IsOut (at_moment x now kept) number bike
+out_settled s x now kept number bike o = record { row = o.row; found = o.found; place_is = o.place_is }
+
+-- ---- quiet commands
+
+pub rentals_quiet : (s x : Operator) (now : ℕ) (kept : FinMap texts_cmp Kept) → IsInOrder s → s.now ≤ now → IsQuiet s x → AreRentalsInOrder (at_moment x now kept)
+rentals_quiet s x now kept order later q =
+    let few = order.rentals.few_rentals in
+    let count_rentals : length x.rentals ≡ length s.rentals = ap (λ (rs : List Rental). length rs) q.rentals in
+    let count_entries : length x.entries ≡ length s.entries = ap (λ (es : List Entry). length es) q.entries in
+    let count_open : open_rentals x ≡ open_rentals s = ap (λ (rs : List Rental). count is_open rs) q.rentals in
+    record {
+      rentals = λ number r i.
+          let at = order.rentals.rentals number r (before number r i) in
+          rental_stands s (at_moment x now kept) number r (record { riders = q.riders; bikes = q.bikes; plans = q.plans; stations = q.stations; later = later })
+          (λ o. out_settled s x now kept number r.bike (q.out number r.bike o)) (ap (fares_of number) q.entries)
+          (as_refunded number s.entries x.entries (most_refunded r.closing) (ap (refunded_of number) q.entries) at.refunded) at;
+      riding = λ a b y z i j. order.rentals.riding a b y z (before a y i) (before b z j);
+      few_rentals = omega (arith, few, count_rentals, count_entries, count_open);
+    }
+  where
+    before : (number : ℕ) (r : Rental) → numbered number x.rentals ≡ Some r → numbered number s.rentals ≡ Some r
+    before number r i = ap (λ (rs : List Rental). numbered number rs) (sym q.rentals) ∙ i
+
+pub rentals_untouched : (s : Operator) (now : ℕ) (kept : FinMap texts_cmp Kept) → IsInOrder s → s.now ≤ now → AreRentalsInOrder (at_moment s now kept)
+rentals_untouched s now kept order later = rentals_quiet s s now kept order later (quiet_fields s s refl refl refl refl refl refl)
+
+-- ---- payments
+
+-- an entry that is no fare
+rentals_paid : (s : Operator) (now : ℕ) (kept : FinMap texts_cmp Kept) (e : Entry) → IsInOrder s → s.now ≤ now → is_fare e.kind ≡ false
+    → ((number : ℕ) (x : Rental) → numbered number s.rentals ≡ Some x → (refunded_of number s.entries +ℤ given_back_of number e) ≤ℤ most_refunded x.closing)
+    → AreRentalsInOrder (at_moment (record s { entries = s.entries ++ e ∷ [] }) now kept)
+rentals_paid s now kept e order later no_fare refunded =
+    let few = order.rentals.few_rentals in
+    let more = length-append s.entries (e ∷ []) in
+    record {
+      rentals = λ number r i.
+          rental_stands s (at_moment (record s { entries = s.entries ++ e ∷ [] }) now kept) number r
+          (record { riders = λ id h. h; bikes = λ id h. h; plans = λ id h. h; stations = λ id h. h; later = later })
+          (λ o. record { row = o.row; found = o.found; place_is = o.place_is })
+          (fares_apart number s.entries e (ap (λ (b : Bool). b && eqb e.rental number) no_fare))
+          (subst (λ (z : ℤ). z ≤ℤ most_refunded r.closing) (sym (refunded_added number s.entries e)) (refunded number r i))
+          (order.rentals.rentals number r i);
+      riding = order.rentals.riding;
+      few_rentals = omega (arith, few, more);
+    }
+
+pub rentals_topped_up : (s : Operator) (now : ℕ) (kept : FinMap texts_cmp Kept) (rider amount : ℕ) → IsInOrder s → s.now ≤ now → AreRentalsInOrder (at_moment (booked TopUp rider 0 (pos amount) now s) now kept)
+rentals_topped_up s now kept rider amount order later =
+    rentals_paid s now kept (record { number = length s.entries + 1; kind = TopUp; rider = rider; rental = 0; amount = pos amount; at = now }) order later refl
+    (λ number x i.
+    let none : cond (eqb 0 number) (pos 0) (pos 0) ≡ pos 0 = same_either (eqb 0 number) (pos 0) refl in
+    let high = (order.rentals.rentals number x i).refunded in
+    omega (arith, ints, none, high))
+
+not_more : (fare refunded amount : ℤ) → int_lt (fare -ℤ refunded) amount ≡ false → (refunded +ℤ amount) ≤ℤ fare
+not_more fare refunded amount e = grind (arith, ints)
+
+pub rentals_refunded : (s : Operator) (now : ℕ) (kept : FinMap texts_cmp Kept) (amount : ℕ) (o : Option RentalView) → IsInOrder s → s.now ≤ now
+    → ((r : RentalView) → o ≡ Some r → IsViewOf s r × (on r.rental.closing (λ c. int_lt (c.fare -ℤ r.refunded) (pos amount)) ≡ false) × (is_open r.rental ≡ false))
+    → AreRentalsInOrder (at_moment (refunded_by amount now o s) now kept)
+rentals_refunded s now kept amount None order later is = rentals_untouched s now kept order later
+rentals_refunded s now kept amount (Some r) order later is =
+    let facts = is r refl in
+    rentals_paid s now kept (record { number = length s.entries + 1; kind = Refund; rider = r.rental.rider; rental = r.number; amount = pos amount; at = now }) order later refl
+    (λ number x i. within facts.0 facts.1 facts.2 number x i (either number r.number))
+  where
+    enough : (c : Option Closing) → on c (λ d. int_lt (d.fare -ℤ r.refunded) (pos amount)) ≡ false → is_none c ≡ false → (r.refunded +ℤ pos amount) ≤ℤ most_refunded c
+    enough None e shut = absurd cc
+    enough (Some d) e shut = not_more d.fare r.refunded (pos amount) e
+
+    at_most : (b : Bool) (z y : ℤ) → (z +ℤ pos amount) ≤ℤ y → (z +ℤ cond b (pos amount) (pos 0)) ≤ℤ y
+    at_most true z y h = h
+    at_most false z y h = omega (arith, ints, h)
+
+    within : IsViewOf s r → on r.rental.closing (λ c. int_lt (c.fare -ℤ r.refunded) (pos amount)) ≡ false → is_open r.rental ≡ false → (number : ℕ) (x : Rental) → numbered number s.rentals ≡ Some x → Either number r.number
+        → (refunded_of number s.entries +ℤ cond (eqb r.number number) (pos amount) (pos 0)) ≤ℤ most_refunded x.closing
+    within v e shut number x i (Same same) =
+        let is_row : r.rental ≡ x = same_Some r.rental x (sym v.found ∙ ap (λ (n : ℕ). numbered n s.rentals) (sym same) ∙ i) in
+        let total : r.refunded ≡ refunded_of number s.entries = v.refunded_is ∙ ap (λ (n : ℕ). refunded_of n s.entries) (sym same) in
+        at_most (eqb r.number number) (refunded_of number s.entries) (most_refunded x.closing)
+        (subst (λ (z : ℤ). (z +ℤ pos amount) ≤ℤ most_refunded x.closing) total (subst (λ (y : Rental). (r.refunded +ℤ pos amount) ≤ℤ most_refunded y.closing) is_row (enough r.rental.closing e shut)))
+    within v e shut number x i (Other apart) =
+        let none : cond (eqb r.number number) (pos amount) (pos 0) ≡ pos 0 = ap (λ (b : Bool). cond b (pos amount) (pos 0)) (other_number r.number number apart) in
+        let high = (order.rentals.rentals number x i).refunded in
+        omega (arith, ints, none, high)

@@ -1,0 +1,54 @@
+//! The laws.
+
+ghost use Rattle.std.specs.Prelude.{◌≡◌, ◌≤◌, ◌++◌, ℕ, List};
+ghost use Rattle.std.specs.FinMap.{keys};
+ghost use Rattle.bike_fixed.specs.Whole.{last_moment};
+ghost use Rattle.bike_ledger.specs.Money.{IsConserved};
+ghost use Rattle.bike_commands.specs.declared.request.Request.{Request};
+ghost use Rattle.bike_commands.specs.Requests.{IsRequest};
+ghost use Rattle.bike_operator.specs.Operator.{Operator, no_operator};
+ghost use Rattle.bike_places.specs.Accepted.{AcceptedKeeps};
+ghost use Rattle.bike_operator.specs.Order.{IsInOrder, AreRentalsInOrder, IsLedgerInOrder, AreCalls};
+ghost use Rattle.bike_operator.specs.Runs.{Call, step, after, replies};
+
+/// The law of the ledger: an accepted command leaves riders and entries in order, whatever is kept.
+pub fn keeps_ledger()
+    ensures { AcceptedKeeps IsLedgerInOrder }
+{}
+
+/// The law of rentals: an accepted command leaves rentals in order, whatever is kept.
+pub fn keeps_rentals()
+    ensures { AcceptedKeeps AreRentalsInOrder }
+{}
+
+/// The law of order: a step keeps an operator in order.
+pub fn keeps_order()
+    ensures { (s : Operator) (t : ℕ) (q : Request) → t ≤ last_moment → IsRequest q → IsInOrder s → IsInOrder (step s t q).1 }
+{}
+
+/// The law of order over lists: every list of requests leaves an operator in order in order.
+pub fn keeps_order_over_lists()
+    ensures { (s : Operator) (cs : List Call) → AreCalls cs → IsInOrder s → IsInOrder (after s cs) }
+{}
+
+/// The law of money: the balances of all riders and the revenue together are the cash.
+pub fn money_law()
+    ensures { (s : Operator) → IsInOrder s → IsConserved (keys s.riders) s.entries }
+{}
+
+/// The law of money over lists: after every list of requests from the operator of whom nothing was asked, the
+/// balances of all riders and the revenue together are the cash.
+pub fn money_law_over_lists()
+    ensures { (cs : List Call) → AreCalls cs → IsConserved (keys (after no_operator cs).riders) (after no_operator cs).entries }
+{}
+
+/// The operator of whom nothing was asked yet is in order.
+pub fn no_operator_law()
+    ensures { IsInOrder no_operator }
+{}
+
+/// The law of runs: a list that is served in two parts is served as one.
+pub fn run_law()
+    ensures operator { (s : Operator) (cs ds : List Call) → after s (cs ++ ds) ≡ after (after s cs) ds }
+    ensures answers { (s : Operator) (cs ds : List Call) → replies s (cs ++ ds) ≡ replies s cs ++ replies (after s cs) ds }
+{}

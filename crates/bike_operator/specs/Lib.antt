@@ -1,0 +1,8 @@
+pub mod Operator
+pub mod Counts
+pub mod View
+pub mod Steps
+pub mod Runs
+pub mod Changes
+pub mod Order
+pub mod Bounds

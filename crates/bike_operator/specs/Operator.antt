@@ -1,0 +1,116 @@
+-- The operator: all that it keeps. It holds no balance, no count and no sum; those are figures of its records.
+use Rattle.std.specs.Prelude.{ℕ, zero, suc, List, [], ◌∷◌, Bool, Option, Some, None}
+use Rattle.std.specs.Ordering.{nat_cmp}
+use Rattle.std.specs.declared.cmp.Ordering.{Ordering}
+use Rattle.std.specs.Cmp.Lexicographic.{slice_cmp}
+use Rattle.std.specs.FinMap as map
+use Rattle.std.specs.FinMap.{FinMap}
+use Rattle.std.specs.FinSet as set
+use Rattle.std.specs.FinSet.{FinSet}
+use Rattle.bike_catalogue.specs.Rows.{PlanRow, TypeRow, StationRow, SystemRow}
+use Rattle.bike_ledger.specs.Entries.{Entry}
+use Rattle.bike_commands.specs.declared.command.Command.{Command}
+use Rattle.bike_commands.specs.declared.reply.Reply.{Reply}
+use Rattle.bike_operator.specs.declared.records.Bike.{Bike}
+use Rattle.bike_operator.specs.declared.records.Rental.{Rental}
+use Rattle.bike_operator.specs.declared.records.Order.{Order}
+
+-- a station: its catalogue record, its flags, and when it last reported
+pub record Station : Type 0 where
+  pub row : StationRow
+  pub is_installed : Bool
+  pub is_renting : Bool
+  pub is_returning : Bool
+  pub reported : ℕ
+
+pub record Truck : Type 0 where
+  pub capacity : ℕ
+
+-- a rider is open or blocked
+pub record Rider : Type 0 where
+  pub is_blocked : Bool
+
+-- what is kept of an accepted request, under its caller and key
+pub record Kept : Type 0 where
+  pub command : Command
+  pub reply : Reply
+
+-- maps from texts, and from lists of texts
+abbrev pub text_cmp : List ℕ → List ℕ → Ordering
+text_cmp = slice_cmp nat_cmp
+
+abbrev pub texts_cmp : List (List ℕ) → List (List ℕ) → Ordering
+texts_cmp = slice_cmp (slice_cmp nat_cmp)
+
+-- caller and key, as texts
+abbrev pub Key : Type 0
+Key = List (List ℕ)
+
+abbrev pub key_of : List ℕ → List ℕ → Key
+key_of caller key = caller ∷ key ∷ []
+
+-- a dock of a station
+abbrev pub DockKey : Type 0
+DockKey = List (List ℕ)
+
+abbrev pub dock_key : List ℕ → ℕ → DockKey
+dock_key station dock = station ∷ (dock ∷ []) ∷ []
+
+pub record Operator : Type 0 where
+  pub system : Option SystemRow
+  pub plans : FinMap text_cmp PlanRow
+  -- a type's plan is its default plan
+  pub types : FinMap text_cmp TypeRow
+  pub stations : FinMap text_cmp Station
+  pub broken : FinSet texts_cmp
+  pub bikes : FinMap nat_cmp Bike
+  pub trucks : FinMap nat_cmp Truck
+  pub riders : FinMap nat_cmp Rider
+  -- the record at position i of these, from 1, has the number i
+  pub rentals : List Rental
+  pub orders : List Order
+  pub entries : List Entry
+  pub kept : FinMap texts_cmp Kept
+  -- the greatest moment of an accepted request, in seconds
+  pub now : ℕ
+
+-- the operator of whom nothing was asked yet
+abbrev pub no_operator : Operator
+no_operator = record {
+  system = None;
+  plans = map.empty;
+  types = map.empty;
+  stations = map.empty;
+  broken = set.empty;
+  bikes = map.empty;
+  trucks = map.empty;
+  riders = map.empty;
+  rentals = [];
+  orders = [];
+  entries = [];
+  kept = map.empty;
+  now = 0;
+}
+
+-- ---- numbered lists
+
+-- the item at a position, from 0
+abbrev pub item_at : {A : Type 0} → ℕ → List A → Option A
+item_at n [] = None
+item_at zero (x ∷ xs) = Some x
+item_at (suc n) (x ∷ xs) = item_at n xs
+
+-- the item with a number, from 1
+abbrev pub numbered : {A : Type 0} → ℕ → List A → Option A
+numbered zero xs = None
+numbered (suc n) xs = item_at n xs
+
+-- the list with the item at a position changed
+abbrev pub item_changed : {A : Type 0} → ℕ → (A → A) → List A → List A
+item_changed n f [] = []
+item_changed zero f (x ∷ xs) = f x ∷ xs
+item_changed (suc n) f (x ∷ xs) = x ∷ item_changed n f xs
+
+abbrev pub number_changed : {A : Type 0} → ℕ → (A → A) → List A → List A
+number_changed zero f xs = xs
+number_changed (suc n) f xs = item_changed n f xs

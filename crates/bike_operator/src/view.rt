@@ -1,0 +1,114 @@
+//! The view: what a command names of the operator, each there or absent.
+
+use crate::records::{Bike, BikeState, Order, Rental};
+use bike_catalogue::Plan;
+use bike_fields::{BicycleNumber, DockCount, Ident, RentalNumber, TruckCapacity};
+
+/// What a decision needs to know of a station.
+#[derive(Clone, Copy, Debug)]
+pub struct StationView {
+    /// How many docks it has.
+    pub docks: DockCount,
+    /// Whether it stands at its place.
+    pub is_installed: bool,
+    /// Whether bicycles are rented there.
+    pub is_renting: bool,
+    /// Whether bicycles are taken back there.
+    pub is_returning: bool,
+}
+
+/// The bicycle in a dock.
+#[derive(Debug, Drop)]
+pub struct DockedBike {
+    /// Its number.
+    pub bike: BicycleNumber,
+    /// What it is good for.
+    pub state: BikeState,
+    /// The default plan of its type.
+    pub plan: Ident,
+}
+
+/// What a decision needs to know of a rental.
+#[derive(Debug, Drop)]
+pub struct RentalView {
+    /// Its number.
+    pub number: RentalNumber,
+    /// The rental.
+    pub rental: Rental,
+    /// Its pricing plan.
+    pub plan: Plan,
+    /// Its refunds so far, in hundredths.
+    pub refunded: i64,
+    /// Its rider's balance in hundredths.
+    pub balance: i64,
+}
+
+/// What a decision needs to know of a rider.
+#[derive(Clone, Copy, Debug, PartialEq, Eq)]
+pub struct RiderView {
+    /// Whether the rider is blocked.
+    pub is_blocked: bool,
+    /// The balance in hundredths of the currency.
+    pub balance: i64,
+    /// Whether the rider has an open rental.
+    pub is_riding: bool,
+}
+
+/// What a decision needs to know of a truck.
+#[derive(Clone, Copy, Debug)]
+pub struct TruckView {
+    /// How many bicycles it holds.
+    pub capacity: TruckCapacity,
+    /// How many are on it, over all orders.
+    pub loaded: u32,
+}
+
+/// What a decision needs to know of an order.
+#[derive(Debug, Drop)]
+pub struct OrderView {
+    /// The order.
+    pub order: Order,
+    /// How many bicycles are on the truck for it.
+    pub on_truck: u32,
+}
+
+/// What a command names, each there or absent, and the counts of its tests.
+#[derive(Debug, Drop)]
+pub struct View {
+    /// Whether the system is set.
+    pub has_system: bool,
+    /// Whether the plan is there that the command names.
+    pub has_plan: bool,
+    /// Whether the vehicle type is there.
+    pub has_type: bool,
+    /// Whether the end is there from which an order takes bicycles.
+    pub has_from: bool,
+    /// Whether the end is there to which it brings them.
+    pub has_to: bool,
+    /// Whether there are as many as there may be of what the command adds.
+    pub is_full: bool,
+    /// The station.
+    pub station: Option<StationView>,
+    /// Whether the dock is broken.
+    pub is_dock_broken: bool,
+    /// The bicycle in the dock.
+    pub docked: Option<DockedBike>,
+    /// The bicycle that the command names.
+    pub bike: Option<Bike>,
+    /// The rental, which for the end of one is that of its bicycle.
+    pub rental: Option<RentalView>,
+    /// The rider.
+    pub rider: Option<RiderView>,
+    /// The truck.
+    pub truck: Option<TruckView>,
+    /// The order.
+    pub order: Option<OrderView>,
+    /// How many rentals there are.
+    pub rentals: u32,
+    /// How many of them are open.
+    pub open_rentals: u32,
+    /// How many orders there are.
+    pub orders: u32,
+    /// How many entries there are.
+    pub entries: u32,
+}

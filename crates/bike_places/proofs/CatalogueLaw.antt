@@ -1,0 +1,149 @@
+-- An accepted command keeps the catalogue in order.
+use Rattle.std.proofs.Common.{◌≡◌, ℕ, ◌≤◌, List, Option, Some, None, refl, arith, if◌then◌else◌}
+use Rattle.std.specs.Ordering.{nat_cmp}
+use Rattle.std.specs.FinMap as map
+use Rattle.std.specs.FinMap.{FinMap}
+use Rattle.bike_commands.specs.declared.command.Command.{Command}
+use Rattle.bike_commands.specs.declared.command.Command.TheVariants as command
+use Rattle.bike_commands.specs.declared.command.OrderEnd.{OrderEnd}
+use Rattle.bike_commands.specs.declared.command.OrderEnd.TheVariants as end
+use Rattle.bike_commands.specs.declared.command.Side.{Side}
+use Rattle.bike_commands.specs.declared.command.Side.TheVariants.{From, To}
+use Rattle.bike_operator.specs.declared.records.BikeState.TheVariants.{Fit, Disabled}
+use Rattle.bike_operator.specs.declared.records.Place.{Place}
+use Rattle.bike_operator.specs.declared.records.Place.TheVariants as place
+use Rattle.bike_operator.specs.declared.records.Bike.{Bike}
+use Rattle.bike_operator.specs.declared.records.Order.{Order}
+use Rattle.bike_operator.specs.declared.view.DockedBike.{DockedBike}
+use Rattle.bike_operator.specs.declared.view.RentalView.{RentalView}
+use Rattle.bike_operator.specs.Operator.{Operator, Kept, texts_cmp, numbered}
+use Rattle.bike_operator.specs.Counts.{docked_at}
+use Rattle.bike_operator.specs.View.{view_of, docked_view, rental_of, rental_view}
+use Rattle.bike_operator.specs.Steps.{tests, effect, key_changed, place_reported, bike_reported, bike_marked, bike_placed, started, ended, recovered, refunded_by, placed_at_end, unloaded, new_station, dock_marked}
+use Rattle.bike_operator.specs.Order.{IsCatalogueInOrder}
+use Rattle.bike_places.specs.Accepted.{AcceptedKeeps}
+use Rattle.bike_places.proofs.Moment.{at_moment, reports}
+use Rattle.bike_places.proofs.TestLemmas.{none_holds, dock_of, no_station, holds}
+use Rattle.bike_places.proofs.CatalogueLemmas.{catalogue_of, same_catalogue, system_set, plan_added, type_added, type_changed, station_added, station_changed, station_reported, dock_marked_catalogue}
+
+later_catalogue : (s : Operator) (now : ℕ) (k : FinMap texts_cmp Kept) → s.now ≤ now → IsCatalogueInOrder s → IsCatalogueInOrder (at_moment s now k)
+later_catalogue s now k late h = same_catalogue s (at_moment s now k) late refl h
+
+-- the catalogue is the same, but for a station that reports
+then_reported : (s n : Operator) (station : List ℕ) → s.now ≤ n.now → catalogue_of (record n { stations = s.stations }) ≡ catalogue_of s → IsCatalogueInOrder s
+    → IsCatalogueInOrder (record n { stations = key_changed s.stations station (reports n.now) })
+then_reported s n station late same h = station_reported (record n { stations = s.stations }) station n.now (omega arith) (same_catalogue s (record n { stations = s.stations }) late same h)
+
+-- ---- the commands that name a record which may be absent
+
+module _ (s : Operator) (now : ℕ) (k : FinMap texts_cmp Kept) (h : IsCatalogueInOrder (at_moment s now k)) where
+  started_catalogue : (rider : ℕ) (station : List ℕ) (o : Option DockedBike) → IsCatalogueInOrder (at_moment (started rider station now o s) now k)
+  started_catalogue rider station None = h
+  started_catalogue rider station (Some b) = then_reported (at_moment s now k) (at_moment (started rider station now (Some b) s) now k) station (omega arith) refl h
+
+  ended_catalogue : (bike : ℕ) (station : List ℕ) (dock : ℕ) (o : Option RentalView) → IsCatalogueInOrder (at_moment (ended bike station dock now o s) now k)
+  ended_catalogue bike station dock None = h
+  ended_catalogue bike station dock (Some r) = then_reported (at_moment s now k) (at_moment (ended bike station dock now (Some r) s) now k) station (omega arith) refl h
+
+  recovered_catalogue : (o : Option RentalView) → IsCatalogueInOrder (at_moment (recovered now o s) now k)
+  recovered_catalogue None = h
+  recovered_catalogue (Some r) = same_catalogue (at_moment s now k) (at_moment (recovered now (Some r) s) now k) (omega arith) refl h
+
+  refunded_catalogue : (amount : ℕ) (o : Option RentalView) → IsCatalogueInOrder (at_moment (refunded_by amount now o s) now k)
+  refunded_catalogue amount None = h
+  refunded_catalogue amount (Some r) = same_catalogue (at_moment s now k) (at_moment (refunded_by amount now (Some r) s) now k) (omega arith) refl h
+
+  place_reported_catalogue : (bikes : FinMap nat_cmp Bike) (p : Place) → IsCatalogueInOrder (at_moment (place_reported p now (record s { bikes = bikes })) now k)
+  place_reported_catalogue bikes (place.Dock station dock) =
+      then_reported (at_moment s now k) (at_moment (place_reported (place.Dock station dock) now (record s { bikes = bikes })) now k) station (omega arith) refl h
+  place_reported_catalogue bikes (place.Rental rental) = same_catalogue (at_moment s now k) (at_moment (record s { bikes = bikes }) now k) (omega arith) refl h
+  place_reported_catalogue bikes (place.Truck truck order) = same_catalogue (at_moment s now k) (at_moment (record s { bikes = bikes }) now k) (omega arith) refl h
+  place_reported_catalogue bikes place.Depot = same_catalogue (at_moment s now k) (at_moment (record s { bikes = bikes }) now k) (omega arith) refl h
+
+  bike_reported_catalogue : (bikes : FinMap nat_cmp Bike) (o : Option Bike) → IsCatalogueInOrder (at_moment (bike_reported o now (record s { bikes = bikes })) now k)
+  bike_reported_catalogue bikes None = same_catalogue (at_moment s now k) (at_moment (record s { bikes = bikes }) now k) (omega arith) refl h
+  bike_reported_catalogue bikes (Some b) = place_reported_catalogue bikes b.place
+
+  placed_catalogue : (bike : ℕ) (e : OrderEnd) (dock : ℕ) (orders : List Order) → IsCatalogueInOrder (at_moment (record (placed_at_end bike e dock now s) { orders = orders }) now k)
+  placed_catalogue bike end.Depot dock orders = same_catalogue (at_moment s now k) (at_moment (record (placed_at_end bike end.Depot dock now s) { orders = orders }) now k) (omega arith) refl h
+  placed_catalogue bike (end.Station station) dock orders =
+      then_reported (at_moment s now k) (at_moment (record (placed_at_end bike (end.Station station) dock now s) { orders = orders }) now k) station (omega arith) refl h
+
+  unloaded_catalogue : (order bike : ℕ) (side : Side) (dock : ℕ) (o : Option Order) → IsCatalogueInOrder (at_moment (unloaded order bike side dock now o s) now k)
+  unloaded_catalogue order bike side dock None = h
+  unloaded_catalogue order bike From dock (Some o) = placed_catalogue bike o.from_end dock (unloaded order bike From dock now (Some o) s).orders
+  unloaded_catalogue order bike To dock (Some o) = placed_catalogue bike o.to_end dock (unloaded order bike To dock now (Some o) s).orders
+
+-- ---- all commands
+
+-- a command that leaves the catalogue alone
+unchanged : (s : Operator) (now : ℕ) (c : Command) (k : FinMap texts_cmp Kept) → s.now ≤ now → catalogue_of (effect s now c) ≡ catalogue_of s → IsCatalogueInOrder s
+    → IsCatalogueInOrder (at_moment (effect s now c) now k)
+unchanged s now c k late same h = same_catalogue s (at_moment (effect s now c) now k) late same h
+
+pub catalogue_law : AcceptedKeeps IsCatalogueInOrder
+catalogue_law s now (command.SetSystem x) k order good free late =
+    system_set (at_moment s now k) x (record {
+      system_id = good.0;
+      language = good.1.0;
+      name = good.1.1.0;
+      opening_hours = good.1.1.1.0;
+      feed_contact_email = good.1.1.1.1.0;
+      timezone = good.1.1.1.1.1.0;
+      currency = good.1.1.1.1.1.1.0;
+      base_url = good.1.1.1.1.1.1.1.0;
+      ttl = good.1.1.1.1.1.1.1.1.0.1;
+    }) (later_catalogue s now k late order.catalogue)
+catalogue_law s now (command.AddPlan p) k order good free late =
+    let no = none_holds (tests (view_of s (command.AddPlan p)) (command.AddPlan p)) free in
+    plan_added (at_moment s now k) p (record {
+      id_is = refl;
+      good = record { plan_id = good.0; name = good.1.0; price = good.1.1.0.1; description = good.1.1.1.1.0; segments = good.1.1.1.1.1.0.1 };
+      segments = good.1.1.1.1.1.0.0;
+    }) no.1.0 (later_catalogue s now k late order.catalogue)
+catalogue_law s now (command.AddType t) k order good free late =
+    let no = none_holds (tests (view_of s (command.AddType t)) (command.AddType t)) free in
+    type_added (at_moment s now k) t (record {
+      id_is = refl;
+      good = record { type_id = good.0; name = good.1.0; max_range = good.1.1.1.1.0; plan_id = good.1.1.1.1.1.0 };
+      plan = holds _ no.1.0;
+    }) no.1.1.0 (later_catalogue s now k late order.catalogue)
+catalogue_law s now (command.SetPlan type_id plan) k order good free late =
+    let no = none_holds (tests (view_of s (command.SetPlan type_id plan)) (command.SetPlan type_id plan)) free in
+    type_changed (at_moment s now k) type_id plan (holds _ no.1.0) good.1.0 (later_catalogue s now k late order.catalogue)
+catalogue_law s now (command.AddStation x) k order good free late =
+    let no = none_holds (tests (view_of s (command.AddStation x)) (command.AddStation x)) free in
+    station_added (at_moment s now k) (new_station x now) (record {
+      id_is = refl;
+      good = record { station_id = good.0; name = good.1.0; lat = (good.1.1.0.0, good.1.1.0.1); lon = (good.1.1.1.0.0, good.1.1.1.0.1); some_docks = good.1.1.1.1.0.0; few_docks = good.1.1.1.1.0.1 };
+      by_now = omega arith;
+    }) (no_station (map.get s.stations x.station_id) no.0) no.1.0 (later_catalogue s now k late order.catalogue)
+catalogue_law s now (command.SetStation station installed renting returning) k order good free late =
+    station_changed (at_moment s now k) station (λ x. record x { is_installed = installed; is_renting = renting; is_returning = returning; reported = now }) (λ x. refl) (λ x. omega arith)
+    (later_catalogue s now k late order.catalogue)
+catalogue_law s now (command.MarkDock station dock broken) k order good free late =
+    let no = none_holds (tests (view_of s (command.MarkDock station dock broken)) (command.MarkDock station dock broken)) free in
+    let has = dock_of (at_moment s now k) station dock (map.get s.stations station) refl no.0 no.1.0 good.1.0.0 in
+    station_reported (at_moment (dock_marked station dock broken s) now k) station now (omega arith) (dock_marked_catalogue (at_moment s now k) station dock broken has (later_catalogue s now k late order.catalogue))
+catalogue_law s now (command.AddBike bike type_id) k order good free late = unchanged s now (command.AddBike bike type_id) k late refl order.catalogue
+catalogue_law s now (command.MarkBike bike disabled) k order good free late =
+    bike_reported_catalogue s now k (later_catalogue s now k late order.catalogue) (bike_marked bike (if disabled then Disabled else Fit) s).bikes (map.get s.bikes bike)
+catalogue_law s now (command.RetireBike bike) k order good free late = unchanged s now (command.RetireBike bike) k late refl order.catalogue
+catalogue_law s now (command.AddTruck truck capacity) k order good free late = unchanged s now (command.AddTruck truck capacity) k late refl order.catalogue
+catalogue_law s now (command.AddRider rider) k order good free late = unchanged s now (command.AddRider rider) k late refl order.catalogue
+catalogue_law s now (command.SetRider rider blocked) k order good free late = unchanged s now (command.SetRider rider blocked) k late refl order.catalogue
+catalogue_law s now (command.TopUp rider amount) k order good free late = unchanged s now (command.TopUp rider amount) k late refl order.catalogue
+catalogue_law s now (command.Start rider station dock) k order good free late =
+    started_catalogue s now k (later_catalogue s now k late order.catalogue) rider station (docked_view s (docked_at s station dock))
+catalogue_law s now (command.End bike station dock) k order good free late =
+    ended_catalogue s now k (later_catalogue s now k late order.catalogue) bike station dock (rental_of s (map.get s.bikes bike))
+catalogue_law s now (command.Recover rental) k order good free late = recovered_catalogue s now k (later_catalogue s now k late order.catalogue) (rental_view s rental (numbered rental s.rentals))
+catalogue_law s now (command.Refund rental amount) k order good free late =
+    refunded_catalogue s now k (later_catalogue s now k late order.catalogue) amount (rental_view s rental (numbered rental s.rentals))
+catalogue_law s now (command.OpenOrder truck from_end to_end type_id count) k order good free late =
+    unchanged s now (command.OpenOrder truck from_end to_end type_id count) k late refl order.catalogue
+catalogue_law s now (command.Load truck order bike) k o good free late =
+    bike_reported_catalogue s now k (later_catalogue s now k late o.catalogue) (bike_placed bike (place.Truck truck order) s).bikes (map.get s.bikes bike)
+catalogue_law s now (command.Unload truck order bike side dock) k o good free late =
+    unloaded_catalogue s now k (later_catalogue s now k late o.catalogue) order bike side dock (numbered order s.orders)
+catalogue_law s now (command.CloseOrder order) k o good free late = unchanged s now (command.CloseOrder order) k late refl o.catalogue

@@ -1,0 +1,223 @@
+-- What keeps the catalogue in order.
+use Rattle.std.proofs.Common.{◌≡◌, ℕ, ◌≤◌, List, Bool, true, false, Option, Some, None, refl, sym, ap, ◌∙◌, subst, arith, ◌||◌, ◌&&◌, not, leb}
+use Rattle.std.specs.Ordering.{eq_by_cmp}
+use Rattle.std.specs.FinMap as map
+use Rattle.std.specs.FinMap.{FinMap}
+use Rattle.std.specs.FinSet as set
+use Rattle.std.specs.FinSet.{FinSet}
+use Rattle.bike_fields.specs.Bytes.{is_ident}
+use Rattle.bike_catalogue.specs.Rows.{PlanRow, TypeRow, StationRow, SystemRow, IsStation, IsSystem}
+use Rattle.bike_operator.specs.Operator.{Operator, Station, text_cmp, texts_cmp, DockKey, dock_key}
+use Rattle.bike_operator.specs.View.{most_plans, most_types, most_stations}
+use Rattle.bike_operator.specs.Steps.{key_changed, reported, dock_marked}
+use Rattle.bike_operator.specs.Order.{IsCatalogueInOrder, IsSetSystem, IsPlanAt, IsTypeAt, IsStationAt, HasDock, IsBrokenDock}
+use Rattle.bike_places.proofs.MapLemmas.{text_order, texts_order, tied, IsAdded, New, Old, IsChanged, Changed, Other, added_at, changed_at, kept_added, known_added, few_added, len_changed, IsKept, Same, Turned, kept_changed}
+
+-- ---- docks that go on being there
+
+pub same_docks : (s n : Operator) → n.stations ≡ s.stations → (station : List ℕ) (dock : ℕ) → HasDock s station dock → HasDock n station dock
+same_docks s n e station dock h = record { row = h.row; found = ap (λ (m : FinMap text_cmp Station). map.get m station) e ∙ h.found; low = h.low; high = h.high }
+
+same_row : (f : Station → Station) → ((x : Station) → (f x).row ≡ x.row) → (x y : Station) → IsKept f x y → y.row ≡ x.row
+same_row f keeps x y (Same e) = ap (λ (z : Station). z.row) e
+same_row f keeps x y (Turned e) = ap (λ (z : Station). z.row) e ∙ keeps x
+
+pub docks_changed : (s n : Operator) (k : List ℕ) (f : Station → Station) → ((x : Station) → (f x).row ≡ x.row) → n.stations ≡ key_changed s.stations k f
+    → (station : List ℕ) (dock : ℕ) → HasDock s station dock → HasDock n station dock
+docks_changed s n k f keeps e station dock h =
+    let r = kept_changed text_order s.stations k f station h.row h.found in
+    let is = same_row f keeps h.row r.row r.is in
+    record { row = r.row; found = ap (λ (m : FinMap text_cmp Station). map.get m station) e ∙ r.found; low = h.low; high = subst (λ (x : StationRow). dock ≤ x.docks) (sym is) h.high }
+
+pub docks_added : (s n : Operator) (k : List ℕ) (x : Station) → map.get s.stations k ≡ None → n.stations ≡ map.insert s.stations k x
+    → (station : List ℕ) (dock : ℕ) → HasDock s station dock → HasDock n station dock
+docks_added s n k x free e station dock h =
+    record { row = h.row; found = ap (λ (m : FinMap text_cmp Station). map.get m station) e ∙ kept_added text_order s.stations k x station h.row free h.found; low = h.low; high = h.high }
+
+broken_stand : (s n : Operator) (key : DockKey) → ((station : List ℕ) (dock : ℕ) → HasDock s station dock → HasDock n station dock) → IsBrokenDock s key → IsBrokenDock n key
+broken_stand s n key docks h = record { station = h.station; dock = h.dock; key_is = h.key_is; has = docks h.station h.dock h.has }
+
+-- ---- the catalogue where other records change
+
+abbrev pub CatalogueParts : Type 0
+CatalogueParts = Option SystemRow × FinMap text_cmp PlanRow × FinMap text_cmp TypeRow × FinMap text_cmp Station × FinSet texts_cmp
+
+abbrev pub catalogue_of : Operator → CatalogueParts
+catalogue_of s = (s.system, s.plans, s.types, s.stations, s.broken)
+
+pub same_catalogue : (s n : Operator) → s.now ≤ n.now → catalogue_of n ≡ catalogue_of s → IsCatalogueInOrder s → IsCatalogueInOrder n
+same_catalogue s n later e h =
+    let system : n.system ≡ s.system = ap (λ (c : CatalogueParts). c.0) e in
+    let plans : n.plans ≡ s.plans = ap (λ (c : CatalogueParts). c.1) e in
+    let types : n.types ≡ s.types = ap (λ (c : CatalogueParts). c.2) e in
+    let stations : n.stations ≡ s.stations = ap (λ (c : CatalogueParts). c.3) e in
+    let broken : n.broken ≡ s.broken = ap (λ (c : CatalogueParts). c.4) e in
+    record {
+      system = subst IsSetSystem (sym system) h.system;
+      plans = λ id p found. h.plans id p (ap (λ (m : FinMap text_cmp PlanRow). map.get m id) (sym plans) ∙ found);
+      types = λ id t found.
+          let x = h.types id t (ap (λ (m : FinMap text_cmp TypeRow). map.get m id) (sym types) ∙ found) in
+          record { id_is = x.id_is; good = x.good; plan = ap (λ (m : FinMap text_cmp PlanRow). map.contains_key m t.plan_id) plans ∙ x.plan };
+      stations = λ id r found.
+          let x = h.stations id r (ap (λ (m : FinMap text_cmp Station). map.get m id) (sym stations) ∙ found) in
+          record { id_is = x.id_is; good = x.good; by_now = omega (arith, x.by_now, later) };
+      broken = λ key found. broken_stand s n key (same_docks s n stations) (h.broken key (ap (λ (b : FinSet texts_cmp). set.contains b key) (sym broken) ∙ found));
+      few_plans = rw plans h.few_plans;
+      few_types = rw types h.few_types;
+      few_stations = rw stations h.few_stations;
+    }
+
+-- ---- the catalogue with one record set, added or changed
+
+pub system_set : (s : Operator) (x : SystemRow) → IsSystem x → IsCatalogueInOrder s → IsCatalogueInOrder (record s { system = Some x })
+system_set s x good h = record {
+  system = good;
+  plans = h.plans;
+  types = λ id t found. let x = h.types id t found in record { id_is = x.id_is; good = x.good; plan = x.plan };
+  stations = λ id r found. let x = h.stations id r found in record { id_is = x.id_is; good = x.good; by_now = x.by_now };
+  broken = λ key found. broken_stand s (record s { system = Some x }) key (same_docks s (record s { system = Some x }) refl) (h.broken key found);
+  few_plans = h.few_plans;
+  few_types = h.few_types;
+  few_stations = h.few_stations;
+}
+
+pub plan_added : (s : Operator) (p : PlanRow) → IsPlanAt p.plan_id p → leb most_plans (map.len s.plans) ≡ false → IsCatalogueInOrder s → IsCatalogueInOrder (record s { plans = map.insert s.plans p.plan_id p })
+plan_added s p good full h =
+    let n : Operator = record s { plans = map.insert s.plans p.plan_id p } in
+    record {
+      system = h.system;
+      plans = λ id q found. is_plan id q (added_at text_order s.plans p.plan_id p id q found);
+      types = λ id t found. let x = h.types id t found in record { id_is = x.id_is; good = x.good; plan = known_added text_order s.plans p.plan_id p t.plan_id x.plan };
+      stations = λ id r found. let x = h.stations id r found in record { id_is = x.id_is; good = x.good; by_now = x.by_now };
+      broken = λ key found. broken_stand s n key (same_docks s n refl) (h.broken key found);
+      few_plans = few_added text_order s.plans p.plan_id p most_plans full;
+      few_types = h.few_types;
+      few_stations = h.few_stations;
+    }
+  where
+    is_plan : (id : List ℕ) (q : PlanRow) → IsAdded s.plans p.plan_id p id q → IsPlanAt id q
+    is_plan id q (New same is) = rw (same, is) good
+    is_plan id q (Old apart found) = h.plans id q found
+
+-- types with another list of them
+types_changed : (s : Operator) (types : FinMap text_cmp TypeRow) → ((id : List ℕ) (t : TypeRow) → map.get types id ≡ Some t → IsTypeAt s id t) → map.len types ≤ most_types
+    → IsCatalogueInOrder s → IsCatalogueInOrder (record s { types = types })
+types_changed s types each few h =
+    let n : Operator = record s { types = types } in
+    record {
+      system = h.system;
+      plans = h.plans;
+      types = λ id t found. let x = each id t found in record { id_is = x.id_is; good = x.good; plan = x.plan };
+      stations = λ id r found. let x = h.stations id r found in record { id_is = x.id_is; good = x.good; by_now = x.by_now };
+      broken = λ key found. broken_stand s n key (same_docks s n refl) (h.broken key found);
+      few_plans = h.few_plans;
+      few_types = few;
+      few_stations = h.few_stations;
+    }
+
+pub type_added : (s : Operator) (t : TypeRow) → IsTypeAt s t.type_id t → leb most_types (map.len s.types) ≡ false → IsCatalogueInOrder s → IsCatalogueInOrder (record s { types = map.insert s.types t.type_id t })
+type_added s t good full h =
+    types_changed s (map.insert s.types t.type_id t) (λ id q found. is_type id q (added_at text_order s.types t.type_id t id q found)) (few_added text_order s.types t.type_id t most_types full) h
+  where
+    is_type : (id : List ℕ) (q : TypeRow) → IsAdded s.types t.type_id t id q → IsTypeAt s id q
+    is_type id q (New same is) = rw (same, is) good
+    is_type id q (Old apart found) = h.types id q found
+
+abbrev with_plan : List ℕ → TypeRow → TypeRow
+with_plan plan t = record t { plan_id = plan }
+
+-- a type gets another default plan
+pub type_changed : (s : Operator) (type_id plan : List ℕ) → map.contains_key s.plans plan ≡ true → is_ident plan ≡ true → IsCatalogueInOrder s
+    → IsCatalogueInOrder (record s { types = key_changed s.types type_id (λ t. record t { plan_id = plan }) })
+type_changed s type_id plan known good h =
+    types_changed s (key_changed s.types type_id (with_plan plan)) (λ id q found. is_type id q (changed_at text_order s.types type_id (with_plan plan) id q found))
+    (rw (len_changed text_order s.types type_id (with_plan plan)) h.few_types) h
+  where
+    is_type : (id : List ℕ) (q : TypeRow) → IsChanged s.types type_id (with_plan plan) id q → IsTypeAt s id q
+    is_type id q (Changed t same found is) =
+        let old = h.types type_id t found in
+        rw is (record {
+          id_is = same ∙ old.id_is;
+          good = record { type_id = old.good.type_id; name = old.good.name; max_range = old.good.max_range; plan_id = good };
+          plan = known;
+        })
+    is_type id q (Other apart found) = h.types id q found
+
+-- stations with another list of them
+stations_changed : (s : Operator) (stations : FinMap text_cmp Station) → ((id : List ℕ) (x : Station) → map.get stations id ≡ Some x → IsStationAt s id x) → map.len stations ≤ most_stations
+    → ((station : List ℕ) (dock : ℕ) → HasDock s station dock → HasDock (record s { stations = stations }) station dock)
+    → IsCatalogueInOrder s → IsCatalogueInOrder (record s { stations = stations })
+stations_changed s stations each few docks h =
+    let n : Operator = record s { stations = stations } in
+    record {
+      system = h.system;
+      plans = h.plans;
+      types = λ id t found. let x = h.types id t found in record { id_is = x.id_is; good = x.good; plan = x.plan };
+      stations = λ id r found. let x = each id r found in record { id_is = x.id_is; good = x.good; by_now = x.by_now };
+      broken = λ key found. broken_stand s n key docks (h.broken key found);
+      few_plans = h.few_plans;
+      few_types = h.few_types;
+      few_stations = few;
+    }
+
+pub station_added : (s : Operator) (x : Station) → IsStationAt s x.row.station_id x → map.get s.stations x.row.station_id ≡ None → leb most_stations (map.len s.stations) ≡ false
+    → IsCatalogueInOrder s → IsCatalogueInOrder (record s { stations = map.insert s.stations x.row.station_id x })
+station_added s x good free full h =
+    stations_changed s (map.insert s.stations x.row.station_id x) (λ id q found. is_station id q (added_at text_order s.stations x.row.station_id x id q found))
+    (few_added text_order s.stations x.row.station_id x most_stations full) (docks_added s (record s { stations = map.insert s.stations x.row.station_id x }) x.row.station_id x free refl) h
+  where
+    is_station : (id : List ℕ) (q : Station) → IsAdded s.stations x.row.station_id x id q → IsStationAt s id q
+    is_station id q (New same is) = rw (same, is) good
+    is_station id q (Old apart found) = h.stations id q found
+
+-- a station gets other flags or reports: its row stays
+pub station_changed : (s : Operator) (station : List ℕ) (f : Station → Station) → ((x : Station) → (f x).row ≡ x.row) → ((x : Station) → (f x).reported ≤ s.now)
+    → IsCatalogueInOrder s → IsCatalogueInOrder (record s { stations = key_changed s.stations station f })
+station_changed s station f keeps by_now h =
+    stations_changed s (key_changed s.stations station f) (λ id q found. is_station id q (changed_at text_order s.stations station f id q found))
+    (rw (len_changed text_order s.stations station f) h.few_stations) (docks_changed s (record s { stations = key_changed s.stations station f }) station f keeps refl) h
+  where
+    is_station : (id : List ℕ) (q : Station) → IsChanged s.stations station f id q → IsStationAt s id q
+    is_station id q (Changed x same found is) =
+        let old = h.stations station x found in
+        let row : q.row ≡ x.row = ap (λ (z : Station). z.row) is ∙ keeps x in
+        record {
+          id_is = same ∙ old.id_is ∙ ap (λ (r : StationRow). r.station_id) (sym row);
+          good = subst IsStation (sym row) old.good;
+          by_now = subst (λ (z : Station). z.reported ≤ s.now) (sym is) (by_now x);
+        }
+    is_station id q (Other apart found) = h.stations id q found
+
+pub station_reported : (s : Operator) (station : List ℕ) (now : ℕ) → now ≤ s.now → IsCatalogueInOrder s → IsCatalogueInOrder (reported station now s)
+station_reported s station now late h = station_changed s station (λ x. record x { reported = now }) (λ x. refl) (λ x. late) h
+
+-- broken docks with another list of them
+broken_changed : (s : Operator) (broken : FinSet texts_cmp) → ((key : DockKey) → set.contains broken key ≡ true → IsBrokenDock s key) → IsCatalogueInOrder s → IsCatalogueInOrder (record s { broken = broken })
+broken_changed s broken each h =
+    let n : Operator = record s { broken = broken } in
+    record {
+      system = h.system;
+      plans = h.plans;
+      types = λ id t found. let x = h.types id t found in record { id_is = x.id_is; good = x.good; plan = x.plan };
+      stations = λ id r found. let x = h.stations id r found in record { id_is = x.id_is; good = x.good; by_now = x.by_now };
+      broken = λ key found. broken_stand s n key (same_docks s n refl) (each key found);
+      few_plans = h.few_plans;
+      few_types = h.few_types;
+      few_stations = h.few_stations;
+    }
+
+pub dock_marked_catalogue : (s : Operator) (station : List ℕ) (dock : ℕ) (broken : Bool) → HasDock s station dock → IsCatalogueInOrder s → IsCatalogueInOrder (dock_marked station dock broken s)
+dock_marked_catalogue s station dock true has h =
+    broken_changed s (set.insert s.broken (dock_key station dock))
+    (λ key found. go key (eq_by_cmp texts_cmp key (dock_key station dock)) refl (sym (set.contains-insert texts_order.total s.broken (dock_key station dock) key) ∙ found)) h
+  where
+    go : (key : DockKey) (b : Bool) → eq_by_cmp texts_cmp key (dock_key station dock) ≡ b → (b || set.contains s.broken key) ≡ true → IsBrokenDock s key
+    go key true e found = record { station = station; dock = dock; key_is = tied texts_order key (dock_key station dock) e; has = has }
+    go key false e found = h.broken key found
+dock_marked_catalogue s station dock false has h =
+    broken_changed s (set.remove s.broken (dock_key station dock))
+    (λ key found. go key (eq_by_cmp texts_cmp key (dock_key station dock)) (sym (set.contains-remove texts_order.total s.broken (dock_key station dock) key) ∙ found)) h
+  where
+    go : (key : DockKey) (b : Bool) → (not b && set.contains s.broken key) ≡ true → IsBrokenDock s key
+    go key true found = absurd cc
+    go key false found = h.broken key found

@@ -1,0 +1,13 @@
+pub mod BikeLaw
+pub mod BikeLemmas
+pub mod CatalogueLaw
+pub mod CatalogueLemmas
+pub mod CountLemmas
+pub mod FoundLemmas
+pub mod ItemLemmas
+pub mod MapLemmas
+pub mod Moment
+pub mod OrderLaw
+pub mod OrderLemmas
+pub mod TestLemmas
+pub mod UnloadLemmas

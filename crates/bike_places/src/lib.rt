@@ -1,0 +1,6 @@
+//! What keeps the operator's stations, bicycles, trucks and orders in order.
+#![tactic(auto)]
+
+mod laws;
+
+pub use laws::{keeps_bikes, keeps_catalogue, keeps_orders};

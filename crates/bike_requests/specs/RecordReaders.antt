@@ -1,0 +1,58 @@
+-- What is read of a command with a record of the catalogue, a block for each kind.
+use Rattle.std.specs.Prelude.{Option, Some, None, nat_le, length, if◌then◌else◌, codes}
+use Rattle.bike_fixed.specs.Whole.{number_of}
+use Rattle.bike_fields.specs.Bytes.{ident_of, language_of, currency_of}
+use Rattle.bike_catalogue.specs.Rows.{is_range, is_latitude}
+use Rattle.bike_catalogue.specs.Vehicle.{form_of, propulsion_of}
+use Rattle.bike_commands.specs.declared.command.Command.{Command}
+use Rattle.bike_commands.specs.declared.command.Command.TheVariants.{SetSystem, AddPlan, AddType, AddStation}
+use Rattle.bike_commands.specs.Parts.{Parts}
+use Rattle.bike_commands.specs.Reading.{◌>>=◌, field_at, no_more, degrees_of, metres_of, choice_of}
+use Rattle.bike_commands.specs.Escapes.{name_at, ascii_at}
+use Rattle.bike_commands.specs.SegmentReading.{segments_of}
+
+unfoldable pub set_system_at : Parts → Option Command
+set_system_at ps = do
+  system_id ← field_at ident_of ps
+  language ← field_at language_of system_id.1
+  name ← field_at name_at language.1
+  opening_hours ← field_at ascii_at name.1
+  feed_contact_email ← field_at ascii_at opening_hours.1
+  timezone ← field_at ascii_at feed_contact_email.1
+  currency ← field_at currency_of timezone.1
+  base_url ← field_at ascii_at currency.1
+  ttl ← field_at (number_of 0 86400) base_url.1
+  end ← no_more ttl.1
+  Some (SetSystem (record { system_id = system_id.0; language = language.0; name = name.0; opening_hours = opening_hours.0; feed_contact_email = feed_contact_email.0; timezone = timezone.0; currency = currency.0; base_url = base_url.0; ttl = ttl.0 }))
+
+unfoldable pub add_plan_at : Parts → Option Command
+add_plan_at ps = do
+  plan_id ← field_at ident_of ps
+  name ← field_at name_at plan_id.1
+  price ← field_at (number_of 0 1000000) name.1
+  taxable ← field_at (choice_of (codes "true") (codes "false")) price.1
+  description ← field_at name_at taxable.1
+  segments ← field_at segments_of description.1
+  end ← no_more segments.1
+  if nat_le (length segments.0) 8 then Some (AddPlan (record { plan_id = plan_id.0; name = name.0; price = price.0; taxable = taxable.0; description = description.0; segments = segments.0 })) else None
+
+unfoldable pub add_type_at : Parts → Option Command
+add_type_at ps = do
+  type_id ← field_at ident_of ps
+  name ← field_at name_at type_id.1
+  form ← field_at form_of name.1
+  propulsion ← field_at propulsion_of form.1
+  max_range ← field_at (metres_of propulsion.0) propulsion.1
+  plan_id ← field_at ident_of max_range.1
+  end ← no_more plan_id.1
+  if is_range propulsion.0 max_range.0 then Some (AddType (record { type_id = type_id.0; name = name.0; form = form.0; propulsion = propulsion.0; max_range = max_range.0; plan_id = plan_id.0 })) else None
+
+unfoldable pub add_station_at : Parts → Option Command
+add_station_at ps = do
+  station_id ← field_at ident_of ps
+  name ← field_at name_at station_id.1
+  lat ← field_at (degrees_of 90000000) name.1
+  lon ← field_at (degrees_of 180000000) lat.1
+  docks ← field_at (number_of 1 200) lon.1
+  end ← no_more docks.1
+  if is_latitude lat.0 then Some (AddStation (record { station_id = station_id.0; name = name.0; lat = lat.0; lon = lon.0; docks = docks.0 })) else None

@@ -1,0 +1,118 @@
+//! Reading the commands of the network: plans of types, stations, docks, bicycles and trucks.
+
+ghost use Rattle.std.specs.Prelude.{◌≡◌, IfOk};
+ghost use Rattle.bike_requests.specs.Readers.{set_plan_at, set_station_at, mark_dock_at, add_bike_at, mark_bike_at, retire_bike_at, add_truck_at};
+
+use bike_commands::{Command, Fields};
+use std::alloc::{AllocError, Global};
+
+#[tactic(auto, unfolding(crate::specs::Readers::set_plan_at))]
+pub fn read_set_plan(alloc: Global, mut fields: Fields) -> Result<Option<Command>, AllocError>
+    ensures { IfOk result (λ o. o ≡ set_plan_at fields.entry) }
+{
+    let Some(type_id) = fields.ident(alloc)? else {
+        return Ok(None);
+    };
+    let Some(plan) = fields.ident(alloc)? else {
+        return Ok(None);
+    };
+    let Some(()) = fields.end() else {
+        return Ok(None);
+    };
+    Ok(Some(Command::SetPlan { type_id, plan }))
+}
+
+#[tactic(auto, unfolding(crate::specs::Readers::set_station_at))]
+pub fn read_set_station(alloc: Global, mut fields: Fields) -> Result<Option<Command>, AllocError>
+    ensures { IfOk result (λ o. o ≡ set_station_at fields.entry) }
+{
+    let Some(station) = fields.ident(alloc)? else {
+        return Ok(None);
+    };
+    let Some(installed) = fields.choice("true", "false") else {
+        return Ok(None);
+    };
+    let Some(renting) = fields.choice("true", "false") else {
+        return Ok(None);
+    };
+    let Some(returning) = fields.choice("true", "false") else {
+        return Ok(None);
+    };
+    let Some(()) = fields.end() else {
+        return Ok(None);
+    };
+    Ok(Some(Command::SetStation {
+        station,
+        installed,
+        renting,
+        returning,
+    }))
+}
+
+#[tactic(auto, unfolding(crate::specs::Readers::mark_dock_at))]
+pub fn read_mark_dock(alloc: Global, mut fields: Fields) -> Result<Option<Command>, AllocError>
+    ensures { IfOk result (λ o. o ≡ mark_dock_at fields.entry) }
+{
+    let Some(station) = fields.ident(alloc)? else {
+        return Ok(None);
+    };
+    let Some(dock) = fields.number() else {
+        return Ok(None);
+    };
+    let Some(broken) = fields.choice("broken", "working") else {
+        return Ok(None);
+    };
+    let Some(()) = fields.end() else {
+        return Ok(None);
+    };
+    Ok(Some(Command::MarkDock {
+        station,
+        dock,
+        broken,
+    }))
+}
+
+#[tactic(auto, unfolding(crate::specs::Readers::add_bike_at))]
+pub fn read_add_bike(alloc: Global, mut fields: Fields) -> Result<Option<Command>, AllocError>
+    ensures { IfOk result (λ o. o ≡ add_bike_at fields.entry) }
+{
+    let Some(bike) = fields.number() else {
+        return Ok(None);
+    };
+    let Some(type_id) = fields.ident(alloc)? else {
+        return Ok(None);
+    };
+    let Some(()) = fields.end() else {
+        return Ok(None);
+    };
+    Ok(Some(Command::AddBike { bike, type_id }))
+}
+
+#[tactic(auto, unfolding(crate::specs::Readers::mark_bike_at))]
+pub fn read_mark_bike(mut fields: Fields) -> Option<Command>
+    ensures { result ≡ mark_bike_at fields.entry }
+{
+    let bike = fields.number()?;
+    let disabled = fields.choice("disabled", "fit")?;
+    fields.end()?;
+    Some(Command::MarkBike { bike, disabled })
+}
+
+#[tactic(auto, unfolding(crate::specs::Readers::retire_bike_at))]
+pub fn read_retire_bike(mut fields: Fields) -> Option<Command>
+    ensures { result ≡ retire_bike_at fields.entry }
+{
+    let bike = fields.number()?;
+    fields.end()?;
+    Some(Command::RetireBike { bike })
+}
+
+#[tactic(auto, unfolding(crate::specs::Readers::add_truck_at))]
+pub fn read_add_truck(mut fields: Fields) -> Option<Command>
+    ensures { result ≡ add_truck_at fields.entry }
+{
+    let truck = fields.number()?;
+    let capacity = fields.number()?;
+    fields.end()?;
+    Some(Command::AddTruck { truck, capacity })
+}

@@ -1,0 +1,77 @@
+//! Reading the commands of orders.
+
+ghost use Rattle.std.specs.Prelude.{◌≡◌, IfOk};
+ghost use Rattle.bike_requests.specs.Readers.{open_order_at, load_at, unload_at, close_order_at};
+
+use bike_commands::{Command, Fields};
+use std::alloc::{AllocError, Global};
+
+#[tactic(auto, unfolding(crate::specs::Readers::open_order_at))]
+pub fn read_open_order(alloc: Global, mut fields: Fields) -> Result<Option<Command>, AllocError>
+    ensures { IfOk result (λ o. o ≡ open_order_at fields.entry) }
+{
+    let Some(truck) = fields.number() else {
+        return Ok(None);
+    };
+    let Some(from_end) = fields.order_end(alloc)? else {
+        return Ok(None);
+    };
+    let Some(to_end) = fields.order_end(alloc)? else {
+        return Ok(None);
+    };
+    let Some(type_id) = fields.ident(alloc)? else {
+        return Ok(None);
+    };
+    let Some(count) = fields.number() else {
+        return Ok(None);
+    };
+    let Some(()) = fields.end() else {
+        return Ok(None);
+    };
+    Ok(Some(Command::OpenOrder {
+        truck,
+        from_end,
+        to_end,
+        type_id,
+        count,
+    }))
+}
+
+#[tactic(auto, unfolding(crate::specs::Readers::load_at))]
+pub fn read_load(mut fields: Fields) -> Option<Command>
+    ensures { result ≡ load_at fields.entry }
+{
+    let truck = fields.number()?;
+    let order = fields.number()?;
+    let bike = fields.number()?;
+    fields.end()?;
+    Some(Command::Load { truck, order, bike })
+}
+
+#[tactic(auto, unfolding(crate::specs::Readers::unload_at))]
+pub fn read_unload(mut fields: Fields) -> Option<Command>
+    ensures { result ≡ unload_at fields.entry }
+{
+    let truck = fields.number()?;
+    let order = fields.number()?;
+    let bike = fields.number()?;
+    let side = fields.side()?;
+    let dock = fields.number()?;
+    fields.end()?;
+    Some(Command::Unload {
+        truck,
+        order,
+        bike,
+        side,
+        dock,
+    })
+}
+
+#[tactic(auto, unfolding(crate::specs::Readers::close_order_at))]
+pub fn read_close_order(mut fields: Fields) -> Option<Command>
+    ensures { result ≡ close_order_at fields.entry }
+{
+    let order = fields.number()?;
+    fields.end()?;
+    Some(Command::CloseOrder { order })
+}

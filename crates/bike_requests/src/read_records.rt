@@ -1,0 +1,139 @@
+//! Reading the commands with a record of the catalogue.
+
+ghost use Rattle.std.specs.Prelude.{◌≡◌, IfOk};
+ghost use Rattle.bike_requests.specs.RecordReaders.{set_system_at, add_plan_at, add_type_at, add_station_at};
+
+use bike_catalogue::{Plan, Station, System, VehicleType};
+use bike_commands::{Command, Fields};
+use std::alloc::{AllocError, Global};
+
+#[tactic(auto, unfolding(crate::specs::RecordReaders::set_system_at))]
+pub fn read_set_system(alloc: Global, mut fields: Fields) -> Result<Option<Command>, AllocError>
+    ensures { IfOk result (λ o. o ≡ set_system_at fields.entry) }
+{
+    let Some(system_id) = fields.ident(alloc)? else {
+        return Ok(None);
+    };
+    let Some(language) = fields.language(alloc)? else {
+        return Ok(None);
+    };
+    let Some(name) = fields.name(alloc)? else {
+        return Ok(None);
+    };
+    let Some(opening_hours) = fields.ascii(alloc)? else {
+        return Ok(None);
+    };
+    let Some(feed_contact_email) = fields.ascii(alloc)? else {
+        return Ok(None);
+    };
+    let Some(timezone) = fields.ascii(alloc)? else {
+        return Ok(None);
+    };
+    let Some(currency) = fields.currency(alloc)? else {
+        return Ok(None);
+    };
+    let Some(base_url) = fields.ascii(alloc)? else {
+        return Ok(None);
+    };
+    let Some(ttl) = fields.number() else {
+        return Ok(None);
+    };
+    let Some(()) = fields.end() else {
+        return Ok(None);
+    };
+    Ok(Some(Command::SetSystem(System::from_fields(
+        system_id,
+        language,
+        name,
+        opening_hours,
+        feed_contact_email,
+        timezone,
+        currency,
+        base_url,
+        ttl,
+    ))))
+}
+
+#[tactic(auto, unfolding(crate::specs::RecordReaders::add_plan_at))]
+pub fn read_add_plan(alloc: Global, mut fields: Fields) -> Result<Option<Command>, AllocError>
+    ensures { IfOk result (λ o. o ≡ add_plan_at fields.entry) }
+{
+    let Some(plan_id) = fields.ident(alloc)? else {
+        return Ok(None);
+    };
+    let Some(name) = fields.name(alloc)? else {
+        return Ok(None);
+    };
+    let Some(price) = fields.number() else {
+        return Ok(None);
+    };
+    let Some(taxable) = fields.choice("true", "false") else {
+        return Ok(None);
+    };
+    let Some(description) = fields.name(alloc)? else {
+        return Ok(None);
+    };
+    let Some(segments) = fields.segments(alloc)? else {
+        return Ok(None);
+    };
+    let Some(()) = fields.end() else {
+        return Ok(None);
+    };
+    let made = Plan::from_fields(plan_id, name, price, taxable, description, segments);
+    Ok(made.map(Command::AddPlan))
+}
+
+#[tactic(auto, unfolding(crate::specs::RecordReaders::add_type_at))]
+pub fn read_add_type(alloc: Global, mut fields: Fields) -> Result<Option<Command>, AllocError>
+    ensures { IfOk result (λ o. o ≡ add_type_at fields.entry) }
+{
+    let Some(type_id) = fields.ident(alloc)? else {
+        return Ok(None);
+    };
+    let Some(name) = fields.name(alloc)? else {
+        return Ok(None);
+    };
+    let Some(form) = fields.form() else {
+        return Ok(None);
+    };
+    let Some(propulsion) = fields.propulsion() else {
+        return Ok(None);
+    };
+    let Some(max_range) = fields.metres(propulsion) else {
+        return Ok(None);
+    };
+    let Some(plan_id) = fields.ident(alloc)? else {
+        return Ok(None);
+    };
+    let Some(()) = fields.end() else {
+        return Ok(None);
+    };
+    let made = VehicleType::from_fields(type_id, name, form, propulsion, max_range, plan_id);
+    Ok(made.map(Command::AddType))
+}
+
+#[tactic(auto, unfolding(crate::specs::RecordReaders::add_station_at))]
+pub fn read_add_station(alloc: Global, mut fields: Fields) -> Result<Option<Command>, AllocError>
+    ensures { IfOk result (λ o. o ≡ add_station_at fields.entry) }
+{
+    let Some(station_id) = fields.ident(alloc)? else {
+        return Ok(None);
+    };
+    let Some(name) = fields.name(alloc)? else {
+        return Ok(None);
+    };
+    let Some(lat) = fields.degrees(90_000_000) else {
+        return Ok(None);
+    };
+    let Some(lon) = fields.degrees(180_000_000) else {
+        return Ok(None);
+    };
+    let Some(docks) = fields.number() else {
+        return Ok(None);
+    };
+    let Some(()) = fields.end() else {
+        return Ok(None);
+    };
+    let made = Station::from_fields(station_id, name, lat, lon, docks);
+    Ok(made.map(Command::AddStation))
+}

@@ -1,0 +1,101 @@
+//! Reading the commands of riders, their rentals and their money.
+
+ghost use Rattle.std.specs.Prelude.{◌≡◌, IfOk};
+ghost use Rattle.bike_requests.specs.Readers.{add_rider_at, set_rider_at, top_up_at, start_at, end_at, recover_at, refund_at};
+
+use bike_commands::{Command, Fields};
+use std::alloc::{AllocError, Global};
+
+#[tactic(auto, unfolding(crate::specs::Readers::add_rider_at))]
+pub fn read_add_rider(mut fields: Fields) -> Option<Command>
+    ensures { result ≡ add_rider_at fields.entry }
+{
+    let rider = fields.number()?;
+    fields.end()?;
+    Some(Command::AddRider { rider })
+}
+
+#[tactic(auto, unfolding(crate::specs::Readers::set_rider_at))]
+pub fn read_set_rider(mut fields: Fields) -> Option<Command>
+    ensures { result ≡ set_rider_at fields.entry }
+{
+    let rider = fields.number()?;
+    let blocked = fields.choice("blocked", "open")?;
+    fields.end()?;
+    Some(Command::SetRider { rider, blocked })
+}
+
+#[tactic(auto, unfolding(crate::specs::Readers::top_up_at))]
+pub fn read_top_up(mut fields: Fields) -> Option<Command>
+    ensures { result ≡ top_up_at fields.entry }
+{
+    let rider = fields.number()?;
+    let amount = fields.number()?;
+    fields.end()?;
+    Some(Command::TopUp { rider, amount })
+}
+
+#[tactic(auto, unfolding(crate::specs::Readers::start_at))]
+pub fn read_start(alloc: Global, mut fields: Fields) -> Result<Option<Command>, AllocError>
+    ensures { IfOk result (λ o. o ≡ start_at fields.entry) }
+{
+    let Some(rider) = fields.number() else {
+        return Ok(None);
+    };
+    let Some(station) = fields.ident(alloc)? else {
+        return Ok(None);
+    };
+    let Some(dock) = fields.number() else {
+        return Ok(None);
+    };
+    let Some(()) = fields.end() else {
+        return Ok(None);
+    };
+    Ok(Some(Command::Start {
+        rider,
+        station,
+        dock,
+    }))
+}
+
+#[tactic(auto, unfolding(crate::specs::Readers::end_at))]
+pub fn read_end(alloc: Global, mut fields: Fields) -> Result<Option<Command>, AllocError>
+    ensures { IfOk result (λ o. o ≡ end_at fields.entry) }
+{
+    let Some(bike) = fields.number() else {
+        return Ok(None);
+    };
+    let Some(station) = fields.ident(alloc)? else {
+        return Ok(None);
+    };
+    let Some(dock) = fields.number() else {
+        return Ok(None);
+    };
+    let Some(()) = fields.end() else {
+        return Ok(None);
+    };
+    Ok(Some(Command::End {
+        bike,
+        station,
+        dock,
+    }))
+}
+
+#[tactic(auto, unfolding(crate::specs::Readers::recover_at))]
+pub fn read_recover(mut fields: Fields) -> Option<Command>
+    ensures { result ≡ recover_at fields.entry }
+{
+    let rental = fields.number()?;
+    fields.end()?;
+    Some(Command::Recover { rental })
+}
+
+#[tactic(auto, unfolding(crate::specs::Readers::refund_at))]
+pub fn read_refund(mut fields: Fields) -> Option<Command>
+    ensures { result ≡ refund_at fields.entry }
+{
+    let rental = fields.number()?;
+    let amount = fields.number()?;
+    fields.end()?;
+    Some(Command::Refund { rental, amount })
+}
