@@ -1,0 +1,28 @@
+-- The records of the operator for which copies stand.
+use Rattle.std.specs.Prelude.{ℕ, List, Option, Some, None}
+use Rattle.std.specs.Borrow.{Bor}
+use Rattle.bike_operator.specs.declared.records.Bike.{Bike}
+use Rattle.bike_operator.specs.declared.records.Closing.{Closing}
+use Rattle.bike_operator.specs.declared.records.Rental.{Rental}
+use Rattle.bike_operator.specs.declared.records.Order.{Order}
+use Rattle.bike_operator.specs.Changes.{place_of, text_in}
+use Rattle.bike_refusals.specs.declared.facts.BikeFacts.{BikeFacts}
+use Rattle.bike_refusals.specs.declared.facts.ClosingFacts.{ClosingFacts}
+use Rattle.bike_refusals.specs.declared.facts.RentalFacts.{RentalFacts}
+use Rattle.bike_refusals.specs.declared.facts.OrderFacts.{OrderFacts}
+
+abbrev pub bike_row : BikeFacts → Bike
+bike_row f = record { type_id = f.type_id.now; state = f.state; place = place_of f.place }
+
+abbrev pub closing_row : ClosingFacts → Closing
+closing_row f = record { to_station = text_in f.to_station; finish = f.finish; fare = f.fare }
+
+abbrev pub closing_if_any : Option ClosingFacts → Option Closing
+closing_if_any None = None
+closing_if_any (Some f) = Some (closing_row f)
+
+abbrev pub rental_row : RentalFacts → Rental
+rental_row f = record { rider = f.rider; bike = f.bike; plan = f.plan.now; from_station = f.from_station.now; start = f.start; closing = closing_if_any f.closing }
+
+abbrev pub order_row : OrderFacts → Order
+order_row f = record { truck = f.truck; from_end = f.from_end.now; to_end = f.to_end.now; type_id = f.type_id.now; count = f.count; delivered = f.delivered; is_open = f.is_open }
