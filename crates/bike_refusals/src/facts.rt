@@ -5,8 +5,9 @@ ghost use Rattle.bike_operator.specs.declared.records.BikeState.TheVariants.{Fit
 ghost use Rattle.bike_operator.specs.declared.records.Place.TheVariants.{Depot};
 ghost use Rattle.bike_refusals.specs.Facts.{bike_row};
 
+use bike_catalogue::Plan;
 use bike_commands::OrderEnd;
-use bike_fields::{BicycleNumber, Ident, OrderQuantity, RiderNumber, TruckNumber};
+use bike_fields::{BicycleNumber, Ident, OrderQuantity, RentalNumber, RiderNumber, TruckNumber};
 use bike_fixed::Moment;
 use bike_operator::{BikeState, NewPlace};
 
@@ -66,6 +67,41 @@ pub struct OrderFacts<'a> {
     pub delivered: u32,
     /// Whether it is open.
     pub is_open: bool,
+}
+
+/// The bicycle in a dock.
+#[derive(Clone, Copy)]
+pub struct DockedFacts<'a> {
+    /// Its number.
+    pub bike: BicycleNumber,
+    /// What it is good for.
+    pub state: BikeState,
+    /// The default plan of its type.
+    pub plan: &'a Ident,
+}
+
+/// A rental with its plan and the sums of its entries.
+#[derive(Clone, Copy)]
+pub struct RentalSums<'a> {
+    /// Its number.
+    pub number: RentalNumber,
+    /// The rental.
+    pub rental: RentalFacts<'a>,
+    /// Its pricing plan.
+    pub plan: &'a Plan,
+    /// Its refunds so far, in hundredths.
+    pub refunded: i64,
+    /// Its rider's balance in hundredths.
+    pub balance: i64,
+}
+
+/// An order with how many bicycles are on the truck for it.
+#[derive(Clone, Copy)]
+pub struct OrderCount<'a> {
+    /// The order.
+    pub order: OrderFacts<'a>,
+    /// How many bicycles are on the truck for it.
+    pub on_truck: u32,
 }
 
 impl<'a> BikeFacts<'a> {

@@ -5,4 +5,6 @@
 
 mod facts;
 
-pub use facts::{BikeFacts, ClosingFacts, OrderFacts, RentalFacts};
+pub use facts::{
+    BikeFacts, ClosingFacts, DockedFacts, OrderCount, OrderFacts, RentalFacts, RentalSums,
+};
