@@ -1,7 +1,177 @@
-//! Texts as they stand in lines: a table of what is not read. Larger tables wait for cheaper proofs of their tests.
+//! Texts as they stand in lines: commands of every kind are read and written back, and what spells none is refused.
 
-use super::read_command;
+use super::{command_text, read_command, read_line};
+use std::alloc::{AllocError, Global};
 use std::test::Fail;
+
+/// Whether the text is read as a command, of which it is the text.
+fn is_rewritten(alloc: Global, text: &str) -> Result<bool, AllocError> {
+    match read_command(alloc, text)? {
+        Some(command) => Ok(command_text(alloc, &command)?.as_str() == text),
+        None => Ok(false),
+    }
+}
+
+/// Whether the text is read as the command of another text.
+fn is_read_as(alloc: Global, text: &str, other: &str) -> Result<bool, AllocError> {
+    match read_command(alloc, text)? {
+        Some(command) => Ok(command_text(alloc, &command)?.as_str() == other),
+        None => Ok(false),
+    }
+}
+
+/// The moment of the line, where it spells a request.
+fn moment_of(alloc: Global, line: &[u8]) -> Result<Option<u64>, AllocError> {
+    let request = read_line(alloc, line)?;
+    match &request {
+        Some(read) => Ok(Some(read.0.seconds())),
+        None => Ok(None),
+    }
+}
+
+/// The system, plans, types and stations.
+const RECORDS: [&str; 9] = [
+    "set-system\tmetro\ten\tMetro Bikes\t24/7\tfeeds@example.org\tEtc/UTC\tEUR\thttp://127.0.0.1:8080\t30",
+    "add-plan\tbasic\tBasic\t100\tfalse\tOne euro and then a quarter\t30:25:5:-",
+    "add-plan\tfree\tFree\t0\ttrue\tNothing\t-",
+    "add-plan\tlong\tLong\t1000000\ttrue\tTwo\t0:-100000:0:1;99999:100000:100000:100000",
+    "add-type\tcity\tCity\tbicycle\thuman\t0\tbasic",
+    "add-type\tbox\tBox\tcargo_bicycle\telectric_assist\t1000000\tbasic",
+    "set-plan\tcity\tfree",
+    "add-station\ta1\tHarbour\t41.890169\t12.492269\t2",
+    "set-station\ta1\ttrue\tfalse\ttrue",
+];
+
+/// Docks, bicycles, trucks, riders and the ledger.
+const RIDING: [&str; 15] = [
+    "mark-dock\ta1\t200\tbroken",
+    "mark-dock\ta1\t1\tworking",
+    "add-bike\t999999\tcity",
+    "mark-bike\t7\tdisabled",
+    "mark-bike\t7\tfit",
+    "retire-bike\t7",
+    "add-truck\t3\t60",
+    "add-rider\t17",
+    "set-rider\t17\topen",
+    "set-rider\t17\tblocked",
+    "top-up\t17\t1000000",
+    "start\t17\ta1\t1",
+    "end\t7\ta1\t1",
+    "recover\t100000000",
+    "refund\t1\t125",
+];
+
+/// Orders.
+const ORDERS: [&str; 6] = [
+    "open-order\t3\t*\ta1\tcity\t60",
+    "open-order\t3\ta1\t*\tcity\t1",
+    "load\t3\t1\t7",
+    "unload\t3\t1\t7\tto\t1",
+    "unload\t3\t1\t7\tfrom\t0",
+    "close-order\t10000000",
+];
+
+/// Names and printable fields with escapes.
+const ESCAPED: [&str; 4] = [
+    "add-plan\tp\tQ \"1\"\\t\t1\ttrue\tD\t-",
+    "add-plan\tp\t\\n\\r\\\\\t1\ttrue\tD\t-",
+    "add-plan\tp\tCorso, n\u{f6}rd\t1\ttrue\t\\\\n\t-",
+    "set-system\ts\tde\tN\t\\\\\tf\tt\tEUR\tu\t86400",
+];
+
+#[test]
+fn records_are_rewritten(rt: HostRuntime) -> Result<(), Fail> {
+    for text in RECORDS {
+        assert!(rt; is_rewritten(rt.alloc(), text)?, "{text:?}");
+    }
+    Ok(())
+}
+
+#[test]
+fn riding_is_rewritten(rt: HostRuntime) -> Result<(), Fail> {
+    for text in RIDING {
+        assert!(rt; is_rewritten(rt.alloc(), text)?, "{text:?}");
+    }
+    Ok(())
+}
+
+#[test]
+fn orders_are_rewritten(rt: HostRuntime) -> Result<(), Fail> {
+    for text in ORDERS {
+        assert!(rt; is_rewritten(rt.alloc(), text)?, "{text:?}");
+    }
+    Ok(())
+}
+
+#[test]
+fn escapes_are_rewritten(rt: HostRuntime) -> Result<(), Fail> {
+    for text in ESCAPED {
+        assert!(rt; is_rewritten(rt.alloc(), text)?, "{text:?}");
+    }
+    Ok(())
+}
+
+/// Coordinates in several spellings, and the command's own text.
+const COORDINATES: [(&str, &str); 5] = [
+    (
+        "add-station\ta\tN\t-0.000001\t90\t1",
+        "add-station\ta\tN\t-0.000001\t90.000000\t1",
+    ),
+    (
+        "add-station\ta\tN\t-0\t-180\t1",
+        "add-station\ta\tN\t0.000000\t-180.000000\t1",
+    ),
+    (
+        "add-station\ta\tN\t007\t180.000000\t1",
+        "add-station\ta\tN\t7.000000\t180.000000\t1",
+    ),
+    (
+        "add-station\ta\tN\t45.5\t9.1\t10",
+        "add-station\ta\tN\t45.500000\t9.100000\t10",
+    ),
+    (
+        "add-station\ta\tN\t-90\t000.1\t200",
+        "add-station\ta\tN\t-90.000000\t0.100000\t200",
+    ),
+];
+
+#[test]
+fn coordinates_have_several_spellings(rt: HostRuntime) -> Result<(), Fail> {
+    for (text, other) in COORDINATES {
+        assert!(rt; is_read_as(rt.alloc(), text, other)?, "{text:?}");
+    }
+    Ok(())
+}
+
+/// Lines, and the moments of the requests that they spell.
+const LINES: [(&str, Option<u64>); 12] = [
+    ("1700000000\toffice\tk1\tadd-rider\t17", Some(1700000000)),
+    ("0\trider:999999\tA-z_9\tstart\t17\ta1\t1", Some(0)),
+    (
+        "253402300799\tdock:a1\tk\tend\t7\ta1\t1",
+        Some(253402300799),
+    ),
+    ("253402300800\tdock:a1\tk\tend\t7\ta1\t1", None),
+    ("1\tcrew:3\tk\tload\t3\t1\t7", Some(1)),
+    (
+        "1\timport:spring\trow-1\tadd-station\tc1\tCanal\t45.0\t9.1\t10",
+        Some(1),
+    ),
+    ("01\toffice\tk1\tadd-rider\t17", None),
+    ("1\trider:0\tk1\tadd-rider\t17", None),
+    ("1\toffice\tk 1\tadd-rider\t17", None),
+    ("1\toffice\t\tadd-rider\t17", None),
+    ("1\toffice\tk1", None),
+    ("", None),
+];
+
+#[test]
+fn lines_are_read(rt: HostRuntime) -> Result<(), Fail> {
+    for (line, moment) in LINES {
+        assert_eq!(rt; moment_of(rt.alloc(), line.as_bytes())?, moment, "{line:?}");
+    }
+    Ok(())
+}
 
 /// Identifiers, words and ranges in metres that break a bound.
 const BAD_WORDS: [&str; 23] = [
@@ -30,9 +200,39 @@ const BAD_WORDS: [&str; 23] = [
     "set-system\ts\tde\tN\to\tf\tt\tEUR\tu\t86401",
 ];
 
+/// Numbers, segments, coordinates and escapes that are spelled otherwise or are out of bounds.
+const BAD_NUMBERS: [&str; 18] = [
+    "top-up\t17\t0",
+    "top-up\t17\t1000001",
+    "top-up\t017\t5",
+    "top-up\t17\t+5",
+    "top-up\t17\t5\t",
+    "top-up\t17",
+    "mark-dock\ta1\t201\tbroken",
+    "open-order\t3\t*\ta1\tcity\t61",
+    "add-plan\tp\tN\t1\ttrue\tD\t0:-0:0:-",
+    "add-plan\tp\tN\t1\ttrue\tD\t5:1:0:5",
+    "add-plan\tp\tN\t1\ttrue\tD\t0:100001:0:-",
+    "add-plan\tp\tN\t1\ttrue\tD\t",
+    "add-plan\tp\tN\t1\ttrue\tD\t0:1:1:-;0:1:1:-;0:1:1:-;0:1:1:-;0:1:1:-;0:1:1:-;0:1:1:-;0:1:1:-;0:1:1:-",
+    "add-station\ta\tN\t90.000001\t0\t1",
+    "add-station\ta\tN\t1.0000000\t0\t1",
+    "add-station\ta\t\\x\t1\t0\t1",
+    "add-station\ta\tN\\\t1\t0\t1",
+    "set-system\ts\tde\tN\t\\t\tf\tt\tEUR\tu\t60",
+];
+
 #[test]
 fn other_words_are_refused(rt: HostRuntime) -> Result<(), Fail> {
     for text in BAD_WORDS {
+        assert!(rt; read_command(rt.alloc(), text)?.is_none(), "{text:?}");
+    }
+    Ok(())
+}
+
+#[test]
+fn other_numbers_are_refused(rt: HostRuntime) -> Result<(), Fail> {
+    for text in BAD_NUMBERS {
         assert!(rt; read_command(rt.alloc(), text)?.is_none(), "{text:?}");
     }
     Ok(())
