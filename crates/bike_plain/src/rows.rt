@@ -153,14 +153,14 @@ pub(crate) fn put_number<V: Copy>(
 ) -> Result<(), AllocError>
     ensures { OnOk result (rows.new.items ≡ put nat_cmp key value.now rows.old.items) }
 {
-    for i in 0..rows.len() {
-        match number_order(&key, &rows[i].0) {
+    for at in 0..rows.len() {
+        match number_order(&key, &rows[at].0) {
             Ordering::Less => {
-                rows.insert(i, (key, *value))?;
+                rows.insert(at, (key, *value))?;
                 return Ok(());
             }
             Ordering::Equal => {
-                rows[i].1 = *value;
+                rows[at].1 = *value;
                 return Ok(());
             }
             Ordering::Greater => {}
