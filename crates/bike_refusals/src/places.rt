@@ -80,8 +80,8 @@ pub fn is_loaded(truck: TruckNumber, order: OrderNumber, place: NewPlace<'_>) ->
 }
 
 /// The end of an order at a side.
-pub fn end_at<'a>(side: Side, order: OrderFacts<'a>) -> &'a OrderEnd
-    ensures { result.now ≡ end_at side (order_row order.entry) }
+pub fn end_at<'a>(side: Side, order: &OrderFacts<'a>) -> &'a OrderEnd
+    ensures { result.now ≡ end_at side (order_row order.now) }
 {
     match side {
         Side::From => order.from_end,
