@@ -1,0 +1,35 @@
+-- What plain lists owe to the operator for which they stand.
+use Rattle.std.specs.Prelude.{◌≡◌, ◌≤◌, ℕ, Option, None, Result, OnOk}
+use Rattle.std.specs.declared.alloc.AllocError.{AllocError}
+use Rattle.bike_commands.specs.declared.command.Command.{Command}
+use Rattle.bike_commands.specs.declared.refusal.Refusal.{Refusal}
+use Rattle.bike_commands.specs.declared.reply.Reply.{Reply}
+use Rattle.bike_commands.specs.Commands.{IsCommand}
+use Rattle.bike_operator.specs.Operator.{Operator}
+use Rattle.bike_operator.specs.Steps.{refused, effect, reply_of}
+use Rattle.bike_operator.specs.Order.{IsInOrder}
+use Rattle.bike_plain.specs.declared.plain.Plain.{Plain}
+use Rattle.bike_plain.specs.Stands.{Stands}
+
+-- The lists stand for an operator in order.
+pub record IsReady (p : Plain) : Type 0 where
+  pub operator : Operator
+  pub stands : Stands p operator
+  pub in_order : IsInOrder operator
+
+-- The lists stand for an operator in order, who doesn't refuse the command at this moment.
+pub record IsAccepted (p : Plain) (now : ℕ) (c : Command) : Type 0 where
+  pub operator : Operator
+  pub stands : Stands p operator
+  pub in_order : IsInOrder operator
+  pub command : IsCommand c
+  pub by_now : operator.now ≤ now
+  pub accepted : refused operator c ≡ None
+
+-- the refusal of each operator for whom the lists stand
+abbrev pub Refuses : Plain → Command → Option Refusal → Type 0
+Refuses p c o = (s : Operator) → Stands p s → o ≡ refused s c
+
+-- the reply, and the lists with the effect, of each operator for whom the lists stood; after a want of memory nothing is known of them
+abbrev pub Does : Plain → Plain → ℕ → Command → Result Reply AllocError → Type 0
+Does old new now c result = (s : Operator) → Stands old s → OnOk result (λ reply. (reply ≡ reply_of s now c) × Stands new (effect s now c))

@@ -1,0 +1,6 @@
+//! The operator as a plain second program: it takes one step at a time by scanning lists, and answers a list of
+//! requests with exactly the replies of the definition.
+#![tactic(auto)]
+
+mod money;
+mod same;
