@@ -1,0 +1,16 @@
+//! The operator as plain lists: its look-ups and its elementary changes, each by scanning a list.
+//!
+//! Every record is a small copy that borrows its texts from the requests.
+#![tactic(auto)]
+
+mod facts;
+mod find_bikes;
+mod find_catalogue;
+mod find_riders;
+mod places;
+mod plain;
+mod rows;
+mod sums;
+
+pub use facts::{KeptFacts, StationFacts, TypeFacts};
+pub use plain::Plain;

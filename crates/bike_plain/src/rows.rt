@@ -1,0 +1,117 @@
+//! Rows under a key, in the order of their keys.
+
+ghost use Rattle.std.specs.Prelude.{◌≡◌};
+ghost use Rattle.std.specs.FinMap.{find};
+ghost use Rattle.std.specs.Ordering.{eq_by_cmp, nat_cmp};
+ghost use Rattle.bike_operator.specs.Operator.{text_cmp, texts_cmp, dock_key, key_of, numbered};
+ghost use Rattle.bike_refusals.specs.Facts.{if_any};
+ghost use Rattle.bike_plain.specs.Rows.{text_rows};
+ghost use Rattle.bike_plain.specs.Stands.{is_listed, first_kept, kept_row, kept_answer};
+
+use crate::facts::KeptFacts;
+use bike_commands::{Command, Reply};
+use bike_fields::{Ident, RiderNumber};
+use std::cmp::Ordering;
+
+/// How two identifiers are ordered: by their bytes.
+fn text_order(one: &Ident, other: &Ident) -> Ordering
+    ensures { result ≡ text_cmp one.now other.now }
+{
+    one.as_str().cmp(&other.as_str())
+}
+
+/// What stands under an identifier.
+pub(crate) fn find_text<'a, V: Copy>(rows: &[(&'a Ident, V)], key: &Ident) -> Option<V>
+    ensures { result ≡ find text_cmp key.now (text_rows rows.now) }
+{
+    for row in rows {
+        if let Ordering::Equal = text_order(key, row.0) {
+            return Some(row.1);
+        }
+    }
+    None
+}
+
+/// How two numbers are ordered.
+fn number_order(one: &RiderNumber, other: &RiderNumber) -> Ordering
+    ensures { result ≡ nat_cmp one.now other.now }
+{
+    one.get().cmp(&other.get())
+}
+
+/// What stands under a number.
+pub(crate) fn find_number<V: Copy>(rows: &[(RiderNumber, V)], key: RiderNumber) -> Option<V>
+    ensures { result ≡ find nat_cmp key rows.now }
+{
+    for row in rows {
+        if let Ordering::Equal = number_order(&key, &row.0) {
+            return Some(row.1);
+        }
+    }
+    None
+}
+
+/// The item with a number, from 1.
+pub(crate) fn numbered<V: Copy>(rows: &[V], number: u32) -> Option<V>
+    ensures { result ≡ numbered number rows.now }
+{
+    if number == 0 {
+        return None;
+    }
+    rows.get(number as usize - 1).copied()
+}
+
+/// Whether two docks are the same.
+fn is_same_dock(station: &Ident, dock: u32, row: &(&Ident, u32)) -> bool
+    ensures { result ≡ eq_by_cmp texts_cmp (dock_key station.now dock) (dock_key row.now.0.now row.now.1) }
+{
+    match text_order(station, row.0) {
+        Ordering::Equal => dock == row.1,
+        Ordering::Less | Ordering::Greater => false,
+    }
+}
+
+/// Whether a dock stands in the list.
+pub(crate) fn is_listed(rows: &[(&Ident, u32)], station: &Ident, dock: u32) -> bool
+    ensures { result ≡ is_listed station.now dock rows.now }
+{
+    for row in rows {
+        if is_same_dock(station, dock, row) {
+            return true;
+        }
+    }
+    false
+}
+
+/// Whether two texts are the same, by their order.
+fn is_same_text(one: &str, other: &str) -> bool
+    ensures { result ≡ eq_by_cmp text_cmp one.now other.now }
+{
+    match one.cmp(&other) {
+        Ordering::Equal => true,
+        Ordering::Less | Ordering::Greater => false,
+    }
+}
+
+/// Whether a request is kept under the caller and key.
+fn is_kept_under(caller: &str, key: &str, kept: &KeptFacts) -> bool
+    ensures { result ≡ eq_by_cmp texts_cmp (key_of caller.now key.now) (key_of kept.now.caller.bytes kept.now.key.now) }
+{
+    is_same_text(caller, kept.caller.as_str()) && is_same_text(key, kept.key)
+}
+
+/// The command and the reply of the first that is kept under the caller and key.
+pub(crate) fn find_kept<'a>(
+    rows: &[KeptFacts<'a>],
+    caller: &str,
+    key: &str,
+) -> Option<(&'a Command, Reply)>
+    ensures { if_any kept_answer result ≡ if_any kept_row (first_kept caller.now key.now rows.now) }
+{
+    for row in rows {
+        if is_kept_under(caller, key, row) {
+            return Some((row.command, row.reply));
+        }
+    }
+    None
+}
