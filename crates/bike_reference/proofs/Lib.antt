@@ -1,1 +1,2 @@
 mod BalanceLemmas
+mod FactLemmas

@@ -1,5 +1,5 @@
 -- What plain lists owe to the operator for which they stand.
-use Rattle.std.specs.Prelude.{◌≡◌, ◌≤◌, ℕ, Option, None, Result, OnOk}
+use Rattle.std.specs.Prelude.{◌≡◌, ◌≤◌, ℕ, false, Option, None, is_some, Result, IfOk}
 use Rattle.std.specs.declared.alloc.AllocError.{AllocError}
 use Rattle.bike_commands.specs.declared.command.Command.{Command}
 use Rattle.bike_commands.specs.declared.refusal.Refusal.{Refusal}
@@ -10,6 +10,8 @@ use Rattle.bike_operator.specs.Steps.{refused, effect, reply_of}
 use Rattle.bike_operator.specs.Order.{IsInOrder}
 use Rattle.bike_plain.specs.declared.plain.Plain.{Plain}
 use Rattle.bike_plain.specs.Stands.{Stands}
+use Rattle.bike_operator.specs.declared.view.View.{View}
+use Rattle.bike_refusals.specs.declared.orders.UnloadEnd.{UnloadEnd}
 
 -- The lists stand for an operator in order.
 pub record IsReady (p : Plain) : Type 0 where
@@ -32,4 +34,16 @@ Refuses p c o = (s : Operator) → Stands p s → o ≡ refused s c
 
 -- the reply, and the lists with the effect, of each operator for whom the lists stood; after a want of memory nothing is known of them
 abbrev pub Does : Plain → Plain → ℕ → Command → Result Reply AllocError → Type 0
-Does old new now c result = (s : Operator) → Stands old s → OnOk result (λ reply. (reply ≡ reply_of s now c) × Stands new (effect s now c))
+Does old new now c result = (s : Operator) → Stands old s → IfOk result (λ reply. (reply ≡ reply_of s now c) × Stands new (effect s now c))
+
+-- the view names the station, the dock's state and the bicycle of this end
+pub record Names (v : View) (e : UnloadEnd) : Type 0 where
+  pub station : v.station ≡ e.station
+  pub is_broken : v.is_dock_broken ≡ e.is_broken
+  pub is_taken : is_some v.docked ≡ e.is_taken
+
+-- the view names no station
+pub record NamesNone (v : View) : Type 0 where
+  pub station : v.station ≡ None
+  pub is_broken : v.is_dock_broken ≡ false
+  pub docked : v.docked ≡ None

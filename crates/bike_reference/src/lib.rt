@@ -3,4 +3,7 @@
 #![tactic(auto)]
 
 mod money;
+mod refuse_bikes;
+mod refuse_catalogue;
+mod refuse_rentals;
 mod same;

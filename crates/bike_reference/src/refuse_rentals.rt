@@ -1,9 +1,13 @@
 //! Why a command on a rental or an order is refused, from what the lists hold.
 
-ghost use Rattle.std.specs.Prelude.{ℕ};
+ghost use Rattle.std.specs.Prelude.{◌≡◌, None, false};
 ghost use Rattle.bike_commands.specs.declared.command.Command.TheVariants as command;
-ghost use Rattle.bike_plain.specs.Stands.{IsSmall};
-ghost use Rattle.bike_reference.specs.Steps.{Refuses};
+ghost use Rattle.bike_operator.specs.declared.view.View.{View};
+ghost use Rattle.bike_operator.specs.Operator.{Operator};
+ghost use Rattle.bike_operator.specs.View.{at_end, at_order};
+ghost use Rattle.bike_refusals.specs.Facts.{if_any, order_row};
+ghost use Rattle.bike_plain.specs.Stands.{Stands, IsSmall};
+ghost use Rattle.bike_reference.specs.Steps.{Refuses, Names, NamesNone};
 
 use bike_commands::{OrderEnd, Refusal, Side, UnloadDock};
 use bike_fields::{
@@ -12,7 +16,7 @@ use bike_fields::{
 };
 use bike_plain::Plain as Lists;
 use bike_refusals::{
-    OrderEnds, UnloadEnd, end_at, refused_close_order, refused_end, refused_load,
+    OrderCount, OrderEnds, UnloadEnd, end_at, refused_close_order, refused_end, refused_load,
     refused_open_order, refused_recover, refused_refund, refused_start, refused_unload,
 };
 
@@ -121,10 +125,22 @@ pub(crate) fn refuse_load(
     refused_load(lists.truck(truck), truck, &found, lists.bike(bike))
 }
 
+/// What is known where no station is named.
+fn no_end(dock: UnloadDock) -> UnloadEnd
+    ensures { result ≡ record { station = None; dock = dock; is_broken = false; is_taken = false } }
+{
+    UnloadEnd {
+        station: None,
+        dock,
+        is_broken: false,
+        is_taken: false,
+    }
+}
+
 /// What is known of an end of an order at a dock: nothing at the depot.
-fn unload_end<'a>(lists: &Lists<'a>, end: &OrderEnd, dock: UnloadDock) -> UnloadEnd<'a>
+fn unload_end(lists: &Lists<'_>, end: &OrderEnd, dock: UnloadDock) -> UnloadEnd
     ensures dock { result.dock ≡ dock }
-    ensures end { (s : Operator) (v : View) → Stands lists.now s → v.station ≡ None → v.is_dock_broken ≡ false → v.docked ≡ None → IsEndOf (at_end s end.now dock v) result }
+    ensures end { (s : Operator) (v : View) → Stands lists.now s → NamesNone v → Names (at_end s end.now dock v) result }
 {
     match end {
         OrderEnd::Depot => no_end(dock),
@@ -132,8 +148,24 @@ fn unload_end<'a>(lists: &Lists<'a>, end: &OrderEnd, dock: UnloadDock) -> Unload
             station: lists.station(station),
             dock,
             is_broken: lists.is_broken(station, dock.get()),
-            docked: lists.docked(station, dock.get()),
+            is_taken: lists.docked(station, dock.get()).is_some(),
         },
+    }
+}
+
+/// What is known of an order's end at a side: nothing where there is no order.
+fn order_end(
+    lists: &Lists<'_>,
+    order: &Option<OrderCount<'_>>,
+    side: Side,
+    dock: UnloadDock,
+) -> UnloadEnd
+    ensures dock { result.dock ≡ dock }
+    ensures end { (s : Operator) (v : View) → Stands lists.now s → NamesNone v → Names (at_order s (if_any (λ o. order_row o.order) order.now) side dock v) result }
+{
+    match order {
+        None => no_end(dock),
+        Some(row) => unload_end(lists, end_at(side, &row.order), dock),
     }
 }
 
@@ -150,10 +182,7 @@ pub(crate) fn refuse_unload(
     ensures { Refuses lists.now (command.Unload truck order bike side dock) result }
 {
     let found = lists.order(order.get());
-    let end = match &found {
-        None => no_end(dock),
-        Some(row) => unload_end(lists, end_at(side, &row.order), dock),
-    };
+    let end = order_end(lists, &found, side, dock);
     refused_unload(
         lists.truck(truck),
         truck,
@@ -161,7 +190,7 @@ pub(crate) fn refuse_unload(
         order,
         lists.bike(bike),
         side,
-        &end,
+        end,
     )
 }
 

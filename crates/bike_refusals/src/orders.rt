@@ -2,14 +2,14 @@
 //!
 //! Each answers the first refusal that holds, or none where the command is accepted.
 
-ghost use Rattle.std.specs.Prelude.{◌≡◌, ◌+◌, ℕ, List, nat_le};
+ghost use Rattle.std.specs.Prelude.{◌≡◌, ◌+◌, ℕ, List, nat_le, is_some};
 ghost use Rattle.bike_commands.specs.declared.command.Command.TheVariants as command;
 ghost use Rattle.bike_operator.specs.declared.view.View.{View};
 ghost use Rattle.bike_operator.specs.View.{most_orders};
 ghost use Rattle.bike_operator.specs.Steps.{first, tests};
-ghost use Rattle.bike_refusals.specs.Facts.{bike_row, order_count, docked_row, if_any};
+ghost use Rattle.bike_refusals.specs.Facts.{bike_row, order_count, if_any};
 
-use crate::facts::{BikeFacts, DockedFacts, OrderCount};
+use crate::facts::{BikeFacts, OrderCount};
 use crate::places::{end_at, ends_apart, is_at_end, is_loaded, is_retired, is_same_end};
 use bike_commands::{OrderEnd, Refusal, Side, UnloadDock};
 use bike_fields::{OrderNumber, OrderQuantity, TruckNumber};
@@ -112,15 +112,15 @@ pub fn refused_load(
 
 /// What unloading names at its end of the order: the station, the dock, and what is there. At the depot no station is named.
 #[derive(Clone, Copy)]
-pub struct UnloadEnd<'a> {
+pub struct UnloadEnd {
     /// The station.
     pub station: Option<StationView>,
     /// The dock; 0 at the depot.
     pub dock: UnloadDock,
     /// Whether the dock is broken.
     pub is_broken: bool,
-    /// The bicycle in the dock.
-    pub docked: Option<DockedFacts<'a>>,
+    /// Whether a bicycle is in the dock.
+    pub is_taken: bool,
 }
 
 /// Why unloading a bicycle at a side of its order is refused.
@@ -131,10 +131,10 @@ pub fn refused_unload(
     order_number: OrderNumber,
     bike: Option<BikeFacts<'_>>,
     side: Side,
-    end: &UnloadEnd<'_>,
+    end: UnloadEnd,
 ) -> Option<Refusal>
-    ensures { (v : View) (b : ℕ) → v.truck ≡ truck → v.order ≡ if_any order_count order.now → v.bike ≡ if_any bike_row bike.entry → v.station ≡ end.now.station → v.is_dock_broken ≡ end.now.is_broken
-        → v.docked ≡ if_any docked_row end.now.docked → result ≡ first (tests v (command.Unload number order_number b side end.now.dock)) }
+    ensures { (v : View) (b : ℕ) → v.truck ≡ truck → v.order ≡ if_any order_count order.now → v.bike ≡ if_any bike_row bike.entry → v.station ≡ end.station → v.is_dock_broken ≡ end.is_broken
+        → is_some v.docked ≡ end.is_taken → result ≡ first (tests v (command.Unload number order_number b side end.dock)) }
 {
     if truck.is_none() {
         return Some(Refusal::UnknownTruck);
@@ -160,7 +160,7 @@ pub fn refused_unload(
     if end.is_broken {
         return Some(Refusal::DockBroken);
     }
-    if end.docked.is_some() {
+    if end.is_taken {
         return Some(Refusal::DockFull);
     }
     None
