@@ -3,6 +3,7 @@
 #![tactic(auto)]
 
 mod money;
+mod refusal;
 mod refuse_bikes;
 mod refuse_catalogue;
 mod refuse_rentals;
