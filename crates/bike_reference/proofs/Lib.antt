@@ -1,2 +1,3 @@
 mod BalanceLemmas
 mod FactLemmas
+mod RoomLemmas

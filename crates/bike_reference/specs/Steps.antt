@@ -1,5 +1,5 @@
 -- What plain lists owe to the operator for which they stand.
-use Rattle.std.specs.Prelude.{◌≡◌, ◌≤◌, ℕ, false, Option, None, is_some, Result, IfOk}
+use Rattle.std.specs.Prelude.{◌≡◌, ◌≤◌, ◌<◌, ℕ, length, false, Option, None, is_some, Result, IfOk}
 use Rattle.std.specs.declared.alloc.AllocError.{AllocError}
 use Rattle.bike_commands.specs.declared.command.Command.{Command}
 use Rattle.bike_commands.specs.declared.refusal.Refusal.{Refusal}
@@ -8,6 +8,9 @@ use Rattle.bike_commands.specs.Commands.{IsCommand}
 use Rattle.bike_operator.specs.Operator.{Operator}
 use Rattle.bike_operator.specs.Steps.{refused, effect, reply_of}
 use Rattle.bike_operator.specs.Order.{IsInOrder}
+use Rattle.bike_operator.specs.Bounds.{IsBounded, IsRentalWithin}
+use Rattle.bike_operator.specs.View.{view_of, most_entries}
+use Rattle.bike_operator.specs.declared.view.RentalView.{RentalView}
 use Rattle.bike_plain.specs.declared.plain.Plain.{Plain}
 use Rattle.bike_plain.specs.Stands.{Stands}
 use Rattle.bike_operator.specs.declared.view.View.{View}
@@ -27,14 +30,22 @@ pub record IsAccepted (p : Plain) (now : ℕ) (c : Command) : Type 0 where
   pub command : IsCommand c
   pub by_now : operator.now ≤ now
   pub accepted : refused operator c ≡ None
+  pub bounded : IsBounded (view_of operator c) now
+
+-- There is room for an entry of a rental, which began by now.
+pub record IsDue (p : Plain) (now : ℕ) (r : RentalView) : Type 0 where
+  pub operator : Operator
+  pub stands : Stands p operator
+  pub room : length operator.entries < most_entries
+  pub within : IsRentalWithin (length operator.entries) now r
 
 -- the refusal of each operator for whom the lists stand
 abbrev pub Refuses : Plain → Command → Option Refusal → Type 0
 Refuses p c o = (s : Operator) → Stands p s → o ≡ refused s c
 
--- the reply, and the lists with the effect, of each operator for whom the lists stood; after a want of memory nothing is known of them
+-- the reply, and the lists with the effect, of each operator in order for whom the lists stood; after a want of memory nothing is known of them
 abbrev pub Does : Plain → Plain → ℕ → Command → Result Reply AllocError → Type 0
-Does old new now c result = (s : Operator) → Stands old s → IfOk result (λ reply. (reply ≡ reply_of s now c) × Stands new (effect s now c))
+Does old new now c result = (s : Operator) → Stands old s → IsInOrder s → IfOk result (λ reply. (reply ≡ reply_of s now c) × Stands new (effect s now c))
 
 -- the view names the station, the dock's state and the bicycle of this end
 pub record Names (v : View) (e : UnloadEnd) : Type 0 where

@@ -2,6 +2,9 @@
 //! requests with exactly the replies of the definition.
 #![tactic(auto)]
 
+mod do_catalogue;
+mod do_orders;
+mod do_rentals;
 mod money;
 mod refusal;
 mod refuse_bikes;
