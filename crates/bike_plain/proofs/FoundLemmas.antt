@@ -115,3 +115,6 @@ pub rider_seen : (p : Plain) (s : Operator) (n : ℕ) → Stands p s → rider_v
 rider_seen p s n stands =
     ap (rider_view s n) (sym (rider_found p s n stands)) ∙ view-rider s n (find nat_cmp n p.riders.items)
     ∙ (λ i. if_any (λ b. record { is_blocked = b; balance = balance_of n (stands.entries i); is_riding = sym (riding_found p s n stands) i }) (find nat_cmp n p.riders.items))
+
+pub balance_counted : (p : Plain) (s : Operator) (rider : ℕ) → Stands p s → balance_of rider p.entries.items ≡ balance_of rider s.entries
+balance_counted p s rider stands = ap (balance_of rider) (sym stands.entries)

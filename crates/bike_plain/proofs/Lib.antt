@@ -1,2 +1,4 @@
 pub mod RowLemmas
 pub mod FoundLemmas
+pub mod ChangeLemmas
+pub mod StandsLemmas

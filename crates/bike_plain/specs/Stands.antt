@@ -1,5 +1,5 @@
 -- The operator for which plain lists stand.
-use Rattle.std.specs.Prelude.{◌≡◌, ℕ, ◌≤◌, List, map, length, Bool, Option, find}
+use Rattle.std.specs.Prelude.{◌≡◌, ℕ, ◌≤◌, List, map, length, filter, Bool, not, Option, find}
 use Rattle.std.specs.List.{list_any}
 use Rattle.std.specs.Borrow.{Bor}
 use Rattle.std.specs.Ordering.{eq_by_cmp}
@@ -42,6 +42,10 @@ kept_answer k = record { command = k.0.now; reply = k.1 }
 -- the dock stands in the list
 abbrev pub is_listed : List ℕ → ℕ → List (Bor (List ℕ) × ℕ) → Bool
 is_listed station dock rows = list_any (λ b. eq_by_cmp texts_cmp (dock_key station dock) (dock_key b.0.now b.1)) rows
+
+-- the list without the dock
+abbrev pub unlisted : List ℕ → ℕ → List (Bor (List ℕ) × ℕ) → List (Bor (List ℕ) × ℕ)
+unlisted station dock rows = filter (λ b. not (eq_by_cmp texts_cmp (dock_key station dock) (dock_key b.0.now b.1))) rows
 
 -- the first that is kept under the caller and key
 abbrev pub first_kept : List ℕ → List ℕ → List KeptFacts → Option KeptFacts

@@ -2,6 +2,7 @@
 
 ghost use Rattle.std.specs.Prelude.{◌≡◌, ◌≤◌, nat_le, ◌+◌, length};
 ghost use Rattle.std.specs.FinMap.{get, len};
+ghost use Rattle.bike_ledger.specs.Ledger.{balance_of};
 ghost use Rattle.bike_operator.specs.Operator.{Operator, numbered, key_of};
 ghost use Rattle.bike_operator.specs.Counts.{open_rentals};
 ghost use Rattle.bike_operator.specs.View.{rider_view, rental_view, rental_of, most_riders, most_entries};
@@ -32,6 +33,15 @@ impl<'a> Plain<'a> {
                 is_riding: is_riding(number, &self.rentals),
             }),
         }
+    }
+
+    /// The balance of a rider's entries, in hundredths.
+    #[tactic(auto, using(crate::proofs::FoundLemmas::balance_counted))]
+    pub fn balance(&self, number: RiderNumber) -> i64
+        requires { IsSmall self.now }
+        ensures { (s : Operator) → Stands self.now s → result ≡ balance_of number s.entries }
+    {
+        balance_of(number, &self.entries)
     }
 
     /// Whether there are as many riders as there may be.

@@ -3,6 +3,9 @@
 //! Every record is a small copy that borrows its texts from the requests.
 #![tactic(auto)]
 
+mod change_bikes;
+mod change_catalogue;
+mod change_riders;
 mod facts;
 mod find_bikes;
 mod find_catalogue;
@@ -13,4 +16,4 @@ mod rows;
 mod sums;
 
 pub use facts::{KeptFacts, StationFacts, TypeFacts};
-pub use plain::Plain;
+pub use plain::{Plain, small_law};

@@ -1,11 +1,18 @@
 //! The operator as plain lists.
 
+ghost use Rattle.std.specs.Prelude.{◌≡◌};
+ghost use Rattle.bike_operator.specs.Operator.{Operator, no_operator};
+ghost use Rattle.bike_operator.specs.Order.{IsInOrder};
+ghost use Rattle.bike_plain.specs.declared.plain.Plain.{Plain as PlainValue};
+ghost use Rattle.bike_plain.specs.Stands.{Stands, IsSmall};
+
 use crate::facts::{KeptFacts, StationFacts, TypeFacts};
 use bike_catalogue::{Plan, System};
 use bike_fields::{BicycleNumber, Ident, RiderNumber, TruckCapacity, TruckNumber};
 use bike_fixed::Moment;
 use bike_ledger::Entry;
 use bike_refusals::{BikeFacts, OrderFacts, RentalFacts};
+use std::alloc::Global;
 
 /// The operator as plain lists.
 #[derive(Drop)]
@@ -37,3 +44,41 @@ pub struct Plain<'a> {
     /// The greatest moment of an accepted request.
     pub(crate) moment: Moment,
 }
+
+impl<'a> Plain<'a> {
+    /// The operator of whom nothing was asked yet.
+    pub fn new(alloc: Global) -> Plain<'a>
+        ensures { Stands result no_operator }
+    {
+        Plain {
+            system: None,
+            plans: Vec::new(alloc),
+            types: Vec::new(alloc),
+            stations: Vec::new(alloc),
+            broken: Vec::new(alloc),
+            bikes: Vec::new(alloc),
+            trucks: Vec::new(alloc),
+            riders: Vec::new(alloc),
+            rentals: Vec::new(alloc),
+            orders: Vec::new(alloc),
+            entries: Vec::new(alloc),
+            kept: Vec::new(alloc),
+            moment: first_moment(),
+        }
+    }
+}
+
+/// The moment from which moments are counted.
+fn first_moment() -> Moment
+    ensures { result ≡ 0 }
+{
+    match Moment::new(0) {
+        Some(moment) => moment,
+        None => unreachable!(),
+    }
+}
+
+/// The law of limits: lists that stand for an operator in order are no longer than an operator's may be.
+pub fn small_law()
+    ensures { (p : PlainValue) (s : Operator) → Stands p s → IsInOrder s → IsSmall p }
+{}

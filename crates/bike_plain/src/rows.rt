@@ -1,16 +1,17 @@
 //! Rows under a key, in the order of their keys.
 
-ghost use Rattle.std.specs.Prelude.{◌≡◌};
-ghost use Rattle.std.specs.FinMap.{find};
+ghost use Rattle.std.specs.Prelude.{◌≡◌, ◌∷◌, ◌++◌, [], OnOk, IfOk};
+ghost use Rattle.std.specs.FinMap.{find, put};
 ghost use Rattle.std.specs.Ordering.{eq_by_cmp, nat_cmp};
-ghost use Rattle.bike_operator.specs.Operator.{text_cmp, texts_cmp, dock_key, key_of, numbered};
+ghost use Rattle.bike_operator.specs.Operator.{text_cmp, texts_cmp, dock_key, key_of, numbered, number_changed};
 ghost use Rattle.bike_refusals.specs.Facts.{if_any};
 ghost use Rattle.bike_plain.specs.Rows.{text_rows};
-ghost use Rattle.bike_plain.specs.Stands.{is_listed, first_kept, kept_row, kept_answer};
+ghost use Rattle.bike_plain.specs.Stands.{is_listed, unlisted, first_kept, kept_row, kept_answer};
 
 use crate::facts::KeptFacts;
 use bike_commands::{Command, Reply};
 use bike_fields::{Ident, RiderNumber};
+use std::alloc::{AllocError, Global};
 use std::cmp::Ordering;
 
 /// How two identifiers are ordered: by their bytes.
@@ -114,4 +115,105 @@ pub(crate) fn find_kept<'a>(
         }
     }
     None
+}
+
+/// Puts a value under an identifier: in its place, or where one stands there already, in place of that.
+/// An error is a want of memory.
+#[tactic(auto, using(crate::proofs::RowLemmas::text_put_tied, crate::proofs::RowLemmas::text_rows_append))]
+pub(crate) fn put_text<'a, V: Copy>(
+    rows: &mut Vec<(&'a Ident, V)>,
+    key: &'a Ident,
+    value: &V,
+) -> Result<(), AllocError>
+    ensures { OnOk result (text_rows rows.new.items ≡ put text_cmp key.now value.now (text_rows rows.old.items)) }
+{
+    for i in 0..rows.len() {
+        match text_order(key, rows[i].0) {
+            Ordering::Less => {
+                rows.insert(i, (key, *value))?;
+                return Ok(());
+            }
+            Ordering::Equal => {
+                rows[i].1 = *value;
+                return Ok(());
+            }
+            Ordering::Greater => {}
+        }
+    }
+    rows.push((key, *value))?;
+    Ok(())
+}
+
+/// Puts a value under a number, likewise.
+#[tactic(auto, using(crate::proofs::RowLemmas::put_tied))]
+pub(crate) fn put_number<V: Copy>(
+    rows: &mut Vec<(RiderNumber, V)>,
+    key: RiderNumber,
+    value: &V,
+) -> Result<(), AllocError>
+    ensures { OnOk result (rows.new.items ≡ put nat_cmp key value.now rows.old.items) }
+{
+    for at in 0..rows.len() {
+        match number_order(&key, &rows[at].0) {
+            Ordering::Less => {
+                rows.insert(at, (key, *value))?;
+                return Ok(());
+            }
+            Ordering::Equal => {
+                rows[at].1 = *value;
+                return Ok(());
+            }
+            Ordering::Greater => {}
+        }
+    }
+    rows.push((key, *value))?;
+    Ok(())
+}
+
+/// Puts a value in place of the one with a number, from 1, where one is there.
+#[tactic(auto, using(crate::proofs::RowLemmas::number_set, crate::proofs::RowLemmas::number_past, crate::proofs::RowLemmas::number_zero))]
+pub(crate) fn set_numbered<V: Copy>(rows: &mut Vec<V>, number: u32, value: &V)
+    ensures { rows.new.items ≡ number_changed number (λ x. value.now) rows.old.items }
+{
+    if number == 0 {
+        return;
+    }
+    if rows.len() < number as usize {
+        return;
+    }
+    rows[number as usize - 1] = *value;
+}
+
+/// Adds a row at the end.
+pub(crate) fn push_row<V: Copy>(rows: &mut Vec<V>, row: &V) -> Result<(), AllocError>
+    ensures { OnOk result (rows.new.items ≡ rows.old.items ++ row.now ∷ []) }
+{
+    rows.push(*row)?;
+    Ok(())
+}
+
+/// Adds a row at the front.
+pub(crate) fn push_front<V: Copy>(rows: &mut Vec<V>, row: &V) -> Result<(), AllocError>
+    ensures { OnOk result (rows.new.items ≡ row.now ∷ rows.old.items) }
+{
+    rows.insert(0, *row)?;
+    Ok(())
+}
+
+/// The list without a dock.
+pub(crate) fn without_dock<'a>(
+    alloc: Global,
+    rows: &[(&'a Ident, u32)],
+    station: &Ident,
+    dock: u32,
+) -> Result<Vec<(&'a Ident, u32)>, AllocError>
+    ensures { IfOk result (λ left. left.items ≡ unlisted station.now dock rows.now) }
+{
+    let mut left = Vec::new(alloc);
+    for row in rows {
+        if !is_same_dock(station, dock, row) {
+            left.push((row.0, row.1))?;
+        }
+    }
+    Ok(left)
 }
