@@ -9,6 +9,7 @@ use Rattle.bike_operator.specs.declared.view.OrderView.{OrderView}
 use Rattle.bike_operator.specs.declared.view.View.{View}
 use Rattle.bike_operator.specs.Operator.{Operator}
 use Rattle.bike_operator.specs.View.{order_view, end_at, at_dock, at_end, at_order}
+use Rattle.bike_operator.specs.Steps.{placed_at_end}
 use Rattle.bike_refusals.specs.declared.facts.OrderCount.{OrderCount}
 use Rattle.bike_refusals.specs.Facts.{if_any, order_row, order_count}
 
@@ -32,3 +33,8 @@ same_at_end f same s (end.Station station) dock v = same s station dock v
 pub same_at_order : {A : Type 0} (f : View → A) → ((s : Operator) (station : List ℕ) (dock : ℕ) (v : View) → f (at_dock s station dock v) ≡ f v) → (s : Operator) (o : Option Order) (side : Side) (dock : ℕ) (v : View) → f (at_order s o side dock v) ≡ f v
 same_at_order f same s None side dock v = refl
 same_at_order f same s (Some o) side dock v = same_at_end f same s (end_at side o) dock v
+
+-- a bicycle that is put at an end leaves the orders as they are
+pub same_orders : (bike : ℕ) (e : OrderEnd) (dock now : ℕ) (s : Operator) → (placed_at_end bike e dock now s).orders ≡ s.orders
+same_orders bike end.Depot dock now s = refl
+same_orders bike (end.Station station) dock now s = refl

@@ -1,5 +1,5 @@
 -- What is known of the numbers of a view where no test refuses the command.
-use Rattle.std.proofs.Common.{◌≡◌, ℕ, ◌+◌, ◌<◌, ◌≤◌, List, [], ◌∷◌, Bool, true, false, not, Option, Some, None, is_none, refl, sym, ap, subst, ◌∙◌, arith, IfSome, if◌then◌else◌}
+use Rattle.std.proofs.Common.{◌≡◌, ℕ, ◌+◌, ◌<◌, ◌≤◌, List, [], ◌∷◌, Bool, true, false, not, Option, Some, None, is_none, refl, subst, arith, IfSome, if◌then◌else◌}
 use Rattle.std.proofs.lemmas.Bool.{leb-false}
 use Rattle.bike_commands.specs.declared.refusal.Refusal.{Refusal}
 use Rattle.bike_operator.specs.declared.records.Bike.{Bike}
