@@ -1,3 +1,4 @@
 mod BalanceLemmas
 mod FactLemmas
+mod KeptLemmas
 mod RoomLemmas

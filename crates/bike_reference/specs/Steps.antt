@@ -22,6 +22,13 @@ pub record IsReady (p : Plain) : Type 0 where
   pub stands : Stands p operator
   pub in_order : IsInOrder operator
 
+-- The lists stand for an operator in order, whose last accepted request was by this moment.
+pub record IsReadyAt (p : Plain) (now : ℕ) : Type 0 where
+  pub operator : Operator
+  pub stands : Stands p operator
+  pub in_order : IsInOrder operator
+  pub by_now : operator.now ≤ now
+
 -- The lists stand for an operator in order, who doesn't refuse the command at this moment.
 pub record IsAccepted (p : Plain) (now : ℕ) (c : Command) : Type 0 where
   pub operator : Operator

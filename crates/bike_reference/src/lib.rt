@@ -5,9 +5,11 @@
 mod do_catalogue;
 mod do_orders;
 mod do_rentals;
+mod effect;
 mod money;
 mod refusal;
 mod refuse_bikes;
 mod refuse_catalogue;
 mod refuse_rentals;
 mod same;
+mod step;
