@@ -2,3 +2,4 @@ mod BalanceLemmas
 mod FactLemmas
 mod KeptLemmas
 mod RoomLemmas
+mod ServingLemmas

@@ -1,11 +1,12 @@
 -- What plain lists owe to the operator for which they stand.
-use Rattle.std.specs.Prelude.{◌≡◌, ◌≤◌, ◌<◌, ℕ, length, false, Option, None, is_some, Result, IfOk}
+use Rattle.std.specs.Prelude.{◌≡◌, ◌≤◌, ◌<◌, ℕ, length, List, ◌++◌, false, Option, None, is_some, Result, IfOk}
 use Rattle.std.specs.declared.alloc.AllocError.{AllocError}
 use Rattle.bike_commands.specs.declared.command.Command.{Command}
 use Rattle.bike_commands.specs.declared.refusal.Refusal.{Refusal}
 use Rattle.bike_commands.specs.declared.reply.Reply.{Reply}
 use Rattle.bike_commands.specs.Commands.{IsCommand}
-use Rattle.bike_operator.specs.Operator.{Operator}
+use Rattle.bike_operator.specs.Operator.{Operator, no_operator}
+use Rattle.bike_operator.specs.Runs.{Call, replies}
 use Rattle.bike_operator.specs.Steps.{refused, effect, reply_of}
 use Rattle.bike_operator.specs.Order.{IsInOrder}
 use Rattle.bike_operator.specs.Bounds.{IsBounded, IsRentalWithin}
@@ -65,3 +66,10 @@ pub record NamesNone (v : View) : Type 0 where
   pub station : v.station ≡ None
   pub is_broken : v.is_dock_broken ≡ false
   pub docked : v.docked ≡ None
+
+-- Some requests are answered, and the lists stand for an operator in order who is to answer those that are left.
+pub record IsServing (p : Plain) (answers : List Reply) (left all : List Call) : Type 0 where
+  pub operator : Operator
+  pub stands : Stands p operator
+  pub in_order : IsInOrder operator
+  pub answered : replies no_operator all ≡ answers ++ replies operator left

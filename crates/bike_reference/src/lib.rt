@@ -12,4 +12,7 @@ mod refuse_bikes;
 mod refuse_catalogue;
 mod refuse_rentals;
 mod same;
+mod serving;
 mod step;
+
+pub use serving::serve;
