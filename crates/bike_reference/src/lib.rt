@@ -16,3 +16,6 @@ mod serving;
 mod step;
 
 pub use serving::serve;
+
+#[cfg(test)]
+mod tests;
