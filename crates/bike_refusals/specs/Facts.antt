@@ -1,6 +1,5 @@
 -- The records of the operator for which copies stand.
-use Rattle.std.specs.Prelude.{ℕ, List, Option, Some, None}
-use Rattle.std.specs.Borrow.{Bor}
+use Rattle.std.specs.Prelude.{Option, Some, None}
 use Rattle.bike_operator.specs.declared.records.Bike.{Bike}
 use Rattle.bike_operator.specs.declared.records.Closing.{Closing}
 use Rattle.bike_operator.specs.declared.records.Rental.{Rental}

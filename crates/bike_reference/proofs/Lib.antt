@@ -1,0 +1,5 @@
+mod BalanceLemmas
+mod FactLemmas
+mod KeptLemmas
+mod RoomLemmas
+mod ServingLemmas

@@ -1,0 +1,75 @@
+-- What plain lists owe to the operator for which they stand.
+use Rattle.std.specs.Prelude.{◌≡◌, ◌≤◌, ◌<◌, ℕ, length, List, ◌++◌, false, Option, None, is_some, Result, IfOk}
+use Rattle.std.specs.declared.alloc.AllocError.{AllocError}
+use Rattle.bike_commands.specs.declared.command.Command.{Command}
+use Rattle.bike_commands.specs.declared.refusal.Refusal.{Refusal}
+use Rattle.bike_commands.specs.declared.reply.Reply.{Reply}
+use Rattle.bike_commands.specs.Commands.{IsCommand}
+use Rattle.bike_operator.specs.Operator.{Operator, no_operator}
+use Rattle.bike_operator.specs.Runs.{Call, replies}
+use Rattle.bike_operator.specs.Steps.{refused, effect, reply_of}
+use Rattle.bike_operator.specs.Order.{IsInOrder}
+use Rattle.bike_operator.specs.Bounds.{IsBounded, IsRentalWithin}
+use Rattle.bike_operator.specs.View.{view_of, most_entries}
+use Rattle.bike_operator.specs.declared.view.RentalView.{RentalView}
+use Rattle.bike_plain.specs.declared.plain.Plain.{Plain}
+use Rattle.bike_plain.specs.Stands.{Stands}
+use Rattle.bike_operator.specs.declared.view.View.{View}
+use Rattle.bike_refusals.specs.declared.orders.UnloadEnd.{UnloadEnd}
+
+-- The lists stand for an operator in order.
+pub record IsReady (p : Plain) : Type 0 where
+  pub operator : Operator
+  pub stands : Stands p operator
+  pub in_order : IsInOrder operator
+
+-- The lists stand for an operator in order, whose last accepted request was by this moment.
+pub record IsReadyAt (p : Plain) (now : ℕ) : Type 0 where
+  pub operator : Operator
+  pub stands : Stands p operator
+  pub in_order : IsInOrder operator
+  pub by_now : operator.now ≤ now
+
+-- The lists stand for an operator in order, who doesn't refuse the command at this moment.
+pub record IsAccepted (p : Plain) (now : ℕ) (c : Command) : Type 0 where
+  pub operator : Operator
+  pub stands : Stands p operator
+  pub in_order : IsInOrder operator
+  pub command : IsCommand c
+  pub by_now : operator.now ≤ now
+  pub accepted : refused operator c ≡ None
+  pub bounded : IsBounded (view_of operator c) now
+
+-- There is room for an entry of a rental, which began by now.
+pub record IsDue (p : Plain) (now : ℕ) (r : RentalView) : Type 0 where
+  pub operator : Operator
+  pub stands : Stands p operator
+  pub room : length operator.entries < most_entries
+  pub within : IsRentalWithin (length operator.entries) now r
+
+-- the refusal of each operator for whom the lists stand
+abbrev pub Refuses : Plain → Command → Option Refusal → Type 0
+Refuses p c o = (s : Operator) → Stands p s → o ≡ refused s c
+
+-- the reply, and the lists with the effect, of each operator in order for whom the lists stood; after a want of memory nothing is known of them
+abbrev pub Does : Plain → Plain → ℕ → Command → Result Reply AllocError → Type 0
+Does old new now c result = (s : Operator) → Stands old s → IsInOrder s → IfOk result (λ reply. (reply ≡ reply_of s now c) × Stands new (effect s now c))
+
+-- the view names the station, the dock's state and the bicycle of this end
+pub record Names (v : View) (e : UnloadEnd) : Type 0 where
+  pub station : v.station ≡ e.station
+  pub is_broken : v.is_dock_broken ≡ e.is_broken
+  pub is_taken : is_some v.docked ≡ e.is_taken
+
+-- the view names no station
+pub record NamesNone (v : View) : Type 0 where
+  pub station : v.station ≡ None
+  pub is_broken : v.is_dock_broken ≡ false
+  pub docked : v.docked ≡ None
+
+-- Some requests are answered, and the lists stand for an operator in order who is to answer those that are left.
+pub record IsServing (p : Plain) (answers : List Reply) (left all : List Call) : Type 0 where
+  pub operator : Operator
+  pub stands : Stands p operator
+  pub in_order : IsInOrder operator
+  pub answered : replies no_operator all ≡ answers ++ replies operator left

@@ -1,0 +1,30 @@
+//! A list of requests.
+
+ghost use Rattle.std.specs.Prelude.{◌≡◌, IfOk};
+ghost use Rattle.bike_operator.specs.Operator.{no_operator};
+ghost use Rattle.bike_operator.specs.Runs.{replies};
+
+use crate::step::step;
+use bike_commands::{Reply, Request};
+use bike_fixed::Moment;
+use bike_laws::{keeps_order, no_operator_law};
+use bike_plain::Plain as Lists;
+use std::alloc::{AllocError, Global};
+
+/// The replies to a list of requests, each of which comes at its moment, from the operator of whom nothing was asked
+/// yet. An error is a want of memory.
+pub fn serve(alloc: Global, calls: &[(Moment, Request)]) -> Result<Vec<Reply>, AllocError>
+    ensures { IfOk result (λ rs. rs.items ≡ replies no_operator calls.now) }
+{
+    no_operator_law();
+    keeps_order();
+    let mut lists = Lists::new(alloc);
+    let mut answers = Vec::new(alloc);
+    for call in calls {
+        let _ = call.0.seconds();
+        call.1.bounds();
+        let reply = step(&mut lists, alloc, call.0, &call.1)?;
+        answers.push(reply)?;
+    }
+    Ok(answers)
+}
