@@ -1,5 +1,5 @@
 -- One law for each call that reads: what its caller is told, from what the text answers and what the engine ensures.
-use Rattle.std.proofs.Common.{◌≡◌, ℕ, List, false, Option, Result, Ok, Err, IfOk, OnOk, OnErr, refl, sym, subst}
+use Rattle.std.proofs.Common.{◌≡◌, ℕ, List, false, Option, Result, IfOk, OnOk, OnErr, refl, subst}
 use Rattle.std.proofs.lemmas.Result.{IfOk-weaker}
 use Rattle.std.specs.Borrow.{name_if_ok, GName}
 use Rattle.sqlite_value.specs.Order.{Row}
@@ -38,23 +38,25 @@ module _ {S : Type 0} (g : Ghosts S) where
     survives : IfOk r (λ rows. P (state g old).now → Survives (state g old) (state g rows.conn.now) (λ _. ⊥));
   }
 
-  module _ {P : Database → Type 0} {text : List ℕ} {params : Row} {all : Database → List Row} (one : (db : Database) → P db → HasOneAnswer db text params (all db)) (name : GName) (old : Held S) (r : Result (Rows S g) Error) where
-    pub walk_told : EnsuresQuery name old text params r → TellsWalk P name old all r
-    walk_told h = record {
-      refused = tt;
-      same_reference = h.same_reference;
-      begun = IfOk-weaker r _ _ (λ rows begun has clean. walk_opens g old rows.conn.now text params _ (one (state g old).now has) (begun clean)) h.begun;
-      mode = h.mode;
-      survives = IfOk-weaker r _ _ (λ rows s has. answer_survives text params (state g old) (state g rows.conn.now) _ (one (state g old).now has) s) h.survives;
-    }
+  -- what follows of the lent connection
+  abbrev pub TellsLender : (Database → Type 0) → Held S → (Held S → Held S) → Held S → Result (Rows S g) Error → Type 0
+  TellsLender P old lender last r =
+      (name_if_ok (λ (rows : Rows S g). rows.conn.ghost_name) r ≡ name_if_ok (λ (rows : Rows S g). rows.conn.ghost_name) r) × ((w : Held S) → OnOk r (lender w ≡ w)) × OnErr r (P (state g old).now → LeavesAll g old last)
 
-    pub refusal_told : (last : Held S) → OnErr r (IsRefused g text params old r last) → OnErr r (P (state g old).now → LeavesAll g old last)
-    refusal_told last h = walk_refused g old last text params _ r (one (state g old).now) h
-
-    -- all that a function of one `query` returns
-    pub walk_returns : (lender : Held S → Held S) (last : Held S) → EnsuresQuery name old text params r → ((w : Held S) → OnOk r (lender w ≡ w)) → OnErr r (IsRefused g text params old r last)
-        → ((name_if_ok (λ (rows : Rows S g). rows.conn.ghost_name) r ≡ name_if_ok (λ (rows : Rows S g). rows.conn.ghost_name) r) × ((w : Held S) → OnOk r (lender w ≡ w)) × OnErr r (P (state g old).now → LeavesAll g old last)) × TellsWalk P name old all r
-    walk_returns lender last h holds refused = ((refl, holds, refusal_told last refused), walk_told h)
+  -- The values that the engine is sent compute to the parameters.
+  pub walk_returns : {P : Database → Type 0} {text : List ℕ} {params : Row} {all : Database → List Row} → ((db : Database) → P db → HasOneAnswer db text params (all db)) → (name : GName) (old : Held S) (r : Result (Rows S g) Error) (sent : Row) → sent ≡ params
+      → EnsuresQuery name old text sent r → (lender : Held S → Held S) (last : Held S) → ((w : Held S) → OnOk r (lender w ≡ w)) → OnErr r (IsRefused g text sent old r last) → TellsLender P old lender last r × TellsWalk P name old all r
+  walk_returns {text = text} {params = params} one name old r sent same ensures lender last holds refused =
+      let h : EnsuresQuery name old text params r = subst (λ values. EnsuresQuery name old text values r) same ensures in (
+        (refl, holds, walk_refused g old last text params _ r (one (state g old).now) (subst (λ values. OnErr r (IsRefused g text values old r last)) same refused)),
+        record {
+          refused = tt;
+          same_reference = h.same_reference;
+          begun = IfOk-weaker r _ _ (λ rows begun has clean. walk_opens g old rows.conn.now text params _ (one (state g old).now has) (begun clean)) h.begun;
+          mode = h.mode;
+          survives = IfOk-weaker r _ _ (λ rows s has. answer_survives text params (state g old) (state g rows.conn.now) _ (one (state g old).now has) s) h.survives;
+        },
+      )
 
   -- ---- `query_row`
 
@@ -74,12 +76,13 @@ module _ {S : Type 0} (g : Ghosts S) where
     survives : P (state g old).now → Survives (state g old) (state g new) (λ _. ⊥);
   }
 
-  pub row_told : {P : Database → Type 0} {text : List ℕ} {params : Row} {found : Database → Option Row} → ((db : Database) → P db → Finds db text params (found db)) → (old new : Held S) (r : Result Row Error) (out : Result (Option Row) Error) → out ≡ if_any r → EnsuresRow old new text params r
-      → TellsRow P old new found out
-  row_told {P} {text} {params} {found} finds old new r out is h =
-      let both = λ (has : P (state g old).now) (clean : HasCleanDisk (state g new)). finds_first text params (state g old) (state g new) (found (state g old).now) (finds (state g old).now has) r (h.row clean) in record {
-        found = λ has clean. rw is (both has clean).0;
-        failed = λ has clean. rw is (both has clean).1;
+  pub row_returns : {P : Database → Type 0} {text : List ℕ} {params : Row} {found : Database → Option Row} → ((db : Database) → P db → Finds db text params (found db)) → (old new : Held S) (r : Result Row Error) (out : Result (Option Row) Error) → out ≡ if_any r → (sent : Row) → sent ≡ params
+      → EnsuresRow old new text sent r → TellsRow P old new found out
+  row_returns {P} {text} {params} {found} finds old new r out is sent same ensures =
+      let h : EnsuresRow old new text params r = subst (λ values. EnsuresRow old new text values r) same ensures in
+      let told = λ (has : P (state g old).now) (clean : HasCleanDisk (state g new)). finds_first text params (state g old) (state g new) (found (state g old).now) (finds (state g old).now has) r (h.row clean) in record {
+        found = λ has clean. rw is (told has clean).0;
+        failed = λ has clean. rw is (told has clean).1;
         mode = h.mode;
         survives = λ has. answer_survives text params (state g old) (state g new) _ (finds (state g old).now has).one h.survives;
       }

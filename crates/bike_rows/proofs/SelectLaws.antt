@@ -1,5 +1,5 @@
 -- One law for each form of SELECT: what the text answers, from what it is where its tables stand alone.
-use Rattle.std.proofs.Common.{◌≡◌, ℕ, ℤ, List, [], ◌∷◌, ◌++◌, map, take, length, slice_get, Bool, true, false, Option, Some, None, Less, refl, ap, ◌∙◌}
+use Rattle.std.proofs.Common.{◌≡◌, ℕ, ℤ, List, [], ◌∷◌, ◌++◌, map, take, length, slice_get, false, Option, Some, None, Less, refl}
 use Rattle.std.specs.List.{range_with_len, list_any}
 use Rattle.sqlite_value.specs.declared.value.Value.{Value}
 use Rattle.sqlite_value.specs.declared.value.Value.TheVariants.{Null, Int}

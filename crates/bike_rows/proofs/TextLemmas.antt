@@ -1,5 +1,5 @@
 -- What a text means wherever its tables stand, from what it means where the schema has nothing else.
-use Rattle.std.proofs.Common.{◌≡◌, ℕ, Bool, true, List, [], ◌∷◌, map, Ok, Err, refl, ◌∙◌}
+use Rattle.std.proofs.Common.{◌≡◌, ℕ, true, List, [], ◌∷◌, map, Ok, Err, refl, sym, ◌∙◌}
 use Rattle.sqlite_value.specs.declared.keys.Key.{Key}
 use Rattle.sqlite_value.specs.declared.keys.Collation.{Collation}
 use Rattle.sqlite_sql.specs.Term.{Term}
@@ -15,7 +15,7 @@ use Rattle.sqlite_typing.specs.Types.{accepts_program}
 use Rattle.bike_names.specs.Has.{HasTable, of_tables}
 use Rattle.bike_names.specs.Laws.{Means, Reads}
 use Rattle.bike_names.specs.Reads.{IsDraft, draft_of, IsUnion, union_of}
-use Rattle.bike_names.specs.Changes.{IsChange, change_of}
+use Rattle.bike_names.specs.Changes.{Change, IsChange, change_of}
 use Rattle.bike_names.proofs.ReadLaws.{select_is, union_is}
 use Rattle.bike_names.proofs.ChangeLaws.{change_is}
 use Rattle.bike_rows.specs.Answer.{MeansQuery}
@@ -25,20 +25,29 @@ use Rattle.bike_rows.specs.Queries.{left_query, union_tables, union_query}
 -- ---- a query is what it is under any names of its columns
 
 abbrev pub Drafts : Checked Shown → Query → Type 0
-Drafts (Ok shown) q = query_of shown.0 ≡ q
+Drafts (Ok shown) q = q ≡ query_of shown.0
 Drafts (Err e) q = ⊥
 
 drafted : (d : Checked Shown) (q : Query) → Drafts d q → (names : List (List ℕ)) × IsDraft d q names
-drafted (Ok shown) q is = (shown.1, (is, refl))
+drafted (Ok shown) q is = (shown.1, (sym is, refl))
 drafted (Err e) q is = absurd is
 
 abbrev pub Unites : Checked (Shown × List Let) → List Let → Query → Type 0
-Unites (Ok r) lets q = (r.1 ≡ lets) × (query_of r.0.0 ≡ q)
+Unites (Ok r) lets q = (lets ≡ r.1) × (q ≡ query_of r.0.0)
 Unites (Err e) lets q = ⊥
 
 united : (d : Checked (Shown × List Let)) (lets : List Let) (q : Query) → Unites d lets q → (names : List (List ℕ)) × IsUnion d lets q names
-united (Ok r) lets q is = (r.0.1, (is.0, is.1, refl))
+united (Ok r) lets q is = (r.0.1, (sym is.0, sym is.1, refl))
 united (Err e) lets q is = absurd is
+
+-- an UPDATE of the one table
+abbrev pub Updates : Checked Change → Query → Type 0
+Updates (Ok c) q = (0 ≡ c.0) × (q ≡ query_of c.1) × (true ≡ c.2)
+Updates (Err e) q = ⊥
+
+updated : (d : Checked Change) (q : Query) → Updates d q → IsChange d 0 q true
+updated (Ok c) q is = (sym is.0, sym is.1, sym is.2)
+updated (Err e) q is = absurd is
 
 -- ---- the terms have the types that they have where the schema has nothing else
 
@@ -67,10 +76,10 @@ module _ (base : Query) where
 
   -- The text is an UPDATE by this query.
   abbrev pub IsUpdate : Layout → List ℕ → Type 0
-  IsUpdate layout text = ((tree : ℕ) → IsChange (change_of (of_tables (table_of layout tree ∷ [])) text) 0 (over tree) true) × (accepts_program (alone layout) [] (over 0) [] ≡ true)
+  IsUpdate layout text = ((tree : ℕ) → Updates (change_of (of_tables (table_of layout tree ∷ [])) text) (over tree)) × (accepts_program (alone layout) [] (over 0) [] ≡ true)
 
   pub update_means : (layout : Layout) (text : List ℕ) → IsUpdate layout text → (s : Schema) (at tree : ℕ) → HasTable s at (table_of layout tree) → Means s text (Update at (record { lets = []; body = over tree }))
-  update_means layout text is s at tree h = change_is s (at ∷ []) (table_of layout tree ∷ []) (h, tt) text 0 (over tree) true (is.0 tree) (over_alone layout s at tree h ∙ is.1)
+  update_means layout text is s at tree h = change_is s (at ∷ []) (table_of layout tree ∷ []) (h, tt) text 0 (over tree) true (updated _ (over tree) (is.0 tree)) (over_alone layout s at tree h ∙ is.1)
 
 -- ---- a LEFT JOIN
 

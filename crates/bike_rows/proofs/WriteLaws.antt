@@ -1,10 +1,9 @@
 -- One law for each form of INSERT and UPDATE: what the text makes of a table's rows, from what it is where its table stands alone.
-use Rattle.std.proofs.Common.{◌≡◌, ℕ, ◌+◌, ◌/◌, ℤ, List, [], ◌∷◌, map, take, length, Bool, true, false, Option, Some, None, Ok, Result, OnOk, if◌then◌else◌, refl, sym, ap, ◌∙◌}
-use Rattle.std.proofs.lemmas.Bool.{cases_Bool}
+use Rattle.std.proofs.Common.{◌≡◌, ℕ, ◌+◌, ◌/◌, ℤ, List, [], ◌∷◌, map, take, length, Bool, true, false, Option, Some, None, Ok, Result, OnOk, if◌then◌else◌, refl, sym, ap, subst, ◌∙◌}
 use Rattle.std.specs.List.{range_with_len, list_any}
 use Rattle.sqlite_value.specs.declared.value.Value.{Value}
 use Rattle.sqlite_value.specs.declared.value.Value.TheVariants.{Null, Int}
-use Rattle.sqlite_value.specs.Order.{Row, column}
+use Rattle.sqlite_value.specs.Order.{Row}
 use Rattle.sqlite_trees.specs.Tree.{rowid}
 use Rattle.sqlite_sql.specs.Ops.{is_null}
 use Rattle.sqlite_sql.specs.Term.{Term, lit, col, eval, eval_all}
@@ -35,10 +34,11 @@ use Rattle.bike_rows.proofs.UpdateLaw.{update_columns, update_number}
 pub record Changes (keys : ℕ) (layout : Layout) (text : List ℕ) (params : Row) (change : List Row → List Row) : Type 1 where
   pub does : (old new : State) → Stands old.now keys layout → (count : ℕ) → Executes text params old new (Ok count) → Sets old.now new.now keys layout (change (rows_of keys layout.name old.now))
 
--- what it makes of them inside a transaction
-pub changes_inside : {keys : ℕ} {layout : Layout} {text : List ℕ} {params : Row} {change : List Row → List Row} (it : Changes keys layout text params change) (old new : State) → Stands old.now keys layout → (r : Result ℕ Error) → ExecutesInside 0 text params old new r
+-- Inside a transaction, what is committed is as it was. The values that the engine is sent compute to the parameters.
+pub changes_inside : {keys : ℕ} {layout : Layout} {text : List ℕ} {params : Row} {change : List Row → List Row} (it : Changes keys layout text params change) (old new : State) → Stands old.now keys layout → (r : Result ℕ Error) (sent : Row) → sent ≡ params → ExecutesInside 0 text sent old new r
     → OnOk r (Shows old new new.now old.committed true × Sets old.now new.now keys layout (change (rows_of keys layout.name old.now)))
-changes_inside {text = text} {params = params} it old new was r = done_inside 0 text params old new r (λ count shown ran. (shown, it.does old new was count ran))
+changes_inside {text = text} {params = params} it old new was r sent same ran =
+    done_inside 0 text params old new r (λ count shown executes. (shown, it.does old new was count executes)) (subst (λ values. ExecutesInside 0 text values old new r) same ran)
 
 -- ---- the row whose columns are the parameters, in order
 
