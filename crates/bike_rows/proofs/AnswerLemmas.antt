@@ -60,20 +60,5 @@ module _ (tree : ℕ) (tests : List Term) (order : List (Term × Key)) (project 
   pub answered : (lost : Value) (rows : List Row) → IsAnswerAs lost q (overlay db []) params rows → Answered rows
   answered lost rows a = let it = answered_page q.limit lost rows a in subst Answered (sym it.2) it.1
 
-  -- each row shown is that of a stored row that passes
-  pub comes_from : (rows : List Row) → Answered rows → (x : Row) → Has rows x → (r : Row) × Has (db tree) r × (passes r ≡ true) × (x ≡ eval_all project (params ∷ r ∷ []))
-  comes_from rows a x h =
-      let o = map_has (λ (o : Output). o.1) a.outs x (rw a.shown at h) in
-      let back = permuted a.outs (map out (filter passes (db tree))) o.0 (IsPermutation-sym _ _ a.same) o.1 in
-      let r = map_has out (filter passes (db tree)) o.0 back in
-      let it = has_filter passes (db tree) r.0 r.1 in
-      (r.0, it.0, it.1, o.2 ∙ ap (λ (p : Output). p.1) r.2)
-
-  -- each stored row that passes is shown
-  pub goes_to : (rows : List Row) → Answered rows → (r : Row) → Has (db tree) r → passes r ≡ true → Has rows (eval_all project (params ∷ r ∷ []))
-  goes_to rows a r h passed =
-      let o = permuted (map out (filter passes (db tree))) a.outs (out r) a.same (has_map out (filter passes (db tree)) r (filter_has passes (db tree) r h passed)) in
-      rw a.shown (has_map (λ (p : Output). p.1) a.outs (out r) o)
-
   pub out_from : (rows : List Row) (a : Answered rows) (o : Output) → Has a.outs o → (r : Row) × Has (filter passes (db tree)) r × (o ≡ out r)
   out_from rows a o h = map_has out (filter passes (db tree)) o (permuted a.outs (map out (filter passes (db tree))) o (IsPermutation-sym _ _ a.same) h)

@@ -8,18 +8,7 @@ use Rattle.sqlite.specs.State.{State, Executes, ExecutesIn, ExecutesInside, IsNo
 use Rattle.sqlite.proofs.Callers.{IsPlain, never_commits}
 use Rattle.bike_rows.specs.Outcome.{IsLeft}
 
--- A statement that is refused or fails leaves all as it was, or as the last commit left it.
-pub stopped : (sql : List ℕ) (params : Row) (old new : State) (r : Result ℕ Error) → Executes sql params old new r → OnErr r (IsLeft old new)
-unfolding ExecutesIn IsNotRun
-stopped sql params old new (Ok n) h = tt
-stopped sql params old new (Err e) (inl (inl refused)) = inl refused.1
-stopped sql params old new (Err e) (inl (inr failed)) = inr failed.3
-stopped sql params old new (Err e) (inr ran) = elim (cases_Bool (shows_rows false ran.0)) [
-  | inl shows ↦ inl (rw shows at ran.2).1
-  | inr runs ↦ elim (rw runs at ran.2) [ inl refused ↦ inl refused.1 | inr failed ↦ inr failed.3 ]
-]
-
--- So it does inside a transaction.
+-- A statement that is refused or fails inside a transaction leaves all as it was, or as the last commit left it.
 pub stopped_inside : (held : ℕ) (sql : List ℕ) (params : Row) (old new : State) (r : Result ℕ Error) → ExecutesInside held sql params old new r → OnErr r (IsLeft old new)
 stopped_inside held sql params old new (Ok n) h = tt
 stopped_inside held sql params old new (Err e) (inl h) = h.1

@@ -57,7 +57,3 @@ sets old new keys layout was rows same sound others keyed is =
           (all_at (λ t. t.tree ≢ was.tree → new.trees t.tree ≡ old.trees t.tree) old.schema.tables stood.at (table_of other stood.tree) others stood.has.there
           (trees_apart old.schema was.at stood.at (table_of layout was.tree) (table_of other stood.tree) was.has stood.has apart));
     }
-
--- nothing was written
-pub stays_unchanged : (old new : State) (keys : ℕ) (layout : Layout) → IsUnchanged old new → Stands old.now keys layout → Stands new.now keys layout
-stays_unchanged old new keys layout same was = subst (λ db. Stands db keys layout) (sym same.0.now_is) was

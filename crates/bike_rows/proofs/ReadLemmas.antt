@@ -58,23 +58,6 @@ module _ (text : List ℕ) (params : Row) (old new : State) (plain : IsPlain (un
   query_stopped e (inl (inr failed)) = inr failed.3
   query_stopped e (inr (c, it, h)) = let none = (subst IsPlain it.is plain).0 in inl (subst (FailsToShow old new text c _ e) none h).3
 
-module _ (text : List ℕ) (params : Row) (old new : State) (query : Query) (names : List (List ℕ)) (means : MeansQuery old.now.schema text query names) where
-  -- the answer of a query whose rows are all read
-  pub whole_answer : (rows : List Row) → Shown text params old new rows → IsAnswerAs Null query (overlay old.now.trees []) params rows
-  whole_answer rows h = (reads_as text params old new old.now.schema refl _ means.0 means.1 means.2 rows h).answer Null
-
-  -- the row of `query_row` begins an answer
-  pub first_answer : (row : Row) → QueriesRow text params old new (Ok row) → ((tail : List Row) × IsAnswerAs Null query (overlay old.now.trees []) params (row ∷ tail)) × IsUnchanged old new
-  unfolding QueriesRow
-  first_answer row h =
-      let got = (first_as text params old new old.now.schema refl _ means.0 means.1 means.2 row h).1 in
-      ((got.0, got.1 Null), elim h [ inl begun ↦ begun.1 | inr shown ↦ shown_same text params old new means.1 shown.0 shown.1 ])
-
-  pub no_answer : QueriesRow text params old new (Err QueryReturnedNoRows) → IsAnswerAs Null query (overlay old.now.trees []) params [] × IsUnchanged old new
-  unfolding QueriesRow
-  no_answer (inl failed) = absurd (never_none text params old new means.1 failed)
-  no_answer (inr h) = (whole_answer [] h.1, shown_same text params old new means.1 [] h.1)
-
 pub row_stopped : (text : List ℕ) (params : Row) (old new : State) → IsPlain (understood old.now.schema text) → (e : Error) → QueriesRow text params old new (Err e) → IsLeft old new
 unfolding QueriesRow
 row_stopped text params old new plain e (inl failed) = query_stopped text params old new plain e failed

@@ -34,11 +34,10 @@ use Rattle.bike_rows.proofs.UpdateLaw.{update_columns, update_number}
 pub record Changes (keys : ℕ) (layout : Layout) (text : List ℕ) (params : Row) (change : List Row → List Row) : Type 1 where
   pub does : (old new : State) → Stands old.now keys layout → (count : ℕ) → Executes text params old new (Ok count) → Sets old.now new.now keys layout (change (rows_of keys layout.name old.now))
 
--- Inside a transaction, what is committed is as it was. The values that the engine is sent compute to the parameters.
-pub changes_inside : {keys : ℕ} {layout : Layout} {text : List ℕ} {params : Row} {change : List Row → List Row} (it : Changes keys layout text params change) (old new : State) → Stands old.now keys layout → (r : Result ℕ Error) (sent : Row) → sent ≡ params → ExecutesInside 0 text sent old new r
+-- Inside a transaction, what is committed is as it was.
+pub changes_inside : {keys : ℕ} {layout : Layout} {text : List ℕ} {params : Row} {change : List Row → List Row} (it : Changes keys layout text params change) (old new : State) → Stands old.now keys layout → (r : Result ℕ Error) → ExecutesInside 0 text params old new r
     → OnOk r (Shows old new new.now old.committed true × Sets old.now new.now keys layout (change (rows_of keys layout.name old.now)))
-changes_inside {text = text} {params = params} it old new was r sent same ran =
-    done_inside 0 text params old new r (λ count shown executes. (shown, it.does old new was count executes)) (subst (λ values. ExecutesInside 0 text values old new r) same ran)
+changes_inside {text = text} {params = params} it old new was r = done_inside 0 text params old new r (λ count shown executes. (shown, it.does old new was count executes))
 
 -- ---- the row whose columns are the parameters, in order
 

@@ -1,10 +1,10 @@
 -- The tables: their keys, and that a change of one leaves the others.
-use Rattle.std.proofs.Common.{◌≡◌, ℕ, List, [], ◌∷◌, true, Result, OnOk, refl}
+use Rattle.std.proofs.Common.{ℕ, List, [], ◌∷◌, true, refl}
 use Rattle.std.proofs.lemmas.Result.{on_ok_weaker}
 use Rattle.sqlite_value.specs.Order.{Row}
-use Rattle.sqlite.specs.declared.error.Error.{Error}
-use Rattle.sqlite.specs.State.{State, ExecutesInside, Shows}
+use Rattle.sqlite.specs.State.{State, Shows}
 use Rattle.bike_rows.specs.Stands.{Sets}
+use Rattle.bike_rows.proofs.CallLaws.{Does}
 use Rattle.bike_rows.proofs.KeyLemmas.{IsKeyAt, number_key_at, columns_key_at}
 use Rattle.bike_rows.proofs.WriteLaws.{Changes, changes_inside}
 use Rattle.bike_rows_example.specs.Tables.{HasTables, Puts, tables_of, parts, notes, shelves}
@@ -32,8 +32,8 @@ module _ (old new : State) (has : HasTables old.now) (rows : List Row) where
       record { shown = shown; sound = set.sound; has = record { parts = parts.stands; notes = set.stands; shelves = shelves.stands }; tables_are = λ i. record { parts = parts.rows i; notes = set.rows_are i; shelves = shelves.rows i } }
 
 module _ {text : List ℕ} {params : Row} {change : List Row → List Row} where
-  pub puts_parts : Changes 1 parts text params change → (old new : State) (has : HasTables old.now) (r : Result ℕ Error) (sent : Row) → sent ≡ params → ExecutesInside 0 text sent old new r → OnOk r (Puts old new (record (tables_of old.now) { parts = change (tables_of old.now).parts }))
-  puts_parts it old new has r sent same ran = on_ok_weaker r (set_parts old new has (change (tables_of old.now).parts)) (changes_inside it old new has.parts r sent same ran)
+  pub puts_parts : Changes 1 parts text params change → Does (λ old. HasTables old.now) (λ old new. Puts old new (record (tables_of old.now) { parts = change (tables_of old.now).parts })) text params
+  puts_parts it = record { does = λ old new has r ran. on_ok_weaker r (set_parts old new has (change (tables_of old.now).parts)) (changes_inside it old new has.parts r ran) }
 
-  pub puts_notes : Changes 2 notes text params change → (old new : State) (has : HasTables old.now) (r : Result ℕ Error) (sent : Row) → sent ≡ params → ExecutesInside 0 text sent old new r → OnOk r (Puts old new (record (tables_of old.now) { notes = change (tables_of old.now).notes }))
-  puts_notes it old new has r sent same ran = on_ok_weaker r (set_notes old new has (change (tables_of old.now).notes)) (changes_inside it old new has.notes r sent same ran)
+  pub puts_notes : Changes 2 notes text params change → Does (λ old. HasTables old.now) (λ old new. Puts old new (record (tables_of old.now) { notes = change (tables_of old.now).notes })) text params
+  puts_notes it = record { does = λ old new has r ran. on_ok_weaker r (set_notes old new has (change (tables_of old.now).notes)) (changes_inside it old new has.notes r ran) }

@@ -4,6 +4,6 @@ use Rattle.bike_rows_example.proofs.walks.walk_notes_of.Goals as goal
 
 pub returns : goal.returns
 returns g c =
-    let it = walk_returns g.S.Store (lists_of c.args.author.now) c.args.conn.ghost_name c.args.conn.now c.query.result _ (rw c.params-to_sql.ensures)
+    let it = walk_returns g.S.Store (lists_of c.args.author.now) c.args.conn c.query.result _ (rw c.params-to_sql.ensures)
     c.query.ensures c.query.follows.lender c.query.follows.lender-at-none c.query.follows.holds c.query.follows.holds-at-none in
     (it.0, (it.1.same_reference, (it.1.begun, (it.1.mode, it.1.survives))))
