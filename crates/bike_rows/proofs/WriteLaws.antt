@@ -1,5 +1,5 @@
 -- One law for each form of INSERT and UPDATE: what the text makes of a table's rows, from what it is where its table stands alone.
-use Rattle.std.proofs.Common.{◌≡◌, ℕ, ◌+◌, ◌/◌, ℤ, List, [], ◌∷◌, map, take, length, Bool, true, false, Option, Some, None, Ok, Result, OnOk, if◌then◌else◌, refl, sym, ap, subst, ◌∙◌}
+use Rattle.std.proofs.Common.{◌≡◌, ℕ, ◌+◌, ◌/◌, ℤ, List, [], ◌∷◌, map, take, length, Bool, true, false, Option, Some, None, Ok, Result, OnOk, if◌then◌else◌, refl, sym, ap, ◌∙◌}
 use Rattle.std.specs.List.{range_with_len, list_any}
 use Rattle.sqlite_value.specs.declared.value.Value.{Value}
 use Rattle.sqlite_value.specs.declared.value.Value.TheVariants.{Null, Int}
