@@ -31,9 +31,18 @@ module _ (old new : State) (has : HasTables old.now) (rows : List Row) where
       let shelves = set.others 1 shelves refl has.shelves in
       record { shown = shown; sound = set.sound; has = record { parts = parts.stands; notes = set.stands; shelves = shelves.stands }; tables_are = λ i. record { parts = parts.rows i; notes = set.rows_are i; shelves = shelves.rows i } }
 
+  set_shelves : Shows old new new.now old.committed true × Sets old.now new.now 1 shelves rows → Puts old new (record (tables_of old.now) { shelves = rows })
+  set_shelves (shown, set) =
+      let parts = set.others 1 parts refl has.parts in
+      let notes = set.others 2 notes refl has.notes in
+      record { shown = shown; sound = set.sound; has = record { parts = parts.stands; notes = notes.stands; shelves = set.stands }; tables_are = λ i. record { parts = parts.rows i; notes = notes.rows i; shelves = set.rows_are i } }
+
 module _ {text : List ℕ} {params : Row} {change : List Row → List Row} where
   pub puts_parts : Changes 1 parts text params change → Does (λ old. HasTables old.now) (λ old new. Puts old new (record (tables_of old.now) { parts = change (tables_of old.now).parts })) text params
   puts_parts it = record { does = λ old new has r ran. on_ok_weaker r (set_parts old new has (change (tables_of old.now).parts)) (changes_inside it old new has.parts r ran) }
 
   pub puts_notes : Changes 2 notes text params change → Does (λ old. HasTables old.now) (λ old new. Puts old new (record (tables_of old.now) { notes = change (tables_of old.now).notes })) text params
   puts_notes it = record { does = λ old new has r ran. on_ok_weaker r (set_notes old new has (change (tables_of old.now).notes)) (changes_inside it old new has.notes r ran) }
+
+  pub puts_shelves : Changes 1 shelves text params change → Does (λ old. HasTables old.now) (λ old new. Puts old new (record (tables_of old.now) { shelves = change (tables_of old.now).shelves })) text params
+  puts_shelves it = record { does = λ old new has r ran. on_ok_weaker r (set_shelves old new has (change (tables_of old.now).shelves)) (changes_inside it old new has.shelves r ran) }
