@@ -187,21 +187,6 @@ fn statements_do_what_they_say(rt: HostRuntime) -> Result<(), Fail> {
 }
 
 #[test]
-fn shelves_stand_in_their_order(rt: HostRuntime) -> Result<(), Fail> {
-    let mut conn = Connection::open_in_memory(rt.alloc())?;
-    make(&mut conn)?;
-    fill(&mut conn)?;
-    for (from, to, want) in [(0, 9, 124), (1, 4, 12), (2, 2, 0)] {
-        assert_eq!(rt;
-            shelves_between(&mut conn, from, to)?,
-            want,
-            "from {from} to {to}"
-        );
-    }
-    Ok(())
-}
-
-#[test]
 fn shelves_stand_beside_beside_their_parts(rt: HostRuntime) -> Result<(), Fail> {
     let mut conn = Connection::open_in_memory(rt.alloc())?;
     make(&mut conn)?;
