@@ -22,3 +22,7 @@ pub mod JoinLaw
 pub mod CountLaw
 pub mod UnionLaw
 pub mod ParamLemmas
+pub mod TextLemmas
+pub mod SelectLaws
+pub mod WriteLaws
+pub mod CallLaws

@@ -1,5 +1,5 @@
 -- Three tables, as lists of rows in the order of their keys.
-use Rattle.std.specs.Prelude.{◌≡◌, ℕ, true, false, List, [], ◌∷◌, ◌++◌, map, Option, Some, None, codes, pos}
+use Rattle.std.specs.Prelude.{◌≡◌, ℕ, ℤ, true, false, List, [], ◌∷◌, ◌++◌, map, Option, Some, None, codes, pos}
 use Rattle.sqlite_value.specs.declared.value.Value.TheVariants.{Null, Int, Text as Words}
 use Rattle.sqlite_value.specs.Order.{Row, column}
 use Rattle.sqlite_value.specs.Keys.{plain}
@@ -39,6 +39,10 @@ shelves = record {
 -- a note with or without a body
 abbrev pub note_row : List ℕ → List ℕ → Option (List ℕ) → Row
 note_row author title body = Words author ∷ Words title ∷ or_null Words body ∷ []
+
+-- a shelf with a part or empty
+abbrev pub shelf_row : ℤ → Option ℤ → ℤ → Row
+shelf_row shelf part room = Int shelf ∷ or_null Int part ∷ Int room ∷ []
 
 pub record Tables : Type 0 where
   pub parts : List Row

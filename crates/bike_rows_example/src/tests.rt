@@ -1,6 +1,6 @@
 use crate::notes::{find_note, insert_note, update_note};
 use crate::parts::{find_part, insert_part, update_part};
-use crate::shelves::{walk_inventory, walk_shelf_stocks};
+use crate::shelves::{insert_shelf, walk_inventory, walk_shelf_stocks, walk_shelves_between};
 use crate::walks::{count_parts_with, last_part, walk_notes_of, walk_parts, walk_parts_between};
 use bike_rows::walk::next_row;
 use sqlite::{Alter, Connection, Error, Row, Rows, Transaction};
@@ -9,7 +9,7 @@ use std::test::Fail;
 // These have no clause, so that the proof of the test does not carry the state of each call.
 fn make<S: Alter>(conn: &mut Connection<S>) -> Result<(), Error> {
     conn.execute_batch(
-        "CREATE TABLE other (a); CREATE TABLE parts (part INTEGER PRIMARY KEY, stock INTEGER NOT NULL) STRICT; CREATE TABLE notes (author TEXT NOT NULL, title TEXT NOT NULL, body TEXT, PRIMARY KEY (author, title)) STRICT; CREATE TABLE shelves (shelf INTEGER PRIMARY KEY, part INTEGER, room INTEGER NOT NULL) STRICT; INSERT INTO shelves VALUES (4, 8, 1), (1, 3, 5), (2, NULL, 6)",
+        "CREATE TABLE other (a); CREATE TABLE parts (part INTEGER PRIMARY KEY, stock INTEGER NOT NULL) STRICT; CREATE TABLE notes (author TEXT NOT NULL, title TEXT NOT NULL, body TEXT, PRIMARY KEY (author, title)) STRICT; CREATE TABLE shelves (shelf INTEGER PRIMARY KEY, part INTEGER, room INTEGER NOT NULL) STRICT",
     )
 }
 
@@ -57,6 +57,22 @@ fn put_notes<S: Alter>(tx: &mut Transaction<'_, S>) -> Result<(), Error> {
     set_note(tx, "bob", "a", None)
 }
 
+fn add_shelf<S: Alter>(
+    tx: &mut Transaction<'_, S>,
+    shelf: i64,
+    part: Option<i64>,
+    room: i64,
+) -> Result<(), Error> {
+    insert_shelf(tx, shelf, part, room)?;
+    Ok(())
+}
+
+fn put_shelves<S: Alter>(tx: &mut Transaction<'_, S>) -> Result<(), Error> {
+    add_shelf(tx, 4, Some(8), 1)?;
+    add_shelf(tx, 1, Some(3), 5)?;
+    add_shelf(tx, 2, None, 6)
+}
+
 fn fill<S: Alter>(conn: &mut Connection<S>) -> Result<(), Error> {
     if !conn.is_autocommit() {
         return Err(Error::InvalidQuery);
@@ -64,6 +80,7 @@ fn fill<S: Alter>(conn: &mut Connection<S>) -> Result<(), Error> {
     let mut tx = conn.transaction();
     put_parts(&mut tx)?;
     put_notes(&mut tx)?;
+    put_shelves(&mut tx)?;
     tx.commit()
 }
 
@@ -128,6 +145,11 @@ fn shelf_stocks<S: Alter>(conn: &mut Connection<S>, at: usize) -> Result<i64, Er
     digits_of(&mut rows, at)
 }
 
+fn shelves_between<S: Alter>(conn: &mut Connection<S>, from: i64, to: i64) -> Result<i64, Error> {
+    let mut rows = walk_shelves_between(conn, from, to)?;
+    digits_of(&mut rows, 0)
+}
+
 fn all_inventory<S: Alter>(conn: &mut Connection<S>, at: usize) -> Result<i64, Error> {
     let mut rows = walk_inventory(conn)?;
     digits_of(&mut rows, at)
@@ -165,7 +187,7 @@ fn statements_do_what_they_say(rt: HostRuntime) -> Result<(), Fail> {
 }
 
 #[test]
-fn shelves_stand_beside_their_parts(rt: HostRuntime) -> Result<(), Fail> {
+fn shelves_stand_beside_beside_their_parts(rt: HostRuntime) -> Result<(), Fail> {
     let mut conn = Connection::open_in_memory(rt.alloc())?;
     make(&mut conn)?;
     fill(&mut conn)?;

@@ -1,10 +1,9 @@
-use Rattle.std.proofs.Common.{w64}
+use Rattle.std.proofs.Common.{rules}
 use Rattle.std.proofs.lemmas.Int.{to_z-of_z}
-use Rattle.sqlite.specs.Held.{state}
-use Rattle.bike_rows_example.proofs.PartLemmas.{update_puts}
+use Rattle.bike_rows.proofs.CallLaws.{put_returns}
+use Rattle.bike_rows_example.proofs.PartLemmas.{updates}
+use Rattle.bike_rows_example.proofs.TableLemmas.{puts_parts}
 use Rattle.bike_rows_example.proofs.parts.update_part.Goals as goal
 
-pub returns-clause-puts : goal.returns-clause-puts
-returns-clause-puts g c clean inside has =
-    update_puts (state g.S.Store c.args.tx.now.conn.now) (state g.S.Store c.execute.new.self.conn.now) has c.args.part c.args.stock c.execute.result
-    (rw (c.params-to_sql.ensures, c.params-to_sql-2.ensures, to_z-of_z w64 c.args.part c.ranges.part, to_z-of_z w64 c.args.stock c.ranges.stock) at (c.execute.ensures.runs clean inside))
+pub returns : goal.returns
+returns g c = put_returns g.S.Store (puts_parts (updates c.args.part c.args.stock)) c.args.tx.now.conn c.execute.new.self.conn c.execute.result _ (search (rules, to_z-of_z)) c.execute.ensures

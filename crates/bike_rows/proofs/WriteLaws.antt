@@ -1,0 +1,108 @@
+-- One law for each form of INSERT and UPDATE: what the text makes of a table's rows, from what it is where its table stands alone.
+use Rattle.std.proofs.Common.{◌≡◌, ℕ, ◌+◌, ◌/◌, ℤ, List, [], ◌∷◌, map, take, length, Bool, true, false, Option, Some, None, Ok, Result, OnOk, if◌then◌else◌, refl, sym, ap, ◌∙◌}
+use Rattle.std.specs.List.{range_with_len, list_any}
+use Rattle.sqlite_value.specs.declared.value.Value.{Value}
+use Rattle.sqlite_value.specs.declared.value.Value.TheVariants.{Null, Int}
+use Rattle.sqlite_value.specs.Order.{Row}
+use Rattle.sqlite_trees.specs.Tree.{rowid}
+use Rattle.sqlite_sql.specs.Ops.{is_null}
+use Rattle.sqlite_sql.specs.Term.{Term, lit, col, eval, eval_all}
+use Rattle.sqlite_schema.specs.declared.schema.Schema.{Schema}
+use Rattle.sqlite_schema.specs.declared.command.Source.TheVariants.{Values}
+use Rattle.sqlite_schema.specs.Names.{is_key}
+use Rattle.sqlite_resolve.specs.Compile.{first}
+use Rattle.sqlite_rules.specs.declared.error.Rowids.TheVariants.{Chosen}
+use Rattle.sqlite_rules.specs.Edit.{with_rowid}
+use Rattle.sqlite.specs.Effect.{value_rows}
+use Rattle.sqlite.specs.declared.error.Error.{Error}
+use Rattle.sqlite.specs.State.{State, Executes, ExecutesInside, Shows}
+use Rattle.bike_names.specs.Inserts.{IsInsert}
+use Rattle.bike_names.proofs.InsertLaws.{insert_is}
+use Rattle.bike_rows.specs.Layout.{Layout, table_of}
+use Rattle.bike_rows.specs.View.{columns_of, put_row_by, replaced}
+use Rattle.bike_rows.specs.Stands.{rows_of, Stands, Sets}
+use Rattle.bike_rows.specs.Queries.{table_query, key_tests, key_in}
+use Rattle.bike_rows.proofs.ListLemmas.{map_map, map_same}
+use Rattle.bike_rows.proofs.CastLemmas.{suit_all, suits_row}
+use Rattle.bike_rows.proofs.CrashLemmas.{done_inside}
+use Rattle.bike_rows.proofs.KeyLemmas.{IsKeyAt}
+use Rattle.bike_rows.proofs.TextLemmas.{IsUpdate, update_means}
+use Rattle.bike_rows.proofs.InsertLaw.{insert_sets}
+use Rattle.bike_rows.proofs.UpdateLaw.{update_columns, update_number}
+
+-- Once the text is done, the table's rows are what `change` makes of them, and each table of another name is as it was.
+pub record Changes (keys : ℕ) (layout : Layout) (text : List ℕ) (params : Row) (change : List Row → List Row) : Type 1 where
+  pub does : (old new : State) → Stands old.now keys layout → (count : ℕ) → Executes text params old new (Ok count) → Sets old.now new.now keys layout (change (rows_of keys layout.name old.now))
+
+-- Inside a transaction, what is committed is as it was.
+pub changes_inside : {keys : ℕ} {layout : Layout} {text : List ℕ} {params : Row} {change : List Row → List Row} (it : Changes keys layout text params change) (old new : State) → Stands old.now keys layout → (r : Result ℕ Error) → ExecutesInside 0 text params old new r
+    → OnOk r (Shows old new new.now old.committed true × Sets old.now new.now keys layout (change (rows_of keys layout.name old.now)))
+changes_inside {text = text} {params = params} it old new was r = done_inside 0 text params old new r (λ count shown executes. (shown, it.does old new was count executes))
+
+-- ---- the row whose columns are the parameters, in order
+
+-- NULL where the rowid stands for the column
+abbrev pub column_term : Option ℕ → ℕ → Term
+column_term key at = if is_key key at then lit Null else col 0 at
+
+abbrev pub column_terms : Layout → List Term
+column_terms layout = map (column_term layout.key) (range_with_len 0 (length layout.columns))
+
+abbrev pub column_values : Layout → Row → Row
+column_values layout params = eval_all (column_terms layout) (params ∷ [])
+
+-- the rowid, or NULL where it is not the key
+abbrev pub rowid_term : Option ℕ → Term
+rowid_term None = lit Null
+rowid_term (Some at) = col 0 at
+
+abbrev pub row_terms : Layout → List Term
+row_terms layout = rowid_term layout.key ∷ column_terms layout
+
+abbrev pub row_values : Layout → Row → Row
+row_values layout params = eval_all (row_terms layout) (params ∷ [])
+
+abbrev pub width : Layout → ℕ
+width layout = length layout.columns + 1
+
+module _ {keys : ℕ} {layout : Layout} {places : List ℕ} (key : IsKeyAt keys layout places) {text : List ℕ} {params : Row} where
+  -- INSERT INTO the table VALUES (?1, ..)
+  pub row_put : ((s : Schema) (tree : ℕ) → IsInsert s (table_of layout tree) (first text) (Values (row_terms layout) (width layout))) → value_rows params (width layout) (length (row_terms layout) / width layout) (row_terms layout) ≡ row_values layout params ∷ []
+      → suits_row layout.columns (row_values layout params) ≡ true → ((rows : List Row) → columns_of (table_of layout 0) (with_rowid Chosen rows (row_values layout params)) ≡ params) → Changes keys layout text params (put_row_by keys params)
+  row_put is gives suit shows = record {
+    does = λ old new was. insert_sets keys layout key.key old new was text params (width layout) (row_terms layout) (row_values layout params) params
+        (insert_is old.now.schema was.at (table_of layout was.tree) was.has text (Values (row_terms layout) (width layout)) (is old.now.schema was.tree)) gives suit shows;
+  }
+
+-- UPDATE gives each row that it finds its rowid, and the parameters for columns.
+abbrev pub set_terms : Layout → List Term
+set_terms layout = col 1 0 ∷ col 1 0 ∷ column_terms layout
+
+sets_values : (layout : Layout) (params r : Row) → eval_all (set_terms layout) (params ∷ r ∷ []) ≡ rowid r ∷ rowid r ∷ column_values layout params
+sets_values layout params r =
+    let places = range_with_len 0 (length layout.columns) in
+    let term = column_term layout.key in
+    let each : map (λ t. eval t (params ∷ r ∷ [])) (map term places) ≡ map (λ t. eval t (params ∷ [])) (map term places) =
+    map_map term (λ t. eval t (params ∷ r ∷ [])) places ∙ map_same (λ at. eval (term at) (params ∷ r ∷ [])) (λ at. eval (term at) (params ∷ [])) (λ at. by (is_key layout.key at) at) places ∙ sym (map_map term (λ t. eval t (params ∷ [])) places) in
+    ap (λ values. rowid r ∷ rowid r ∷ values) each
+  where
+    by : (b : Bool) (at : ℕ) → eval (if b then lit Null else col 0 at) (params ∷ r ∷ []) ≡ eval (if b then lit Null else col 0 at) (params ∷ [])
+    by true at = refl
+    by false at = refl
+
+module _ {keys : ℕ} {layout : Layout} {places : List ℕ} (key : IsKeyAt keys layout places) {text : List ℕ} {params : Row} where
+  -- UPDATE the table SET each column = its parameter WHERE the key's columns = the first parameters
+  pub row_replaced : IsUpdate (table_query 0 (key_tests 0 places) [] (set_terms layout)) layout text → list_any is_null (key_in 0 places params) ≡ false → take keys params ≡ key_in 0 places params → suit_all layout.columns (column_values layout params) ≡ true
+      → ((id : Value) → columns_of (table_of layout 0) (id ∷ column_values layout params) ≡ params) → Changes keys layout text params (replaced keys params)
+  row_replaced is solid has_key suit shows = record {
+    does = λ old new was. update_columns keys layout key.key old new was text params places (set_terms layout) (column_values layout params) params
+        (update_means (table_query 0 (key_tests 0 places) [] (set_terms layout)) layout text is old.now.schema was.at was.tree was.has) key.first solid has_key suit (sets_values layout params) shows;
+  }
+
+-- UPDATE the table SET each other column = its parameter WHERE key = ?1
+pub number_replaced : {layout : Layout} (key : IsKeyAt 1 layout (0 ∷ [])) {text : List ℕ} {n : ℤ} {others : Row} → IsUpdate (table_query 0 (key_tests 0 (0 ∷ [])) [] (set_terms layout)) layout text → suit_all layout.columns (column_values layout (Int n ∷ others)) ≡ true
+    → columns_of (table_of layout 0) (Int n ∷ column_values layout (Int n ∷ others)) ≡ Int n ∷ others → Changes 1 layout text (Int n ∷ others) (replaced 1 (Int n ∷ others))
+number_replaced {layout} key {text} {n} {others} is suit shows = record {
+  does = λ old new was. update_number layout key.key old new was text n others (set_terms layout) (column_values layout (Int n ∷ others)) (Int n ∷ others)
+      (update_means (table_query 0 (key_tests 0 (0 ∷ [])) [] (set_terms layout)) layout text is old.now.schema was.at was.tree was.has) key.first refl suit (sets_values layout (Int n ∷ others)) shows;
+}
