@@ -20,6 +20,7 @@ use Rattle.bike_commands.specs.Replies.{reply_text}
 use Rattle.bike_core.specs.declared.change.Change.TheVariants as change
 use Rattle.bike_core.specs.declared.view.View.{View}
 use Rattle.bike_tables.specs.declared.rows.RiderRow.{RiderRow}
+use Rattle.bike_tables.specs.declared.rows.MetaRow.{MetaRow}
 use Rattle.bike_core.specs.Operator.{Operator, Rider, key_of}
 use Rattle.bike_core.specs.Order.{IsInOrder}
 use Rattle.bike_core.specs.View.{view_of, rider_view}
@@ -32,7 +33,7 @@ use Rattle.bike_tables.specs.declared.rows.RowChange.TheVariants as row
 use Rattle.bike_tables.specs.Changes.{all_made}
 use Rattle.bike_tables.specs.Stored.{tables_for}
 use Rattle.bike_tables.proofs.StoredLemmas.{after_command, add_rider_made, top_up_made}
-use Rattle.bike_desk.specs.Serving.{LeadsTo, Accepts}
+use Rattle.bike_desk.specs.Serving.{meta_of, LeadsTo, Accepts}
 
 -- ---- what the decision's change says of the command
 
@@ -104,11 +105,17 @@ module _ (s : Operator) (q : Request) (now : ℕ) (order : IsInOrder s) where
     rider_made (command.Unload truck number bike side dock) free makes is_text is_reply = absurd cc
     rider_made (command.CloseOrder number) free makes is_text is_reply = absurd cc
 
-    pub leads_rider : Accepts s now q (change.AddRider rider ∷ []) → caller.now ≡ caller_text q.caller → key.now ≡ q.key → text.now ≡ text_of q.command → reply.now ≡ reply_text (reply_of s now q.command) → LeadsTo rider_changes s (accepted s now q)
-    leads_rider accepts is_caller is_key is_text is_reply = record {
-      tables = rider_made q.command accepts.free accepts.makes is_text is_reply ∙ ap (λ k. tables_for (after_command s now k q.command)) (key_is caller.now key.now is_caller is_key);
-      order = accepts.order;
-    }
+    -- the code's values are these
+    pub leads_rider : (zero : ℤ) (meta : MetaRow) (kept : RowChange) → zero ≡ pos 0 → meta ≡ meta_of s → kept ≡ row.AddKept caller key text reply
+        → Accepts s now q (change.AddRider rider ∷ []) → caller.now ≡ caller_text q.caller → key.now ≡ q.key → text.now ≡ text_of q.command → reply.now ≡ reply_text (reply_of s now q.command)
+        → LeadsTo (row.AddRider (record { rider = rider; blocked = false; balance = zero }) ∷ row.SetMeta (record { now = now; cash = meta.cash; revenue = meta.revenue }) ∷ kept ∷ []) s (accepted s now q)
+    leads_rider zero meta kept zero_is meta_is kept_is accepts is_caller is_key is_text is_reply =
+        let Leads = λ (z : ℤ) (m : MetaRow) (k : RowChange). LeadsTo (row.AddRider (record { rider = rider; blocked = false; balance = z }) ∷ row.SetMeta (record { now = now; cash = m.cash; revenue = m.revenue }) ∷ k ∷ []) s (accepted s now q) in
+        let leads : Leads (pos 0) (meta_of s) (row.AddKept caller key text reply) = record {
+          tables = rider_made q.command accepts.free accepts.makes is_text is_reply ∙ ap (λ k. tables_for (after_command s now k q.command)) (key_is caller.now key.now is_caller is_key);
+          order = accepts.order;
+        } in
+        subst (Leads zero meta) (sym kept_is) (subst₂ (λ z m. Leads z m (row.AddKept caller key text reply)) (sym zero_is) (sym meta_is) leads)
 
   -- an entry is booked
   module _ (entry : Entry) (view : View) (after : RiderRow) (caller key text reply : Bor (List ℕ)) where
@@ -167,11 +174,17 @@ module _ (s : Operator) (q : Request) (now : ℕ) (order : IsInOrder s) where
     entry_booked (command.Unload truck number bike side dock) makes is some is_text is_reply = absurd cc
     entry_booked (command.CloseOrder number) makes is some is_text is_reply = absurd cc
 
-    pub leads_entry : view ≡ view_of s q.command → Accepts s now q (change.AddEntry entry ∷ []) → IfSome view.rider (λ before. after ≡ record { rider = entry.rider; blocked = before.blocked; balance = before.balance +ℤ credit entry.kind entry.amount }) × IsSome view.rider
-        → caller.now ≡ caller_text q.caller → key.now ≡ q.key → text.now ≡ text_of q.command → reply.now ≡ reply_text (reply_of s now q.command) → LeadsTo entry_changes s (accepted s now q)
-    leads_entry seen accepts booked is_caller is_key is_text is_reply =
-        let here = subst (λ (v : View). IfSome v.rider (λ before. after ≡ record { rider = entry.rider; blocked = before.blocked; balance = before.balance +ℤ credit entry.kind entry.amount }) × IsSome v.rider) seen booked in
-        record {
+    -- the code's values are these
+    pub leads_entry : (meta booked : MetaRow) (kept : RowChange) → meta ≡ meta_of s → booked ≡ record { now = now; cash = meta.cash +ℤ cash_in entry.kind entry.amount; revenue = meta.revenue +ℤ earned entry.kind entry.amount } → kept ≡ row.AddKept caller key text reply
+        → view ≡ view_of s q.command → Accepts s now q (change.AddEntry entry ∷ []) → IfSome view.rider (λ before. after ≡ record { rider = entry.rider; blocked = before.blocked; balance = before.balance +ℤ credit entry.kind entry.amount }) × IsSome view.rider
+        → caller.now ≡ caller_text q.caller → key.now ≡ q.key → text.now ≡ text_of q.command → reply.now ≡ reply_text (reply_of s now q.command)
+        → LeadsTo (row.AddEntry entry ∷ row.SetRider after ∷ row.SetMeta booked ∷ kept ∷ []) s (accepted s now q)
+    leads_entry meta booked kept meta_is booked_is kept_is seen accepts rider is_caller is_key is_text is_reply =
+        let here = subst (λ (v : View). IfSome v.rider (λ before. after ≡ record { rider = entry.rider; blocked = before.blocked; balance = before.balance +ℤ credit entry.kind entry.amount }) × IsSome v.rider) seen rider in
+        let Leads = λ (m : MetaRow) (k : RowChange). LeadsTo (row.AddEntry entry ∷ row.SetRider after ∷ row.SetMeta m ∷ k ∷ []) s (accepted s now q) in
+        let sums = booked_is ∙ ap (λ (m : MetaRow). let r : MetaRow = record { now = now; cash = m.cash +ℤ cash_in entry.kind entry.amount; revenue = m.revenue +ℤ earned entry.kind entry.amount } in r) meta_is in
+        let leads : Leads (record { now = now; cash = booked_cash; revenue = booked_revenue }) (row.AddKept caller key text reply) = record {
           tables = entry_booked q.command accepts.makes here.0 here.1 is_text is_reply ∙ ap (λ k. tables_for (after_command s now k q.command)) (key_is caller.now key.now is_caller is_key);
           order = accepts.order;
-        }
+        } in
+        subst₂ Leads (sym sums) (sym kept_is) leads

@@ -1,6 +1,6 @@
 //! The desk, and the one call that changes what it keeps.
 
-ghost use Rattle.std.specs.Prelude.{◌≡◌, ◌≤◌, false, IsTrue, IsErr, IfOk, Err, option_map, Option, Some, None};
+ghost use Rattle.std.specs.Prelude.{◌≡◌, ◌≤◌, false, IsTrue, IfOk, Err, option_map, Option, Some, None};
 ghost use Rattle.std.specs.FinMap as map;
 ghost use Rattle.sqlite.specs.State.{HasCleanDisk};
 ghost use Rattle.sqlite_trees.specs.View.{doubt};
@@ -70,8 +70,8 @@ impl<S: Alter> Desk<S> {
     /// Serves one request that comes at the moment, in one transaction.
     ///
     /// `NoMemory` comes before anything changes and leaves everything as it was. `StoreFailed` stops the
-    /// desk, and what a crash may leave then stands for the operator before or after the request. `Stopped`
-    /// comes from a stopped desk alone, which stays as it is.
+    /// desk, and what a crash may leave then stands for the operator before or after the request. A
+    /// stopped desk answers every request `Stopped` and stays as it is; no other desk answers that.
     pub fn apply(
         &mut self,
         alloc: Global,
@@ -84,15 +84,15 @@ impl<S: Alter> Desk<S> {
         ensures store_failed { HasCleanDisk (shown S.Store self.new) → (s : Operator) → IsAt S.Store self.old s → result ≡ Err DeskFault.StoreFailed → AllLeft (shown S.Store self.new) (TreesStandForEither s (step s moment request.now).1) }
         ensures stops { result ≡ Err DeskFault.StoreFailed → IsTrue self.new.is_stopped }
         ensures stopped { result ≡ Err DeskFault.Stopped → IsTrue self.old.is_stopped }
-        ensures stays { IsTrue self.old.is_stopped → IsErr result × (self.new ≡ self.old) }
+        ensures stays { IsTrue self.old.is_stopped → (result ≡ Err DeskFault.Stopped) × (self.new ≡ self.old) }
     {
+        if self.stopped() {
+            return Err(DeskFault::Stopped);
+        }
         // All that takes memory comes before the transaction.
         let Ok(text) = command_text(alloc, &request.command) else {
             return Err(DeskFault::NoMemory);
         };
-        if self.stopped() {
-            return Err(DeskFault::Stopped);
-        }
         match serve(&mut self.conn, moment, request, text.as_str()) {
             Ok(reply) => Ok(reply),
             Err(_) => {
@@ -103,7 +103,8 @@ impl<S: Alter> Desk<S> {
     }
 
     /// The rider's balance, the sum of what the ledger books for the rider; None where there is no such
-    /// rider. Nothing that is kept changes; `StoreFailed` stops the desk.
+    /// rider. Nothing that is kept changes; `StoreFailed` stops the desk; a stopped desk answers
+    /// `Stopped`.
     pub fn balance(&mut self, rider: RiderNumber) -> Result<Option<Cents>, DeskFault>
         ensures clean { doubt (shown S.Store self.old).is_clean ≤ doubt (shown S.Store self.new).is_clean }
         ensures ok { HasCleanDisk (shown S.Store self.new) → (s : Operator) → IsAt S.Store self.old s → IfOk result (λ balance. (balance ≡ option_map (λ _. balance_of rider s.entries) (map.get s.riders rider)) × IsAt S.Store self.new s) }
@@ -111,7 +112,7 @@ impl<S: Alter> Desk<S> {
         ensures left { HasCleanDisk (shown S.Store self.new) → (s : Operator) → IsAt S.Store self.old s → AllLeft (shown S.Store self.new) (shown S.Store self.old).may_leave }
         ensures stops { result ≡ Err DeskFault.StoreFailed → IsTrue self.new.is_stopped }
         ensures stopped { result ≡ Err DeskFault.Stopped → IsTrue self.old.is_stopped }
-        ensures stays { IsTrue self.old.is_stopped → IsErr result × (self.new ≡ self.old) }
+        ensures stays { IsTrue self.old.is_stopped → (result ≡ Err DeskFault.Stopped) × (self.new ≡ self.old) }
     {
         if self.stopped() {
             return Err(DeskFault::Stopped);

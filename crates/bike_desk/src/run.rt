@@ -1,6 +1,6 @@
 //! Serving a list of requests.
 
-ghost use Rattle.std.specs.Prelude.{◌≡◌, ◌≤◌, ◌<◌, ◌+◌, ◌++◌, [], ◌∷◌, length, vec_len, vec_capacity};
+ghost use Rattle.std.specs.Prelude.{◌≡◌, ◌≤◌, ◌<◌, ◌+◌, ◌++◌, IsTrue, [], ◌∷◌, length, vec_len, vec_capacity};
 ghost use Rattle.sqlite.specs.State.{HasCleanDisk};
 ghost use Rattle.sqlite_trees.specs.View.{doubt};
 ghost use Rattle.bike_core.specs.Operator.{Operator};
@@ -36,11 +36,12 @@ fn note(replies: &mut Vec<Reply>, reply: Reply)
 
 impl<S: Alter> Desk<S> {
     /// Serves requests in order, each with the moment at which it comes, up to the first fault. Room for
-    /// the replies is taken first.
+    /// the replies is taken first. A stopped desk answers none and stays as it is.
     pub fn run_list(&mut self, alloc: Global, calls: &[(Moment, Request)]) -> Run
         ensures clean { doubt (shown S.Store self.old).is_clean ≤ doubt (shown S.Store self.new).is_clean }
         ensures ran { HasCleanDisk (shown S.Store self.new) → (s : Operator) → IsAt S.Store self.old s → Ran S.Store self.new s calls.now result.replies.items result.end }
         ensures front { HasCleanDisk (shown S.Store self.new) → (s : Operator) → IsAt S.Store self.old s → AllLeft (shown S.Store self.new) (IsAfterFront s calls.now (length result.replies.items)) }
+        ensures stays { IsTrue self.old.is_stopped → (result.replies.items ≡ []) × (self.new ≡ self.old) }
     {
         let mut replies = match Vec::with_capacity(alloc, calls.len()) {
             Ok(replies) => replies,

@@ -16,6 +16,7 @@ ghost use Rattle.bike_core.specs.Steps.{reply_of};
 ghost use Rattle.bike_core.specs.Changes.{present};
 ghost use Rattle.bike_ledger.specs.Ledger.{credit, cash_in, earned};
 ghost use Rattle.bike_tables.specs.Stored.{AllLeft, Keeps};
+ghost use Rattle.bike_tables.specs.declared.rows.RowChange.TheVariants as change;
 ghost use Rattle.bike_desk.specs.Desk.{TreesStandForEither};
 ghost use Rattle.bike_desk.specs.Serving.{meta_of, Accepts, AreOf};
 
@@ -116,6 +117,20 @@ struct KeptTexts<'a> {
     reply: &'a str,
 }
 
+impl<'a> KeptTexts<'a> {
+    /// The change that adds their row.
+    fn row(&self) -> RowChange<'a>
+        ensures { result ≡ change.AddKept self.now.caller self.now.key self.now.command self.now.reply }
+    {
+        RowChange::AddKept {
+            caller: self.caller,
+            key: self.key,
+            command: self.command,
+            reply: self.reply,
+        }
+    }
+}
+
 /// Makes the change of an accepted request with the rows that follow from it, and keeps the request, all
 /// in one transaction.
 fn book<S: Alter>(
@@ -133,12 +148,7 @@ fn book<S: Alter>(
     ensures made { HasCleanDisk (state S.Store conn.new) → (s : Operator) (q : Request) → Keeps (state S.Store conn.old) s → meta.entry.now ≡ meta_of s → view.now ≡ view_of s q.command → Accepts s now q (change.now ∷ []) → AreOf kept.now q (reply_of s now q.command) → OnOk result (Keeps (state S.Store conn.new) (accepted s now q)) }
     ensures left { HasCleanDisk (state S.Store conn.new) → (s : Operator) (q : Request) → Keeps (state S.Store conn.old) s → meta.entry.now ≡ meta_of s → view.now ≡ view_of s q.command → Accepts s now q (change.now ∷ []) → AreOf kept.now q (reply_of s now q.command) → AllLeft (state S.Store conn.new) (TreesStandForEither s (accepted s now q)) }
 {
-    let kept = RowChange::AddKept {
-        caller: kept.caller,
-        key: kept.key,
-        command: kept.command,
-        reply: kept.reply,
-    };
+    let kept = kept.row();
     match change {
         Change::AddRider(rider) => {
             let row = RiderRow {
@@ -175,12 +185,12 @@ fn book<S: Alter>(
 }
 
 /// Serves a request whose key isn't kept, by a decision on what it names.
-fn serve_anew<S: Alter>(
+fn serve_anew<'a, S: Alter>(
     conn: &mut Connection<S>,
     moment: Moment,
-    request: &Request,
-    caller: &str,
-    text: &str,
+    request: &'a Request,
+    caller: &'a str,
+    text: &'a str,
 ) -> Result<Reply, StatementFault>
     requires outside { conn.old.in_transaction ≡ false }
     requires caller { caller.now ≡ caller_text request.now.caller }
@@ -198,18 +208,20 @@ fn serve_anew<S: Alter>(
     let now = moment.later(&meta.now);
     let _ = moment.seconds();
     request.bounds();
+    let key = request.key.as_str();
     match decide(&view, now, &request.command) {
         Err(refusal) => Ok(Reply::Refused(refusal)),
         Ok(accepted) => {
             let Some(change) = only_change(&accepted.changes) else {
                 return Err(StatementFault::StoreFailed);
             };
-            let reply = accepted.reply.text();
+            let spelled = accepted.reply.text();
+            let reply = spelled.as_str();
             let kept = KeptTexts {
                 caller,
-                key: request.key.as_str(),
+                key,
                 command: text,
-                reply: reply.as_str(),
+                reply,
             };
             book(conn, &meta, &view, now, &change, &kept)?;
             Ok(accepted.reply)

@@ -1,12 +1,10 @@
-use Rattle.std.proofs.Common.{◌≡◌, ℤ, ◌+ℤ◌, false, [], ◌∷◌, sym, ap, ◌∙◌, subst, subst₂}
-use Rattle.bike_ledger.specs.Ledger.{cash_in, earned}
+use Rattle.std.proofs.Common.{◌≡◌, false, [], ◌∷◌, subst}
 use Rattle.bike_commands.specs.declared.request.Request.{Request}
 use Rattle.bike_core.specs.Operator.{Operator}
 use Rattle.bike_core.specs.Runs.{accepted}
 use Rattle.bike_core.specs.Steps.{reply_of}
 use Rattle.bike_core.specs.View.{view_of}
 use Rattle.bike_tables.specs.declared.rows.RowChange.TheVariants as row
-use Rattle.bike_tables.specs.declared.rows.MetaRow.{MetaRow}
 use Rattle.bike_core.specs.Order.{IsInOrder}
 use Rattle.bike_desk.specs.Serving.{meta_of, Accepts, AreOf, LeadsTo}
 use Rattle.bike_desk.proofs.KeepLemmas.{order_of}
@@ -18,12 +16,11 @@ use Rattle.bike_desk.proofs.serve.book.Goals as goal
 rider_leads : (g : Over) (c : goal.After-make_all g) (s : Operator) (q : Request) → IsInOrder s → c.args.meta.now ≡ meta_of s → Accepts s c.args.now q (c.args.change.now ∷ []) → AreOf c.args.kept.now q (reply_of s c.args.now q.command)
     → LeadsTo (row.AddRider (record { rider = c.in-AddRider.rider; blocked = false; balance = c.new.result })
     ∷ row.SetMeta (record { now = c.args.now; cash = c.args.meta.now.cash; revenue = c.args.meta.now.revenue })
-    ∷ row.AddKept c.args.kept.now.caller c.args.kept.now.key c.args.kept.now.command c.args.kept.now.reply ∷ []) s (accepted s c.args.now q)
+    ∷ c.row-kept.result ∷ []) s (accepted s c.args.now q)
 rider_leads g c s q order is_meta accepts of =
     let kept = c.args.kept.now in
-    let changes = λ (z : ℤ) (m : MetaRow). row.AddRider (record { rider = c.in-AddRider.rider; blocked = false; balance = z }) ∷ row.SetMeta (record { now = c.args.now; cash = m.cash; revenue = m.revenue }) ∷ row.AddKept kept.caller kept.key kept.command kept.reply ∷ [] in
-    subst₂ (λ z m. LeadsTo (changes z m) s (accepted s c.args.now q)) (sym c.new.ensures) (sym is_meta)
-    (leads_rider s q c.args.now order c.in-AddRider.rider kept.caller kept.key kept.command kept.reply (subst (λ x. Accepts s c.args.now q (x ∷ [])) c.in-AddRider.is accepts) of.0 of.1 of.2 of.3)
+    leads_rider s q c.args.now order c.in-AddRider.rider kept.caller kept.key kept.command kept.reply c.new.result c.args.meta.now c.row-kept.result c.new.ensures is_meta c.row-kept.ensures
+    (subst (λ x. Accepts s c.args.now q (x ∷ [])) c.in-AddRider.is accepts) of.0 of.1 of.2 of.3
 
 pub returns-in-AddRider-clause-made : goal.returns-in-AddRider-clause-made
 returns-in-AddRider-clause-made g c clean s q keeps is_meta seen accepts of =
@@ -39,15 +36,11 @@ entry_leads : (g : Over) (c : goal.After-make_all-in-AddEntry g) (s : Operator) 
     → LeadsTo (row.AddEntry c.in-AddEntry.entry
     ∷ row.SetRider c.in-Some.row
     ∷ row.SetMeta c.in-Some-booked_meta.meta
-    ∷ row.AddKept c.args.kept.now.caller c.args.kept.now.key c.args.kept.now.command c.args.kept.now.reply ∷ []) s (accepted s c.args.now q)
+    ∷ c.row-kept.result ∷ []) s (accepted s c.args.now q)
 entry_leads g c s q order is_meta seen accepts of =
     let kept = c.args.kept.now in
-    let entry = c.in-AddEntry.entry in
-    let after = c.in-Some.row in
-    let changes = λ (m : MetaRow). row.AddEntry entry ∷ row.SetRider after ∷ row.SetMeta m ∷ row.AddKept kept.caller kept.key kept.command kept.reply ∷ [] in
-    let booked = c.in-Some-booked_meta.ensures ∙ ap (λ (m : MetaRow). let r : MetaRow = record { now = c.args.now; cash = m.cash +ℤ cash_in entry.kind entry.amount; revenue = m.revenue +ℤ earned entry.kind entry.amount } in r) is_meta in
-    subst (λ m. LeadsTo (changes m) s (accepted s c.args.now q)) (sym booked)
-    (leads_entry s q c.args.now order entry c.args.view.now after kept.caller kept.key kept.command kept.reply seen (subst (λ x. Accepts s c.args.now q (x ∷ [])) c.in-AddEntry.is accepts) c.in-Some.ensures of.0 of.1 of.2 of.3)
+    leads_entry s q c.args.now order c.in-AddEntry.entry c.args.view.now c.in-Some.row kept.caller kept.key kept.command kept.reply c.args.meta.now c.in-Some-booked_meta.meta c.row-kept.result is_meta c.in-Some-booked_meta.ensures c.row-kept.ensures
+    seen (subst (λ x. Accepts s c.args.now q (x ∷ [])) c.in-AddEntry.is accepts) c.in-Some.ensures of.0 of.1 of.2 of.3
 
 pub returns-in-Some-booked_meta-clause-made : goal.returns-in-Some-booked_meta-clause-made
 returns-in-Some-booked_meta-clause-made g c clean s q keeps is_meta seen accepts of =

@@ -40,7 +40,7 @@ returns-in_err-book-in-Ok-clause-failed g c clean s keeps anew =
     let moment : t ≤ last_moment = omega (arith, c.seconds.ensures.value, c.seconds.ensures.high) in
     let decides : Decides s now q.command (Ok c.in-Ok.accepted) = c.in-Ok.ensures s view.0 in
     let accepts = accepts_of s t q now later anew c.in-Ok.accepted c.in-Some.change moment c.bounds.ensures (order_of g.S.Store c.args.conn.now c.args.conn.now s keeps) decides c.in-Some.ensures in
-    let left = c.book.ensures.left clean s q view.1 meta.0 view.0 accepts (c.requires.caller, c.as_str.ensures.text, c.requires.text, c.as_str-in-Ok.ensures.value ∙ c.text-reply.ensures ∙ ap reply_text decides.1) in
+    let left = c.book.ensures.left clean s q view.1 meta.0 view.0 accepts (c.requires.caller, c.as_str-key.ensures.text, c.requires.text, c.as_str-reply.ensures.value ∙ c.text-spelled.ensures ∙ ap reply_text decides.1) in
     on_err _ (subst (λ (p : Reply × Operator). AllLeft (state g.S.Store c.book.new.conn) (TreesStandForEither s p.1)) (sym (step_accepted s t q now later anew decides.0)) left)
 
 pub returns-in_ok-book-in-Ok-clause-ok : goal.returns-in_ok-book-in-Ok-clause-ok
@@ -56,6 +56,6 @@ returns-in_ok-book-in-Ok-clause-ok g c clean s keeps anew =
     let moment : t ≤ last_moment = omega (arith, c.seconds.ensures.value, c.seconds.ensures.high) in
     let decides : Decides s now q.command (Ok c.in-Ok.accepted) = c.in-Ok.ensures s view.0 in
     let accepts = accepts_of s t q now later anew c.in-Ok.accepted c.in-Some.change moment c.bounds.ensures (order_of g.S.Store c.args.conn.now c.args.conn.now s keeps) decides c.in-Some.ensures in
-    let made = c.in_ok-book-in-Ok.ensures.made clean s q view.1 meta.0 view.0 accepts (c.requires.caller, c.as_str.ensures.text, c.requires.text, c.as_str-in-Ok.ensures.value ∙ c.text-reply.ensures ∙ ap reply_text decides.1) in
+    let made = c.in_ok-book-in-Ok.ensures.made clean s q view.1 meta.0 view.0 accepts (c.requires.caller, c.as_str-key.ensures.text, c.requires.text, c.as_str-reply.ensures.value ∙ c.text-spelled.ensures ∙ ap reply_text decides.1) in
     let step_is = step_accepted s t q now later anew decides.0 in
     (decides.1 ∙ sym (ap (λ (p : Reply × Operator). p.0) step_is), subst (λ (p : Reply × Operator). Keeps (state g.S.Store c.book.new.conn) p.1) (sym step_is) made)
