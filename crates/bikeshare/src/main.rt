@@ -2,8 +2,11 @@
 //! writes one answer line for each to standard output.
 #![tactic(auto)]
 
+ghost use Rattle.std.specs.Prelude.{◌≡◌};
+ghost use Rattle.bikeshare.specs.Faults.{message_of, status_of, fault_of};
+
 use bike_app::{LinesFault, run_lines};
-use bike_desk::{Desk, DeskFault};
+use bike_desk::{AdoptFault, Desk, DeskFault};
 use sqlite::Connection;
 use std::process::ExitCode;
 
@@ -17,7 +20,10 @@ enum Fault {
 }
 
 impl Fault {
-    fn message(self) -> &'static str {
+    /// What is told on standard error.
+    fn message(self) -> &'static str
+        ensures { result.now ≡ message_of self }
+    {
         match self {
             Fault::StoreFailed => "store failed",
             Fault::OutOfMemory => "out of memory",
@@ -26,7 +32,10 @@ impl Fault {
         }
     }
 
-    fn status(self) -> u8 {
+    /// The exit status.
+    fn status(self) -> u8
+        ensures { result ≡ status_of self }
+    {
         match self {
             Fault::StoreFailed => 3,
             Fault::OutOfMemory => 4,
@@ -36,7 +45,9 @@ impl Fault {
 }
 
 impl From<LinesFault> for Fault {
-    fn from(fault: LinesFault) -> Fault {
+    fn from(fault: LinesFault) -> Fault
+        ensures { result ≡ fault_of fault }
+    {
         match fault {
             LinesFault::Read => Fault::ReadFailed,
             LinesFault::Write => Fault::WriteFailed,
@@ -50,8 +61,12 @@ fn serve(rt: &HostRuntime) -> Result<(), Fault> {
     let Ok(conn) = Connection::open_in_memory(rt.alloc()) else {
         return Err(Fault::OutOfMemory);
     };
-    let Ok(mut desk) = Desk::adopt(conn) else {
-        return Err(Fault::StoreFailed);
+    let mut desk = match Desk::adopt(conn) {
+        Ok(desk) => desk,
+        Err(AdoptFault::NoMemory(_)) => return Err(Fault::OutOfMemory),
+        Err(AdoptFault::Foreign(_) | AdoptFault::StoreFailed(_)) => {
+            return Err(Fault::StoreFailed);
+        }
     };
     run_lines(rt.alloc(), &mut desk, &mut rt.stdin(), &mut rt.stdout())?;
     Ok(())
