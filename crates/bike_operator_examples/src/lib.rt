@@ -1,0 +1,13 @@
+//! Worked examples of the decisions on each command: refusals in their order, replies, entries and changes.
+//!
+//! The views are made by hand, and what is expected was worked out by hand, from the rules of the operator.
+#![tactic(auto)]
+
+#[cfg(test)]
+mod answers;
+#[cfg(test)]
+mod bounds;
+#[cfg(test)]
+mod rentals;
+#[cfg(test)]
+mod views;
