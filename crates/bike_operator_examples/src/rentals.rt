@@ -23,7 +23,7 @@ fn starting_station(mended: usize) -> Result<Option<StationView>, Fail> {
     if mended < 5 {
         return Ok(None);
     }
-    Ok(Some(station(true, mended >= 7, true)?))
+    Ok(Some(station(mended >= 7, true)?))
 }
 
 /// The bicycle in the dock of a start: none, disabled.
@@ -41,11 +41,13 @@ fn starting_bike(alloc: Global, mended: usize) -> Result<Option<DockedBike>, Fai
 
 /// A start with all its faults, of which so many are mended from the first on.
 fn starting(alloc: Global, mended: usize) -> Result<View, Fail> {
+    let station = starting_station(mended)?;
+    let docked = starting_bike(alloc, mended)?;
     Ok(View {
         rider: starting_rider(mended),
-        station: starting_station(mended)?,
+        station,
         is_dock_broken: mended < 8,
-        docked: starting_bike(alloc, mended)?,
+        docked,
         entries: if mended < 11 { 100_000_000 } else { 99_999_999 },
         ..nothing()
     })

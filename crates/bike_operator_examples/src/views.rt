@@ -1,4 +1,4 @@
-//! Views made by hand.
+//! Views made by hand, and the rows of which they are made.
 
 use bike_catalogue::{Plan, Segment};
 use bike_commands::OrderEnd;
@@ -42,40 +42,46 @@ fn number<const LO: u32, const HI: u32>(number: u32) -> Result<Within<LO, HI>, F
     Ok(Within::new(number).ok_or("a number within its bounds")?)
 }
 
+fn moment(seconds: u64) -> Result<Moment, Fail> {
+    Ok(Moment::new(seconds).ok_or("a moment")?)
+}
+
 fn ident(alloc: Global, text: &str) -> Result<Ident, Fail> {
     Ok(Ident::new(alloc, Field::Station, text)?)
 }
 
-/// A station of two docks with these flags.
-pub fn station(
-    is_installed: bool,
-    is_renting: bool,
-    is_returning: bool,
-) -> Result<StationView, Fail> {
+/// An installed station of two docks.
+pub fn station(is_renting: bool, is_returning: bool) -> Result<StationView, Fail> {
     Ok(StationView {
         docks: number(2)?,
-        is_installed,
+        is_installed: true,
         is_renting,
         is_returning,
     })
 }
 
-/// The bicycle of that number in a dock, of a type under plan basic.
+/// The bicycle in a dock, of a type under plan basic.
 pub fn docked(alloc: Global, bike: u32, state: BikeState) -> Result<DockedBike, Fail> {
-    Ok(DockedBike {
-        bike: number(bike)?,
-        state,
-        plan: ident(alloc, "basic")?,
-    })
+    let bike = number(bike)?;
+    let plan = ident(alloc, "basic")?;
+    Ok(DockedBike { bike, state, plan })
 }
 
-/// A bicycle of type city.
-pub fn bike(alloc: Global, state: BikeState, place: Place) -> Result<Bike, Fail> {
+/// A bicycle of that type.
+pub fn bike(alloc: Global, type_id: &str, state: BikeState, place: Place) -> Result<Bike, Fail> {
+    let type_id = ident(alloc, type_id)?;
     Ok(Bike {
-        type_id: ident(alloc, "city")?,
+        type_id,
         state,
         place,
     })
+}
+
+/// A dock of a station.
+pub fn in_dock(alloc: Global, station: &str, dock: u32) -> Result<Place, Fail> {
+    let dock = number(dock)?;
+    let station = ident(alloc, station)?;
+    Ok(Place::Dock { station, dock })
 }
 
 /// Rental 1.
@@ -83,11 +89,113 @@ pub fn in_rental() -> Result<Place, Fail> {
     Ok(Place::Rental { rental: number(1)? })
 }
 
-/// A rider who is neither blocked nor riding.
+/// A truck, for an order of it.
+pub fn on_truck(truck: u32, order: u32) -> Result<Place, Fail> {
+    Ok(Place::Truck {
+        truck: number(truck)?,
+        order: number(order)?,
+    })
+}
+
+/// A rider who may ride.
 pub fn rider(balance: &i64) -> RiderView {
     RiderView {
         is_blocked: false,
         balance: *balance,
         is_riding: false,
     }
+}
+
+/// The plan of one euro and then, from minute `start` on, so much every five minutes.
+pub fn plan(alloc: Global, start: u32, rate: i32) -> Result<Plan, Fail> {
+    let segments = [Segment::new(start, rate, 5, None)?];
+    let plan = Plan::new(alloc, "basic", "Basic", 100, false, "By time", &segments)?;
+    Ok(plan)
+}
+
+/// Closed by a recovery after half an hour, at 1.25.
+pub fn recovered() -> Result<Closing, Fail> {
+    Ok(Closing {
+        to_station: None,
+        finish: moment(START + 1800)?,
+        fare: 125,
+    })
+}
+
+/// Rental 1 of bicycle 7 from station a1, with the rider's balance and its refunds so far.
+pub fn rental(
+    alloc: Global,
+    rider: u32,
+    plan: Plan,
+    closing: Option<Closing>,
+    refunded: &i64,
+    balance: &i64,
+) -> Result<RentalView, Fail> {
+    let rental = Rental {
+        rider: number(rider)?,
+        bike: number(7)?,
+        plan: ident(alloc, "basic")?,
+        from_station: ident(alloc, "a1")?,
+        start: moment(START)?,
+        closing,
+    };
+    Ok(RentalView {
+        number: number(1)?,
+        rental,
+        plan,
+        refunded: *refunded,
+        balance: *balance,
+    })
+}
+
+/// A truck with so many bicycles on it.
+pub fn truck(capacity: u32, loaded: u32) -> Result<TruckView, Fail> {
+    Ok(TruckView {
+        capacity: number(capacity)?,
+        loaded,
+    })
+}
+
+/// The depot, written `*`, or a station.
+fn end_of(alloc: Global, text: &str) -> Result<OrderEnd, Fail> {
+    if text == "*" {
+        return Ok(OrderEnd::Depot);
+    }
+    Ok(OrderEnd::Station(ident(alloc, text)?))
+}
+
+/// How far an order is: how many bicycles it asks for, were delivered, and are on the truck for it.
+#[derive(Clone, Copy)]
+pub struct Progress {
+    pub count: u32,
+    pub delivered: u32,
+    pub on_truck: u32,
+    pub is_open: bool,
+}
+
+/// An order of bicycles of type city.
+pub fn order(
+    alloc: Global,
+    truck: u32,
+    from_end: &str,
+    to_end: &str,
+    progress: Progress,
+) -> Result<OrderView, Fail> {
+    let truck = number(truck)?;
+    let count = number(progress.count)?;
+    let from_end = end_of(alloc, from_end)?;
+    let to_end = end_of(alloc, to_end)?;
+    let order = Order {
+        truck,
+        from_end,
+        to_end,
+        type_id: ident(alloc, "city")?,
+        count,
+        delivered: progress.delivered,
+        is_open: progress.is_open,
+    };
+    Ok(OrderView {
+        order,
+        on_truck: progress.on_truck,
+    })
 }
