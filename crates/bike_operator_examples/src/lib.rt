@@ -8,6 +8,8 @@ mod answers;
 #[cfg(test)]
 mod bounds;
 #[cfg(test)]
-mod rentals;
+mod ends;
+#[cfg(test)]
+mod starts;
 #[cfg(test)]
 mod views;

@@ -106,45 +106,74 @@ pub fn rider(balance: &i64) -> RiderView {
     }
 }
 
-/// The plan of one euro and then, from minute `start` on, so much every five minutes.
-pub fn plan(alloc: Global, start: u32, rate: i32) -> Result<Plan, Fail> {
-    let segments = [Segment::new(start, rate, 5, None)?];
+/// What is told of rental 1, of bicycle 7 from station a1: its rider and the rider's balance, the rate of its plan from
+/// minute 30 on, whether it was recovered after half an hour at 1.25, its refunds
+/// so far, and how many entries there are.
+#[derive(Clone, Copy)]
+pub struct Ride {
+    pub rider: u32,
+    pub balance: i64,
+    pub rate: i32,
+    pub is_recovered: bool,
+    pub refunded: i64,
+    pub entries: u32,
+}
+
+/// Rider 17 rides, and paid in 25.00.
+pub const OPEN: Ride = Ride {
+    rider: 17,
+    balance: 2500,
+    rate: 25,
+    is_recovered: false,
+    refunded: 0,
+    entries: 1,
+};
+
+/// The plan of one euro and then the rate every five minutes.
+fn plan(alloc: Global, rate: i32) -> Result<Plan, Fail> {
+    let segments = [Segment::new(30, rate, 5, None)?];
     let plan = Plan::new(alloc, "basic", "Basic", 100, false, "By time", &segments)?;
     Ok(plan)
 }
 
-/// Closed by a recovery after half an hour, at 1.25.
-pub fn recovered() -> Result<Closing, Fail> {
-    Ok(Closing {
-        to_station: None,
-        finish: moment(START + 1800)?,
-        fare: 125,
+/// The rental of a ride.
+fn rental_of(alloc: Global, ride: &Ride) -> Result<Rental, Fail> {
+    let rider = number(ride.rider)?;
+    let bike = number(7)?;
+    let start = moment(START)?;
+    let finish = moment(START + 1800)?;
+    let plan = ident(alloc, "basic")?;
+    let from_station = ident(alloc, "a1")?;
+    let closing = if ride.is_recovered {
+        Some(Closing {
+            to_station: None,
+            finish,
+            fare: 125,
+        })
+    } else {
+        None
+    };
+    Ok(Rental {
+        rider,
+        bike,
+        plan,
+        from_station,
+        start,
+        closing,
     })
 }
 
-/// Rental 1 of bicycle 7 from station a1, with the rider's balance and its refunds so far.
-pub fn rental(
-    alloc: Global,
-    rider: u32,
-    plan: Plan,
-    closing: Option<Closing>,
-    refunded: &i64,
-    balance: &i64,
-) -> Result<RentalView, Fail> {
-    let rental = Rental {
-        rider: number(rider)?,
-        bike: number(7)?,
-        plan: ident(alloc, "basic")?,
-        from_station: ident(alloc, "a1")?,
-        start: moment(START)?,
-        closing,
-    };
+/// The rental of a ride, with its plan and sums.
+pub fn rental(alloc: Global, ride: &Ride) -> Result<RentalView, Fail> {
+    let number = number(1)?;
+    let plan = plan(alloc, ride.rate)?;
+    let rental = rental_of(alloc, ride)?;
     Ok(RentalView {
-        number: number(1)?,
+        number,
         rental,
         plan,
-        refunded: *refunded,
-        balance: *balance,
+        refunded: ride.refunded,
+        balance: ride.balance,
     })
 }
 

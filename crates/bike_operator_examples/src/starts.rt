@@ -1,4 +1,4 @@
-//! Rentals: started, ended, recovered and refunded.
+//! Starts of rentals.
 
 use crate::answers::outcome;
 use crate::views::{START, docked, nothing, station};
