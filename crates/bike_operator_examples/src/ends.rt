@@ -131,13 +131,13 @@ const FARES: [(u64, u64, Ride, &str); 5] = [
         START,
         1_699_990_000,
         OPEN,
-        "fare\t100\t2400; entry 2 Fare of 100 by rider 17 for rental 1 at 1700000000; rental 1 closed at a1 for 100; bike 7 in dock 1 of a1; a1 reports",
+        "fare\t100\t2400; entry 2 fare of 100 by rider 17 for rental 1 at 1700000000; rental 1 closed at a1 for 100; bike 7 in dock 1 of a1; a1 reports",
     ),
     (
         START,
         1_700_001_800,
         OPEN,
-        "fare\t125\t2375; entry 2 Fare of 125 by rider 17 for rental 1 at 1700001800; rental 1 closed at a1 for 125; bike 7 in dock 1 of a1; a1 reports",
+        "fare\t125\t2375; entry 2 fare of 125 by rider 17 for rental 1 at 1700001800; rental 1 closed at a1 for 125; bike 7 in dock 1 of a1; a1 reports",
     ),
     (
         1_700_001_800,
@@ -147,7 +147,7 @@ const FARES: [(u64, u64, Ride, &str); 5] = [
             entries: 2,
             ..OPEN
         },
-        "fare\t125\t2475; entry 3 Fare of 125 by rider 17 for rental 1 at 1700001800; rental 1 closed at a1 for 125; bike 7 in dock 1 of a1; a1 reports",
+        "fare\t125\t2475; entry 3 fare of 125 by rider 17 for rental 1 at 1700001800; rental 1 closed at a1 for 125; bike 7 in dock 1 of a1; a1 reports",
     ),
     (
         START,
@@ -157,13 +157,13 @@ const FARES: [(u64, u64, Ride, &str); 5] = [
             balance: 0,
             ..OPEN
         },
-        "fare\t100\t-100; entry 2 Fare of 100 by rider 18 for rental 1 at 1700000000; rental 1 closed at a1 for 100; bike 7 in dock 1 of a1; a1 reports",
+        "fare\t100\t-100; entry 2 fare of 100 by rider 18 for rental 1 at 1700000000; rental 1 closed at a1 for 100; bike 7 in dock 1 of a1; a1 reports",
     ),
     (
         START,
         1_700_001_800,
         Ride { rate: -200, ..OPEN },
-        "fare\t0\t2500; entry 2 Fare of 0 by rider 17 for rental 1 at 1700001800; rental 1 closed at a1 for 0; bike 7 in dock 1 of a1; a1 reports",
+        "fare\t0\t2500; entry 2 fare of 0 by rider 17 for rental 1 at 1700001800; rental 1 closed at a1 for 0; bike 7 in dock 1 of a1; a1 reports",
     ),
 ];
 

@@ -6,10 +6,28 @@
 #[cfg(test)]
 mod answers;
 #[cfg(test)]
+mod bicycles;
+#[cfg(test)]
 mod bounds;
+#[cfg(test)]
+mod catalogue;
+#[cfg(test)]
+mod changes;
 #[cfg(test)]
 mod ends;
 #[cfg(test)]
+mod orders;
+#[cfg(test)]
+mod refunds;
+#[cfg(test)]
+mod riders;
+#[cfg(test)]
 mod starts;
 #[cfg(test)]
+mod stations;
+#[cfg(test)]
+mod unloads;
+#[cfg(test)]
 mod views;
+#[cfg(test)]
+mod words;
