@@ -6,69 +6,49 @@ use bike_operator::{Bike, BikeState, DockedBike, Place, RentalView, StationView,
 use std::alloc::Global;
 use std::test::Fail;
 
-/// What of an end is known: nothing, the bicycle, its rental, the station.
-fn ending_bike(alloc: Global, known: u32) -> Result<Option<Bike>, Fail> {
-    if known < 1 {
+fn known_bike(alloc: Global, known: &str) -> Result<Option<Bike>, Fail> {
+    if !known.contains("bike") {
         return Ok(None);
     }
-    let place = if known < 2 {
-        Place::Depot
-    } else {
+    let place = if known.contains("rental") {
         in_rental()?
+    } else {
+        Place::Depot
     };
     Ok(Some(bike(alloc, "city", BikeState::Fit, place)?))
 }
 
-fn ending_rental(alloc: Global, known: u32, ride: &Ride) -> Result<Option<RentalView>, Fail> {
-    if known < 2 {
+fn known_rental(alloc: Global, known: &str, ride: &Ride) -> Result<Option<RentalView>, Fail> {
+    if !known.contains("rental") {
         return Ok(None);
     }
     Ok(Some(rental(alloc, ride)?))
 }
 
-fn ending_station(known: u32, is_returning: bool) -> Result<Option<StationView>, Fail> {
-    if known < 3 {
+fn known_station(known: &str) -> Result<Option<StationView>, Fail> {
+    if !known.contains("station") {
         return Ok(None);
     }
-    Ok(Some(station(true, is_returning)?))
+    Ok(Some(station(true, !known.contains("not returning"))?))
 }
 
 /// Another bicycle in the dock.
-fn other_bike(alloc: Global, is_full: bool) -> Result<Option<DockedBike>, Fail> {
-    if !is_full {
+fn other_bike(alloc: Global, known: &str) -> Result<Option<DockedBike>, Fail> {
+    if !known.contains("full") {
         return Ok(None);
     }
     Ok(Some(docked(alloc, 8, BikeState::Fit)?))
 }
 
-/// A dock: whether its station takes bicycles back, whether it is broken, whether a bicycle is in it.
-#[derive(Clone, Copy)]
-struct Dock {
-    is_returning: bool,
-    is_broken: bool,
-    is_full: bool,
-}
-
-const WORST: Dock = Dock {
-    is_returning: false,
-    is_broken: true,
-    is_full: true,
-};
-
-const FREE: Dock = Dock {
-    is_returning: true,
-    is_broken: false,
-    is_full: false,
-};
-
-fn ending(alloc: Global, known: u32, dock: Dock, ride: &Ride) -> Result<View, Fail> {
-    let station = ending_station(known, dock.is_returning)?;
-    let docked = other_bike(alloc, dock.is_full)?;
-    let bike = ending_bike(alloc, known)?;
-    let rental = ending_rental(alloc, known, ride)?;
+/// The view in which bicycle 7, its rental and the station are there, and a dock that is broken or full.
+fn knowing(alloc: Global, known: &str, ride: &Ride) -> Result<View, Fail> {
+    let station = known_station(known)?;
+    let docked = other_bike(alloc, known)?;
+    let bike = known_bike(alloc, known)?;
+    let rental = known_rental(alloc, known, ride)?;
     Ok(View {
         station,
-        is_dock_broken: dock.is_broken,
+        is_dock_broken: known.contains("broken"),
         docked,
         bike,
         rental,
@@ -79,48 +59,56 @@ fn ending(alloc: Global, known: u32, dock: Dock, ride: &Ride) -> Result<View, Fa
     })
 }
 
-const ENDS: [(u32, Dock, &str, &str); 9] = [
-    (0, WORST, "end\t7\ta1\t3", "refused\t3\tunknown_bike"),
-    (1, WORST, "end\t7\ta1\t3", "refused\t21\tnot_rented"),
-    (2, WORST, "end\t7\ta1\t3", "refused\t1\tunknown_station"),
-    (3, WORST, "end\t7\ta1\t3", "refused\t2\tunknown_dock"),
-    (3, WORST, "end\t7\ta1\t1", "refused\t17\tnot_returning"),
+const ENDS: [(&str, &str, &str); 9] = [
+    ("broken, full", "end\t7\ta1\t3", "refused\t3\tunknown_bike"),
     (
-        3,
-        Dock {
-            is_returning: true,
-            ..WORST
-        },
+        "bike, broken, full",
+        "end\t7\ta1\t3",
+        "refused\t21\tnot_rented",
+    ),
+    (
+        "bike, rental, broken, full",
+        "end\t7\ta1\t3",
+        "refused\t1\tunknown_station",
+    ),
+    (
+        "bike, rental, station not returning, broken, full",
+        "end\t7\ta1\t3",
+        "refused\t2\tunknown_dock",
+    ),
+    (
+        "bike, rental, station not returning, broken, full",
+        "end\t7\ta1\t1",
+        "refused\t17\tnot_returning",
+    ),
+    (
+        "bike, rental, station, broken, full",
         "end\t7\ta1\t1",
         "refused\t14\tdock_broken",
     ),
     (
-        3,
-        Dock {
-            is_broken: true,
-            ..FREE
-        },
+        "bike, rental, station, full",
+        "end\t7\ta1\t1",
+        "refused\t13\tdock_full",
+    ),
+    (
+        "bike, rental, station, broken",
         "end\t7\ta1\t2",
         "refused\t14\tdock_broken",
     ),
     (
-        3,
-        Dock {
-            is_full: true,
-            ..FREE
-        },
-        "end\t7\ta1\t1",
-        "refused\t13\tdock_full",
+        "bike, rental, station",
+        "end\t7\ta1\t3",
+        "refused\t2\tunknown_dock",
     ),
-    (3, FREE, "end\t7\ta1\t3", "refused\t2\tunknown_dock"),
 ];
 
 #[test]
 fn refuses_ends_in_order(rt: HostRuntime) -> Result<(), Fail> {
     let alloc = rt.alloc();
-    for (known, dock, command, answer) in ENDS {
-        let view = ending(alloc, known, dock, &OPEN)?;
-        assert_eq!(rt; outcome(alloc, &view, START, command)?.as_str(), answer);
+    for (known, command, answer) in ENDS.iter() {
+        let view = knowing(alloc, known, &OPEN)?;
+        assert_eq!(rt; outcome(alloc, &view, START, command)?.as_str(), *answer);
     }
     Ok(())
 }
@@ -171,7 +159,7 @@ const FARES: [(u64, u64, Ride, &str); 5] = [
 fn charges_rentals(rt: HostRuntime) -> Result<(), Fail> {
     let alloc = rt.alloc();
     for (kept, sent, ride, answer) in FARES {
-        let view = ending(alloc, 3, FREE, &ride)?;
+        let view = knowing(alloc, "bike, rental, station", &ride)?;
         let now = kept.max(sent);
         assert_eq!(rt;
             outcome(alloc, &view, now, "end\t7\ta1\t1")?.as_str(),

@@ -12,112 +12,71 @@ fn truck_there(is_there: bool, loaded: u32) -> Result<Option<TruckView>, Fail> {
     Ok(if is_there { Some(row) } else { None })
 }
 
-/// Whether the truck is there, the ends, the type, and how many orders there are.
-#[derive(Clone, Copy)]
-struct Known {
-    has_truck: bool,
-    has_from: bool,
-    has_to: bool,
-    has_type: bool,
-    orders: u32,
-    is_full: bool,
-}
-
-const NOTHING: Known = Known {
-    has_truck: false,
-    has_from: false,
-    has_to: false,
-    has_type: false,
-    orders: 10_000_000,
-    is_full: true,
-};
-
-const ENDS: Known = Known {
-    has_truck: true,
-    has_from: true,
-    has_to: true,
-    has_type: false,
-    orders: 10_000_000,
-    is_full: true,
-};
-
-const TYPE: Known = Known {
-    has_type: true,
-    ..ENDS
-};
-
-fn knowing(known: Known) -> Result<View, Fail> {
-    let truck = truck_there(known.has_truck, 0)?;
+/// The view in which the truck, the ends and the type are there, with all orders that there may be or with one, or in
+/// which no more trucks may be added.
+fn knowing(known: &str) -> Result<View, Fail> {
+    let truck = truck_there(known.contains("truck"), 0)?;
     Ok(View {
         truck,
-        has_from: known.has_from,
-        has_to: known.has_to,
-        has_type: known.has_type,
-        orders: known.orders,
-        is_full: known.is_full,
+        has_from: known.contains("from"),
+        has_to: known.contains("to"),
+        has_type: known.contains("type"),
+        orders: if known.contains("all") { 10_000_000 } else { 1 },
+        is_full: known.contains("full"),
         ..nothing()
     })
 }
 
-const ORDERS: [(Known, &str, &str); 12] = [
-    (TYPE, "add-truck\t3\t20", "refused\t10\talready_there"),
-    (NOTHING, "add-truck\t3\t20", "refused\t32\tlimit_reached"),
+const ORDERS: [(&str, &str, &str); 12] = [
     (
-        Known {
-            is_full: false,
-            ..NOTHING
-        },
+        "truck, full",
         "add-truck\t3\t20",
-        "ok; truck 3 for 20",
+        "refused\t10\talready_there",
     ),
+    ("full", "add-truck\t3\t20", "refused\t32\tlimit_reached"),
+    ("", "add-truck\t3\t20", "ok; truck 3 for 20"),
     (
-        NOTHING,
+        "all",
         "open-order\t3\ta1\ta1\tcity\t21",
         "refused\t8\tunknown_truck",
     ),
     (
-        Known {
-            has_truck: true,
-            ..NOTHING
-        },
+        "truck, to, all",
         "open-order\t3\ta1\ta1\tcity\t21",
         "refused\t1\tunknown_station",
     ),
     (
-        Known {
-            has_to: false,
-            ..ENDS
-        },
-        "open-order\t3\t*\tb2\tcity\t21",
+        "truck, from, all",
+        "open-order\t3\ta1\ta1\tcity\t21",
         "refused\t1\tunknown_station",
     ),
     (
-        ENDS,
+        "truck, from, to, all",
         "open-order\t3\ta1\ta1\tcity\t21",
         "refused\t36\twrong_truck_or_ends",
     ),
     (
-        ENDS,
+        "truck, from, to, all",
         "open-order\t3\t*\t*\tcity\t21",
         "refused\t36\twrong_truck_or_ends",
     ),
     (
-        ENDS,
+        "truck, from, to, all",
         "open-order\t3\ta1\t*\tcity\t21",
         "refused\t6\tunknown_type",
     ),
     (
-        TYPE,
+        "truck, from, to, type, all",
         "open-order\t3\ta1\t*\tcity\t21",
         "refused\t24\ttruck_too_small",
     ),
     (
-        TYPE,
+        "truck, from, to, type, all",
         "open-order\t3\ta1\t*\tcity\t20",
         "refused\t32\tlimit_reached",
     ),
     (
-        Known { orders: 1, ..TYPE },
+        "truck, from, to, type",
         "open-order\t3\ta1\t*\tcity\t20",
         "order\t2; order of truck 3 from a1 to * of 20 city",
     ),
@@ -126,9 +85,9 @@ const ORDERS: [(Known, &str, &str); 12] = [
 #[test]
 fn opens_orders(rt: HostRuntime) -> Result<(), Fail> {
     let alloc = rt.alloc();
-    for (known, command, answer) in ORDERS {
+    for (known, command, answer) in ORDERS.iter() {
         let view = knowing(known)?;
-        assert_eq!(rt; outcome(alloc, &view, START, command)?.as_str(), answer);
+        assert_eq!(rt; outcome(alloc, &view, START, command)?.as_str(), *answer);
     }
     Ok(())
 }

@@ -5,95 +5,66 @@ use crate::views::{START, nothing};
 use bike_operator::{RiderView, View};
 use std::test::Fail;
 
-/// What is known of rider 17, how many entries and open rentals there are, and whether no more riders may be added.
-#[derive(Clone, Copy)]
-struct Known {
-    rider: Option<RiderView>,
-    entries: u32,
-    open_rentals: u32,
-    is_full: bool,
-}
-
-const NOBODY: Known = Known {
-    rider: None,
-    entries: 0,
-    open_rentals: 0,
-    is_full: false,
-};
-
-const PAID: Known = Known {
-    rider: Some(RiderView {
+/// The balance of rider 17, who is there, is 25.00.
+fn known_rider(known: &str) -> Option<RiderView> {
+    if !known.contains("rider") {
+        return None;
+    }
+    Some(RiderView {
         is_blocked: false,
         balance: 2500,
         is_riding: false,
-    }),
-    entries: 1,
-    open_rentals: 0,
-    is_full: false,
-};
+    })
+}
 
-fn knowing(known: Known) -> View {
+/// The view in which the rider is there, in which no more may be added, or in which the ledger has room for one
+/// entry or for none.
+fn knowing(known: &str) -> View {
     View {
-        rider: known.rider,
-        entries: known.entries,
-        open_rentals: known.open_rentals,
-        is_full: known.is_full,
+        rider: known_rider(known),
+        entries: if known.contains("ledger") {
+            99_999_999
+        } else {
+            1
+        },
+        open_rentals: if known.contains("ledger full") { 1 } else { 0 },
+        is_full: known.contains("no room"),
         ..nothing()
     }
 }
 
-const RIDERS: [(Known, &str, &str); 10] = [
+const RIDERS: [(&str, &str, &str); 10] = [
     (
-        Known {
-            is_full: true,
-            ..PAID
-        },
+        "rider, no room",
         "add-rider\t17",
         "refused\t10\talready_there",
     ),
+    ("no room", "add-rider\t17", "refused\t32\tlimit_reached"),
+    ("", "add-rider\t17", "ok; rider 17 blocked false"),
+    ("", "set-rider\t17\tblocked", "refused\t4\tunknown_rider"),
     (
-        Known {
-            is_full: true,
-            ..NOBODY
-        },
-        "add-rider\t17",
-        "refused\t32\tlimit_reached",
-    ),
-    (NOBODY, "add-rider\t17", "ok; rider 17 blocked false"),
-    (
-        NOBODY,
+        "rider",
         "set-rider\t17\tblocked",
-        "refused\t4\tunknown_rider",
+        "ok; rider 17 blocked true",
     ),
-    (PAID, "set-rider\t17\tblocked", "ok; rider 17 blocked true"),
-    (PAID, "set-rider\t17\topen", "ok; rider 17 blocked false"),
+    ("rider", "set-rider\t17\topen", "ok; rider 17 blocked false"),
     (
-        Known {
-            entries: 100_000_000,
-            ..NOBODY
-        },
+        "ledger full",
         "top-up\t17\t100",
         "refused\t4\tunknown_rider",
     ),
     (
-        Known {
-            entries: 99_999_999,
-            open_rentals: 1,
-            ..PAID
-        },
+        "rider, ledger full",
         "top-up\t17\t100",
         "refused\t32\tlimit_reached",
     ),
     (
-        Known {
-            entries: 99_999_999,
-            ..PAID
-        },
+        "rider, ledger",
         "top-up\t17\t100",
         "balance\t2600; entry 100000000 top-up of 100 by rider 17 for rental 0 at 1700000000",
     ),
     (
-        PAID,
+        "rider",
         "top-up\t17\t100",
         "balance\t2600; entry 2 top-up of 100 by rider 17 for rental 0 at 1700000000",
     ),
@@ -102,9 +73,9 @@ const RIDERS: [(Known, &str, &str); 10] = [
 #[test]
 fn decides_on_riders(rt: HostRuntime) -> Result<(), Fail> {
     let alloc = rt.alloc();
-    for (known, command, answer) in RIDERS {
+    for (known, command, answer) in RIDERS.iter() {
         let view = knowing(known);
-        assert_eq!(rt; outcome(alloc, &view, START, command)?.as_str(), answer);
+        assert_eq!(rt; outcome(alloc, &view, START, command)?.as_str(), *answer);
     }
     Ok(())
 }
