@@ -2,15 +2,16 @@
 
 use crate::answers::outcome;
 use crate::views::{START, bike, in_dock, nothing};
+use crate::words::has;
 use bike_operator::{Bike, BikeState, Place, View};
 use std::alloc::Global;
 use std::test::Fail;
 
 fn state_of(known: &str) -> BikeState {
-    if known.contains("retired") {
+    if has(known, "retired") {
         return BikeState::Retired;
     }
-    if known.contains("disabled") {
+    if has(known, "disabled") {
         return BikeState::Disabled;
     }
     BikeState::Fit
@@ -18,10 +19,10 @@ fn state_of(known: &str) -> BikeState {
 
 /// Bicycle 7 where it is there, in dock 1 of station a1 or in the depot.
 fn bicycle(alloc: Global, known: &str) -> Result<Option<Bike>, Fail> {
-    if !known.contains("bike") {
+    if !has(known, "bike") {
         return Ok(None);
     }
-    let place = if known.contains("docked") {
+    let place = if has(known, "docked") {
         in_dock(alloc, "a1", 1)?
     } else {
         Place::Depot
@@ -34,8 +35,8 @@ fn knowing(alloc: Global, known: &str) -> Result<View, Fail> {
     let bike = bicycle(alloc, known)?;
     Ok(View {
         bike,
-        has_type: known.contains("type"),
-        is_full: known.contains("no room"),
+        has_type: has(known, "type"),
+        is_full: has(known, "no room"),
         ..nothing()
     })
 }

@@ -2,6 +2,7 @@
 
 use crate::answers::outcome;
 use crate::views::{START, nothing};
+use crate::words::has;
 use bike_operator::View;
 use std::test::Fail;
 
@@ -15,10 +16,10 @@ const ADD_TYPE: &str = "add-type\tcity\tCity\tbicycle\thuman\t0\tbasic";
 /// The view in which so much is there, or in which no more may be added.
 fn knowing(known: &str) -> View {
     View {
-        has_system: known.contains("system"),
-        has_plan: known.contains("plan"),
-        has_type: known.contains("type"),
-        is_full: known.contains("full"),
+        has_system: has(known, "system"),
+        has_plan: has(known, "plan"),
+        has_type: has(known, "type"),
+        is_full: has(known, "full"),
         ..nothing()
     }
 }

@@ -2,15 +2,16 @@
 
 use crate::answers::outcome;
 use crate::views::{OPEN, Ride, START, bike, docked, in_rental, nothing, rental, station};
+use crate::words::has;
 use bike_operator::{Bike, BikeState, DockedBike, Place, RentalView, StationView, View};
 use std::alloc::Global;
 use std::test::Fail;
 
 fn known_bike(alloc: Global, known: &str) -> Result<Option<Bike>, Fail> {
-    if !known.contains("bike") {
+    if !has(known, "bike") {
         return Ok(None);
     }
-    let place = if known.contains("rental") {
+    let place = if has(known, "rental") {
         in_rental()?
     } else {
         Place::Depot
@@ -19,22 +20,22 @@ fn known_bike(alloc: Global, known: &str) -> Result<Option<Bike>, Fail> {
 }
 
 fn known_rental(alloc: Global, known: &str, ride: &Ride) -> Result<Option<RentalView>, Fail> {
-    if !known.contains("rental") {
+    if !has(known, "rental") {
         return Ok(None);
     }
     Ok(Some(rental(alloc, ride)?))
 }
 
 fn known_station(known: &str) -> Result<Option<StationView>, Fail> {
-    if !known.contains("station") {
+    if !has(known, "station") {
         return Ok(None);
     }
-    Ok(Some(station(true, !known.contains("not returning"))?))
+    Ok(Some(station(true, !has(known, "not returning"))?))
 }
 
 /// Another bicycle in the dock.
 fn other_bike(alloc: Global, known: &str) -> Result<Option<DockedBike>, Fail> {
-    if !known.contains("full") {
+    if !has(known, "full") {
         return Ok(None);
     }
     Ok(Some(docked(alloc, 8, BikeState::Fit)?))
@@ -48,7 +49,7 @@ fn knowing(alloc: Global, known: &str, ride: &Ride) -> Result<View, Fail> {
     let rental = known_rental(alloc, known, ride)?;
     Ok(View {
         station,
-        is_dock_broken: known.contains("broken"),
+        is_dock_broken: has(known, "broken"),
         docked,
         bike,
         rental,

@@ -2,6 +2,7 @@
 
 use crate::answers::outcome;
 use crate::views::{Progress, START, bike, in_dock, nothing, order, truck};
+use crate::words::has;
 use bike_operator::{Bike, BikeState, OrderView, Place, TruckView, View};
 use std::alloc::Global;
 use std::test::Fail;
@@ -15,14 +16,14 @@ fn truck_there(is_there: bool, loaded: u32) -> Result<Option<TruckView>, Fail> {
 /// The view in which the truck, the ends and the type are there, with all orders that there may be or with one, or in
 /// which no more trucks may be added.
 fn knowing(known: &str) -> Result<View, Fail> {
-    let truck = truck_there(known.contains("truck"), 0)?;
+    let truck = truck_there(has(known, "truck"), 0)?;
     Ok(View {
         truck,
-        has_from: known.contains("from"),
-        has_to: known.contains("to"),
-        has_type: known.contains("type"),
-        orders: if known.contains("all") { 10_000_000 } else { 1 },
-        is_full: known.contains("full"),
+        has_from: has(known, "from"),
+        has_to: has(known, "to"),
+        has_type: has(known, "type"),
+        orders: if has(known, "all") { 10_000_000 } else { 1 },
+        is_full: has(known, "full"),
         ..nothing()
     })
 }

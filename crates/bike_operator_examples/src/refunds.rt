@@ -2,14 +2,15 @@
 
 use crate::answers::outcome;
 use crate::views::{OPEN, Ride, START, nothing, rental};
+use crate::words::has;
 use bike_operator::{RentalView, View};
 use std::alloc::Global;
 use std::test::Fail;
 
 /// The ride, open or recovered after half an hour at 1.25, with its fare kept or given back.
 fn ride_of(known: &str) -> Ride {
-    let is_recovered = !known.contains("open");
-    let is_refunded = known.contains("refunded");
+    let is_recovered = !has(known, "open");
+    let is_refunded = has(known, "refunded");
     Ride {
         balance: if is_recovered && !is_refunded {
             2375
@@ -23,7 +24,7 @@ fn ride_of(known: &str) -> Ride {
 }
 
 fn known_rental(alloc: Global, known: &str) -> Result<Option<RentalView>, Fail> {
-    if !known.contains("rental") {
+    if !has(known, "rental") {
         return Ok(None);
     }
     Ok(Some(rental(alloc, &ride_of(known))?))
@@ -36,11 +37,7 @@ fn knowing(alloc: Global, known: &str) -> Result<View, Fail> {
         rental,
         rentals: 1,
         open_rentals: 1,
-        entries: if known.contains("full") {
-            99_999_999
-        } else {
-            2
-        },
+        entries: if has(known, "full") { 99_999_999 } else { 2 },
         ..nothing()
     })
 }

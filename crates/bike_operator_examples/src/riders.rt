@@ -2,12 +2,13 @@
 
 use crate::answers::outcome;
 use crate::views::{START, nothing};
+use crate::words::has;
 use bike_operator::{RiderView, View};
 use std::test::Fail;
 
 /// The balance of rider 17, who is there, is 25.00.
 fn known_rider(known: &str) -> Option<RiderView> {
-    if !known.contains("rider") {
+    if !has(known, "rider") {
         return None;
     }
     Some(RiderView {
@@ -22,13 +23,9 @@ fn known_rider(known: &str) -> Option<RiderView> {
 fn knowing(known: &str) -> View {
     View {
         rider: known_rider(known),
-        entries: if known.contains("ledger") {
-            99_999_999
-        } else {
-            1
-        },
-        open_rentals: if known.contains("ledger full") { 1 } else { 0 },
-        is_full: known.contains("no room"),
+        entries: if has(known, "ledger") { 99_999_999 } else { 1 },
+        open_rentals: if has(known, "ledger full") { 1 } else { 0 },
+        is_full: has(known, "no room"),
         ..nothing()
     }
 }

@@ -2,6 +2,7 @@
 
 use crate::answers::outcome;
 use crate::views::{START, nothing, station};
+use crate::words::has;
 use bike_operator::View;
 use std::test::Fail;
 
@@ -9,12 +10,12 @@ use std::test::Fail;
 fn knowing(known: &str) -> Result<View, Fail> {
     let row = station(true, true)?;
     Ok(View {
-        station: if known.contains("station") {
+        station: if has(known, "station") {
             Some(row)
         } else {
             None
         },
-        is_full: known.contains("full"),
+        is_full: has(known, "full"),
         ..nothing()
     })
 }

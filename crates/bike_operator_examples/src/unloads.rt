@@ -4,6 +4,7 @@ use crate::answers::outcome;
 use crate::views::{
     Progress, START, bike, docked, in_dock, nothing, on_truck, order, station, truck,
 };
+use crate::words::has;
 use bike_operator::{Bike, BikeState, DockedBike, OrderView, TruckView, View};
 use std::alloc::Global;
 use std::test::Fail;
@@ -97,18 +98,18 @@ fn refuses_unloads_in_order(rt: HostRuntime) -> Result<(), Fail> {
 
 /// Order 3 of two bicycles from station b2 to the depot: both are on the truck, or one was delivered.
 fn progress_of(known: &str) -> Progress {
-    let is_loaded = known.contains("loaded");
+    let is_loaded = has(known, "loaded");
     Progress {
         count: 2,
         delivered: if is_loaded { 0 } else { 1 },
         on_truck: if is_loaded { 2 } else { 0 },
-        is_open: !known.contains("closed"),
+        is_open: !has(known, "closed"),
     }
 }
 
 /// A bicycle in dock 2 of station b2, or on the truck for the order.
 fn bicycle(alloc: Global, known: &str) -> Result<Bike, Fail> {
-    let place = if known.contains("docked") {
+    let place = if has(known, "docked") {
         in_dock(alloc, "b2", 2)?
     } else {
         on_truck(3, 3)?

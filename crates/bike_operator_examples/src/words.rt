@@ -1,4 +1,4 @@
-//! Words of texts: each a name or a number behind what it is of.
+//! Words of texts: names and numbers, each behind what it is of, and words that are looked for.
 
 use bike_fields::Ident;
 use bike_fixed::signed_text;
@@ -36,4 +36,9 @@ pub fn push_signed(out: &mut String, before: &str, amount: &i64) -> Result<(), A
 /// Writes a flag behind a text.
 pub fn push_flag(out: &mut String, before: &str, flag: bool) -> Result<(), AllocError> {
     push_text(out, before, if flag { "true" } else { "false" })
+}
+
+/// Whether the word is one of what is known.
+pub fn has(known: &str, word: &str) -> bool {
+    known.contains(word)
 }
