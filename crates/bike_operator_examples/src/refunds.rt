@@ -7,20 +7,33 @@ use bike_operator::{RentalView, View};
 use std::alloc::Global;
 use std::test::Fail;
 
+const RECOVERED: Ride = Ride {
+    rider: 17,
+    balance: 2375,
+    rate: 25,
+    is_recovered: true,
+    refunded: 0,
+    entries: 2,
+};
+
+const REFUNDED: Ride = Ride {
+    rider: 17,
+    balance: 2500,
+    rate: 25,
+    is_recovered: true,
+    refunded: 125,
+    entries: 3,
+};
+
 /// The ride, open or recovered after half an hour at 1.25, with its fare kept or given back.
 fn ride_of(known: &str) -> Ride {
-    let is_recovered = !has(known, "open");
-    let is_refunded = has(known, "refunded");
-    Ride {
-        balance: if is_recovered && !is_refunded {
-            2375
-        } else {
-            2500
-        },
-        is_recovered,
-        refunded: if is_refunded { 125 } else { 0 },
-        ..OPEN
+    if has(known, "open") {
+        return OPEN;
     }
+    if has(known, "refunded") {
+        return REFUNDED;
+    }
+    RECOVERED
 }
 
 fn known_rental(alloc: Global, known: &str) -> Result<Option<RentalView>, Fail> {
@@ -42,7 +55,7 @@ fn knowing(alloc: Global, known: &str) -> Result<View, Fail> {
     })
 }
 
-const RECOVERED: &str =
+const CHARGED: &str =
     "fare\t125\t2375; entry 3 fare of 125 by rider 17 for rental 1 at 1700001800; rental 1 recovered for 125; bike 7 in the depot; bike 7 disabled";
 
 const GIVEN_BACK: &str =
@@ -55,7 +68,7 @@ const RENTALS: [(&str, &str, &str); 9] = [
         "recover\t1",
         "refused\t35\trental_closed",
     ),
-    ("open rental", "recover\t1", RECOVERED),
+    ("open rental", "recover\t1", CHARGED),
     ("full", "refund\t1\t126", "refused\t5\tunknown_rental"),
     (
         "open rental, full",
