@@ -1,0 +1,230 @@
+//! Views made by hand, and the rows of which they are made.
+
+use bike_catalogue::{Plan, Segment};
+use bike_commands::OrderEnd;
+use bike_fields::{Field, Ident};
+use bike_fixed::{Moment, Within};
+use bike_operator::{
+    Bike, BikeState, Closing, DockedBike, Order, OrderView, Place, Rental, RentalView, RiderView,
+    StationView, TruckView, View,
+};
+use std::alloc::Global;
+use std::test::Fail;
+
+/// The moment at which rental 1 begins.
+pub const START: u64 = 1_700_000_000;
+
+/// The view in which nothing is there.
+pub fn nothing() -> View {
+    View {
+        has_system: false,
+        has_plan: false,
+        has_type: false,
+        has_from: false,
+        has_to: false,
+        is_full: false,
+        station: None,
+        is_dock_broken: false,
+        docked: None,
+        bike: None,
+        rental: None,
+        rider: None,
+        truck: None,
+        order: None,
+        rentals: 0,
+        open_rentals: 0,
+        orders: 0,
+        entries: 0,
+    }
+}
+
+fn number<const LO: u32, const HI: u32>(number: u32) -> Result<Within<LO, HI>, Fail> {
+    Ok(Within::new(number).ok_or("a number within its bounds")?)
+}
+
+fn moment(seconds: u64) -> Result<Moment, Fail> {
+    Ok(Moment::new(seconds).ok_or("a moment")?)
+}
+
+fn ident(alloc: Global, text: &str) -> Result<Ident, Fail> {
+    Ok(Ident::new(alloc, Field::Station, text)?)
+}
+
+/// An installed station of two docks.
+pub fn station(is_renting: bool, is_returning: bool) -> Result<StationView, Fail> {
+    Ok(StationView {
+        docks: number(2)?,
+        is_installed: true,
+        is_renting,
+        is_returning,
+    })
+}
+
+/// The bicycle in a dock, of a type under plan basic.
+pub fn docked(alloc: Global, bike: u32, state: BikeState) -> Result<DockedBike, Fail> {
+    let bike = number(bike)?;
+    let plan = ident(alloc, "basic")?;
+    Ok(DockedBike { bike, state, plan })
+}
+
+/// A bicycle of that type.
+pub fn bike(alloc: Global, type_id: &str, state: BikeState, place: Place) -> Result<Bike, Fail> {
+    let type_id = ident(alloc, type_id)?;
+    Ok(Bike {
+        type_id,
+        state,
+        place,
+    })
+}
+
+/// A dock of a station.
+pub fn in_dock(alloc: Global, station: &str, dock: u32) -> Result<Place, Fail> {
+    let dock = number(dock)?;
+    let station = ident(alloc, station)?;
+    Ok(Place::Dock { station, dock })
+}
+
+/// Rental 1.
+pub fn in_rental() -> Result<Place, Fail> {
+    Ok(Place::Rental { rental: number(1)? })
+}
+
+/// A truck, for an order of it.
+pub fn on_truck(truck: u32, order: u32) -> Result<Place, Fail> {
+    Ok(Place::Truck {
+        truck: number(truck)?,
+        order: number(order)?,
+    })
+}
+
+/// A rider who may ride.
+pub fn rider(balance: &i64) -> RiderView {
+    RiderView {
+        is_blocked: false,
+        balance: *balance,
+        is_riding: false,
+    }
+}
+
+/// What is told of rental 1, of bicycle 7 from station a1: its rider and the rider's balance, the rate of its plan from
+/// minute 30 on, whether it was recovered after half an hour at 1.25, its refunds
+/// so far, and how many entries there are.
+#[derive(Clone, Copy)]
+pub struct Ride {
+    pub rider: u32,
+    pub balance: i64,
+    pub rate: i32,
+    pub is_recovered: bool,
+    pub refunded: i64,
+    pub entries: u32,
+}
+
+/// Rider 17 rides, and paid in 25.00.
+pub const OPEN: Ride = Ride {
+    rider: 17,
+    balance: 2500,
+    rate: 25,
+    is_recovered: false,
+    refunded: 0,
+    entries: 1,
+};
+
+/// The plan of one euro and then the rate every five minutes.
+fn plan(alloc: Global, rate: i32) -> Result<Plan, Fail> {
+    let segments = [Segment::new(30, rate, 5, None)?];
+    let plan = Plan::new(alloc, "basic", "Basic", 100, false, "By time", &segments)?;
+    Ok(plan)
+}
+
+/// The rental of a ride.
+fn rental_of(alloc: Global, ride: &Ride) -> Result<Rental, Fail> {
+    let rider = number(ride.rider)?;
+    let bike = number(7)?;
+    let start = moment(START)?;
+    let finish = moment(START + 1800)?;
+    let plan = ident(alloc, "basic")?;
+    let from_station = ident(alloc, "a1")?;
+    let closing = if ride.is_recovered {
+        Some(Closing {
+            to_station: None,
+            finish,
+            fare: 125,
+        })
+    } else {
+        None
+    };
+    Ok(Rental {
+        rider,
+        bike,
+        plan,
+        from_station,
+        start,
+        closing,
+    })
+}
+
+/// The rental of a ride, with its plan and sums.
+pub fn rental(alloc: Global, ride: &Ride) -> Result<RentalView, Fail> {
+    let number = number(1)?;
+    let plan = plan(alloc, ride.rate)?;
+    let rental = rental_of(alloc, ride)?;
+    Ok(RentalView {
+        number,
+        rental,
+        plan,
+        refunded: ride.refunded,
+        balance: ride.balance,
+    })
+}
+
+/// A truck with so many bicycles on it.
+pub fn truck(capacity: u32, loaded: u32) -> Result<TruckView, Fail> {
+    Ok(TruckView {
+        capacity: number(capacity)?,
+        loaded,
+    })
+}
+
+/// The depot, written `*`, or a station.
+fn end_of(alloc: Global, text: &str) -> Result<OrderEnd, Fail> {
+    if text == "*" {
+        return Ok(OrderEnd::Depot);
+    }
+    Ok(OrderEnd::Station(ident(alloc, text)?))
+}
+
+/// How far an order is: how many bicycles it asks for, were delivered, and are on the truck for it.
+#[derive(Clone, Copy)]
+pub struct Progress {
+    pub count: u32,
+    pub delivered: u32,
+    pub on_truck: u32,
+    pub is_open: bool,
+}
+
+/// An order of bicycles of type city.
+pub fn order(
+    alloc: Global,
+    truck: u32,
+    from_end: &str,
+    to_end: &str,
+    progress: Progress,
+) -> Result<OrderView, Fail> {
+    let truck = number(truck)?;
+    let count = number(progress.count)?;
+    let from_end = end_of(alloc, from_end)?;
+    let to_end = end_of(alloc, to_end)?;
+    let order = Order {
+        truck,
+        from_end,
+        to_end,
+        type_id: ident(alloc, "city")?,
+        count,
+        delivered: progress.delivered,
+        is_open: progress.is_open,
+    };
+    Ok(OrderView {
+        order,
+        on_truck: progress.on_truck,
+    })
+}
