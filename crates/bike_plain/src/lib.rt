@@ -17,3 +17,6 @@ mod sums;
 
 pub use facts::{KeptFacts, StationFacts, TypeFacts};
 pub use plain::{Plain, small_law};
+
+#[cfg(test)]
+mod tests;
