@@ -13,9 +13,10 @@ mod refuse_catalogue;
 mod refuse_rentals;
 mod same;
 mod serving;
-mod step;
+mod steps;
 
 pub use serving::serve;
+pub use steps::step;
 
 #[cfg(test)]
 mod tests;

@@ -4,7 +4,7 @@ ghost use Rattle.std.specs.Prelude.{◌≡◌, IfOk};
 ghost use Rattle.bike_operator.specs.Operator.{no_operator};
 ghost use Rattle.bike_operator.specs.Runs.{replies};
 
-use crate::step::step;
+use crate::steps::step;
 use bike_commands::{Reply, Request};
 use bike_fixed::Moment;
 use bike_laws::{keeps_order, no_operator_law};

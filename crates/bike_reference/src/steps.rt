@@ -72,7 +72,7 @@ fn decide_on<'a>(
 }
 
 /// Serves a request that comes at a moment. After a want of memory nothing is known of the lists.
-pub(crate) fn step<'a>(
+pub fn step<'a>(
     lists: &mut Lists<'a>,
     alloc: Global,
     moment: Moment,

@@ -7,7 +7,7 @@ use Rattle.bike_operator.specs.Steps.{refused, effect, reply_of}
 use Rattle.bike_operator.specs.Runs.{key_in}
 use Rattle.bike_plain.specs.Stands.{Stands}
 use Rattle.bike_reference.proofs.KeptLemmas.{same_kept}
-use Rattle.bike_reference.proofs.step.decide_on.Goals as goal
+use Rattle.bike_reference.proofs.steps.decide_on.Goals as goal
 
 pub effect-requires-clause-accepted : goal.effect-requires-clause-accepted
 effect-requires-clause-accepted c =

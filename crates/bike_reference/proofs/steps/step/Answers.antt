@@ -1,5 +1,5 @@
 use Rattle.std.proofs.Common.{arith}
-use Rattle.bike_reference.proofs.step.step.Goals as goal
+use Rattle.bike_reference.proofs.steps.step.Goals as goal
 
 pub decide_on-requires-clause-ready : goal.decide_on-requires-clause-ready
 decide_on-requires-clause-ready c =
