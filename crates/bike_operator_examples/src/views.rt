@@ -5,8 +5,8 @@ use bike_commands::OrderEnd;
 use bike_fields::{Field, Ident};
 use bike_fixed::{Moment, Within};
 use bike_operator::{
-    Bike, BikeState, Closing, DockedBike, Order, OrderView, Place, Rental, RentalView, RiderView,
-    StationView, TruckView, View,
+    Bike, BikeState, Closing, DockedBike, Order, OrderView, Place, Rental, RentalView, StationView,
+    TruckView, View,
 };
 use std::alloc::Global;
 use std::test::Fail;
@@ -95,15 +95,6 @@ pub fn on_truck(truck: u32, order: u32) -> Result<Place, Fail> {
         truck: number(truck)?,
         order: number(order)?,
     })
-}
-
-/// A rider who may ride.
-pub fn rider(balance: &i64) -> RiderView {
-    RiderView {
-        is_blocked: false,
-        balance: *balance,
-        is_riding: false,
-    }
 }
 
 /// What is told of rental 1, of bicycle 7 from station a1: its rider and the rider's balance, the rate of its plan from
