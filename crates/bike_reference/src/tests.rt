@@ -1,7 +1,7 @@
 //! Lists of request lines, and what each line is answered.
 
 use crate::serving::serve;
-use bike_commands::Request;
+use bike_commands::{Refusal, Reply, Request};
 use bike_fixed::Moment;
 use bike_requests::read_line;
 use std::alloc::Global;
@@ -526,6 +526,47 @@ fn the_station_is_told_before_the_dock_and_that_before_the_bicycle(
                 "refused\t16\tnot_renting"
             ),
         ]
+    );
+    Ok(())
+}
+
+#[test]
+fn a_rental_keeps_the_plan_of_its_start(rt: HostRuntime) -> Result<(), Fail> {
+    answers!(
+        rt,
+        &[&NETWORK, &RIDER, &START],
+        &[
+            (
+                "1700000001\toffice\tk1\tadd-plan\tfree\tFree\t0\tfalse\tNothing\t-",
+                "ok"
+            ),
+            ("1700000001\toffice\tk2\tset-plan\tcity\tfree", "ok"),
+            ("1700001800\tdock:a1\tk3\tend\t7\ta1\t1", "fare\t125\t2375"),
+            ("1700001800\trider:17\tk4\tstart\t17\ta1\t1", "rental\t2\t7"),
+            ("1700003600\tdock:a1\tk5\tend\t7\ta1\t1", "fare\t0\t2375"),
+        ]
+    );
+    Ok(())
+}
+
+#[test]
+fn a_thirty_third_type_is_refused(rt: HostRuntime) -> Result<(), Fail> {
+    let alloc = rt.alloc();
+    let mut calls = Vec::new(alloc);
+    for line in NETWORK.get(..2).unwrap_or(&[]) {
+        calls.push(read(alloc, line)?)?;
+    }
+    for number in 1..34 {
+        let line = format!(in alloc;
+            "1700000000\toffice\tk{number}\tadd-type\tt{number}\tCity\tbicycle\thuman\t0\tbasic"
+        )?;
+        calls.push(read(alloc, line.as_str())?)?;
+    }
+    let replies = serve(alloc, calls.as_slice())?;
+    assert_eq!(rt; replies.get(33), Some(&Reply::Done));
+    assert_eq!(rt;
+        replies.get(34),
+        Some(&Reply::Refused(Refusal::LimitReached))
     );
     Ok(())
 }
