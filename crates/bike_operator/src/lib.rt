@@ -1,22 +1,14 @@
-//! The operator of a bike share: what it keeps, what it refuses, and what each command does.
+//! The operator of a bike share, defined: what it keeps, the order that it is in, its 22 commands with their tests, effects and
+//! replies, and the view by which a command is decided.
 //!
-//! `decide` answers, on the view of an operator, exactly the first refusal that holds, or else the reply
-//! and the changes that make the effect.
+//! The code here is data alone: the records, the view of an operator for a command, and the changes that a
+//! decision makes. Decisions stand above.
 #![tactic(auto)]
 
-mod booking;
 mod change;
-mod decide_bikes;
-mod decide_catalogue;
-mod decide_orders;
-mod decide_rentals;
-mod decide_riders;
-mod decision;
-mod places;
 mod records;
 mod view;
 
 pub use change::{Accepted, Change, Decision, NewPlace};
-pub use decision::decide;
 pub use records::{Bike, BikeState, Closing, Order, Place, Rental};
 pub use view::{DockedBike, OrderView, RentalView, RiderView, StationView, TruckView, View};

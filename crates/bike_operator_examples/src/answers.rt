@@ -8,7 +8,8 @@ use crate::words::{push_number, push_seconds, push_signed};
 use bike_commands::{Command, Reply};
 use bike_fixed::Moment;
 use bike_ledger::{Entry, EntryKind};
-use bike_operator::{View, decide};
+use bike_decisions::decide;
+use bike_operator::View;
 use bike_requests::read_command;
 use std::alloc::{AllocError, Global};
 

@@ -1,0 +1,285 @@
+//! Decisions on trucks and their orders.
+
+ghost use Rattle.std.specs.Prelude.{◌≡◌, ◌≤◌, ◌+◌, ℕ, List, Some, IfOk, IfSome};
+ghost use Rattle.bike_commands.specs.declared.command.Command.TheVariants as command;
+ghost use Rattle.bike_commands.specs.declared.command.OrderEnd.{OrderEnd};
+ghost use Rattle.bike_operator.specs.Operator.{Operator};
+ghost use Rattle.bike_operator.specs.View.{view_of};
+ghost use Rattle.bike_operator.specs.Steps.{first, tests, delivered, placed_at_end};
+ghost use Rattle.bike_operator.specs.Changes.{Decides, refusal_in, all_changed, present};
+ghost use Rattle.bike_operator.specs.Bounds.{IsBounded};
+
+use crate::booking::next_number;
+use crate::places::{end_at, ends_apart, is_at_end, is_loaded, is_retired, is_same_end, report_of};
+use bike_commands::{OrderEnd, Refusal, Reply, Side, UnloadDock};
+use bike_fields::{BicycleNumber, Ident, OrderNumber, OrderQuantity, TruckCapacity, TruckNumber};
+use bike_operator::{Accepted, Bike, Change, Decision, NewPlace, OrderView, View};
+
+/// There are at most this many orders.
+const MOST_ORDERS: u32 = 10_000_000;
+
+/// Decides on a new truck.
+pub(crate) fn decide_add_truck<'a>(
+    view: &View,
+    truck: TruckNumber,
+    capacity: TruckCapacity,
+) -> Decision<'a>
+    ensures { (s : Operator) (now : ℕ) → view.now ≡ view_of s (command.AddTruck truck capacity) → Decides s now (command.AddTruck truck capacity) result }
+{
+    if view.truck.is_some() {
+        return Err(Refusal::AlreadyThere);
+    }
+    if view.is_full {
+        return Err(Refusal::LimitReached);
+    }
+    Ok(Accepted::done(Change::AddTruck {
+        truck: truck.get(),
+        capacity: capacity.get(),
+    }))
+}
+
+/// The number of a new order, or the first refusal of it.
+fn check_open_order(
+    view: &View,
+    from_end: &OrderEnd,
+    to_end: &OrderEnd,
+    count: OrderQuantity,
+) -> Result<OrderNumber, Refusal>
+    ensures tests { (truck : ℕ) (type_id : List ℕ) → refusal_in result ≡ first (tests view.now (command.OpenOrder truck from_end.now to_end.now type_id count)) }
+    ensures number { IfOk result (λ n. n ≡ view.now.orders + 1) }
+{
+    let Some(truck) = &view.truck else {
+        return Err(Refusal::UnknownTruck);
+    };
+    if !view.has_from || !view.has_to {
+        return Err(Refusal::UnknownStation);
+    }
+    if is_same_end(from_end, to_end) {
+        return Err(Refusal::WrongTruckOrEnds);
+    }
+    if !view.has_type {
+        return Err(Refusal::UnknownType);
+    }
+    if truck.capacity.get() < count.get() {
+        return Err(Refusal::TruckTooSmall);
+    }
+    if view.orders >= MOST_ORDERS {
+        return Err(Refusal::LimitReached);
+    }
+    Ok(next_number(view.orders))
+}
+
+/// Decides on a new order of a truck.
+pub(crate) fn decide_open_order<'a>(
+    view: &View,
+    truck: TruckNumber,
+    from_end: &'a OrderEnd,
+    to_end: &'a OrderEnd,
+    type_id: &'a Ident,
+    count: OrderQuantity,
+) -> Decision<'a>
+    ensures { (s : Operator) (now : ℕ) → view.now ≡ view_of s (command.OpenOrder truck from_end.now to_end.now type_id.now count) → Decides s now (command.OpenOrder truck from_end.now to_end.now type_id.now count) result }
+{
+    let order = match check_open_order(view, from_end, to_end, count) {
+        Ok(order) => order,
+        Err(refusal) => return Err(refusal),
+    };
+    let opened = Change::AddOrder {
+        truck: truck.get(),
+        from_end,
+        to_end,
+        type_id,
+        count: count.get(),
+    };
+    Ok(Accepted {
+        reply: Reply::Ordered { order },
+        entry: None,
+        changes: [Some(opened), None, None, None],
+    })
+}
+
+/// The bicycle that is loaded, or the first refusal of loading it.
+fn check_load(view: &View, truck: TruckNumber) -> Result<&Bike, Refusal>
+    requires { IfSome view.now.order (λ o. o.order.delivered + o.on_truck ≤ o.order.count) }
+    ensures tests { (order bike : ℕ) → refusal_in result ≡ first (tests view.now (command.Load truck order bike)) }
+    ensures bike { IfOk result (λ b. view.now.bike ≡ Some b.now) }
+{
+    let Some(truck_row) = &view.truck else {
+        return Err(Refusal::UnknownTruck);
+    };
+    let Some(row) = &view.order else {
+        return Err(Refusal::UnknownOrder);
+    };
+    if !row.order.is_open {
+        return Err(Refusal::OrderClosed);
+    }
+    if row.order.truck.get() != truck.get() {
+        return Err(Refusal::WrongTruckOrEnds);
+    }
+    let Some(bike) = &view.bike else {
+        return Err(Refusal::UnknownBike);
+    };
+    if is_retired(bike.state) {
+        return Err(Refusal::BikeRetired);
+    }
+    if !is_at_end(&row.order.from_end, &bike.place) {
+        return Err(Refusal::WrongPlace);
+    }
+    if bike.type_id.as_str() != row.order.type_id.as_str() {
+        return Err(Refusal::WrongType);
+    }
+    if row.order.count.get() <= row.order.delivered + row.on_truck {
+        return Err(Refusal::OrderFilled);
+    }
+    if truck_row.capacity.get() <= truck_row.loaded {
+        return Err(Refusal::TruckFull);
+    }
+    Ok(bike)
+}
+
+/// Decides on loading a bicycle on a truck for an order.
+pub(crate) fn decide_load<'a>(
+    view: &'a View,
+    truck: TruckNumber,
+    order: OrderNumber,
+    bike: BicycleNumber,
+) -> Decision<'a>
+    requires { IfSome view.now.order (λ o. o.order.delivered + o.on_truck ≤ o.order.count) }
+    ensures { (s : Operator) (now : ℕ) → view.now ≡ view_of s (command.Load truck order bike) → Decides s now (command.Load truck order bike) result }
+{
+    let row = match check_load(view, truck) {
+        Ok(row) => row,
+        Err(refusal) => return Err(refusal),
+    };
+    let moved = Change::PlaceBike {
+        bike: bike.get(),
+        place: NewPlace::Truck {
+            truck: truck.get(),
+            order: order.get(),
+        },
+    };
+    Ok(Accepted {
+        reply: Reply::Done,
+        entry: None,
+        changes: [Some(moved), report_of(&row.place), None, None],
+    })
+}
+
+/// The order for which a bicycle is unloaded, or the first refusal of unloading it.
+fn check_unload(
+    view: &View,
+    truck: TruckNumber,
+    order: OrderNumber,
+    side: Side,
+    dock: UnloadDock,
+) -> Result<&OrderView, Refusal>
+    ensures tests { (bike : ℕ) → refusal_in result ≡ first (tests view.now (command.Unload truck order bike side dock)) }
+    ensures order { IfOk result (λ o. view.now.order ≡ Some o.now) }
+{
+    if view.truck.is_none() {
+        return Err(Refusal::UnknownTruck);
+    }
+    let Some(row) = &view.order else {
+        return Err(Refusal::UnknownOrder);
+    };
+    if !row.order.is_open {
+        return Err(Refusal::OrderClosed);
+    }
+    if row.order.truck.get() != truck.get() {
+        return Err(Refusal::WrongTruckOrEnds);
+    }
+    let Some(bike) = &view.bike else {
+        return Err(Refusal::UnknownBike);
+    };
+    if !is_loaded(truck, order, &bike.place) {
+        return Err(Refusal::WrongPlace);
+    }
+    if ends_apart(end_at(side, &row.order), &view.station, dock) {
+        return Err(Refusal::UnknownDock);
+    }
+    if view.is_dock_broken {
+        return Err(Refusal::DockBroken);
+    }
+    if view.docked.is_some() {
+        return Err(Refusal::DockFull);
+    }
+    Ok(row)
+}
+
+/// The changes that put a bicycle at an end of its order: at the end to which the order brings bicycles it is delivered.
+fn unload_changes<'a>(
+    order: OrderNumber,
+    bike: BicycleNumber,
+    side: Side,
+    end: &'a OrderEnd,
+    dock: UnloadDock,
+) -> [Option<Change<'a>>; 4]
+    ensures { (s : Operator) (now : ℕ) → all_changed now (present result) s ≡ delivered order side (placed_at_end bike end.now dock now s) }
+{
+    let bike = bike.get();
+    let (place, report) = match end {
+        OrderEnd::Depot => (NewPlace::Depot, None),
+        OrderEnd::Station(station) => (
+            NewPlace::Dock {
+                station,
+                dock: dock.get(),
+            },
+            Some(Change::Report { station }),
+        ),
+    };
+    let delivery = match side {
+        Side::From => None,
+        Side::To => Some(Change::Deliver { order: order.get() }),
+    };
+    [
+        Some(Change::PlaceBike { bike, place }),
+        report,
+        delivery,
+        None,
+    ]
+}
+
+/// Decides on unloading a bicycle at an end of its order.
+pub(crate) fn decide_unload<'a>(
+    view: &'a View,
+    truck: TruckNumber,
+    order: OrderNumber,
+    bike: BicycleNumber,
+    side: Side,
+    dock: UnloadDock,
+) -> Decision<'a>
+    ensures { (s : Operator) (now : ℕ) → view.now ≡ view_of s (command.Unload truck order bike side dock) → Decides s now (command.Unload truck order bike side dock) result }
+{
+    let row = match check_unload(view, truck, order, side, dock) {
+        Ok(row) => row,
+        Err(refusal) => return Err(refusal),
+    };
+    let end = end_at(side, &row.order);
+    Ok(Accepted {
+        reply: Reply::Done,
+        entry: None,
+        changes: unload_changes(order, bike, side, end, dock),
+    })
+}
+
+/// Decides on closing an order, which has no bicycle on its truck.
+pub(crate) fn decide_close_order<'a>(view: &View, order: OrderNumber) -> Decision<'a>
+    ensures { (s : Operator) (now : ℕ) → view.now ≡ view_of s (command.CloseOrder order) → Decides s now (command.CloseOrder order) result }
+{
+    let Some(
+        OrderView {
+            order: row,
+            on_truck,
+        },
+    ) = &view.order
+    else {
+        return Err(Refusal::UnknownOrder);
+    };
+    if !row.is_open {
+        return Err(Refusal::OrderClosed);
+    }
+    if *on_truck > 0 {
+        return Err(Refusal::BikesOnTruck);
+    }
+    Ok(Accepted::done(Change::CloseOrder { order: order.get() }))
+}

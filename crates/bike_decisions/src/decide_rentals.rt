@@ -1,0 +1,260 @@
+//! Decisions on rentals.
+
+ghost use Rattle.std.specs.Prelude.{◌≡◌, ◌≤◌, ◌<◌, ◌+◌, ◌≤ℤ◌, ℕ, List, Some, IfOk, IfSome, IsSome, true};
+ghost use Rattle.bike_commands.specs.declared.command.Command.TheVariants as command;
+ghost use Rattle.bike_operator.specs.Operator.{Operator};
+ghost use Rattle.bike_operator.specs.View.{view_of, most_entries};
+ghost use Rattle.bike_operator.specs.Steps.{first, tests};
+ghost use Rattle.bike_operator.specs.Changes.{Decides, refusal_in};
+ghost use Rattle.bike_operator.specs.Counts.{is_open};
+ghost use Rattle.bike_operator.specs.Bounds.{IsBounded, IsRefundable};
+
+use crate::booking::{
+    balance_reply, closing, ended_reply, fare_entry, is_ledger_full, is_too_much, next_number,
+};
+use crate::places::is_fit;
+use bike_commands::{Refusal, Reply};
+use bike_fields::{BicycleNumber, DockNumber, Ident, Payment, RentalNumber, RiderNumber};
+use bike_fixed::Moment;
+use bike_ledger::Entry;
+use bike_operator::{
+    Accepted, BikeState, Change, Decision, DockedBike, NewPlace, RentalView, View,
+};
+
+/// The bicycle that a rental takes from its dock, or the first refusal of a start.
+fn check_start(view: &View, dock: DockNumber) -> Result<&DockedBike, Refusal>
+    requires { view.now.entries + view.now.open_rentals ≤ most_entries }
+    ensures tests { (rider : ℕ) (station : List ℕ) → refusal_in result ≡ first (tests view.now (command.Start rider station dock)) }
+    ensures docked { IfOk result (λ b. view.now.docked ≡ Some b.now) }
+    ensures room { IfOk result (λ b. view.now.entries + view.now.open_rentals < most_entries) }
+{
+    let Some(rider) = &view.rider else {
+        return Err(Refusal::UnknownRider);
+    };
+    if rider.is_blocked {
+        return Err(Refusal::RiderBlocked);
+    }
+    if rider.balance < 0 {
+        return Err(Refusal::BalanceNegative);
+    }
+    if rider.is_riding {
+        return Err(Refusal::RiderIsRiding);
+    }
+    let Some(station) = &view.station else {
+        return Err(Refusal::UnknownStation);
+    };
+    if station.docks.get() < dock.get() {
+        return Err(Refusal::UnknownDock);
+    }
+    if !(station.is_installed && station.is_renting) {
+        return Err(Refusal::NotRenting);
+    }
+    if view.is_dock_broken {
+        return Err(Refusal::DockBroken);
+    }
+    let Some(docked) = &view.docked else {
+        return Err(Refusal::DockEmpty);
+    };
+    if !is_fit(docked.state) {
+        return Err(Refusal::BikeDisabled);
+    }
+    if is_ledger_full(view) {
+        return Err(Refusal::LimitReached);
+    }
+    Ok(docked)
+}
+
+/// Decides on the start of a rental of the bicycle in a dock.
+pub(crate) fn decide_start<'a>(
+    view: &'a View,
+    now: Moment,
+    rider: RiderNumber,
+    station: &'a Ident,
+    dock: DockNumber,
+) -> Decision<'a>
+    requires { IsBounded view.now now }
+    ensures { (s : Operator) → view.now ≡ view_of s (command.Start rider station.now dock) → Decides s now (command.Start rider station.now dock) result }
+{
+    let docked = match check_start(view, dock) {
+        Ok(docked) => docked,
+        Err(refusal) => return Err(refusal),
+    };
+    let rental = next_number(view.rentals);
+    let bike = docked.bike;
+    let opened = Change::AddRental {
+        rider: rider.get(),
+        bike: bike.get(),
+        plan: &docked.plan,
+        from_station: station,
+    };
+    let moved = Change::PlaceBike {
+        bike: bike.get(),
+        place: NewPlace::Rental {
+            rental: rental.get(),
+        },
+    };
+    Ok(Accepted {
+        reply: Reply::Started { rental, bike },
+        entry: None,
+        changes: [
+            Some(opened),
+            Some(moved),
+            Some(Change::Report { station }),
+            None,
+        ],
+    })
+}
+
+/// The rental that ends with its bicycle in a dock, or the first refusal of its end.
+fn check_end(view: &View, dock: DockNumber) -> Result<&RentalView, Refusal>
+    ensures tests { (bike : ℕ) (station : List ℕ) → refusal_in result ≡ first (tests view.now (command.End bike station dock)) }
+    ensures bike { IfOk result (λ r. IsSome view.now.bike) }
+    ensures rental { IfOk result (λ r. view.now.rental ≡ Some r.now) }
+{
+    if view.bike.is_none() {
+        return Err(Refusal::UnknownBike);
+    }
+    let Some(rental) = &view.rental else {
+        return Err(Refusal::NotRented);
+    };
+    let Some(station) = &view.station else {
+        return Err(Refusal::UnknownStation);
+    };
+    if station.docks.get() < dock.get() {
+        return Err(Refusal::UnknownDock);
+    }
+    if !(station.is_installed && station.is_returning) {
+        return Err(Refusal::NotReturning);
+    }
+    if view.is_dock_broken {
+        return Err(Refusal::DockBroken);
+    }
+    if view.docked.is_some() {
+        return Err(Refusal::DockFull);
+    }
+    Ok(rental)
+}
+
+/// Decides on the end of a bicycle's rental, at a dock.
+pub(crate) fn decide_end<'a>(
+    view: &View,
+    now: Moment,
+    bike: BicycleNumber,
+    station: &'a Ident,
+    dock: DockNumber,
+) -> Decision<'a>
+    requires { IsBounded view.now now }
+    ensures { (s : Operator) → view.now ≡ view_of s (command.End bike station.now dock) → Decides s now (command.End bike station.now dock) result }
+{
+    let row = match check_end(view, dock) {
+        Ok(row) => row,
+        Err(refusal) => return Err(refusal),
+    };
+    let entry = fare_entry(view.entries, row, now);
+    let closed = closing(row, Some(station), &entry);
+    let moved = Change::PlaceBike {
+        bike: bike.get(),
+        place: NewPlace::Dock {
+            station,
+            dock: dock.get(),
+        },
+    };
+    Ok(Accepted {
+        reply: ended_reply(view.entries, &row.balance, &entry),
+        entry: Some(entry),
+        changes: [
+            Some(closed),
+            Some(moved),
+            Some(Change::Report { station }),
+            None,
+        ],
+    })
+}
+
+/// The open rental, or the first refusal of a recovery.
+fn check_recover(view: &View) -> Result<&RentalView, Refusal>
+    ensures tests { (rental : ℕ) → refusal_in result ≡ first (tests view.now (command.Recover rental)) }
+    ensures rental { IfOk result (λ r. view.now.rental ≡ Some r.now) }
+    ensures is_open { IfOk result (λ r. is_open r.now.rental ≡ true) }
+{
+    let Some(row) = &view.rental else {
+        return Err(Refusal::UnknownRental);
+    };
+    if row.rental.closing.is_some() {
+        return Err(Refusal::RentalClosed);
+    }
+    Ok(row)
+}
+
+/// Decides on closing a rental whose bicycle was brought to the depot.
+pub(crate) fn decide_recover<'a>(view: &View, now: Moment, rental: RentalNumber) -> Decision<'a>
+    requires { IsBounded view.now now }
+    ensures { (s : Operator) → view.now ≡ view_of s (command.Recover rental) → Decides s now (command.Recover rental) result }
+{
+    let row = match check_recover(view) {
+        Ok(row) => row,
+        Err(refusal) => return Err(refusal),
+    };
+    let entry = fare_entry(view.entries, row, now);
+    let bike = row.rental.bike.get();
+    let closed = closing(row, None, &entry);
+    let moved = Change::PlaceBike {
+        bike,
+        place: NewPlace::Depot,
+    };
+    let disabled = Change::SetState {
+        bike,
+        state: BikeState::Disabled,
+    };
+    Ok(Accepted {
+        reply: ended_reply(view.entries, &row.balance, &entry),
+        entry: Some(entry),
+        changes: [Some(closed), Some(moved), Some(disabled), None],
+    })
+}
+
+/// The rental of a refund, or the first refusal of it.
+fn check_refund(view: &View, amount: Payment) -> Result<&RentalView, Refusal>
+    requires few { view.now.entries + view.now.open_rentals ≤ most_entries }
+    requires refunded { IfSome view.now.rental (λ r. IsRefundable r.refunded r.rental.closing) }
+    ensures tests { (rental : ℕ) → refusal_in result ≡ first (tests view.now (command.Refund rental amount)) }
+    ensures rental { IfOk result (λ r. view.now.rental ≡ Some r.now) }
+    ensures room { IfOk result (λ r. view.now.entries + view.now.open_rentals < most_entries) }
+{
+    let Some(row) = &view.rental else {
+        return Err(Refusal::UnknownRental);
+    };
+    let Some(closing) = &row.rental.closing else {
+        return Err(Refusal::RentalOpen);
+    };
+    if is_too_much(closing, &row.refunded, amount) {
+        return Err(Refusal::RefundTooLarge);
+    }
+    if is_ledger_full(view) {
+        return Err(Refusal::LimitReached);
+    }
+    Ok(row)
+}
+
+/// Decides on a refund to the rider of a closed rental.
+pub(crate) fn decide_refund<'a>(
+    view: &View,
+    now: Moment,
+    rental: RentalNumber,
+    amount: Payment,
+) -> Decision<'a>
+    requires { IsBounded view.now now }
+    ensures { (s : Operator) → view.now ≡ view_of s (command.Refund rental amount) → Decides s now (command.Refund rental amount) result }
+{
+    let row = match check_refund(view, amount) {
+        Ok(row) => row,
+        Err(refusal) => return Err(refusal),
+    };
+    let number = next_number(view.entries);
+    let entry = Entry::refund(number, row.rental.rider, row.number, amount, now);
+    Ok(Accepted {
+        reply: balance_reply(view.entries, &row.balance, &entry),
+        entry: Some(entry),
+        changes: [None, None, None, None],
+    })
+}

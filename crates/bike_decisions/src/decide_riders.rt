@@ -1,0 +1,72 @@
+//! Decisions on riders and their payments.
+
+ghost use Rattle.std.specs.Prelude.{◌≡◌, ℕ};
+ghost use Rattle.bike_commands.specs.declared.command.Command.TheVariants as command;
+ghost use Rattle.bike_operator.specs.Operator.{Operator};
+ghost use Rattle.bike_operator.specs.View.{view_of};
+ghost use Rattle.bike_operator.specs.Changes.{Decides};
+ghost use Rattle.bike_operator.specs.Bounds.{IsBounded};
+
+use crate::booking::{balance_reply, is_ledger_full, next_number};
+use bike_commands::Refusal;
+use bike_fields::{Payment, RiderNumber};
+use bike_fixed::Moment;
+use bike_ledger::Entry;
+use bike_operator::{Accepted, Change, Decision, View};
+
+/// Decides on a new rider.
+pub(crate) fn decide_add_rider<'a>(view: &View, rider: RiderNumber) -> Decision<'a>
+    ensures { (s : Operator) (now : ℕ) → view.now ≡ view_of s (command.AddRider rider) → Decides s now (command.AddRider rider) result }
+{
+    if view.rider.is_some() {
+        return Err(Refusal::AlreadyThere);
+    }
+    if view.is_full {
+        return Err(Refusal::LimitReached);
+    }
+    Ok(Accepted::done(Change::SetRider {
+        rider: rider.get(),
+        is_blocked: false,
+    }))
+}
+
+/// Decides on a rider who is blocked, or may ride again.
+pub(crate) fn decide_set_rider<'a>(
+    view: &View,
+    rider: RiderNumber,
+    is_blocked: bool,
+) -> Decision<'a>
+    ensures { (s : Operator) (now : ℕ) → view.now ≡ view_of s (command.SetRider rider is_blocked) → Decides s now (command.SetRider rider is_blocked) result }
+{
+    if view.rider.is_none() {
+        return Err(Refusal::UnknownRider);
+    }
+    Ok(Accepted::done(Change::SetRider {
+        rider: rider.get(),
+        is_blocked,
+    }))
+}
+
+/// Decides on a top-up: one entry.
+pub(crate) fn decide_top_up<'a>(
+    view: &View,
+    now: Moment,
+    rider: RiderNumber,
+    amount: Payment,
+) -> Decision<'a>
+    requires { IsBounded view.now now }
+    ensures { (s : Operator) → view.now ≡ view_of s (command.TopUp rider amount) → Decides s now (command.TopUp rider amount) result }
+{
+    let Some(row) = &view.rider else {
+        return Err(Refusal::UnknownRider);
+    };
+    if is_ledger_full(view) {
+        return Err(Refusal::LimitReached);
+    }
+    let entry = Entry::top_up(next_number(view.entries), rider, amount, now);
+    Ok(Accepted {
+        reply: balance_reply(view.entries, &row.balance, &entry),
+        entry: Some(entry),
+        changes: [None, None, None, None],
+    })
+}

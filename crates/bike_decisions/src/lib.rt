@@ -1,0 +1,16 @@
+//! Decisions on the commands of a bike share's operator.
+//!
+//! `decide` answers, on the view of an operator, exactly the first refusal that holds, or else the reply
+//! and the changes that make the effect. It takes no memory.
+#![tactic(auto)]
+
+mod booking;
+mod decide_bikes;
+mod decide_catalogue;
+mod decide_orders;
+mod decide_rentals;
+mod decide_riders;
+mod decision;
+mod places;
+
+pub use decision::decide;
