@@ -2,3 +2,4 @@ pub mod RowLemmas
 pub mod FoundLemmas
 pub mod ChangeLemmas
 pub mod StandsLemmas
+pub mod CountLemmas

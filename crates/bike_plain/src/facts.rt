@@ -1,4 +1,4 @@
-//! Records of the catalogue and of kept requests: copies that borrow their texts.
+//! Records of the catalogue and of kept requests: copies that borrow their texts; counts of a station.
 
 use arrayvec::ArrayString;
 use bike_catalogue::{Station, VehicleType};
@@ -41,4 +41,17 @@ pub struct KeptFacts<'a> {
     pub command: &'a Command,
     /// What it was answered.
     pub reply: Reply,
+}
+
+/// Counts of a station: its bicycles and docks as GBFS's `station_status` counts them.
+#[derive(Clone, Copy, Debug, PartialEq, Eq)]
+pub struct StationCounts {
+    /// How many bicycles can be rented.
+    pub available: u32,
+    /// How many others stand in its docks.
+    pub disabled: u32,
+    /// How many docks are empty and not broken.
+    pub docks_available: u32,
+    /// How many docks are broken.
+    pub docks_broken: u32,
 }

@@ -6,6 +6,7 @@
 mod change_bikes;
 mod change_catalogue;
 mod change_riders;
+mod counts;
 mod facts;
 mod find_bikes;
 mod find_catalogue;
@@ -15,7 +16,7 @@ mod plain;
 mod rows;
 mod sums;
 
-pub use facts::{KeptFacts, StationFacts, TypeFacts};
+pub use facts::{KeptFacts, StationCounts, StationFacts, TypeFacts};
 pub use plain::{Plain, small_law};
 
 #[cfg(test)]
