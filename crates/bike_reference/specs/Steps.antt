@@ -6,7 +6,7 @@ use Rattle.bike_commands.specs.declared.refusal.Refusal.{Refusal}
 use Rattle.bike_commands.specs.declared.reply.Reply.{Reply}
 use Rattle.bike_commands.specs.Commands.{IsCommand}
 use Rattle.bike_operator.specs.Operator.{Operator, no_operator}
-use Rattle.bike_operator.specs.Runs.{Call, replies}
+use Rattle.bike_operator.specs.Runs.{Call, after, replies}
 use Rattle.bike_operator.specs.Steps.{refused, effect, reply_of}
 use Rattle.bike_operator.specs.Order.{IsInOrder}
 use Rattle.bike_operator.specs.Bounds.{IsBounded, IsRentalWithin}
@@ -73,3 +73,10 @@ pub record IsServing (p : Plain) (answers : List Reply) (left all : List Call) :
   pub stands : Stands p operator
   pub in_order : IsInOrder operator
   pub answered : replies no_operator all ≡ answers ++ replies operator left
+
+-- Some requests are served, and the lists stand for an operator in order who, after those that are left, is the operator after all.
+pub record IsRunning (p : Plain) (left all : List Call) : Type 0 where
+  pub operator : Operator
+  pub stands : Stands p operator
+  pub in_order : IsInOrder operator
+  pub same : after operator left ≡ after no_operator all

@@ -15,7 +15,7 @@ mod same;
 mod serving;
 mod steps;
 
-pub use serving::serve;
+pub use serving::{lists_after, serve};
 pub use steps::step;
 
 #[cfg(test)]
