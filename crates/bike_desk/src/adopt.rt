@@ -18,7 +18,7 @@ use sqlite::{Alter, Connection};
 /// Why a connection wasn't adopted. Each fault hands it back.
 #[derive(Drop)]
 pub enum AdoptFault<S: Alter> {
-    /// The database has some of the product's tables. It is as it was.
+    /// The database has some of the product's tables, or a table with a foreign key. It is as it was.
     Foreign(Connection<S>),
     /// Memory was refused. What is stored stands for the empty operator.
     NoMemory(Connection<S>),
@@ -40,9 +40,9 @@ impl<S: Alter> AdoptFault<S> {
 }
 
 impl<S: Alter> Desk<S> {
-    /// Takes a connection outside a transaction whose database has none of the product's tables, and makes
-    /// them in one transaction: the desk begins with the operator of whom nothing was asked. Every other
-    /// database comes back as `Foreign`.
+    /// Takes a connection outside a transaction whose database has none of the product's tables, and no table
+    /// with a foreign key, and makes them in one transaction: the desk begins with the operator of whom
+    /// nothing was asked. Every other database comes back as `Foreign`.
     pub fn adopt(mut conn: Connection<S>) -> Result<Desk<S>, AdoptFault<S>>
         requires { conn.in_transaction ≡ false }
         ensures clean { MatchResult result (λ d. doubt (state S.Store conn).is_clean ≤ doubt (shown S.Store d).is_clean) (λ e. doubt (state S.Store conn).is_clean ≤ doubt (state S.Store (handed e)).is_clean) }
