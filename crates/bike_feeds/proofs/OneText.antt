@@ -1,5 +1,5 @@
 -- Each call keeps what was written a front of one value's text.
-use Rattle.std.proofs.Common.{◌≡◌, ℕ, List, [], ◌∷◌, ◌++◌, true, false, IsTrue, refl, sym, ◌∙◌, subst, append_assoc, append-nil}
+use Rattle.std.proofs.Common.{◌≡◌, ℕ, pos, List, [], ◌∷◌, ◌++◌, true, false, IsTrue, refl, sym, ◌∙◌, subst, append_assoc, append-nil}
 use Rattle.bike_feeds.specs.Tree.{Tree, object, array, whole, Members, no_members, member, Items, no_items, item, comma, text_of, members_text, items_text}
 use Rattle.bike_feeds.specs.Escapes.{quoted}
 use Rattle.bike_feeds.specs.Front.{BeginsText, IsText, Calls, none, value, name, begin_array, begin_object, end_array, end_object}
@@ -31,7 +31,7 @@ all : (b : List ℕ) → IsText b → BeginsText b
 all b h = (h.0, [], h.1 ∙ sym (append-nil b))
 
 stands_begins : (round : List Level) (top : Level) (b : List ℕ) → Stands round top b → BeginsText b
-stands_begins [] Start b s = begun b _ (all _ (s (whole 0)))
+stands_begins [] Start b s = begun b _ (all _ (s (whole (pos 0))))
 stands_begins [] Done b s = all b s
 stands_begins [] EmptyArray b s = absurd s
 stands_begins [] FilledArray b s = absurd s
@@ -44,7 +44,7 @@ stands_begins (outer ∷ round) EmptyArray b s = begun b _ (stands_begins round 
 stands_begins (outer ∷ round) FilledArray b s = begun b _ (stands_begins round outer _ (s no_items))
 stands_begins (outer ∷ round) EmptyObject b s = begun b _ (stands_begins round outer _ (s no_members))
 stands_begins (outer ∷ round) FilledObject b s = begun b _ (stands_begins round outer _ (s no_members))
-stands_begins (outer ∷ round) NamedObject b s = begun b _ (stands_begins round outer _ (s (whole 0) no_members))
+stands_begins (outer ∷ round) NamedObject b s = begun b _ (stands_begins round outer _ (s (whole (pos 0)) no_members))
 
 itemized : (b c t rest end : List ℕ) → b ++ ((c ++ (t ++ rest)) ++ end) ≡ (b ++ (c ++ t)) ++ (rest ++ end)
 itemized b c t rest end = simp append_assoc

@@ -1,7 +1,7 @@
 -- The rows that the tests write.
-use Rattle.std.specs.Prelude.{ℕ, codes}
+use Rattle.std.specs.Prelude.{ℤ, codes}
 use Rattle.bike_feeds.specs.Tree.{Tree, object, whole, no_members, member}
 
 -- a row with its number
-abbrev pub numbered : ℕ → Tree
-numbered n = object (member (codes "n") (whole n) no_members)
+abbrev pub numbered : ℤ → Tree
+numbered z = object (member (codes "n") (whole z) no_members)

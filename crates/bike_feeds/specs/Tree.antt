@@ -1,5 +1,6 @@
 -- JSON values and their texts (RFC 8259): no space between tokens, no line end.
-use Rattle.std.specs.Prelude.{ℕ, ℤ, List, [], ◌∷◌, ◌++◌, Bool, true, false, decimal}
+use Rattle.std.specs.Prelude.{ℕ, ℤ, List, [], ◌∷◌, ◌++◌, Bool, true, false}
+use Rattle.std.specs.Fmt.{signed_decimal}
 use Rattle.bike_fixed.specs.Text.{cents_text, micro_text}
 use Rattle.bike_feeds.specs.Escapes.{quoted}
 
@@ -9,7 +10,7 @@ mutual
     object : Members → Tree
     array : Items → Tree
     text : List ℕ → Tree
-    whole : ℕ → Tree
+    whole : ℤ → Tree
     cents : ℤ → Tree
     micro : ℤ → Tree
     flag : Bool → Tree
@@ -40,7 +41,7 @@ abbrev mutual
   text_of (object members) = 123 ∷ (members_text false members ++ 125 ∷ [])
   text_of (array items) = 91 ∷ (items_text false items ++ 93 ∷ [])
   text_of (text bytes) = quoted bytes
-  text_of (whole n) = decimal n
+  text_of (whole z) = signed_decimal z
   text_of (cents z) = cents_text z
   text_of (micro z) = micro_text z
   text_of (flag b) = flag_text b

@@ -1,6 +1,7 @@
 //! Where a JSON text stands, and the calls that write it.
 
-ghost use Rattle.std.specs.Prelude.{◌≡◌, ◌<◌, ◌++◌, ◌∷◌, [], IsTrue, length, true, not, is_ok, cond, decimal};
+ghost use Rattle.std.specs.Prelude.{◌≡◌, ◌<◌, ◌++◌, ◌∷◌, [], IsTrue, length, true, not, is_ok, cond};
+ghost use Rattle.std.specs.Fmt.{signed_decimal};
 ghost use Rattle.bike_fixed.specs.Text.{cents_text, micro_text};
 ghost use Rattle.bike_feeds.specs.Escapes.{escaped, quoted};
 ghost use Rattle.bike_feeds.specs.Tree.{comma, flag_text};
@@ -150,10 +151,10 @@ impl JsonState {
         self.settle(before)
     }
 
-    /// A whole number.
-    pub fn whole<W: Write>(&mut self, out: &mut W, number: u64) -> Result<(), WriteFault>
+    /// A whole number, with a `-` exactly below zero and no leading zero.
+    pub fn whole<W: Write>(&mut self, out: &mut W, number: i64) -> Result<(), WriteFault>
         requires { IsTrue (takes_value self.old.top) }
-        ensures wrote { Wrote self.old self.new (W.contents out.old) (W.contents out.new) (comma (has_more self.old.top) ++ decimal number) }
+        ensures wrote { Wrote self.old self.new (W.contents out.old) (W.contents out.new) (comma (has_more self.old.top) ++ signed_decimal number) }
         ensures place { IsAt self.new (after_value self.old.top) self.old.round }
         ensures count { self.new.failed ≡ true → self.new.count ≡ self.old.count }
         ensures outcome { is_ok result ≡ not self.new.failed }

@@ -39,7 +39,7 @@ const NAME: &str = "a\"\\\u{8}\t\n\u{c}\r\u{1f}\0/\u{7f}\u{e9}\u{20ac}\u{1f6b2}"
 
 /// What RFC 8259 makes of the calls of `write_text`.
 const TEXT: &str =
-    "{\"a\\\"\\\\\\b\\t\\n\\f\\r\\u001f\\u0000/\u{7f}\u{e9}\u{20ac}\u{1f6b2}\":\"\",\"n\":[0,18446744073709551615,-0.25,0.00,-92233720368547758.08,-0.000001,180.000000,true,false,{},[[]]]}";
+    "{\"a\\\"\\\\\\b\\t\\n\\f\\r\\u001f\\u0000/\u{7f}\u{e9}\u{20ac}\u{1f6b2}\":\"\",\"n\":[-1,-100,-9223372036854775808,0,9223372036854775807,-0.25,0.00,-92233720368547758.08,-0.000001,180.000000,true,false,{},[[]]]}";
 
 /// Makes every kind of call; gives the outcome of the last, the count and the writer.
 fn write_text<W: Write + Drop>(out: W) -> (Result<(), WriteFault>, u64, W) {
@@ -49,8 +49,11 @@ fn write_text<W: Write + Drop>(out: W) -> (Result<(), WriteFault>, u64, W) {
     let _ = json.text("");
     let _ = json.name("n");
     let _ = json.begin_array();
+    let _ = json.whole(-1);
+    let _ = json.whole(-100);
+    let _ = json.whole(i64::MIN);
     let _ = json.whole(0);
-    let _ = json.whole(u64::MAX);
+    let _ = json.whole(i64::MAX);
     let _ = json.cents(Cents::new(-25));
     let _ = json.cents(Cents::new(0));
     let _ = json.cents(Cents::new(i64::MIN));
@@ -94,8 +97,10 @@ fn is_read_back(rt: HostRuntime) -> Result<(), Fail> {
     let value = Value::from_str(rt.alloc(), TEXT)?;
     assert_eq!(rt; value.get(NAME).and_then(Value::as_str), Some(""));
     let numbers = value.get("n").and_then(Value::as_array).ok_or("an array")?;
-    assert_eq!(rt; numbers.len(), 11);
-    assert_eq!(rt; numbers.get(1).and_then(Value::as_u64), Some(u64::MAX));
+    assert_eq!(rt; numbers.len(), 14);
+    for (i, number) in [-1, -100, i64::MIN, 0, i64::MAX].iter().enumerate() {
+        assert_eq!(rt; numbers.get(i).and_then(Value::as_i64), Some(*number));
+    }
     Ok(())
 }
 
@@ -120,14 +125,14 @@ fn stops_at_each_byte(rt: HostRuntime) -> Result<(), Fail> {
 /// Gives the numbers, and fails after them where it is to.
 #[derive(Drop)]
 struct Numbers<'a> {
-    numbers: &'a [u64],
+    numbers: &'a [i64],
     fails: bool,
 }
 
 impl<'a> RowSource for Numbers<'a> {
     ghost left = { λ n. n.numbers.now };
 
-    fn next(&mut self) -> Result<Option<u64>, RowFault> {
+    fn next(&mut self) -> Result<Option<i64>, RowFault> {
         match self.numbers.split_first() {
             Some((first, rest)) => {
                 self.numbers = rest;
@@ -142,7 +147,7 @@ impl<'a> RowSource for Numbers<'a> {
 #[test]
 fn writes_many_rows(rt: HostRuntime) -> Result<(), Fail> {
     let mut rows = Vec::new(rt.alloc());
-    for row in 0..5000u64 {
+    for row in 0..5000i64 {
         rows.push(row)?;
     }
     let numbers = rows.as_slice();
@@ -155,6 +160,23 @@ fn writes_many_rows(rt: HostRuntime) -> Result<(), Fail> {
     let text = buffer.into_inner();
     assert_eq!(rt; text.len() as u64, count);
     assert!(rt; text.as_slice().starts_with(b"[{\"n\":0},{\"n\":1},"));
+    Ok(())
+}
+
+/// Rows whose numbers stand below zero, at it and above it, to the ends of their range.
+const SIGNED_ROWS: &str =
+    "[{\"n\":-1},{\"n\":-100},{\"n\":-9223372036854775808},{\"n\":0},{\"n\":9223372036854775807}]";
+
+#[test]
+fn writes_numbers_below_zero(rt: HostRuntime) -> Result<(), Fail> {
+    let mut out = Vec::new(rt.alloc());
+    let mut source = Numbers {
+        numbers: &[-1, -100, i64::MIN, 0, i64::MAX],
+        fails: false,
+    };
+    let outcome = write_report(&mut out, &mut source);
+    assert_eq!(rt; out.as_slice(), SIGNED_ROWS.as_bytes());
+    assert_eq!(rt; outcome, Ok(SIGNED_ROWS.len() as u64));
     Ok(())
 }
 

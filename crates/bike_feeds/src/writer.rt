@@ -1,6 +1,7 @@
 //! A JSON text and the writer that it goes to.
 
-ghost use Rattle.std.specs.Prelude.{◌≡◌, ◌<◌, ◌++◌, ◌∷◌, [], IsTrue, length, true, not, is_ok, decimal};
+ghost use Rattle.std.specs.Prelude.{◌≡◌, ◌<◌, ◌++◌, ◌∷◌, [], IsTrue, length, true, not, is_ok};
+ghost use Rattle.std.specs.Fmt.{signed_decimal};
 ghost use Rattle.bike_fixed.specs.Text.{cents_text, micro_text};
 ghost use Rattle.bike_feeds.specs.Escapes.{quoted};
 ghost use Rattle.bike_feeds.specs.Tree.{comma, flag_text};
@@ -129,10 +130,10 @@ impl<W: Write + Drop> JsonWriter<W> {
         self.state.text(&mut self.out, text)
     }
 
-    /// A whole number.
-    pub fn whole(&mut self, number: u64) -> Result<(), WriteFault>
+    /// A whole number, with a `-` exactly below zero and no leading zero.
+    pub fn whole(&mut self, number: i64) -> Result<(), WriteFault>
         requires { IsTrue (takes_value self.old.place.top) }
-        ensures wrote { Wrote self.old.place self.new.place self.old.contents self.new.contents (comma (has_more self.old.place.top) ++ decimal number) }
+        ensures wrote { Wrote self.old.place self.new.place self.old.contents self.new.contents (comma (has_more self.old.place.top) ++ signed_decimal number) }
         ensures place { IsAt self.new.place (after_value self.old.place.top) self.old.place.round }
         ensures count { self.new.place.failed ≡ true → self.new.place.count ≡ self.old.place.count }
         ensures outcome { is_ok result ≡ not self.new.place.failed }

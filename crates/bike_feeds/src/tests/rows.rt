@@ -1,5 +1,5 @@
 //! An array of rows from a source that may fail: the form of every function that writes a feed.
-ghost use Rattle.std.specs.Prelude.{◌≡◌, ◌<◌, ◌++◌, ◌∷◌, [], ℕ, List, false, IsTrue, length, IfOk, OnOk, OnErr, MatchOption};
+ghost use Rattle.std.specs.Prelude.{◌≡◌, ◌<◌, ◌++◌, ◌∷◌, [], ℤ, List, false, IsTrue, length, IfOk, OnOk, OnErr, MatchOption};
 ghost use Rattle.std.specs.Io.KnownBytes.{Appends};
 ghost use Rattle.bike_stream.specs.Writing.{AppendsFront};
 ghost use Rattle.bike_feeds.specs.Example.{numbered};
@@ -25,13 +25,13 @@ pub enum ReportFault {
 /// Rows that come one at a time.
 pub trait RowSource {
     // the rows that are to come
-    ghost left: { Self → List ℕ };
+    ghost left: { Self → List ℤ };
 
-    fn next(&mut self) -> Result<Option<u64>, RowFault>
+    fn next(&mut self) -> Result<Option<i64>, RowFault>
         ensures rows { IfOk result (λ row. MatchOption row (left self.old ≡ []) (λ number. left self.old ≡ number ∷ left self.new)) };
 }
 
-fn write_row<W: Write>(json: &mut JsonState, out: &mut W, number: u64)
+fn write_row<W: Write>(json: &mut JsonState, out: &mut W, number: i64)
     requires value { IsTrue (takes_value json.old.top) }
     requires room { length json.old.round < 16 }
     ensures wrote { Wrote json.old json.new (W.contents out.old) (W.contents out.new) (comma (has_more json.old.top) ++ text_of (numbered number)) }

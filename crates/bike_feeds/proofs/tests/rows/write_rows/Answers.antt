@@ -1,7 +1,11 @@
+use Rattle.std.proofs.Common.{rules, w64, FitsSigned}
+use Rattle.std.proofs.lemmas.Int.{to_z-of_z}
 use Rattle.bike_feeds.specs.Example.{numbered}
 use Rattle.bike_feeds.proofs.Rows.{rows_next}
 use Rattle.bike_feeds.proofs.tests.rows.write_rows.Goals as goal
 
 pub loop-row-preserved : goal.loop-row-preserved
 loop-row-preserved g c =
-    rows_next numbered c.loop-row.invariant (rw c.in-Some.is at c.in_ok-row.ensures.rows) c.write_row.ensures.wrote c.write_row.ensures.place
+    let fits : FitsSigned w64 c.in-Some.row = search rules in
+    let wrote = rw (to_z-of_z w64 c.in-Some.row fits) at c.write_row.ensures.wrote in
+    rows_next numbered c.loop-row.invariant (rw c.in-Some.is at c.in_ok-row.ensures.rows) wrote c.write_row.ensures.place
