@@ -91,10 +91,9 @@ pub fn in_rental() -> Result<Place, Fail> {
 
 /// A truck, for an order of it.
 pub fn on_truck(truck: u32, order: u32) -> Result<Place, Fail> {
-    Ok(Place::Truck {
-        truck: number(truck)?,
-        order: number(order)?,
-    })
+    let truck = number(truck)?;
+    let order = number(order)?;
+    Ok(Place::Truck { truck, order })
 }
 
 /// What is told of rental 1, of bicycle 7 from station a1: its rider and the rider's balance, the rate of its plan from
