@@ -17,6 +17,3 @@ mod steps;
 
 pub use serving::{lists_after, serve};
 pub use steps::step;
-
-#[cfg(test)]
-mod tests;

@@ -105,11 +105,11 @@ fn is_few(view: &View) -> bool
     ensures rentals { IsTrue result → view.now.rentals ≤ view.now.entries + view.now.open_rentals }
     ensures orders { IsTrue result → view.now.orders ≤ most_orders }
 {
-    view.entries <= MOST_ENTRIES
-        && view.open_rentals <= MOST_ENTRIES
-        && view.entries + view.open_rentals <= MOST_ENTRIES
-        && view.rentals <= view.entries + view.open_rentals
-        && view.orders <= MOST_ORDERS
+    if view.entries > MOST_ENTRIES || view.open_rentals > MOST_ENTRIES {
+        return false;
+    }
+    let load = view.entries + view.open_rentals;
+    load <= MOST_ENTRIES && view.rentals <= load && view.orders <= MOST_ORDERS
 }
 
 /// Whether the view can be that of an operator in order.

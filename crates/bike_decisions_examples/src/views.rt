@@ -91,10 +91,9 @@ pub fn in_rental() -> Result<Place, Fail> {
 
 /// A truck, for an order of it.
 pub fn on_truck(truck: u32, order: u32) -> Result<Place, Fail> {
-    Ok(Place::Truck {
-        truck: number(truck)?,
-        order: number(order)?,
-    })
+    let truck = number(truck)?;
+    let order = number(order)?;
+    Ok(Place::Truck { truck, order })
 }
 
 /// What is told of rental 1, of bicycle 7 from station a1: its rider and the rider's balance, the rate of its plan from
@@ -135,14 +134,10 @@ fn rental_of(alloc: Global, ride: &Ride) -> Result<Rental, Fail> {
     let finish = moment(START + 1800)?;
     let plan = ident(alloc, "basic")?;
     let from_station = ident(alloc, "a1")?;
-    let closing = if ride.is_recovered {
-        Some(Closing {
-            to_station: None,
-            finish,
-            fare: 125,
-        })
-    } else {
-        None
+    let closing = Closing {
+        to_station: None,
+        finish,
+        fare: 125,
     };
     Ok(Rental {
         rider,
@@ -150,7 +145,7 @@ fn rental_of(alloc: Global, ride: &Ride) -> Result<Rental, Fail> {
         plan,
         from_station,
         start,
-        closing,
+        closing: ride.is_recovered.then_some(closing),
     })
 }
 
@@ -176,46 +171,26 @@ pub fn truck(capacity: u32, loaded: u32) -> Result<TruckView, Fail> {
     })
 }
 
-/// The depot, written `*`, or a station.
-fn end_of(alloc: Global, text: &str) -> Result<OrderEnd, Fail> {
-    if text == "*" {
-        return Ok(OrderEnd::Depot);
-    }
-    Ok(OrderEnd::Station(ident(alloc, text)?))
-}
-
-/// How far an order is: how many bicycles it asks for, were delivered, and are on the truck for it.
-#[derive(Clone, Copy)]
-pub struct Progress {
-    pub count: u32,
-    pub delivered: u32,
-    pub on_truck: u32,
-    pub is_open: bool,
-}
-
-/// An order of bicycles of type city.
+/// An order of two bicycles of type city from a station to the depot, of which so many were delivered and are on the truck.
 pub fn order(
     alloc: Global,
     truck: u32,
-    from_end: &str,
-    to_end: &str,
-    progress: Progress,
+    from_station: &str,
+    delivered: u32,
+    on_truck: u32,
+    is_open: bool,
 ) -> Result<OrderView, Fail> {
     let truck = number(truck)?;
-    let count = number(progress.count)?;
-    let from_end = end_of(alloc, from_end)?;
-    let to_end = end_of(alloc, to_end)?;
+    let count = number(2)?;
+    let from_end = OrderEnd::Station(ident(alloc, from_station)?);
     let order = Order {
         truck,
         from_end,
-        to_end,
+        to_end: OrderEnd::Depot,
         type_id: ident(alloc, "city")?,
         count,
-        delivered: progress.delivered,
-        is_open: progress.is_open,
+        delivered,
+        is_open,
     };
-    Ok(OrderView {
-        order,
-        on_truck: progress.on_truck,
-    })
+    Ok(OrderView { order, on_truck })
 }

@@ -22,9 +22,13 @@ mod refunds;
 #[cfg(test)]
 mod riders;
 #[cfg(test)]
+mod rows;
+#[cfg(test)]
 mod starts;
 #[cfg(test)]
 mod stations;
+#[cfg(test)]
+mod tests;
 #[cfg(test)]
 mod unloads;
 #[cfg(test)]

@@ -1,0 +1,49 @@
+//! Starts of rentals.
+
+use crate::rows::{Row, rows};
+use crate::views::{docked, nothing, station};
+use bike_operator::{BikeState, RiderView, View};
+use std::alloc::Global;
+use std::test::Fail;
+
+/// A start with all its faults, of which so many are mended from the first on: the rider is unknown, blocked, in debt and
+/// riding, the station is unknown, the dock too, the station does not rent, the dock is broken, then empty, its bicycle is
+/// disabled, and the ledger is full.
+pub fn starting(alloc: Global, mended: usize) -> Result<View, Fail> {
+    let rider = RiderView {
+        is_blocked: mended < 2,
+        balance: if mended < 3 { -1 } else { 0 },
+        is_riding: mended < 4,
+    };
+    let station = station(mended >= 7, true)?;
+    let state = if mended < 10 {
+        BikeState::Disabled
+    } else {
+        BikeState::Fit
+    };
+    let docked = docked(alloc, 7, state)?;
+    Ok(View {
+        rider: (mended >= 1).then_some(rider),
+        station: (mended >= 5).then_some(station),
+        is_dock_broken: mended < 8,
+        docked: (mended >= 9).then_some(docked),
+        entries: if mended < 11 { 100_000_000 } else { 99_999_999 },
+        ..nothing()
+    })
+}
+
+/// Each row mends one more fault.
+pub const STARTS: &[Row] = rows![
+    "start\t17\ta1\t3" => "refused\t4\tunknown_rider";
+    "start\t17\ta1\t3" => "refused\t18\trider_blocked";
+    "start\t17\ta1\t3" => "refused\t19\tbalance_negative";
+    "start\t17\ta1\t3" => "refused\t20\trider_is_riding";
+    "start\t17\ta1\t3" => "refused\t1\tunknown_station";
+    "start\t17\ta1\t3" => "refused\t2\tunknown_dock";
+    "start\t17\ta1\t1" => "refused\t16\tnot_renting";
+    "start\t17\ta1\t1" => "refused\t14\tdock_broken";
+    "start\t17\ta1\t1" => "refused\t12\tdock_empty";
+    "start\t17\ta1\t1" => "refused\t15\tbike_disabled";
+    "start\t17\ta1\t1" => "refused\t32\tlimit_reached";
+    "start\t17\ta1\t1" => "rental\t1\t7; rental of bike 7 by rider 17 from a1 under basic; bike 7 in rental 1; a1 reports";
+];
