@@ -8,6 +8,8 @@ mod catalogue;
 #[cfg(test)]
 mod keys;
 #[cfg(test)]
+mod known;
+#[cfg(test)]
 mod network;
 #[cfg(test)]
 mod orders;
