@@ -1,10 +1,1 @@
-pub mod Splitting
-pub mod Absent
-pub mod TabFree
-pub mod Unescaping
-pub mod EscapeLaws
-pub mod SegmentSteps
-pub mod SegmentLaws
-pub mod Chains
-pub mod OneSpelling
 pub mod ReplyLaws

@@ -7,20 +7,20 @@ use Rattle.std.proofs.lemmas.Bool.Decides.{eqb_tells}
 use Rattle.std.proofs.lemmas.Int.{ints}
 use Rattle.std.proofs.lemmas.List.Splits.{join_with_byte-slice_split}
 use Rattle.bike_fixed.specs.Whole.{number_of as whole_of}
+use Rattle.bike_texts.specs.Parts.{Parts}
+use Rattle.bike_texts.specs.Fields.{Field, Number, Signed, Fixed, HasNoTab}
+use Rattle.bike_texts.specs.Reading.{part_at, i64_of, fare_of}
+use Rattle.bike_texts.proofs.Splitting.{is_tab}
+use Rattle.bike_texts.proofs.TabFree.{AreRead, split_join, parts_no_tab, part_is}
+use Rattle.bike_texts.proofs.Chains.{IsReader, number_reader, signed_reader, word_reader, Rest, takes, ends, gives, given_all, pick}
+use Rattle.bike_texts.proofs.OneSpelling.{spelled_text, HaveOneText, one_spelling}
 use Rattle.bike_commands.specs.declared.refusal.Refusal.{Refusal}
 use Rattle.bike_commands.specs.declared.refusal.Refusal.TheVariants as r
 use Rattle.bike_commands.specs.declared.reply.Reply.{Reply}
 use Rattle.bike_commands.specs.declared.reply.Reply.TheVariants.{Done, Balance, Started, Ended, Ordered, Refused}
 use Rattle.bike_commands.specs.Refusals.{number_of, name_of, refusals, refusal_of}
-use Rattle.bike_commands.specs.Parts.{Parts}
-use Rattle.bike_commands.specs.Fields.{Field, Number, Signed, Fixed, HasNoTab}
 use Rattle.bike_commands.specs.Replies.{Any, reply_word, reply_fields, IsReply, reply_text}
 use Rattle.bike_commands.specs.ReplyReaders.{done_at, balance_at, started_at, ended_at, ordered_at, named_at, refused_at, reply_by, reply_at}
-use Rattle.bike_commands.specs.Reading.{part_at, i64_of, fare_of}
-use Rattle.bike_commands.proofs.Splitting.{is_tab}
-use Rattle.bike_commands.proofs.TabFree.{AreRead, split_join, parts_no_tab, part_is}
-use Rattle.bike_commands.proofs.Chains.{IsReader, number_reader, signed_reader, word_reader, Rest, takes, ends, gives, given_all, pick}
-use Rattle.bike_commands.proofs.OneSpelling.{spelled_text, HaveOneText, one_spelling}
 
 -- ---- refusals
 

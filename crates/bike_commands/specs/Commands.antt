@@ -1,11 +1,9 @@
 -- How a command is spelled.
-use Rattle.std.specs.Prelude.{ℕ, List, [], ◌∷◌, ◌++◌, Bool, codes, if◌then◌else◌}
+use Rattle.std.specs.Prelude.{ℕ, List, [], ◌∷◌, ◌++◌, codes}
 use Rattle.bike_catalogue.specs.Vehicle.{form_text, propulsion_text}
+use Rattle.bike_texts.specs.Fields.{Field, Number, Fixed, Id, Language, Currency, Name, Ascii, Degrees, Metres, Segments, End, Choice, Flag, Numbered, Dock, Serial, Payment, side_text, AreGood, IsSpelled, fields_text}
 use Rattle.bike_commands.specs.declared.command.Command.{Command}
 use Rattle.bike_commands.specs.declared.command.Command.TheVariants as command
-use Rattle.bike_commands.specs.declared.command.Side.{Side}
-use Rattle.bike_commands.specs.declared.command.Side.TheVariants.{From, To}
-use Rattle.bike_commands.specs.Fields.{Field, Number, Fixed, Id, Language, Currency, Name, Ascii, Degrees, Metres, Segments, End, AreGood, IsSpelled, fields_text}
 
 -- THE TABLE: each command's word ..
 abbrev pub word_of : Command → List ℕ
@@ -31,30 +29,6 @@ word_of (command.OpenOrder truck from_end to_end type_id count) = codes "open-or
 word_of (command.Load truck order bike) = codes "load"
 word_of (command.Unload truck order bike side dock) = codes "unload"
 word_of (command.CloseOrder order) = codes "close-order"
-
--- a truth value, and a choice between two words
-abbrev pub Choice : List ℕ → List ℕ → Bool → Field
-Choice word other b = Fixed (if b then word else other)
-
-abbrev pub Flag : Bool → Field
-Flag = Choice (codes "true") (codes "false")
-
-abbrev pub side_text : Side → List ℕ
-side_text From = codes "from"
-side_text To = codes "to"
-
--- numbers with a name of their own: riders, bicycles and trucks; docks; rentals and orders; payments in hundredths
-abbrev pub Numbered : ℕ → Field
-Numbered = Number 1 999999
-
-abbrev pub Dock : ℕ → Field
-Dock = Number 1 200
-
-abbrev pub Serial : ℕ → Field
-Serial = Number 1 100000000
-
-abbrev pub Payment : ℕ → Field
-Payment = Number 1 1000000
 
 -- .. and its fields, in order
 abbrev pub fields_of : Command → List Field

@@ -1,8 +1,3 @@
-pub mod Fields
-pub mod Parts
-pub mod Reading
-pub mod Escapes
-pub mod SegmentReading
 pub mod Refusals
 pub mod Commands
 pub mod Replies

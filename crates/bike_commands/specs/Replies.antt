@@ -1,9 +1,9 @@
 -- How a reply is spelled, which is the answer line without its LF.
 use Rattle.std.specs.Prelude.{ℕ, ℤ, List, [], ◌∷◌, ◌++◌, codes, pos, neg_ℤ}
+use Rattle.bike_texts.specs.Fields.{Field, Number, Signed, Fixed, AreGood, fields_text}
 use Rattle.bike_commands.specs.declared.reply.Reply.{Reply}
 use Rattle.bike_commands.specs.declared.reply.Reply.TheVariants.{Done, Balance, Started, Ended, Ordered, Refused}
 use Rattle.bike_commands.specs.Refusals.{number_of, name_of}
-use Rattle.bike_commands.specs.Fields.{Field, Number, Signed, Fixed, AreGood, fields_text}
 
 -- each reply's word ..
 abbrev pub reply_word : Reply → List ℕ

@@ -2,12 +2,12 @@
 use Rattle.std.specs.Prelude.{ℕ, List, Option, Some, None, if◌then◌else◌, codes}
 use Rattle.std.specs.Str.{bytes_eq}
 use Rattle.bike_fixed.specs.Whole.{number_of}
+use Rattle.bike_texts.specs.Parts.{Parts}
+use Rattle.bike_texts.specs.Reading.{◌>>=◌, part_at, field_at, no_more, exactly, i64_of, fare_of}
 use Rattle.bike_commands.specs.declared.reply.Reply.{Reply}
 use Rattle.bike_commands.specs.declared.reply.Reply.TheVariants.{Done, Balance, Started, Ended, Ordered, Refused}
 use Rattle.bike_commands.specs.declared.refusal.Refusal.{Refusal}
 use Rattle.bike_commands.specs.Refusals.{refusal_of, name_of}
-use Rattle.bike_commands.specs.Parts.{Parts}
-use Rattle.bike_commands.specs.Reading.{◌>>=◌, part_at, field_at, no_more, exactly, i64_of, fare_of}
 
 unfoldable pub done_at : Parts → Option Reply
 done_at ps = do

@@ -2,16 +2,15 @@
 
 ghost use Rattle.std.specs.Prelude.{◌≡◌, pos, neg_ℤ, ◌≤ℤ◌, true};
 ghost use Rattle.bike_fields.specs.Caller.{IsCaller};
-ghost use Rattle.bike_commands.specs.Fields.{IsEnd, AreSegments};
 ghost use Rattle.bike_commands.specs.Commands.{IsCommand};
 ghost use Rattle.bike_commands.specs.Replies.{IsReply};
 ghost use Rattle.bike_commands.specs.Requests.{IsRequest};
 
-use crate::command::{Command, OrderEnd};
+use crate::command::Command;
 use crate::reply::Reply;
 use crate::request::Request;
-use bike_catalogue::Segment;
 use bike_fields::Caller;
+use bike_texts::{tell_end, tell_segments};
 
 fn tell_number(number: i64)
     ensures low { neg_ℤ (pos 9223372036854775808) ≤ℤ number }
@@ -37,26 +36,6 @@ fn tell_caller(caller: &Caller)
         Caller::Import(name) => {
             let _ = name.as_str();
         }
-    }
-}
-
-fn tell_end(end: &OrderEnd)
-    ensures { IsEnd end.now }
-{
-    match end {
-        OrderEnd::Depot => {}
-        OrderEnd::Station(station) => {
-            let _ = station.as_str();
-        }
-    }
-}
-
-fn tell_segments(segments: &[Segment])
-    ensures { AreSegments segments.now }
-{
-    if let Some((first, rest)) = segments.split_first() {
-        first.bounds();
-        tell_segments(rest);
     }
 }
 

@@ -5,28 +5,7 @@ use bike_fields::{
     BicycleNumber, DockNumber, Ident, OrderNumber, OrderQuantity, Payment, RentalNumber,
     RiderNumber, TruckCapacity, TruckNumber,
 };
-use bike_fixed::Within;
-
-/// The dock of a station at which a bicycle is unloaded, 1 to 200, or 0 at the depot.
-pub type UnloadDock = Within<0, 200>;
-
-/// An end of an order: where its bicycles are taken from or brought to.
-#[derive(Debug, Drop)]
-pub enum OrderEnd {
-    /// The depot, written `*`.
-    Depot,
-    /// The station of that identifier.
-    Station(Ident),
-}
-
-/// The end of an order at which a bicycle is unloaded.
-#[derive(Clone, Copy, Debug, PartialEq, Eq)]
-pub enum Side {
-    /// Where the order takes its bicycles from.
-    From,
-    /// Where it brings them to.
-    To,
-}
+use bike_texts::{OrderEnd, Side, UnloadDock};
 
 /// What a request asks for. Its fields keep their bounds by their types.
 #[derive(Debug, Drop)]

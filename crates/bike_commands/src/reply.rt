@@ -8,12 +8,11 @@ ghost use Rattle.bike_commands.specs.Replies.{reply_text, IsReply};
 ghost use Rattle.bike_commands.specs.ReplyReaders.{done_at, balance_at, started_at, ended_at, ordered_at, named_at, refused_at, reply_by, reply_at};
 ghost use Rattle.bike_commands.specs.Refusals.{number_of, name_of, refusal_of};
 
-use crate::fare::Fare;
-use crate::fields::Fields;
 use crate::refusal::Refusal;
 use arrayvec::ArrayString;
 use bike_fields::{BicycleNumber, OrderNumber, RentalNumber};
 use bike_fixed::{Within, signed_text};
+use bike_texts::{Fare, Fields};
 use itoa::Buffer;
 
 /// Room in bytes for every reply: the longest word before two numbers is `fare`, and a number of
@@ -174,7 +173,7 @@ fn read_reply(mut fields: Fields) -> Option<Reply>
 impl Reply {
     /// The answer line without its LF: `ok`, `balance⇥BALANCE`, `rental⇥RENTAL⇥BIKE`, `fare⇥FARE⇥BALANCE`,
     /// `order⇥ORDER` or `refused⇥NUMBER⇥NAME`, where `⇥` is a TAB. Fares and balances are in hundredths.
-    #[tactic(auto, unfolding(crate::specs::Fields::fields_text))]
+    #[tactic(auto, unfolding(bike_texts::specs::Fields::fields_text))]
     pub fn text(&self) -> ArrayString<REPLY_LENGTH>
         ensures { result.bytes ≡ reply_text self.now }
     {

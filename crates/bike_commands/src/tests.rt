@@ -1,7 +1,8 @@
 //! Replies as they stand in answer lines.
 
-use crate::{Fare, Refusal, Reply};
+use crate::{Refusal, Reply};
 use bike_fixed::Within;
+use bike_texts::Fare;
 use std::test::Fail;
 
 fn started(rental: u32, bike: u32) -> Option<Reply> {

@@ -11,12 +11,13 @@ ghost use Rattle.bike_operator.specs.View.{most_entries};
 ghost use Rattle.bike_operator.specs.Steps.{is_ledger_full, fare_now};
 ghost use Rattle.bike_operator.specs.Bounds.{IsWithin};
 
-use bike_commands::{Fare, Reply};
+use bike_commands::Reply;
 use bike_fares::fare;
 use bike_fields::{Ident, Payment};
 use bike_fixed::{Cents, Moment, Within};
 use bike_ledger::{Entry, balance_after, refundable};
 use bike_operator::{Change, Closing, RentalView, View};
+use bike_texts::Fare;
 
 /// Entries and open rentals together are at most this many.
 const MOST_ENTRIES: u32 = 100_000_000;

@@ -1,8 +1,8 @@
 //! Decisions on trucks and their orders.
 
 ghost use Rattle.std.specs.Prelude.{◌≡◌, ◌≤◌, ◌+◌, ℕ, List, Some, IfOk, IfSome};
+ghost use Rattle.bike_texts.specs.declared.ends.OrderEnd.{OrderEnd};
 ghost use Rattle.bike_commands.specs.declared.command.Command.TheVariants as command;
-ghost use Rattle.bike_commands.specs.declared.command.OrderEnd.{OrderEnd};
 ghost use Rattle.bike_operator.specs.Operator.{Operator};
 ghost use Rattle.bike_operator.specs.View.{view_of};
 ghost use Rattle.bike_operator.specs.Steps.{first, tests, delivered, placed_at_end};
@@ -11,9 +11,10 @@ ghost use Rattle.bike_operator.specs.Bounds.{IsBounded};
 
 use crate::booking::next_number;
 use crate::places::{end_at, ends_apart, is_at_end, is_loaded, is_retired, is_same_end, report_of};
-use bike_commands::{OrderEnd, Refusal, Reply, Side, UnloadDock};
+use bike_commands::{Refusal, Reply};
 use bike_fields::{BicycleNumber, Ident, OrderNumber, OrderQuantity, TruckCapacity, TruckNumber};
 use bike_operator::{Accepted, Bike, Change, Decision, NewPlace, OrderView, View};
+use bike_texts::{OrderEnd, Side, UnloadDock};
 
 /// There are at most this many orders.
 const MOST_ORDERS: u32 = 10_000_000;

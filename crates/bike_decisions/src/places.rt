@@ -7,9 +7,9 @@ ghost use Rattle.bike_operator.specs.View.{end_at};
 ghost use Rattle.bike_operator.specs.Steps.{place_reported, is_same_end, is_at_end, ends_apart};
 ghost use Rattle.bike_operator.specs.Changes.{all_changed, present};
 
-use bike_commands::{OrderEnd, Side, UnloadDock};
 use bike_fields::{OrderNumber, TruckNumber};
 use bike_operator::{BikeState, Change, Order, Place, StationView};
+use bike_texts::{OrderEnd, Side, UnloadDock};
 
 /// Whether a bicycle can be rented.
 pub(crate) fn is_fit(state: BikeState) -> bool

@@ -1,8 +1,8 @@
 //! Changes as texts.
 
 use crate::words::{push_flag, push_name, push_number, push_signed, push_text};
-use bike_commands::OrderEnd;
 use bike_operator::{BikeState, Change, NewPlace};
+use bike_texts::OrderEnd;
 use std::alloc::AllocError;
 
 fn state_text(state: BikeState) -> &'static str {

@@ -1,13 +1,13 @@
 //! Views made by hand, and the rows of which they are made.
 
 use bike_catalogue::{Plan, Segment};
-use bike_commands::OrderEnd;
 use bike_fields::{Field, Ident};
 use bike_fixed::{Moment, Within};
 use bike_operator::{
     Bike, BikeState, Closing, DockedBike, Order, OrderView, Place, Rental, RentalView, StationView,
     TruckView, View,
 };
+use bike_texts::OrderEnd;
 use std::alloc::Global;
 use std::test::Fail;
 

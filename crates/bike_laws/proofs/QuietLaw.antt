@@ -3,12 +3,12 @@ use Rattle.std.proofs.Common.{◌≡◌, ℕ, Bool, true, false, cond, Option, S
 use Rattle.std.specs.FinMap as finmap
 use Rattle.std.specs.Cmp.{nat_cmp_total}
 use Rattle.std.specs.Cmp.Lexicographic.{nat_list_cmp_total}
+use Rattle.bike_texts.specs.declared.ends.OrderEnd.{OrderEnd}
+use Rattle.bike_texts.specs.declared.ends.OrderEnd.TheVariants as end
+use Rattle.bike_texts.specs.declared.ends.Side.{Side}
+use Rattle.bike_texts.specs.declared.ends.Side.TheVariants.{From, To}
 use Rattle.bike_commands.specs.declared.command.Command.{Command}
 use Rattle.bike_commands.specs.declared.command.Command.TheVariants as command
-use Rattle.bike_commands.specs.declared.command.OrderEnd.{OrderEnd}
-use Rattle.bike_commands.specs.declared.command.OrderEnd.TheVariants as end
-use Rattle.bike_commands.specs.declared.command.Side.{Side}
-use Rattle.bike_commands.specs.declared.command.Side.TheVariants.{From, To}
 use Rattle.bike_operator.specs.declared.records.BikeState.TheVariants.{Fit, Disabled, Retired}
 use Rattle.bike_operator.specs.declared.records.Place.{Place}
 use Rattle.bike_operator.specs.declared.records.Place.TheVariants as place

@@ -8,11 +8,11 @@ use Rattle.bike_fares.specs.Pricing as pricing
 use Rattle.bike_fares.proofs.BoundLemmas.{fare_of-low, fare_of-high}
 use Rattle.bike_ledger.specs.Entries.{Entry}
 use Rattle.bike_ledger.specs.Ledger.{balance_of, IsAmount}
+use Rattle.bike_texts.specs.Fields.{IsGood, AreSegments}
 use Rattle.bike_commands.specs.declared.command.Command.{Command}
 use Rattle.bike_commands.specs.declared.command.Command.TheVariants as command
 use Rattle.bike_commands.specs.declared.reply.Reply.{Reply}
 use Rattle.bike_commands.specs.declared.reply.Reply.TheVariants.{Done, Ended}
-use Rattle.bike_commands.specs.Fields.{IsGood, AreSegments}
 use Rattle.bike_commands.specs.Commands.{IsCommand}
 use Rattle.bike_commands.specs.Replies.{Any, IsReply}
 use Rattle.bike_operator.specs.declared.records.Bike.{Bike}

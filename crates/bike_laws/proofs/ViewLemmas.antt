@@ -3,11 +3,11 @@ use Rattle.std.proofs.Common.{◌≡◌, ℕ, ℤ, ◌+◌, ◌≤◌, ◌≤ℤ
 use Rattle.std.specs.Prelude.{IfSome, is_none}
 use Rattle.std.specs.FinMap as finmap
 use Rattle.bike_ledger.specs.Ledger.{refunded_of}
+use Rattle.bike_texts.specs.declared.ends.OrderEnd.{OrderEnd}
+use Rattle.bike_texts.specs.declared.ends.OrderEnd.TheVariants as end
+use Rattle.bike_texts.specs.declared.ends.Side.{Side}
 use Rattle.bike_commands.specs.declared.command.Command.{Command}
 use Rattle.bike_commands.specs.declared.command.Command.TheVariants as command
-use Rattle.bike_commands.specs.declared.command.OrderEnd.{OrderEnd}
-use Rattle.bike_commands.specs.declared.command.OrderEnd.TheVariants as end
-use Rattle.bike_commands.specs.declared.command.Side.{Side}
 use Rattle.bike_operator.specs.declared.records.Bike.{Bike}
 use Rattle.bike_operator.specs.declared.records.Rental.{Rental}
 use Rattle.bike_operator.specs.declared.records.Closing.{Closing}

@@ -12,7 +12,7 @@ use Rattle.bike_ledger.specs.declared.entry.EntryKind.{EntryKind}
 use Rattle.bike_ledger.specs.declared.entry.EntryKind.TheVariants.{TopUp, Fare, Refund}
 use Rattle.bike_ledger.specs.Ledger.{refunded_of}
 use Rattle.bike_ledger.specs.Entries.{greatest_amount}
-use Rattle.bike_commands.specs.Fields.{AreSegments}
+use Rattle.bike_texts.specs.Fields.{AreSegments}
 use Rattle.bike_commands.specs.Commands.{IsCommand}
 use Rattle.bike_commands.specs.declared.reply.Reply.{Reply}
 use Rattle.bike_commands.specs.declared.reply.Reply.TheVariants.{Done, Balance, Started, Ended, Ordered, Refused}

@@ -9,12 +9,12 @@ use Rattle.bike_fares.specs.Pricing.{fare_of}
 use Rattle.bike_ledger.specs.declared.entry.EntryKind.{EntryKind}
 use Rattle.bike_ledger.specs.declared.entry.EntryKind.TheVariants as kind
 use Rattle.bike_ledger.specs.Ledger.{balance_of}
+use Rattle.bike_texts.specs.declared.ends.OrderEnd.{OrderEnd}
+use Rattle.bike_texts.specs.declared.ends.OrderEnd.TheVariants as end
+use Rattle.bike_texts.specs.declared.ends.Side.{Side}
+use Rattle.bike_texts.specs.declared.ends.Side.TheVariants.{From, To}
 use Rattle.bike_commands.specs.declared.command.Command.{Command}
 use Rattle.bike_commands.specs.declared.command.Command.TheVariants as command
-use Rattle.bike_commands.specs.declared.command.OrderEnd.{OrderEnd}
-use Rattle.bike_commands.specs.declared.command.OrderEnd.TheVariants as end
-use Rattle.bike_commands.specs.declared.command.Side.{Side}
-use Rattle.bike_commands.specs.declared.command.Side.TheVariants.{From, To}
 use Rattle.bike_commands.specs.declared.reply.Reply.{Reply}
 use Rattle.bike_commands.specs.declared.reply.Reply.TheVariants.{Done, Balance, Started, Ended, Ordered}
 use Rattle.bike_commands.specs.declared.refusal.Refusal.{Refusal}

@@ -4,9 +4,10 @@ ghost use Rattle.std.specs.Prelude.{◌≡◌, ◌∷◌, []};
 
 use crate::records::BikeState;
 use bike_catalogue::{Plan, Station, System, VehicleType};
-use bike_commands::{OrderEnd, Refusal, Reply};
+use bike_commands::{Refusal, Reply};
 use bike_fields::Ident;
 use bike_ledger::Entry;
+use bike_texts::OrderEnd;
 
 /// Where a bicycle is put.
 #[derive(Clone, Copy, Debug)]

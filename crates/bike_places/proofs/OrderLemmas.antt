@@ -5,8 +5,8 @@ use Rattle.std.specs.FinMap as map
 use Rattle.std.specs.FinMap.{FinMap}
 use Rattle.std.proofs.lemmas.Bool.Decides.{nat_tests}
 use Rattle.bike_catalogue.specs.Rows.{TypeRow}
-use Rattle.bike_commands.specs.declared.command.OrderEnd.{OrderEnd}
-use Rattle.bike_commands.specs.declared.command.OrderEnd.TheVariants as end
+use Rattle.bike_texts.specs.declared.ends.OrderEnd.{OrderEnd}
+use Rattle.bike_texts.specs.declared.ends.OrderEnd.TheVariants as end
 use Rattle.bike_operator.specs.declared.records.BikeState.{BikeState}
 use Rattle.bike_operator.specs.declared.records.Place.{Place}
 use Rattle.bike_operator.specs.declared.records.Place.TheVariants as place

@@ -11,10 +11,10 @@ ghost use Rattle.bike_plain.specs.Stands.{Stands, IsSmall};
 use crate::places::{docked_at, loaded, on_truck};
 use crate::plain::Plain;
 use crate::rows::{find_number, is_listed, numbered};
-use bike_commands::OrderEnd;
 use bike_fields::{BicycleNumber, Ident, TruckNumber};
 use bike_operator::TruckView;
 use bike_refusals::{BikeFacts, DockedFacts, OrderCount};
+use bike_texts::OrderEnd;
 
 impl<'a> Plain<'a> {
     /// Whether a dock is broken.

@@ -1,9 +1,9 @@
 -- What facts say of the records for which they stand.
 use Rattle.std.proofs.Common.{◌≡◌, ℕ, List, Bool, Option, Some, None, is_some, sym, ap, refl, ◌∙◌}
 use Rattle.std.proofs.lemmas.Option.{same_Some}
-use Rattle.bike_commands.specs.declared.command.OrderEnd.{OrderEnd}
-use Rattle.bike_commands.specs.declared.command.OrderEnd.TheVariants as end
-use Rattle.bike_commands.specs.declared.command.Side.{Side}
+use Rattle.bike_texts.specs.declared.ends.OrderEnd.{OrderEnd}
+use Rattle.bike_texts.specs.declared.ends.OrderEnd.TheVariants as end
+use Rattle.bike_texts.specs.declared.ends.Side.{Side}
 use Rattle.bike_operator.specs.declared.records.Order.{Order}
 use Rattle.bike_operator.specs.declared.view.OrderView.{OrderView}
 use Rattle.bike_operator.specs.declared.view.View.{View}

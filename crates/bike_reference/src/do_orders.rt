@@ -12,12 +12,13 @@ ghost use Rattle.bike_reference.specs.Steps.{Does, IsReady};
 
 use crate::do_catalogue::report_bike;
 use crate::money::next_number;
-use bike_commands::{OrderEnd, Reply, Side, UnloadDock};
+use bike_commands::Reply;
 use bike_fields::{BicycleNumber, Ident, OrderNumber, OrderQuantity, TruckNumber};
 use bike_fixed::Moment;
 use bike_operator::NewPlace;
 use bike_plain::Plain as Lists;
 use bike_refusals::{OrderFacts, end_at};
+use bike_texts::{OrderEnd, Side, UnloadDock};
 use std::alloc::AllocError;
 
 /// Opens an order of a truck.

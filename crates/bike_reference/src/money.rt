@@ -8,11 +8,12 @@ ghost use Rattle.bike_operator.specs.Steps.{fare_now};
 ghost use Rattle.bike_operator.specs.Bounds.{IsWithin};
 ghost use Rattle.bike_refusals.specs.Facts.{rental_sums};
 
-use bike_commands::{Fare, Reply};
+use bike_commands::Reply;
 use bike_fares::fare;
 use bike_fixed::{Moment, Within};
 use bike_ledger::{Entry, balance_after};
 use bike_refusals::RentalSums;
+use bike_texts::Fare;
 
 /// The number after so many numbered ones.
 pub(crate) fn next_number(count: u32) -> Within<1, 100_000_000>

@@ -9,7 +9,7 @@ ghost use Rattle.bike_refusals.specs.Facts.{if_any, order_row};
 ghost use Rattle.bike_plain.specs.Stands.{Stands, IsSmall};
 ghost use Rattle.bike_reference.specs.Steps.{Refuses, Names, NamesNone};
 
-use bike_commands::{OrderEnd, Refusal, Side, UnloadDock};
+use bike_commands::Refusal;
 use bike_fields::{
     BicycleNumber, DockNumber, Ident, OrderNumber, OrderQuantity, Payment, RentalNumber,
     RiderNumber, TruckNumber,
@@ -19,6 +19,7 @@ use bike_refusals::{
     OrderCount, OrderEnds, UnloadEnd, end_at, refused_close_order, refused_end, refused_load,
     refused_open_order, refused_recover, refused_refund, refused_start, refused_unload,
 };
+use bike_texts::{OrderEnd, Side, UnloadDock};
 
 /// Why the start of a rental is refused.
 pub(crate) fn refuse_start(

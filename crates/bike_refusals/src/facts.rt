@@ -6,10 +6,10 @@ ghost use Rattle.bike_operator.specs.declared.records.Place.TheVariants.{Depot};
 ghost use Rattle.bike_refusals.specs.Facts.{bike_row};
 
 use bike_catalogue::Plan;
-use bike_commands::OrderEnd;
 use bike_fields::{BicycleNumber, Ident, OrderQuantity, RentalNumber, RiderNumber, TruckNumber};
 use bike_fixed::Moment;
 use bike_operator::{BikeState, NewPlace};
+use bike_texts::OrderEnd;
 
 /// A bicycle.
 #[derive(Clone, Copy)]

@@ -11,9 +11,10 @@ ghost use Rattle.bike_refusals.specs.Facts.{bike_row, order_count, if_any};
 
 use crate::facts::{BikeFacts, OrderCount};
 use crate::places::{end_at, ends_apart, is_at_end, is_loaded, is_retired, is_same_end};
-use bike_commands::{OrderEnd, Refusal, Side, UnloadDock};
+use bike_commands::Refusal;
 use bike_fields::{OrderNumber, OrderQuantity, TruckNumber};
 use bike_operator::{StationView, TruckView};
+use bike_texts::{OrderEnd, Side, UnloadDock};
 
 /// What an order names beside its truck: its ends, and whether they and its vehicle type are there.
 #[derive(Clone, Copy)]

@@ -8,9 +8,9 @@ ghost use Rattle.bike_operator.specs.Changes.{place_of};
 ghost use Rattle.bike_refusals.specs.Facts.{order_row};
 
 use crate::facts::OrderFacts;
-use bike_commands::{OrderEnd, Side, UnloadDock};
 use bike_fields::{OrderNumber, TruckNumber};
 use bike_operator::{BikeState, NewPlace, StationView};
+use bike_texts::{OrderEnd, Side, UnloadDock};
 
 /// Whether a bicycle can be rented.
 pub fn is_fit(state: BikeState) -> bool

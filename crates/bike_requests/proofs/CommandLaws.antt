@@ -5,15 +5,15 @@ use Rattle.std.specs.declared.alloc.AllocError.{AllocError}
 use Rattle.std.specs.List.{slice_split, join_with_byte}
 use Rattle.std.proofs.lemmas.Option.{option_and_then_some}
 use Rattle.std.proofs.lemmas.List.Splits.{join_with_byte-slice_split}
+use Rattle.bike_texts.specs.Parts.{Parts}
+use Rattle.bike_texts.specs.Fields.{Field, HasNoTab}
+use Rattle.bike_texts.specs.Reading.{part_at}
+use Rattle.bike_texts.proofs.Splitting.{is_tab}
+use Rattle.bike_texts.proofs.TabFree.{AreRead, split_join, parts_no_tab, part_is}
+use Rattle.bike_texts.proofs.Chains.{pick}
 use Rattle.bike_commands.specs.declared.command.Command.{Command}
 use Rattle.bike_commands.specs.declared.command.Command.TheVariants.{SetSystem, AddPlan, AddType, SetPlan, AddStation, SetStation, MarkDock, AddBike, MarkBike, RetireBike, AddTruck, AddRider, SetRider, TopUp, Start, End, Recover, Refund, OpenOrder, Load, Unload, CloseOrder}
-use Rattle.bike_commands.specs.Parts.{Parts}
-use Rattle.bike_commands.specs.Fields.{Field, HasNoTab}
 use Rattle.bike_commands.specs.Commands.{word_of, fields_of, IsCommand, IsSpelling}
-use Rattle.bike_commands.specs.Reading.{part_at}
-use Rattle.bike_commands.proofs.Splitting.{is_tab}
-use Rattle.bike_commands.proofs.TabFree.{AreRead, split_join, parts_no_tab, part_is}
-use Rattle.bike_commands.proofs.Chains.{pick}
 use Rattle.bike_requests.specs.Readers.{command_by, command_at}
 use Rattle.bike_requests.proofs.KindLaws.{Left, set_plan_sound, set_plan_full, set_station_sound, set_station_full, mark_dock_sound, mark_dock_full, add_bike_sound, add_bike_full, mark_bike_sound, mark_bike_full, retire_bike_sound, retire_bike_full, add_truck_sound, add_truck_full, add_rider_sound, add_rider_full, set_rider_sound, set_rider_full, top_up_sound, top_up_full, start_sound, start_full, end_sound, end_full, recover_sound, recover_full, refund_sound, refund_full, open_order_sound, open_order_full, load_sound, load_full, unload_sound, unload_full, close_order_sound, close_order_full}
 use Rattle.bike_requests.proofs.RecordLaws.{set_system_sound, set_system_full, add_plan_sound, add_plan_full, add_type_sound, add_type_full, add_station_sound, add_station_full}

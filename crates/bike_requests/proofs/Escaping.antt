@@ -4,7 +4,7 @@ use Rattle.std.specs.Str.{IsUtf8, chars}
 use Rattle.std.proofs.lemmas.Bool.Decides.{eqb_tells}
 use Rattle.std.proofs.Math.Utf8.{encode, encodes}
 use Rattle.std.proofs.lemmas.Str.{encodes-append, encodes-chars, encode_ascii}
-use Rattle.bike_commands.specs.Fields.{escape, escaped}
+use Rattle.bike_texts.specs.Fields.{escape, escaped}
 
 other : (b d : ℕ) → b ≢ d → eqb b d ≡ false
 other b d apart = elim (eqb_tells b d) [ inl w ↦ absurd (apart w.1) | inr w ↦ w.0 ]

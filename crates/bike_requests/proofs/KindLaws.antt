@@ -1,16 +1,16 @@
 -- Commands are read exactly, kind by kind: what is read is spelled by the parts, and what the parts spell is read.
 use Rattle.std.proofs.Common.{◌≡◌, ℕ, List, [], Bool, Some, refl, lit<, codes}
 use Rattle.bike_fixed.specs.Whole.{number_of}
+use Rattle.bike_texts.specs.declared.ends.OrderEnd.{OrderEnd}
+use Rattle.bike_texts.specs.declared.ends.Side.{Side}
+use Rattle.bike_texts.specs.Parts.{Parts}
+use Rattle.bike_texts.specs.Fields.{Field, Number, Choice}
+use Rattle.bike_texts.specs.Reading.{choice_of}
+use Rattle.bike_texts.proofs.TabFree.{AreRead}
+use Rattle.bike_texts.proofs.Chains.{IsReader, Rest, number_reader, choice_reader, ident_reader, side_reader, end_reader, takes, ends, gives, given_all}
 use Rattle.bike_commands.specs.declared.command.Command.{Command}
 use Rattle.bike_commands.specs.declared.command.Command.TheVariants.{SetPlan, SetStation, MarkDock, AddBike, MarkBike, RetireBike, AddTruck, AddRider, SetRider, TopUp, Start, End, Recover, Refund, OpenOrder, Load, Unload, CloseOrder}
-use Rattle.bike_commands.specs.declared.command.OrderEnd.{OrderEnd}
-use Rattle.bike_commands.specs.declared.command.Side.{Side}
-use Rattle.bike_commands.specs.Parts.{Parts}
-use Rattle.bike_commands.specs.Fields.{Field, Number}
-use Rattle.bike_commands.specs.Commands.{word_of, fields_of, Choice}
-use Rattle.bike_commands.specs.Reading.{choice_of}
-use Rattle.bike_commands.proofs.TabFree.{AreRead}
-use Rattle.bike_commands.proofs.Chains.{IsReader, Rest, number_reader, choice_reader, ident_reader, side_reader, end_reader, takes, ends, gives, given_all}
+use Rattle.bike_commands.specs.Commands.{word_of, fields_of}
 use Rattle.bike_requests.specs.Readers.{numbered_of, dock_of, serial_of, payment_of, few_of, flag_of, set_plan_at, set_station_at, mark_dock_at, add_bike_at, mark_bike_at, retire_bike_at, add_truck_at, add_rider_at, set_rider_at, top_up_at, start_at, end_at, recover_at, refund_at, open_order_at, load_at, unload_at, close_order_at}
 
 abbrev pub Left : List ℕ → Command → List Field → Parts → Type 0

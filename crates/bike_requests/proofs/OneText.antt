@@ -5,8 +5,8 @@ use Rattle.std.proofs.lemmas.Option.{same_Some}
 use Rattle.bike_commands.specs.declared.command.Command.{Command}
 use Rattle.bike_commands.specs.Commands.{word_of, fields_of, IsCommand, IsSpelling, text_of}
 use Rattle.bike_requests.specs.Readers.{command_at}
-use Rattle.bike_commands.proofs.Splitting.{is_tab}
-use Rattle.bike_commands.proofs.OneSpelling.{spelled_text}
+use Rattle.bike_texts.proofs.Splitting.{is_tab}
+use Rattle.bike_texts.proofs.OneSpelling.{spelled_text}
 use Rattle.bike_requests.proofs.CommandLaws.{command_full}
 
 pub text_spells : (c : Command) → IsCommand c → IsSpelling (text_of c) c

@@ -8,14 +8,14 @@ use Rattle.bike_fixed.specs.Whole.{number_of}
 use Rattle.bike_catalogue.specs.Rows.{SystemRow, PlanRow, TypeRow, StationRow, IsRange, is_range, IsLatitude, is_latitude}
 use Rattle.bike_catalogue.specs.declared.vehicle.Propulsion.{Propulsion}
 use Rattle.bike_catalogue.specs.declared.vehicle.Propulsion.TheVariants.{Human, ElectricAssist}
+use Rattle.bike_texts.specs.Parts.{Parts}
+use Rattle.bike_texts.specs.Fields.{Field, Number, Degrees}
+use Rattle.bike_texts.specs.Reading.{◌>>=◌, no_more, degrees_of}
+use Rattle.bike_texts.proofs.TabFree.{AreRead}
+use Rattle.bike_texts.proofs.Chains.{IsReader, number_reader, ident_reader, language_reader, currency_reader, name_reader, ascii_reader, form_reader, propulsion_reader, metres_reader, degrees_reader, segments_reader, takes, ends, gives, given_all}
 use Rattle.bike_commands.specs.declared.command.Command.{Command}
 use Rattle.bike_commands.specs.declared.command.Command.TheVariants.{SetSystem, AddPlan, AddType, AddStation}
-use Rattle.bike_commands.specs.Parts.{Parts}
-use Rattle.bike_commands.specs.Fields.{Field, Number, Degrees}
 use Rattle.bike_commands.specs.Commands.{word_of, fields_of}
-use Rattle.bike_commands.specs.Reading.{◌>>=◌, no_more, degrees_of}
-use Rattle.bike_commands.proofs.TabFree.{AreRead}
-use Rattle.bike_commands.proofs.Chains.{IsReader, number_reader, ident_reader, language_reader, currency_reader, name_reader, ascii_reader, form_reader, propulsion_reader, metres_reader, degrees_reader, segments_reader, takes, ends, gives, given_all}
 use Rattle.bike_requests.specs.RecordReaders.{set_system_at, add_plan_at, add_type_at, add_station_at}
 use Rattle.bike_requests.proofs.KindLaws.{Left, dock_reader, flag_reader}
 

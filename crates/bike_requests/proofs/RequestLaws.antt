@@ -13,18 +13,18 @@ use Rattle.bike_fields.specs.Caller.{IsCaller, caller_text, caller_of}
 use Rattle.bike_fields.specs.declared.caller.Caller.{Caller}
 use Rattle.bike_fields.specs.declared.caller.Caller.TheVariants.{Office, Rider, Dock, Crew, Import}
 use Rattle.bike_fields.proofs.Callers.{caller_sound, caller_full}
+use Rattle.bike_texts.specs.Parts.{Parts}
+use Rattle.bike_texts.specs.Fields.{HasNoTab}
+use Rattle.bike_texts.specs.Reading.{◌>>=◌, field_at}
 use Rattle.bike_commands.specs.declared.request.Request.{Request}
 use Rattle.bike_commands.specs.declared.command.Command.{Command}
-use Rattle.bike_commands.specs.Parts.{Parts}
-use Rattle.bike_commands.specs.Fields.{HasNoTab}
 use Rattle.bike_commands.specs.Commands.{word_of, fields_of}
-use Rattle.bike_commands.specs.Reading.{◌>>=◌, field_at}
 use Rattle.bike_requests.specs.Readers.{command_at}
 use Rattle.bike_commands.specs.Requests.{IsRequest, IsLine, line_length}
 use Rattle.bike_requests.specs.RequestReaders.{request_at}
-use Rattle.bike_commands.proofs.Splitting.{is_tab}
-use Rattle.bike_commands.proofs.Absent.{set_lacks, all_append}
-use Rattle.bike_commands.proofs.TabFree.{AreRead, AreTabFree, decimal_no_tab, split_join, parts_no_tab}
+use Rattle.bike_texts.proofs.Splitting.{is_tab}
+use Rattle.bike_texts.proofs.Absent.{set_lacks, all_append}
+use Rattle.bike_texts.proofs.TabFree.{AreRead, AreTabFree, decimal_no_tab, split_join, parts_no_tab}
 use Rattle.bike_fields.proofs.Lengths.{both_hold}
 use Rattle.bike_requests.proofs.CommandLaws.{IsReadOf, parts_sound, parts_full, word_no_tab}
 

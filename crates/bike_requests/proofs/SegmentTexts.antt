@@ -2,7 +2,7 @@
 use Rattle.std.proofs.Common.{◌≡◌, ℕ, List, [], ◌∷◌, ◌++◌, sym, ap, ◌∙◌, map, append-nil, append_assoc}
 use Rattle.std.specs.List.{join_with_byte}
 use Rattle.bike_catalogue.specs.Rows.{SegmentRow}
-use Rattle.bike_commands.specs.Fields.{segment_text, segments_text}
+use Rattle.bike_texts.specs.Fields.{segment_text, segments_text}
 use Rattle.bike_requests.specs.Writing.{others_text}
 
 joined : (s : SegmentRow) (ss : List SegmentRow) → join_with_byte 59 (map segment_text (s ∷ ss)) ≡ segment_text s ++ others_text ss

@@ -3,10 +3,10 @@ use Rattle.std.specs.Prelude.{ℕ, List, Bool, Option, Some, None, if◌then◌e
 use Rattle.std.specs.Str.{bytes_eq}
 use Rattle.bike_fixed.specs.Whole.{number_of}
 use Rattle.bike_fields.specs.Bytes.{ident_of}
+use Rattle.bike_texts.specs.Parts.{Parts}
+use Rattle.bike_texts.specs.Reading.{◌>>=◌, part_at, field_at, no_more, choice_of, side_of, end_of}
 use Rattle.bike_commands.specs.declared.command.Command.{Command}
 use Rattle.bike_commands.specs.declared.command.Command.TheVariants.{SetPlan, SetStation, MarkDock, AddBike, MarkBike, RetireBike, AddTruck, AddRider, SetRider, TopUp, Start, End, Recover, Refund, OpenOrder, Load, Unload, CloseOrder}
-use Rattle.bike_commands.specs.Parts.{Parts}
-use Rattle.bike_commands.specs.Reading.{◌>>=◌, part_at, field_at, no_more, choice_of, side_of, end_of}
 use Rattle.bike_requests.specs.RecordReaders.{set_system_at, add_plan_at, add_type_at, add_station_at}
 
 -- riders, bicycles and trucks; docks; rentals and orders; payments in hundredths; bicycles on a truck

@@ -4,12 +4,12 @@ use Rattle.bike_fixed.specs.Whole.{number_of}
 use Rattle.bike_fields.specs.Bytes.{ident_of, language_of, currency_of}
 use Rattle.bike_catalogue.specs.Rows.{is_range, is_latitude}
 use Rattle.bike_catalogue.specs.Vehicle.{form_of, propulsion_of}
+use Rattle.bike_texts.specs.Parts.{Parts}
+use Rattle.bike_texts.specs.Reading.{◌>>=◌, field_at, no_more, degrees_of, metres_of, choice_of}
+use Rattle.bike_texts.specs.Escapes.{name_at, ascii_at}
+use Rattle.bike_texts.specs.SegmentReading.{segments_of}
 use Rattle.bike_commands.specs.declared.command.Command.{Command}
 use Rattle.bike_commands.specs.declared.command.Command.TheVariants.{SetSystem, AddPlan, AddType, AddStation}
-use Rattle.bike_commands.specs.Parts.{Parts}
-use Rattle.bike_commands.specs.Reading.{◌>>=◌, field_at, no_more, degrees_of, metres_of, choice_of}
-use Rattle.bike_commands.specs.Escapes.{name_at, ascii_at}
-use Rattle.bike_commands.specs.SegmentReading.{segments_of}
 
 unfoldable pub set_system_at : Parts → Option Command
 set_system_at ps = do

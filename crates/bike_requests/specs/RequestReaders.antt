@@ -3,9 +3,9 @@ use Rattle.std.specs.Prelude.{ℕ, Option, Some}
 use Rattle.bike_fixed.specs.Whole.{number_of, last_moment}
 use Rattle.bike_fields.specs.Bytes.{key_of}
 use Rattle.bike_fields.specs.Caller.{caller_of}
+use Rattle.bike_texts.specs.Parts.{Parts}
+use Rattle.bike_texts.specs.Reading.{◌>>=◌, field_at}
 use Rattle.bike_commands.specs.declared.request.Request.{Request}
-use Rattle.bike_commands.specs.Parts.{Parts}
-use Rattle.bike_commands.specs.Reading.{◌>>=◌, field_at}
 use Rattle.bike_requests.specs.Readers.{command_at}
 
 unfoldable pub request_at : Parts → Option (ℕ × Request)

@@ -1,7 +1,7 @@
 -- Parts of a written text.
 use Rattle.std.specs.Prelude.{ℕ, List, ◌∷◌, flat_map}
 use Rattle.bike_catalogue.specs.Rows.{SegmentRow}
-use Rattle.bike_commands.specs.Fields.{segment_text}
+use Rattle.bike_texts.specs.Fields.{segment_text}
 
 -- segments, with a semicolon before each
 abbrev pub others_text : List SegmentRow → List ℕ

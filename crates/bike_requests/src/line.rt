@@ -7,8 +7,9 @@ ghost use Rattle.bike_commands.specs.Requests.{IsRequest, IsLine};
 ghost use Rattle.bike_requests.specs.RequestReaders.{request_at};
 
 use crate::reading::read_rest;
-use bike_commands::{Fields, Request};
+use bike_commands::Request;
 use bike_fixed::Moment;
+use bike_texts::Fields;
 use std::alloc::{AllocError, Global};
 
 /// The greatest length of a request line in bytes, its LF not counted.

@@ -3,7 +3,8 @@
 ghost use Rattle.std.specs.Prelude.{◌≡◌, IfOk};
 ghost use Rattle.bike_requests.specs.Readers.{open_order_at, load_at, unload_at, close_order_at};
 
-use bike_commands::{Command, Fields};
+use bike_commands::Command;
+use bike_texts::Fields;
 use std::alloc::{AllocError, Global};
 
 #[tactic(auto, unfolding(crate::specs::Readers::open_order_at))]

@@ -4,7 +4,8 @@ ghost use Rattle.std.specs.Prelude.{◌≡◌, IfOk};
 ghost use Rattle.bike_requests.specs.RecordReaders.{set_system_at, add_plan_at, add_type_at, add_station_at};
 
 use bike_catalogue::{Plan, Station, System, VehicleType};
-use bike_commands::{Command, Fields};
+use bike_commands::Command;
+use bike_texts::Fields;
 use std::alloc::{AllocError, Global};
 
 #[tactic(auto, unfolding(crate::specs::RecordReaders::set_system_at))]

@@ -3,7 +3,8 @@
 ghost use Rattle.std.specs.Prelude.{◌≡◌, IfOk};
 ghost use Rattle.bike_requests.specs.Readers.{add_rider_at, set_rider_at, top_up_at, start_at, end_at, recover_at, refund_at};
 
-use bike_commands::{Command, Fields};
+use bike_commands::Command;
+use bike_texts::Fields;
 use std::alloc::{AllocError, Global};
 
 #[tactic(auto, unfolding(crate::specs::Readers::add_rider_at))]

@@ -14,7 +14,8 @@ use crate::read_records::{read_add_plan, read_add_station, read_add_type, read_s
 use crate::read_riding::{
     read_add_rider, read_end, read_recover, read_refund, read_set_rider, read_start, read_top_up,
 };
-use bike_commands::{Command, Fields};
+use bike_commands::Command;
+use bike_texts::Fields;
 use std::alloc::{AllocError, Global};
 
 #[tactic(auto, unfolding(crate::specs::Readers::command_by))]

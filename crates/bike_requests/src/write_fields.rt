@@ -4,13 +4,13 @@ ghost use Rattle.std.specs.Prelude.{◌≡◌, ◌++◌, ◌∷◌, decimal, OnO
 ghost use Rattle.std.specs.Char.{encode_utf8};
 ghost use Rattle.std.specs.Fmt.{signed_decimal};
 ghost use Rattle.bike_fixed.specs.Text.{micro_text};
-ghost use Rattle.bike_commands.specs.Fields.{escaped, segment_end_text, segment_text, segments_text, end_text};
+ghost use Rattle.bike_texts.specs.Fields.{escaped, segment_end_text, segment_text, segments_text, end_text};
 ghost use Rattle.bike_requests.specs.Writing.{others_text};
 
 use bike_catalogue::Segment;
-use bike_commands::OrderEnd;
 use bike_fields::Ident;
 use bike_fixed::{Micro, Within, signed_text};
+use bike_texts::OrderEnd;
 use itoa::Buffer;
 use std::alloc::AllocError;
 
@@ -66,7 +66,7 @@ pub fn put_end(out: &mut String, end: &OrderEnd) -> Result<(), AllocError>
 }
 
 /// A character, or its escape.
-#[tactic(auto, unfolding(bike_commands::specs::Fields::escaped))]
+#[tactic(auto, unfolding(bike_texts::specs::Fields::escaped))]
 fn push_escaped(out: &mut String, c: char) -> Result<(), AllocError>
     ensures { OnOk result (string_bytes out.new ≡ string_bytes out.old ++ escaped (encode_utf8 c)) }
 {

@@ -1,9 +1,9 @@
 //! Writing the fields of the catalogue's records.
 
 ghost use Rattle.std.specs.Prelude.{◌≡◌, ◌++◌, ◌∷◌, [], OnOk, string_bytes};
+ghost use Rattle.bike_texts.specs.Fields.{Number, Currency, Ascii, fields_text};
 ghost use Rattle.bike_commands.specs.declared.command.Command.TheVariants.{SetSystem, AddPlan, AddType, AddStation};
 ghost use Rattle.bike_commands.specs.Commands.{fields_of};
-ghost use Rattle.bike_commands.specs.Fields.{Number, Currency, Ascii, fields_text};
 
 use crate::write_fields::{
     put_choice, put_degrees, put_escaped, put_ident, put_number, put_segments, put_text,
@@ -12,7 +12,7 @@ use bike_catalogue::{Plan, Station, System, VehicleType};
 use std::alloc::AllocError;
 
 /// The system's opening hours, contact and time zone.
-#[tactic(auto, unfolding(bike_commands::specs::Fields::fields_text))]
+#[tactic(auto, unfolding(bike_texts::specs::Fields::fields_text))]
 fn put_service(out: &mut String, system: &System) -> Result<(), AllocError>
     ensures { OnOk result (string_bytes out.new ≡ string_bytes out.old ++ fields_text (Ascii system.now.opening_hours ∷ Ascii system.now.feed_contact_email ∷ Ascii system.now.timezone ∷ [])) }
 {
@@ -22,7 +22,7 @@ fn put_service(out: &mut String, system: &System) -> Result<(), AllocError>
 }
 
 /// The system's currency, URL and time to live.
-#[tactic(auto, unfolding(bike_commands::specs::Fields::fields_text))]
+#[tactic(auto, unfolding(bike_texts::specs::Fields::fields_text))]
 fn put_publication(out: &mut String, system: &System) -> Result<(), AllocError>
     ensures { OnOk result (string_bytes out.new ≡ string_bytes out.old ++ fields_text (Currency system.now.currency ∷ Ascii system.now.base_url ∷ Number 0 86400 system.now.ttl ∷ [])) }
 {
@@ -31,7 +31,7 @@ fn put_publication(out: &mut String, system: &System) -> Result<(), AllocError>
     put_number(out, &system.ttl())
 }
 
-#[tactic(auto, unfolding(bike_commands::specs::Fields::fields_text))]
+#[tactic(auto, unfolding(bike_texts::specs::Fields::fields_text))]
 pub fn put_system(out: &mut String, system: &System) -> Result<(), AllocError>
     ensures { OnOk result (string_bytes out.new ≡ string_bytes out.old ++ fields_text (fields_of (SetSystem system.now))) }
 {
@@ -42,7 +42,7 @@ pub fn put_system(out: &mut String, system: &System) -> Result<(), AllocError>
     put_publication(out, system)
 }
 
-#[tactic(auto, unfolding(bike_commands::specs::Fields::fields_text))]
+#[tactic(auto, unfolding(bike_texts::specs::Fields::fields_text))]
 pub fn put_plan(out: &mut String, plan: &Plan) -> Result<(), AllocError>
     ensures { OnOk result (string_bytes out.new ≡ string_bytes out.old ++ fields_text (fields_of (AddPlan plan.now))) }
 {
@@ -54,7 +54,7 @@ pub fn put_plan(out: &mut String, plan: &Plan) -> Result<(), AllocError>
     put_segments(out, plan.segments())
 }
 
-#[tactic(auto, unfolding(bike_commands::specs::Fields::fields_text))]
+#[tactic(auto, unfolding(bike_texts::specs::Fields::fields_text))]
 pub fn put_type(out: &mut String, vehicle_type: &VehicleType) -> Result<(), AllocError>
     ensures { OnOk result (string_bytes out.new ≡ string_bytes out.old ++ fields_text (fields_of (AddType vehicle_type.now))) }
 {
@@ -66,7 +66,7 @@ pub fn put_type(out: &mut String, vehicle_type: &VehicleType) -> Result<(), Allo
     put_ident(out, vehicle_type.plan_id())
 }
 
-#[tactic(auto, unfolding(bike_commands::specs::Fields::fields_text))]
+#[tactic(auto, unfolding(bike_texts::specs::Fields::fields_text))]
 pub fn put_station(out: &mut String, station: &Station) -> Result<(), AllocError>
     ensures { OnOk result (string_bytes out.new ≡ string_bytes out.old ++ fields_text (fields_of (AddStation station.now))) }
 {

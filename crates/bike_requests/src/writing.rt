@@ -1,17 +1,18 @@
 //! Writing the text of a command.
 
 ghost use Rattle.std.specs.Prelude.{◌≡◌, ◌++◌, IfOk, OnOk, string_bytes};
+ghost use Rattle.bike_texts.specs.Fields.{fields_text, side_text};
 ghost use Rattle.bike_commands.specs.declared.command.Command.{Command};
 ghost use Rattle.bike_commands.specs.declared.command.Command.TheVariants.{SetStation, MarkDock, Start, End, OpenOrder, Load, Unload};
-ghost use Rattle.bike_commands.specs.Commands.{text_of, word_of, fields_of, IsCommand, IsSpelling, side_text};
-ghost use Rattle.bike_commands.specs.Fields.{fields_text};
+ghost use Rattle.bike_commands.specs.Commands.{text_of, word_of, fields_of, IsCommand, IsSpelling};
 
 use crate::write_fields::{put_choice, put_end, put_ident, put_number, put_text};
 use crate::write_records::{put_plan, put_station, put_system, put_type};
-use bike_commands::{Command, OrderEnd, Side, UnloadDock};
+use bike_commands::Command;
 use bike_fields::{
     BicycleNumber, DockNumber, Ident, OrderNumber, OrderQuantity, RiderNumber, TruckNumber,
 };
+use bike_texts::{OrderEnd, Side, UnloadDock};
 use std::alloc::{AllocError, Global};
 
 fn word(command: &Command) -> &'static str
@@ -52,7 +53,7 @@ fn side_word(side: Side) -> &'static str
     }
 }
 
-#[tactic(auto, unfolding(bike_commands::specs::Fields::fields_text))]
+#[tactic(auto, unfolding(bike_texts::specs::Fields::fields_text))]
 fn put_flags(
     out: &mut String,
     station: &Ident,
@@ -68,7 +69,7 @@ fn put_flags(
     put_choice(out, "true", "false", returning)
 }
 
-#[tactic(auto, unfolding(bike_commands::specs::Fields::fields_text))]
+#[tactic(auto, unfolding(bike_texts::specs::Fields::fields_text))]
 fn put_order(
     out: &mut String,
     truck: &TruckNumber,
@@ -86,7 +87,7 @@ fn put_order(
     put_number(out, count)
 }
 
-#[tactic(auto, unfolding(bike_commands::specs::Fields::fields_text))]
+#[tactic(auto, unfolding(bike_texts::specs::Fields::fields_text))]
 fn put_unloading(
     out: &mut String,
     truck: &TruckNumber,
@@ -105,7 +106,7 @@ fn put_unloading(
 }
 
 /// A place and the dock there, behind the number of whoever comes to it.
-#[tactic(auto, unfolding(bike_commands::specs::Fields::fields_text))]
+#[tactic(auto, unfolding(bike_texts::specs::Fields::fields_text))]
 fn put_at_dock(
     out: &mut String,
     number: &RiderNumber,
@@ -120,7 +121,7 @@ fn put_at_dock(
     put_number(out, dock)
 }
 
-#[tactic(auto, unfolding(bike_commands::specs::Fields::fields_text))]
+#[tactic(auto, unfolding(bike_texts::specs::Fields::fields_text))]
 fn put_mark(
     out: &mut String,
     station: &Ident,
@@ -134,7 +135,7 @@ fn put_mark(
     put_choice(out, "broken", "working", broken)
 }
 
-#[tactic(auto, unfolding(bike_commands::specs::Fields::fields_text))]
+#[tactic(auto, unfolding(bike_texts::specs::Fields::fields_text))]
 fn put_loading(
     out: &mut String,
     truck: &TruckNumber,
@@ -148,7 +149,7 @@ fn put_loading(
     put_number(out, bike)
 }
 
-#[tactic(auto, unfolding(bike_commands::specs::Fields::fields_text))]
+#[tactic(auto, unfolding(bike_texts::specs::Fields::fields_text))]
 fn put_fields(out: &mut String, command: &Command) -> Result<(), AllocError>
     ensures { OnOk result (string_bytes out.new ≡ string_bytes out.old ++ fields_text (fields_of command.now)) }
 {

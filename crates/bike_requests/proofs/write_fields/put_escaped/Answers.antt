@@ -2,7 +2,7 @@ use Rattle.std.proofs.Common.{sym, ◌∙◌, ◌++◌, ap, append_assoc, string
 use Rattle.std.proofs.lemmas.Iterator.{YieldsList-from_chars}
 use Rattle.std.proofs.lemmas.Iterator.Consumers.{YieldsList-end}
 use Rattle.std.proofs.Math.Utf8.{encode, encodes}
-use Rattle.bike_commands.specs.Fields.{escaped}
+use Rattle.bike_texts.specs.Fields.{escaped}
 use Rattle.bike_requests.proofs.Escaping.{escaped_more, escaped_none, escaped_whole}
 use Rattle.bike_requests.proofs.write_fields.put_escaped.Goals as goal
 

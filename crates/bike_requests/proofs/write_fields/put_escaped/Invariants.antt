@@ -1,6 +1,6 @@
 use Rattle.std.proofs.Common.{◌≡◌, ◌++◌, string_bytes}
 use Rattle.std.proofs.Math.Utf8.{encodes}
-use Rattle.bike_commands.specs.Fields.{escaped}
+use Rattle.bike_texts.specs.Fields.{escaped}
 use Rattle.bike_requests.proofs.write_fields.put_escaped.Given as goal
 
 abbrev pub invariant-loop-c : goal.invariant-loop-c

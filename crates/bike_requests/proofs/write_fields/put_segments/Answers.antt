@@ -1,6 +1,6 @@
 use Rattle.std.proofs.Common.{rules, ◌≡◌, ◌++◌, ◌∷◌, [], List, ℕ, string_bytes, OnOk, ap, ◌∙◌, subst, lit<}
 use Rattle.std.proofs.lemmas.Str.{encode_ascii}
-use Rattle.bike_commands.specs.Fields.{segment_text}
+use Rattle.bike_texts.specs.Fields.{segment_text}
 use Rattle.bike_requests.specs.Writing.{others_text}
 use Rattle.bike_requests.proofs.SegmentTexts.{segments_written}
 use Rattle.bike_requests.proofs.write_fields.put_segments.Goals as goal

@@ -1,0 +1,9 @@
+pub mod Splitting
+pub mod Absent
+pub mod TabFree
+pub mod Unescaping
+pub mod EscapeLaws
+pub mod SegmentSteps
+pub mod SegmentLaws
+pub mod Chains
+pub mod OneSpelling

@@ -1,0 +1,5 @@
+pub mod Fields
+pub mod Parts
+pub mod Reading
+pub mod Escapes
+pub mod SegmentReading

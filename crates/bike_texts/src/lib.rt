@@ -1,0 +1,23 @@
+//! The fields of which the texts of commands and replies are made, how each is spelled, and the reader of
+//! them.
+//!
+//! A text is cut at its separators, and the next part is read as a field of one kind: a number or an amount,
+//! a coordinate, a name with escapes, the segments of a plan, an end of an order, a word. Reading is exact in
+//! both directions: a value is answered where the part spells one, and nothing only where it spells none.
+#![tactic(auto)]
+
+mod bounds;
+mod ends;
+mod escapes;
+mod fare;
+mod fields;
+mod segments;
+mod values;
+
+pub use bounds::{tell_end, tell_segments};
+pub use ends::{OrderEnd, Side, UnloadDock};
+pub use fare::Fare;
+pub use fields::Fields;
+
+#[cfg(test)]
+mod field_tests;

@@ -1,0 +1,82 @@
+//! The values that one part of a text spells.
+
+ghost use Rattle.std.specs.Prelude.{◌≡◌, IfOk};
+ghost use Rattle.bike_catalogue.specs.Rows.{is_range};
+ghost use Rattle.bike_texts.specs.Reading.{degrees_of, metres_of, choice_of, side_of, end_of};
+
+use crate::ends::{OrderEnd, Side};
+use bike_catalogue::Propulsion;
+use bike_fields::{Ident, MaxRange};
+use bike_fixed::Micro;
+use std::alloc::{AllocError, Global};
+
+/// The coordinate that the text spells, where its size is at most `greatest` microdegrees.
+#[tactic(auto, unfolding(crate::specs::Reading::degrees_of))]
+pub fn read_degrees(text: &str, greatest: u32) -> Option<Micro>
+    ensures { result ≡ degrees_of greatest text.now }
+{
+    let micro = Micro::read(text)?;
+    if micro.microdegrees().unsigned_abs() <= greatest {
+        return Some(micro);
+    }
+    None
+}
+
+/// Whether a greatest range in metres goes with the propulsion.
+fn is_range(propulsion: Propulsion, metres: u32) -> bool
+    ensures { result ≡ is_range propulsion metres }
+{
+    match propulsion {
+        Propulsion::Human => metres == 0,
+        Propulsion::ElectricAssist => 1 <= metres && metres <= 1_000_000,
+    }
+}
+
+/// The greatest range in metres that the text spells, where it goes with the propulsion.
+#[tactic(auto, unfolding(crate::specs::Reading::metres_of))]
+pub fn read_metres(text: &str, propulsion: Propulsion) -> Option<MaxRange>
+    ensures { result ≡ metres_of propulsion text.now }
+{
+    let metres = MaxRange::read(text)?;
+    if is_range(propulsion, metres.get()) {
+        return Some(metres);
+    }
+    None
+}
+
+/// Which of two words the text is.
+#[tactic(auto, unfolding(crate::specs::Reading::choice_of))]
+pub fn read_choice(text: &str, word: &str, other: &str) -> Option<bool>
+    ensures { result ≡ choice_of word.now other.now text.now }
+{
+    if text == word {
+        return Some(true);
+    }
+    if text == other {
+        return Some(false);
+    }
+    None
+}
+
+/// The end of an order that the text names, `from` or `to`.
+#[tactic(auto, unfolding(crate::specs::Reading::side_of))]
+pub fn read_side(text: &str) -> Option<Side>
+    ensures { result ≡ side_of text.now }
+{
+    match text {
+        "from" => Some(Side::From),
+        "to" => Some(Side::To),
+        _ => None,
+    }
+}
+
+/// The depot, written `*`, or the station of that identifier; an error where memory was refused.
+#[tactic(auto, unfolding(crate::specs::Reading::end_of))]
+pub fn read_order_end(alloc: Global, text: &str) -> Result<Option<OrderEnd>, AllocError>
+    ensures { IfOk result (λ o. o ≡ end_of text.now) }
+{
+    if text == "*" {
+        return Ok(Some(OrderEnd::Depot));
+    }
+    Ok(Ident::read(alloc, text)?.map(OrderEnd::Station))
+}
