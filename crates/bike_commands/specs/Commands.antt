@@ -1,7 +1,7 @@
 -- How a command is spelled.
 use Rattle.std.specs.Prelude.{ℕ, List, [], ◌∷◌, ◌++◌, codes}
 use Rattle.bike_catalogue.specs.Vehicle.{form_text, propulsion_text}
-use Rattle.bike_texts.specs.Fields.{Field, Number, Fixed, Id, Language, Currency, Name, Ascii, Degrees, Metres, Segments, End, Choice, Flag, Numbered, Dock, Serial, Payment, side_text, AreGood, IsSpelled, fields_text}
+use Rattle.bike_texts.specs.Fields.{Field, Number, Fixed, Id, Language, Currency, Name, Ascii, Degrees, Metres, Segments, End, Choice, Flag, Numbered, Dock, Serial, Payment, side_text, AreGood, IsSpelled, IsWritten, fields_text}
 use Rattle.bike_commands.specs.declared.command.Command.{Command}
 use Rattle.bike_commands.specs.declared.command.Command.TheVariants as command
 
@@ -66,6 +66,10 @@ IsCommand c = AreGood (fields_of c)
 -- the text spells the command
 abbrev pub IsSpelling : List ℕ → Command → Type 0
 IsSpelling text c = IsSpelled text (word_of c) (fields_of c)
+
+-- .. with its coordinates as they are written
+abbrev pub IsWrittenSpelling : List ℕ → Command → Type 0
+IsWrittenSpelling text c = IsWritten text (word_of c) (fields_of c)
 
 -- the one text that is written for a command
 abbrev pub text_of : Command → List ℕ

@@ -1,10 +1,10 @@
 //! Writing the text of a command.
 
-ghost use Rattle.std.specs.Prelude.{◌≡◌, ◌++◌, IfOk, OnOk, string_bytes};
+ghost use Rattle.std.specs.Prelude.{◌≡◌, ◌++◌, ℕ, List, IfOk, OnOk, string_bytes};
 ghost use Rattle.bike_texts.specs.Fields.{fields_text, side_text};
 ghost use Rattle.bike_commands.specs.declared.command.Command.{Command};
 ghost use Rattle.bike_commands.specs.declared.command.Command.TheVariants.{SetStation, MarkDock, Start, End, OpenOrder, Load, Unload};
-ghost use Rattle.bike_commands.specs.Commands.{text_of, word_of, fields_of, IsCommand, IsSpelling};
+ghost use Rattle.bike_commands.specs.Commands.{text_of, word_of, fields_of, IsCommand, IsSpelling, IsWrittenSpelling};
 
 use crate::write_fields::{put_choice, put_end, put_ident, put_number, put_text};
 use crate::write_records::{put_plan, put_station, put_system, put_type};
@@ -239,9 +239,12 @@ pub fn command_text(alloc: Global, command: &Command) -> Result<String, AllocErr
     put_fields(&mut out, command)?;
     Ok(out)
 }
-/// The law of spelling: a command's text spells it, and two commands have equal texts exactly where
-/// they are equal.
+/// The law of spelling: a command's text spells it; it is the one spelling whose coordinates are as they are written,
+/// with six decimals, no needless zero in front and no minus before zero; and two commands have equal texts exactly
+/// where they are equal.
 pub fn command_text_law()
     ensures spells { (c : Command) → IsCommand c → IsSpelling (text_of c) c }
+    ensures written { (c : Command) → IsCommand c → IsWrittenSpelling (text_of c) c }
+    ensures only { (c : Command) (text : List ℕ) → IsWrittenSpelling text c → text ≡ text_of c }
     ensures apart { (c d : Command) → IsCommand c → IsCommand d → text_of c ≡ text_of d → c ≡ d }
 {}

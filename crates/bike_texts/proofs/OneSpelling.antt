@@ -5,7 +5,7 @@ use Rattle.std.specs.List.{join_with_byte}
 use Rattle.std.proofs.lemmas.Int.{ints}
 use Rattle.std.proofs.lemmas.List.{append-nil}
 use Rattle.bike_fixed.proofs.Spellings.{micro_text_spelled}
-use Rattle.bike_texts.specs.Fields.{Field, Number, Signed, Fixed, Id, Language, Currency, Name, Ascii, Degrees, Metres, Segments, End, IsGood, AreGood, Spells, EachSpells, IsSpelled, field_text, fields_text}
+use Rattle.bike_texts.specs.Fields.{Field, Number, Signed, Fixed, Id, Language, Currency, Name, Ascii, Degrees, Metres, Segments, End, IsGood, AreGood, Spells, EachSpells, IsSpelled, IsAsWritten, AreAsWritten, IsWritten, field_text, fields_text}
 use Rattle.bike_texts.proofs.TabFree.{AreRead}
 
 field_spells : (f : Field) → IsGood f → Spells f (field_text f)
@@ -34,6 +34,28 @@ joined_text word (f ∷ fs) = ap (λ (t : List ℕ). word ++ 9 ∷ t) (joined_te
 -- the text of a word and fields spells them
 pub spelled_text : (word : List ℕ) (fs : List Field) → AreGood fs → IsSpelled (word ++ fields_text fs) word fs
 spelled_text word fs g = record { parts = map field_text fs; each = each_spells fs g; joined = joined_text word fs }
+
+-- .. with coordinates as they are written
+field_as_written : (f : Field) → IsAsWritten f (field_text f)
+field_as_written (Number least greatest n) = tt
+field_as_written (Signed least greatest z) = tt
+field_as_written (Fixed word) = tt
+field_as_written (Id bs) = tt
+field_as_written (Language bs) = tt
+field_as_written (Currency bs) = tt
+field_as_written (Name bs) = tt
+field_as_written (Ascii bs) = tt
+field_as_written (Degrees greatest z) = refl
+field_as_written (Metres propulsion n) = tt
+field_as_written (Segments ss) = tt
+field_as_written (End end) = tt
+
+each_as_written : (fs : List Field) → AreAsWritten fs (map field_text fs)
+each_as_written [] = tt
+each_as_written (f ∷ fs) = (field_as_written f, each_as_written fs)
+
+pub written_text : (word : List ℕ) (fs : List Field) → AreGood fs → IsWritten (word ++ fields_text fs) word fs
+written_text word fs g = record { parts = map field_text fs; each = each_spells fs g; coordinates = each_as_written fs; joined = joined_text word fs }
 
 -- ---- the other way
 
@@ -78,3 +100,28 @@ one_spelling word fs ps one read = ap (λ (qs : List (List ℕ)). join_with_byte
   texts_of [] (p ∷ ps) one h = absurd h.each
   texts_of (f ∷ fs) [] one h = absurd h.each
   texts_of (f ∷ fs) (p ∷ ps) one h = ap₂ (λ (q : List ℕ) (qs : List (List ℕ)). q ∷ qs) (one_text f p one.0 h.each.0) (texts_of fs ps one.1 (record { each = h.each.1; good = h.good.1 }))
+
+-- ---- one spelling, with coordinates as they are written
+
+text_as_written : (f : Field) (p : List ℕ) → Spells f p → IsAsWritten f p → p ≡ field_text f
+text_as_written (Number least greatest n) p e w = e
+text_as_written (Signed least greatest z) p e w = e
+text_as_written (Fixed word) p e w = e
+text_as_written (Id bs) p e w = e
+text_as_written (Language bs) p e w = e
+text_as_written (Currency bs) p e w = e
+text_as_written (Name bs) p e w = e
+text_as_written (Ascii bs) p e w = e
+text_as_written (Degrees greatest z) p e w = w
+text_as_written (Metres propulsion n) p e w = e
+text_as_written (Segments ss) p e w = e
+text_as_written (End end) p e w = e
+
+texts_as_written : (fs : List Field) (ps : List (List ℕ)) → EachSpells fs ps → AreAsWritten fs ps → ps ≡ map field_text fs
+texts_as_written [] [] e w = refl
+texts_as_written [] (p ∷ ps) e w = absurd e
+texts_as_written (f ∷ fs) [] e w = absurd e
+texts_as_written (f ∷ fs) (p ∷ ps) e w = ap₂ (λ (q : List ℕ) (qs : List (List ℕ)). q ∷ qs) (text_as_written f p e.0 w.0) (texts_as_written fs ps e.1 w.1)
+
+pub only_written : (text word : List ℕ) (fs : List Field) → IsWritten text word fs → text ≡ word ++ fields_text fs
+only_written text word fs w = w.joined ∙ ap (λ (qs : List (List ℕ)). join_with_byte 9 (word ∷ qs)) (texts_as_written fs w.parts w.each w.coordinates) ∙ sym (joined_text word fs)

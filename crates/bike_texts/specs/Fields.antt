@@ -165,6 +165,33 @@ pub record IsSpelled (text word : List ℕ) (fields : List Field) : Type 0 where
   pub each : EachSpells fields parts
   pub joined : text ≡ join_with_byte 9 (word ∷ parts)
 
+-- the text is as coordinates are written: with six decimals, no needless zero in front and no minus before zero
+abbrev pub IsAsWritten : Field → List ℕ → Type 0
+IsAsWritten (Degrees greatest z) text = text ≡ micro_text z
+IsAsWritten (Number least greatest n) text = Unit {0}
+IsAsWritten (Signed least greatest z) text = Unit {0}
+IsAsWritten (Fixed word) text = Unit {0}
+IsAsWritten (Id bs) text = Unit {0}
+IsAsWritten (Language bs) text = Unit {0}
+IsAsWritten (Currency bs) text = Unit {0}
+IsAsWritten (Name bs) text = Unit {0}
+IsAsWritten (Ascii bs) text = Unit {0}
+IsAsWritten (Metres propulsion n) text = Unit {0}
+IsAsWritten (Segments ss) text = Unit {0}
+IsAsWritten (End end) text = Unit {0}
+
+abbrev pub AreAsWritten : List Field → List (List ℕ) → Type 0
+AreAsWritten [] ps = Unit {0}
+AreAsWritten (f ∷ fs) [] = Unit {0}
+AreAsWritten (f ∷ fs) (p ∷ ps) = IsAsWritten f p × AreAsWritten fs ps
+
+-- The text spells the word and the fields, with their coordinates as they are written.
+pub record IsWritten (text word : List ℕ) (fields : List Field) : Type 0 where
+  pub parts : List (List ℕ)
+  pub each : EachSpells fields parts
+  pub coordinates : AreAsWritten fields parts
+  pub joined : text ≡ join_with_byte 9 (word ∷ parts)
+
 -- the texts of fields, with a TAB before each
 unfoldable pub fields_text : List Field → List ℕ
 fields_text [] = []
