@@ -4,33 +4,8 @@ use super::{command_text, read_command, read_line};
 use std::alloc::{AllocError, Global};
 use std::test::Fail;
 
-/// Whether the text is read as a command, of which it is the text.
-fn is_rewritten(alloc: Global, text: &str) -> Result<bool, AllocError> {
-    match read_command(alloc, text)? {
-        Some(command) => Ok(command_text(alloc, &command)?.as_str() == text),
-        None => Ok(false),
-    }
-}
-
-/// Whether the text is read as the command of another text.
-fn is_read_as(alloc: Global, text: &str, other: &str) -> Result<bool, AllocError> {
-    match read_command(alloc, text)? {
-        Some(command) => Ok(command_text(alloc, &command)?.as_str() == other),
-        None => Ok(false),
-    }
-}
-
-/// The moment of the line, where it spells a request.
-fn moment_of(alloc: Global, line: &[u8]) -> Result<Option<u64>, AllocError> {
-    let request = read_line(alloc, line)?;
-    match &request {
-        Some(read) => Ok(Some(read.0.seconds())),
-        None => Ok(None),
-    }
-}
-
-/// The system, plans, types and stations.
-const RECORDS: [&str; 9] = [
+/// Commands as they are written: records of the catalogue, docks, bicycles, trucks, riders, rentals, orders, and texts with escapes.
+const COMMANDS: [&str; 34] = [
     "set-system\tmetro\ten\tMetro Bikes\t24/7\tfeeds@example.org\tEtc/UTC\tEUR\thttp://127.0.0.1:8080\t30",
     "add-plan\tbasic\tBasic\t100\tfalse\tOne euro and then a quarter\t30:25:5:-",
     "add-plan\tfree\tFree\t0\ttrue\tNothing\t-",
@@ -40,10 +15,6 @@ const RECORDS: [&str; 9] = [
     "set-plan\tcity\tfree",
     "add-station\ta1\tHarbour\t41.890169\t12.492269\t2",
     "set-station\ta1\ttrue\tfalse\ttrue",
-];
-
-/// Docks, bicycles, trucks, riders and the ledger.
-const RIDING: [&str; 15] = [
     "mark-dock\ta1\t200\tbroken",
     "mark-dock\ta1\t1\tworking",
     "add-bike\t999999\tcity",
@@ -59,57 +30,17 @@ const RIDING: [&str; 15] = [
     "end\t7\ta1\t1",
     "recover\t100000000",
     "refund\t1\t125",
-];
-
-/// Orders.
-const ORDERS: [&str; 6] = [
     "open-order\t3\t*\ta1\tcity\t60",
     "open-order\t3\ta1\t*\tcity\t1",
     "load\t3\t1\t7",
     "unload\t3\t1\t7\tto\t1",
     "unload\t3\t1\t7\tfrom\t0",
     "close-order\t10000000",
-];
-
-/// Names and printable fields with escapes.
-const ESCAPED: [&str; 4] = [
     "add-plan\tp\tQ \"1\"\\t\t1\ttrue\tD\t-",
     "add-plan\tp\t\\n\\r\\\\\t1\ttrue\tD\t-",
     "add-plan\tp\tCorso, n\u{f6}rd\t1\ttrue\t\\\\n\t-",
     "set-system\ts\tde\tN\t\\\\\tf\tt\tEUR\tu\t86400",
 ];
-
-#[test]
-fn records_are_rewritten(rt: HostRuntime) -> Result<(), Fail> {
-    for text in RECORDS {
-        assert!(rt; is_rewritten(rt.alloc(), text)?, "{text:?}");
-    }
-    Ok(())
-}
-
-#[test]
-fn riding_is_rewritten(rt: HostRuntime) -> Result<(), Fail> {
-    for text in RIDING {
-        assert!(rt; is_rewritten(rt.alloc(), text)?, "{text:?}");
-    }
-    Ok(())
-}
-
-#[test]
-fn orders_are_rewritten(rt: HostRuntime) -> Result<(), Fail> {
-    for text in ORDERS {
-        assert!(rt; is_rewritten(rt.alloc(), text)?, "{text:?}");
-    }
-    Ok(())
-}
-
-#[test]
-fn escapes_are_rewritten(rt: HostRuntime) -> Result<(), Fail> {
-    for text in ESCAPED {
-        assert!(rt; is_rewritten(rt.alloc(), text)?, "{text:?}");
-    }
-    Ok(())
-}
 
 /// Coordinates in several spellings, and the command's own text.
 const COORDINATES: [(&str, &str); 5] = [
@@ -135,14 +66,6 @@ const COORDINATES: [(&str, &str); 5] = [
     ),
 ];
 
-#[test]
-fn coordinates_have_several_spellings(rt: HostRuntime) -> Result<(), Fail> {
-    for (text, other) in COORDINATES {
-        assert!(rt; is_read_as(rt.alloc(), text, other)?, "{text:?}");
-    }
-    Ok(())
-}
-
 /// Lines, and the moments of the requests that they spell.
 const LINES: [(&str, Option<u64>); 12] = [
     ("1700000000\toffice\tk1\tadd-rider\t17", Some(1700000000)),
@@ -164,14 +87,6 @@ const LINES: [(&str, Option<u64>); 12] = [
     ("1\toffice\tk1", None),
     ("", None),
 ];
-
-#[test]
-fn lines_are_read(rt: HostRuntime) -> Result<(), Fail> {
-    for (line, moment) in LINES {
-        assert_eq!(rt; moment_of(rt.alloc(), line.as_bytes())?, moment, "{line:?}");
-    }
-    Ok(())
-}
 
 /// Identifiers, words and ranges in metres that break a bound.
 const BAD_WORDS: [&str; 23] = [
@@ -222,18 +137,92 @@ const BAD_NUMBERS: [&str; 18] = [
     "set-system\ts\tde\tN\t\\t\tf\tt\tEUR\tu\t60",
 ];
 
-#[test]
-fn other_words_are_refused(rt: HostRuntime) -> Result<(), Fail> {
-    for text in BAD_WORDS {
-        assert!(rt; read_command(rt.alloc(), text)?.is_none(), "{text:?}");
+/// Whether the text is read as the command whose own text is the other.
+fn is_read_as(alloc: Global, text: &str, other: &str) -> Result<bool, AllocError> {
+    match read_command(alloc, text)? {
+        Some(command) => Ok(command_text(alloc, &command)?.as_str() == other),
+        None => Ok(false),
     }
+}
+
+/// The texts that are not read as commands of which they are the texts, each behind an LF.
+fn not_rewritten(alloc: Global, texts: &[&str]) -> Result<String, AllocError> {
+    let mut wrong = String::new(alloc);
+    for text in texts {
+        if !is_read_as(alloc, text, text)? {
+            wrong.push('\n')?;
+            wrong.push_str(text)?;
+        }
+    }
+    Ok(wrong)
+}
+
+/// The texts that are not read as the commands of the texts beside them, each behind an LF.
+fn not_read_so(alloc: Global, rows: &[(&str, &str)]) -> Result<String, AllocError> {
+    let mut wrong = String::new(alloc);
+    for row in rows {
+        if !is_read_as(alloc, row.0, row.1)? {
+            wrong.push('\n')?;
+            wrong.push_str(row.0)?;
+        }
+    }
+    Ok(wrong)
+}
+
+/// The texts that are read as commands, each behind an LF.
+fn not_refused(alloc: Global, texts: &[&str]) -> Result<String, AllocError> {
+    let mut wrong = String::new(alloc);
+    for text in texts {
+        if read_command(alloc, text)?.is_some() {
+            wrong.push('\n')?;
+            wrong.push_str(text)?;
+        }
+    }
+    Ok(wrong)
+}
+
+/// The moment of the line, where it spells a request.
+fn moment_of(alloc: Global, line: &[u8]) -> Result<Option<u64>, AllocError> {
+    let request = read_line(alloc, line)?;
+    match &request {
+        Some(read) => Ok(Some(read.0.seconds())),
+        None => Ok(None),
+    }
+}
+
+/// The lines that are read at other moments than those beside them, each behind an LF.
+fn at_other_moments(alloc: Global, rows: &[(&str, Option<u64>)]) -> Result<String, AllocError> {
+    let mut wrong = String::new(alloc);
+    for row in rows {
+        if moment_of(alloc, row.0.as_bytes())? != row.1 {
+            wrong.push('\n')?;
+            wrong.push_str(row.0)?;
+        }
+    }
+    Ok(wrong)
+}
+
+#[test]
+fn commands_are_rewritten(rt: HostRuntime) -> Result<(), Fail> {
+    let wrong = not_rewritten(rt.alloc(), &COMMANDS)?;
+    assert_eq!(rt; wrong.as_str(), "");
+    let wrong = not_read_so(rt.alloc(), &COORDINATES)?;
+    assert_eq!(rt; wrong.as_str(), "");
     Ok(())
 }
 
 #[test]
-fn other_numbers_are_refused(rt: HostRuntime) -> Result<(), Fail> {
-    for text in BAD_NUMBERS {
-        assert!(rt; read_command(rt.alloc(), text)?.is_none(), "{text:?}");
-    }
+fn lines_are_read(rt: HostRuntime) -> Result<(), Fail> {
+    let wrong = at_other_moments(rt.alloc(), &LINES)?;
+    assert_eq!(rt; wrong.as_str(), "");
+    Ok(())
+}
+
+#[test]
+fn other_texts_are_refused(rt: HostRuntime) -> Result<(), Fail> {
+    let wrong = not_refused(rt.alloc(), &BAD_WORDS)?;
+    assert_eq!(rt; wrong.as_str(), "");
+    let wrong = not_refused(rt.alloc(), &BAD_NUMBERS)?;
+    assert_eq!(rt; wrong.as_str(), "");
     Ok(())
 }
