@@ -18,9 +18,9 @@ use Rattle.bike_plain.specs.declared.facts.TypeFacts.{TypeFacts}
 use Rattle.bike_plain.specs.declared.facts.StationFacts.{StationFacts}
 use Rattle.bike_plain.specs.declared.facts.KeptFacts.{KeptFacts}
 use Rattle.bike_plain.specs.declared.plain.Plain.{Plain}
-use Rattle.bike_plain.specs.Rows.{text_rows, valued}
-use Rattle.bike_plain.specs.Stands.{Stands, type_row, station_row, truck_row, rider_row, kept_row, first_kept, is_listed, unlisted}
-use Rattle.bike_plain.proofs.RowLemmas.{inserted, changed, not_changed, if_any-cond}
+use Rattle.bike_lists.specs.Rows.{text_rows, valued, is_listed, unlisted}
+use Rattle.bike_plain.specs.Stands.{Stands, type_row, station_row, truck_row, rider_row, kept_row, first_kept}
+use Rattle.bike_lists.proofs.RowLemmas.{inserted, changed, not_changed, if_any-cond}
 
 pub plan_added : (p : Plain) (s : Operator) (id : List ℕ) (v : Bor PlanRow) → Stands p s → entries (insert s.plans id v.now) ≡ valued (λ x. x.now) (put text_cmp id v (text_rows p.plans.items))
 plan_added p s id v stands = inserted nat_list_cmp_total s.plans (λ x. x.now) (text_rows p.plans.items) id v stands.plans

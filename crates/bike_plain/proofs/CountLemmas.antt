@@ -11,8 +11,8 @@ use Rattle.bike_operator.specs.declared.records.Place.TheVariants as place
 use Rattle.bike_operator.specs.Counts.{count, is_at, is_dock, is_fit, is_working_dock, is_available, available, available_of, disabled, docks_available, docks_broken, docks_up_to}
 use Rattle.bike_refusals.specs.Facts.{bike_row}
 use Rattle.bike_plain.specs.declared.plain.Plain.{Plain}
-use Rattle.bike_plain.specs.Rows.{valued}
-use Rattle.bike_plain.specs.Stands.{Stands, is_listed}
+use Rattle.bike_lists.specs.Rows.{valued, is_listed}
+use Rattle.bike_plain.specs.Stands.{Stands}
 use Rattle.bike_plain.specs.Counting.{is_in_working_dock, is_to_rent, is_free_dock}
 
 working : (p : Plain) (s : Operator) (station : List ℕ) → Stands p s → (x : Place) → is_in_working_dock p.broken.items station x ≡ is_working_dock s station x

@@ -13,9 +13,9 @@ use Rattle.bike_operator.specs.declared.view.TruckView.{TruckView}
 use Rattle.bike_operator.specs.declared.view.RiderView.{RiderView}
 use Rattle.bike_refusals.specs.Facts.{if_any, bike_row, rental_row, order_row}
 use Rattle.bike_plain.specs.declared.plain.Plain.{Plain}
-use Rattle.bike_plain.specs.Rows.{text_rows, valued}
-use Rattle.bike_plain.specs.Stands.{Stands, type_row, station_row, truck_row, rider_row, kept_row, is_listed, first_kept}
-use Rattle.bike_plain.proofs.RowLemmas.{found, counted, length-text_rows, numbered-map}
+use Rattle.bike_lists.specs.Rows.{text_rows, valued, is_listed}
+use Rattle.bike_plain.specs.Stands.{Stands, type_row, station_row, truck_row, rider_row, kept_row, first_kept}
+use Rattle.bike_lists.proofs.RowLemmas.{found, counted, length-text_rows, numbered-map}
 
 pub plan_found : (p : Plain) (s : Operator) (id : List ℕ) → Stands p s → if_any (λ x. x.now) (find text_cmp id (text_rows p.plans.items)) ≡ get s.plans id
 plan_found p s id stands = found s.plans (λ x. x.now) (text_rows p.plans.items) id stands.plans

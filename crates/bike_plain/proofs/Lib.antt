@@ -1,4 +1,3 @@
-pub mod RowLemmas
 pub mod FoundLemmas
 pub mod ChangeLemmas
 pub mod StandsLemmas

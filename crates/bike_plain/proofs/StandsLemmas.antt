@@ -17,8 +17,8 @@ use Rattle.bike_plain.specs.declared.facts.TypeFacts.{TypeFacts}
 use Rattle.bike_plain.specs.declared.facts.StationFacts.{StationFacts}
 use Rattle.bike_plain.specs.declared.facts.KeptFacts.{KeptFacts}
 use Rattle.bike_plain.specs.declared.plain.Plain.{Plain}
-use Rattle.bike_plain.specs.Rows.{text_rows, valued}
-use Rattle.bike_plain.specs.Stands.{Stands, type_row, station_row, truck_row, rider_row, kept_row, is_listed, first_kept}
+use Rattle.bike_lists.specs.Rows.{text_rows, valued, is_listed}
+use Rattle.bike_plain.specs.Stands.{Stands, type_row, station_row, truck_row, rider_row, kept_row, first_kept}
 
 pub plans_stand : (p : Plain) (s : Operator) (rows : Vec (Bor (List ℕ) × Bor PlanRow) Global) (m : FinMap text_cmp PlanRow) → Stands p s → (entries m ≡ valued (λ x. x.now) (text_rows rows.items)) → Stands (record p { plans = rows }) (record s { plans = m })
 plans_stand p s rows m stands are = record { system = stands.system; plans = are; types = stands.types; stations = stands.stations; broken = stands.broken; bikes = stands.bikes; trucks = stands.trucks; riders = stands.riders; rentals = stands.rentals; orders = stands.orders; entries = stands.entries; kept = stands.kept; moment = stands.moment }

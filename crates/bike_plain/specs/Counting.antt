@@ -10,7 +10,7 @@ use Rattle.bike_operator.specs.Operator.{Operator, Station}
 use Rattle.bike_operator.specs.Counts.{is_dock, is_fit, available, disabled, docks_available, docks_broken}
 use Rattle.bike_refusals.specs.Facts.{if_any}
 use Rattle.bike_plain.specs.declared.facts.StationCounts.{StationCounts}
-use Rattle.bike_plain.specs.Stands.{is_listed}
+use Rattle.bike_lists.specs.Rows.{is_listed}
 
 -- the counts of a station that is there
 abbrev pub counts_of : Operator → List ℕ → Station → StationCounts

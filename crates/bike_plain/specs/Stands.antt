@@ -1,6 +1,5 @@
 -- The operator for which plain lists stand.
-use Rattle.std.specs.Prelude.{◌≡◌, ℕ, ◌≤◌, List, map, length, filter, Bool, not, Option, find}
-use Rattle.std.specs.List.{list_any}
+use Rattle.std.specs.Prelude.{◌≡◌, ℕ, ◌≤◌, List, map, length, Bool, Option, find}
 use Rattle.std.specs.Borrow.{Bor}
 use Rattle.std.specs.Ordering.{eq_by_cmp}
 use Rattle.std.specs.FinMap as finmap
@@ -15,7 +14,7 @@ use Rattle.bike_plain.specs.declared.facts.TypeFacts.{TypeFacts}
 use Rattle.bike_plain.specs.declared.facts.StationFacts.{StationFacts}
 use Rattle.bike_plain.specs.declared.facts.KeptFacts.{KeptFacts}
 use Rattle.bike_plain.specs.declared.plain.Plain.{Plain}
-use Rattle.bike_plain.specs.Rows.{text_rows, valued}
+use Rattle.bike_lists.specs.Rows.{text_rows, valued, is_listed}
 
 -- ---- the record for which each copy stands
 
@@ -38,14 +37,6 @@ abbrev pub kept_answer : Bor Command × Reply → Kept
 kept_answer k = record { command = k.0.now; reply = k.1 }
 
 -- ---- scans
-
--- the dock stands in the list
-abbrev pub is_listed : List ℕ → ℕ → List (Bor (List ℕ) × ℕ) → Bool
-is_listed station dock rows = list_any (λ b. eq_by_cmp texts_cmp (dock_key station dock) (dock_key b.0.now b.1)) rows
-
--- the list without the dock
-abbrev pub unlisted : List ℕ → ℕ → List (Bor (List ℕ) × ℕ) → List (Bor (List ℕ) × ℕ)
-unlisted station dock rows = filter (λ b. not (eq_by_cmp texts_cmp (dock_key station dock) (dock_key b.0.now b.1))) rows
 
 -- the first that is kept under the caller and key
 abbrev pub first_kept : List ℕ → List ℕ → List KeptFacts → Option KeptFacts

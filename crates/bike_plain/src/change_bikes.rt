@@ -10,8 +10,8 @@ ghost use Rattle.bike_refusals.specs.Facts.{bike_row, order_row};
 ghost use Rattle.bike_plain.specs.Stands.{Stands};
 
 use crate::plain::Plain;
-use crate::rows::{find_number, numbered, push_row, put_number, set_numbered};
 use bike_fields::{BicycleNumber, TruckCapacity, TruckNumber};
+use bike_lists::{find_number, numbered, push_row, put_number, set_numbered};
 use bike_operator::{BikeState, NewPlace};
 use bike_refusals::{BikeFacts, OrderFacts};
 use std::alloc::AllocError;

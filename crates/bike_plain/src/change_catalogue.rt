@@ -8,10 +8,10 @@ ghost use Rattle.bike_plain.specs.Stands.{Stands};
 
 use crate::facts::{StationFacts, TypeFacts};
 use crate::plain::Plain;
-use crate::rows::{find_text, push_front, put_text, without_dock};
 use bike_catalogue::{Plan, Station, System, VehicleType};
 use bike_fields::Ident;
 use bike_fixed::Moment;
+use bike_lists::{find_text, push_front, put_text, without_dock};
 use std::alloc::{AllocError, Global};
 
 impl<'a> Plain<'a> {

@@ -10,12 +10,12 @@ ghost use Rattle.bike_plain.specs.Stands.{Stands};
 
 use crate::facts::KeptFacts;
 use crate::plain::Plain;
-use crate::rows::{numbered, push_front, push_row, put_number, set_numbered};
 use arrayvec::ArrayString;
 use bike_commands::{Command, Reply};
 use bike_fields::{Ident, RiderNumber};
 use bike_fixed::Moment;
 use bike_ledger::Entry;
+use bike_lists::{numbered, push_front, push_row, put_number, set_numbered};
 use bike_refusals::{ClosingFacts, RentalFacts};
 use std::alloc::AllocError;
 

@@ -7,15 +7,15 @@ ghost use Rattle.bike_operator.specs.Changes.{place_of};
 ghost use Rattle.bike_operator.specs.Counts.{count, is_at, is_fit, docks_up_to, available, available_of, disabled, docks_available, docks_broken};
 ghost use Rattle.bike_operator.specs.View.{most_bikes};
 ghost use Rattle.bike_refusals.specs.Facts.{bike_row};
-ghost use Rattle.bike_plain.specs.Rows.{valued};
-ghost use Rattle.bike_plain.specs.Stands.{Stands, IsSmall, is_listed};
+ghost use Rattle.bike_lists.specs.Rows.{valued, is_listed};
+ghost use Rattle.bike_plain.specs.Stands.{Stands, IsSmall};
 ghost use Rattle.bike_plain.specs.Counting.{station_counts, is_to_rent, is_free_dock};
 
 use crate::facts::StationCounts;
 use crate::places::docked_at;
 use crate::plain::Plain;
-use crate::rows::is_listed;
 use bike_fields::{BicycleNumber, DockCount, Ident};
+use bike_lists::is_listed;
 use bike_operator::{BikeState, NewPlace};
 use bike_refusals::BikeFacts;
 

@@ -10,8 +10,8 @@ ghost use Rattle.bike_plain.specs.Stands.{Stands, IsSmall};
 
 use crate::places::{docked_at, loaded, on_truck};
 use crate::plain::Plain;
-use crate::rows::{find_number, is_listed, numbered};
 use bike_fields::{BicycleNumber, Ident, TruckNumber};
+use bike_lists::{find_number, is_listed, numbered};
 use bike_operator::TruckView;
 use bike_refusals::{BikeFacts, DockedFacts, OrderCount};
 use bike_texts::OrderEnd;

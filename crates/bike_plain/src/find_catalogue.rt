@@ -9,9 +9,9 @@ ghost use Rattle.bike_plain.specs.Stands.{Stands, type_row, station_row};
 
 use crate::facts::{StationFacts, TypeFacts};
 use crate::plain::Plain;
-use crate::rows::find_text;
 use bike_catalogue::Plan;
 use bike_fields::Ident;
+use bike_lists::find_text;
 use bike_operator::StationView;
 
 impl<'a> Plain<'a> {

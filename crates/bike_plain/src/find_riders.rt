@@ -9,12 +9,13 @@ ghost use Rattle.bike_operator.specs.View.{rider_view, rental_view, rental_of, m
 ghost use Rattle.bike_refusals.specs.Facts.{if_any, bike_row, rental_sums};
 ghost use Rattle.bike_plain.specs.Stands.{Stands, IsSmall, kept_answer};
 
+use crate::kept::find_kept;
 use crate::plain::Plain;
-use crate::rows::{find_kept, find_number, numbered};
 use crate::sums::{balance_of, count_open, is_riding, refunded_of};
 use bike_commands::{Command, Reply};
 use bike_fields::{RentalNumber, RiderNumber};
 use bike_fixed::Moment;
+use bike_lists::{find_number, numbered};
 use bike_operator::{NewPlace, RiderView};
 use bike_refusals::{BikeFacts, RentalSums};
 

@@ -11,9 +11,9 @@ mod facts;
 mod find_bikes;
 mod find_catalogue;
 mod find_riders;
+mod kept;
 mod places;
 mod plain;
-mod rows;
 mod sums;
 
 pub use facts::{KeptFacts, StationCounts, StationFacts, TypeFacts};

@@ -5,7 +5,7 @@ ghost use Rattle.bike_operator.specs.Changes.{place_of};
 ghost use Rattle.bike_operator.specs.Counts.{count, is_dock, is_on_truck, is_for_order};
 ghost use Rattle.bike_operator.specs.View.{most_bikes};
 ghost use Rattle.bike_refusals.specs.Facts.{if_any, bike_row};
-ghost use Rattle.bike_plain.specs.Rows.{valued};
+ghost use Rattle.bike_lists.specs.Rows.{valued};
 
 use bike_fields::{BicycleNumber, Ident, TruckNumber};
 use bike_operator::NewPlace;

@@ -1,7 +1,7 @@
 use Rattle.std.proofs.Common.{◌≡◌, ◌≤◌}
 use Rattle.bike_operator.specs.Counts.{count, docks_up_to}
 use Rattle.bike_refusals.specs.Facts.{bike_row}
-use Rattle.bike_plain.specs.Rows.{valued}
+use Rattle.bike_lists.specs.Rows.{valued}
 use Rattle.bike_plain.specs.Counting.{is_free_dock}
 use Rattle.bike_plain.proofs.counts.count_free_docks.Given as goal
 

@@ -2,7 +2,7 @@ use Rattle.std.proofs.Common.{◌≡◌, ◌+◌, ◌≤◌, drop}
 use Rattle.bike_operator.specs.Counts.{count}
 use Rattle.bike_plain.specs.Counting.{is_to_rent}
 use Rattle.bike_refusals.specs.Facts.{bike_row}
-use Rattle.bike_plain.specs.Rows.{valued}
+use Rattle.bike_lists.specs.Rows.{valued}
 use Rattle.bike_plain.proofs.counts.count_to_rent.Given as goal
 
 abbrev pub invariant-loop-bike : goal.invariant-loop-bike

@@ -3,7 +3,7 @@ use Rattle.std.specs.Str.{bytes_eq}
 use Rattle.bike_operator.specs.Counts.{count}
 use Rattle.bike_plain.specs.Counting.{is_to_rent}
 use Rattle.bike_refusals.specs.Facts.{bike_row}
-use Rattle.bike_plain.specs.Rows.{valued}
+use Rattle.bike_lists.specs.Rows.{valued}
 use Rattle.bike_plain.proofs.counts.count_to_rent_of.Given as goal
 
 abbrev pub invariant-loop-bike : goal.invariant-loop-bike

@@ -1,7 +1,7 @@
 use Rattle.std.proofs.Common.{◌≡◌, drop, find}
 use Rattle.bike_operator.specs.Counts.{is_dock}
 use Rattle.bike_refusals.specs.Facts.{bike_row}
-use Rattle.bike_plain.specs.Rows.{valued}
+use Rattle.bike_lists.specs.Rows.{valued}
 use Rattle.bike_plain.proofs.places.docked_at.Given as goal
 
 abbrev pub invariant-loop-bike : goal.invariant-loop-bike

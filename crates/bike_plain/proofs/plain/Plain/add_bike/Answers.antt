@@ -1,6 +1,6 @@
 use Rattle.std.proofs.Common.{sym, ap, ◌∙◌}
 use Rattle.bike_refusals.specs.Facts.{bike_row}
-use Rattle.bike_plain.specs.Rows.{valued}
+use Rattle.bike_lists.specs.Rows.{valued}
 use Rattle.bike_plain.proofs.ChangeLemmas.{bike_added}
 use Rattle.bike_plain.proofs.StandsLemmas.{bikes_stand}
 use Rattle.bike_plain.proofs.plain.Plain.add_bike.Goals as goal

@@ -1,7 +1,7 @@
 use Rattle.std.proofs.Common.{sym, ap, ◌∙◌}
 use Rattle.std.specs.FinMap.{entries, insert}
 use Rattle.bike_operator.specs.Steps.{new_station}
-use Rattle.bike_plain.specs.Rows.{valued}
+use Rattle.bike_lists.specs.Rows.{valued}
 use Rattle.bike_plain.specs.Stands.{station_row}
 use Rattle.bike_plain.proofs.ChangeLemmas.{station_added}
 use Rattle.bike_plain.proofs.StandsLemmas.{stations_stand}

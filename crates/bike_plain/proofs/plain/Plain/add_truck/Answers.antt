@@ -1,6 +1,6 @@
 use Rattle.std.proofs.Common.{sym, ap, ◌∙◌}
 use Rattle.bike_plain.specs.Stands.{truck_row}
-use Rattle.bike_plain.specs.Rows.{valued}
+use Rattle.bike_lists.specs.Rows.{valued}
 use Rattle.bike_plain.proofs.ChangeLemmas.{truck_added}
 use Rattle.bike_plain.proofs.StandsLemmas.{trucks_stand}
 use Rattle.bike_plain.proofs.plain.Plain.add_truck.Goals as goal

@@ -1,6 +1,6 @@
 use Rattle.std.proofs.Common.{sym, ap, ◌∙◌}
 use Rattle.std.specs.FinMap.{entries, insert}
-use Rattle.bike_plain.specs.Rows.{valued}
+use Rattle.bike_lists.specs.Rows.{valued}
 use Rattle.bike_plain.specs.Stands.{type_row}
 use Rattle.bike_plain.proofs.ChangeLemmas.{type_added}
 use Rattle.bike_plain.proofs.StandsLemmas.{types_stand}

@@ -1,7 +1,7 @@
 use Rattle.std.proofs.Common.{refl, sym, ap, map, ◌∙◌}
 use Rattle.bike_operator.specs.Operator.{numbered, number_changed}
 use Rattle.bike_refusals.specs.Facts.{order_row}
-use Rattle.bike_plain.proofs.RowLemmas.{number-valued, number_kept}
+use Rattle.bike_lists.proofs.RowLemmas.{number-valued, number_kept}
 use Rattle.bike_plain.proofs.StandsLemmas.{orders_stand}
 use Rattle.bike_plain.proofs.plain.Plain.close_order.Goals as goal
 

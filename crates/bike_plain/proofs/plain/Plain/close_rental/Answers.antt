@@ -3,7 +3,7 @@ use Rattle.std.proofs.lemmas.Int.{ints}
 use Rattle.bike_operator.specs.Changes.{text_in}
 use Rattle.bike_operator.specs.Operator.{numbered, number_changed}
 use Rattle.bike_refusals.specs.Facts.{rental_row}
-use Rattle.bike_plain.proofs.RowLemmas.{number-valued, number_kept}
+use Rattle.bike_lists.proofs.RowLemmas.{number-valued, number_kept}
 use Rattle.bike_plain.proofs.StandsLemmas.{rentals_stand}
 use Rattle.bike_plain.proofs.plain.Plain.close_rental.Goals as goal
 

@@ -2,7 +2,7 @@ use Rattle.std.proofs.Common.{◌≡◌, ◌≤◌, ◌+◌, Some, arith, sym, a
 use Rattle.bike_operator.specs.Operator.{numbered, number_changed}
 use Rattle.bike_refusals.specs.Facts.{if_any, order_row}
 use Rattle.bike_plain.proofs.FoundLemmas.{order_found}
-use Rattle.bike_plain.proofs.RowLemmas.{number-valued, number_kept}
+use Rattle.bike_lists.proofs.RowLemmas.{number-valued, number_kept}
 use Rattle.bike_plain.proofs.StandsLemmas.{orders_stand}
 use Rattle.bike_plain.proofs.plain.Plain.deliver.Goals as goal
 

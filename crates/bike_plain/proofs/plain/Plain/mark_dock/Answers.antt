@@ -1,7 +1,7 @@
 use Rattle.std.proofs.Common.{sym, ap, cond, ◌∙◌}
 use Rattle.std.specs.FinSet.{contains, insert, remove}
 use Rattle.bike_operator.specs.Operator.{dock_key}
-use Rattle.bike_plain.specs.Stands.{is_listed, unlisted}
+use Rattle.bike_lists.specs.Rows.{is_listed, unlisted}
 use Rattle.bike_plain.proofs.ChangeLemmas.{dock_broken, dock_mended}
 use Rattle.bike_plain.proofs.StandsLemmas.{broken_stand}
 use Rattle.bike_plain.proofs.plain.Plain.mark_dock.Goals as goal

@@ -6,8 +6,8 @@ use Rattle.std.specs.FinSet.{contains-empty}
 use Rattle.bike_operator.specs.Operator.{text_cmp, texts_cmp, dock_key, key_of}
 use Rattle.std.specs.Ordering.{nat_cmp}
 use Rattle.bike_refusals.specs.Facts.{if_any, bike_row, rental_row, order_row}
-use Rattle.bike_plain.specs.Rows.{text_rows, valued}
-use Rattle.bike_plain.specs.Stands.{type_row, station_row, truck_row, rider_row, kept_row, is_listed, first_kept}
+use Rattle.bike_lists.specs.Rows.{text_rows, valued, is_listed}
+use Rattle.bike_plain.specs.Stands.{type_row, station_row, truck_row, rider_row, kept_row, first_kept}
 use Rattle.bike_plain.proofs.plain.Plain.new.Goals as goal
 
 entries-empty : {K : Type 0} (R : K → K → Ordering) (X : Type 0) → entries (empty {X = X} {R = R}) ≡ []

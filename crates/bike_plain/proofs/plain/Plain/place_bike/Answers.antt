@@ -2,7 +2,7 @@ use Rattle.std.proofs.Common.{refl, sym, ap, ◌∙◌}
 use Rattle.std.specs.Ordering.{nat_cmp}
 use Rattle.std.specs.FinMap.{find}
 use Rattle.bike_refusals.specs.Facts.{bike_row}
-use Rattle.bike_plain.specs.Rows.{valued}
+use Rattle.bike_lists.specs.Rows.{valued}
 use Rattle.bike_plain.proofs.ChangeLemmas.{bike_changed, bike_not_changed}
 use Rattle.bike_plain.proofs.StandsLemmas.{bikes_stand}
 use Rattle.bike_plain.proofs.plain.Plain.place_bike.Goals as goal

@@ -1,7 +1,7 @@
 use Rattle.std.proofs.Common.{refl, sym, ap, ◌∙◌}
 use Rattle.std.specs.FinMap.{find}
 use Rattle.bike_operator.specs.Operator.{text_cmp}
-use Rattle.bike_plain.specs.Rows.{text_rows, valued}
+use Rattle.bike_lists.specs.Rows.{text_rows, valued}
 use Rattle.bike_plain.specs.Stands.{station_row}
 use Rattle.bike_plain.proofs.ChangeLemmas.{station_changed, station_not_changed}
 use Rattle.bike_plain.proofs.StandsLemmas.{stations_stand}

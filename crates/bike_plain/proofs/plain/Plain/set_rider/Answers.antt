@@ -1,6 +1,6 @@
 use Rattle.std.proofs.Common.{sym, ap, ◌∙◌}
 use Rattle.bike_plain.specs.Stands.{rider_row}
-use Rattle.bike_plain.specs.Rows.{valued}
+use Rattle.bike_lists.specs.Rows.{valued}
 use Rattle.bike_plain.proofs.ChangeLemmas.{rider_set}
 use Rattle.bike_plain.proofs.StandsLemmas.{riders_stand}
 use Rattle.bike_plain.proofs.plain.Plain.set_rider.Goals as goal

@@ -3,7 +3,7 @@ use Rattle.std.specs.Ordering.{nat_cmp}
 use Rattle.std.specs.FinMap.{find}
 use Rattle.bike_operator.specs.Counts.{count, is_on_truck}
 use Rattle.bike_refusals.specs.Facts.{if_any, bike_row}
-use Rattle.bike_plain.specs.Rows.{valued}
+use Rattle.bike_lists.specs.Rows.{valued}
 use Rattle.bike_plain.proofs.FoundLemmas.{truck_seen, truck_in}
 use Rattle.bike_plain.proofs.plain.Plain.truck.Goals as goal
 

@@ -1,15 +1,11 @@
-//! Rows under a key, in the order of their keys.
+//! Rows under a key, in the order of their keys; rows under a number from 1; listed docks.
 
 ghost use Rattle.std.specs.Prelude.{◌≡◌, ◌∷◌, ◌++◌, [], OnOk, IfOk};
 ghost use Rattle.std.specs.FinMap.{find, put};
 ghost use Rattle.std.specs.Ordering.{eq_by_cmp, nat_cmp};
-ghost use Rattle.bike_operator.specs.Operator.{text_cmp, texts_cmp, dock_key, key_of, numbered, number_changed};
-ghost use Rattle.bike_refusals.specs.Facts.{if_any};
-ghost use Rattle.bike_plain.specs.Rows.{text_rows};
-ghost use Rattle.bike_plain.specs.Stands.{is_listed, unlisted, first_kept, kept_row, kept_answer};
+ghost use Rattle.bike_operator.specs.Operator.{text_cmp, texts_cmp, dock_key, numbered, number_changed};
+ghost use Rattle.bike_lists.specs.Rows.{text_rows, is_listed, unlisted};
 
-use crate::facts::KeptFacts;
-use bike_commands::{Command, Reply};
 use bike_fields::{Ident, RiderNumber};
 use std::alloc::{AllocError, Global};
 use std::cmp::Ordering;
@@ -22,7 +18,7 @@ fn text_order(one: &Ident, other: &Ident) -> Ordering
 }
 
 /// What stands under an identifier.
-pub(crate) fn find_text<'a, V: Copy>(rows: &[(&'a Ident, V)], key: &Ident) -> Option<V>
+pub fn find_text<'a, V: Copy>(rows: &[(&'a Ident, V)], key: &Ident) -> Option<V>
     ensures { result ≡ find text_cmp key.now (text_rows rows.now) }
 {
     for row in rows {
@@ -41,7 +37,7 @@ fn number_order(one: &RiderNumber, other: &RiderNumber) -> Ordering
 }
 
 /// What stands under a number.
-pub(crate) fn find_number<V: Copy>(rows: &[(RiderNumber, V)], key: RiderNumber) -> Option<V>
+pub fn find_number<V: Copy>(rows: &[(RiderNumber, V)], key: RiderNumber) -> Option<V>
     ensures { result ≡ find nat_cmp key rows.now }
 {
     for row in rows {
@@ -53,7 +49,7 @@ pub(crate) fn find_number<V: Copy>(rows: &[(RiderNumber, V)], key: RiderNumber) 
 }
 
 /// The item with a number, from 1.
-pub(crate) fn numbered<V: Copy>(rows: &[V], number: u32) -> Option<V>
+pub fn numbered<V: Copy>(rows: &[V], number: u32) -> Option<V>
     ensures { result ≡ numbered number rows.now }
 {
     if number == 0 {
@@ -73,7 +69,7 @@ fn is_same_dock(station: &Ident, dock: u32, row: &(&Ident, u32)) -> bool
 }
 
 /// Whether a dock stands in the list.
-pub(crate) fn is_listed(rows: &[(&Ident, u32)], station: &Ident, dock: u32) -> bool
+pub fn is_listed(rows: &[(&Ident, u32)], station: &Ident, dock: u32) -> bool
     ensures { result ≡ is_listed station.now dock rows.now }
 {
     for row in rows {
@@ -84,43 +80,10 @@ pub(crate) fn is_listed(rows: &[(&Ident, u32)], station: &Ident, dock: u32) -> b
     false
 }
 
-/// Whether two texts are the same, by their order.
-fn is_same_text(one: &str, other: &str) -> bool
-    ensures { result ≡ eq_by_cmp text_cmp one.now other.now }
-{
-    match one.cmp(&other) {
-        Ordering::Equal => true,
-        Ordering::Less | Ordering::Greater => false,
-    }
-}
-
-/// Whether a request is kept under the caller and key.
-fn is_kept_under(caller: &str, key: &str, kept: &KeptFacts) -> bool
-    ensures { result ≡ eq_by_cmp texts_cmp (key_of caller.now key.now) (key_of kept.now.caller.bytes kept.now.key.now) }
-{
-    is_same_text(caller, kept.caller.as_str()) && is_same_text(key, kept.key)
-}
-
-/// The command and the reply of the first that is kept under the caller and key.
-pub(crate) fn find_kept<'a>(
-    rows: &[KeptFacts<'a>],
-    caller: &str,
-    key: &str,
-) -> Option<(&'a Command, Reply)>
-    ensures { if_any kept_answer result ≡ if_any kept_row (first_kept caller.now key.now rows.now) }
-{
-    for row in rows {
-        if is_kept_under(caller, key, row) {
-            return Some((row.command, row.reply));
-        }
-    }
-    None
-}
-
 /// Puts a value under an identifier: in its place, or where one stands there already, in place of that.
 /// An error is a want of memory.
 #[tactic(auto, using(crate::proofs::RowLemmas::text_put_tied, crate::proofs::RowLemmas::text_rows_append))]
-pub(crate) fn put_text<'a, V: Copy>(
+pub fn put_text<'a, V: Copy>(
     rows: &mut Vec<(&'a Ident, V)>,
     key: &'a Ident,
     value: &V,
@@ -146,7 +109,7 @@ pub(crate) fn put_text<'a, V: Copy>(
 
 /// Puts a value under a number, likewise.
 #[tactic(auto, using(crate::proofs::RowLemmas::put_tied))]
-pub(crate) fn put_number<V: Copy>(
+pub fn put_number<V: Copy>(
     rows: &mut Vec<(RiderNumber, V)>,
     key: RiderNumber,
     value: &V,
@@ -172,7 +135,7 @@ pub(crate) fn put_number<V: Copy>(
 
 /// Puts a value in place of the one with a number, from 1, where one is there.
 #[tactic(auto, using(crate::proofs::RowLemmas::number_set, crate::proofs::RowLemmas::number_past, crate::proofs::RowLemmas::number_zero))]
-pub(crate) fn set_numbered<V: Copy>(rows: &mut Vec<V>, number: u32, value: &V)
+pub fn set_numbered<V: Copy>(rows: &mut Vec<V>, number: u32, value: &V)
     ensures { rows.new.items ≡ number_changed number (λ x. value.now) rows.old.items }
 {
     if number == 0 {
@@ -185,7 +148,7 @@ pub(crate) fn set_numbered<V: Copy>(rows: &mut Vec<V>, number: u32, value: &V)
 }
 
 /// Adds a row at the end.
-pub(crate) fn push_row<V: Copy>(rows: &mut Vec<V>, row: &V) -> Result<(), AllocError>
+pub fn push_row<V: Copy>(rows: &mut Vec<V>, row: &V) -> Result<(), AllocError>
     ensures { OnOk result (rows.new.items ≡ rows.old.items ++ row.now ∷ []) }
 {
     rows.push(*row)?;
@@ -193,7 +156,7 @@ pub(crate) fn push_row<V: Copy>(rows: &mut Vec<V>, row: &V) -> Result<(), AllocE
 }
 
 /// Adds a row at the front.
-pub(crate) fn push_front<V: Copy>(rows: &mut Vec<V>, row: &V) -> Result<(), AllocError>
+pub fn push_front<V: Copy>(rows: &mut Vec<V>, row: &V) -> Result<(), AllocError>
     ensures { OnOk result (rows.new.items ≡ row.now ∷ rows.old.items) }
 {
     rows.insert(0, *row)?;
@@ -201,7 +164,7 @@ pub(crate) fn push_front<V: Copy>(rows: &mut Vec<V>, row: &V) -> Result<(), Allo
 }
 
 /// The list without a dock.
-pub(crate) fn without_dock<'a>(
+pub fn without_dock<'a>(
     alloc: Global,
     rows: &[(&'a Ident, u32)],
     station: &Ident,

@@ -1,7 +1,7 @@
 use Rattle.std.proofs.Common.{◌≡◌, take, drop, ◌++◌}
 use Rattle.std.specs.FinMap.{put}
 use Rattle.std.specs.Ordering.{nat_cmp}
-use Rattle.bike_plain.proofs.rows.put_number.Given as goal
+use Rattle.bike_lists.proofs.rows.put_number.Given as goal
 
 abbrev pub invariant-loop-at : goal.invariant-loop-at
 invariant-loop-at g l = record {

@@ -1,8 +1,8 @@
 use Rattle.std.proofs.Common.{◌≡◌, take, drop, ◌++◌}
 use Rattle.std.specs.FinMap.{put}
 use Rattle.bike_operator.specs.Operator.{text_cmp}
-use Rattle.bike_plain.specs.Rows.{text_rows}
-use Rattle.bike_plain.proofs.rows.put_text.Given as goal
+use Rattle.bike_lists.specs.Rows.{text_rows}
+use Rattle.bike_lists.proofs.rows.put_text.Given as goal
 
 abbrev pub invariant-loop-i : goal.invariant-loop-i
 invariant-loop-i g l = record {

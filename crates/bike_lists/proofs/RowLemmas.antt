@@ -10,7 +10,7 @@ use Rattle.bike_operator.specs.Operator.{text_cmp, item_at, numbered, item_chang
 use Rattle.bike_operator.specs.Steps.{key_changed, found_changed}
 use Rattle.bike_refusals.specs.Facts.{if_any}
 use Rattle.std.specs.Borrow.{Bor}
-use Rattle.bike_plain.specs.Rows.{text_row, text_rows, valued}
+use Rattle.bike_lists.specs.Rows.{text_row, text_rows, valued}
 
 pub if_any-cond : {V X : Type 0} (f : V → X) (b : Bool) (v : V) (o : Option V) → cond b (Some (f v)) (if_any f o) ≡ if_any f (cond b (Some v) o)
 if_any-cond f true v o = refl
