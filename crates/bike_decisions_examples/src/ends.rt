@@ -19,28 +19,19 @@ fn known_bike(alloc: Global, known: &str) -> Result<Bike, Fail> {
 
 /// The ride of rider 17, who may have topped up since or pay by a negative rate, or of rider 18, who paid in nothing.
 fn ride_of(known: &str) -> Ride {
+    let mut ride = OPEN;
     if has(known, "topped up") {
-        return Ride {
-            balance: 2600,
-            entries: 2,
-            ..OPEN
-        };
+        ride.balance = 2600;
+        ride.entries = 2;
     }
     if has(known, "another") {
-        return Ride {
-            rider: 18,
-            balance: 0,
-            ..OPEN
-        };
+        ride.rider = 18;
+        ride.balance = 0;
     }
-    Ride {
-        rate: if has(known, "negative rate") {
-            -200
-        } else {
-            25
-        },
-        ..OPEN
+    if has(known, "negative rate") {
+        ride.rate = -200;
     }
+    ride
 }
 
 /// The view in which bicycle 7, its rental and the station are there, and a dock that is broken or full.

@@ -51,16 +51,27 @@ fn moment_of(subject: &Subject, known: &str) -> u64 {
     }
 }
 
+/// What is decided on the row at a place in the table of a subject. The view, which owns much, is dropped before the way
+/// out forks, or the proof would follow its parts along each branch.
+fn decided(alloc: Global, subject: &Subject, place: usize, row: &Row) -> Result<String, Fail> {
+    let view = view_of(alloc, subject, place, row.0)?;
+    let found = outcome(alloc, &view, moment_of(subject, row.0), row.1);
+    drop(view);
+    Ok(found?)
+}
+
+/// A row that isn't decided as it says.
+fn told(alloc: Global, place: usize, row: &Row, found: &str) -> Result<String, Fail> {
+    let (known, command, answer) = row;
+    Ok(format!(in alloc; "row {place} ({known}): {command}: {found}, not {answer}")?)
+}
+
 /// The first row that isn't decided as it says, with what is decided.
 fn unlike_in(alloc: Global, subject: &Subject, rows: &[Row]) -> Result<String, Fail> {
-    for (place, (known, command, answer)) in rows.iter().enumerate() {
-        let view = view_of(alloc, subject, place, known)?;
-        let found = outcome(alloc, &view, moment_of(subject, known), command)?;
-        if found.as_str() != *answer {
-            let told = format!(in alloc;
-                "row {place} ({known}): {command}: {found}, not {answer}"
-            )?;
-            return Ok(told);
+    for (place, row) in rows.iter().enumerate() {
+        let found = decided(alloc, subject, place, row)?;
+        if found.as_str() != row.2 {
+            return told(alloc, place, row, found.as_str());
         }
     }
     Ok(String::new(alloc))

@@ -1,6 +1,6 @@
 //! What is asked and answered, one line after another, from the operator of whom nothing was asked yet.
 
-use bike_commands::Request;
+use bike_commands::{Reply, Request};
 use bike_fixed::Moment;
 use bike_reference::serve;
 use bike_requests::read_line;
@@ -25,7 +25,10 @@ pub(crate) use rows;
 
 /// The request that a line spells.
 pub fn read(alloc: Global, line: &str) -> Result<(Moment, Request), Fail> {
-    Ok(read_line(alloc, line.as_bytes())?.ok_or("a request line")?)
+    match read_line(alloc, line.as_bytes())? {
+        Some(call) => Ok(call),
+        None => Err("a request line".into()),
+    }
 }
 
 /// The requests that lists of lines spell.
@@ -39,23 +42,30 @@ pub fn calls_of(alloc: Global, lists: &[&[&str]]) -> Result<Vec<(Moment, Request
     Ok(calls)
 }
 
-/// The first line of the story that isn't answered as it says.
-fn unlike_in(alloc: Global, story: &Story) -> Result<String, Fail> {
+/// The replies to the lines of a story, those that come first among them.
+fn replies_of(alloc: Global, story: &Story) -> Result<Vec<Reply>, Fail> {
     let mut calls = calls_of(alloc, story.before)?;
-    let begin = calls.len();
     for row in story.rows {
         calls.push(read(alloc, row.0)?)?;
     }
-    let replies = serve(alloc, calls.as_slice())?;
+    let replies = serve(alloc, calls.as_slice());
+    drop(calls);
+    Ok(replies?)
+}
+
+/// A line of a story that isn't answered as it says.
+fn told(alloc: Global, shows: &str, row: &(&str, &str), reply: &Reply) -> Result<String, Fail> {
+    let (line, answer) = row;
+    Ok(format!(in alloc; "{shows}: {line}: {}, not {answer}", reply.text())?)
+}
+
+/// The first line of the story that isn't answered as it says.
+fn unlike_in(alloc: Global, story: &Story) -> Result<String, Fail> {
+    let replies = replies_of(alloc, story)?;
+    let begin = replies.len().saturating_sub(story.rows.len());
     for (row, reply) in story.rows.iter().zip(replies.as_slice().iter().skip(begin)) {
         if reply.text().as_str() != row.1 {
-            return Ok(format!(in alloc;
-                "{}: {}: {}, not {}",
-                story.shows,
-                row.0,
-                reply.text(),
-                row.1
-            )?);
+            return told(alloc, story.shows, row, reply);
         }
     }
     Ok(String::new(alloc))
