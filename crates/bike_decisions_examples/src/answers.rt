@@ -77,7 +77,12 @@ fn outcome_text(
 }
 
 /// What is decided on the command of the text at the operator's moment `now`.
-pub fn outcome(alloc: Global, view: &View, now: u64, text: &str) -> Result<String, AllocError> {
+pub(crate) fn outcome(
+    alloc: Global,
+    view: &View,
+    now: u64,
+    text: &str,
+) -> Result<String, AllocError> {
     let command = read_command(alloc, text)?;
     outcome_text(alloc, view, now, &command)
 }

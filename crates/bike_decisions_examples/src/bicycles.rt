@@ -28,7 +28,7 @@ fn bicycle(alloc: Global, known: &str) -> Result<Bike, Fail> {
 }
 
 /// The view in which the bicycle and its type are there, or in which no more may be added.
-pub fn knowing(alloc: Global, known: &str) -> Result<View, Fail> {
+pub(crate) fn knowing(alloc: Global, known: &str) -> Result<View, Fail> {
     let bike = bicycle(alloc, known)?;
     Ok(View {
         bike: has(known, "bike").then_some(bike),
@@ -38,7 +38,7 @@ pub fn knowing(alloc: Global, known: &str) -> Result<View, Fail> {
     })
 }
 
-pub const BICYCLES: &[Row] = rows![
+pub(crate) const BICYCLES: &[Row] = rows![
     "docked bike, no room": "add-bike\t7\tcity" => "refused\t10\talready_there";
     "no room": "add-bike\t7\tcity" => "refused\t6\tunknown_type";
     "type, no room": "add-bike\t7\tcity" => "refused\t32\tlimit_reached";

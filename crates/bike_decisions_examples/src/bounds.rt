@@ -113,7 +113,7 @@ fn is_few(view: &View) -> bool
 }
 
 /// Whether the view can be that of an operator in order.
-pub fn is_bounded(view: &View, now: Moment) -> bool
+pub(crate) fn is_bounded(view: &View, now: Moment) -> bool
     ensures { IsTrue result → IsBounded view.now now }
 {
     is_few(view)

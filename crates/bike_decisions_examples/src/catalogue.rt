@@ -13,7 +13,7 @@ const ADD_PLAN: &str = "add-plan\tbasic\tBasic\t100\tfalse\tBy time\t30:25:5:-";
 const ADD_TYPE: &str = "add-type\tcity\tCity\tbicycle\thuman\t0\tbasic";
 
 /// The view in which so much is there, or in which no more may be added.
-pub fn knowing(known: &str) -> View {
+pub(crate) fn knowing(known: &str) -> View {
     View {
         has_system: has(known, "system"),
         has_plan: has(known, "plan"),
@@ -23,7 +23,7 @@ pub fn knowing(known: &str) -> View {
     }
 }
 
-pub const CATALOGUE: &[Row] = rows![
+pub(crate) const CATALOGUE: &[Row] = rows![
     "system": SET_SYSTEM => "refused\t10\talready_there";
     "": SET_SYSTEM => "ok; system metro";
     "plan, full": ADD_PLAN => "refused\t10\talready_there";

@@ -143,7 +143,7 @@ fn push_order_change(out: &mut String, change: &Change) -> Result<(), AllocError
 }
 
 /// Writes a change.
-pub fn push_change(out: &mut String, change: &Change) -> Result<(), AllocError> {
+pub(crate) fn push_change(out: &mut String, change: &Change) -> Result<(), AllocError> {
     match change {
         Change::AddBike { bike, type_id } => {
             push_number(out, "; bike ", *bike)?;

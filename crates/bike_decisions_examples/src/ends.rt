@@ -35,7 +35,7 @@ fn ride_of(known: &str) -> Ride {
 }
 
 /// The view in which bicycle 7, its rental and the station are there, and a dock that is broken or full.
-pub fn knowing(alloc: Global, known: &str) -> Result<View, Fail> {
+pub(crate) fn knowing(alloc: Global, known: &str) -> Result<View, Fail> {
     let ride = ride_of(known);
     let station = station(true, !has(known, "not returning"))?;
     let other = docked(alloc, 8, BikeState::Fit)?;
@@ -54,7 +54,7 @@ pub fn knowing(alloc: Global, known: &str) -> Result<View, Fail> {
     })
 }
 
-pub const ENDS: &[Row] = rows![
+pub(crate) const ENDS: &[Row] = rows![
     "broken, full": "end\t7\ta1\t3" => "refused\t3\tunknown_bike";
     "bike, broken, full": "end\t7\ta1\t3" => "refused\t21\tnot_rented";
     "bike, rental, broken, full": "end\t7\ta1\t3" => "refused\t1\tunknown_station";

@@ -16,7 +16,7 @@ fn orders_of(known: &str) -> u32 {
 
 /// The view in which the truck, the ends and the type are there, with all orders that there may be, with one or with none,
 /// or in which no more trucks may be added.
-pub fn knowing(known: &str) -> Result<View, Fail> {
+pub(crate) fn knowing(known: &str) -> Result<View, Fail> {
     let truck = truck(20, 0)?;
     Ok(View {
         truck: has(known, "truck").then_some(truck),
@@ -29,7 +29,7 @@ pub fn knowing(known: &str) -> Result<View, Fail> {
     })
 }
 
-pub const ORDERS: &[Row] = rows![
+pub(crate) const ORDERS: &[Row] = rows![
     "truck, full": "add-truck\t3\t20" => "refused\t10\talready_there";
     "full": "add-truck\t3\t20" => "refused\t32\tlimit_reached";
     "": "add-truck\t3\t20" => "ok; truck 3 for 20";
@@ -63,7 +63,7 @@ fn loaded(alloc: Global, mended: usize) -> Result<Bike, Fail> {
 
 /// A load with all its faults, of which so many are mended from the first on: the truck is unknown, the order too, closed and
 /// another truck's, the bicycle is unknown and has its own faults, the order is filled, and the truck is full.
-pub fn loading(alloc: Global, mended: usize) -> Result<View, Fail> {
+pub(crate) fn loading(alloc: Global, mended: usize) -> Result<View, Fail> {
     let truck = truck(20, if mended < 10 { 20 } else { 19 })?;
     let owner = if mended < 4 { 4 } else { 3 };
     let on_truck = if mended < 9 { 1 } else { 0 };
@@ -79,7 +79,7 @@ pub fn loading(alloc: Global, mended: usize) -> Result<View, Fail> {
 }
 
 /// Each row mends one more fault.
-pub const LOADS: &[Row] = rows![
+pub(crate) const LOADS: &[Row] = rows![
     "load\t3\t2\t7" => "refused\t8\tunknown_truck";
     "load\t3\t2\t7" => "refused\t9\tunknown_order";
     "load\t3\t2\t7" => "refused\t27\torder_closed";

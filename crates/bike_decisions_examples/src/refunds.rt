@@ -33,7 +33,7 @@ fn ride_of(known: &str) -> Ride {
 }
 
 /// The view in which the rental is there, or in which the ledger is full. One rental is open.
-pub fn knowing(alloc: Global, known: &str) -> Result<View, Fail> {
+pub(crate) fn knowing(alloc: Global, known: &str) -> Result<View, Fail> {
     let rental = rental(alloc, &ride_of(known))?;
     Ok(View {
         rental: has(known, "rental").then_some(rental),
@@ -51,7 +51,7 @@ const GIVEN_BACK: &str =
     "balance\t2500; entry 3 refund of 125 by rider 17 for rental 1 at 1700001800";
 
 /// What is decided half an hour after the rental began.
-pub const REFUNDS: &[Row] = rows![
+pub(crate) const REFUNDS: &[Row] = rows![
     "": "recover\t1" => "refused\t5\tunknown_rental";
     "recovered rental": "recover\t1" => "refused\t35\trental_closed";
     "open rental": "recover\t1" => CHARGED;

@@ -7,7 +7,7 @@ use bike_operator::{RiderView, View};
 
 /// The view in which the rider with 25.00 is there, in which no more may be added, or in which the ledger has room for one
 /// entry or for none.
-pub fn knowing(known: &str) -> View {
+pub(crate) fn knowing(known: &str) -> View {
     let rider = RiderView {
         is_blocked: false,
         balance: 2500,
@@ -22,7 +22,7 @@ pub fn knowing(known: &str) -> View {
     }
 }
 
-pub const RIDERS: &[Row] = rows![
+pub(crate) const RIDERS: &[Row] = rows![
     "rider, no room": "add-rider\t17" => "refused\t10\talready_there";
     "no room": "add-rider\t17" => "refused\t32\tlimit_reached";
     "": "add-rider\t17" => "ok; rider 17 blocked false";

@@ -1,7 +1,7 @@
 //! Rows of what is known, a command, and what is decided on it.
 
 /// What is known, a command, and the answer.
-pub type Row = (&'static str, &'static str, &'static str);
+pub(crate) type Row = (&'static str, &'static str, &'static str);
 
 /// Rows, where what is known may be left to the row's place.
 macro_rules! rows {

@@ -9,7 +9,7 @@ use std::test::Fail;
 /// A start with all its faults, of which so many are mended from the first on: the rider is unknown, blocked, in debt and
 /// riding, the station is unknown, the dock too, the station does not rent, the dock is broken, then empty, its bicycle is
 /// disabled, and the ledger is full.
-pub fn starting(alloc: Global, mended: usize) -> Result<View, Fail> {
+pub(crate) fn starting(alloc: Global, mended: usize) -> Result<View, Fail> {
     let rider = RiderView {
         is_blocked: mended < 2,
         balance: if mended < 3 { -1 } else { 0 },
@@ -33,7 +33,7 @@ pub fn starting(alloc: Global, mended: usize) -> Result<View, Fail> {
 }
 
 /// Each row mends one more fault.
-pub const STARTS: &[Row] = rows![
+pub(crate) const STARTS: &[Row] = rows![
     "start\t17\ta1\t3" => "refused\t4\tunknown_rider";
     "start\t17\ta1\t3" => "refused\t18\trider_blocked";
     "start\t17\ta1\t3" => "refused\t19\tbalance_negative";

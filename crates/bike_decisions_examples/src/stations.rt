@@ -7,7 +7,7 @@ use bike_operator::View;
 use std::test::Fail;
 
 /// The view in which station a1 is there, with two docks, or in which no more may be added.
-pub fn knowing(known: &str) -> Result<View, Fail> {
+pub(crate) fn knowing(known: &str) -> Result<View, Fail> {
     let row = station(true, true)?;
     Ok(View {
         station: has(known, "station").then_some(row),
@@ -18,7 +18,7 @@ pub fn knowing(known: &str) -> Result<View, Fail> {
 
 const ADD_STATION: &str = "add-station\ta1\tHarbour\t41.890169\t12.492269\t2";
 
-pub const STATIONS: &[Row] = rows![
+pub(crate) const STATIONS: &[Row] = rows![
     "station, full": ADD_STATION => "refused\t10\talready_there";
     "full": ADD_STATION => "refused\t32\tlimit_reached";
     "": ADD_STATION => "ok; station a1";

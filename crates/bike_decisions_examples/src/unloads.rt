@@ -10,7 +10,7 @@ use std::test::Fail;
 /// An unloading at a station that neither rents nor takes back, with all its faults, of which so many are mended from the
 /// first on: the truck is unknown, the order too, closed and another truck's, the bicycle is unknown and on the truck for another
 /// order, the dock is unknown, broken and full.
-pub fn unloading(alloc: Global, mended: usize) -> Result<View, Fail> {
+pub(crate) fn unloading(alloc: Global, mended: usize) -> Result<View, Fail> {
     let truck = truck(20, 2)?;
     let station = station(false, false)?;
     let docked = docked(alloc, 8, BikeState::Fit)?;
@@ -31,7 +31,7 @@ pub fn unloading(alloc: Global, mended: usize) -> Result<View, Fail> {
 }
 
 /// Each row mends one more fault.
-pub const UNLOADS: &[Row] = rows![
+pub(crate) const UNLOADS: &[Row] = rows![
     "unload\t3\t3\t2\tfrom\t3" => "refused\t8\tunknown_truck";
     "unload\t3\t3\t2\tfrom\t3" => "refused\t9\tunknown_order";
     "unload\t3\t3\t2\tfrom\t3" => "refused\t27\torder_closed";
@@ -63,7 +63,7 @@ fn bicycle(alloc: Global, known: &str) -> Result<Bike, Fail> {
 }
 
 /// The view in which truck 3, the order and bicycle 2 are there.
-pub fn knowing(alloc: Global, known: &str) -> Result<View, Fail> {
+pub(crate) fn knowing(alloc: Global, known: &str) -> Result<View, Fail> {
     let truck = truck(20, 2)?;
     let station = station(true, true)?;
     let bike = bicycle(alloc, known)?;
@@ -78,7 +78,7 @@ pub fn knowing(alloc: Global, known: &str) -> Result<View, Fail> {
     })
 }
 
-pub const CARRIES: &[Row] = rows![
+pub(crate) const CARRIES: &[Row] = rows![
     "docked, loaded": "load\t3\t3\t3" => "refused\t28\torder_filled";
     "loaded": "unload\t3\t3\t2\tfrom\t3" => "refused\t2\tunknown_dock";
     "loaded": "unload\t3\t3\t1\tto\t1" => "refused\t2\tunknown_dock";

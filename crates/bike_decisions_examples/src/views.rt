@@ -12,10 +12,10 @@ use std::alloc::Global;
 use std::test::Fail;
 
 /// The moment at which rental 1 begins.
-pub const START: u64 = 1_700_000_000;
+pub(crate) const START: u64 = 1_700_000_000;
 
 /// The view in which nothing is there.
-pub fn nothing() -> View {
+pub(crate) fn nothing() -> View {
     View {
         has_system: false,
         has_plan: false,
@@ -51,7 +51,7 @@ fn ident(alloc: Global, text: &str) -> Result<Ident, Fail> {
 }
 
 /// An installed station of two docks.
-pub fn station(is_renting: bool, is_returning: bool) -> Result<StationView, Fail> {
+pub(crate) fn station(is_renting: bool, is_returning: bool) -> Result<StationView, Fail> {
     Ok(StationView {
         docks: number(2)?,
         is_installed: true,
@@ -61,14 +61,19 @@ pub fn station(is_renting: bool, is_returning: bool) -> Result<StationView, Fail
 }
 
 /// The bicycle in a dock, of a type under plan basic.
-pub fn docked(alloc: Global, bike: u32, state: BikeState) -> Result<DockedBike, Fail> {
+pub(crate) fn docked(alloc: Global, bike: u32, state: BikeState) -> Result<DockedBike, Fail> {
     let bike = number(bike)?;
     let plan = ident(alloc, "basic")?;
     Ok(DockedBike { bike, state, plan })
 }
 
 /// A bicycle of that type.
-pub fn bike(alloc: Global, type_id: &str, state: BikeState, place: Place) -> Result<Bike, Fail> {
+pub(crate) fn bike(
+    alloc: Global,
+    type_id: &str,
+    state: BikeState,
+    place: Place,
+) -> Result<Bike, Fail> {
     let type_id = ident(alloc, type_id)?;
     Ok(Bike {
         type_id,
@@ -78,19 +83,19 @@ pub fn bike(alloc: Global, type_id: &str, state: BikeState, place: Place) -> Res
 }
 
 /// A dock of a station.
-pub fn in_dock(alloc: Global, station: &str, dock: u32) -> Result<Place, Fail> {
+pub(crate) fn in_dock(alloc: Global, station: &str, dock: u32) -> Result<Place, Fail> {
     let dock = number(dock)?;
     let station = ident(alloc, station)?;
     Ok(Place::Dock { station, dock })
 }
 
 /// Rental 1.
-pub fn in_rental() -> Result<Place, Fail> {
+pub(crate) fn in_rental() -> Result<Place, Fail> {
     Ok(Place::Rental { rental: number(1)? })
 }
 
 /// A truck, for an order of it.
-pub fn on_truck(truck: u32, order: u32) -> Result<Place, Fail> {
+pub(crate) fn on_truck(truck: u32, order: u32) -> Result<Place, Fail> {
     let truck = number(truck)?;
     let order = number(order)?;
     Ok(Place::Truck { truck, order })
@@ -100,7 +105,7 @@ pub fn on_truck(truck: u32, order: u32) -> Result<Place, Fail> {
 /// minute 30 on, whether it was recovered after half an hour at 1.25, its refunds
 /// so far, and how many entries there are.
 #[derive(Clone, Copy)]
-pub struct Ride {
+pub(crate) struct Ride {
     pub rider: u32,
     pub balance: i64,
     pub rate: i32,
@@ -110,7 +115,7 @@ pub struct Ride {
 }
 
 /// Rider 17 rides, and paid in 25.00.
-pub const OPEN: Ride = Ride {
+pub(crate) const OPEN: Ride = Ride {
     rider: 17,
     balance: 2500,
     rate: 25,
@@ -150,7 +155,7 @@ fn rental_of(alloc: Global, ride: &Ride) -> Result<Rental, Fail> {
 }
 
 /// The rental of a ride, with its plan and sums.
-pub fn rental(alloc: Global, ride: &Ride) -> Result<RentalView, Fail> {
+pub(crate) fn rental(alloc: Global, ride: &Ride) -> Result<RentalView, Fail> {
     let number = number(1)?;
     let plan = plan(alloc, ride.rate)?;
     let rental = rental_of(alloc, ride)?;
@@ -164,7 +169,7 @@ pub fn rental(alloc: Global, ride: &Ride) -> Result<RentalView, Fail> {
 }
 
 /// A truck with so many bicycles on it.
-pub fn truck(capacity: u32, loaded: u32) -> Result<TruckView, Fail> {
+pub(crate) fn truck(capacity: u32, loaded: u32) -> Result<TruckView, Fail> {
     Ok(TruckView {
         capacity: number(capacity)?,
         loaded,
@@ -172,7 +177,7 @@ pub fn truck(capacity: u32, loaded: u32) -> Result<TruckView, Fail> {
 }
 
 /// An order of two bicycles of type city from a station to the depot, of which so many were delivered and are on the truck.
-pub fn order(
+pub(crate) fn order(
     alloc: Global,
     truck: u32,
     from_station: &str,

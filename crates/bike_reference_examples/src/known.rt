@@ -214,17 +214,28 @@ fn known_of(alloc: Global, lists: &Plain, subject: &Subject) -> Result<String, F
     }
 }
 
-/// The first that isn't known as the outcome says, with what is.
-fn unlike_in(alloc: Global, outcome: &Outcome) -> Result<String, Fail> {
-    let calls = calls_of(alloc, outcome.lines)?;
-    let lists = lists_after(alloc, calls.as_slice())?;
-    for (subject, text) in outcome.known {
-        let found = known_of(alloc, &lists, subject)?;
+/// The first that isn't known as a row says, with what is.
+fn unlike_known(
+    alloc: Global,
+    lists: &Plain,
+    known: &[(Subject, &'static str)],
+) -> Result<String, Fail>
+    requires { IsSmall lists.now }
+{
+    for (subject, text) in known {
+        let found = known_of(alloc, lists, subject)?;
         if found.as_str() != *text {
             return Ok(format!(in alloc; "{found}, not {text}")?);
         }
     }
     Ok(String::new(alloc))
+}
+
+/// The first that isn't known as the outcome says, with what is.
+fn unlike_in(alloc: Global, outcome: &Outcome) -> Result<String, Fail> {
+    let calls = calls_of(alloc, outcome.lines)?;
+    let lists = lists_after(alloc, calls.as_slice())?;
+    unlike_known(alloc, &lists, outcome.known)
 }
 
 /// The first of the outcomes that isn't as it says.

@@ -8,7 +8,7 @@ use std::alloc::Global;
 use std::test::Fail;
 
 /// What a list of request lines shows, those that come first, and those that follow, each with its answer.
-pub struct Story {
+pub(crate) struct Story {
     pub shows: &'static str,
     pub before: &'static [&'static [&'static str]],
     pub rows: &'static [(&'static str, &'static str)],
@@ -24,7 +24,7 @@ macro_rules! rows {
 pub(crate) use rows;
 
 /// The request that a line spells.
-pub fn read(alloc: Global, line: &str) -> Result<(Moment, Request), Fail> {
+pub(crate) fn read(alloc: Global, line: &str) -> Result<(Moment, Request), Fail> {
     match read_line(alloc, line.as_bytes())? {
         Some(call) => Ok(call),
         None => Err("a request line".into()),
@@ -32,7 +32,7 @@ pub fn read(alloc: Global, line: &str) -> Result<(Moment, Request), Fail> {
 }
 
 /// The requests that lists of lines spell.
-pub fn calls_of(alloc: Global, lists: &[&[&str]]) -> Result<Vec<(Moment, Request)>, Fail> {
+pub(crate) fn calls_of(alloc: Global, lists: &[&[&str]]) -> Result<Vec<(Moment, Request)>, Fail> {
     let mut calls = Vec::new(alloc);
     for lines in lists {
         for line in *lines {
@@ -72,7 +72,7 @@ fn unlike_in(alloc: Global, story: &Story) -> Result<String, Fail> {
 }
 
 /// The first line of the stories that isn't answered as it says, with its answer.
-pub fn unlike(alloc: Global, stories: &[Story]) -> Result<String, Fail> {
+pub(crate) fn unlike(alloc: Global, stories: &[Story]) -> Result<String, Fail> {
     for story in stories {
         let found = unlike_in(alloc, story)?;
         if !found.is_empty() {
