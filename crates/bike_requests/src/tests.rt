@@ -183,9 +183,8 @@ fn not_refused(alloc: Global, texts: &[&str]) -> Result<String, AllocError> {
 
 /// The moment of the line, where it spells a request.
 fn moment_of(alloc: Global, line: &[u8]) -> Result<Option<u64>, AllocError> {
-    let request = read_line(alloc, line)?;
-    match &request {
-        Some(read) => Ok(Some(read.0.seconds())),
+    match read_line(alloc, line)? {
+        Some((moment, _request)) => Ok(Some(moment.seconds())),
         None => Ok(None),
     }
 }
