@@ -137,11 +137,11 @@ const BAD_NUMBERS: [&str; 18] = [
     "set-system\ts\tde\tN\t\\t\tf\tt\tEUR\tu\t60",
 ];
 
-/// Whether the text is read as the command whose own text is the other.
-fn is_read_as(alloc: Global, text: &str, other: &str) -> Result<bool, AllocError> {
+/// The own text of the command that the text spells, or no text where it spells none.
+fn own_text(alloc: Global, text: &str) -> Result<String, AllocError> {
     match read_command(alloc, text)? {
-        Some(command) => Ok(command_text(alloc, &command)?.as_str() == other),
-        None => Ok(false),
+        Some(command) => command_text(alloc, &command),
+        None => Ok(String::new(alloc)),
     }
 }
 
@@ -149,7 +149,7 @@ fn is_read_as(alloc: Global, text: &str, other: &str) -> Result<bool, AllocError
 fn not_rewritten(alloc: Global, texts: &[&str]) -> Result<String, AllocError> {
     let mut wrong = String::new(alloc);
     for text in texts {
-        if !is_read_as(alloc, text, text)? {
+        if own_text(alloc, text)?.as_str() != *text {
             wrong.push('\n')?;
             wrong.push_str(text)?;
         }
@@ -161,7 +161,7 @@ fn not_rewritten(alloc: Global, texts: &[&str]) -> Result<String, AllocError> {
 fn not_read_so(alloc: Global, rows: &[(&str, &str)]) -> Result<String, AllocError> {
     let mut wrong = String::new(alloc);
     for row in rows {
-        if !is_read_as(alloc, row.0, row.1)? {
+        if own_text(alloc, row.0)?.as_str() != row.1 {
             wrong.push('\n')?;
             wrong.push_str(row.0)?;
         }
@@ -173,7 +173,7 @@ fn not_read_so(alloc: Global, rows: &[(&str, &str)]) -> Result<String, AllocErro
 fn not_refused(alloc: Global, texts: &[&str]) -> Result<String, AllocError> {
     let mut wrong = String::new(alloc);
     for text in texts {
-        if read_command(alloc, text)?.is_some() {
+        if !own_text(alloc, text)?.as_str().is_empty() {
             wrong.push('\n')?;
             wrong.push_str(text)?;
         }
@@ -183,9 +183,8 @@ fn not_refused(alloc: Global, texts: &[&str]) -> Result<String, AllocError> {
 
 /// The moment of the line, where it spells a request.
 fn moment_of(alloc: Global, line: &[u8]) -> Result<Option<u64>, AllocError> {
-    let request = read_line(alloc, line)?;
-    match &request {
-        Some(read) => Ok(Some(read.0.seconds())),
+    match read_line(alloc, line)? {
+        Some((moment, _request)) => Ok(Some(moment.seconds())),
         None => Ok(None),
     }
 }
