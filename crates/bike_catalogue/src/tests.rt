@@ -4,41 +4,160 @@ use crate::{Form, Plan, Propulsion, Rate, Segment, Station, System, VehicleType}
 use bike_fields::{Bound, Field, FieldFault, SegmentMinute};
 use std::alloc::Global;
 
-fn is_broken<T: Drop>(made: Result<T, FieldFault>, field: Field, bound: Bound) -> bool {
-    made.err() == Some(FieldFault::Broken { field, bound })
+/// The first bad field and the bound that it breaks, or nothing where the value is kept.
+type Fault = Option<(Field, Bound)>;
+
+/// What a constructor or a reader is given, and what it makes of that.
+enum Row {
+    /// Start, rate, interval and end.
+    Segment(u32, i32, u32, Option<u32>, Fault),
+    /// The start and the end, read from texts, of a segment, and whether it is kept.
+    Minutes(&'static str, &'static str, bool),
+    /// A text and hundredths, and whether they are a rate.
+    Rate(&'static str, i32, bool),
+    /// Identifier, price, description, and how many segments.
+    Plan(&'static str, u32, &'static str, usize, Fault),
+    /// Propulsion, range and plan.
+    Type(Propulsion, u32, &'static str, Fault),
+    /// Latitude, longitude and docks.
+    Station(i32, i32, u32, Fault),
+    /// Language, hours, currency and seconds to live.
+    System(&'static str, &'static str, &'static str, u32, Fault),
+    Form(&'static str, Option<Form>),
+    Propulsion(&'static str, Option<Propulsion>),
 }
 
-fn keeps_segment(start: u32, rate: i32, interval: u32, end: Option<u32>) -> bool {
-    let Ok(it) = Segment::new(start, rate, interval, end) else {
-        return false;
-    };
-    it.start() == start && it.rate() == rate && it.interval() == interval && it.end() == end
-}
+const SEGMENTS: &[Row] = &[
+    Row::Segment(0, 0, 0, None, None),
+    Row::Segment(100_000, 100_000, 100_000, None, None),
+    Row::Segment(99_999, -100_000, 1, Some(100_000), None),
+    Row::Segment(0, 0, 0, Some(1), None),
+    Row::Segment(
+        100_001,
+        100_001,
+        0,
+        None,
+        Some((Field::Start, Bound::Range)),
+    ),
+    Row::Segment(0, 100_001, 100_001, None, Some((Field::Rate, Bound::Range))),
+    Row::Segment(0, -100_001, 0, None, Some((Field::Rate, Bound::Range))),
+    Row::Segment(
+        0,
+        0,
+        100_001,
+        Some(0),
+        Some((Field::Interval, Bound::Range)),
+    ),
+    Row::Segment(0, 0, 0, Some(100_001), Some((Field::End, Bound::Range))),
+    Row::Segment(5, 0, 0, Some(5), Some((Field::End, Bound::Order))),
+    Row::Segment(0, 0, 0, Some(0), Some((Field::End, Bound::Order))),
+    Row::Minutes("9", "10", true),
+    Row::Minutes("9", "9", false),
+    Row::Minutes("10", "9", false),
+    Row::Minutes("99999", "100001", false),
+    Row::Rate("-100000", -100_000, true),
+    Row::Rate("100000", 100_000, true),
+    Row::Rate("-100001", -100_001, false),
+    Row::Rate("100001", 100_001, false),
+    Row::Rate("-0", i32::MIN, false),
+];
 
-#[test]
-fn bounds_segments(rt: HostRuntime) {
-    for (start, rate, interval, end) in [
-        (0, 0, 0, None),
-        (100_000, 100_000, 100_000, None),
-        (99_999, -100_000, 1, Some(100_000)),
-        (0, 0, 0, Some(1)),
-    ] {
-        assert!(rt; keeps_segment(start, rate, interval, end), "{start}");
+const RECORDS: &[Row] = &[
+    Row::Plan("day", 0, "d", 0, None),
+    Row::Plan("day", 1_000_000, "d", 8, None),
+    Row::Plan("Day", 1_000_001, "", 9, Some((Field::Plan, Bound::Charset))),
+    Row::Plan("day", 1_000_001, "", 9, Some((Field::Price, Bound::Range))),
+    Row::Plan("day", 0, "", 9, Some((Field::Description, Bound::Length))),
+    Row::Plan("day", 0, "d", 9, Some((Field::Segments, Bound::Length))),
+    Row::Type(Propulsion::Human, 0, "day", None),
+    Row::Type(Propulsion::ElectricAssist, 1, "day", None),
+    Row::Type(Propulsion::ElectricAssist, 1_000_000, "day", None),
+    Row::Type(
+        Propulsion::Human,
+        1,
+        "",
+        Some((Field::MaxRange, Bound::Range)),
+    ),
+    Row::Type(
+        Propulsion::ElectricAssist,
+        0,
+        "",
+        Some((Field::MaxRange, Bound::Range)),
+    ),
+    Row::Type(
+        Propulsion::ElectricAssist,
+        1_000_001,
+        "",
+        Some((Field::MaxRange, Bound::Range)),
+    ),
+    Row::Type(Propulsion::Human, 0, "", Some((Field::Plan, Bound::Length))),
+    Row::Station(90_000_000, 180_000_000, 1, None),
+    Row::Station(-90_000_000, -180_000_000, 200, None),
+    Row::Station(90_000_001, 180_000_001, 0, Some((Field::Lat, Bound::Range))),
+    Row::Station(-90_000_001, 0, 1, Some((Field::Lat, Bound::Range))),
+    Row::Station(0, 180_000_001, 0, Some((Field::Lon, Bound::Range))),
+    Row::Station(0, -180_000_001, 1, Some((Field::Lon, Bound::Range))),
+    Row::Station(0, 0, 0, Some((Field::Docks, Bound::Range))),
+    Row::Station(0, 0, 201, Some((Field::Docks, Bound::Range))),
+    Row::System("en", "24/7", "EUR", 0, None),
+    Row::System("pt-BR", "24/7", "EUR", 86_400, None),
+    Row::System(
+        "e",
+        "",
+        "eur",
+        86_401,
+        Some((Field::Language, Bound::Length)),
+    ),
+    Row::System(
+        "en",
+        "",
+        "eur",
+        86_401,
+        Some((Field::OpeningHours, Bound::Length)),
+    ),
+    Row::System(
+        "en",
+        "x",
+        "EU",
+        86_401,
+        Some((Field::Currency, Bound::Length)),
+    ),
+    Row::System(
+        "en",
+        "x",
+        "eur",
+        86_401,
+        Some((Field::Currency, Bound::Charset)),
+    ),
+    Row::System("en", "x", "EUR", 86_401, Some((Field::Ttl, Bound::Range))),
+    Row::Form("bicycle", Some(Form::Bicycle)),
+    Row::Form("cargo_bicycle", Some(Form::CargoBicycle)),
+    Row::Form("tricycle", None),
+    Row::Propulsion("human", Some(Propulsion::Human)),
+    Row::Propulsion("electric_assist", Some(Propulsion::ElectricAssist)),
+];
+
+/// Whether the fault is the one that is told.
+fn is_told(fault: FieldFault, told: &Fault) -> bool {
+    match told {
+        Some((field, bound)) => {
+            fault
+                == FieldFault::Broken {
+                    field: *field,
+                    bound: *bound,
+                }
+        }
+        None => false,
     }
-    for (start, rate, interval, end, field, bound) in [
-        (100_001, 100_001, 0, None, Field::Start, Bound::Range),
-        (0, 100_001, 100_001, None, Field::Rate, Bound::Range),
-        (0, -100_001, 0, None, Field::Rate, Bound::Range),
-        (0, 0, 100_001, Some(0), Field::Interval, Bound::Range),
-        (0, 0, 0, Some(100_001), Field::End, Bound::Range),
-        (5, 0, 0, Some(5), Field::End, Bound::Order),
-        (0, 0, 0, Some(0), Field::End, Bound::Order),
-    ] {
-        let segment = Segment::new(start, rate, interval, end);
-        assert!(rt;
-            is_broken(segment, field, bound),
-            "{start} {rate} {interval}"
-        );
+}
+
+fn bounds_segment(start: u32, rate: i32, interval: u32, end: Option<u32>, fault: &Fault) -> bool {
+    match Segment::new(start, rate, interval, end) {
+        Ok(it) => {
+            fault.is_none()
+                && (it.start(), it.rate(), it.interval(), it.end()) == (start, rate, interval, end)
+        }
+        Err(found) => is_told(found, fault),
     }
 }
 
@@ -49,31 +168,13 @@ fn read_segment(start: &str, end: &str) -> Option<Segment> {
     Segment::from_fields(start, rate, start, Some(SegmentMinute::read(end)?))
 }
 
-fn is_rate(text: &str, hundredths: i32) -> bool {
-    Rate::read(text) == Rate::new(hundredths)
-        && Rate::new(hundredths).is_some_and(|rate| rate.hundredths() == hundredths)
-}
-
-#[test]
-fn reads_segments(rt: HostRuntime) {
-    for (start, end, is_kept) in [
-        ("9", "10", true),
-        ("9", "9", false),
-        ("10", "9", false),
-        ("99999", "100001", false),
-    ] {
-        assert!(rt; read_segment(start, end).is_some() == is_kept, "{start}");
-    }
-}
-
-#[test]
-fn bounds_rates(rt: HostRuntime) {
-    for (text, hundredths) in [("-100000", -100_000), ("100000", 100_000)] {
-        assert!(rt; is_rate(text, hundredths), "{text}");
-    }
-    for (text, hundredths) in [("-100001", -100_001), ("100001", 100_001), ("-0", i32::MIN)] {
-        assert!(rt; Rate::read(text).is_none(), "{text}");
-        assert!(rt; Rate::new(hundredths).is_none(), "{text}");
+/// Whether text and hundredths are the same rate, or both none.
+fn bounds_rate(text: &str, hundredths: i32, is_kept: bool) -> bool {
+    let read = Rate::read(text);
+    let made = Rate::new(hundredths);
+    match made {
+        Some(rate) => is_kept && read == made && rate.hundredths() == hundredths,
+        None => !is_kept && read.is_none(),
     }
 }
 
@@ -90,30 +191,6 @@ fn plan_of(
     Plan::new(alloc, plan_id, "Day", price, true, description, some)
 }
 
-fn keeps_plan(alloc: Global, price: u32, count: usize) -> bool {
-    let Ok(plan) = plan_of(alloc, "day", price, "d", count) else {
-        return false;
-    };
-    plan.price().get() == price && plan.segments().len() == count
-}
-
-#[test]
-fn bounds_plans(rt: HostRuntime) {
-    let alloc = rt.alloc();
-    for (price, count) in [(0, 0), (1_000_000, 8)] {
-        assert!(rt; keeps_plan(alloc, price, count), "{price}");
-    }
-    for (plan_id, price, description, field, bound) in [
-        ("Day", 1_000_001, "", Field::Plan, Bound::Charset),
-        ("day", 1_000_001, "", Field::Price, Bound::Range),
-        ("day", 0, "", Field::Description, Bound::Length),
-        ("day", 0, "d", Field::Segments, Bound::Length),
-    ] {
-        let plan = plan_of(alloc, plan_id, price, description, 9);
-        assert!(rt; is_broken(plan, field, bound), "{plan_id} {price}");
-    }
-}
-
 fn type_of(
     alloc: Global,
     propulsion: Propulsion,
@@ -124,65 +201,30 @@ fn type_of(
     VehicleType::new(alloc, "city", "City", form, propulsion, max_range, plan_id)
 }
 
-fn keeps_type(alloc: Global, propulsion: Propulsion, max_range: u32) -> bool {
-    let Ok(it) = type_of(alloc, propulsion, max_range, "day") else {
-        return false;
-    };
-    it.propulsion() == propulsion && it.max_range().get() == max_range
-}
-
-#[test]
-fn bounds_types(rt: HostRuntime) {
-    let alloc = rt.alloc();
-    for (propulsion, max_range) in [
-        (Propulsion::Human, 0),
-        (Propulsion::ElectricAssist, 1),
-        (Propulsion::ElectricAssist, 1_000_000),
-    ] {
-        assert!(rt; keeps_type(alloc, propulsion, max_range), "{max_range}");
-    }
-    for (propulsion, max_range, field, bound) in [
-        (Propulsion::Human, 1, Field::MaxRange, Bound::Range),
-        (Propulsion::ElectricAssist, 0, Field::MaxRange, Bound::Range),
-        (
-            Propulsion::ElectricAssist,
-            1_000_001,
-            Field::MaxRange,
-            Bound::Range,
-        ),
-        (Propulsion::Human, 0, Field::Plan, Bound::Length),
-    ] {
-        let vehicle_type = type_of(alloc, propulsion, max_range, "");
-        assert!(rt; is_broken(vehicle_type, field, bound), "{max_range}");
+fn bounds_type(
+    alloc: Global,
+    propulsion: Propulsion,
+    max_range: u32,
+    plan_id: &str,
+    fault: &Fault,
+) -> bool {
+    match type_of(alloc, propulsion, max_range, plan_id) {
+        Ok(it) => {
+            fault.is_none() && it.propulsion() == propulsion && it.max_range().get() == max_range
+        }
+        Err(found) => is_told(found, fault),
     }
 }
 
-fn keeps_station(alloc: Global, lat: i32, lon: i32, docks: u32) -> bool {
-    let Ok(it) = Station::new(alloc, "a1", "Main St", lat, lon, docks) else {
-        return false;
-    };
-    it.lat().microdegrees() == lat && it.lon().microdegrees() == lon && it.docks().get() == docks
-}
-
-#[test]
-fn bounds_stations(rt: HostRuntime) {
-    let alloc = rt.alloc();
-    for (lat, lon, docks) in [
-        (90_000_000, 180_000_000, 1),
-        (-90_000_000, -180_000_000, 200),
-    ] {
-        assert!(rt; keeps_station(alloc, lat, lon, docks), "{lat}");
-    }
-    for (lat, lon, docks, field) in [
-        (90_000_001, 180_000_001, 0, Field::Lat),
-        (-90_000_001, 0, 1, Field::Lat),
-        (0, 180_000_001, 0, Field::Lon),
-        (0, -180_000_001, 1, Field::Lon),
-        (0, 0, 0, Field::Docks),
-        (0, 0, 201, Field::Docks),
-    ] {
-        let station = Station::new(alloc, "a1", "Main St", lat, lon, docks);
-        assert!(rt; is_broken(station, field, Bound::Range), "{lat} {lon}");
+fn bounds_station(alloc: Global, lat: i32, lon: i32, docks: u32, fault: &Fault) -> bool {
+    match Station::new(alloc, "a1", "Main St", lat, lon, docks) {
+        Ok(it) => {
+            fault.is_none()
+                && it.lat().microdegrees() == lat
+                && it.lon().microdegrees() == lon
+                && it.docks().get() == docks
+        }
+        Err(found) => is_told(found, fault),
     }
 }
 
@@ -207,46 +249,65 @@ fn system_of(
     )
 }
 
-fn keeps_system(alloc: Global, language: &str, ttl: u32) -> bool {
-    let Ok(it) = system_of(alloc, language, "24/7", "EUR", ttl) else {
-        return false;
-    };
-    it.ttl().get() == ttl
+/// Whether the row is as it says.
+fn is_so(alloc: Global, row: &Row) -> bool {
+    match row {
+        Row::Segment(start, rate, interval, end, fault) => {
+            bounds_segment(*start, *rate, *interval, *end, fault)
+        }
+        Row::Minutes(start, end, is_kept) => read_segment(start, end).is_some() == *is_kept,
+        Row::Rate(text, hundredths, is_kept) => bounds_rate(text, *hundredths, *is_kept),
+        Row::Plan(plan_id, price, description, count, fault) => {
+            match plan_of(alloc, plan_id, *price, description, *count) {
+                Ok(it) => {
+                    fault.is_none() && it.price().get() == *price && it.segments().len() == *count
+                }
+                Err(found) => is_told(found, fault),
+            }
+        }
+        Row::Type(propulsion, max_range, plan_id, fault) => {
+            bounds_type(alloc, *propulsion, *max_range, plan_id, fault)
+        }
+        Row::Station(lat, lon, docks, fault) => bounds_station(alloc, *lat, *lon, *docks, fault),
+        Row::System(language, hours, currency, ttl, fault) => {
+            match system_of(alloc, language, hours, currency, *ttl) {
+                Ok(it) => fault.is_none() && it.ttl().get() == *ttl,
+                Err(found) => is_told(found, fault),
+            }
+        }
+        Row::Form(text, form) => is_form(text, *form),
+        Row::Propulsion(text, propulsion) => is_propulsion(text, *propulsion),
+    }
+}
+
+fn is_form(text: &str, form: Option<Form>) -> bool {
+    match form {
+        Some(known) => Form::read(text) == form && known.as_str() == text,
+        None => Form::read(text).is_none(),
+    }
+}
+
+fn is_propulsion(text: &str, propulsion: Option<Propulsion>) -> bool {
+    match propulsion {
+        Some(known) => Propulsion::read(text) == propulsion && known.as_str() == text,
+        None => Propulsion::read(text).is_none(),
+    }
+}
+
+/// The place of the first row that isn't as it says; that behind the last where all are.
+fn first_unlike(alloc: Global, rows: &[Row]) -> usize {
+    for (place, row) in rows.iter().enumerate() {
+        if !is_so(alloc, row) {
+            return place;
+        }
+    }
+    rows.len()
 }
 
 #[test]
-fn bounds_systems(rt: HostRuntime) {
-    let alloc = rt.alloc();
-    for (language, ttl) in [("en", 0), ("pt-BR", 86_400)] {
-        assert!(rt; keeps_system(alloc, language, ttl), "{language}");
-    }
-    for (language, hours, currency, field, bound) in [
-        ("e", "", "eur", Field::Language, Bound::Length),
-        ("en", "", "eur", Field::OpeningHours, Bound::Length),
-        ("en", "x", "EU", Field::Currency, Bound::Length),
-        ("en", "x", "eur", Field::Currency, Bound::Charset),
-        ("en", "x", "EUR", Field::Ttl, Bound::Range),
-    ] {
-        let system = system_of(alloc, language, hours, currency, 86_401);
-        assert!(rt; is_broken(system, field, bound), "{hours} {currency}");
-    }
-}
-
-fn is_form(form: Form, text: &str) -> bool {
-    Form::read(text) == Some(form) && form.as_str() == text
-}
-
-fn is_propulsion(propulsion: Propulsion, text: &str) -> bool {
-    Propulsion::read(text) == Some(propulsion) && propulsion.as_str() == text
-}
-
-#[test]
-fn reads_words(rt: HostRuntime) {
-    assert!(rt; is_form(Form::Bicycle, "bicycle"));
-    assert!(rt; is_form(Form::CargoBicycle, "cargo_bicycle"));
-    assert!(rt; Form::read("tricycle").is_none());
-    assert!(rt; is_propulsion(Propulsion::Human, "human"));
-    assert!(rt; is_propulsion(Propulsion::ElectricAssist, "electric_assist"));
+fn bounds_segments_and_records(rt: HostRuntime) {
+    assert_eq!(rt; first_unlike(rt.alloc(), SEGMENTS), SEGMENTS.len());
+    assert_eq!(rt; first_unlike(rt.alloc(), RECORDS), RECORDS.len());
 }
 
 /// The fault of a good record, by the field that names it.

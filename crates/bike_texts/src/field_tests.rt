@@ -1,326 +1,543 @@
 //! Each kind of field at its bounds and past them.
 
 use crate::{Fields, OrderEnd, Side};
-use bike_catalogue::{Form, Propulsion};
-use bike_fields::{Ascii, Name};
+use bike_catalogue::Propulsion;
 use std::alloc::{AllocError, Global};
+use std::test::Fail;
 
-/// So many times the text.
-fn repeated(alloc: Global, text: &str, count: usize) -> Result<String, AllocError> {
-    let mut out = String::new(alloc);
-    for _ in 0..count {
-        out.push_str(text)?;
-    }
-    Ok(out)
+/// A text, and the number as which it is read.
+type Number = (&'static str, Option<i64>);
+
+/// A text, and the text of what it is read as.
+type Text = (&'static str, Option<&'static str>);
+
+/// The start, rate, interval and end of a segment.
+type SegmentRow = (u32, i32, u32, Option<u32>);
+
+/// The kinds of fields that are read as numbers.
+#[derive(Clone, Copy)]
+enum Numeral {
+    Dock,
+    Moment,
+    Amount,
+    Fare,
+    Latitude,
+    Longitude,
+    HumanRange,
+    ElectricRange,
+    Plan,
 }
 
-fn fare_of(text: &str) -> Option<i64> {
-    let fare = Fields::of(text).fare()?;
-    Some(fare.hundredths())
+/// The kinds of fields that are read as texts.
+#[derive(Clone, Copy)]
+enum Word {
+    Choice,
+    Side,
+    Ok,
+    Form,
+    Propulsion,
+    Ident,
+    Key,
+    Language,
+    Currency,
+    Caller,
+    End,
+    Name,
+    Ascii,
 }
 
-#[test]
-fn cuts_at_tabs(rt: HostRuntime) -> Result<(), AllocError> {
-    let mut fields = Fields::of("a\tb;c\t");
-    for part in [Some("a"), Some("b;c"), Some(""), None, None] {
-        assert!(rt; fields.part() == part);
-    }
-    assert!(rt; fields.end().is_some());
-    let mut empty = Fields::of("");
-    assert!(rt; empty.part() == Some(""));
-    assert!(rt; empty.part().is_none());
-    assert!(rt; Fields::of("").end().is_none());
-    let mut cut = Fields::cut("a;b\tc", ';');
-    for part in [Some("a"), Some("b\tc"), None] {
-        assert!(rt; cut.part() == part);
-    }
-    Ok(())
-}
+const DOCKS: &[Number] = &[
+    ("1", Some(1)),
+    ("200", Some(200)),
+    ("0", None),
+    ("201", None),
+    ("007", None),
+    ("+1", None),
+    ("-1", None),
+    (" 1", None),
+    ("1.0", None),
+    ("", None),
+    ("18446744073709551617", None),
+];
 
-#[test]
-fn reads_numbers(rt: HostRuntime) -> Result<(), AllocError> {
-    for (text, want) in [
-        ("1", Some(1)),
-        ("200", Some(200)),
-        ("0", None),
-        ("201", None),
-        ("007", None),
-        ("+1", None),
-        ("-1", None),
-        (" 1", None),
-        ("1.0", None),
-        ("", None),
-        ("18446744073709551617", None),
-    ] {
-        let dock = Fields::of(text).number::<1, 200>();
-        assert!(rt; dock.map(|dock| dock.get()) == want, "{text}");
-    }
-    for (text, want) in [
-        ("0", Some(0)),
-        ("253402300799", Some(253_402_300_799)),
-        ("253402300800", None),
-        ("01", None),
-    ] {
-        let moment = Fields::of(text).moment();
-        assert!(rt; moment.map(|moment| moment.seconds()) == want, "{text}");
-    }
-    Ok(())
-}
+const MOMENTS: &[Number] = &[
+    ("0", Some(0)),
+    ("253402300799", Some(253_402_300_799)),
+    ("253402300800", None),
+    ("01", None),
+];
 
-#[test]
-fn reads_amounts(rt: HostRuntime) -> Result<(), AllocError> {
-    for (text, signed, fare) in [
-        ("0", Some(0), Some(0)),
-        ("-1", Some(-1), None),
-        ("34561800000", Some(34_561_800_000), Some(34_561_800_000)),
-        ("34561800001", Some(34_561_800_001), None),
-        ("9223372036854775807", Some(i64::MAX), None),
-        ("-9223372036854775808", Some(i64::MIN), None),
-        ("9223372036854775808", None, None),
-        ("-9223372036854775809", None, None),
-        ("-0", None, None),
-        ("-01", None, None),
-        ("007", None, None),
-        ("+1", None, None),
-    ] {
-        assert!(rt; Fields::of(text).signed() == signed, "{text}");
-        assert!(rt; fare_of(text) == fare, "{text}");
-    }
-    Ok(())
-}
+const AMOUNTS: &[Number] = &[
+    ("0", Some(0)),
+    ("-1", Some(-1)),
+    ("34561800000", Some(34_561_800_000)),
+    ("34561800001", Some(34_561_800_001)),
+    ("9223372036854775807", Some(i64::MAX)),
+    ("-9223372036854775808", Some(i64::MIN)),
+    ("9223372036854775808", None),
+    ("-9223372036854775809", None),
+    ("-0", None),
+    ("-01", None),
+    ("007", None),
+    ("+1", None),
+];
 
-#[test]
-fn reads_coordinates(rt: HostRuntime) -> Result<(), AllocError> {
-    for (text, latitude, longitude) in [
-        ("0", Some(0), Some(0)),
-        ("-0", Some(0), Some(0)),
-        ("48.1", Some(48_100_000), Some(48_100_000)),
-        ("048.100000", Some(48_100_000), Some(48_100_000)),
-        ("-0.000001", Some(-1), Some(-1)),
-        ("90", Some(90_000_000), Some(90_000_000)),
-        ("90.000001", None, Some(90_000_001)),
-        ("-90.000001", None, Some(-90_000_001)),
-        ("-180", None, Some(-180_000_000)),
-        ("180.000001", None, None),
-        ("1.0000000", None, None),
-        ("0001", None, None),
-        ("1.", None, None),
-        (".5", None, None),
-        ("+1", None, None),
-        ("1e1", None, None),
-    ] {
-        let north = Fields::of(text).degrees(90_000_000);
-        assert!(rt;
-            north.map(|north| north.microdegrees()) == latitude,
-            "{text}"
-        );
-        let east = Fields::of(text).degrees(180_000_000);
-        assert!(rt; east.map(|east| east.microdegrees()) == longitude, "{text}");
-    }
-    Ok(())
-}
+const FARES: &[Number] = &[
+    ("0", Some(0)),
+    ("-1", None),
+    ("34561800000", Some(34_561_800_000)),
+    ("34561800001", None),
+    ("9223372036854775807", None),
+    ("-9223372036854775808", None),
+    ("9223372036854775808", None),
+    ("-9223372036854775809", None),
+    ("-0", None),
+    ("-01", None),
+    ("007", None),
+    ("+1", None),
+];
 
-#[test]
-fn reads_ranges(rt: HostRuntime) -> Result<(), AllocError> {
-    for (text, human, electric) in [
-        ("0", Some(0), None),
-        ("1", None, Some(1)),
-        ("1000000", None, Some(1_000_000)),
-        ("1000001", None, None),
-        ("00", None, None),
-    ] {
-        let metres = Fields::of(text).metres(Propulsion::Human);
-        assert!(rt; metres.map(|metres| metres.get()) == human, "{text}");
-        let metres = Fields::of(text).metres(Propulsion::ElectricAssist);
-        assert!(rt; metres.map(|metres| metres.get()) == electric, "{text}");
-    }
-    Ok(())
-}
+const LATITUDES: &[Number] = &[
+    ("0", Some(0)),
+    ("-0", Some(0)),
+    ("48.1", Some(48_100_000)),
+    ("048.100000", Some(48_100_000)),
+    ("-0.000001", Some(-1)),
+    ("90", Some(90_000_000)),
+    ("90.000001", None),
+    ("-90.000001", None),
+    ("-180", None),
+    ("180.000001", None),
+    ("1.0000000", None),
+    ("0001", None),
+    ("1.", None),
+    (".5", None),
+    ("+1", None),
+    ("1e1", None),
+];
 
-#[test]
-fn reads_words(rt: HostRuntime) -> Result<(), AllocError> {
-    for (text, choice, side, is_ok) in [
-        ("ok", None, None, true),
-        ("blocked", Some(true), None, false),
-        ("open", Some(false), None, false),
-        ("Open", None, None, false),
-        ("from", None, Some(Side::From), false),
-        ("to", None, Some(Side::To), false),
-        ("", None, None, false),
-    ] {
-        assert!(rt;
-            Fields::of(text).choice("blocked", "open") == choice,
-            "{text}"
-        );
-        assert!(rt; Fields::of(text).side() == side, "{text}");
-        assert!(rt; Fields::of(text).word("ok").is_some() == is_ok, "{text}");
-    }
-    for (text, form, propulsion) in [
-        ("bicycle", Some(Form::Bicycle), None),
-        ("cargo_bicycle", Some(Form::CargoBicycle), None),
-        ("human", None, Some(Propulsion::Human)),
-        ("electric_assist", None, Some(Propulsion::ElectricAssist)),
-        ("cargo", None, None),
-    ] {
-        assert!(rt; Fields::of(text).form() == form, "{text}");
-        assert!(rt; Fields::of(text).propulsion() == propulsion, "{text}");
-    }
-    Ok(())
-}
+const LONGITUDES: &[Number] = &[
+    ("0", Some(0)),
+    ("-0", Some(0)),
+    ("48.1", Some(48_100_000)),
+    ("048.100000", Some(48_100_000)),
+    ("-0.000001", Some(-1)),
+    ("90", Some(90_000_000)),
+    ("90.000001", Some(90_000_001)),
+    ("-90.000001", Some(-90_000_001)),
+    ("-180", Some(-180_000_000)),
+    ("180.000001", None),
+    ("1.0000000", None),
+    ("0001", None),
+    ("1.", None),
+    (".5", None),
+    ("+1", None),
+    ("1e1", None),
+];
 
-#[test]
-fn reads_short_texts(rt: HostRuntime) -> Result<(), AllocError> {
-    let alloc = rt.alloc();
-    let most = repeated(alloc, "a", 36)?;
-    let long = repeated(alloc, "a", 37)?;
-    for (text, is_ident, is_key, is_language, is_currency) in [
-        ("az_09-", true, true, false, false),
-        ("EUR", false, true, true, true),
-        ("de-AT", false, true, true, false),
-        ("", false, false, false, false),
-        (most.as_str(), true, true, false, false),
-        (long.as_str(), false, true, false, false),
-    ] {
-        assert!(rt;
-            Fields::of(text).ident(alloc)?.is_some() == is_ident,
-            "{text}"
-        );
-        assert!(rt; Fields::of(text).key(alloc)?.is_some() == is_key, "{text}");
-        assert!(rt;
-            Fields::of(text).language(alloc)?.is_some() == is_language,
-            "{text}"
-        );
-        assert!(rt;
-            Fields::of(text).currency(alloc)?.is_some() == is_currency,
-            "{text}"
-        );
-    }
-    assert!(rt; Fields::of("rider:7").caller(alloc)?.is_some());
-    assert!(rt; Fields::of("rider:07").caller(alloc)?.is_none());
-    Ok(())
-}
+const HUMAN_RANGES: &[Number] = &[
+    ("0", Some(0)),
+    ("1", None),
+    ("1000000", None),
+    ("1000001", None),
+    ("00", None),
+];
 
-#[test]
-fn reads_ends_of_orders(rt: HostRuntime) -> Result<(), AllocError> {
-    let alloc = rt.alloc();
-    for (text, is_depot, is_station) in [
-        ("*", true, false),
-        ("a1", false, true),
-        ("A1", false, false),
-        ("**", false, false),
-        ("", false, false),
-    ] {
-        let end = Fields::of(text).order_end(alloc)?;
-        assert!(rt; matches!(&end, Some(OrderEnd::Depot)) == is_depot, "{text}");
-        assert!(rt;
-            matches!(&end, Some(OrderEnd::Station(_))) == is_station,
-            "{text}"
-        );
-    }
-    Ok(())
-}
+const ELECTRIC_RANGES: &[Number] = &[
+    ("0", None),
+    ("1", Some(1)),
+    ("1000000", Some(1_000_000)),
+    ("1000001", None),
+    ("00", None),
+];
 
-#[test]
-fn undoes_escapes(rt: HostRuntime) -> Result<(), AllocError> {
-    let alloc = rt.alloc();
-    for (text, name, ascii) in [
-        ("Rue \u{e9}", Some("Rue \u{e9}"), None),
-        ("a\\\\b", Some("a\\b"), Some("a\\b")),
-        ("\\t\\n\\r", Some("\t\n\r"), None),
-        ("Mo-Su 06:00", Some("Mo-Su 06:00"), Some("Mo-Su 06:00")),
-        ("a\nb", None, None),
-        ("a\rb", None, None),
-        ("a\\", None, None),
-        ("a\\x", None, None),
-        ("a\\0", None, None),
-        ("a\0", None, None),
-        ("", None, None),
-    ] {
-        let read = Fields::of(text).name(alloc)?;
-        assert!(rt; read.as_ref().map(Name::as_str) == name, "{text}");
-        let read = Fields::of(text).ascii(alloc)?;
-        assert!(rt; read.as_ref().map(Ascii::as_str) == ascii, "{text}");
-    }
-    Ok(())
-}
+/// Plans, and how many segments they have.
+const PLANS: &[Number] = &[
+    ("-", Some(0)),
+    ("0:25:10:-", Some(1)),
+    ("0:0:0:1;100000:-100000:100000:-", Some(2)),
+    ("99999:100000:1:100000", Some(1)),
+    (
+        "1:1:1:-;1:1:1:-;1:1:1:-;1:1:1:-;1:1:1:-;1:1:1:-;1:1:1:-;1:1:1:-",
+        Some(8),
+    ),
+    (
+        "1:1:1:-;1:1:1:-;1:1:1:-;1:1:1:-;1:1:1:-;1:1:1:-;1:1:1:-;1:1:1:-;1:1:1:-",
+        None,
+    ),
+    ("", None),
+    ("0:25:10:-;", None),
+    ("-;-", None),
+    ("0:25:10", None),
+    ("0:25:10:-:1", None),
+    ("0:-0:10:-", None),
+    ("0:007:10:-", None),
+    ("100001:25:10:-", None),
+    ("0:100001:10:-", None),
+    ("0:-100001:10:-", None),
+    ("0:25:100001:-", None),
+    ("0:25:10:100001", None),
+    ("5:25:10:5", None),
+];
 
-#[test]
-fn counts_bytes_without_escapes(rt: HostRuntime) -> Result<(), AllocError> {
-    let alloc = rt.alloc();
-    for (count, is_name, is_ascii) in [
-        (120, true, true),
-        (121, false, true),
-        (200, false, true),
-        (201, false, false),
-    ] {
-        let text = repeated(alloc, "\\\\", count)?;
-        assert!(rt;
-            Fields::of(text.as_str()).name(alloc)?.is_some() == is_name,
-            "{count}"
-        );
-        assert!(rt;
-            Fields::of(text.as_str()).ascii(alloc)?.is_some() == is_ascii,
-            "{count}"
-        );
-    }
-    Ok(())
-}
+const CHOICES: &[Text] = &[
+    ("ok", None),
+    ("blocked", Some("blocked")),
+    ("open", Some("open")),
+    ("Open", None),
+    ("from", None),
+    ("to", None),
+    ("", None),
+];
+
+const SIDES: &[Text] = &[
+    ("ok", None),
+    ("blocked", None),
+    ("open", None),
+    ("Open", None),
+    ("from", Some("from")),
+    ("to", Some("to")),
+    ("", None),
+];
+
+const OKS: &[Text] = &[
+    ("ok", Some("ok")),
+    ("blocked", None),
+    ("open", None),
+    ("Open", None),
+    ("from", None),
+    ("to", None),
+    ("", None),
+];
+
+const FORMS: &[Text] = &[
+    ("bicycle", Some("bicycle")),
+    ("cargo_bicycle", Some("cargo_bicycle")),
+    ("human", None),
+    ("electric_assist", None),
+    ("cargo", None),
+];
+
+const PROPULSIONS: &[Text] = &[
+    ("bicycle", None),
+    ("cargo_bicycle", None),
+    ("human", Some("human")),
+    ("electric_assist", Some("electric_assist")),
+    ("cargo", None),
+];
+
+/// As many characters as an identifier may have.
+const LONGEST: &str = "aaaaaaaaaaaaaaaaaaaaaaaaaaaaaaaaaaaa";
+
+/// One character more.
+const TOO_LONG: &str = "aaaaaaaaaaaaaaaaaaaaaaaaaaaaaaaaaaaaa";
+
+const IDENTS: &[Text] = &[
+    ("az_09-", Some("az_09-")),
+    ("EUR", None),
+    ("de-AT", None),
+    ("", None),
+    (LONGEST, Some(LONGEST)),
+    (TOO_LONG, None),
+];
+
+const KEYS: &[Text] = &[
+    ("az_09-", Some("az_09-")),
+    ("EUR", Some("EUR")),
+    ("de-AT", Some("de-AT")),
+    ("", None),
+    (LONGEST, Some(LONGEST)),
+    (TOO_LONG, Some(TOO_LONG)),
+];
+
+const LANGUAGES: &[Text] = &[
+    ("az_09-", None),
+    ("EUR", Some("EUR")),
+    ("de-AT", Some("de-AT")),
+    ("", None),
+    (LONGEST, None),
+    (TOO_LONG, None),
+];
+
+const CURRENCIES: &[Text] = &[
+    ("az_09-", None),
+    ("EUR", Some("EUR")),
+    ("de-AT", None),
+    ("", None),
+    (LONGEST, None),
+    (TOO_LONG, None),
+];
+
+const CALLERS: &[Text] = &[("rider:7", Some("rider:7")), ("rider:07", None)];
+
+const ENDS: &[Text] = &[
+    ("*", Some("*")),
+    ("a1", Some("a1")),
+    ("A1", None),
+    ("**", None),
+    ("", None),
+];
+
+const NAMES: &[Text] = &[
+    ("Rue \u{e9}", Some("Rue \u{e9}")),
+    ("a\\\\b", Some("a\\b")),
+    ("\\t\\n\\r", Some("\t\n\r")),
+    ("Mo-Su 06:00", Some("Mo-Su 06:00")),
+    ("a\nb", None),
+    ("a\rb", None),
+    ("a\\", None),
+    ("a\\x", None),
+    ("a\\0", None),
+    ("a\0", None),
+    ("", None),
+];
+
+const ASCIIS: &[Text] = &[
+    ("Rue \u{e9}", None),
+    ("a\\\\b", Some("a\\b")),
+    ("\\t\\n\\r", None),
+    ("Mo-Su 06:00", Some("Mo-Su 06:00")),
+    ("a\nb", None),
+    ("a\rb", None),
+    ("a\\", None),
+    ("a\\x", None),
+    ("a\\0", None),
+    ("a\0", None),
+    ("", None),
+];
+
+/// Texts cut at their TABs, or else at their semicolons, and their parts.
+const CUTS: &[(bool, &str, &[&str])] = &[
+    (true, "a\tb;c\t", &["a", "b;c", ""]),
+    (true, "", &[""]),
+    (false, "a;b\tc", &["a", "b\tc"]),
+];
+
+/// So many escapes, and whether they are read as a name and as an ASCII field.
+const ESCAPES: &[(usize, bool, bool)] = &[
+    (120, true, true),
+    (121, false, true),
+    (200, false, true),
+    (201, false, false),
+];
+
+const SEGMENTS: &[SegmentRow] = &[(5, -25, 10, Some(60)), (7, 0, 0, None)];
+
+/// What is read as numbers, by kind.
+const NUMBERS: &[(Numeral, &str, &[Number])] = &[
+    (Numeral::Dock, "dock", DOCKS),
+    (Numeral::Moment, "moment", MOMENTS),
+    (Numeral::Amount, "amount", AMOUNTS),
+    (Numeral::Fare, "fare", FARES),
+    (Numeral::Latitude, "latitude", LATITUDES),
+    (Numeral::Longitude, "longitude", LONGITUDES),
+    (Numeral::HumanRange, "human range", HUMAN_RANGES),
+    (Numeral::ElectricRange, "electric range", ELECTRIC_RANGES),
+    (Numeral::Plan, "plan", PLANS),
+];
+
+/// What is read as texts, by kind.
+const TEXTS: &[(Word, &str, &[Text])] = &[
+    (Word::Choice, "choice", CHOICES),
+    (Word::Side, "side", SIDES),
+    (Word::Ok, "ok", OKS),
+    (Word::Form, "form", FORMS),
+    (Word::Propulsion, "propulsion", PROPULSIONS),
+    (Word::Ident, "ident", IDENTS),
+    (Word::Key, "key", KEYS),
+    (Word::Language, "language", LANGUAGES),
+    (Word::Currency, "currency", CURRENCIES),
+    (Word::Caller, "caller", CALLERS),
+    (Word::End, "end", ENDS),
+    (Word::Name, "name", NAMES),
+    (Word::Ascii, "ascii", ASCIIS),
+];
 
 /// How many segments the text spells.
-fn count_segments(alloc: Global, text: &str) -> Result<Option<usize>, AllocError> {
-    let segments = Fields::of(text).segments(alloc)?;
-    Ok(segments.map(|segments| segments.len()))
+fn count_segments(alloc: Global, text: &str) -> Result<Option<i64>, AllocError> {
+    match Fields::of(text).segments(alloc)? {
+        Some(segments) => Ok(i64::try_from(segments.len()).ok()),
+        None => Ok(None),
+    }
+}
+
+/// The number as which the text is read, of the kinds that need no memory.
+fn number_of(kind: &Numeral, text: &str) -> Option<i64> {
+    let mut fields = Fields::of(text);
+    match kind {
+        Numeral::Dock => Some(i64::from(fields.number::<1, 200>()?.get())),
+        Numeral::Moment => i64::try_from(fields.moment()?.seconds()).ok(),
+        Numeral::Amount => fields.signed(),
+        Numeral::Fare => Some(fields.fare()?.hundredths()),
+        Numeral::Latitude => Some(i64::from(fields.degrees(90_000_000)?.microdegrees())),
+        Numeral::Longitude => Some(i64::from(fields.degrees(180_000_000)?.microdegrees())),
+        Numeral::HumanRange => Some(i64::from(fields.metres(Propulsion::Human)?.get())),
+        Numeral::ElectricRange => Some(i64::from(fields.metres(Propulsion::ElectricAssist)?.get())),
+        Numeral::Plan => None,
+    }
+}
+
+/// The first row that is read as another number.
+fn misread_number(alloc: Global) -> Result<String, AllocError> {
+    for (kind, name, rows) in NUMBERS {
+        for row in *rows {
+            let found = match kind {
+                Numeral::Plan => count_segments(alloc, row.0)?,
+                _ => number_of(kind, row.0),
+            };
+            if found != row.1 {
+                return format!(in alloc; "{name} {}", row.0);
+            }
+        }
+    }
+    Ok(String::new(alloc))
+}
+
+/// The word as which the text is read, of the kinds that are words.
+fn word_of(kind: &Word, text: &str) -> Option<&'static str> {
+    let mut fields = Fields::of(text);
+    match kind {
+        Word::Choice => Some(if fields.choice("blocked", "open")? {
+            "blocked"
+        } else {
+            "open"
+        }),
+        Word::Side => match fields.side()? {
+            Side::From => Some("from"),
+            Side::To => Some("to"),
+        },
+        Word::Form => Some(fields.form()?.as_str()),
+        Word::Propulsion => Some(fields.propulsion()?.as_str()),
+        _ => {
+            fields.word("ok")?;
+            Some("ok")
+        }
+    }
+}
+
+fn is_end(alloc: Global, text: &str, want: Option<&str>) -> Result<bool, AllocError> {
+    match Fields::of(text).order_end(alloc)? {
+        Some(OrderEnd::Depot) => Ok(want == Some("*")),
+        Some(OrderEnd::Station(station)) => Ok(want == Some(station.as_str())),
+        None => Ok(want.is_none()),
+    }
+}
+
+fn is_name(alloc: Global, text: &str, want: Option<&str>) -> Result<bool, AllocError> {
+    match Fields::of(text).name(alloc)? {
+        Some(name) => Ok(want == Some(name.as_str())),
+        None => Ok(want.is_none()),
+    }
+}
+
+fn is_ascii(alloc: Global, text: &str, want: Option<&str>) -> Result<bool, AllocError> {
+    match Fields::of(text).ascii(alloc)? {
+        Some(ascii) => Ok(want == Some(ascii.as_str())),
+        None => Ok(want.is_none()),
+    }
+}
+
+/// Whether the text of the row is read as the other.
+fn is_read(alloc: Global, kind: &Word, text: &str, want: Option<&str>) -> Result<bool, AllocError> {
+    let mut fields = Fields::of(text);
+    match kind {
+        Word::Ident => Ok(fields.ident(alloc)?.is_some() == want.is_some()),
+        Word::Key => Ok(fields.key(alloc)?.is_some() == want.is_some()),
+        Word::Language => Ok(fields.language(alloc)?.is_some() == want.is_some()),
+        Word::Currency => Ok(fields.currency(alloc)?.is_some() == want.is_some()),
+        Word::Caller => Ok(fields.caller(alloc)?.is_some() == want.is_some()),
+        Word::End => is_end(alloc, text, want),
+        Word::Name => is_name(alloc, text, want),
+        Word::Ascii => is_ascii(alloc, text, want),
+        _ => Ok(word_of(kind, text) == want),
+    }
+}
+
+/// The first row that is read as another text.
+fn misread_text(alloc: Global) -> Result<String, AllocError> {
+    for (kind, name, rows) in TEXTS {
+        for row in *rows {
+            if !is_read(alloc, kind, row.0, row.1)? {
+                return format!(in alloc; "{name} {}", row.0);
+            }
+        }
+    }
+    Ok(String::new(alloc))
+}
+
+/// Whether the text, cut at its TABs or semicolons, has these parts, and nothing behind them.
+fn has_parts(by_tab: bool, text: &str, parts: &[&str]) -> bool {
+    let mut fields = if by_tab {
+        Fields::of(text)
+    } else {
+        Fields::cut(text, ';')
+    };
+    for part in parts {
+        if fields.part() != Some(*part) {
+            return false;
+        }
+    }
+    fields.part().is_none() && fields.part().is_none() && fields.end().is_some()
+}
+
+/// The first text that is cut otherwise.
+fn miscut() -> &'static str {
+    for (by_tab, text, parts) in CUTS {
+        if !has_parts(*by_tab, text, parts) {
+            return text;
+        }
+    }
+    match Fields::of("").end() {
+        Some(()) => "an empty part is one",
+        None => "",
+    }
+}
+
+/// Whether so many escapes are read as a name, and as an ASCII field.
+fn are_read(alloc: Global, escapes: usize) -> Result<(bool, bool), AllocError> {
+    let mut text = String::new(alloc);
+    for _ in 0..escapes {
+        text.push_str("\\\\")?;
+    }
+    let name = Fields::of(text.as_str()).name(alloc)?.is_some();
+    let ascii = Fields::of(text.as_str()).ascii(alloc)?.is_some();
+    Ok((name, ascii))
+}
+
+/// The first count of escapes that are read otherwise, or 0.
+fn misread_escapes(alloc: Global) -> Result<usize, AllocError> {
+    for (escapes, is_name, is_ascii) in ESCAPES {
+        if are_read(alloc, *escapes)? != (*is_name, *is_ascii) {
+            return Ok(*escapes);
+        }
+    }
+    Ok(0)
+}
+
+/// Whether the text is read as these segments.
+fn has_segments(alloc: Global, text: &str, rows: &[SegmentRow]) -> Result<bool, AllocError> {
+    let Some(segments) = Fields::of(text).segments(alloc)? else {
+        return Ok(false);
+    };
+    for (it, row) in segments.iter().zip(rows) {
+        if (it.start(), it.rate(), it.interval(), it.end()) != *row {
+            return Ok(false);
+        }
+    }
+    Ok(segments.len() == rows.len())
 }
 
 #[test]
-fn reads_segments(rt: HostRuntime) -> Result<(), AllocError> {
-    let alloc = rt.alloc();
-    for (text, want) in [
-        ("-", Some(0)),
-        ("0:25:10:-", Some(1)),
-        ("0:0:0:1;100000:-100000:100000:-", Some(2)),
-        ("99999:100000:1:100000", Some(1)),
-        (
-            "1:1:1:-;1:1:1:-;1:1:1:-;1:1:1:-;1:1:1:-;1:1:1:-;1:1:1:-;1:1:1:-",
-            Some(8),
-        ),
-        (
-            "1:1:1:-;1:1:1:-;1:1:1:-;1:1:1:-;1:1:1:-;1:1:1:-;1:1:1:-;1:1:1:-;1:1:1:-",
-            None,
-        ),
-        ("", None),
-        ("0:25:10:-;", None),
-        ("-;-", None),
-        ("0:25:10", None),
-        ("0:25:10:-:1", None),
-        ("0:-0:10:-", None),
-        ("0:007:10:-", None),
-        ("100001:25:10:-", None),
-        ("0:100001:10:-", None),
-        ("0:-100001:10:-", None),
-        ("0:25:100001:-", None),
-        ("0:25:10:100001", None),
-        ("5:25:10:5", None),
-    ] {
-        assert!(rt; count_segments(alloc, text)? == want, "{text}");
-    }
+fn fields_are_read(rt: HostRuntime) -> Result<(), Fail> {
+    assert_eq!(rt; misread_number(rt.alloc())?.as_str(), "");
+    assert_eq!(rt; misread_text(rt.alloc())?.as_str(), "");
     Ok(())
 }
 
 #[test]
-fn reads_the_fields_of_a_segment(rt: HostRuntime) -> Result<(), AllocError> {
-    let alloc = rt.alloc();
-    let segments = Fields::of("5:-25:10:60;7:0:0:-").segments(alloc)?;
-    let Some(segments) = segments else {
-        return Err(AllocError);
-    };
-    for (segment, (start, rate, interval, end)) in segments
-        .iter()
-        .zip([(5, -25, 10, Some(60)), (7, 0, 0, None)])
-    {
-        assert!(rt; segment.start() == start && segment.rate() == rate);
-        assert!(rt; segment.interval() == interval && segment.end() == end);
-    }
-    assert!(rt; segments.len() == 2);
+fn parts_and_lengths(rt: HostRuntime) -> Result<(), Fail> {
+    assert_eq!(rt; miscut(), "");
+    assert_eq!(rt; misread_escapes(rt.alloc())?, 0);
+    assert!(rt; has_segments(rt.alloc(), "5:-25:10:60;7:0:0:-", SEGMENTS)?);
     Ok(())
 }
