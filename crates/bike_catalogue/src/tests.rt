@@ -249,6 +249,34 @@ fn system_of(
     )
 }
 
+fn bounds_plan(
+    alloc: Global,
+    plan_id: &str,
+    price: u32,
+    description: &str,
+    count: usize,
+    fault: &Fault,
+) -> bool {
+    match plan_of(alloc, plan_id, price, description, count) {
+        Ok(it) => fault.is_none() && it.price().get() == price && it.segments().len() == count,
+        Err(found) => is_told(found, fault),
+    }
+}
+
+fn bounds_system(
+    alloc: Global,
+    language: &str,
+    hours: &str,
+    currency: &str,
+    ttl: u32,
+    fault: &Fault,
+) -> bool {
+    match system_of(alloc, language, hours, currency, ttl) {
+        Ok(it) => fault.is_none() && it.ttl().get() == ttl,
+        Err(found) => is_told(found, fault),
+    }
+}
+
 /// Whether the row is as it says.
 fn is_so(alloc: Global, row: &Row) -> bool {
     match row {
@@ -258,22 +286,14 @@ fn is_so(alloc: Global, row: &Row) -> bool {
         Row::Minutes(start, end, is_kept) => read_segment(start, end).is_some() == *is_kept,
         Row::Rate(text, hundredths, is_kept) => bounds_rate(text, *hundredths, *is_kept),
         Row::Plan(plan_id, price, description, count, fault) => {
-            match plan_of(alloc, plan_id, *price, description, *count) {
-                Ok(it) => {
-                    fault.is_none() && it.price().get() == *price && it.segments().len() == *count
-                }
-                Err(found) => is_told(found, fault),
-            }
+            bounds_plan(alloc, plan_id, *price, description, *count, fault)
         }
         Row::Type(propulsion, max_range, plan_id, fault) => {
             bounds_type(alloc, *propulsion, *max_range, plan_id, fault)
         }
         Row::Station(lat, lon, docks, fault) => bounds_station(alloc, *lat, *lon, *docks, fault),
         Row::System(language, hours, currency, ttl, fault) => {
-            match system_of(alloc, language, hours, currency, *ttl) {
-                Ok(it) => fault.is_none() && it.ttl().get() == *ttl,
-                Err(found) => is_told(found, fault),
-            }
+            bounds_system(alloc, language, hours, currency, *ttl, fault)
         }
         Row::Form(text, form) => is_form(text, *form),
         Row::Propulsion(text, propulsion) => is_propulsion(text, *propulsion),
