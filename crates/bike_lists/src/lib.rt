@@ -1,7 +1,7 @@
 //! Plain lists of rows: a row is found, put or changed by going through the list, as in the map, list or set of which
 //! the rows are the entries.
 //!
-//! Rows are small copies, and may borrow their keys.
+//! Rows are small copies, and may borrow their keys. After a want of memory nothing is stated of the list.
 #![tactic(auto)]
 
 mod rows;

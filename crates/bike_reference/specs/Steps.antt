@@ -74,7 +74,7 @@ pub record IsServing (p : Plain) (answers : List Reply) (left all : List Call) :
   pub in_order : IsInOrder operator
   pub answered : replies no_operator all ≡ answers ++ replies operator left
 
--- Some requests are served, and the lists stand for an operator in order who, after those that are left, is the operator after all.
+-- Some requests are served, and the lists stand for an operator in order; after the requests that are left he is the operator after the whole list.
 pub record IsRunning (p : Plain) (left all : List Call) : Type 0 where
   pub operator : Operator
   pub stands : Stands p operator
