@@ -5,8 +5,8 @@ use Rattle.std.proofs.lemmas.List.{append-nil, length-append}
 use Rattle.std.specs.Io.BufRead.{drop_through}
 use Rattle.std.specs.Io.KnownBytes.{Appends, prepend_known}
 use Rattle.sqlite.specs.Store.{Ghosts}
-use Rattle.bike_core.specs.Operator.{Operator}
-use Rattle.bike_core.specs.Runs.{Call, step}
+use Rattle.bike_small.specs.Operator.{Operator}
+use Rattle.bike_small.specs.Runs.{Call, step}
 use Rattle.bike_commands.specs.Requests.{IsLine, line_length}
 use Rattle.bike_tables.specs.Stored.{AllLeft}
 use Rattle.bike_desk.specs.Desk.{DeskValue, shown, IsAt, TreesStandForEither}

@@ -2,8 +2,8 @@
 use Rattle.std.specs.Prelude.{◌≡◌, ℕ, ◌<◌, IsTrue, List, [], ◌∷◌, ◌++◌, length, take, ⊤, Option, None, Some}
 use Rattle.std.specs.Io.KnownBytes.{Appends}
 use Rattle.sqlite.specs.Store.{Ghosts}
-use Rattle.bike_core.specs.Operator.{Operator}
-use Rattle.bike_core.specs.Runs.{Call, step}
+use Rattle.bike_small.specs.Operator.{Operator}
+use Rattle.bike_small.specs.Runs.{Call, step}
 use Rattle.bike_tables.specs.Stored.{AllLeft}
 use Rattle.bike_desk.specs.Desk.{DeskValue, shown, IsAt, TreesStandForEither}
 use Rattle.bike_desk.specs.declared.fault.DeskFault.TheVariants.{NoMemory, StoreFailed, Stopped}

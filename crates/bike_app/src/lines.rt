@@ -4,8 +4,8 @@ ghost use Rattle.std.specs.Prelude.{◌≡◌, ◌≤◌, ◌++◌, ◌∷◌, [
 ghost use Rattle.sqlite.specs.State.{HasCleanDisk};
 ghost use Rattle.sqlite_trees.specs.View.{doubt};
 ghost use Rattle.bike_commands.specs.Replies.{reply_text};
-ghost use Rattle.bike_core.specs.Operator.{Operator};
-ghost use Rattle.bike_core.specs.Runs.{Call, step};
+ghost use Rattle.bike_small.specs.Operator.{Operator};
+ghost use Rattle.bike_small.specs.Runs.{Call, step};
 ghost use Rattle.bike_tables.specs.Stored.{AllLeft};
 ghost use Rattle.bike_desk.specs.Desk.{shown, IsAt, TreesStandForEither};
 ghost use Rattle.bike_stream.specs.Lines.{lines_of};

@@ -1,4 +1,2 @@
 pub mod Decisions
-pub mod RunLemmas
-pub mod OrderLemmas
-pub mod MoneyLemmas
+pub mod Orders

@@ -1,17 +1,16 @@
-//! The operator of a bike share: what it keeps, and how it decides.
+//! Decisions on the commands of a bike share's operator.
 //!
 //! `decide` answers, on the view of an operator, exactly the first refusal that holds, or else the reply
-//! and the changes that make the effect.
+//! and the changes that make the effect. It takes no memory.
 #![tactic(auto)]
 
-mod change;
+mod booking;
+mod decide_bikes;
+mod decide_catalogue;
+mod decide_orders;
+mod decide_rentals;
+mod decide_riders;
 mod decision;
-mod laws;
-mod view;
+mod places;
 
-pub use bike_commands::{Command, REPLY_LENGTH, Refusal, Reply, Request};
-pub use bike_fields::{Caller, Payment, RequestKey, RiderNumber};
-pub use change::{Accepted, Change, Decision};
 pub use decision::decide;
-pub use laws::{keeps_order, keeps_order_over_lists, money_law_over_lists, run_law};
-pub use view::{RiderView, View};

@@ -6,7 +6,7 @@ use Rattle.sqlite_value.specs.declared.value.Value.TheVariants.{Int, Text}
 use Rattle.sqlite_trees.specs.Tree.{rowid}
 use Rattle.sqlite_schema.specs.Names.{table_named}
 use Rattle.sqlite_resolve.specs.Compile.{table_defined_by}
-use Rattle.sqlite_catalog.specs.Listing.{IsTableRow, IsSound}
+use Rattle.sqlite_catalog.specs.Listing.{IsTableRow, IsSound as IsListing}
 use Rattle.sqlite.specs.Order.{Row, column}
 use Rattle.sqlite.specs.Tree.{Trees}
 use Rattle.sqlite.specs.Table.{Table}
@@ -20,8 +20,8 @@ use Rattle.sqlite.proofs.Callers.{survives_begin}
 use Rattle.std.specs.Ordering.{nat_cmp}
 use Rattle.std.specs.Cmp.Lexicographic.{slice_cmp}
 use Rattle.std.specs.FinMap as map
-use Rattle.bike_core.specs.Operator.{Operator, Rider, Kept, no_operator}
-use Rattle.bike_core.specs.Order.{IsInOrder, IsRiderNumber, IsKept, EachEntry}
+use Rattle.bike_small.specs.Operator.{Operator, Rider, Kept, no_operator}
+use Rattle.bike_small.specs.Sound.{IsSound, IsRiderNumber, IsKept, EachEntry}
 use Rattle.bike_tables.specs.Tables.{HasNone}
 use Rattle.bike_tables.specs.Stored.{IsOf, StandsFor, TreesStandFor, AllLeft}
 use Rattle.bike_tables.specs.Changes.{IsFresh, Creates}
@@ -55,7 +55,7 @@ same_listed (r ∷ rows) (a ∷ ts) [] p q = absurd q
 same_listed (r ∷ rows) [] us p q = absurd p
 same_listed (r ∷ rows) (a ∷ ts) (b ∷ us) p q = ap (λ x. x ∷ ts) (same_table r a b p.0 q.0) ∙ ap (λ xs. b ∷ xs) (same_listed rows ts us p.1 q.1)
 
-pub same_tables : (a b : Schema) (trees : Trees) → IsSound a trees → IsSound b trees → a.tables ≡ b.tables
+pub same_tables : (a b : Schema) (trees : Trees) → IsListing a trees → IsListing b trees → a.tables ≡ b.tables
 same_tables a b trees p q = same_listed _ a.tables b.tables p.lists.listed.tables q.lists.listed.tables
 
 same_place : (a b : Schema) (name : List ℕ) (at : ℕ) → a.tables ≡ b.tables → table_named a name ≡ Some at → table_named b name ≡ None → ⊥
@@ -72,15 +72,15 @@ nobody_else db s sound none h = nobody_in h.0 db s (same_tables h.0 db.schema db
 
 -- ---- the empty tables
 
-pub fresh_stands : (db : Database) → IsFresh db → IsInOrder no_operator → StandsFor db no_operator
+pub fresh_stands : (db : Database) → IsFresh db → IsSound no_operator → StandsFor db no_operator
 fresh_stands db h order = record { sound = h.sound; is = inr (h.has, order, h.tables) }
 
 each_of_none : {K X : Type 0} (P : K → X → Type 0) (es : List (K × X)) → length es ≡ 0 → EachEntry P es
 each_of_none P [] none = tt
 each_of_none P (e ∷ es) none = absurd (omega (arith, none))
 
-pub empty_in_order : IsInOrder no_operator
-empty_in_order =
+pub empty_sound : IsSound no_operator
+empty_sound =
     let riders = map.len-empty nat_cmp Rider in
     let kept = map.len-empty (slice_cmp (slice_cmp nat_cmp)) Kept in
     record {
@@ -104,7 +104,7 @@ pub fresh_at : {S : Type 0} (g : Ghosts S) → Settles g → (old end : Held S) 
     → IsAt g (record { conn = end; is_stopped = end.in_transaction }) no_operator
 fresh_at g settles old end shown fresh = record {
   goes_on = shown.mode;
-  keeps = settled_keeps g settles end no_operator shown.is_open shown.mode shown.committed_is (fresh_stands (state g end).now fresh empty_in_order) fresh.has;
+  keeps = settled_keeps g settles end no_operator shown.is_open shown.mode shown.committed_is (fresh_stands (state g end).now fresh empty_sound) fresh.has;
 }
 
 module _ {S : Type 0} (g : Ghosts S) (settles : Settles g) (old : Held S) (settled : IsTrue (state g old).is_open → (state g old).now ≡ (state g old).committed) where
@@ -116,7 +116,7 @@ module _ {S : Type 0} (g : Ghosts S) (settles : Settles g) (old : Held S) (settl
       → (s : Operator) → TreesStandFor s (state g old).now.trees → IsTrue (state g old).is_open → AllLeft (state g end) (TreesStandFor s)
   left_after end sound none clean crash s stands live db h = elim (crash.crash clean db h) [
     | inl before ↦ in_left s stands live db before
-    | inr made ↦ subst (λ o. TreesStandFor o db) (sym (nobody_else (state g old).now s (sound live).0 none stands)) (stands_in made.0 db no_operator (fresh_stands made.0 made.1 empty_in_order) made.2)
+    | inr made ↦ subst (λ o. TreesStandFor o db) (sym (nobody_else (state g old).now s (sound live).0 none stands)) (stands_in made.0 db no_operator (fresh_stands made.0 made.1 empty_sound) made.2)
   ]
 
 -- an adopted connection is at whomever its trees stood for

@@ -17,17 +17,17 @@ use Rattle.bike_commands.specs.declared.command.Command.TheVariants.{AddRider, T
 use Rattle.bike_commands.specs.declared.request.Request.{Request}
 use Rattle.bike_commands.specs.Commands.{text_of}
 use Rattle.bike_commands.specs.Replies.{reply_text}
-use Rattle.bike_core.specs.declared.change.Change.TheVariants as change
-use Rattle.bike_core.specs.declared.view.View.{View}
+use Rattle.bike_small.specs.declared.change.Change.TheVariants as change
+use Rattle.bike_small.specs.declared.view.View.{View}
 use Rattle.bike_tables.specs.declared.rows.RiderRow.{RiderRow}
 use Rattle.bike_tables.specs.declared.rows.MetaRow.{MetaRow}
-use Rattle.bike_core.specs.Operator.{Operator, Rider, key_of}
-use Rattle.bike_core.specs.Order.{IsInOrder}
-use Rattle.bike_core.specs.View.{view_of, rider_view}
-use Rattle.bike_core.specs.Steps.{refused, effect, reply_of, top_up_entry}
-use Rattle.bike_core.specs.Changes.{changed}
-use Rattle.bike_core.specs.Runs.{accepted, key_in}
-use Rattle.bike_core.proofs.Decisions.{right_reply}
+use Rattle.bike_small.specs.Operator.{Operator, Rider, key_of}
+use Rattle.bike_small.specs.Sound.{IsSound}
+use Rattle.bike_small.specs.View.{view_of, rider_view}
+use Rattle.bike_small.specs.Steps.{refused, effect, reply_of, top_up_entry}
+use Rattle.bike_small.specs.Changes.{changed}
+use Rattle.bike_small.specs.Runs.{accepted, key_in}
+use Rattle.bike_small.proofs.Decisions.{right_reply}
 use Rattle.bike_tables.specs.declared.rows.RowChange.{RowChange}
 use Rattle.bike_tables.specs.declared.rows.RowChange.TheVariants as row
 use Rattle.bike_tables.specs.Changes.{all_made}
@@ -68,7 +68,7 @@ same_added s a b r none same = map.nat_cmp-IsAntisymmetric b a (is_equal (nat_cm
   go true e = refl
   go false e = absurd (let f : cond false (Some r) (map.get s.riders b) ≡ cond true (Some r) (map.get s.riders b) = subst (λ x. cond x (Some r) (map.get s.riders b) ≡ cond true (Some r) (map.get s.riders b)) e (there ∙ ap (λ x. cond x (Some r) (map.get s.riders b)) own) in cc)
 
-module _ (s : Operator) (q : Request) (now : ℕ) (order : IsInOrder s) where
+module _ (s : Operator) (q : Request) (now : ℕ) (order : IsSound s) where
   key_is : (caller key : List ℕ) → caller ≡ caller_text q.caller → key ≡ q.key → key_of caller key ≡ key_in q
   key_is caller key one two = ap₂ key_of one two
 

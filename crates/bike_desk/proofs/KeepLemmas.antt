@@ -9,8 +9,8 @@ use Rattle.sqlite.specs.State.{HasCleanDisk, Survives, IsUnchanged, Shows}
 use Rattle.sqlite.specs.Held.{Held, state}
 use Rattle.sqlite.proofs.StateLemmas.{survives_then}
 use Rattle.sqlite.proofs.Callers.{survives_begin}
-use Rattle.bike_core.specs.Operator.{Operator}
-use Rattle.bike_core.specs.Order.{IsInOrder}
+use Rattle.bike_small.specs.Operator.{Operator}
+use Rattle.bike_small.specs.Sound.{IsSound}
 use Rattle.bike_tables.specs.declared.rows.RowChange.{RowChange}
 use Rattle.bike_tables.specs.Tables.{tables_of, HasTables, HasNone}
 use Rattle.bike_tables.specs.Stored.{tables_for, IsOf, StandsFor, TreesStandFor, AllLeft, Keeps}
@@ -25,8 +25,8 @@ Settles {S} g = (s : S) (db : Trees) → IsTrue (g.view s).is_open → g.recover
 pub never_both : (db : Database) → HasNone db.schema → HasTables db → ⊥
 never_both db none all = let a = none.meta in let b = all.meta.has.found in absurd (cc)
 
--- the tables that are there are those of the operator, which is in order
-pub tables_are : (db : Database) (s : Operator) → HasTables db → IsOf db s → IsInOrder s × (tables_of db ≡ tables_for s)
+-- the tables that are there are those of the operator, which is sound
+pub tables_are : (db : Database) (s : Operator) → HasTables db → IsOf db s → IsSound s × (tables_of db ≡ tables_for s)
 tables_are db s all (inl none) = absurd (never_both db none.0 all)
 tables_are db s all (inr h) = (h.1, h.2)
 
@@ -38,7 +38,7 @@ on_err (Ok x) h = tt
 on_err (Err e) h = h
 
 module _ {S : Type 0} (g : Ghosts S) (old new : Held S) (s : Operator) (keeps : Keeps (state g old) s) where
-  pub order_of : IsInOrder s
+  pub order_of : IsSound s
   order_of = (tables_are (state g old).now s keeps.tables keeps.now.is).0
 
   pub rows_of : tables_of (state g old).now ≡ tables_for s

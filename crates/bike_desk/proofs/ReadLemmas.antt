@@ -2,8 +2,8 @@
 use Rattle.std.proofs.Common.{◌≡◌, ℕ, ℤ, List, [], ◌∷◌, Bool, true, false, cond, Option, Some, None, refl, sym, ◌∙◌}
 use Rattle.std.specs.Prelude.{option_map, string_bytes}
 use Rattle.bike_ledger.specs.Ledger.{balance_of}
-use Rattle.bike_core.specs.Operator.{Operator, Rider}
-use Rattle.bike_core.specs.View.{rider_view}
+use Rattle.bike_small.specs.Operator.{Operator, Rider}
+use Rattle.bike_small.specs.View.{rider_view}
 use Rattle.std.specs.Ordering.{nat_cmp, eq_by_cmp}
 use Rattle.std.specs.Cmp.Lexicographic.{slice_cmp}
 use Rattle.std.specs.FinMap as map
@@ -14,8 +14,8 @@ use Rattle.bike_commands.specs.declared.reply.Reply.{Reply}
 use Rattle.bike_commands.specs.Commands.{text_of}
 use Rattle.bike_commands.specs.Replies.{reply_text, IsReply}
 use Rattle.bike_commands.proofs.ReplyLaws.{reply_full}
-use Rattle.bike_core.specs.Operator.{Kept, Key}
-use Rattle.bike_core.specs.Order.{IsInOrder, IsKept, EachEntry}
+use Rattle.bike_small.specs.Operator.{Kept, Key}
+use Rattle.bike_small.specs.Sound.{IsSound, IsKept, EachEntry}
 use Rattle.bike_desk.specs.Serving.{KeepsSame}
 use Rattle.bike_tables.specs.declared.rows.KeptRow.{KeptRow}
 use Rattle.bike_tables.specs.declared.rows.RiderRow.{RiderRow}
@@ -59,7 +59,7 @@ found_good key (e ∷ es) each = go (eq_by_cmp (slice_cmp (slice_cmp nat_cmp)) k
   go true rest = each.0.reply
   go false rest = rest
 
-pub kept_good : (s : Operator) → IsInOrder s → (key : Key) → IfSome (map.get s.kept key) (λ k. IsReply k.reply)
+pub kept_good : (s : Operator) → IsSound s → (key : Key) → IfSome (map.get s.kept key) (λ k. IsReply k.reply)
 kept_good s order key = rw (map.get-entries s.kept key) (found_good key (map.entries s.kept) order.kept)
 
 -- a kept row shows what the operator keeps

@@ -4,9 +4,9 @@ use Rattle.std.proofs.lemmas.List.{take_all}
 use Rattle.std.proofs.lemmas.Bool.{both_ways}
 use Rattle.sqlite.specs.Store.{Ghosts}
 use Rattle.bike_commands.specs.declared.reply.Reply.{Reply}
-use Rattle.bike_core.specs.Operator.{Operator}
-use Rattle.bike_core.specs.Runs.{Call, step, after, replies}
-use Rattle.bike_core.proofs.RunLemmas.{after-append, replies-append}
+use Rattle.bike_small.specs.Operator.{Operator}
+use Rattle.bike_small.specs.Runs.{Call, step, after, replies}
+use Rattle.bike_small.proofs.RunLemmas.{after-append, replies-append}
 use Rattle.bike_tables.specs.Stored.{AllLeft, TreesStandFor}
 use Rattle.bike_desk.specs.declared.fault.DeskFault.{DeskFault}
 use Rattle.bike_desk.specs.declared.fault.DeskFault.TheVariants.{NoMemory, StoreFailed, Stopped}

@@ -11,14 +11,14 @@ use Rattle.bike_commands.specs.declared.refusal.Refusal.{Refusal}
 use Rattle.bike_commands.specs.declared.refusal.Refusal.TheVariants as refusal
 use Rattle.bike_commands.specs.Commands.{text_of}
 use Rattle.bike_commands.specs.Requests.{IsRequest}
-use Rattle.bike_core.specs.declared.change.Accepted.{Accepted}
-use Rattle.bike_core.specs.declared.change.Change.{Change}
-use Rattle.bike_core.specs.Operator.{Operator, Kept}
-use Rattle.bike_core.specs.Order.{IsInOrder}
-use Rattle.bike_core.specs.Steps.{refused, reply_of}
-use Rattle.bike_core.specs.Changes.{present, all_changed, Decides}
-use Rattle.bike_core.specs.Runs.{step, answered, decided, accepted, key_in}
-use Rattle.bike_core.proofs.OrderLemmas.{step_in_order}
+use Rattle.bike_small.specs.declared.change.Accepted.{Accepted}
+use Rattle.bike_small.specs.declared.change.Change.{Change}
+use Rattle.bike_small.specs.Operator.{Operator, Kept}
+use Rattle.bike_small.specs.Sound.{IsSound}
+use Rattle.bike_small.specs.Steps.{refused, reply_of}
+use Rattle.bike_small.specs.Changes.{present, all_changed, Decides}
+use Rattle.bike_small.specs.Runs.{step, answered, decided, accepted, key_in}
+use Rattle.bike_small.proofs.OrderLemmas.{step_sound}
 use Rattle.bike_tables.specs.declared.rows.KeptRow.{KeptRow}
 use Rattle.bike_desk.specs.Serving.{Accepts, KeepsSame}
 
@@ -44,11 +44,11 @@ module _ (s : Operator) (t : ℕ) (q : Request) where
     pub step_accepted : refused s q.command ≡ None → step s t q ≡ (reply_of s now q.command, accepted s now q)
     step_accepted free = ap (answered s t q) anew ∙ ap (decided s (max t s.now) q) free ∙ ap (λ (n : ℕ). let p : Reply × Operator = (reply_of s n q.command, accepted s n q) in p) (sym later)
 
-    pub accepts_of : (a : Accepted) (change : Change) → t ≤ last_moment → IsRequest q → IsInOrder s → Decides s now q.command (Ok a) → present a.changes ≡ change ∷ [] → Accepts s now q (change ∷ [])
+    pub accepts_of : (a : Accepted) (change : Change) → t ≤ last_moment → IsRequest q → IsSound s → Decides s now q.command (Ok a) → present a.changes ≡ change ∷ [] → Accepts s now q (change ∷ [])
     accepts_of a change moment good order decides only = record {
       later = omega (arith, later);
       anew = anew;
       free = decides.0;
       makes = ap (λ cs. all_changed cs s) (sym only) ∙ decides.2;
-      order = subst (λ (p : Reply × Operator). IsInOrder p.1) (step_accepted decides.0) (step_in_order s t q moment good order);
+      order = subst (λ (p : Reply × Operator). IsSound p.1) (step_accepted decides.0) (step_sound s t q moment good order);
     }

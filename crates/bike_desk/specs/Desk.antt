@@ -5,7 +5,7 @@ use Rattle.sqlite.specs.Tree.{Trees}
 use Rattle.sqlite.specs.Store.{Ghosts}
 use Rattle.sqlite.specs.State.{State}
 use Rattle.sqlite.specs.Held.{Held, held_code, state}
-use Rattle.bike_core.specs.Operator.{Operator}
+use Rattle.bike_small.specs.Operator.{Operator}
 use Rattle.bike_tables.specs.Stored.{Keeps, TreesStandFor}
 
 -- a connection, and whether the desk serves no more

@@ -3,8 +3,8 @@ use Rattle.std.specs.Prelude.{◌≡◌, ◌≤◌, ◌<◌, ◌+◌, ℕ, IsTru
 use Rattle.sqlite.specs.Tree.{Trees}
 use Rattle.sqlite.specs.Store.{Ghosts}
 use Rattle.bike_commands.specs.declared.reply.Reply.{Reply}
-use Rattle.bike_core.specs.Operator.{Operator}
-use Rattle.bike_core.specs.Runs.{Call, after, replies}
+use Rattle.bike_small.specs.Operator.{Operator}
+use Rattle.bike_small.specs.Runs.{Call, after, replies}
 use Rattle.bike_tables.specs.Stored.{AllLeft, TreesStandFor}
 use Rattle.bike_desk.specs.declared.fault.DeskFault.{DeskFault}
 use Rattle.bike_desk.specs.declared.fault.DeskFault.TheVariants.{NoMemory, StoreFailed, Stopped}

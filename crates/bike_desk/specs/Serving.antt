@@ -7,12 +7,12 @@ use Rattle.bike_commands.specs.declared.reply.Reply.{Reply}
 use Rattle.bike_commands.specs.Commands.{text_of}
 use Rattle.bike_fields.specs.Caller.{caller_text}
 use Rattle.bike_commands.specs.Replies.{reply_text}
-use Rattle.bike_core.specs.declared.change.Change.{Change}
-use Rattle.bike_core.specs.Operator.{Operator, Kept}
-use Rattle.bike_core.specs.Order.{IsInOrder}
-use Rattle.bike_core.specs.Steps.{refused, effect}
-use Rattle.bike_core.specs.Changes.{all_changed}
-use Rattle.bike_core.specs.Runs.{key_in, accepted}
+use Rattle.bike_small.specs.declared.change.Change.{Change}
+use Rattle.bike_small.specs.Operator.{Operator, Kept}
+use Rattle.bike_small.specs.Sound.{IsSound}
+use Rattle.bike_small.specs.Steps.{refused, effect}
+use Rattle.bike_small.specs.Changes.{all_changed}
+use Rattle.bike_small.specs.Runs.{key_in, accepted}
 use Rattle.bike_tables.specs.declared.rows.KeptRow.{KeptRow}
 use Rattle.bike_tables.specs.declared.rows.MetaRow.{MetaRow}
 use Rattle.bike_tables.specs.declared.rows.RowChange.{RowChange}
@@ -35,10 +35,10 @@ meta_of s = record { now = s.now; cash = cash_of s.entries; revenue = revenue_of
 abbrev pub AreOf : KeptTexts → Request → Reply → Type 0
 AreOf kept q r = (kept.caller.now ≡ caller_text q.caller) × (kept.key.now ≡ q.key) × (kept.command.now ≡ text_of q.command) × (kept.reply.now ≡ reply_text r)
 
--- The row changes lead from the tables of the one operator to those of the other, which is in order.
+-- The row changes lead from the tables of the one operator to those of the other, which is sound.
 pub record LeadsTo (changes : List RowChange) (s next : Operator) : Type 0 where
   pub tables : all_made changes (tables_for s) ≡ tables_for next
-  pub order : IsInOrder next
+  pub order : IsSound next
 
 -- The operator accepts the request at the moment, with these record changes.
 pub record Accepts (s : Operator) (now : ℕ) (q : Request) (changes : List Change) : Type 0 where
@@ -46,4 +46,4 @@ pub record Accepts (s : Operator) (now : ℕ) (q : Request) (changes : List Chan
   pub anew : map.get s.kept (key_in q) ≡ None
   pub free : refused s q.command ≡ None
   pub makes : all_changed changes s ≡ effect s now q.command
-  pub order : IsInOrder (accepted s now q)
+  pub order : IsSound (accepted s now q)

@@ -4,7 +4,7 @@ ghost use Rattle.std.specs.Prelude.{◌≡◌, ◌≤◌, false, IsTrue, IfOk, I
 ghost use Rattle.sqlite.specs.State.{HasCleanDisk};
 ghost use Rattle.sqlite.specs.Held.{state};
 ghost use Rattle.sqlite_trees.specs.View.{doubt};
-ghost use Rattle.bike_core.specs.Operator.{Operator, no_operator};
+ghost use Rattle.bike_small.specs.Operator.{Operator, no_operator};
 ghost use Rattle.bike_tables.specs.Tables.{HasNone};
 ghost use Rattle.bike_tables.specs.Stored.{AllLeft, IsOf, TreesStandFor};
 ghost use Rattle.bike_desk.specs.Desk.{shown, IsAt};

@@ -5,8 +5,8 @@ ghost use Rattle.std.specs.FinMap as map;
 ghost use Rattle.sqlite.specs.State.{HasCleanDisk};
 ghost use Rattle.sqlite_trees.specs.View.{doubt};
 ghost use Rattle.bike_ledger.specs.Ledger.{balance_of};
-ghost use Rattle.bike_core.specs.Operator.{Operator};
-ghost use Rattle.bike_core.specs.Runs.{step};
+ghost use Rattle.bike_small.specs.Operator.{Operator};
+ghost use Rattle.bike_small.specs.Runs.{step};
 ghost use Rattle.bike_tables.specs.Stored.{AllLeft};
 ghost use Rattle.bike_desk.specs.Desk.{shown, IsAt, TreesStandForEither};
 

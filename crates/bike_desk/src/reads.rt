@@ -5,13 +5,13 @@ ghost use Rattle.std.specs.FinMap as map;
 ghost use Rattle.sqlite.specs.State.{HasCleanDisk};
 ghost use Rattle.sqlite.specs.Held.{state};
 ghost use Rattle.sqlite_trees.specs.View.{doubt};
-ghost use Rattle.bike_core.specs.Operator.{Operator, key_of};
-ghost use Rattle.bike_core.specs.View.{view_of, rider_view, most_riders, IsBounded};
+ghost use Rattle.bike_small.specs.Operator.{Operator, key_of};
+ghost use Rattle.bike_small.specs.View.{view_of, rider_view, most_riders, IsBounded};
 ghost use Rattle.bike_tables.specs.Stored.{AllLeft, Keeps};
 ghost use Rattle.bike_desk.specs.Serving.{KeepsSame, meta_of};
 
 use bike_commands::Command;
-use bike_core::{RiderView, View};
+use bike_small::{RiderView, View};
 use bike_fields::RiderNumber;
 use bike_tables::{
     KeptRow, MetaRow, StatementFault, last_entry, last_rider, read_kept, read_meta, read_rider,

@@ -3,7 +3,7 @@
 ghost use Rattle.std.specs.Prelude.{◌≡◌, ◌≤◌, ◌<◌, ◌+◌, ◌++◌, IsTrue, [], ◌∷◌, length, vec_len, vec_capacity};
 ghost use Rattle.sqlite.specs.State.{HasCleanDisk};
 ghost use Rattle.sqlite_trees.specs.View.{doubt};
-ghost use Rattle.bike_core.specs.Operator.{Operator};
+ghost use Rattle.bike_small.specs.Operator.{Operator};
 ghost use Rattle.bike_tables.specs.Stored.{AllLeft};
 ghost use Rattle.bike_desk.specs.Desk.{shown, IsAt};
 ghost use Rattle.bike_desk.specs.Runs.{Ran, IsAfterFront};

@@ -4,7 +4,7 @@ ghost use Rattle.std.specs.Prelude.{◌≡◌, ◌≤◌, ◌⊎◌, false, OnOk
 ghost use Rattle.sqlite.specs.State.{HasCleanDisk, Survives, Shows};
 ghost use Rattle.sqlite.specs.Held.{state};
 ghost use Rattle.sqlite_trees.specs.View.{doubt};
-ghost use Rattle.bike_core.specs.Operator.{Operator};
+ghost use Rattle.bike_small.specs.Operator.{Operator};
 ghost use Rattle.bike_tables.specs.Tables.{HasNone};
 ghost use Rattle.bike_tables.specs.Changes.{IsFresh};
 ghost use Rattle.bike_tables.specs.Stored.{AllLeft, Keeps};

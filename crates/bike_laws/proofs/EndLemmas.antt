@@ -1,4 +1,4 @@
--- Rentals that end leave rentals in order.
+-- Rentals that end leave rentals sound.
 use Rattle.std.proofs.Common.{◌≡◌, ℕ, ℤ, ◌+◌, ◌≤◌, ◌+ℤ◌, pos, List, [], ◌∷◌, ◌++◌, length, length-append, map, Bool, true, false, cond, eqb, Option, Some, None, refl, sym, ap, ◌∙◌, subst, arith, inl, inr}
 use Rattle.std.specs.FinMap as finmap
 use Rattle.std.specs.FinMap.{FinMap}
@@ -19,7 +19,7 @@ use Rattle.bike_operator.specs.declared.view.RentalView.{RentalView}
 use Rattle.bike_operator.specs.Operator.{Operator, Kept, texts_cmp, numbered}
 use Rattle.bike_operator.specs.Counts.{count, open_rentals, is_open}
 use Rattle.bike_operator.specs.Steps.{fare_now, charged, ended, recovered, key_changed}
-use Rattle.bike_operator.specs.Order.{IsOut, IsStop, IsOpenOrClosed, fares_of, fares_in, most_refunded, IsRentalAt, AreRentalsInOrder, IsInOrder}
+use Rattle.bike_operator.specs.Sound.{IsOut, IsStop, IsOpenOrClosed, fares_of, fares_in, most_refunded, IsRentalAt, AreRentalsSound, IsSound}
 use Rattle.bike_places.proofs.ItemLemmas.{number_apart, length-number_changed}
 use Rattle.bike_places.proofs.Moment.{at_moment}
 use Rattle.bike_laws.proofs.NumberLemmas.{number_same, count_changed}
@@ -54,8 +54,8 @@ pub record IsClosedIn (s x : Operator) (r : RentalView) (to_station : Option (Li
   pub stop : IsStop x to_station
   pub out : (n bike : ℕ) → (n ≡ r.number → ⊥) → IsOut s n bike → IsOut x n bike
 
-rentals_charged : (s x : Operator) (now : ℕ) (kept : FinMap texts_cmp Kept) (r : RentalView) (to_station : Option (List ℕ)) → IsInOrder s → s.now ≤ now → IsViewOf s r → is_open r.rental ≡ true
-    → IsClosedIn s x r to_station now → AreRentalsInOrder (at_moment x now kept)
+rentals_charged : (s x : Operator) (now : ℕ) (kept : FinMap texts_cmp Kept) (r : RentalView) (to_station : Option (List ℕ)) → IsSound s → s.now ≤ now → IsViewOf s r → is_open r.rental ≡ true
+    → IsClosedIn s x r to_station now → AreRentalsSound (at_moment x now kept)
 rentals_charged s x now kept r to_station order later v ongoing is =
     let few = order.rentals.few_rentals in
     let count_rentals : length x.rentals ≡ length s.rentals = ap (λ (rs : List Rental). length rs) is.rentals ∙ length-number_changed r.number (closed_by c) s.rentals in
@@ -139,14 +139,14 @@ rentals_charged s x now kept r to_station order later v ongoing is =
 
 -- ---- in a dock, or recovered
 
-pub rentals_ended : (s : Operator) (now : ℕ) (kept : FinMap texts_cmp Kept) (bike : ℕ) (station : List ℕ) (dock : ℕ) (o : Option RentalView) → IsInOrder s → s.now ≤ now → finmap.contains_key s.stations station ≡ true
-    → ((r : RentalView) → o ≡ Some r → IsRentalOf s bike r) → AreRentalsInOrder (at_moment (ended bike station dock now o s) now kept)
+pub rentals_ended : (s : Operator) (now : ℕ) (kept : FinMap texts_cmp Kept) (bike : ℕ) (station : List ℕ) (dock : ℕ) (o : Option RentalView) → IsSound s → s.now ≤ now → finmap.contains_key s.stations station ≡ true
+    → ((r : RentalView) → o ≡ Some r → IsRentalOf s bike r) → AreRentalsSound (at_moment (ended bike station dock now o s) now kept)
 rentals_ended s now kept bike station dock None order later there is = rentals_untouched s now kept order later
 rentals_ended s now kept bike station dock (Some r) order later there is = go (is r refl) where
   docks : Bike → Bike
   docks x = record x { place = place.Dock station dock }
 
-  go : IsRentalOf s bike r → AreRentalsInOrder (at_moment (ended bike station dock now (Some r) s) now kept)
+  go : IsRentalOf s bike r → AreRentalsSound (at_moment (ended bike station dock now (Some r) s) now kept)
   go at = rentals_charged s (ended bike station dock now (Some r) s) now kept r (Some station) order later at.view at.not_closed (record {
     rentals = refl;
     entries = refl;
@@ -164,8 +164,8 @@ rentals_ended s now kept bike station dock (Some r) order later there is = go (i
     };
   })
 
-pub rentals_recovered : (s : Operator) (now : ℕ) (kept : FinMap texts_cmp Kept) (o : Option RentalView) → IsInOrder s → s.now ≤ now
-    → ((r : RentalView) → o ≡ Some r → IsViewOf s r × (is_open r.rental ≡ true)) → AreRentalsInOrder (at_moment (recovered now o s) now kept)
+pub rentals_recovered : (s : Operator) (now : ℕ) (kept : FinMap texts_cmp Kept) (o : Option RentalView) → IsSound s → s.now ≤ now
+    → ((r : RentalView) → o ≡ Some r → IsViewOf s r × (is_open r.rental ≡ true)) → AreRentalsSound (at_moment (recovered now o s) now kept)
 rentals_recovered s now kept None order later is = rentals_untouched s now kept order later
 rentals_recovered s now kept (Some r) order later is = go (is r refl).0 (is r refl).1 where
   parks : Bike → Bike
@@ -174,7 +174,7 @@ rentals_recovered s now kept (Some r) order later is = go (is r refl).0 (is r re
   marks : Bike → Bike
   marks x = record x { state = Disabled }
 
-  go : IsViewOf s r → is_open r.rental ≡ true → AreRentalsInOrder (at_moment (recovered now (Some r) s) now kept)
+  go : IsViewOf s r → is_open r.rental ≡ true → AreRentalsSound (at_moment (recovered now (Some r) s) now kept)
   go v ongoing = rentals_charged s (recovered now (Some r) s) now kept r None order later v ongoing (record {
     rentals = refl;
     entries = refl;

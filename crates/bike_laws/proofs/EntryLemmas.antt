@@ -12,7 +12,7 @@ use Rattle.bike_ledger.specs.Ledger.{credit, balance_of, given_back, given_back_
 use Rattle.bike_ledger.specs.Entries.{greatest_amount}
 use Rattle.bike_ledger.proofs.SumLemmas.{total-append}
 use Rattle.bike_operator.specs.Operator.{Operator, item_at}
-use Rattle.bike_operator.specs.Order.{is_fare, fares_of, IsPayment, IsBooking, IsLedgerInOrder}
+use Rattle.bike_operator.specs.Sound.{is_fare, fares_of, IsPayment, IsBooking, IsLedgerSound}
 use Rattle.bike_operator.specs.Bounds.{IsWithin}
 
 -- ---- amounts
@@ -32,7 +32,7 @@ each_amount : (es : List Entry) → ((n : ℕ) (e : Entry) → item_at n es ≡ 
 each_amount [] each = tt
 each_amount (e ∷ es) each = (each zero e refl, each_amount es (λ n x i. each (suc n) x i))
 
-pub amounts_of : (s : Operator) → IsLedgerInOrder s → AreAmounts s.entries
+pub amounts_of : (s : Operator) → IsLedgerSound s → AreAmounts s.entries
 amounts_of s ledger = each_amount s.entries (λ n e i. booking_amount s e e.kind (ledger.entries (suc n) e i).booking)
 
 pub amounts_added : (es : List Entry) (e : Entry) → AreAmounts es → IsAmount e.amount → AreAmounts (es ++ e ∷ [])

@@ -21,7 +21,7 @@ use Rattle.bike_operator.specs.Counts.{is_dock, docked_at, is_open}
 use Rattle.bike_operator.specs.View.{station_view, rider_view, planned_rental, rental_view, rental_in, rental_of}
 use Rattle.bike_operator.specs.Steps.{on, fare_now}
 use Rattle.bike_operator.specs.declared.records.Closing.{Closing}
-use Rattle.bike_operator.specs.Order.{AreBikesInOrder, IsPlace}
+use Rattle.bike_operator.specs.Sound.{AreBikesSound, IsPlace}
 use Rattle.bike_places.proofs.TestLemmas.{holds}
 
 -- ---- options and tests
@@ -136,7 +136,7 @@ rental_in_is s bike type_id (place.Rental rental) r placed is =
     let same : placed.row ≡ r.rental = same_Some placed.row r.rental (sym placed.found ∙ ap (λ (n : ℕ). numbered n s.rentals) number ∙ v.found) in
     record { view = v; not_closed = ap (λ (x : Rental). is_open x) (sym same) ∙ placed.not_closed; bike_is = ap (λ (x : Rental). x.bike) (sym same) ∙ placed.bike_is }
 
-pub rental_is : (s : Operator) (bike : ℕ) (o : Option Bike) (r : RentalView) → AreBikesInOrder s → finmap.get s.bikes bike ≡ o → rental_of s o ≡ Some r → IsRentalOf s bike r
+pub rental_is : (s : Operator) (bike : ℕ) (o : Option Bike) (r : RentalView) → AreBikesSound s → finmap.get s.bikes bike ≡ o → rental_of s o ≡ Some r → IsRentalOf s bike r
 rental_is s bike None r order found is = absurd cc
 rental_is s bike (Some b) r order found is = rental_in_is s bike b.type_id b.place r (order.bikes bike b found).placed is
 

@@ -8,7 +8,7 @@ use Rattle.bike_operator.specs.Operator.{numbered}
 use Rattle.bike_operator.specs.Counts.{open_rentals, docked_at}
 use Rattle.bike_operator.specs.View.{view_of, rental_view, rental_of, docked_view, most_riders, most_entries}
 use Rattle.bike_operator.specs.Steps.{tests, effect}
-use Rattle.bike_operator.specs.Order.{IsLedgerInOrder}
+use Rattle.bike_operator.specs.Sound.{IsLedgerSound}
 use Rattle.bike_places.specs.Accepted.{AcceptedKeeps}
 use Rattle.bike_places.proofs.TestLemmas.{none_holds}
 use Rattle.bike_laws.proofs.FoundLemmas.{below_of, view_is, rental_is, rider_there, open_of, closed_of}
@@ -23,7 +23,7 @@ no_more : (b : Bool) (n m most : ℕ) → b ≡ true → m ≡ cond b n (n + 1) 
 no_more true n m most is e low = omega (arith, e, low)
 no_more false n m most is e low = absurd cc
 
-pub ledger_law : AcceptedKeeps IsLedgerInOrder
+pub ledger_law : AcceptedKeeps IsLedgerSound
 ledger_law s now (command.AddRider rider) kept order good none later =
     let free = none_holds (tests (view_of s (command.AddRider rider)) (command.AddRider rider)) none in
     ledger_rider s now kept rider (record { is_blocked = false }) order.ledger later (record { low = good.0.0; high = good.0.1 })

@@ -1,4 +1,4 @@
--- The ledger stays in order.
+-- The ledger stays sound.
 use Rattle.std.proofs.Common.{◌≡◌, ℕ, ◌+◌, ◌≤◌, pos, List, [], ◌∷◌, ◌++◌, length, length-append, true, false, Option, Some, None, refl, sym, ap, ◌∙◌, subst, arith, inl, inr}
 use Rattle.std.specs.Prelude.{is_none}
 use Rattle.std.specs.FinMap as finmap
@@ -15,7 +15,7 @@ use Rattle.bike_operator.specs.Operator.{Operator, Rider, Kept, texts_cmp, numbe
 use Rattle.bike_operator.specs.Counts.{count, open_rentals, is_open}
 use Rattle.bike_operator.specs.View.{most_riders, most_entries}
 use Rattle.bike_operator.specs.Steps.{fare_now, booked, charged, started, ended, recovered, refunded_by}
-use Rattle.bike_operator.specs.Order.{IsPayment, IsRiderNumber, IsOfRental, IsBooking, IsEntryAt, IsLedgerInOrder, IsInOrder}
+use Rattle.bike_operator.specs.Sound.{IsPayment, IsRiderNumber, IsOfRental, IsBooking, IsEntryAt, IsLedgerSound, IsSound}
 use Rattle.bike_places.proofs.ItemLemmas.{number_stays, number_or_last, number_apart}
 use Rattle.bike_places.proofs.Moment.{at_moment}
 use Rattle.bike_laws.proofs.NumberLemmas.{number_same, count_added, count_changed}
@@ -48,7 +48,7 @@ entry_stands s next number e k at =
     record { number_is = at.number_is; rider_is = k.riders e.rider at.rider_is; booking = booking_stands s next e e.kind k at.booking; by_now = omega (arith, by_now, later) }
 
 -- no entry is added, and riders stay as they are
-ledger_same : (s next : Operator) → IsLedgerInOrder s → KeepsBooked s next → next.riders ≡ s.riders → next.entries ≡ s.entries → open_rentals next ≡ open_rentals s → IsLedgerInOrder next
+ledger_same : (s next : Operator) → IsLedgerSound s → KeepsBooked s next → next.riders ≡ s.riders → next.entries ≡ s.entries → open_rentals next ≡ open_rentals s → IsLedgerSound next
 ledger_same s next ledger k riders entries ongoing =
     let few_riders = ledger.few_riders in
     let few_entries = ledger.few_entries in
@@ -62,8 +62,8 @@ ledger_same s next ledger k riders entries ongoing =
     }
 
 -- an entry is added
-ledger_booked : (s next : Operator) (e : Entry) → IsLedgerInOrder s → KeepsBooked s next → next.riders ≡ s.riders → next.entries ≡ s.entries ++ e ∷ [] → IsEntryAt next (length s.entries + 1) e
-    → length s.entries + 1 + open_rentals next ≤ most_entries → IsLedgerInOrder next
+ledger_booked : (s next : Operator) (e : Entry) → IsLedgerSound s → KeepsBooked s next → next.riders ≡ s.riders → next.entries ≡ s.entries ++ e ∷ [] → IsEntryAt next (length s.entries + 1) e
+    → length s.entries + 1 + open_rentals next ≤ most_entries → IsLedgerSound next
 ledger_booked s next e ledger k riders entries last few =
     let few_riders = ledger.few_riders in
     let count_riders : finmap.len next.riders ≡ finmap.len s.riders = ap (λ m. finmap.len m) riders in
@@ -90,13 +90,13 @@ quiet_keeps s x now kept later q = record {
   later = later;
 }
 
-pub ledger_quiet : (s x : Operator) (now : ℕ) (kept : FinMap texts_cmp Kept) → IsLedgerInOrder s → s.now ≤ now → IsQuiet s x → x.riders ≡ s.riders → IsLedgerInOrder (at_moment x now kept)
+pub ledger_quiet : (s x : Operator) (now : ℕ) (kept : FinMap texts_cmp Kept) → IsLedgerSound s → s.now ≤ now → IsQuiet s x → x.riders ≡ s.riders → IsLedgerSound (at_moment x now kept)
 ledger_quiet s x now kept ledger later q riders =
     ledger_same s (at_moment x now kept) ledger (quiet_keeps s x now kept later q) riders q.entries (ap (λ (rs : List Rental). count is_open rs) q.rentals)
 
 -- a rider is added or changed
-pub ledger_rider : (s : Operator) (now : ℕ) (kept : FinMap texts_cmp Kept) (rider : ℕ) (r : Rider) → IsLedgerInOrder s → s.now ≤ now → IsRiderNumber rider → finmap.len (finmap.insert s.riders rider r) ≤ most_riders
-    → IsQuiet s (record s { riders = finmap.insert s.riders rider r }) → IsLedgerInOrder (at_moment (record s { riders = finmap.insert s.riders rider r }) now kept)
+pub ledger_rider : (s : Operator) (now : ℕ) (kept : FinMap texts_cmp Kept) (rider : ℕ) (r : Rider) → IsLedgerSound s → s.now ≤ now → IsRiderNumber rider → finmap.len (finmap.insert s.riders rider r) ≤ most_riders
+    → IsQuiet s (record s { riders = finmap.insert s.riders rider r }) → IsLedgerSound (at_moment (record s { riders = finmap.insert s.riders rider r }) now kept)
 ledger_rider s now kept rider r ledger later good few q = record {
   riders = λ number x i. each number x i (either number rider);
   entries = λ number e i. entry_stands s (at_moment (record s { riders = finmap.insert s.riders rider r }) now kept) number e (quiet_keeps s (record s { riders = finmap.insert s.riders rider r }) now kept later q) (ledger.entries number e i);
@@ -115,8 +115,8 @@ open_apart x y c same closed ongoing =
     absurd cc
 
 -- the rental is closed and its fare is booked
-pub ledger_charged : (s x : Operator) (now : ℕ) (kept : FinMap texts_cmp Kept) (r : RentalView) (to_station : Option (List ℕ)) → IsInOrder s → s.now ≤ now → IsViewOf s r → is_open r.rental ≡ true
-    → x.riders ≡ s.riders → x.rentals ≡ (charged r to_station now s).rentals → x.entries ≡ (charged r to_station now s).entries → IsLedgerInOrder (at_moment x now kept)
+pub ledger_charged : (s x : Operator) (now : ℕ) (kept : FinMap texts_cmp Kept) (r : RentalView) (to_station : Option (List ℕ)) → IsSound s → s.now ≤ now → IsViewOf s r → is_open r.rental ≡ true
+    → x.riders ≡ s.riders → x.rentals ≡ (charged r to_station now s).rentals → x.entries ≡ (charged r to_station now s).entries → IsLedgerSound (at_moment x now kept)
 ledger_charged s x now kept r to_station order later v ongoing riders rentals entries =
     ledger_booked s (at_moment x now kept) _ order.ledger keeps riders entries last few
   where
@@ -165,25 +165,25 @@ ledger_charged s x now kept r to_station order later v ongoing riders rentals en
         omega (arith, before, fewer)
 
 -- nothing is touched
-ledger_untouched : (s : Operator) (now : ℕ) (kept : FinMap texts_cmp Kept) → IsLedgerInOrder s → s.now ≤ now → IsLedgerInOrder (at_moment s now kept)
+ledger_untouched : (s : Operator) (now : ℕ) (kept : FinMap texts_cmp Kept) → IsLedgerSound s → s.now ≤ now → IsLedgerSound (at_moment s now kept)
 ledger_untouched s now kept ledger later = ledger_quiet s s now kept ledger later (quiet_fields s s refl refl refl refl refl refl) refl
 
-pub ledger_ended : (s : Operator) (now : ℕ) (kept : FinMap texts_cmp Kept) (bike : ℕ) (station : List ℕ) (dock : ℕ) (o : Option RentalView) → IsInOrder s → s.now ≤ now
-    → ((r : RentalView) → o ≡ Some r → IsRentalOf s bike r) → IsLedgerInOrder (at_moment (ended bike station dock now o s) now kept)
+pub ledger_ended : (s : Operator) (now : ℕ) (kept : FinMap texts_cmp Kept) (bike : ℕ) (station : List ℕ) (dock : ℕ) (o : Option RentalView) → IsSound s → s.now ≤ now
+    → ((r : RentalView) → o ≡ Some r → IsRentalOf s bike r) → IsLedgerSound (at_moment (ended bike station dock now o s) now kept)
 ledger_ended s now kept bike station dock None order later is = ledger_untouched s now kept order.ledger later
 ledger_ended s now kept bike station dock (Some r) order later is =
     let at = is r refl in
     ledger_charged s (ended bike station dock now (Some r) s) now kept r (Some station) order later at.view at.not_closed refl refl refl
 
-pub ledger_recovered : (s : Operator) (now : ℕ) (kept : FinMap texts_cmp Kept) (o : Option RentalView) → IsInOrder s → s.now ≤ now
-    → ((r : RentalView) → o ≡ Some r → IsViewOf s r × (is_open r.rental ≡ true)) → IsLedgerInOrder (at_moment (recovered now o s) now kept)
+pub ledger_recovered : (s : Operator) (now : ℕ) (kept : FinMap texts_cmp Kept) (o : Option RentalView) → IsSound s → s.now ≤ now
+    → ((r : RentalView) → o ≡ Some r → IsViewOf s r × (is_open r.rental ≡ true)) → IsLedgerSound (at_moment (recovered now o s) now kept)
 ledger_recovered s now kept None order later is = ledger_untouched s now kept order.ledger later
 ledger_recovered s now kept (Some r) order later is =
     let at = is r refl in
     ledger_charged s (recovered now (Some r) s) now kept r None order later at.0 at.1 refl refl refl
 
 -- a rental is added
-pub ledger_started : (s : Operator) (now : ℕ) (kept : FinMap texts_cmp Kept) (rider : ℕ) (station : List ℕ) (o : Option DockedBike) → IsInOrder s → HasRoom s → s.now ≤ now → IsLedgerInOrder (at_moment (started rider station now o s) now kept)
+pub ledger_started : (s : Operator) (now : ℕ) (kept : FinMap texts_cmp Kept) (rider : ℕ) (station : List ℕ) (o : Option DockedBike) → IsSound s → HasRoom s → s.now ≤ now → IsLedgerSound (at_moment (started rider station now o s) now kept)
 ledger_started s now kept rider station None order has later = ledger_untouched s now kept order.ledger later
 ledger_started s now kept rider station (Some b) order has later = record {
   riders = order.ledger.riders;
@@ -203,9 +203,9 @@ ledger_started s now kept rider station (Some b) order has later = record {
 pub is_payment : (amount : ℕ) → IsPaid amount → IsPayment (pos amount)
 is_payment amount p = record { hundredths = amount; is = refl; low = p.low; high = p.high }
 
-pub ledger_paid : (s : Operator) (now : ℕ) (kept : FinMap texts_cmp Kept) (kind : EntryKind) (rider rental amount : ℕ) → IsInOrder s → HasRoom s → s.now ≤ now → finmap.contains_key s.riders rider ≡ true
+pub ledger_paid : (s : Operator) (now : ℕ) (kept : FinMap texts_cmp Kept) (kind : EntryKind) (rider rental amount : ℕ) → IsSound s → HasRoom s → s.now ≤ now → finmap.contains_key s.riders rider ≡ true
     → IsBooking (at_moment (booked kind rider rental (pos amount) now s) now kept) (record { number = length s.entries + 1; kind = kind; rider = rider; rental = rental; amount = pos amount; at = now }) kind
-    → IsLedgerInOrder (at_moment (booked kind rider rental (pos amount) now s) now kept)
+    → IsLedgerSound (at_moment (booked kind rider rental (pos amount) now s) now kept)
 ledger_paid s now kept kind rider rental amount order has later known booking =
     let room = has.room in
     ledger_booked s (at_moment (booked kind rider rental (pos amount) now s) now kept) _ order.ledger
@@ -213,8 +213,8 @@ ledger_paid s now kept kind rider rental amount order has later known booking =
     (record { number_is = refl; rider_is = known; booking = booking; by_now = omega arith }) (omega (arith, room))
 
 -- the rental that is refunded is closed
-pub ledger_refunded : (s : Operator) (now : ℕ) (kept : FinMap texts_cmp Kept) (amount : ℕ) (o : Option RentalView) → IsInOrder s → HasRoom s → IsPaid amount → s.now ≤ now
-    → ((r : RentalView) → o ≡ Some r → IsViewOf s r × (is_open r.rental ≡ false)) → IsLedgerInOrder (at_moment (refunded_by amount now o s) now kept)
+pub ledger_refunded : (s : Operator) (now : ℕ) (kept : FinMap texts_cmp Kept) (amount : ℕ) (o : Option RentalView) → IsSound s → HasRoom s → IsPaid amount → s.now ≤ now
+    → ((r : RentalView) → o ≡ Some r → IsViewOf s r × (is_open r.rental ≡ false)) → IsLedgerSound (at_moment (refunded_by amount now o s) now kept)
 ledger_refunded s now kept amount None order has paid later is = ledger_untouched s now kept order.ledger later
 ledger_refunded s now kept amount (Some r) order has paid later is =
     let at = is r refl in
@@ -222,7 +222,7 @@ ledger_refunded s now kept amount (Some r) order has paid later is =
     let of = order.rentals.rentals r.number r.rental v.found in
     of_closing r.rental.closing refl at.1 v of.rider_is
   where
-    of_closing : (c : Option Closing) → r.rental.closing ≡ c → is_open r.rental ≡ false → IsViewOf s r → finmap.contains_key s.riders r.rental.rider ≡ true → IsLedgerInOrder (at_moment (refunded_by amount now (Some r) s) now kept)
+    of_closing : (c : Option Closing) → r.rental.closing ≡ c → is_open r.rental ≡ false → IsViewOf s r → finmap.contains_key s.riders r.rental.rider ≡ true → IsLedgerSound (at_moment (refunded_by amount now (Some r) s) now kept)
     of_closing None same shut v known = let ongoing : is_open r.rental ≡ true = ap (λ (c : Option Closing). is_none c) same in absurd cc
     of_closing (Some c) same shut v known =
         ledger_paid s now kept Refund r.rental.rider r.number amount order has later known

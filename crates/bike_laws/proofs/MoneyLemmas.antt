@@ -1,4 +1,4 @@
--- Money is conserved in every operator in order.
+-- Money is conserved in every sound operator.
 use Rattle.std.proofs.Common.{◌≡◌, ℕ, zero, suc, List, [], ◌∷◌, true, false, T, eqb, Some, refl, sym, ap, ap₂, ◌∙◌, inl, inr}
 use Rattle.std.specs.Prelude.{map, ◌||◌}
 use Rattle.std.specs.List.{list_any}
@@ -13,7 +13,7 @@ use Rattle.bike_ledger.specs.Entries.{Entry}
 use Rattle.bike_ledger.specs.Money.{is_among, AreDistinct, AreOf, IsConserved}
 use Rattle.bike_ledger.proofs.SumLemmas.{conserved}
 use Rattle.bike_operator.specs.Operator.{Operator, Rider, item_at}
-use Rattle.bike_operator.specs.Order.{IsInOrder}
+use Rattle.bike_operator.specs.Sound.{IsSound}
 use Rattle.bike_laws.proofs.FoundLemmas.{both}
 
 -- ---- the keys of a map are distinct
@@ -54,7 +54,7 @@ known_riders s [] known = tt
 known_riders s (e ∷ es) known =
     (among_is e.rider (finmap.keys s.riders) ∙ sym (finmap.contains_key-keys s.riders e.rider) ∙ known zero e refl, known_riders s es (λ n x i. known (suc n) x i))
 
-pub money_conserved : (s : Operator) → IsInOrder s → IsConserved (finmap.keys s.riders) s.entries
+pub money_conserved : (s : Operator) → IsSound s → IsConserved (finmap.keys s.riders) s.entries
 money_conserved s order =
     conserved (finmap.keys s.riders) s.entries (distinct (finmap.entries s.riders) (finmap.entries_sorted s.riders))
     (known_riders s s.entries (λ n e i. (order.ledger.entries (suc n) e i).rider_is))

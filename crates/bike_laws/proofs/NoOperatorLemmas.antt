@@ -1,4 +1,4 @@
--- The operator of whom nothing was asked yet is in order.
+-- The operator of whom nothing was asked yet is sound.
 use Rattle.std.proofs.Common.{◌≡◌, ℕ, zero, suc, List, [], true, Some, arith}
 use Rattle.std.specs.FinMap as finmap
 use Rattle.std.specs.FinSet as finset
@@ -6,7 +6,7 @@ use Rattle.std.specs.Ordering.{nat_cmp}
 use Rattle.bike_catalogue.specs.Rows.{PlanRow, TypeRow}
 use Rattle.bike_operator.specs.declared.records.Bike.{Bike}
 use Rattle.bike_operator.specs.Operator.{Station, Truck, Rider, Kept, Key, text_cmp, texts_cmp, no_operator, numbered}
-use Rattle.bike_operator.specs.Order.{IsInOrder, IsCatalogueInOrder, AreBikesInOrder, AreOrdersInOrder, AreRentalsInOrder, IsLedgerInOrder}
+use Rattle.bike_operator.specs.Sound.{IsSound, IsCatalogueSound, AreBikesSound, AreOrdersSound, AreRentalsSound, IsLedgerSound}
 
 no_number : {A : Type 0} (n : ℕ) (x : A) → numbered n [] ≡ Some x → ⊥
 no_number zero x e = absurd cc
@@ -30,7 +30,7 @@ no_kept key k e = let none = finmap.get-empty {X = Kept} texts_cmp key in absurd
 no_broken : (key : Key) → finset.contains (finset.empty {R = texts_cmp}) key ≡ true → ⊥
 no_broken key e = let none = finset.contains-empty texts_cmp key in absurd cc
 
-none_catalogue : IsCatalogueInOrder no_operator
+none_catalogue : IsCatalogueSound no_operator
 none_catalogue = record {
   system = tt;
   plans = λ id x e. absurd (no_plan id x e);
@@ -42,20 +42,20 @@ none_catalogue = record {
   few_stations = omega (arith, finmap.len-empty text_cmp Station);
 }
 
-none_bikes : AreBikesInOrder no_operator
+none_bikes : AreBikesSound no_operator
 none_bikes = record { bikes = λ n b e. absurd (no_key Bike n b e); apart = λ a b x y station dock e f p q. absurd (no_key Bike a x e); few = omega (arith, finmap.len-empty nat_cmp Bike) }
 
-none_orders : AreOrdersInOrder no_operator
+none_orders : AreOrdersSound no_operator
 none_orders = record { trucks = λ n t e. absurd (no_key Truck n t e); orders = λ n o e. absurd (no_number n o e); few_trucks = omega (arith, finmap.len-empty nat_cmp Truck); few_orders = omega arith }
 
-none_rentals : AreRentalsInOrder no_operator
+none_rentals : AreRentalsSound no_operator
 none_rentals = record { rentals = λ n r e. absurd (no_number n r e); riding = λ a b q r e f p i same. absurd (no_number a q e); few_rentals = omega arith }
 
-none_ledger : IsLedgerInOrder no_operator
+none_ledger : IsLedgerSound no_operator
 none_ledger = record { riders = λ n r e. absurd (no_key Rider n r e); entries = λ n e i. absurd (no_number n e i); few_riders = omega (arith, finmap.len-empty nat_cmp Rider); few_entries = omega arith }
 
-pub none_in_order : IsInOrder no_operator
-none_in_order = record {
+pub none_sound : IsSound no_operator
+none_sound = record {
   catalogue = none_catalogue;
   bikes = none_bikes;
   orders = none_orders;

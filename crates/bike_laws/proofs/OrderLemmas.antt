@@ -1,4 +1,4 @@
--- A step keeps an operator in order, and so does every list of requests.
+-- A step keeps an operator sound, and so does every list of requests.
 use Rattle.std.proofs.Common.{◌≡◌, ℕ, ◌≤◌, List, [], ◌∷◌, Bool, true, false, cond, Option, Some, None, refl, sym, ◌∙◌, subst, arith}
 use Rattle.std.specs.Prelude.{max}
 use Rattle.std.specs.FinMap as finmap
@@ -11,7 +11,7 @@ use Rattle.bike_commands.specs.Requests.{IsRequest}
 use Rattle.bike_operator.specs.Operator.{Operator, Kept, Key, texts_cmp}
 use Rattle.bike_operator.specs.Steps.{refused, reply_of}
 use Rattle.bike_operator.specs.Runs.{Call, key_in, step, after, accepted, decided, answered}
-use Rattle.bike_operator.specs.Order.{IsKept, IsInOrder, AreCalls}
+use Rattle.bike_operator.specs.Sound.{IsKept, IsSound, AreCalls}
 use Rattle.bike_places.proofs.CatalogueLaw.{catalogue_law}
 use Rattle.bike_places.proofs.BikeLaw.{bikes_law}
 use Rattle.bike_places.proofs.OrderLaw.{orders_law}
@@ -22,14 +22,14 @@ use Rattle.bike_laws.proofs.RentalLaw.{rentals_law}
 
 -- ---- an accepted request
 
-kept_in_order : (s : Operator) (q : Request) (new : Kept) → IsInOrder s → IsKept (key_in q) new → (key : Key) (k : Kept) → finmap.get (finmap.insert s.kept (key_in q) new) key ≡ Some k → IsKept key k
-kept_in_order s q new order good key k e = cases (eq_by_cmp texts_cmp key (key_in q)) refl (sym (finmap.get-insert texts_total s.kept (key_in q) new key) ∙ e) where
+kept_sound : (s : Operator) (q : Request) (new : Kept) → IsSound s → IsKept (key_in q) new → (key : Key) (k : Kept) → finmap.get (finmap.insert s.kept (key_in q) new) key ≡ Some k → IsKept key k
+kept_sound s q new order good key k e = cases (eq_by_cmp texts_cmp key (key_in q)) refl (sym (finmap.get-insert texts_total s.kept (key_in q) new key) ∙ e) where
   cases : (b : Bool) → eq_by_cmp texts_cmp key (key_in q) ≡ b → cond b (Some new) (finmap.get s.kept key) ≡ Some k → IsKept key k
   cases true same is = subst (λ (x : Kept). IsKept key x) (same_Some new k is) (subst (λ (x : Key). IsKept x new) (sym (same_key key (key_in q) same)) good)
   cases false other is = order.kept key k is
 
-accepted_in_order : (s : Operator) (now : ℕ) (q : Request) → IsInOrder s → IsRequest q → refused s q.command ≡ None → s.now ≤ now → now ≤ last_moment → IsInOrder (accepted s now q)
-accepted_in_order s now q order good none later last =
+accepted_sound : (s : Operator) (now : ℕ) (q : Request) → IsSound s → IsRequest q → refused s q.command ≡ None → s.now ≤ now → now ≤ last_moment → IsSound (accepted s now q)
+accepted_sound s now q order good none later last =
     let new : Kept = record { command = q.command; reply = reply_of s now q.command } in
     let kept = finmap.insert s.kept (key_in q) new in
     let reply = reply_good s now q.command order good.command none later in
@@ -39,7 +39,7 @@ accepted_in_order s now q order good none later last =
       orders = orders_law s now q.command kept order good.command none later;
       rentals = rentals_law s now q.command kept order good.command none later;
       ledger = ledger_law s now q.command kept order good.command none later;
-      kept = kept_in_order s q new order (record {
+      kept = kept_sound s q new order (record {
         caller = q.caller;
         name = q.key;
         key_is = refl;
@@ -57,21 +57,21 @@ accepted_in_order s now q order good none later last =
 latest : (t now : ℕ) → t ≤ last_moment → now ≤ last_moment → (max t now ≤ last_moment) × (now ≤ max t now)
 latest t now a b = (omega arith, omega arith)
 
-decided_in_order : (s : Operator) (t : ℕ) (q : Request) (o : Option Refusal) → t ≤ last_moment → IsRequest q → IsInOrder s → refused s q.command ≡ o → IsInOrder (decided s (max t s.now) q o).1
-decided_in_order s t q (Some r) moment good order e = order
-decided_in_order s t q None moment good order e =
+decided_sound : (s : Operator) (t : ℕ) (q : Request) (o : Option Refusal) → t ≤ last_moment → IsRequest q → IsSound s → refused s q.command ≡ o → IsSound (decided s (max t s.now) q o).1
+decided_sound s t q (Some r) moment good order e = order
+decided_sound s t q None moment good order e =
     let now = latest t s.now moment order.now in
-    accepted_in_order s (max t s.now) q order good e now.1 now.0
+    accepted_sound s (max t s.now) q order good e now.1 now.0
 
-answered_in_order : (s : Operator) (t : ℕ) (q : Request) (o : Option Kept) → t ≤ last_moment → IsRequest q → IsInOrder s → IsInOrder (answered s t q o).1
-answered_in_order s t q (Some k) moment good order = order
-answered_in_order s t q None moment good order = decided_in_order s t q (refused s q.command) moment good order refl
+answered_sound : (s : Operator) (t : ℕ) (q : Request) (o : Option Kept) → t ≤ last_moment → IsRequest q → IsSound s → IsSound (answered s t q o).1
+answered_sound s t q (Some k) moment good order = order
+answered_sound s t q None moment good order = decided_sound s t q (refused s q.command) moment good order refl
 
-pub step_in_order : (s : Operator) (t : ℕ) (q : Request) → t ≤ last_moment → IsRequest q → IsInOrder s → IsInOrder (step s t q).1
-step_in_order s t q moment good order = answered_in_order s t q (finmap.get s.kept (key_in q)) moment good order
+pub step_sound : (s : Operator) (t : ℕ) (q : Request) → t ≤ last_moment → IsRequest q → IsSound s → IsSound (step s t q).1
+step_sound s t q moment good order = answered_sound s t q (finmap.get s.kept (key_in q)) moment good order
 
 -- ---- lists
 
-pub lists_in_order : (s : Operator) (cs : List Call) → AreCalls cs → IsInOrder s → IsInOrder (after s cs)
-lists_in_order s [] good order = order
-lists_in_order s (c ∷ cs) good order = lists_in_order (step s c.0 c.1).1 cs good.1 (step_in_order s c.0 c.1 good.0.moment good.0.request order)
+pub lists_sound : (s : Operator) (cs : List Call) → AreCalls cs → IsSound s → IsSound (after s cs)
+lists_sound s [] good order = order
+lists_sound s (c ∷ cs) good order = lists_sound (step s c.0 c.1).1 cs good.1 (step_sound s c.0 c.1 good.0.moment good.0.request order)

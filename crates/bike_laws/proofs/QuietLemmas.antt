@@ -19,7 +19,7 @@ use Rattle.bike_operator.specs.Operator.{Operator}
 use Rattle.bike_operator.specs.Counts.{is_on_truck, is_for_order}
 use Rattle.bike_operator.specs.View.{end_at, at_end, at_order, order_view}
 use Rattle.bike_operator.specs.Steps.{on, is_at_end, is_elsewhere, is_not_loaded, key_changed, reported, place_reported, bike_reported, bike_placed, bike_marked, placed_at_end, delivered, unloaded}
-use Rattle.bike_operator.specs.Order.{IsOut}
+use Rattle.bike_operator.specs.Sound.{IsOut}
 use Rattle.bike_places.proofs.TestLemmas.{holds}
 use Rattle.bike_laws.proofs.NameLemmas.{insert_keeps, changed_keeps, get_other, changed_found, changed_other, Either, either}
 use Rattle.bike_laws.proofs.NameLemmas.Either.{Same, Other}

@@ -8,7 +8,7 @@ use Rattle.bike_operator.specs.Operator.{Operator, Rider, numbered}
 use Rattle.bike_operator.specs.Counts.{is_riding, docked_at}
 use Rattle.bike_operator.specs.View.{view_of, rider_view, rental_view, rental_of, docked_view}
 use Rattle.bike_operator.specs.Steps.{on, is_too_much, tests, effect}
-use Rattle.bike_operator.specs.Order.{AreRentalsInOrder}
+use Rattle.bike_operator.specs.Sound.{AreRentalsSound}
 use Rattle.bike_places.specs.Accepted.{AcceptedKeeps}
 use Rattle.bike_places.proofs.TestLemmas.{none_holds}
 use Rattle.bike_laws.proofs.FoundLemmas.{view_is, rental_is, rider_there, station_there, open_of, closed_of}
@@ -24,7 +24,7 @@ not_riding s rider (Some r) there e = e
 small_enough : (amount : ℕ) (o : Option RentalView) (r : RentalView) → o ≡ Some r → is_too_much amount o ≡ false → on r.rental.closing (λ c. int_lt (c.fare -ℤ r.refunded) (pos amount)) ≡ false
 small_enough amount o r is e = ap (λ (x : Option RentalView). is_too_much amount x) (sym is) ∙ e
 
-pub rentals_law : AcceptedKeeps AreRentalsInOrder
+pub rentals_law : AcceptedKeeps AreRentalsSound
 rentals_law s now (command.TopUp rider amount) kept order good none later = rentals_topped_up s now kept rider amount order later
 rentals_law s now (command.Start rider station dock) kept order good none later =
     let free = none_holds (tests (view_of s (command.Start rider station dock)) (command.Start rider station dock)) none in

@@ -1,4 +1,4 @@
--- Rentals stay in order.
+-- Rentals stay sound.
 use Rattle.std.proofs.Common.{◌≡◌, ℕ, ℤ, ◌+◌, ◌≤◌, ◌+ℤ◌, ◌-ℤ◌, ◌≤ℤ◌, pos, List, [], ◌∷◌, ◌++◌, length, length-append, Bool, true, false, cond, eqb, Option, Some, None, refl, sym, ap, ◌∙◌, subst, arith}
 use Rattle.std.specs.Prelude.{is_none, ◌&&◌, int_lt}
 use Rattle.std.specs.FinMap as finmap
@@ -14,7 +14,7 @@ use Rattle.bike_operator.specs.declared.view.RentalView.{RentalView}
 use Rattle.bike_operator.specs.Operator.{Operator, Kept, texts_cmp, numbered}
 use Rattle.bike_operator.specs.Counts.{count, open_rentals, is_open}
 use Rattle.bike_operator.specs.Steps.{on, booked, refunded_by}
-use Rattle.bike_operator.specs.Order.{IsOut, IsStop, IsOpenOrClosed, is_fare, fares_of, most_refunded, IsRentalAt, AreRentalsInOrder, IsInOrder}
+use Rattle.bike_operator.specs.Sound.{IsOut, IsStop, IsOpenOrClosed, is_fare, fares_of, most_refunded, IsRentalAt, AreRentalsSound, IsSound}
 use Rattle.bike_places.proofs.Moment.{at_moment}
 use Rattle.bike_laws.proofs.EntryLemmas.{refunded_added, fares_apart, same_either, other_number}
 use Rattle.bike_laws.proofs.FoundLemmas.{IsViewOf}
@@ -68,7 +68,7 @@ out_settled s x now kept number bike o = record { row = o.row; found = o.found; 
 
 -- ---- quiet commands
 
-pub rentals_quiet : (s x : Operator) (now : ℕ) (kept : FinMap texts_cmp Kept) → IsInOrder s → s.now ≤ now → IsQuiet s x → AreRentalsInOrder (at_moment x now kept)
+pub rentals_quiet : (s x : Operator) (now : ℕ) (kept : FinMap texts_cmp Kept) → IsSound s → s.now ≤ now → IsQuiet s x → AreRentalsSound (at_moment x now kept)
 rentals_quiet s x now kept order later q =
     let few = order.rentals.few_rentals in
     let count_rentals : length x.rentals ≡ length s.rentals = ap (λ (rs : List Rental). length rs) q.rentals in
@@ -87,15 +87,15 @@ rentals_quiet s x now kept order later q =
     before : (number : ℕ) (r : Rental) → numbered number x.rentals ≡ Some r → numbered number s.rentals ≡ Some r
     before number r i = ap (λ (rs : List Rental). numbered number rs) (sym q.rentals) ∙ i
 
-pub rentals_untouched : (s : Operator) (now : ℕ) (kept : FinMap texts_cmp Kept) → IsInOrder s → s.now ≤ now → AreRentalsInOrder (at_moment s now kept)
+pub rentals_untouched : (s : Operator) (now : ℕ) (kept : FinMap texts_cmp Kept) → IsSound s → s.now ≤ now → AreRentalsSound (at_moment s now kept)
 rentals_untouched s now kept order later = rentals_quiet s s now kept order later (quiet_fields s s refl refl refl refl refl refl)
 
 -- ---- payments
 
 -- an entry that is no fare
-rentals_paid : (s : Operator) (now : ℕ) (kept : FinMap texts_cmp Kept) (e : Entry) → IsInOrder s → s.now ≤ now → is_fare e.kind ≡ false
+rentals_paid : (s : Operator) (now : ℕ) (kept : FinMap texts_cmp Kept) (e : Entry) → IsSound s → s.now ≤ now → is_fare e.kind ≡ false
     → ((number : ℕ) (x : Rental) → numbered number s.rentals ≡ Some x → (refunded_of number s.entries +ℤ given_back_of number e) ≤ℤ most_refunded x.closing)
-    → AreRentalsInOrder (at_moment (record s { entries = s.entries ++ e ∷ [] }) now kept)
+    → AreRentalsSound (at_moment (record s { entries = s.entries ++ e ∷ [] }) now kept)
 rentals_paid s now kept e order later no_fare refunded =
     let few = order.rentals.few_rentals in
     let more = length-append s.entries (e ∷ []) in
@@ -111,7 +111,7 @@ rentals_paid s now kept e order later no_fare refunded =
       few_rentals = omega (arith, few, more);
     }
 
-pub rentals_topped_up : (s : Operator) (now : ℕ) (kept : FinMap texts_cmp Kept) (rider amount : ℕ) → IsInOrder s → s.now ≤ now → AreRentalsInOrder (at_moment (booked TopUp rider 0 (pos amount) now s) now kept)
+pub rentals_topped_up : (s : Operator) (now : ℕ) (kept : FinMap texts_cmp Kept) (rider amount : ℕ) → IsSound s → s.now ≤ now → AreRentalsSound (at_moment (booked TopUp rider 0 (pos amount) now s) now kept)
 rentals_topped_up s now kept rider amount order later =
     rentals_paid s now kept (record { number = length s.entries + 1; kind = TopUp; rider = rider; rental = 0; amount = pos amount; at = now }) order later refl
     (λ number x i.
@@ -122,9 +122,9 @@ rentals_topped_up s now kept rider amount order later =
 not_more : (fare refunded amount : ℤ) → int_lt (fare -ℤ refunded) amount ≡ false → (refunded +ℤ amount) ≤ℤ fare
 not_more fare refunded amount e = grind (arith, ints)
 
-pub rentals_refunded : (s : Operator) (now : ℕ) (kept : FinMap texts_cmp Kept) (amount : ℕ) (o : Option RentalView) → IsInOrder s → s.now ≤ now
+pub rentals_refunded : (s : Operator) (now : ℕ) (kept : FinMap texts_cmp Kept) (amount : ℕ) (o : Option RentalView) → IsSound s → s.now ≤ now
     → ((r : RentalView) → o ≡ Some r → IsViewOf s r × (on r.rental.closing (λ c. int_lt (c.fare -ℤ r.refunded) (pos amount)) ≡ false) × (is_open r.rental ≡ false))
-    → AreRentalsInOrder (at_moment (refunded_by amount now o s) now kept)
+    → AreRentalsSound (at_moment (refunded_by amount now o s) now kept)
 rentals_refunded s now kept amount None order later is = rentals_untouched s now kept order later
 rentals_refunded s now kept amount (Some r) order later is =
     let facts = is r refl in

@@ -22,7 +22,7 @@ use Rattle.bike_operator.specs.Operator.{Operator, numbered}
 use Rattle.bike_operator.specs.Counts.{docked_at, open_rentals, is_open}
 use Rattle.bike_operator.specs.View.{docked_view, typed_bike, rental_view, rental_of, view_of, most_entries, most_orders}
 use Rattle.bike_operator.specs.Steps.{tests, refused, fare_now, ended, recovered, refunded_by, started_reply, ended_reply, refunded_reply, reply_of}
-use Rattle.bike_operator.specs.Order.{IsInOrder, is_refused}
+use Rattle.bike_operator.specs.Sound.{IsSound, is_refused}
 use Rattle.bike_operator.specs.Bounds.{IsWithin}
 use Rattle.bike_places.proofs.TestLemmas.{none_holds}
 use Rattle.bike_laws.proofs.NumberLemmas.{count_some}
@@ -48,7 +48,7 @@ segments_are [] are = tt
 segments_are (x ∷ ss) are = (are.0, segments_are ss are.1)
 
 -- the fare of a rental that is viewed
-pub fare_amount : (s : Operator) (now : ℕ) (r : RentalView) → IsInOrder s → IsViewOf s r → IsAmount (fare_now r now)
+pub fare_amount : (s : Operator) (now : ℕ) (r : RentalView) → IsSound s → IsViewOf s r → IsAmount (fare_now r now)
 fare_amount s now r order v =
     let plan = order.catalogue.plans r.rental.plan r.plan v.plan_is in
     record { low = fare_of-low r.plan r.rental.start now; high = fare_of-high r.plan r.rental.start now plan.good (segments_are r.plan.segments plan.segments) }
@@ -62,7 +62,7 @@ good_balance n balance few within =
     (omega (arith, ints, few, low), omega (arith, ints, few, high), omega (arith, ints), omega (arith, ints))
 
 -- the balance after one more entry
-balance_after : (s : Operator) (rider : ℕ) (e : Entry) → IsInOrder s → length s.entries < most_entries → IsAmount e.amount → IsGood (Any (balance_of rider (s.entries ++ e ∷ [])))
+balance_after : (s : Operator) (rider : ℕ) (e : Entry) → IsSound s → length s.entries < most_entries → IsAmount e.amount → IsGood (Any (balance_of rider (s.entries ++ e ∷ [])))
 balance_after s rider e order few is =
     let size = length-append s.entries (e ∷ []) in
     good_balance (length (s.entries ++ e ∷ [])) (balance_of rider (s.entries ++ e ∷ [])) (omega (arith, size, few))
@@ -75,13 +75,13 @@ pub record HasRoom (s : Operator) : Type 0 where
   pub room : length s.entries + open_rentals s < most_entries
 
 -- where a rental is open there is room for its fare
-pub room_for_fare : (s : Operator) (number : ℕ) (x : Rental) → IsInOrder s → numbered number s.rentals ≡ Some x → is_open x ≡ true → length s.entries < most_entries
+pub room_for_fare : (s : Operator) (number : ℕ) (x : Rental) → IsSound s → numbered number s.rentals ≡ Some x → is_open x ≡ true → length s.entries < most_entries
 room_for_fare s number x order found now =
     let one = count_some (λ r. is_open r) number s.rentals x found now in
     let few = order.ledger.few_entries in
     omega (arith, one, few)
 
-started_typed : (s : Operator) (b : ℕ × Bike) (o : Option TypeRow) → IsInOrder s → HasRoom s → finmap.get s.bikes b.0 ≡ Some b.1 → IsAnswer (started_reply s (typed_bike b o))
+started_typed : (s : Operator) (b : ℕ × Bike) (o : Option TypeRow) → IsSound s → HasRoom s → finmap.get s.bikes b.0 ≡ Some b.1 → IsAnswer (started_reply s (typed_bike b o))
 started_typed s b None order has found = (tt, refl)
 started_typed s b (Some t) order has found =
     let few = order.rentals.few_rentals in
@@ -89,12 +89,12 @@ started_typed s b (Some t) order has found =
     let at = order.bikes.bikes b.0 b.1 found in
     (((omega arith, omega (arith, few, room), omega arith), ((at.low, at.high, omega arith), tt)), refl)
 
-started_good : (s : Operator) (station : List ℕ) (dock : ℕ) (o : Option (ℕ × Bike)) → IsInOrder s → HasRoom s → docked_at s station dock ≡ o → IsAnswer (started_reply s (docked_view s o))
+started_good : (s : Operator) (station : List ℕ) (dock : ℕ) (o : Option (ℕ × Bike)) → IsSound s → HasRoom s → docked_at s station dock ≡ o → IsAnswer (started_reply s (docked_view s o))
 started_good s station dock None order has is = (tt, refl)
 started_good s station dock (Some b) order has is = started_typed s b (finmap.get s.types b.1.type_id) order has (docked_is s station dock b is).found
 
 -- the entries of the next operator have one more, which is the fare
-fare_good : (s : Operator) (now : ℕ) (r : RentalView) (e : Entry) → IsInOrder s → IsViewOf s r → is_open r.rental ≡ true → e.amount ≡ fare_now r now → IsAnswer (Ended (fare_now r now) (balance_of r.rental.rider (s.entries ++ e ∷ [])))
+fare_good : (s : Operator) (now : ℕ) (r : RentalView) (e : Entry) → IsSound s → IsViewOf s r → is_open r.rental ≡ true → e.amount ≡ fare_now r now → IsAnswer (Ended (fare_now r now) (balance_of r.rental.rider (s.entries ++ e ∷ [])))
 fare_good s now r e order v now_open is =
     let amount = fare_amount s now r order v in
     let low = amount.low in
@@ -106,19 +106,19 @@ fare_good s now r e order v now_open is =
       refl,
     )
 
-ended_good : (s : Operator) (now bike : ℕ) (station : List ℕ) (dock : ℕ) (o : Option RentalView) → IsInOrder s → ((r : RentalView) → o ≡ Some r → IsRentalOf s bike r) → IsAnswer (ended_reply s now o (ended bike station dock now o s))
+ended_good : (s : Operator) (now bike : ℕ) (station : List ℕ) (dock : ℕ) (o : Option RentalView) → IsSound s → ((r : RentalView) → o ≡ Some r → IsRentalOf s bike r) → IsAnswer (ended_reply s now o (ended bike station dock now o s))
 ended_good s now bike station dock None order is = (tt, refl)
 ended_good s now bike station dock (Some r) order is =
     let at = is r refl in
     fare_good s now r _ order at.view at.not_closed refl
 
-recovered_good : (s : Operator) (now : ℕ) (o : Option RentalView) → IsInOrder s → ((r : RentalView) → o ≡ Some r → IsViewOf s r × (is_open r.rental ≡ true)) → IsAnswer (ended_reply s now o (recovered now o s))
+recovered_good : (s : Operator) (now : ℕ) (o : Option RentalView) → IsSound s → ((r : RentalView) → o ≡ Some r → IsViewOf s r × (is_open r.rental ≡ true)) → IsAnswer (ended_reply s now o (recovered now o s))
 recovered_good s now None order is = (tt, refl)
 recovered_good s now (Some r) order is =
     let at = is r refl in
     fare_good s now r _ order at.0 at.1 refl
 
-refunded_good : (s : Operator) (now amount : ℕ) (o : Option RentalView) → IsInOrder s → HasRoom s → IsPaid amount → IsAnswer (refunded_reply o (refunded_by amount now o s))
+refunded_good : (s : Operator) (now amount : ℕ) (o : Option RentalView) → IsSound s → HasRoom s → IsPaid amount → IsAnswer (refunded_reply o (refunded_by amount now o s))
 refunded_good s now amount None order has paid = (tt, refl)
 refunded_good s now amount (Some r) order has paid =
     let room = has.room in
@@ -127,7 +127,7 @@ refunded_good s now amount (Some r) order has paid =
 done : IsAnswer Done
 done = (tt, refl)
 
-pub reply_good : (s : Operator) (now : ℕ) (c : Command) → IsInOrder s → IsCommand c → refused s c ≡ None → s.now ≤ now → IsAnswer (reply_of s now c)
+pub reply_good : (s : Operator) (now : ℕ) (c : Command) → IsSound s → IsCommand c → refused s c ≡ None → s.now ≤ now → IsAnswer (reply_of s now c)
 reply_good s now (command.SetSystem x) order good none later = done
 reply_good s now (command.AddPlan p) order good none later = done
 reply_good s now (command.AddType t) order good none later = done

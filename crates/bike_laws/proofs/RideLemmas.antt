@@ -1,4 +1,4 @@
--- Rentals that begin and end leave rentals in order.
+-- Rentals that begin and end leave rentals sound.
 use Rattle.std.proofs.Common.{◌≡◌, ℕ, zero, suc, ◌+◌, ◌≤◌, pos, List, [], ◌∷◌, ◌++◌, length, length-append, Bool, true, false, cond, eqb, Option, Some, None, refl, sym, ap, ◌∙◌, subst, arith, inl, inr}
 use Rattle.std.specs.Prelude.{is_some, ◌&&◌, ◌||◌}
 use Rattle.std.specs.List.{list_any}
@@ -23,7 +23,7 @@ use Rattle.bike_operator.specs.Operator.{Operator, Kept, texts_cmp, item_at, num
 use Rattle.bike_operator.specs.Counts.{is_dock, open_rentals, is_open, is_riding, docked_at}
 use Rattle.bike_operator.specs.View.{typed_bike, docked_view}
 use Rattle.bike_operator.specs.Steps.{started}
-use Rattle.bike_operator.specs.Order.{IsOut, is_fare, IsRentalAt, AreRentalsInOrder, IsOfRental, IsBooking, IsInOrder}
+use Rattle.bike_operator.specs.Sound.{IsOut, is_fare, IsRentalAt, AreRentalsSound, IsOfRental, IsBooking, IsSound}
 use Rattle.bike_places.proofs.ItemLemmas.{number_or_last, number_within}
 use Rattle.bike_places.proofs.Moment.{at_moment}
 use Rattle.bike_laws.proofs.NumberLemmas.{count_added}
@@ -66,7 +66,7 @@ apart_booking s e TopUp b = (refl, same_either (eqb e.rental (length s.rentals +
 apart_booking s e Fare b = (apart_rental s e b.0, same_either (eqb e.rental (length s.rentals + 1)) (pos 0) refl)
 apart_booking s e Refund b = (refl, ap (λ (x : Bool). cond x e.amount (pos 0)) (apart_rental s e b.0))
 
-apart_entry : (s : Operator) (n : ℕ) (e : Entry) → IsInOrder s → item_at n s.entries ≡ Some e → IsApart (length s.rentals + 1) e
+apart_entry : (s : Operator) (n : ℕ) (e : Entry) → IsSound s → item_at n s.entries ≡ Some e → IsApart (length s.rentals + 1) e
 apart_entry s n e order i =
     let parts = apart_booking s e e.kind (order.ledger.entries (suc n) e i).booking in
     record { no_fare = parts.0; no_refund = parts.1 }
@@ -97,8 +97,8 @@ pub record IsStart (s : Operator) (rider : ℕ) (station : List ℕ) : Type 0 wh
   pub idle : is_riding s rider ≡ false
   pub station_is : finmap.contains_key s.stations station ≡ true
 
-pub rentals_started : (s : Operator) (now : ℕ) (kept : FinMap texts_cmp Kept) (rider : ℕ) (station : List ℕ) (dock : ℕ) (o : Option DockedBike) → IsInOrder s → s.now ≤ now → IsStart s rider station
-    → ((b : DockedBike) → o ≡ Some b → IsDockedView s station dock b) → AreRentalsInOrder (at_moment (started rider station now o s) now kept)
+pub rentals_started : (s : Operator) (now : ℕ) (kept : FinMap texts_cmp Kept) (rider : ℕ) (station : List ℕ) (dock : ℕ) (o : Option DockedBike) → IsSound s → s.now ≤ now → IsStart s rider station
+    → ((b : DockedBike) → o ≡ Some b → IsDockedView s station dock b) → AreRentalsSound (at_moment (started rider station now o s) now kept)
 rentals_started s now kept rider station dock None order later start is = rentals_untouched s now kept order later
 rentals_started s now kept rider station dock (Some b) order later start is =
     let few = order.rentals.few_rentals in

@@ -17,7 +17,7 @@ use Rattle.bike_operator.specs.declared.view.View.{View}
 use Rattle.bike_operator.specs.Operator.{Operator, Rider, numbered}
 use Rattle.bike_operator.specs.Counts.{open_rentals, is_open}
 use Rattle.bike_operator.specs.View.{rider_view, rental_view, rental_of, order_view, at_end, at_order, end_at, view_of}
-use Rattle.bike_operator.specs.Order.{IsInOrder, IsOpenOrClosed, most_refunded}
+use Rattle.bike_operator.specs.Sound.{IsSound, IsOpenOrClosed, most_refunded}
 use Rattle.bike_operator.specs.Bounds.{IsWithin, IsRefundable, IsRentalWithin, IsOpenCounted, IsBounded}
 use Rattle.bike_laws.proofs.NumberLemmas.{count_some}
 use Rattle.bike_laws.proofs.EntryLemmas.{amounts_of, balance_within, refunded_low}
@@ -25,11 +25,11 @@ use Rattle.bike_laws.proofs.FoundLemmas.{each_some, IsViewOf, view_is, rental_is
 
 -- ---- rows
 
-rider_bounded : (s : Operator) (rider : ℕ) (o : Option Rider) → IsInOrder s → IfSome (rider_view s rider o) (λ r. IsWithin (length s.entries) r.balance)
+rider_bounded : (s : Operator) (rider : ℕ) (o : Option Rider) → IsSound s → IfSome (rider_view s rider o) (λ r. IsWithin (length s.entries) r.balance)
 rider_bounded s rider None order = tt
 rider_bounded s rider (Some r) order = balance_within s.entries rider (amounts_of s order.ledger)
 
-order_bounded : (s : Operator) (number : ℕ) (o : Option Order) → IsInOrder s → numbered number s.orders ≡ o → IfSome (order_view s number o) (λ v. v.order.delivered + v.on_truck ≤ v.order.count)
+order_bounded : (s : Operator) (number : ℕ) (o : Option Order) → IsSound s → numbered number s.orders ≡ o → IfSome (order_view s number o) (λ v. v.order.delivered + v.on_truck ≤ v.order.count)
 order_bounded s number None order e = tt
 order_bounded s number (Some x) order e = (order.orders.orders number x e).filled
 
@@ -41,7 +41,7 @@ open_counted : (s : Operator) (number : ℕ) (x : Rental) (o : Option Closing) �
 open_counted s number x None found is = count_some (λ r. is_open r) number s.rentals x found (ap (λ (c : Option Closing). is_none c) is)
 open_counted s number x (Some c) found is = tt
 
-one_rental : (s : Operator) (now : ℕ) (r : RentalView) → IsInOrder s → s.now ≤ now → IsViewOf s r → IsRentalWithin (length s.entries) now r × IsOpenCounted (open_rentals s) r.rental.closing
+one_rental : (s : Operator) (now : ℕ) (r : RentalView) → IsSound s → s.now ≤ now → IsViewOf s r → IsRentalWithin (length s.entries) now r × IsOpenCounted (open_rentals s) r.rental.closing
 one_rental s now r order later v =
     let at = order.rentals.rentals r.number r.rental v.found in
     let began = at.by_now in
@@ -55,7 +55,7 @@ one_rental s now r order later v =
       open_counted s r.number r.rental r.rental.closing v.found refl,
     )
 
-rental_bounded : (s : Operator) (now : ℕ) (o : Option RentalView) → IsInOrder s → s.now ≤ now → ((r : RentalView) → o ≡ Some r → IsViewOf s r) → IfSome o (λ r. IsRentalWithin (length s.entries) now r × IsOpenCounted (open_rentals s) r.rental.closing)
+rental_bounded : (s : Operator) (now : ℕ) (o : Option RentalView) → IsSound s → s.now ≤ now → ((r : RentalView) → o ≡ Some r → IsViewOf s r) → IfSome o (λ r. IsRentalWithin (length s.entries) now r × IsOpenCounted (open_rentals s) r.rental.closing)
 rental_bounded s now None order later is = tt
 rental_bounded s now (Some r) order later is = one_rental s now r order later (is r refl)
 
@@ -66,7 +66,7 @@ none_held (Some b) = tt
 
 -- ---- views
 
-bounded : (s : Operator) (now : ℕ) (v : View) → IsInOrder s → v.entries ≡ length s.entries → v.open_rentals ≡ open_rentals s → v.rentals ≡ length s.rentals → v.orders ≡ length s.orders
+bounded : (s : Operator) (now : ℕ) (v : View) → IsSound s → v.entries ≡ length s.entries → v.open_rentals ≡ open_rentals s → v.rentals ≡ length s.rentals → v.orders ≡ length s.orders
     → IfSome v.rider (λ r. IsWithin v.entries r.balance)
     → IfSome v.rental (λ r. IsRentalWithin v.entries now r × IsOpenCounted v.open_rentals r.rental.closing)
     → IfSome v.bike (λ b. IfSome v.rental (λ r. is_open r.rental ≡ true))
@@ -96,7 +96,7 @@ bounded_at_order : (s : Operator) (now : ℕ) (o : Option Order) (side : Side) (
 bounded_at_order s now None side dock v b = b
 bounded_at_order s now (Some o) side dock v b = bounded_at_end s now (end_at side o) dock v b
 
-pub view_bounded : (s : Operator) (now : ℕ) (c : Command) → IsInOrder s → s.now ≤ now → IsBounded (view_of s c) now
+pub view_bounded : (s : Operator) (now : ℕ) (c : Command) → IsSound s → s.now ≤ now → IsBounded (view_of s c) now
 view_bounded s now (command.SetSystem x) order later = bounded s now (view_of s (command.SetSystem x)) order refl refl refl refl tt tt tt tt
 view_bounded s now (command.AddPlan p) order later = bounded s now (view_of s (command.AddPlan p)) order refl refl refl refl tt tt tt tt
 view_bounded s now (command.AddType t) order later = bounded s now (view_of s (command.AddType t)) order refl refl refl refl tt tt tt tt

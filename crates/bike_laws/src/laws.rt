@@ -8,32 +8,32 @@ ghost use Rattle.bike_commands.specs.declared.request.Request.{Request};
 ghost use Rattle.bike_commands.specs.Requests.{IsRequest};
 ghost use Rattle.bike_operator.specs.Operator.{Operator, no_operator};
 ghost use Rattle.bike_places.specs.Accepted.{AcceptedKeeps};
-ghost use Rattle.bike_operator.specs.Order.{IsInOrder, AreRentalsInOrder, IsLedgerInOrder, AreCalls};
+ghost use Rattle.bike_operator.specs.Sound.{IsSound, AreRentalsSound, IsLedgerSound, AreCalls};
 ghost use Rattle.bike_operator.specs.Runs.{Call, step, after, replies};
 
-/// The law of the ledger: an accepted command leaves riders and entries in order, whatever is kept.
+/// The law of the ledger: an accepted command leaves riders and entries sound, whatever is kept.
 pub fn keeps_ledger()
-    ensures { AcceptedKeeps IsLedgerInOrder }
+    ensures { AcceptedKeeps IsLedgerSound }
 {}
 
-/// The law of rentals: an accepted command leaves rentals in order, whatever is kept.
+/// The law of rentals: an accepted command leaves rentals sound, whatever is kept.
 pub fn keeps_rentals()
-    ensures { AcceptedKeeps AreRentalsInOrder }
+    ensures { AcceptedKeeps AreRentalsSound }
 {}
 
-/// The law of order: a step keeps an operator in order.
-pub fn keeps_order()
-    ensures { (s : Operator) (t : ℕ) (q : Request) → t ≤ last_moment → IsRequest q → IsInOrder s → IsInOrder (step s t q).1 }
+/// The law of order: a step keeps an operator sound.
+pub fn keeps_soundness()
+    ensures { (s : Operator) (t : ℕ) (q : Request) → t ≤ last_moment → IsRequest q → IsSound s → IsSound (step s t q).1 }
 {}
 
-/// The law of order over lists: every list of requests leaves an operator in order in order.
-pub fn keeps_order_over_lists()
-    ensures { (s : Operator) (cs : List Call) → AreCalls cs → IsInOrder s → IsInOrder (after s cs) }
+/// The law of order over lists: every list of requests leaves a sound operator sound.
+pub fn keeps_soundness_over_lists()
+    ensures { (s : Operator) (cs : List Call) → AreCalls cs → IsSound s → IsSound (after s cs) }
 {}
 
 /// The law of money: the balances of all riders and the revenue together are the cash.
 pub fn money_law()
-    ensures { (s : Operator) → IsInOrder s → IsConserved (keys s.riders) s.entries }
+    ensures { (s : Operator) → IsSound s → IsConserved (keys s.riders) s.entries }
 {}
 
 /// The law of money over lists: after every list of requests from the operator of whom nothing was asked, the
@@ -42,9 +42,9 @@ pub fn money_law_over_lists()
     ensures { (cs : List Call) → AreCalls cs → IsConserved (keys (after no_operator cs).riders) (after no_operator cs).entries }
 {}
 
-/// The operator of whom nothing was asked yet is in order.
+/// The operator of whom nothing was asked yet is sound.
 pub fn no_operator_law()
-    ensures { IsInOrder no_operator }
+    ensures { IsSound no_operator }
 {}
 
 /// The law of runs: a list that is served in two parts is served as one.

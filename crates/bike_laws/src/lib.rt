@@ -6,7 +6,7 @@ mod retries;
 mod views;
 
 pub use laws::{
-    keeps_ledger, keeps_order, keeps_order_over_lists, keeps_rentals, money_law,
+    keeps_ledger, keeps_soundness, keeps_soundness_over_lists, keeps_rentals, money_law,
     money_law_over_lists, no_operator_law, run_law,
 };
 pub use retries::{kept_law, once_law, retry_law, without_retries_law};

@@ -1,4 +1,4 @@
--- What the numbers of a view keep where it is the view of an operator in order.
+-- What the numbers of a view keep where it is the view of a sound operator.
 use Rattle.std.specs.Prelude.{◌≡◌, ℕ, ℤ, ◌+◌, ◌*◌, ◌≤◌, true, pos, neg_ℤ, ◌≤ℤ◌, Option, Some, None, IfSome}
 use Rattle.bike_ledger.specs.Ledger.{}
 use Rattle.bike_ledger.specs.Entries.{greatest_amount}

@@ -4,5 +4,5 @@ pub mod View
 pub mod Steps
 pub mod Runs
 pub mod Changes
-pub mod Order
+pub mod Sound
 pub mod Bounds

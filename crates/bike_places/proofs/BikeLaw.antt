@@ -1,4 +1,4 @@
--- An accepted command keeps the bicycles in order.
+-- An accepted command keeps the bicycles sound.
 use Rattle.std.proofs.Common.{◌≡◌, ◌≢◌, ℕ, ◌+◌, List, Bool, true, false, not, ◌==◌, nat_lt, Option, Some, None, refl, sym, ap, ◌∙◌, subst, arith, length, T, if◌then◌else◌}
 use Rattle.std.specs.Str.{bytes_eq}
 use Rattle.std.specs.FinMap as map
@@ -25,7 +25,7 @@ use Rattle.bike_operator.specs.Operator.{Operator, Station, Kept, texts_cmp, num
 use Rattle.bike_operator.specs.Counts.{docked_at, is_fit, is_retired, is_depot, is_on_truck, is_for_order, on_truck}
 use Rattle.bike_operator.specs.View.{view_of, order_view, docked_view, rental_of, rental_view, end_at}
 use Rattle.bike_operator.specs.Steps.{on, tests, effect, key_changed, reported, place_reported, bike_reported, bike_marked, bike_placed, rental_added, rental_closed, charged, fare_now, started, ended, recovered, refunded_by, placed_at_end, delivered, new_station, dock_marked}
-use Rattle.bike_operator.specs.Order.{HasDock, IsRidden, IsPlace, AreBikesInOrder}
+use Rattle.bike_operator.specs.Sound.{HasDock, IsRidden, IsPlace, AreBikesSound}
 use Rattle.bike_places.specs.Accepted.{AcceptedKeeps}
 use Rattle.bike_places.proofs.Moment.{at_moment, reports}
 use Rattle.bike_places.proofs.MapLemmas.{text_order, number_order, known_added, known_changed}
@@ -37,22 +37,22 @@ use Rattle.bike_places.proofs.UnloadLemmas.{TakesBike, IsUnloaded, unloaded_of}
 use Rattle.bike_places.proofs.CatalogueLemmas.{docks_changed, docks_added}
 use Rattle.bike_places.proofs.BikeLemmas.{bike_parts, same_bikes, types_bikes, stations_bikes, rental_added_bikes, rental_closed_bikes, order_added_bikes, order_changed_bikes, order_delivered_bikes, IsFree, free_rental, free_truck, free_depot, bike_added_bikes, IsPlaceable, bike_placed_bikes, rental_left, bike_marked_bikes}
 
-later_bikes : (s : Operator) (now : ℕ) (k : FinMap texts_cmp Kept) → AreBikesInOrder s → AreBikesInOrder (at_moment s now k)
+later_bikes : (s : Operator) (now : ℕ) (k : FinMap texts_cmp Kept) → AreBikesSound s → AreBikesSound (at_moment s now k)
 later_bikes s now k h = same_bikes s (at_moment s now k) refl h
 
 -- ---- stations that report
 
-reported_bikes : (s : Operator) (now : ℕ) (k : FinMap texts_cmp Kept) (station : List ℕ) → AreBikesInOrder (at_moment s now k) → AreBikesInOrder (at_moment (reported station now s) now k)
+reported_bikes : (s : Operator) (now : ℕ) (k : FinMap texts_cmp Kept) (station : List ℕ) → AreBikesSound (at_moment s now k) → AreBikesSound (at_moment (reported station now s) now k)
 reported_bikes s now k station h =
     stations_bikes (at_moment s now k) (key_changed s.stations station (reports now)) (docks_changed (at_moment s now k) (at_moment (reported station now s) now k) station (reports now) (λ x. refl) refl) h
 
-place_reported_bikes : (s : Operator) (now : ℕ) (k : FinMap texts_cmp Kept) (p : Place) → AreBikesInOrder (at_moment s now k) → AreBikesInOrder (at_moment (place_reported p now s) now k)
+place_reported_bikes : (s : Operator) (now : ℕ) (k : FinMap texts_cmp Kept) (p : Place) → AreBikesSound (at_moment s now k) → AreBikesSound (at_moment (place_reported p now s) now k)
 place_reported_bikes s now k (place.Dock station dock) h = reported_bikes s now k station h
 place_reported_bikes s now k (place.Rental rental) h = h
 place_reported_bikes s now k (place.Truck truck order) h = h
 place_reported_bikes s now k place.Depot h = h
 
-bike_reported_bikes : (s : Operator) (now : ℕ) (k : FinMap texts_cmp Kept) (o : Option Bike) → AreBikesInOrder (at_moment s now k) → AreBikesInOrder (at_moment (bike_reported o now s) now k)
+bike_reported_bikes : (s : Operator) (now : ℕ) (k : FinMap texts_cmp Kept) (o : Option Bike) → AreBikesSound (at_moment s now k) → AreBikesSound (at_moment (bike_reported o now s) now k)
 bike_reported_bikes s now k None h = h
 bike_reported_bikes s now k (Some b) h = place_reported_bikes s now k b.place h
 
@@ -64,7 +64,7 @@ fit_bike Disabled e f = absurd cc
 fit_bike Retired e f = absurd cc
 
 started_bikes : (s : Operator) (now : ℕ) (k : FinMap texts_cmp Kept) (rider : ℕ) (station : List ℕ) (dock : ℕ) (o : Option DockedBike) → docked_view s (docked_at s station dock) ≡ o
-    → on o (λ b. not (is_fit b.state)) ≡ false → AreBikesInOrder (at_moment s now k) → AreBikesInOrder (at_moment (started rider station now o s) now k)
+    → on o (λ b. not (is_fit b.state)) ≡ false → AreBikesSound (at_moment s now k) → AreBikesSound (at_moment (started rider station now o s) now k)
 started_bikes s now k rider station dock None e fit h = h
 started_bikes s now k rider station dock (Some d) e fit h =
     let r : Rental = record { rider = rider; bike = d.bike; plan = d.plan; from_station = station; start = now; closing = None } in
@@ -84,7 +84,7 @@ started_bikes s now k rider station dock (Some d) e fit h =
 
 -- a rental is closed that no bicycle is in any more, at a fare
 charged_bikes : (s : Operator) (now : ℕ) (k : FinMap texts_cmp Kept) (bike : ℕ) (p : Place) (r : RentalView) (to_station : Option (List ℕ)) → numbered r.number s.rentals ≡ Some r.rental → r.rental.bike ≡ bike
-    → p ≢ place.Rental r.number → IsPlaceable (at_moment s now k) bike p → AreBikesInOrder (at_moment s now k) → AreBikesInOrder (at_moment (bike_placed bike p (charged r to_station now s)) now k)
+    → p ≢ place.Rental r.number → IsPlaceable (at_moment s now k) bike p → AreBikesSound (at_moment s now k) → AreBikesSound (at_moment (bike_placed bike p (charged r to_station now s)) now k)
 charged_bikes s now k bike p r to_station found bike_is other can h =
     let at : Operator = at_moment s now k in
     let left = rental_left at bike p r.number r.rental found bike_is other h in
@@ -92,7 +92,7 @@ charged_bikes s now k bike p r to_station found bike_is other can h =
     same_bikes (rental_closed r.number to_station now (fare_now r now) (bike_placed bike p at)) (at_moment (bike_placed bike p (charged r to_station now s)) now k) refl closed
 
 ended_bikes : (s : Operator) (now : ℕ) (k : FinMap texts_cmp Kept) (bike : ℕ) (station : List ℕ) (dock : ℕ) (o : Option RentalView) → rental_of s (map.get s.bikes bike) ≡ o
-    → HasDock (at_moment s now k) station dock → IsFree (at_moment s now k) (place.Dock station dock) → AreBikesInOrder (at_moment s now k) → AreBikesInOrder (at_moment (ended bike station dock now o s) now k)
+    → HasDock (at_moment s now k) station dock → IsFree (at_moment s now k) (place.Dock station dock) → AreBikesSound (at_moment s now k) → AreBikesSound (at_moment (ended bike station dock now o s) now k)
 ended_bikes s now k bike station dock None e has free h = h
 ended_bikes s now k bike station dock (Some r) e has free h =
     let x = ridden_in s bike r e in
@@ -110,8 +110,8 @@ ended_bikes s now k bike station dock (Some r) e has free h =
     } in
     reported_bikes (bike_placed bike (place.Dock station dock) (charged r (Some station) now s)) now k station (charged_bikes s now k bike (place.Dock station dock) r (Some station) x.rental bike_is (λ e. absurd cc) can h)
 
-recovered_bikes : (s : Operator) (now : ℕ) (k : FinMap texts_cmp Kept) (rental : ℕ) (o : Option RentalView) → rental_view s rental (numbered rental s.rentals) ≡ o → AreBikesInOrder (at_moment s now k)
-    → AreBikesInOrder (at_moment (recovered now o s) now k)
+recovered_bikes : (s : Operator) (now : ℕ) (k : FinMap texts_cmp Kept) (rental : ℕ) (o : Option RentalView) → rental_view s rental (numbered rental s.rentals) ≡ o → AreBikesSound (at_moment s now k)
+    → AreBikesSound (at_moment (recovered now o s) now k)
 recovered_bikes s now k rental None e h = h
 recovered_bikes s now k rental (Some r) e h =
     let x = rental_row s rental r e in
@@ -119,7 +119,7 @@ recovered_bikes s now k rental (Some r) e h =
     let placed = charged_bikes s now k r.rental.bike place.Depot r None (rw x.number_is x.found) refl (λ e. absurd cc) can h in
     bike_marked_bikes (at_moment (bike_placed r.rental.bike place.Depot (charged r None now s)) now k) r.rental.bike Disabled (λ b found e. absurd cc) placed
 
-refunded_bikes : (s : Operator) (now : ℕ) (k : FinMap texts_cmp Kept) (amount : ℕ) (o : Option RentalView) → AreBikesInOrder (at_moment s now k) → AreBikesInOrder (at_moment (refunded_by amount now o s) now k)
+refunded_bikes : (s : Operator) (now : ℕ) (k : FinMap texts_cmp Kept) (amount : ℕ) (o : Option RentalView) → AreBikesSound (at_moment s now k) → AreBikesSound (at_moment (refunded_by amount now o s) now k)
 refunded_bikes s now k amount None h = h
 refunded_bikes s now k amount (Some r) h = same_bikes (at_moment s now k) (at_moment (refunded_by amount now (Some r) s) now k) refl h
 
@@ -129,7 +129,7 @@ truck_depot : (truck : ℕ) (p : Place) → is_on_truck truck p ≡ true → p �
 truck_depot truck p e is = let f : is_on_truck truck place.Depot ≡ true = subst (λ (z : Place). is_on_truck truck z ≡ true) is e in cc
 
 placed_at_end_bikes : (s : Operator) (now : ℕ) (k : FinMap texts_cmp Kept) (bike : ℕ) (e : OrderEnd) (dock : ℕ) → TakesBike (at_moment s now k) e dock
-    → ((b : Bike) → map.get s.bikes bike ≡ Some b → is_retired b.state ≡ true → ⊥) → AreBikesInOrder (at_moment s now k) → AreBikesInOrder (at_moment (placed_at_end bike e dock now s) now k)
+    → ((b : Bike) → map.get s.bikes bike ≡ Some b → is_retired b.state ≡ true → ⊥) → AreBikesSound (at_moment s now k) → AreBikesSound (at_moment (placed_at_end bike e dock now s) now k)
 placed_at_end_bikes s now k bike end.Depot dock takes fit h =
     bike_placed_bikes (at_moment s now k) bike place.Depot (record { placed = λ b found. tt; retired = λ b found is. refl; free = free_depot (at_moment s now k) }) h
 placed_at_end_bikes s now k bike (end.Station station) dock takes fit h =
@@ -140,23 +140,23 @@ takes_later : (s : Operator) (now : ℕ) (k : FinMap texts_cmp Kept) (e : OrderE
 takes_later s now k end.Depot dock h = tt
 takes_later s now k (end.Station station) dock h = (record { row = h.0.row; found = h.0.found; low = h.0.low; high = h.0.high }, h.1)
 
-unloaded_bikes : (s : Operator) (now : ℕ) (k : FinMap texts_cmp Kept) (truck order bike : ℕ) (side : Side) (dock : ℕ) (x : Order) → IsUnloaded s truck order bike side dock x → AreBikesInOrder (at_moment s now k)
-    → AreBikesInOrder (at_moment (delivered order side (placed_at_end bike (end_at side x) dock now s)) now k)
+unloaded_bikes : (s : Operator) (now : ℕ) (k : FinMap texts_cmp Kept) (truck order bike : ℕ) (side : Side) (dock : ℕ) (x : Order) → IsUnloaded s truck order bike side dock x → AreBikesSound (at_moment s now k)
+    → AreBikesSound (at_moment (delivered order side (placed_at_end bike (end_at side x) dock now s)) now k)
 unloaded_bikes s now k truck order bike side dock x can h = go side placed where
   fit : (b : Bike) → map.get s.bikes bike ≡ Some b → is_retired b.state ≡ true → ⊥
   fit b found is = truck_depot truck b.place (can.loaded b found).0 ((h.bikes bike b found).retired is)
 
-  placed : AreBikesInOrder (at_moment (placed_at_end bike (end_at side x) dock now s) now k)
+  placed : AreBikesSound (at_moment (placed_at_end bike (end_at side x) dock now s) now k)
   placed = placed_at_end_bikes s now k bike (end_at side x) dock (takes_later s now k (end_at side x) dock can.takes) fit h
 
-  go : (to : Side) → AreBikesInOrder (at_moment (placed_at_end bike (end_at side x) dock now s) now k) → AreBikesInOrder (at_moment (delivered order to (placed_at_end bike (end_at side x) dock now s)) now k)
+  go : (to : Side) → AreBikesSound (at_moment (placed_at_end bike (end_at side x) dock now s) now k) → AreBikesSound (at_moment (delivered order to (placed_at_end bike (end_at side x) dock now s)) now k)
   go From i = i
   go To i = order_delivered_bikes (at_moment (placed_at_end bike (end_at side x) dock now s) now k) order i
 
 -- ---- all commands
 
 -- a command that leaves the bicycles alone, and what they need
-unchanged : (s : Operator) (now : ℕ) (c : Command) (k : FinMap texts_cmp Kept) → bike_parts (effect s now c) ≡ bike_parts s → AreBikesInOrder s → AreBikesInOrder (at_moment (effect s now c) now k)
+unchanged : (s : Operator) (now : ℕ) (c : Command) (k : FinMap texts_cmp Kept) → bike_parts (effect s now c) ≡ bike_parts s → AreBikesSound s → AreBikesSound (at_moment (effect s now c) now k)
 unchanged s now c k same h = same_bikes s (at_moment (effect s now c) now k) same h
 
 depot_of : (p : Place) → is_depot p ≡ true → p ≡ place.Depot
@@ -178,7 +178,7 @@ for_order order truck p is e =
     let itself = eqb_refl order in
     subst T f itself
 
-pub bikes_law : AcceptedKeeps AreBikesInOrder
+pub bikes_law : AcceptedKeeps AreBikesSound
 bikes_law s now (command.SetSystem x) k order good free late = unchanged s now (command.SetSystem x) k refl order.bikes
 bikes_law s now (command.AddPlan p) k order good free late = unchanged s now (command.AddPlan p) k refl order.bikes
 bikes_law s now (command.AddType t) k order good free late =

@@ -1,4 +1,4 @@
--- What keeps the bicycles in order.
+-- What keeps the bicycles sound.
 use Rattle.std.proofs.Common.{◌≡◌, ◌≢◌, ℕ, ℤ, ◌+◌, ◌≤◌, List, [], ◌∷◌, ◌++◌, true, false, leb, Option, Some, refl, sym, ap, ◌∙◌, subst}
 use Rattle.std.specs.Ordering.{nat_cmp, eq_by_cmp}
 use Rattle.std.specs.Cmp.{eq_by_cmp_equiv}
@@ -16,7 +16,7 @@ use Rattle.bike_operator.specs.Operator.{Operator, Station, text_cmp, numbered, 
 use Rattle.bike_operator.specs.Counts.{is_retired}
 use Rattle.bike_operator.specs.View.{most_bikes}
 use Rattle.bike_operator.specs.Steps.{bike_placed, bike_marked, rental_added, rental_closed, order_added, order_changed}
-use Rattle.bike_operator.specs.Order.{HasDock, IsRidden, IsCarried, IsPlace, IsBikeAt, AreBikesInOrder}
+use Rattle.bike_operator.specs.Sound.{HasDock, IsRidden, IsCarried, IsPlace, IsBikeAt, AreBikesSound}
 use Rattle.bike_places.proofs.MapLemmas.{number_order, IsAdded, New, Old, IsChanged, Changed, Other, IsKept, Same, Turned, added_at, changed_at, few_added, len_changed}
 use Rattle.bike_places.proofs.ItemLemmas.{number_stays, number_apart, number_kept}
 use Rattle.bike_places.proofs.CatalogueLemmas.{same_docks}
@@ -52,7 +52,7 @@ place_stands s n stand bike b found (place.Rental rental) e h = stand.ridden bik
 place_stands s n stand bike b found (place.Truck truck order) e h = stand.carried bike truck order b found e h
 place_stands s n stand bike b found place.Depot e h = tt
 
-pub bikes_stand : (s n : Operator) → BikesStand s n → AreBikesInOrder s → AreBikesInOrder n
+pub bikes_stand : (s n : Operator) → BikesStand s n → AreBikesSound s → AreBikesSound n
 bikes_stand s n stand h =
     let back = λ (q : ℕ) (y : Bike) (found : map.get n.bikes q ≡ Some y). ap (λ (m : FinMap nat_cmp Bike). map.get m q) (sym stand.same) ∙ found in
     record {
@@ -69,7 +69,7 @@ BikeParts = FinMap nat_cmp Bike × FinMap text_cmp TypeRow × FinMap text_cmp St
 abbrev pub bike_parts : Operator → BikeParts
 bike_parts s = (s.bikes, s.types, s.stations, s.rentals, s.orders)
 
-pub same_bikes : (s n : Operator) → bike_parts n ≡ bike_parts s → AreBikesInOrder s → AreBikesInOrder n
+pub same_bikes : (s n : Operator) → bike_parts n ≡ bike_parts s → AreBikesSound s → AreBikesSound n
 same_bikes s n e h =
     let types : n.types ≡ s.types = ap (λ (c : BikeParts). c.1) e in
     let stations : n.stations ≡ s.stations = ap (λ (c : BikeParts). c.2) e in
@@ -83,7 +83,7 @@ same_bikes s n e h =
       carried = λ bike truck order b found is. same_carried s n orders b.type_id truck order;
     }) h
 
-pub types_bikes : (s : Operator) (types : FinMap text_cmp TypeRow) → ((id : List ℕ) → map.contains_key s.types id ≡ true → map.contains_key types id ≡ true) → AreBikesInOrder s → AreBikesInOrder (record s { types = types })
+pub types_bikes : (s : Operator) (types : FinMap text_cmp TypeRow) → ((id : List ℕ) → map.contains_key s.types id ≡ true → map.contains_key types id ≡ true) → AreBikesSound s → AreBikesSound (record s { types = types })
 types_bikes s types known h =
     let n : Operator = record s { types = types } in
     bikes_stand s n (record {
@@ -95,7 +95,7 @@ types_bikes s types known h =
     }) h
 
 pub stations_bikes : (s : Operator) (stations : FinMap text_cmp Station)
-    → ((station : List ℕ) (dock : ℕ) → HasDock s station dock → HasDock (record s { stations = stations }) station dock) → AreBikesInOrder s → AreBikesInOrder (record s { stations = stations })
+    → ((station : List ℕ) (dock : ℕ) → HasDock s station dock → HasDock (record s { stations = stations }) station dock) → AreBikesSound s → AreBikesSound (record s { stations = stations })
 stations_bikes s stations docks h =
     let n : Operator = record s { stations = stations } in
     bikes_stand s n (record {
@@ -108,7 +108,7 @@ stations_bikes s stations docks h =
 
 rentals_bikes : (s : Operator) (rentals : List Rental)
     → ((bike rental : ℕ) (b : Bike) → map.get s.bikes bike ≡ Some b → b.place ≡ place.Rental rental → IsRidden s bike rental → IsRidden (record s { rentals = rentals }) bike rental)
-    → AreBikesInOrder s → AreBikesInOrder (record s { rentals = rentals })
+    → AreBikesSound s → AreBikesSound (record s { rentals = rentals })
 rentals_bikes s rentals ridden h =
     let n : Operator = record s { rentals = rentals } in
     bikes_stand s n (record {
@@ -121,7 +121,7 @@ rentals_bikes s rentals ridden h =
 
 orders_bikes : (s : Operator) (orders : List Order)
     → ((bike truck order : ℕ) (b : Bike) → map.get s.bikes bike ≡ Some b → b.place ≡ place.Truck truck order → IsCarried s b.type_id truck order → IsCarried (record s { orders = orders }) b.type_id truck order)
-    → AreBikesInOrder s → AreBikesInOrder (record s { orders = orders })
+    → AreBikesSound s → AreBikesSound (record s { orders = orders })
 orders_bikes s orders carried h =
     let n : Operator = record s { orders = orders } in
     bikes_stand s n (record {
@@ -132,7 +132,7 @@ orders_bikes s orders carried h =
       carried = carried;
     }) h
 
-pub rental_added_bikes : (s : Operator) (r : Rental) → AreBikesInOrder s → AreBikesInOrder (rental_added r s)
+pub rental_added_bikes : (s : Operator) (r : Rental) → AreBikesSound s → AreBikesSound (rental_added r s)
 rental_added_bikes s r h =
     rentals_bikes s (s.rentals ++ r ∷ []) (λ bike rental b found is i. record { row = i.row; found = number_stays rental s.rentals r i.row i.found; not_closed = i.not_closed; bike_is = i.bike_is }) h
 
@@ -141,7 +141,7 @@ closed_now to_station now fare r = record r { closing = Some (record { to_statio
 
 -- a rental is closed in which no bicycle is
 pub rental_closed_bikes : (s : Operator) (number : ℕ) (to_station : Option (List ℕ)) (now : ℕ) (fare : ℤ) → ((bike : ℕ) (b : Bike) → map.get s.bikes bike ≡ Some b → b.place ≢ place.Rental number)
-    → AreBikesInOrder s → AreBikesInOrder (rental_closed number to_station now fare s)
+    → AreBikesSound s → AreBikesSound (rental_closed number to_station now fare s)
 rental_closed_bikes s number to_station now fare empty h =
     rentals_bikes s (rental_closed number to_station now fare s).rentals (λ bike rental b found is i. record {
       row = i.row;
@@ -150,14 +150,14 @@ rental_closed_bikes s number to_station now fare empty h =
       bike_is = i.bike_is;
     }) h
 
-pub order_added_bikes : (s : Operator) (o : Order) → AreBikesInOrder s → AreBikesInOrder (order_added o s)
+pub order_added_bikes : (s : Operator) (o : Order) → AreBikesSound s → AreBikesSound (order_added o s)
 order_added_bikes s o h =
     orders_bikes s (s.orders ++ o ∷ []) (λ bike truck order b found is i.
     record { row = i.row; found = number_stays order s.orders o i.row i.found; not_closed = i.not_closed; truck_is = i.truck_is; type_is = i.type_is }) h
 
 -- an order is changed for which no bicycle is on a truck
 pub order_changed_bikes : (s : Operator) (number : ℕ) (f : Order → Order) → ((bike : ℕ) (b : Bike) (truck : ℕ) → map.get s.bikes bike ≡ Some b → b.place ≢ place.Truck truck number)
-    → AreBikesInOrder s → AreBikesInOrder (order_changed number f s)
+    → AreBikesSound s → AreBikesSound (order_changed number f s)
 order_changed_bikes s number f empty h =
     orders_bikes s (number_changed number f s.orders) (λ bike truck order b found is i. record {
       row = i.row;
@@ -167,7 +167,7 @@ order_changed_bikes s number f empty h =
       type_is = i.type_is;
     }) h
 
-pub order_delivered_bikes : (s : Operator) (number : ℕ) → AreBikesInOrder s → AreBikesInOrder (order_changed number (λ o. record o { delivered = o.delivered + 1 }) s)
+pub order_delivered_bikes : (s : Operator) (number : ℕ) → AreBikesSound s → AreBikesSound (order_changed number (λ o. record o { delivered = o.delivered + 1 }) s)
 order_delivered_bikes s number h =
     orders_bikes s (number_changed number (λ o. record o { delivered = o.delivered + 1 }) s.orders) (λ bike truck order b found is i.
     let k = number_kept number (λ (o : Order). record o { delivered = o.delivered + 1 }) s.orders order i.row i.found in
@@ -196,7 +196,7 @@ pub free_depot : (s : Operator) → IsFree s place.Depot
 free_depot s bike b station dock found e = absurd cc
 
 pub bike_added_bikes : (s : Operator) (bike : ℕ) (type_id : List ℕ) → map.contains_key s.types type_id ≡ true → 1 ≤ bike → bike ≤ 999999 → leb most_bikes (map.len s.bikes) ≡ false
-    → AreBikesInOrder s → AreBikesInOrder (record s { bikes = map.insert s.bikes bike (record { type_id = type_id; state = Fit; place = place.Depot }) })
+    → AreBikesSound s → AreBikesSound (record s { bikes = map.insert s.bikes bike (record { type_id = type_id; state = Fit; place = place.Depot }) })
 bike_added_bikes s bike type_id known low high full h = record {
   bikes = λ q y found. is_bike q y (added_at number_order s.bikes bike new q y found);
   apart = λ a b x y station dock fa fb. is_apart a b x y station dock (added_at number_order s.bikes bike new a x fa) (added_at number_order s.bikes bike new b y fb);
@@ -230,7 +230,7 @@ module _ (s : Operator) (bike : ℕ) (p : Place) where
     pub retired : (b : Bike) → map.get s.bikes bike ≡ Some b → is_retired b.state ≡ true → p ≡ place.Depot
     pub free : IsFree s p
 
-  pub bike_placed_bikes : IsPlaceable → AreBikesInOrder s → AreBikesInOrder (bike_placed bike p s)
+  pub bike_placed_bikes : IsPlaceable → AreBikesSound s → AreBikesSound (bike_placed bike p s)
   bike_placed_bikes can h = record {
     bikes = λ q y found. is_bike q y (changed_at number_order s.bikes bike place_here q y found);
     apart = λ a b x y station dock fa fb. is_apart a b x y station dock (changed_at number_order s.bikes bike place_here a x fa) (changed_at number_order s.bikes bike place_here b y fb);
@@ -253,7 +253,7 @@ module _ (s : Operator) (bike : ℕ) (p : Place) where
       is_apart a b x y station dock (Other apart found) (Other apart_too found_too) ex ey = h.apart a b x y station dock found found_too ex ey
 
   -- a bicycle that leaves its rental leaves no other one in it
-  pub rental_left : (rental : ℕ) (r : Rental) → numbered rental s.rentals ≡ Some r → r.bike ≡ bike → p ≢ place.Rental rental → AreBikesInOrder s
+  pub rental_left : (rental : ℕ) (r : Rental) → numbered rental s.rentals ≡ Some r → r.bike ≡ bike → p ≢ place.Rental rental → AreBikesSound s
       → (q : ℕ) (y : Bike) → map.get (bike_placed bike p s).bikes q ≡ Some y → y.place ≢ place.Rental rental
   rental_left rental r found_rental bike_is other h q y found e = go (changed_at number_order s.bikes bike place_here q y found) where
     go : IsChanged s.bikes bike place_here q y → ⊥
@@ -275,7 +275,7 @@ module _ (s : Operator) (bike : ℕ) (state : BikeState) where
   before q y (Changed b same found is) = (b, subst (λ (z : ℕ). map.get s.bikes z ≡ Some b) (sym same) found, ap (λ (z : Bike). z.place) (sym is))
   before q y (Other apart found) = (y, found, refl)
 
-  pub bike_marked_bikes : ((b : Bike) → map.get s.bikes bike ≡ Some b → is_retired state ≡ true → b.place ≡ place.Depot) → AreBikesInOrder s → AreBikesInOrder (bike_marked bike state s)
+  pub bike_marked_bikes : ((b : Bike) → map.get s.bikes bike ≡ Some b → is_retired state ≡ true → b.place ≡ place.Depot) → AreBikesSound s → AreBikesSound (bike_marked bike state s)
   bike_marked_bikes can h = record {
     bikes = λ q y found. is_bike q y (changed_at number_order s.bikes bike mark q y found);
     apart = λ a b x y station dock fa fb ex ey.

@@ -1,4 +1,4 @@
--- An accepted command keeps the catalogue in order.
+-- An accepted command keeps the catalogue sound.
 use Rattle.std.proofs.Common.{◌≡◌, ℕ, ◌≤◌, List, Option, Some, None, refl, arith, if◌then◌else◌}
 use Rattle.std.specs.Ordering.{nat_cmp}
 use Rattle.std.specs.FinMap as map
@@ -20,56 +20,56 @@ use Rattle.bike_operator.specs.Operator.{Operator, Kept, texts_cmp, numbered}
 use Rattle.bike_operator.specs.Counts.{docked_at}
 use Rattle.bike_operator.specs.View.{view_of, docked_view, rental_of, rental_view}
 use Rattle.bike_operator.specs.Steps.{tests, effect, key_changed, place_reported, bike_reported, bike_marked, bike_placed, started, ended, recovered, refunded_by, placed_at_end, unloaded, new_station, dock_marked}
-use Rattle.bike_operator.specs.Order.{IsCatalogueInOrder}
+use Rattle.bike_operator.specs.Sound.{IsCatalogueSound}
 use Rattle.bike_places.specs.Accepted.{AcceptedKeeps}
 use Rattle.bike_places.proofs.Moment.{at_moment, reports}
 use Rattle.bike_places.proofs.TestLemmas.{none_holds, dock_of, no_station, holds}
 use Rattle.bike_places.proofs.CatalogueLemmas.{catalogue_of, same_catalogue, system_set, plan_added, type_added, type_changed, station_added, station_changed, station_reported, dock_marked_catalogue}
 
-later_catalogue : (s : Operator) (now : ℕ) (k : FinMap texts_cmp Kept) → s.now ≤ now → IsCatalogueInOrder s → IsCatalogueInOrder (at_moment s now k)
+later_catalogue : (s : Operator) (now : ℕ) (k : FinMap texts_cmp Kept) → s.now ≤ now → IsCatalogueSound s → IsCatalogueSound (at_moment s now k)
 later_catalogue s now k late h = same_catalogue s (at_moment s now k) late refl h
 
 -- the catalogue is the same, but for a station that reports
-then_reported : (s n : Operator) (station : List ℕ) → s.now ≤ n.now → catalogue_of (record n { stations = s.stations }) ≡ catalogue_of s → IsCatalogueInOrder s
-    → IsCatalogueInOrder (record n { stations = key_changed s.stations station (reports n.now) })
+then_reported : (s n : Operator) (station : List ℕ) → s.now ≤ n.now → catalogue_of (record n { stations = s.stations }) ≡ catalogue_of s → IsCatalogueSound s
+    → IsCatalogueSound (record n { stations = key_changed s.stations station (reports n.now) })
 then_reported s n station late same h = station_reported (record n { stations = s.stations }) station n.now (omega arith) (same_catalogue s (record n { stations = s.stations }) late same h)
 
 -- ---- the commands that name a record which may be absent
 
-module _ (s : Operator) (now : ℕ) (k : FinMap texts_cmp Kept) (h : IsCatalogueInOrder (at_moment s now k)) where
-  started_catalogue : (rider : ℕ) (station : List ℕ) (o : Option DockedBike) → IsCatalogueInOrder (at_moment (started rider station now o s) now k)
+module _ (s : Operator) (now : ℕ) (k : FinMap texts_cmp Kept) (h : IsCatalogueSound (at_moment s now k)) where
+  started_catalogue : (rider : ℕ) (station : List ℕ) (o : Option DockedBike) → IsCatalogueSound (at_moment (started rider station now o s) now k)
   started_catalogue rider station None = h
   started_catalogue rider station (Some b) = then_reported (at_moment s now k) (at_moment (started rider station now (Some b) s) now k) station (omega arith) refl h
 
-  ended_catalogue : (bike : ℕ) (station : List ℕ) (dock : ℕ) (o : Option RentalView) → IsCatalogueInOrder (at_moment (ended bike station dock now o s) now k)
+  ended_catalogue : (bike : ℕ) (station : List ℕ) (dock : ℕ) (o : Option RentalView) → IsCatalogueSound (at_moment (ended bike station dock now o s) now k)
   ended_catalogue bike station dock None = h
   ended_catalogue bike station dock (Some r) = then_reported (at_moment s now k) (at_moment (ended bike station dock now (Some r) s) now k) station (omega arith) refl h
 
-  recovered_catalogue : (o : Option RentalView) → IsCatalogueInOrder (at_moment (recovered now o s) now k)
+  recovered_catalogue : (o : Option RentalView) → IsCatalogueSound (at_moment (recovered now o s) now k)
   recovered_catalogue None = h
   recovered_catalogue (Some r) = same_catalogue (at_moment s now k) (at_moment (recovered now (Some r) s) now k) (omega arith) refl h
 
-  refunded_catalogue : (amount : ℕ) (o : Option RentalView) → IsCatalogueInOrder (at_moment (refunded_by amount now o s) now k)
+  refunded_catalogue : (amount : ℕ) (o : Option RentalView) → IsCatalogueSound (at_moment (refunded_by amount now o s) now k)
   refunded_catalogue amount None = h
   refunded_catalogue amount (Some r) = same_catalogue (at_moment s now k) (at_moment (refunded_by amount now (Some r) s) now k) (omega arith) refl h
 
-  place_reported_catalogue : (bikes : FinMap nat_cmp Bike) (p : Place) → IsCatalogueInOrder (at_moment (place_reported p now (record s { bikes = bikes })) now k)
+  place_reported_catalogue : (bikes : FinMap nat_cmp Bike) (p : Place) → IsCatalogueSound (at_moment (place_reported p now (record s { bikes = bikes })) now k)
   place_reported_catalogue bikes (place.Dock station dock) =
       then_reported (at_moment s now k) (at_moment (place_reported (place.Dock station dock) now (record s { bikes = bikes })) now k) station (omega arith) refl h
   place_reported_catalogue bikes (place.Rental rental) = same_catalogue (at_moment s now k) (at_moment (record s { bikes = bikes }) now k) (omega arith) refl h
   place_reported_catalogue bikes (place.Truck truck order) = same_catalogue (at_moment s now k) (at_moment (record s { bikes = bikes }) now k) (omega arith) refl h
   place_reported_catalogue bikes place.Depot = same_catalogue (at_moment s now k) (at_moment (record s { bikes = bikes }) now k) (omega arith) refl h
 
-  bike_reported_catalogue : (bikes : FinMap nat_cmp Bike) (o : Option Bike) → IsCatalogueInOrder (at_moment (bike_reported o now (record s { bikes = bikes })) now k)
+  bike_reported_catalogue : (bikes : FinMap nat_cmp Bike) (o : Option Bike) → IsCatalogueSound (at_moment (bike_reported o now (record s { bikes = bikes })) now k)
   bike_reported_catalogue bikes None = same_catalogue (at_moment s now k) (at_moment (record s { bikes = bikes }) now k) (omega arith) refl h
   bike_reported_catalogue bikes (Some b) = place_reported_catalogue bikes b.place
 
-  placed_catalogue : (bike : ℕ) (e : OrderEnd) (dock : ℕ) (orders : List Order) → IsCatalogueInOrder (at_moment (record (placed_at_end bike e dock now s) { orders = orders }) now k)
+  placed_catalogue : (bike : ℕ) (e : OrderEnd) (dock : ℕ) (orders : List Order) → IsCatalogueSound (at_moment (record (placed_at_end bike e dock now s) { orders = orders }) now k)
   placed_catalogue bike end.Depot dock orders = same_catalogue (at_moment s now k) (at_moment (record (placed_at_end bike end.Depot dock now s) { orders = orders }) now k) (omega arith) refl h
   placed_catalogue bike (end.Station station) dock orders =
       then_reported (at_moment s now k) (at_moment (record (placed_at_end bike (end.Station station) dock now s) { orders = orders }) now k) station (omega arith) refl h
 
-  unloaded_catalogue : (order bike : ℕ) (side : Side) (dock : ℕ) (o : Option Order) → IsCatalogueInOrder (at_moment (unloaded order bike side dock now o s) now k)
+  unloaded_catalogue : (order bike : ℕ) (side : Side) (dock : ℕ) (o : Option Order) → IsCatalogueSound (at_moment (unloaded order bike side dock now o s) now k)
   unloaded_catalogue order bike side dock None = h
   unloaded_catalogue order bike From dock (Some o) = placed_catalogue bike o.from_end dock (unloaded order bike From dock now (Some o) s).orders
   unloaded_catalogue order bike To dock (Some o) = placed_catalogue bike o.to_end dock (unloaded order bike To dock now (Some o) s).orders
@@ -77,11 +77,11 @@ module _ (s : Operator) (now : ℕ) (k : FinMap texts_cmp Kept) (h : IsCatalogue
 -- ---- all commands
 
 -- a command that leaves the catalogue alone
-unchanged : (s : Operator) (now : ℕ) (c : Command) (k : FinMap texts_cmp Kept) → s.now ≤ now → catalogue_of (effect s now c) ≡ catalogue_of s → IsCatalogueInOrder s
-    → IsCatalogueInOrder (at_moment (effect s now c) now k)
+unchanged : (s : Operator) (now : ℕ) (c : Command) (k : FinMap texts_cmp Kept) → s.now ≤ now → catalogue_of (effect s now c) ≡ catalogue_of s → IsCatalogueSound s
+    → IsCatalogueSound (at_moment (effect s now c) now k)
 unchanged s now c k late same h = same_catalogue s (at_moment (effect s now c) now k) late same h
 
-pub catalogue_law : AcceptedKeeps IsCatalogueInOrder
+pub catalogue_law : AcceptedKeeps IsCatalogueSound
 catalogue_law s now (command.SetSystem x) k order good free late =
     system_set (at_moment s now k) x (record {
       system_id = good.0;

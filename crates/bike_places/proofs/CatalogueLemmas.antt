@@ -1,4 +1,4 @@
--- What keeps the catalogue in order.
+-- What keeps the catalogue sound.
 use Rattle.std.proofs.Common.{◌≡◌, ℕ, ◌≤◌, List, Bool, true, false, Option, Some, None, refl, sym, ap, ◌∙◌, subst, arith, ◌||◌, ◌&&◌, not, leb}
 use Rattle.std.specs.Ordering.{eq_by_cmp}
 use Rattle.std.specs.FinMap as map
@@ -10,7 +10,7 @@ use Rattle.bike_catalogue.specs.Rows.{PlanRow, TypeRow, StationRow, SystemRow, I
 use Rattle.bike_operator.specs.Operator.{Operator, Station, text_cmp, texts_cmp, DockKey, dock_key}
 use Rattle.bike_operator.specs.View.{most_plans, most_types, most_stations}
 use Rattle.bike_operator.specs.Steps.{key_changed, reported, dock_marked}
-use Rattle.bike_operator.specs.Order.{IsCatalogueInOrder, IsSetSystem, IsPlanAt, IsTypeAt, IsStationAt, HasDock, IsBrokenDock}
+use Rattle.bike_operator.specs.Sound.{IsCatalogueSound, IsSetSystem, IsPlanAt, IsTypeAt, IsStationAt, HasDock, IsBrokenDock}
 use Rattle.bike_places.proofs.MapLemmas.{text_order, texts_order, tied, IsAdded, New, Old, IsChanged, Changed, Other, added_at, changed_at, kept_added, known_added, few_added, len_changed, IsKept, Same, Turned, kept_changed}
 
 -- ---- docks that go on being there
@@ -45,7 +45,7 @@ CatalogueParts = Option SystemRow × FinMap text_cmp PlanRow × FinMap text_cmp 
 abbrev pub catalogue_of : Operator → CatalogueParts
 catalogue_of s = (s.system, s.plans, s.types, s.stations, s.broken)
 
-pub same_catalogue : (s n : Operator) → s.now ≤ n.now → catalogue_of n ≡ catalogue_of s → IsCatalogueInOrder s → IsCatalogueInOrder n
+pub same_catalogue : (s n : Operator) → s.now ≤ n.now → catalogue_of n ≡ catalogue_of s → IsCatalogueSound s → IsCatalogueSound n
 same_catalogue s n later e h =
     let system : n.system ≡ s.system = ap (λ (c : CatalogueParts). c.0) e in
     let plans : n.plans ≡ s.plans = ap (λ (c : CatalogueParts). c.1) e in
@@ -69,7 +69,7 @@ same_catalogue s n later e h =
 
 -- ---- the catalogue with one record set, added or changed
 
-pub system_set : (s : Operator) (x : SystemRow) → IsSystem x → IsCatalogueInOrder s → IsCatalogueInOrder (record s { system = Some x })
+pub system_set : (s : Operator) (x : SystemRow) → IsSystem x → IsCatalogueSound s → IsCatalogueSound (record s { system = Some x })
 system_set s x good h = record {
   system = good;
   plans = h.plans;
@@ -81,7 +81,7 @@ system_set s x good h = record {
   few_stations = h.few_stations;
 }
 
-pub plan_added : (s : Operator) (p : PlanRow) → IsPlanAt p.plan_id p → leb most_plans (map.len s.plans) ≡ false → IsCatalogueInOrder s → IsCatalogueInOrder (record s { plans = map.insert s.plans p.plan_id p })
+pub plan_added : (s : Operator) (p : PlanRow) → IsPlanAt p.plan_id p → leb most_plans (map.len s.plans) ≡ false → IsCatalogueSound s → IsCatalogueSound (record s { plans = map.insert s.plans p.plan_id p })
 plan_added s p good full h =
     let n : Operator = record s { plans = map.insert s.plans p.plan_id p } in
     record {
@@ -101,7 +101,7 @@ plan_added s p good full h =
 
 -- types with another list of them
 types_changed : (s : Operator) (types : FinMap text_cmp TypeRow) → ((id : List ℕ) (t : TypeRow) → map.get types id ≡ Some t → IsTypeAt s id t) → map.len types ≤ most_types
-    → IsCatalogueInOrder s → IsCatalogueInOrder (record s { types = types })
+    → IsCatalogueSound s → IsCatalogueSound (record s { types = types })
 types_changed s types each few h =
     let n : Operator = record s { types = types } in
     record {
@@ -115,7 +115,7 @@ types_changed s types each few h =
       few_stations = h.few_stations;
     }
 
-pub type_added : (s : Operator) (t : TypeRow) → IsTypeAt s t.type_id t → leb most_types (map.len s.types) ≡ false → IsCatalogueInOrder s → IsCatalogueInOrder (record s { types = map.insert s.types t.type_id t })
+pub type_added : (s : Operator) (t : TypeRow) → IsTypeAt s t.type_id t → leb most_types (map.len s.types) ≡ false → IsCatalogueSound s → IsCatalogueSound (record s { types = map.insert s.types t.type_id t })
 type_added s t good full h =
     types_changed s (map.insert s.types t.type_id t) (λ id q found. is_type id q (added_at text_order s.types t.type_id t id q found)) (few_added text_order s.types t.type_id t most_types full) h
   where
@@ -127,8 +127,8 @@ abbrev with_plan : List ℕ → TypeRow → TypeRow
 with_plan plan t = record t { plan_id = plan }
 
 -- a type gets another default plan
-pub type_changed : (s : Operator) (type_id plan : List ℕ) → map.contains_key s.plans plan ≡ true → is_ident plan ≡ true → IsCatalogueInOrder s
-    → IsCatalogueInOrder (record s { types = key_changed s.types type_id (λ t. record t { plan_id = plan }) })
+pub type_changed : (s : Operator) (type_id plan : List ℕ) → map.contains_key s.plans plan ≡ true → is_ident plan ≡ true → IsCatalogueSound s
+    → IsCatalogueSound (record s { types = key_changed s.types type_id (λ t. record t { plan_id = plan }) })
 type_changed s type_id plan known good h =
     types_changed s (key_changed s.types type_id (with_plan plan)) (λ id q found. is_type id q (changed_at text_order s.types type_id (with_plan plan) id q found))
     (rw (len_changed text_order s.types type_id (with_plan plan)) h.few_types) h
@@ -146,7 +146,7 @@ type_changed s type_id plan known good h =
 -- stations with another list of them
 stations_changed : (s : Operator) (stations : FinMap text_cmp Station) → ((id : List ℕ) (x : Station) → map.get stations id ≡ Some x → IsStationAt s id x) → map.len stations ≤ most_stations
     → ((station : List ℕ) (dock : ℕ) → HasDock s station dock → HasDock (record s { stations = stations }) station dock)
-    → IsCatalogueInOrder s → IsCatalogueInOrder (record s { stations = stations })
+    → IsCatalogueSound s → IsCatalogueSound (record s { stations = stations })
 stations_changed s stations each few docks h =
     let n : Operator = record s { stations = stations } in
     record {
@@ -161,7 +161,7 @@ stations_changed s stations each few docks h =
     }
 
 pub station_added : (s : Operator) (x : Station) → IsStationAt s x.row.station_id x → map.get s.stations x.row.station_id ≡ None → leb most_stations (map.len s.stations) ≡ false
-    → IsCatalogueInOrder s → IsCatalogueInOrder (record s { stations = map.insert s.stations x.row.station_id x })
+    → IsCatalogueSound s → IsCatalogueSound (record s { stations = map.insert s.stations x.row.station_id x })
 station_added s x good free full h =
     stations_changed s (map.insert s.stations x.row.station_id x) (λ id q found. is_station id q (added_at text_order s.stations x.row.station_id x id q found))
     (few_added text_order s.stations x.row.station_id x most_stations full) (docks_added s (record s { stations = map.insert s.stations x.row.station_id x }) x.row.station_id x free refl) h
@@ -172,7 +172,7 @@ station_added s x good free full h =
 
 -- a station gets other flags or reports: its row stays
 pub station_changed : (s : Operator) (station : List ℕ) (f : Station → Station) → ((x : Station) → (f x).row ≡ x.row) → ((x : Station) → (f x).reported ≤ s.now)
-    → IsCatalogueInOrder s → IsCatalogueInOrder (record s { stations = key_changed s.stations station f })
+    → IsCatalogueSound s → IsCatalogueSound (record s { stations = key_changed s.stations station f })
 station_changed s station f keeps by_now h =
     stations_changed s (key_changed s.stations station f) (λ id q found. is_station id q (changed_at text_order s.stations station f id q found))
     (rw (len_changed text_order s.stations station f) h.few_stations) (docks_changed s (record s { stations = key_changed s.stations station f }) station f keeps refl) h
@@ -188,11 +188,11 @@ station_changed s station f keeps by_now h =
         }
     is_station id q (Other apart found) = h.stations id q found
 
-pub station_reported : (s : Operator) (station : List ℕ) (now : ℕ) → now ≤ s.now → IsCatalogueInOrder s → IsCatalogueInOrder (reported station now s)
+pub station_reported : (s : Operator) (station : List ℕ) (now : ℕ) → now ≤ s.now → IsCatalogueSound s → IsCatalogueSound (reported station now s)
 station_reported s station now late h = station_changed s station (λ x. record x { reported = now }) (λ x. refl) (λ x. late) h
 
 -- broken docks with another list of them
-broken_changed : (s : Operator) (broken : FinSet texts_cmp) → ((key : DockKey) → set.contains broken key ≡ true → IsBrokenDock s key) → IsCatalogueInOrder s → IsCatalogueInOrder (record s { broken = broken })
+broken_changed : (s : Operator) (broken : FinSet texts_cmp) → ((key : DockKey) → set.contains broken key ≡ true → IsBrokenDock s key) → IsCatalogueSound s → IsCatalogueSound (record s { broken = broken })
 broken_changed s broken each h =
     let n : Operator = record s { broken = broken } in
     record {
@@ -206,7 +206,7 @@ broken_changed s broken each h =
       few_stations = h.few_stations;
     }
 
-pub dock_marked_catalogue : (s : Operator) (station : List ℕ) (dock : ℕ) (broken : Bool) → HasDock s station dock → IsCatalogueInOrder s → IsCatalogueInOrder (dock_marked station dock broken s)
+pub dock_marked_catalogue : (s : Operator) (station : List ℕ) (dock : ℕ) (broken : Bool) → HasDock s station dock → IsCatalogueSound s → IsCatalogueSound (dock_marked station dock broken s)
 dock_marked_catalogue s station dock true has h =
     broken_changed s (set.insert s.broken (dock_key station dock))
     (λ key found. go key (eq_by_cmp texts_cmp key (dock_key station dock)) refl (sym (set.contains-insert texts_order.total s.broken (dock_key station dock) key) ∙ found)) h

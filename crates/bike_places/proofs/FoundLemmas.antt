@@ -14,7 +14,7 @@ use Rattle.bike_operator.specs.declared.view.RentalView.{RentalView}
 use Rattle.bike_operator.specs.Operator.{Operator, numbered}
 use Rattle.bike_operator.specs.Counts.{is_dock, docked_at}
 use Rattle.bike_operator.specs.View.{typed_bike, docked_view, planned_rental, rental_view, rental_in, rental_of}
-use Rattle.bike_operator.specs.Order.{AreBikesInOrder}
+use Rattle.bike_operator.specs.Sound.{AreBikesSound}
 use Rattle.bike_places.proofs.MapLemmas.{number_order}
 use Rattle.bike_places.proofs.CountLemmas.{missed, found_by}
 use Rattle.bike_places.proofs.BikeLemmas.{IsFree}
@@ -47,7 +47,7 @@ dock_itself station dock = rw ((bytes_eq-Decides station station).1 refl) (tests
   tests false h = absurd h
 
 -- where no bicycle is found in a dock, none is in it
-pub free_dock : (s : Operator) (station : List ℕ) (dock : ℕ) → AreBikesInOrder s → is_some (docked_view s (docked_at s station dock)) ≡ false → IsFree s (place.Dock station dock)
+pub free_dock : (s : Operator) (station : List ℕ) (dock : ℕ) → AreBikesSound s → is_some (docked_view s (docked_at s station dock)) ≡ false → IsFree s (place.Dock station dock)
 free_dock s station dock order none q y at n found e is = go (docked_at s station dock) refl none where
   typed : (b : ℕ × Bike) (t : Option TypeRow) → is_some t ≡ true → is_some (typed_bike b t) ≡ false → ⊥
   typed b None known h = absurd cc

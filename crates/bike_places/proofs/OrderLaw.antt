@@ -1,4 +1,4 @@
--- An accepted command keeps trucks and orders in order.
+-- An accepted command keeps trucks and orders sound.
 use Rattle.std.proofs.Common.{◌≡◌, ℕ, ◌+◌, ◌≤◌, ◌<◌, List, true, false, nat_lt, leb, Option, Some, None, refl, arith, length, if◌then◌else◌}
 use Rattle.std.specs.FinMap as map
 use Rattle.std.specs.FinMap.{FinMap}
@@ -22,7 +22,7 @@ use Rattle.bike_operator.specs.Operator.{Operator, Station, Kept, texts_cmp, num
 use Rattle.bike_operator.specs.Counts.{docked_at, is_for_order, loaded, on_truck}
 use Rattle.bike_operator.specs.View.{view_of, truck_view, order_view, docked_view, rental_of, rental_view, end_at, has_end}
 use Rattle.bike_operator.specs.Steps.{tests, effect, key_changed, reported, place_reported, bike_reported, bike_marked, bike_placed, started, ended, recovered, refunded_by, placed_at_end, delivered, new_station, dock_marked}
-use Rattle.bike_operator.specs.Order.{IsOrderAt, AreOrdersInOrder}
+use Rattle.bike_operator.specs.Sound.{IsOrderAt, AreOrdersSound}
 use Rattle.bike_places.specs.Accepted.{AcceptedKeeps}
 use Rattle.bike_places.proofs.Moment.{at_moment, reports}
 use Rattle.bike_places.proofs.MapLemmas.{text_order, known_added, known_changed}
@@ -30,29 +30,29 @@ use Rattle.bike_places.proofs.TestLemmas.{none_holds, some_of, truck_of, no_truc
 use Rattle.bike_places.proofs.UnloadLemmas.{IsUnloaded, unloaded_of}
 use Rattle.bike_places.proofs.OrderLemmas.{end_stands, order_parts, same_orders, known_orders, bike_placed_orders, bike_marked_orders, bike_added_orders, bike_loaded_orders, one_less, none_loaded, none_on_truck, truck_added_orders, order_added_orders, order_changed_orders}
 
-later_orders : (s : Operator) (now : ℕ) (k : FinMap texts_cmp Kept) → AreOrdersInOrder s → AreOrdersInOrder (at_moment s now k)
+later_orders : (s : Operator) (now : ℕ) (k : FinMap texts_cmp Kept) → AreOrdersSound s → AreOrdersSound (at_moment s now k)
 later_orders s now k h = same_orders s (at_moment s now k) refl h
 
 -- ---- stations that report
 
-reported_orders : (s : Operator) (now : ℕ) (k : FinMap texts_cmp Kept) (station : List ℕ) → AreOrdersInOrder (at_moment s now k) → AreOrdersInOrder (at_moment (reported station now s) now k)
+reported_orders : (s : Operator) (now : ℕ) (k : FinMap texts_cmp Kept) (station : List ℕ) → AreOrdersSound (at_moment s now k) → AreOrdersSound (at_moment (reported station now s) now k)
 reported_orders s now k station h =
     known_orders (at_moment s now k) s.types (key_changed s.stations station (reports now)) (λ id known. known) (known_changed text_order s.stations station (reports now)) h
 
-place_reported_orders : (s : Operator) (now : ℕ) (k : FinMap texts_cmp Kept) (p : Place) → AreOrdersInOrder (at_moment s now k) → AreOrdersInOrder (at_moment (place_reported p now s) now k)
+place_reported_orders : (s : Operator) (now : ℕ) (k : FinMap texts_cmp Kept) (p : Place) → AreOrdersSound (at_moment s now k) → AreOrdersSound (at_moment (place_reported p now s) now k)
 place_reported_orders s now k (place.Dock station dock) h = reported_orders s now k station h
 place_reported_orders s now k (place.Rental rental) h = h
 place_reported_orders s now k (place.Truck truck order) h = h
 place_reported_orders s now k place.Depot h = h
 
-bike_reported_orders : (s : Operator) (now : ℕ) (k : FinMap texts_cmp Kept) (o : Option Bike) → AreOrdersInOrder (at_moment s now k) → AreOrdersInOrder (at_moment (bike_reported o now s) now k)
+bike_reported_orders : (s : Operator) (now : ℕ) (k : FinMap texts_cmp Kept) (o : Option Bike) → AreOrdersSound (at_moment s now k) → AreOrdersSound (at_moment (bike_reported o now s) now k)
 bike_reported_orders s now k None h = h
 bike_reported_orders s now k (Some b) h = place_reported_orders s now k b.place h
 
 -- ---- rentals: no bicycle comes on a truck
 
-started_orders : (s : Operator) (now : ℕ) (k : FinMap texts_cmp Kept) (rider : ℕ) (station : List ℕ) (o : Option DockedBike) → AreOrdersInOrder (at_moment s now k)
-    → AreOrdersInOrder (at_moment (started rider station now o s) now k)
+started_orders : (s : Operator) (now : ℕ) (k : FinMap texts_cmp Kept) (rider : ℕ) (station : List ℕ) (o : Option DockedBike) → AreOrdersSound (at_moment s now k)
+    → AreOrdersSound (at_moment (started rider station now o s) now k)
 started_orders s now k rider station None h = h
 started_orders s now k rider station (Some d) h =
     let at : Operator = at_moment s now k in
@@ -60,8 +60,8 @@ started_orders s now k rider station (Some d) h =
     let n : Operator = record (at_moment (started rider station now (Some d) s) now k) { stations = s.stations } in
     reported_orders n now k station (same_orders (bike_placed d.bike p at) n refl (bike_placed_orders at d.bike p (λ truck. refl) (λ order. refl) h))
 
-ended_orders : (s : Operator) (now : ℕ) (k : FinMap texts_cmp Kept) (bike : ℕ) (station : List ℕ) (dock : ℕ) (o : Option RentalView) → AreOrdersInOrder (at_moment s now k)
-    → AreOrdersInOrder (at_moment (ended bike station dock now o s) now k)
+ended_orders : (s : Operator) (now : ℕ) (k : FinMap texts_cmp Kept) (bike : ℕ) (station : List ℕ) (dock : ℕ) (o : Option RentalView) → AreOrdersSound (at_moment s now k)
+    → AreOrdersSound (at_moment (ended bike station dock now o s) now k)
 ended_orders s now k bike station dock None h = h
 ended_orders s now k bike station dock (Some r) h =
     let at : Operator = at_moment s now k in
@@ -69,7 +69,7 @@ ended_orders s now k bike station dock (Some r) h =
     let n : Operator = record (at_moment (ended bike station dock now (Some r) s) now k) { stations = s.stations } in
     reported_orders n now k station (same_orders (bike_placed bike p at) n refl (bike_placed_orders at bike p (λ truck. refl) (λ order. refl) h))
 
-recovered_orders : (s : Operator) (now : ℕ) (k : FinMap texts_cmp Kept) (o : Option RentalView) → AreOrdersInOrder (at_moment s now k) → AreOrdersInOrder (at_moment (recovered now o s) now k)
+recovered_orders : (s : Operator) (now : ℕ) (k : FinMap texts_cmp Kept) (o : Option RentalView) → AreOrdersSound (at_moment s now k) → AreOrdersSound (at_moment (recovered now o s) now k)
 recovered_orders s now k None h = h
 recovered_orders s now k (Some r) h =
     let at : Operator = at_moment s now k in
@@ -77,7 +77,7 @@ recovered_orders s now k (Some r) h =
     let placed = bike_placed_orders at bike place.Depot (λ truck. refl) (λ order. refl) h in
     same_orders (bike_marked bike Disabled (bike_placed bike place.Depot at)) (at_moment (recovered now (Some r) s) now k) refl (bike_marked_orders (bike_placed bike place.Depot at) bike Disabled placed)
 
-refunded_orders : (s : Operator) (now : ℕ) (k : FinMap texts_cmp Kept) (amount : ℕ) (o : Option RentalView) → AreOrdersInOrder (at_moment s now k) → AreOrdersInOrder (at_moment (refunded_by amount now o s) now k)
+refunded_orders : (s : Operator) (now : ℕ) (k : FinMap texts_cmp Kept) (amount : ℕ) (o : Option RentalView) → AreOrdersSound (at_moment s now k) → AreOrdersSound (at_moment (refunded_by amount now o s) now k)
 refunded_orders s now k amount None h = h
 refunded_orders s now k amount (Some r) h = same_orders (at_moment s now k) (at_moment (refunded_by amount now (Some r) s) now k) refl h
 
@@ -90,14 +90,14 @@ delivered_order s number o h filled = record { truck_is = h.truck_is; some = h.s
 closed_order : (s : Operator) (number : ℕ) (o : Order) → IsOrderAt s number o → IsOrderAt s number (record o { is_open = false })
 closed_order s number o h = record { truck_is = h.truck_is; some = h.some; from_is = h.from_is; to_is = h.to_is; ends = h.ends; type_is = h.type_is; filled = h.filled }
 
-placed_at_end_orders : (s : Operator) (now : ℕ) (k : FinMap texts_cmp Kept) (bike : ℕ) (e : OrderEnd) (dock : ℕ) → AreOrdersInOrder (at_moment s now k) → AreOrdersInOrder (at_moment (placed_at_end bike e dock now s) now k)
+placed_at_end_orders : (s : Operator) (now : ℕ) (k : FinMap texts_cmp Kept) (bike : ℕ) (e : OrderEnd) (dock : ℕ) → AreOrdersSound (at_moment s now k) → AreOrdersSound (at_moment (placed_at_end bike e dock now s) now k)
 placed_at_end_orders s now k bike end.Depot dock h = bike_placed_orders (at_moment s now k) bike place.Depot (λ truck. refl) (λ order. refl) h
 placed_at_end_orders s now k bike (end.Station station) dock h =
     reported_orders (bike_placed bike (place.Dock station dock) s) now k station (bike_placed_orders (at_moment s now k) bike (place.Dock station dock) (λ truck. refl) (λ order. refl) h)
 
 -- a bicycle that leaves the truck at the other end is delivered
 brought : (s : Operator) (now : ℕ) (k : FinMap texts_cmp Kept) (order bike : ℕ) (e : OrderEnd) (dock : ℕ) (b : Bike) → map.get s.bikes bike ≡ Some b → is_for_order order b.place ≡ true
-    → AreOrdersInOrder (at_moment s now k) → AreOrdersInOrder (at_moment (delivered order To (placed_at_end bike e dock now s)) now k)
+    → AreOrdersSound (at_moment s now k) → AreOrdersSound (at_moment (delivered order To (placed_at_end bike e dock now s)) now k)
 brought s now k order bike end.Depot dock b found was h =
     let n : Operator = at_moment (placed_at_end bike end.Depot dock now s) now k in
     let placed = placed_at_end_orders s now k bike end.Depot dock h in
@@ -111,8 +111,8 @@ brought s now k order bike (end.Station station) dock b found was h =
     order_changed_orders n order (λ o. record o { delivered = o.delivered + 1 })
     (λ o found. delivered_order n order o (placed.orders order o found) (let old : o.delivered + on_truck s order ≤ o.count = (h.orders order o found).filled in omega (arith, less, old))) placed
 
-unloaded_orders : (s : Operator) (now : ℕ) (k : FinMap texts_cmp Kept) (truck order bike : ℕ) (side : Side) (dock : ℕ) (x : Order) → IsUnloaded s truck order bike side dock x → AreOrdersInOrder (at_moment s now k)
-    → AreOrdersInOrder (at_moment (delivered order side (placed_at_end bike (end_at side x) dock now s)) now k)
+unloaded_orders : (s : Operator) (now : ℕ) (k : FinMap texts_cmp Kept) (truck order bike : ℕ) (side : Side) (dock : ℕ) (x : Order) → IsUnloaded s truck order bike side dock x → AreOrdersSound (at_moment s now k)
+    → AreOrdersSound (at_moment (delivered order side (placed_at_end bike (end_at side x) dock now s)) now k)
 unloaded_orders s now k truck order bike From dock x can h = placed_at_end_orders s now k bike x.from_end dock h
 unloaded_orders s now k truck order bike To dock x can h =
     let b = some_of (map.get s.bikes bike) can.there in
@@ -130,10 +130,10 @@ end_later s now k e h = end_stands s (at_moment s now k) (λ id known. known) e 
 -- ---- all commands
 
 -- a command that leaves trucks and orders alone, and what they need
-unchanged : (s : Operator) (now : ℕ) (c : Command) (k : FinMap texts_cmp Kept) → order_parts (effect s now c) ≡ order_parts s → AreOrdersInOrder s → AreOrdersInOrder (at_moment (effect s now c) now k)
+unchanged : (s : Operator) (now : ℕ) (c : Command) (k : FinMap texts_cmp Kept) → order_parts (effect s now c) ≡ order_parts s → AreOrdersSound s → AreOrdersSound (at_moment (effect s now c) now k)
 unchanged s now c k same h = same_orders s (at_moment (effect s now c) now k) same h
 
-pub orders_law : AcceptedKeeps AreOrdersInOrder
+pub orders_law : AcceptedKeeps AreOrdersSound
 orders_law s now (command.SetSystem x) k order good free late = unchanged s now (command.SetSystem x) k refl order.orders
 orders_law s now (command.AddPlan p) k order good free late = unchanged s now (command.AddPlan p) k refl order.orders
 orders_law s now (command.AddType t) k order good free late =

@@ -1,4 +1,4 @@
--- What keeps trucks and orders in order.
+-- What keeps trucks and orders sound.
 use Rattle.std.proofs.Common.{◌≡◌, inl, inr, ◌⊎◌, ℕ, ◌+◌, ◌≤◌, ◌<◌, List, [], ◌∷◌, ◌++◌, length, length-append, Bool, true, false, ◌==◌, leb, Option, Some, None, refl, sym, ap, ◌∙◌, subst, arith}
 use Rattle.std.specs.Ordering.{nat_cmp}
 use Rattle.std.specs.FinMap as map
@@ -16,7 +16,7 @@ use Rattle.bike_operator.specs.Operator.{Operator, Station, Truck, text_cmp, num
 use Rattle.bike_operator.specs.Counts.{count, is_on_truck, is_for_order, loaded, on_truck}
 use Rattle.bike_operator.specs.View.{most_trucks, most_orders, has_end}
 use Rattle.bike_operator.specs.Steps.{key_changed, bike_placed, bike_marked, order_added, order_changed}
-use Rattle.bike_operator.specs.Order.{IsPlace, AreBikesInOrder, IsTruckAt, HasTruck, IsOrderAt, AreOrdersInOrder}
+use Rattle.bike_operator.specs.Sound.{IsPlace, AreBikesSound, IsTruckAt, HasTruck, IsOrderAt, AreOrdersSound}
 use Rattle.bike_places.proofs.MapLemmas.{number_order, IsAdded, New, Old, added_at, kept_added, few_added}
 use Rattle.bike_places.proofs.TestLemmas.{same_number}
 use Rattle.bike_places.proofs.ItemLemmas.{number_or_last, number_within, IsTurned, Here, Elsewhere, number_turned, length-number_changed}
@@ -54,7 +54,7 @@ OrderParts = FinMap nat_cmp Truck × List Order × FinMap text_cmp TypeRow × Fi
 abbrev pub order_parts : Operator → OrderParts
 order_parts s = (s.trucks, s.orders, s.types, s.stations, s.bikes)
 
-pub same_orders : (s n : Operator) → order_parts n ≡ order_parts s → AreOrdersInOrder s → AreOrdersInOrder n
+pub same_orders : (s n : Operator) → order_parts n ≡ order_parts s → AreOrdersSound s → AreOrdersSound n
 same_orders s n e h =
     let trucks : n.trucks ≡ s.trucks = ap (λ (c : OrderParts). c.0) e in
     let orders : n.orders ≡ s.orders = ap (λ (c : OrderParts). c.1) e in
@@ -81,7 +81,7 @@ same_orders s n e h =
 
 -- types and stations that were there still are
 pub known_orders : (s : Operator) (types : FinMap text_cmp TypeRow) (stations : FinMap text_cmp Station) → ((id : List ℕ) → map.contains_key s.types id ≡ true → map.contains_key types id ≡ true)
-    → ((id : List ℕ) → map.contains_key s.stations id ≡ true → map.contains_key stations id ≡ true) → AreOrdersInOrder s → AreOrdersInOrder (record s { types = types; stations = stations })
+    → ((id : List ℕ) → map.contains_key s.stations id ≡ true → map.contains_key stations id ≡ true) → AreOrdersSound s → AreOrdersSound (record s { types = types; stations = stations })
 known_orders s types stations types_known stations_known h =
     let n : Operator = record s { types = types; stations = stations } in
     let stand : OrdersStand s n = record { trucks = λ q t found. found; types = types_known; stations = stations_known } in
@@ -96,7 +96,7 @@ known_orders s types stations types_known stations_known h =
 
 -- with other bicycles no truck and no order holds too many
 bikes_orders : (s : Operator) (bikes : FinMap nat_cmp Bike) → ((truck : ℕ) (t : Truck) → map.get s.trucks truck ≡ Some t → loaded (record s { bikes = bikes }) truck ≤ t.capacity)
-    → ((order : ℕ) (o : Order) → numbered order s.orders ≡ Some o → o.delivered + on_truck (record s { bikes = bikes }) order ≤ o.count) → AreOrdersInOrder s → AreOrdersInOrder (record s { bikes = bikes })
+    → ((order : ℕ) (o : Order) → numbered order s.orders ≡ Some o → o.delivered + on_truck (record s { bikes = bikes }) order ≤ o.count) → AreOrdersSound s → AreOrdersSound (record s { bikes = bikes })
 bikes_orders s bikes holds filled h =
     let n : Operator = record s { bikes = bikes } in
     let stand : OrdersStand s n = record { trucks = λ q t found. found; types = λ id known. known; stations = λ id known. known } in
@@ -109,7 +109,7 @@ bikes_orders s bikes holds filled h =
 
 -- no more bicycles are on trucks
 fewer_orders : (s : Operator) (bikes : FinMap nat_cmp Bike) → ((truck : ℕ) → loaded (record s { bikes = bikes }) truck ≤ loaded s truck) → ((order : ℕ) → on_truck (record s { bikes = bikes }) order ≤ on_truck s order)
-    → AreOrdersInOrder s → AreOrdersInOrder (record s { bikes = bikes })
+    → AreOrdersSound s → AreOrdersSound (record s { bikes = bikes })
 fewer_orders s bikes fewer_loaded fewer_on h =
     bikes_orders s bikes (λ q t found. let x = (h.trucks q t found).holds in let f = fewer_loaded q in omega (arith, x, f))
     (λ q o found. let x = (h.orders q o found).filled in let f = fewer_on q in omega (arith, x, f)) h
@@ -121,14 +121,14 @@ abbrev marked : BikeState → Bike → Bike
 marked state b = record b { state = state }
 
 -- a bicycle is put in a place that is on no truck
-pub bike_placed_orders : (s : Operator) (bike : ℕ) (p : Place) → ((truck : ℕ) → is_on_truck truck p ≡ false) → ((order : ℕ) → is_for_order order p ≡ false) → AreOrdersInOrder s → AreOrdersInOrder (bike_placed bike p s)
+pub bike_placed_orders : (s : Operator) (bike : ℕ) (p : Place) → ((truck : ℕ) → is_on_truck truck p ≡ false) → ((order : ℕ) → is_for_order order p ≡ false) → AreOrdersSound s → AreOrdersSound (bike_placed bike p s)
 bike_placed_orders s bike p off_trucks off_orders h =
     fewer_orders s (key_changed s.bikes bike (placed p))
     (λ truck. let c = count-most number_order (λ (y : Bike). is_on_truck truck y.place) s.bikes bike (placed p) false (λ x. off_trucks truck) in omega (arith, c))
     (λ order. let c = count-most number_order (λ (y : Bike). is_for_order order y.place) s.bikes bike (placed p) false (λ x. off_orders order) in omega (arith, c)) h
 
 -- a bicycle that is marked stays where it is
-pub bike_marked_orders : (s : Operator) (bike : ℕ) (state : BikeState) → AreOrdersInOrder s → AreOrdersInOrder (bike_marked bike state s)
+pub bike_marked_orders : (s : Operator) (bike : ℕ) (state : BikeState) → AreOrdersSound s → AreOrdersSound (bike_marked bike state s)
 bike_marked_orders s bike state h =
     fewer_orders s (key_changed s.bikes bike (marked state)) (λ truck. same (is_on_truck truck) (map.get s.bikes bike) refl) (λ order. same (is_for_order order) (map.get s.bikes bike) refl) h
   where
@@ -137,7 +137,7 @@ bike_marked_orders s bike state h =
     same test (Some b) e = let c = count-changed number_order (λ (y : Bike). test y.place) s.bikes bike (marked state) b e in omega (arith, c)
 
 -- a bicycle that is new is on no truck
-pub bike_added_orders : (s : Operator) (bike : ℕ) (b : Bike) → b.place ≡ place.Depot → AreOrdersInOrder s → AreOrdersInOrder (record s { bikes = map.insert s.bikes bike b })
+pub bike_added_orders : (s : Operator) (bike : ℕ) (b : Bike) → b.place ≡ place.Depot → AreOrdersSound s → AreOrdersSound (record s { bikes = map.insert s.bikes bike b })
 bike_added_orders s bike b is h =
     fewer_orders s (map.insert s.bikes bike b) (λ truck. same (is_on_truck truck) (ap (is_on_truck truck) is)) (λ order. same (is_for_order order) (ap (is_for_order order) is)) h
   where
@@ -149,7 +149,7 @@ bike_added_orders s bike b is h =
 
 -- a bicycle is put on a truck for an order: both have room for it
 pub bike_loaded_orders : (s : Operator) (bike truck order : ℕ) → ((t : Truck) → map.get s.trucks truck ≡ Some t → loaded s truck < t.capacity)
-    → ((o : Order) → numbered order s.orders ≡ Some o → o.delivered + on_truck s order < o.count) → AreOrdersInOrder s → AreOrdersInOrder (bike_placed bike (place.Truck truck order) s)
+    → ((o : Order) → numbered order s.orders ≡ Some o → o.delivered + on_truck s order < o.count) → AreOrdersSound s → AreOrdersSound (bike_placed bike (place.Truck truck order) s)
 bike_loaded_orders s bike truck order room wanted h =
     bikes_orders s (key_changed s.bikes bike (placed (place.Truck truck order)))
     (λ q t found. holds q t found (truck == q) refl (count-most number_order (λ (y : Bike). is_on_truck q y.place) s.bikes bike (placed (place.Truck truck order)) (truck == q) (λ x. refl)))
@@ -184,7 +184,7 @@ one_less s bike order p b found was is =
 -- ---- trucks and orders that are added or changed
 
 -- no bicycle is on a truck that isn't there
-pub none_loaded : (s : Operator) (truck : ℕ) → AreBikesInOrder s → AreOrdersInOrder s → map.get s.trucks truck ≡ None → loaded s truck ≡ 0
+pub none_loaded : (s : Operator) (truck : ℕ) → AreBikesSound s → AreOrdersSound s → map.get s.trucks truck ≡ None → loaded s truck ≡ 0
 none_loaded s truck bikes h free = none_counted number_order (λ (y : Bike). is_on_truck truck y.place) s.bikes (λ q y found. off q y.type_id y.place (bikes.bikes q y found).placed) where
   apart : (on order : ℕ) (type_id : List ℕ) → IsPlace s on type_id (place.Truck on order) → (b : Bool) → (on == truck) ≡ b → b ≡ false
   apart on order type_id carried false e = refl
@@ -202,7 +202,7 @@ none_loaded s truck bikes h free = none_counted number_order (λ (y : Bike). is_
   off q type_id place.Depot is = refl
 
 -- none is on a truck for an order that isn't there
-pub none_on_truck : (s : Operator) → AreBikesInOrder s → on_truck s (length s.orders + 1) ≡ 0
+pub none_on_truck : (s : Operator) → AreBikesSound s → on_truck s (length s.orders + 1) ≡ 0
 none_on_truck s bikes = none_counted number_order (λ (y : Bike). is_for_order (length s.orders + 1) y.place) s.bikes (λ q y found. off q y.type_id y.place (bikes.bikes q y found).placed) where
   off : (q : ℕ) (type_id : List ℕ) (p : Place) → IsPlace s q type_id p → is_for_order (length s.orders + 1) p ≡ false
   off q type_id (place.Dock station dock) is = refl
@@ -210,8 +210,8 @@ none_on_truck s bikes = none_counted number_order (λ (y : Bike). is_for_order (
   off q type_id (place.Truck on order) is = let within = number_within order s.orders is.row is.found in grind (arith, nat_tests, within)
   off q type_id place.Depot is = refl
 
-pub truck_added_orders : (s : Operator) (truck : ℕ) (t : Truck) → IsTruckAt s truck t → map.get s.trucks truck ≡ None → leb most_trucks (map.len s.trucks) ≡ false → AreOrdersInOrder s
-    → AreOrdersInOrder (record s { trucks = map.insert s.trucks truck t })
+pub truck_added_orders : (s : Operator) (truck : ℕ) (t : Truck) → IsTruckAt s truck t → map.get s.trucks truck ≡ None → leb most_trucks (map.len s.trucks) ≡ false → AreOrdersSound s
+    → AreOrdersSound (record s { trucks = map.insert s.trucks truck t })
 truck_added_orders s truck t good free full h =
     let n : Operator = record s { trucks = map.insert s.trucks truck t } in
     let stand : OrdersStand s n = record { trucks = λ q x found. kept_added number_order s.trucks truck t q x free found; types = λ id known. known; stations = λ id known. known } in
@@ -226,7 +226,7 @@ truck_added_orders s truck t good free full h =
     is_truck q x (New same is) = rw (same, is) (record { low = good.low; high = good.high; some = good.some; most = good.most; holds = good.holds })
     is_truck q x (Old apart found) = let y = h.trucks q x found in record { low = y.low; high = y.high; some = y.some; most = y.most; holds = y.holds }
 
-pub order_added_orders : (s : Operator) (o : Order) → IsOrderAt s (length s.orders + 1) o → leb most_orders (length s.orders) ≡ false → AreOrdersInOrder s → AreOrdersInOrder (order_added o s)
+pub order_added_orders : (s : Operator) (o : Order) → IsOrderAt s (length s.orders + 1) o → leb most_orders (length s.orders) ≡ false → AreOrdersSound s → AreOrdersSound (order_added o s)
 order_added_orders s o good full h = record {
   trucks = λ q t found. let x = h.trucks q t found in record { low = x.low; high = x.high; some = x.some; most = x.most; holds = x.holds };
   orders = λ q x found. is_order q x (number_or_last q s.orders o x found);
@@ -245,7 +245,7 @@ order_added_orders s o good full h = record {
     few e = let b : length s.orders < most_orders = grind (arith, nat_tests, full) in omega (arith, e, b)
 
 -- an order is changed to one that keeps its bounds
-pub order_changed_orders : (s : Operator) (number : ℕ) (f : Order → Order) → ((o : Order) → numbered number s.orders ≡ Some o → IsOrderAt s number (f o)) → AreOrdersInOrder s → AreOrdersInOrder (order_changed number f s)
+pub order_changed_orders : (s : Operator) (number : ℕ) (f : Order → Order) → ((o : Order) → numbered number s.orders ≡ Some o → IsOrderAt s number (f o)) → AreOrdersSound s → AreOrdersSound (order_changed number f s)
 order_changed_orders s number f good h = record {
   trucks = λ q t found. let x = h.trucks q t found in record { low = x.low; high = x.high; some = x.some; most = x.most; holds = x.holds };
   orders = λ q x found. is_order q x (number_turned number f s.orders q x found);

@@ -9,7 +9,7 @@ use Rattle.bike_operator.specs.declared.records.Order.{Order}
 use Rattle.bike_operator.specs.Operator.{Operator, Station, Truck}
 use Rattle.bike_operator.specs.View.{station_view, truck_view, order_view}
 use Rattle.bike_operator.specs.Steps.{on, first, has_no_dock}
-use Rattle.bike_operator.specs.Order.{HasDock}
+use Rattle.bike_operator.specs.Sound.{HasDock}
 
 -- no test of a row holds
 abbrev pub NoneHolds : List (Bool × Refusal) → Type 0

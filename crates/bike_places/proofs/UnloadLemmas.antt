@@ -14,7 +14,7 @@ use Rattle.bike_operator.specs.Operator.{Operator, Station, numbered}
 use Rattle.bike_operator.specs.Counts.{is_on_truck, is_for_order, docked_at}
 use Rattle.bike_operator.specs.View.{station_view, truck_view, order_view, docked_view, no_rows, at_end, at_order, end_at, has_end}
 use Rattle.bike_operator.specs.Steps.{tests, first, ends_apart, has_no_dock, refused}
-use Rattle.bike_operator.specs.Order.{HasDock, IsOrderAt, AreOrdersInOrder}
+use Rattle.bike_operator.specs.Sound.{HasDock, IsOrderAt, AreOrdersSound}
 use Rattle.bike_places.proofs.TestLemmas.{NoneHolds, none_holds, dock_of, on_row, both_hold, neither, holds, same_number}
 
 -- the end takes a bicycle: the depot does, and a station in a dock that it has and that is empty
@@ -68,7 +68,7 @@ module _ (s : Operator) (truck order bike : ℕ) (side : Side) (dock : ℕ) (x :
       low f = grind (arith, nat_tests, f)
 
 -- an unloading that isn't refused
-pub unloaded_of : (s : Operator) (truck order bike : ℕ) (side : Side) (dock : ℕ) → AreOrdersInOrder s → refused s (command.Unload truck order bike side dock) ≡ None
+pub unloaded_of : (s : Operator) (truck order bike : ℕ) (side : Side) (dock : ℕ) → AreOrdersSound s → refused s (command.Unload truck order bike side dock) ≡ None
     → (x : Order) × (numbered order s.orders ≡ Some x) × IsUnloaded s truck order bike side dock x
 unloaded_of s truck order bike side dock h free = go (numbered order s.orders) refl free where
   go : (o : Option Order) → numbered order s.orders ≡ o → first (tests (at_order s o side dock (base s truck order bike o)) (command.Unload truck order bike side dock)) ≡ None

@@ -1,19 +1,19 @@
 //! The laws.
 
-ghost use Rattle.bike_operator.specs.Order.{IsCatalogueInOrder, AreBikesInOrder, AreOrdersInOrder};
+ghost use Rattle.bike_operator.specs.Sound.{IsCatalogueSound, AreBikesSound, AreOrdersSound};
 ghost use Rattle.bike_places.specs.Accepted.{AcceptedKeeps};
 
-/// The law that an accepted command keeps the system, plans, types, stations and broken docks in order.
+/// The law that an accepted command keeps the system, plans, types, stations and broken docks sound.
 pub fn keeps_catalogue()
-    ensures { AcceptedKeeps IsCatalogueInOrder }
+    ensures { AcceptedKeeps IsCatalogueSound }
 {}
 
-/// The law that an accepted command keeps the bicycles in order: each is in one place, which is there.
+/// The law that an accepted command keeps the bicycles sound: each is in one place, which is there.
 pub fn keeps_bikes()
-    ensures { AcceptedKeeps AreBikesInOrder }
+    ensures { AcceptedKeeps AreBikesSound }
 {}
 
-/// The law that an accepted command keeps trucks and orders in order: none holds too many bicycles.
+/// The law that an accepted command keeps trucks and orders sound: none holds too many bicycles.
 pub fn keeps_orders()
-    ensures { AcceptedKeeps AreOrdersInOrder }
+    ensures { AcceptedKeeps AreOrdersSound }
 {}

@@ -1,4 +1,4 @@
-//! What keeps the operator's stations, bicycles, trucks and orders in order.
+//! What keeps the operator's stations, bicycles, trucks and orders sound.
 #![tactic(auto)]
 
 mod laws;

@@ -2,7 +2,7 @@
 
 ghost use Rattle.std.specs.Prelude.{◌≡◌};
 ghost use Rattle.bike_operator.specs.Operator.{Operator, no_operator};
-ghost use Rattle.bike_operator.specs.Order.{IsInOrder};
+ghost use Rattle.bike_operator.specs.Sound.{IsSound};
 ghost use Rattle.bike_plain.specs.declared.plain.Plain.{Plain as PlainValue};
 ghost use Rattle.bike_plain.specs.Stands.{Stands, IsSmall};
 
@@ -78,7 +78,7 @@ fn first_moment() -> Moment
     }
 }
 
-/// The law of limits: lists that stand for an operator in order are no longer than an operator's may be.
+/// The law of limits: lists that stand for a sound operator are no longer than an operator's may be.
 pub fn small_law()
-    ensures { (p : PlainValue) (s : Operator) → Stands p s → IsInOrder s → IsSmall p }
+    ensures { (p : PlainValue) (s : Operator) → Stands p s → IsSound s → IsSmall p }
 {}

@@ -8,7 +8,7 @@ use Rattle.bike_commands.specs.Commands.{IsCommand}
 use Rattle.bike_operator.specs.Operator.{Operator, no_operator}
 use Rattle.bike_operator.specs.Runs.{Call, after, replies}
 use Rattle.bike_operator.specs.Steps.{refused, effect, reply_of}
-use Rattle.bike_operator.specs.Order.{IsInOrder}
+use Rattle.bike_operator.specs.Sound.{IsSound}
 use Rattle.bike_operator.specs.Bounds.{IsBounded, IsRentalWithin}
 use Rattle.bike_operator.specs.View.{view_of, most_entries}
 use Rattle.bike_operator.specs.declared.view.RentalView.{RentalView}
@@ -17,24 +17,24 @@ use Rattle.bike_plain.specs.Stands.{Stands}
 use Rattle.bike_operator.specs.declared.view.View.{View}
 use Rattle.bike_refusals.specs.declared.orders.UnloadEnd.{UnloadEnd}
 
--- The lists stand for an operator in order.
+-- The lists stand for a sound operator.
 pub record IsReady (p : Plain) : Type 0 where
   pub operator : Operator
   pub stands : Stands p operator
-  pub in_order : IsInOrder operator
+  pub sound : IsSound operator
 
--- The lists stand for an operator in order, whose last accepted request was by this moment.
+-- The lists stand for a sound operator, whose last accepted request was by this moment.
 pub record IsReadyAt (p : Plain) (now : ℕ) : Type 0 where
   pub operator : Operator
   pub stands : Stands p operator
-  pub in_order : IsInOrder operator
+  pub sound : IsSound operator
   pub by_now : operator.now ≤ now
 
--- The lists stand for an operator in order, who doesn't refuse the command at this moment.
+-- The lists stand for a sound operator, who doesn't refuse the command at this moment.
 pub record IsAccepted (p : Plain) (now : ℕ) (c : Command) : Type 0 where
   pub operator : Operator
   pub stands : Stands p operator
-  pub in_order : IsInOrder operator
+  pub sound : IsSound operator
   pub command : IsCommand c
   pub by_now : operator.now ≤ now
   pub accepted : refused operator c ≡ None
@@ -51,9 +51,9 @@ pub record IsDue (p : Plain) (now : ℕ) (r : RentalView) : Type 0 where
 abbrev pub Refuses : Plain → Command → Option Refusal → Type 0
 Refuses p c o = (s : Operator) → Stands p s → o ≡ refused s c
 
--- the reply, and the lists with the effect, of each operator in order for whom the lists stood; after a want of memory nothing is known of them
+-- the reply, and the lists with the effect, of each sound operator for whom the lists stood; after a want of memory nothing is known of them
 abbrev pub Does : Plain → Plain → ℕ → Command → Result Reply AllocError → Type 0
-Does old new now c result = (s : Operator) → Stands old s → IsInOrder s → IfOk result (λ reply. (reply ≡ reply_of s now c) × Stands new (effect s now c))
+Does old new now c result = (s : Operator) → Stands old s → IsSound s → IfOk result (λ reply. (reply ≡ reply_of s now c) × Stands new (effect s now c))
 
 -- the view names the station, the dock's state and the bicycle of this end
 pub record Names (v : View) (e : UnloadEnd) : Type 0 where
@@ -67,16 +67,16 @@ pub record NamesNone (v : View) : Type 0 where
   pub is_broken : v.is_dock_broken ≡ false
   pub docked : v.docked ≡ None
 
--- Some requests are answered, and the lists stand for an operator in order who is to answer those that are left.
+-- Some requests are answered, and the lists stand for a sound operator who is to answer those that are left.
 pub record IsServing (p : Plain) (answers : List Reply) (left all : List Call) : Type 0 where
   pub operator : Operator
   pub stands : Stands p operator
-  pub in_order : IsInOrder operator
+  pub sound : IsSound operator
   pub answered : replies no_operator all ≡ answers ++ replies operator left
 
--- Some requests are served, and the lists stand for an operator in order; after the requests that are left he is the operator after the whole list.
+-- Some requests are served, and the lists stand for a sound operator; after the requests that are left he is the operator after the whole list.
 pub record IsRunning (p : Plain) (left all : List Call) : Type 0 where
   pub operator : Operator
   pub stands : Stands p operator
-  pub in_order : IsInOrder operator
+  pub sound : IsSound operator
   pub same : after operator left ≡ after no_operator all

@@ -8,7 +8,7 @@ ghost use Rattle.bike_plain.specs.Stands.{Stands, IsSmall};
 use crate::steps::step;
 use bike_commands::{Reply, Request};
 use bike_fixed::Moment;
-use bike_laws::{keeps_order, no_operator_law};
+use bike_laws::{keeps_soundness, no_operator_law};
 use bike_plain::{Plain as Lists, small_law};
 use std::alloc::{AllocError, Global};
 
@@ -18,7 +18,7 @@ pub fn serve(alloc: Global, calls: &[(Moment, Request)]) -> Result<Vec<Reply>, A
     ensures { IfOk result (λ rs. rs.items ≡ replies no_operator calls.now) }
 {
     no_operator_law();
-    keeps_order();
+    keeps_soundness();
     let mut lists = Lists::new(alloc);
     let mut answers = Vec::new(alloc);
     for call in calls {
@@ -40,7 +40,7 @@ pub fn lists_after<'a>(
     ensures small { IfOk result IsSmall }
 {
     no_operator_law();
-    keeps_order();
+    keeps_soundness();
     small_law();
     let mut lists = Lists::new(alloc);
     for call in calls {

@@ -6,7 +6,7 @@ ghost use Rattle.bike_commands.specs.declared.reply.Reply.TheVariants.{Refused};
 ghost use Rattle.bike_commands.specs.declared.refusal.Refusal.TheVariants.{KeyReused};
 ghost use Rattle.bike_operator.specs.Operator.{Operator};
 ghost use Rattle.bike_operator.specs.Steps.{refused};
-ghost use Rattle.bike_operator.specs.Order.{IsInOrder};
+ghost use Rattle.bike_operator.specs.Sound.{IsSound};
 ghost use Rattle.bike_operator.specs.Runs.{is_same, key_in, decided, step};
 ghost use Rattle.bike_plain.specs.Stands.{Stands, IsSmall};
 ghost use Rattle.bike_reference.specs.Steps.{IsReady, IsReadyAt};
@@ -59,7 +59,7 @@ fn decide_on<'a>(
 ) -> Result<Reply, AllocError>
     requires small { IsSmall lists.old }
     requires ready { IsReadyAt lists.old now }
-    ensures { (s : Operator) → Stands lists.old s → IsInOrder s → IfOk result (λ reply. (reply ≡ (decided s now request.now (refused s request.now.command)).0) × Stands lists.new (decided s now request.now (refused s request.now.command)).1) }
+    ensures { (s : Operator) → Stands lists.old s → IsSound s → IfOk result (λ reply. (reply ≡ (decided s now request.now (refused s request.now.command)).0) × Stands lists.new (decided s now request.now (refused s request.now.command)).1) }
 {
     view_law();
     request.bounds();
@@ -79,7 +79,7 @@ pub fn step<'a>(
     request: &'a Request,
 ) -> Result<Reply, AllocError>
     requires { IsReady lists.old }
-    ensures { (s : Operator) → Stands lists.old s → IsInOrder s → IfOk result (λ reply. (reply ≡ (step s moment request.now).0) × Stands lists.new (step s moment request.now).1) }
+    ensures { (s : Operator) → Stands lists.old s → IsSound s → IfOk result (λ reply. (reply ≡ (step s moment request.now).0) × Stands lists.new (step s moment request.now).1) }
 {
     small_law();
     let caller = request.caller.text();

@@ -21,7 +21,7 @@ use Rattle.bike_rows.specs.Stands.{rows_of}
 use Rattle.bike_rows.specs.View.{put_row_by}
 use Rattle.bike_rows.proofs.ListLemmas.{no_list}
 use Rattle.bike_rows.proofs.InsertLaw.{insert_sets}
-use Rattle.bike_core.specs.Operator.{no_operator}
+use Rattle.bike_small.specs.Operator.{no_operator}
 use Rattle.bike_tables.specs.Changes.{Creates}
 use Rattle.bike_tables.specs.Layouts.{meta_layout, riders_layout, entries_layout, kept_layout}
 use Rattle.bike_tables.specs.Made.{Ran}

@@ -12,7 +12,7 @@ use Rattle.std.specs.FinMap.Entries as entries
 use Rattle.sqlite_value.specs.Order.{Row, row_cmp}
 use Rattle.bike_rows.specs.Keyed.{put_in}
 use Rattle.bike_rows.specs.View.{by_key, row_with, put_row_by, replaced}
-use Rattle.bike_core.specs.Order.{EachEntry}
+use Rattle.bike_small.specs.Sound.{EachEntry}
 
 turned_eq : (r : Ordering) → is_eq (ordering_reverse r) ≡ is_eq r
 turned_eq Less = refl

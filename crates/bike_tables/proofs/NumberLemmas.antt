@@ -7,8 +7,8 @@ use Rattle.std.specs.declared.cmp.Ordering.TheVariants.{Less, Equal, Greater}
 use Rattle.std.specs.Cmp.{ranks}
 use Rattle.std.specs.FinMap as fin
 use Rattle.std.specs.FinMap.Entries.{is_sorted, below_all}
-use Rattle.bike_core.specs.Operator.{Operator, Rider}
-use Rattle.bike_core.specs.Order.{IsInOrder, IsRiderNumber, EachEntry}
+use Rattle.bike_small.specs.Operator.{Operator, Rider}
+use Rattle.bike_small.specs.Sound.{IsSound, IsRiderNumber, EachEntry}
 use Rattle.bike_tables.specs.Rows.{last_number}
 use Rattle.bike_tables.specs.Stored.{tables_for, stored_rider}
 
@@ -39,5 +39,5 @@ at_most : (s : Operator) (n : ℕ) (es : List (ℕ × Rider)) → EachEntry (λ 
 at_most s n [] each sorted last = omega arith
 at_most s n (e ∷ es) each sorted last = omega (arith, rising s 0 n e es (omega (arith, each.0.low)) sorted last)
 
-pub riders_at_most : (s : Operator) (n : ℕ) → IsInOrder s → last_number (tables_for s).riders ≡ Some (pos n) → fin.len s.riders ≤ n
+pub riders_at_most : (s : Operator) (n : ℕ) → IsSound s → last_number (tables_for s).riders ≡ Some (pos n) → fin.len s.riders ≤ n
 riders_at_most s n order last = omega (arith, fin.len-entries s.riders, at_most s n (fin.entries s.riders) order.riders (fin.entries_sorted s.riders) last)

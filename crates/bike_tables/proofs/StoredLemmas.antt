@@ -15,9 +15,9 @@ use Rattle.sqlite.specs.declared.types.Value.TheVariants.{Int, Text}
 use Rattle.sqlite_value.specs.Order.{Row, row_cmp, value_cmp}
 use Rattle.sqlite_value.proofs.OrderLemmas.{value_cmp-Int, value_cmp-Text}
 use Rattle.bike_rows.specs.View.{row_with, put_row_by, replaced}
-use Rattle.bike_core.specs.Operator.{Operator, Rider, Kept, Key, key_of}
-use Rattle.bike_core.specs.Steps.{effect, reply_of, top_up_entry}
-use Rattle.bike_core.specs.Order.{IsInOrder, IsKept, EachEntry, AreEntries}
+use Rattle.bike_small.specs.Operator.{Operator, Rider, Kept, Key, key_of}
+use Rattle.bike_small.specs.Steps.{effect, reply_of, top_up_entry}
+use Rattle.bike_small.specs.Sound.{IsSound, IsKept, EachEntry, AreEntries}
 use Rattle.bike_fields.specs.Caller.{caller_text}
 use Rattle.bike_ledger.specs.Entries.{Entry}
 use Rattle.std.specs.Borrow.{Bor}
@@ -83,7 +83,7 @@ each_unit : {K X : Type 0} (es : List (K × X)) → EachEntry (λ _ _. Unit {0})
 each_unit [] = tt
 each_unit (e ∷ es) = (tt, each_unit es)
 
-pub kept_are_pairs : (s : Operator) → IsInOrder s → EachEntry (λ k _. IsPair k) (fin.entries s.kept)
+pub kept_are_pairs : (s : Operator) → IsSound s → EachEntry (λ k _. IsPair k) (fin.entries s.kept)
 kept_are_pairs s order = each_of IsKept (λ k _. IsPair k) (λ k x h. record { caller = caller_text h.caller; name = h.name; is = h.key_is }) (fin.entries s.kept) order.kept
 
 -- the row of a rider
@@ -91,7 +91,7 @@ pub rider_lookup : (s : Operator) (rider : ℕ) → row_with 1 (Int (pos rider) 
 rider_lookup s rider = rows_find numbers (stored_rider s) (λ e. refl) rider tt (fin.entries s.riders) (each_unit (fin.entries s.riders)) ∙ ap (option_map (λ (r : Rider). rider_row rider r.blocked (balance_of rider s.entries))) (sym (fin.get-entries s.riders rider))
 
 -- what is kept under a caller and a key
-pub kept_lookup : (s : Operator) → IsInOrder s → (caller key : List ℕ) → row_with 2 (Text caller ∷ Text key ∷ []) (tables_for s).kept ≡ option_map (λ k. kept_row caller key (text_of k.command) (reply_text k.reply)) (fin.get s.kept (key_of caller key))
+pub kept_lookup : (s : Operator) → IsSound s → (caller key : List ℕ) → row_with 2 (Text caller ∷ Text key ∷ []) (tables_for s).kept ≡ option_map (λ k. kept_row caller key (text_of k.command) (reply_text k.reply)) (fin.get s.kept (key_of caller key))
 kept_lookup s order caller key =
     rows_find pairs stored_kept (λ e. refl) (key_of caller key) (record { caller = caller; name = key; is = refl }) (fin.entries s.kept) (kept_are_pairs s order)
     ∙ ap (option_map (λ (k : Kept). kept_row caller key (text_of k.command) (reply_text k.reply))) (sym (fin.get-entries s.kept (key_of caller key)))
@@ -112,7 +112,7 @@ last_of s [] h = refl
 last_of s (e ∷ es) h = last_is s 1 es e h ∙ ap (λ (n : ℕ). Some (pos n)) (omega arith)
 
 -- the number of the last entry is how many there are
-pub last_entry_is : (s : Operator) → IsInOrder s → last_number (tables_for s).entries ≡ Some (pos (length s.entries))
+pub last_entry_is : (s : Operator) → IsSound s → last_number (tables_for s).entries ≡ Some (pos (length s.entries))
 last_entry_is s order = last_of s s.entries order.entries
 
 -- ---- what the row changes make
@@ -121,7 +121,7 @@ last_entry_is s order = last_of s s.entries order.entries
 meta_replaced : (now cash revenue : _) (before was_cash was_revenue : _) → replaced 1 (meta_row now cash revenue) (meta_row before was_cash was_revenue ∷ []) ≡ meta_row now cash revenue ∷ []
 meta_replaced now cash revenue before was_cash was_revenue = let same : row_cmp (number_key 1) (number_key 1) ≡ Equal = numbers_compare 1 1 in rw same refl
 
-kept_put : (s : Operator) → IsInOrder s → (caller key : List ℕ) (k : Kept) → put_row_by 2 (kept_row caller key (text_of k.command) (reply_text k.reply)) (tables_for s).kept ≡ map stored_kept (fin.entries (fin.insert s.kept (key_of caller key) k))
+kept_put : (s : Operator) → IsSound s → (caller key : List ℕ) (k : Kept) → put_row_by 2 (kept_row caller key (text_of k.command) (reply_text k.reply)) (tables_for s).kept ≡ map stored_kept (fin.entries (fin.insert s.kept (key_of caller key) k))
 kept_put s order caller key k =
     rows_put pairs stored_kept (λ e. refl) (key_of caller key) k (record { caller = caller; name = key; is = refl }) (fin.entries s.kept) (kept_are_pairs s order)
     ∙ ap (map stored_kept) (sym (fin.entries-insert pairs.total s.kept (key_of caller key) k))
@@ -143,7 +143,7 @@ no_balance s rider number (e ∷ es) none h =
     ] in
     omega (arith, ints, rest, own)
 
-riders_put : (s : Operator) (rider : ℕ) → IsInOrder s → fin.get s.riders rider ≡ None → put_row_by 1 (rider_row rider false (pos 0)) (tables_for s).riders ≡ map (stored_rider s) (fin.entries (fin.insert s.riders rider (record { blocked = false })))
+riders_put : (s : Operator) (rider : ℕ) → IsSound s → fin.get s.riders rider ≡ None → put_row_by 1 (rider_row rider false (pos 0)) (tables_for s).riders ≡ map (stored_rider s) (fin.entries (fin.insert s.riders rider (record { blocked = false })))
 riders_put s rider order none =
     let zero : balance_of rider s.entries ≡ pos 0 = no_balance s rider 1 s.entries none order.entries in
     let put = rows_put numbers (stored_rider s) (λ e. refl) rider (record { blocked = false }) tt (fin.entries s.riders) (each_unit (fin.entries s.riders)) in
@@ -179,7 +179,7 @@ riders_replaced s rider r e balance own known sum =
 abbrev pub after_command : Operator → ℕ → Key → Command → Operator
 after_command s now key c = record (effect s now c) { now = now; kept = fin.insert s.kept key (record { command = c; reply = reply_of s now c }) }
 
-pub add_rider_made : (s : Operator) (rider now : ℕ) (caller key text reply : Bor (List ℕ)) → IsInOrder s → fin.get s.riders rider ≡ None → text.now ≡ text_of (AddRider rider) → reply.now ≡ reply_text Done
+pub add_rider_made : (s : Operator) (rider now : ℕ) (caller key text reply : Bor (List ℕ)) → IsSound s → fin.get s.riders rider ≡ None → text.now ≡ text_of (AddRider rider) → reply.now ≡ reply_text Done
     → all_made (row.AddRider (record { rider = rider; blocked = false; balance = pos 0 }) ∷ row.SetMeta (record { now = now; cash = cash_of s.entries; revenue = revenue_of s.entries }) ∷ row.AddKept caller key text reply ∷ []) (tables_for s)
     ≡ tables_for (after_command s now (key_of caller.now key.now) (AddRider rider))
 add_rider_made s rider now caller key text reply order none is_text is_reply = λ i. record {
@@ -191,7 +191,7 @@ add_rider_made s rider now caller key text reply order none is_text is_reply = �
   kept : put_row_by 2 (kept_row caller.now key.now text.now reply.now) (tables_for s).kept ≡ map stored_kept (fin.entries (fin.insert s.kept (key_of caller.now key.now) (record { command = AddRider rider; reply = Done })))
   kept = ap₂ (λ (t r : List ℕ). put_row_by 2 (kept_row caller.now key.now t r) (tables_for s).kept) is_text is_reply ∙ kept_put s order caller.now key.now (record { command = AddRider rider; reply = Done })
 
-pub top_up_made : (s : Operator) (rider amount now : ℕ) (r : Rider) (entry : Entry) (balance cash : ℤ) (caller key text reply : Bor (List ℕ)) → IsInOrder s → fin.get s.riders rider ≡ Some r
+pub top_up_made : (s : Operator) (rider amount now : ℕ) (r : Rider) (entry : Entry) (balance cash : ℤ) (caller key text reply : Bor (List ℕ)) → IsSound s → fin.get s.riders rider ≡ Some r
     → entry ≡ top_up_entry (length s.entries) rider amount now → balance ≡ balance_of rider s.entries +ℤ pos amount → cash ≡ cash_of s.entries +ℤ pos amount
     → text.now ≡ text_of (TopUp rider amount) → reply.now ≡ reply_text (Balance balance)
     → all_made (row.AddEntry entry ∷ row.SetRider (record { rider = rider; blocked = r.blocked; balance = balance }) ∷ row.SetMeta (record { now = now; cash = cash; revenue = revenue_of s.entries }) ∷ row.AddKept caller key text reply ∷ []) (tables_for s)

@@ -3,7 +3,7 @@ use Rattle.std.specs.Prelude.{◌≡◌, true, List, [], ◌∷◌}
 use Rattle.sqlite.specs.Effect.{Database, IsDatabase}
 use Rattle.sqlite.specs.State.{State, Shows}
 use Rattle.bike_rows.specs.View.{put_row_by, replaced}
-use Rattle.bike_core.specs.Operator.{no_operator}
+use Rattle.bike_small.specs.Operator.{no_operator}
 use Rattle.bike_tables.specs.declared.rows.RowChange.{RowChange}
 use Rattle.bike_tables.specs.declared.rows.RowChange.TheVariants as row
 use Rattle.bike_tables.specs.Rows.{meta_row, rider_row, entry_row, kept_row}

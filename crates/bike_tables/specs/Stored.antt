@@ -9,8 +9,8 @@ use Rattle.sqlite.specs.State.{State}
 use Rattle.bike_ledger.specs.Ledger.{balance_of, cash_of, revenue_of}
 use Rattle.bike_commands.specs.Commands.{text_of}
 use Rattle.bike_commands.specs.Replies.{reply_text}
-use Rattle.bike_core.specs.Operator.{Operator, Rider, Kept, Key, no_operator}
-use Rattle.bike_core.specs.Order.{IsInOrder}
+use Rattle.bike_small.specs.Operator.{Operator, Rider, Kept, Key, no_operator}
+use Rattle.bike_small.specs.Sound.{IsSound}
 use Rattle.bike_tables.specs.Rows.{meta_row, rider_row, entry_row, kept_row}
 use Rattle.bike_tables.specs.Tables.{Tables, tables_of, HasTables, HasNone}
 
@@ -34,9 +34,9 @@ tables_for s = record {
   kept = map stored_kept (fin.entries s.kept);
 }
 
--- none of the tables and nobody, or the tables of an operator in order
+-- none of the tables and nobody, or the tables of a sound operator
 abbrev pub IsOf : Database → Operator → Type 0
-IsOf db s = (HasNone db.schema × (s ≡ no_operator)) ⊎ (HasTables db × IsInOrder s × (tables_of db ≡ tables_for s))
+IsOf db s = (HasNone db.schema × (s ≡ no_operator)) ⊎ (HasTables db × IsSound s × (tables_of db ≡ tables_for s))
 
 -- The database stands for the operator.
 pub record StandsFor (db : Database) (s : Operator) : Type 0 where

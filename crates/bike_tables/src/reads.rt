@@ -7,7 +7,7 @@ ghost use Rattle.sqlite.specs.declared.types.Value.TheVariants.{Int, Text};
 ghost use Rattle.sqlite_trees.specs.View.{doubt};
 ghost use Rattle.bike_rows.specs.View.{row_with};
 ghost use Rattle.bike_commands.specs.Replies.{reply_text};
-ghost use Rattle.bike_core.specs.View.{most_riders};
+ghost use Rattle.bike_small.specs.View.{most_riders};
 ghost use Rattle.bike_tables.specs.Rows.{meta_row, rider_row, kept_row, last_number};
 ghost use Rattle.bike_tables.specs.Tables.{tables_of, HasTables};
 

@@ -7,7 +7,7 @@ ghost use Rattle.sqlite.specs.Held.{state};
 ghost use Rattle.sqlite_trees.specs.View.{doubt};
 ghost use Rattle.sqlite_sql.specs.Aggregate.{count};
 ghost use Rattle.bike_rows.specs.View.{row_with};
-ghost use Rattle.bike_core.specs.View.{most_riders};
+ghost use Rattle.bike_small.specs.View.{most_riders};
 ghost use Rattle.bike_tables.specs.declared.rows.RowChange.TheVariants as change;
 ghost use Rattle.bike_tables.specs.Answers.{number_or_zero};
 ghost use Rattle.bike_tables.specs.Changes.{Puts};

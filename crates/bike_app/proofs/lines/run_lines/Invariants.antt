@@ -2,7 +2,7 @@ use Rattle.std.proofs.Common.{◌≤◌}
 use Rattle.std.specs.Io.KnownBytes.{prepend_known}
 use Rattle.sqlite.specs.State.{HasCleanDisk}
 use Rattle.sqlite_trees.specs.View.{doubt}
-use Rattle.bike_core.specs.Operator.{Operator}
+use Rattle.bike_small.specs.Operator.{Operator}
 use Rattle.bike_desk.specs.Desk.{shown, IsAt}
 use Rattle.bike_app.proofs.RunLemmas.{RunningKnown}
 use Rattle.bike_app.proofs.lines.run_lines.Given as goal

@@ -1,5 +1,5 @@
 use Rattle.std.proofs.Common.{length, leb, ap, ◌∙◌}
-use Rattle.bike_core.specs.View.{most_riders}
+use Rattle.bike_small.specs.View.{most_riders}
 use Rattle.bike_tables.specs.Tables.{Tables}
 use Rattle.bike_tables.proofs.StoredLemmas.{riders_count}
 use Rattle.bike_desk.proofs.KeepLemmas.{rows_of, still}

@@ -5,7 +5,7 @@ use Rattle.sqlite.specs.declared.types.Value.TheVariants.{Text}
 use Rattle.bike_rows.specs.View.{row_with}
 use Rattle.bike_commands.specs.Commands.{text_of}
 use Rattle.bike_commands.specs.Replies.{reply_text}
-use Rattle.bike_core.specs.Operator.{Kept, key_of}
+use Rattle.bike_small.specs.Operator.{Kept, key_of}
 use Rattle.bike_tables.specs.Rows.{kept_row}
 use Rattle.bike_tables.specs.Tables.{Tables}
 use Rattle.bike_tables.proofs.StoredLemmas.{kept_lookup}

@@ -4,7 +4,7 @@ use Rattle.std.specs.FinMap as map
 use Rattle.sqlite.specs.declared.types.Value.TheVariants.{Int}
 use Rattle.bike_rows.specs.View.{row_with}
 use Rattle.bike_ledger.specs.Ledger.{balance_of}
-use Rattle.bike_core.specs.Operator.{Rider}
+use Rattle.bike_small.specs.Operator.{Rider}
 use Rattle.bike_tables.specs.Rows.{rider_row}
 use Rattle.bike_tables.specs.Tables.{Tables}
 use Rattle.bike_tables.proofs.StoredLemmas.{rider_lookup}

@@ -1,11 +1,11 @@
 use Rattle.std.proofs.Common.{◌≡◌, false, [], ◌∷◌, subst}
 use Rattle.bike_commands.specs.declared.request.Request.{Request}
-use Rattle.bike_core.specs.Operator.{Operator}
-use Rattle.bike_core.specs.Runs.{accepted}
-use Rattle.bike_core.specs.Steps.{reply_of}
-use Rattle.bike_core.specs.View.{view_of}
+use Rattle.bike_small.specs.Operator.{Operator}
+use Rattle.bike_small.specs.Runs.{accepted}
+use Rattle.bike_small.specs.Steps.{reply_of}
+use Rattle.bike_small.specs.View.{view_of}
 use Rattle.bike_tables.specs.declared.rows.RowChange.TheVariants as row
-use Rattle.bike_core.specs.Order.{IsInOrder}
+use Rattle.bike_small.specs.Sound.{IsSound}
 use Rattle.bike_desk.specs.Serving.{meta_of, Accepts, AreOf, LeadsTo}
 use Rattle.bike_desk.proofs.KeepLemmas.{order_of}
 use Rattle.bike_desk.proofs.BookLemmas.{leads_rider, leads_entry}
@@ -13,7 +13,7 @@ use Rattle.bike_desk.proofs.serve.book.Given.{Over}
 use Rattle.bike_desk.proofs.serve.book.Goals as goal
 
 -- a rider is added
-rider_leads : (g : Over) (c : goal.After-make_all g) (s : Operator) (q : Request) → IsInOrder s → c.args.meta.now ≡ meta_of s → Accepts s c.args.now q (c.args.change.now ∷ []) → AreOf c.args.kept.now q (reply_of s c.args.now q.command)
+rider_leads : (g : Over) (c : goal.After-make_all g) (s : Operator) (q : Request) → IsSound s → c.args.meta.now ≡ meta_of s → Accepts s c.args.now q (c.args.change.now ∷ []) → AreOf c.args.kept.now q (reply_of s c.args.now q.command)
     → LeadsTo (row.AddRider (record { rider = c.in-AddRider.rider; blocked = false; balance = c.new.result })
     ∷ row.SetMeta (record { now = c.args.now; cash = c.args.meta.now.cash; revenue = c.args.meta.now.revenue })
     ∷ c.row-kept.result ∷ []) s (accepted s c.args.now q)
@@ -31,7 +31,7 @@ returns-in-AddRider-clause-left g c clean s q keeps is_meta seen accepts of =
     c.make_all.ensures.left clean s (accepted s c.args.now q) keeps (rider_leads g c s q (order_of g.S.Store c.args.conn.now c.args.conn.now s keeps) is_meta accepts of)
 
 -- an entry is booked
-entry_leads : (g : Over) (c : goal.After-make_all-in-AddEntry g) (s : Operator) (q : Request) → IsInOrder s → c.args.meta.now ≡ meta_of s → c.args.view.now ≡ view_of s q.command → Accepts s c.args.now q (c.args.change.now ∷ [])
+entry_leads : (g : Over) (c : goal.After-make_all-in-AddEntry g) (s : Operator) (q : Request) → IsSound s → c.args.meta.now ≡ meta_of s → c.args.view.now ≡ view_of s q.command → Accepts s c.args.now q (c.args.change.now ∷ [])
     → AreOf c.args.kept.now q (reply_of s c.args.now q.command)
     → LeadsTo (row.AddEntry c.in-AddEntry.entry
     ∷ row.SetRider c.in-Some.row

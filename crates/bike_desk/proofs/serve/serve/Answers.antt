@@ -2,8 +2,8 @@ use Rattle.std.proofs.Common.{◌≡◌, inl, Some, None, refl, ap₂, ◌∙◌
 use Rattle.std.specs.FinMap as map
 use Rattle.sqlite.specs.State.{HasCleanDisk}
 use Rattle.sqlite.specs.Held.{state}
-use Rattle.bike_core.specs.Operator.{key_of}
-use Rattle.bike_core.specs.Runs.{step, key_in}
+use Rattle.bike_small.specs.Operator.{key_of}
+use Rattle.bike_small.specs.Runs.{step, key_in}
 use Rattle.bike_tables.specs.Stored.{AllLeft, Keeps}
 use Rattle.bike_desk.specs.Desk.{TreesStandForEither}
 use Rattle.bike_desk.specs.Serving.{KeepsSame}

@@ -5,9 +5,9 @@ use Rattle.sqlite.specs.Held.{state}
 use Rattle.bike_fixed.specs.Whole.{last_moment}
 use Rattle.bike_commands.specs.declared.reply.Reply.{Reply}
 use Rattle.bike_commands.specs.Replies.{reply_text}
-use Rattle.bike_core.specs.Operator.{Operator}
-use Rattle.bike_core.specs.Changes.{Decides}
-use Rattle.bike_core.specs.Runs.{step}
+use Rattle.bike_small.specs.Operator.{Operator}
+use Rattle.bike_small.specs.Changes.{Decides}
+use Rattle.bike_small.specs.Runs.{step}
 use Rattle.bike_tables.specs.declared.rows.MetaRow.{MetaRow}
 use Rattle.bike_tables.specs.Stored.{AllLeft, Keeps}
 use Rattle.bike_desk.specs.Desk.{TreesStandForEither}

@@ -1,5 +1,5 @@
-use Rattle.bike_laws.proofs.NoOperatorLemmas.{none_in_order}
+use Rattle.bike_laws.proofs.NoOperatorLemmas.{none_sound}
 use Rattle.bike_laws.proofs.laws.no_operator_law.Goals as goal
 
 pub returns : goal.returns
-returns c = none_in_order
+returns c = none_sound

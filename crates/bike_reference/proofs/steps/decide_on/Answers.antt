@@ -17,11 +17,11 @@ effect-requires-clause-accepted c =
     record {
       operator = r.operator;
       stands = r.stands;
-      in_order = r.in_order;
+      sound = r.sound;
       command = good;
       by_now = r.by_now;
       accepted = sym (c.refusal.ensures r.operator r.stands) ∙ c.in_default.is;
-      bounded = c.view_law.ensures r.operator c.args.now command r.in_order good r.by_now;
+      bounded = c.view_law.ensures r.operator c.args.now command r.sound good r.by_now;
     }
 
 pub returns : goal.returns

@@ -7,6 +7,6 @@ decide_on-requires-clause-ready c =
     record {
       operator = r.operator;
       stands = r.stands;
-      in_order = r.in_order;
+      sound = r.sound;
       by_now = rw (c.later-now.ensures, c.moment.ensures r.operator r.stands) (omega arith);
     }

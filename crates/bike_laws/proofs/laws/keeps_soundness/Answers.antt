@@ -1,0 +1,5 @@
+use Rattle.bike_laws.proofs.OrderLemmas.{step_sound}
+use Rattle.bike_laws.proofs.laws.keeps_soundness.Goals as goal
+
+pub returns : goal.returns
+returns c = step_sound

@@ -1,0 +1,4 @@
+pub mod Decisions
+pub mod RunLemmas
+pub mod OrderLemmas
+pub mod MoneyLemmas

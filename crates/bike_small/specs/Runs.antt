@@ -1,0 +1,54 @@
+-- One step of the operator, and a list of steps.
+use Rattle.std.specs.Prelude.{◌≡◌, ℕ, max, List, [], ◌∷◌, Bool, Option, Some, None, if◌then◌else◌}
+use Rattle.std.specs.Str.{bytes_eq}
+use Rattle.std.specs.FinMap as map
+use Rattle.bike_fields.specs.Caller.{caller_text}
+use Rattle.bike_commands.specs.declared.command.Command.{Command}
+use Rattle.bike_commands.specs.declared.reply.Reply.{Reply}
+use Rattle.bike_commands.specs.declared.reply.Reply.TheVariants.{Refused}
+use Rattle.bike_commands.specs.declared.refusal.Refusal.{Refusal}
+use Rattle.bike_commands.specs.declared.refusal.Refusal.TheVariants as refusal
+use Rattle.bike_commands.specs.declared.request.Request.{Request}
+use Rattle.bike_commands.specs.Commands.{text_of}
+use Rattle.bike_small.specs.Operator.{Operator, Kept, Key, key_of}
+use Rattle.bike_small.specs.Steps.{refused, effect, reply_of}
+
+abbrev pub key_in : Request → Key
+key_in q = key_of (caller_text q.caller) q.key
+
+-- two commands are equal exactly where their texts are
+abbrev pub is_same : Command → Command → Bool
+is_same c d = bytes_eq (text_of c) (text_of d)
+
+-- the operator after an accepted request at a moment: now it is that moment, and the key keeps command and reply
+abbrev pub accepted : Operator → ℕ → Request → Operator
+accepted s now q =
+    record (effect s now q.command) { now = now; kept = map.insert s.kept (key_in q) (record { command = q.command; reply = reply_of s now q.command }) }
+
+-- a refused request changes nothing
+abbrev pub decided : Operator → ℕ → Request → Option Refusal → Reply × Operator
+decided s now q (Some r) = (Refused r, s)
+decided s now q None = (reply_of s now q.command, accepted s now q)
+
+-- a kept key answers an equal command as before and refuses another, and nothing changes
+abbrev pub answered : Operator → ℕ → Request → Option Kept → Reply × Operator
+answered s t q (Some k) = (if is_same k.command q.command then k.reply else Refused refusal.KeyReused, s)
+answered s t q None = decided s (max t s.now) q (refused s q.command)
+
+-- One step: a request that comes at a moment.
+abbrev pub step : Operator → ℕ → Request → Reply × Operator
+step s t q = answered s t q (map.get s.kept (key_in q))
+
+-- a request and the moment at which it comes
+abbrev pub Call : Type 0
+Call = ℕ × Request
+
+-- the operator after a list of requests
+abbrev pub after : Operator → List Call → Operator
+after s [] = s
+after s (c ∷ cs) = after (step s c.0 c.1).1 cs
+
+-- the replies to them
+abbrev pub replies : Operator → List Call → List Reply
+replies s [] = []
+replies s (c ∷ cs) = (step s c.0 c.1).0 ∷ replies (step s c.0 c.1).1 cs

@@ -1,0 +1,33 @@
+//! Laws of the operator over any list of requests.
+
+ghost use Rattle.std.specs.Prelude.{◌≡◌, ◌≤◌, ◌++◌, ℕ, List};
+ghost use Rattle.bike_fixed.specs.Whole.{last_moment};
+ghost use Rattle.bike_commands.specs.declared.request.Request.{Request};
+ghost use Rattle.bike_commands.specs.Requests.{IsRequest};
+ghost use Rattle.std.specs.FinMap.{keys};
+ghost use Rattle.bike_ledger.specs.Money.{IsConserved};
+ghost use Rattle.bike_small.specs.Operator.{Operator, no_operator};
+ghost use Rattle.bike_small.specs.Sound.{IsSound, AreCalls};
+ghost use Rattle.bike_small.specs.Runs.{Call, step, after, replies};
+
+/// The law of order: a step keeps an operator sound.
+pub fn keeps_soundness()
+    ensures { (s : Operator) (t : ℕ) (q : Request) → t ≤ last_moment → IsRequest q → IsSound s → IsSound (step s t q).1 }
+{}
+
+/// The law of order over lists: every list of requests leaves a sound operator sound.
+pub fn keeps_soundness_over_lists()
+    ensures { (s : Operator) (cs : List Call) → AreCalls cs → IsSound s → IsSound (after s cs) }
+{}
+
+/// The law of money over lists: after every list of requests from the operator of whom nothing was asked,
+/// the balances of all riders and the revenue together are the cash.
+pub fn money_law_over_lists()
+    ensures { (cs : List Call) → AreCalls cs → IsConserved (keys (after no_operator cs).riders) (after no_operator cs).entries }
+{}
+
+/// The law of runs: a list that is served in two parts is served as one.
+pub fn run_law()
+    ensures operator { (s : Operator) (cs ds : List Call) → after s (cs ++ ds) ≡ after (after s cs) ds }
+    ensures answers { (s : Operator) (cs ds : List Call) → replies s (cs ++ ds) ≡ replies s cs ++ replies (after s cs) ds }
+{}
