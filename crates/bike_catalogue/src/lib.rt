@@ -20,6 +20,3 @@ pub use station::Station;
 pub use system::System;
 pub use vehicle::{Form, Propulsion, vehicle_laws};
 pub use vehicle_type::VehicleType;
-
-#[cfg(test)]
-mod tests;

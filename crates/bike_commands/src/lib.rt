@@ -14,6 +14,3 @@ pub use command::Command;
 pub use refusal::Refusal;
 pub use reply::{REPLY_LENGTH, Reply};
 pub use request::Request;
-
-#[cfg(test)]
-mod tests;

@@ -13,6 +13,3 @@ mod pricing;
 pub use laws::{due_law, greatest_fare_law};
 pub use minutes::fare_by_minutes;
 pub use pricing::fare;
-
-#[cfg(test)]
-mod tests;

@@ -17,6 +17,3 @@ pub use laws::{string_laws, text_laws};
 pub use level::Level;
 pub use state::JsonState;
 pub use writer::JsonWriter;
-
-#[cfg(test)]
-mod tests;

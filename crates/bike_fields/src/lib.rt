@@ -27,6 +27,3 @@ pub use numbers::{
     BicycleNumber, DockCount, DockNumber, MaxRange, OrderNumber, OrderQuantity, Payment, Price,
     RentalNumber, RiderNumber, SegmentMinute, TimeToLive, TruckCapacity, TruckNumber,
 };
-
-#[cfg(test)]
-mod tests;

@@ -18,6 +18,3 @@ pub use micro::{Micro, coordinate_laws};
 pub use moment::Moment;
 pub use whole::{number_laws, read_signed, read_whole, signed_text};
 pub use within::Within;
-
-#[cfg(test)]
-mod tests;

@@ -11,6 +11,3 @@ pub use entry::{Entry, EntryKind, EntryNumber};
 pub use sums::{
     balance_after, bound_law, cash_after, entry_law, money_law, refundable, revenue_after,
 };
-
-#[cfg(test)]
-mod tests;

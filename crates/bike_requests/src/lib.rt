@@ -17,6 +17,3 @@ mod writing;
 pub use line::{LINE_LENGTH, read_line};
 pub use reading::read_command;
 pub use writing::{command_text, command_text_law};
-
-#[cfg(test)]
-mod tests;

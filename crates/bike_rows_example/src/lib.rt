@@ -4,6 +4,4 @@
 pub mod notes;
 pub mod parts;
 pub mod shelves;
-#[cfg(test)]
-mod tests;
 pub mod walks;

@@ -14,6 +14,3 @@ pub use buffer::{LineBuffer, ReadFault};
 pub use laws::line_laws;
 pub use line::Line;
 pub use write::{WriteFault, write_whole};
-
-#[cfg(test)]
-mod tests;

@@ -18,6 +18,3 @@ pub use bounds::{tell_end, tell_segments};
 pub use ends::{OrderEnd, Side, UnloadDock};
 pub use fare::Fare;
 pub use fields::Fields;
-
-#[cfg(test)]
-mod field_tests;

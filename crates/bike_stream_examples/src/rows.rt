@@ -2,12 +2,12 @@
 ghost use Rattle.std.specs.Prelude.{◌≡◌, ◌<◌, ◌++◌, ◌∷◌, [], ℤ, List, false, IsTrue, length, IfOk, OnOk, OnErr, MatchOption};
 ghost use Rattle.std.specs.Io.KnownBytes.{Appends};
 ghost use Rattle.bike_stream.specs.Writing.{AppendsFront};
-ghost use Rattle.bike_feeds.specs.Example.{numbered};
+ghost use Rattle.bike_stream_examples.specs.Numbered.{numbered};
 ghost use Rattle.bike_feeds.specs.Rows.{items, WroteFront};
 ghost use Rattle.bike_feeds.specs.State.{Wrote, IsAt, takes_value, takes_array_end, has_more, after_value};
 ghost use Rattle.bike_feeds.specs.Tree.{comma, text_of, items_text, array};
 
-use crate::{JsonState, Level};
+use bike_feeds::{JsonState, Level};
 use std::io;
 use std::io::Write;
 

@@ -1,10 +1,9 @@
 //! Texts that are written to writers that take few bytes, and fail.
-mod rows;
 
-use crate::{JsonWriter, TokenBuffer};
+use crate::rows::{ReportFault, RowFault, RowSource, report_length, write_report};
+use bike_feeds::{JsonWriter, TokenBuffer};
 use bike_fixed::{Cents, Micro};
 use bike_stream::WriteFault;
-use rows::{ReportFault, RowFault, RowSource, report_length, write_report};
 use serde_json::Value;
 use std::io;
 use std::io::{ErrorKind, Write};

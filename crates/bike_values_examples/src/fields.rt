@@ -1,6 +1,8 @@
 //! Each text at its bounds and past them, callers read back, and a refused request for memory.
 
-use crate::{Ascii, Bound, Caller, Currency, Field, FieldFault, Ident, Language, Name, RequestKey};
+use bike_fields::{
+    Ascii, Bound, Caller, Currency, Field, FieldFault, Ident, Language, Name, RequestKey,
+};
 use std::alloc::{AllocError, Global};
 
 /// What hinders the text from being that field's.

@@ -1,7 +1,7 @@
-//! Known fares, and the slow program beside the fast one.
+//! Known fares, which the program that goes minute by minute gives too.
 
-use crate::{fare, fare_by_minutes};
 use bike_catalogue::{Plan, Segment};
+use bike_fares::{fare, fare_by_minutes};
 use bike_fields::FieldFault;
 use bike_fixed::{Cents, Moment};
 use std::alloc::Global;
@@ -70,63 +70,8 @@ fn known_fares(rt: HostRuntime) -> Result<(), FieldFault> {
         assert!(rt; start.seconds() <= end.seconds(), "{seconds}");
         let found = fare(&plan, start, end);
         assert!(rt; found == Cents::new(hundredths), "{price} {seconds}");
-    }
-    Ok(())
-}
-
-#[test]
-fn slow_and_fast_agree(rt: HostRuntime) -> Result<(), FieldFault> {
-    let alloc = rt.alloc();
-    let most = [(0, 100_000, 1, None); 8];
-    let least = [(0, -100_000, 1, None); 8];
-    let bounds: &[Row] = &[
-        (0, 1, 0, Some(1)),
-        (43_200, 7, 1, Some(43_201)),
-        (43_201, 11, 1, None),
-        (100_000, 13, 100_000, None),
-        (0, 17, 43_200, None),
-        (0, 19, 43_201, None),
-        (0, 23, 100_000, Some(100_000)),
-        (99_999, 29, 0, Some(100_000)),
-    ];
-    let mixed: &[Row] = &[
-        (30, 25, 5, None),
-        (10, -3, 7, Some(24)),
-        (20, 50, 10, Some(21)),
-        (1, 0, 59, Some(43_200)),
-        (43_199, 5, 1, None),
-    ];
-    for (price, rows) in [
-        (0, [].as_slice()),
-        (1_000_000, most.as_slice()),
-        (1_000_000, least.as_slice()),
-        (500, bounds),
-        (100, mixed),
-    ] {
-        let plan = plan_of(alloc, price, rows)?;
-        for (start, end) in [
-            (0, 0),
-            (0, 59),
-            (0, 60),
-            (1000, 2799),
-            (1000, 2800),
-            (0, 2_591_999),
-            (0, 2_592_000),
-            (0, 2_592_060),
-            (0, 253_402_300_799),
-            (253_402_300_799, 253_402_300_799),
-        ] {
-            let (Some(start), Some(end)) = (Moment::new(start), Moment::new(end)) else {
-                assert!(rt; false, "{start} {end}");
-                continue;
-            };
-            assert!(rt; start.seconds() <= end.seconds());
-            let slow = fare_by_minutes(&plan, start, end);
-            assert!(rt;
-                fare(&plan, start, end) == slow,
-                "{price} {start:?} {end:?}"
-            );
-        }
+        let slow = fare_by_minutes(&plan, start, end);
+        assert!(rt; slow == found, "{price} {seconds}");
     }
     Ok(())
 }

@@ -1,7 +1,7 @@
 //! Each kind of field at its bounds and past them.
 
-use crate::{Fields, OrderEnd, Side};
 use bike_catalogue::Propulsion;
+use bike_texts::{Fields, OrderEnd, Side};
 use std::alloc::{AllocError, Global};
 use std::test::Fail;
 

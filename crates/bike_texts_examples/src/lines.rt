@@ -1,6 +1,6 @@
 //! Texts as they stand in lines: commands of every kind are read and written back, and what spells none is refused.
 
-use super::{command_text, read_command, read_line};
+use bike_requests::{command_text, read_command, read_line};
 use std::alloc::{AllocError, Global};
 use std::test::Fail;
 

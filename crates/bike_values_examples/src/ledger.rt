@@ -1,7 +1,7 @@
 //! Entries of each kind, and what each does to every sum.
 
-use crate::{Entry, EntryKind, balance_after, cash_after, refundable, revenue_after};
 use bike_fixed::{Cents, Moment, Within};
+use bike_ledger::{Entry, EntryKind, balance_after, cash_after, refundable, revenue_after};
 
 /// The entries of a rider who pays in 25.00, rides for 1.25 and gets 0.50 back.
 fn entries() -> Option<[Entry; 3]> {

@@ -1,6 +1,6 @@
 //! Replies as they stand in answer lines.
 
-use crate::{Refusal, Reply};
+use bike_commands::{Refusal, Reply};
 use bike_fixed::Within;
 use bike_texts::Fare;
 use std::test::Fail;

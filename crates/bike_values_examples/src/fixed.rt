@@ -1,6 +1,6 @@
 //! Outside facts: printed texts, spellings, and days of known zones.
 
-use crate::{
+use bike_fixed::{
     Cents, DayFault, Micro, Moment, Within, day_bounds, read_signed, read_whole, signed_text,
 };
 

@@ -1,5 +1,5 @@
 //! Readers and writers that give and take one byte at a time, and fail.
-use crate::{Line, LineBuffer, ReadFault, WriteFault, write_whole};
+use bike_stream::{Line, LineBuffer, ReadFault, WriteFault, write_whole};
 use std::alloc::Global;
 use std::io;
 use std::io::{ErrorKind, Read, Write};

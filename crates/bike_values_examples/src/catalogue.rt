@@ -1,6 +1,6 @@
 //! Each constructor at its bounds and past them, the first of two faults, and a refused request for memory.
 
-use crate::{Form, Plan, Propulsion, Rate, Segment, Station, System, VehicleType};
+use bike_catalogue::{Form, Plan, Propulsion, Rate, Segment, Station, System, VehicleType};
 use bike_fields::{Bound, Field, FieldFault, SegmentMinute};
 use std::alloc::Global;
 

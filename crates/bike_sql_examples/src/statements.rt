@@ -1,8 +1,14 @@
-use crate::notes::{find_note, insert_note, update_note};
-use crate::parts::{find_part, insert_part, update_part};
-use crate::shelves::{insert_shelf, walk_inventory, walk_shelf_stocks, walk_shelves_between};
-use crate::walks::{count_parts_with, last_part, walk_notes_of, walk_parts, walk_parts_between};
+//! Statements on three tables over a database in memory, which has another table before them.
+
 use bike_rows::walk::next_row;
+use bike_rows_example::notes::{find_note, insert_note, update_note};
+use bike_rows_example::parts::{find_part, insert_part, update_part};
+use bike_rows_example::shelves::{
+    insert_shelf, walk_inventory, walk_shelf_stocks, walk_shelves_between,
+};
+use bike_rows_example::walks::{
+    count_parts_with, last_part, walk_notes_of, walk_parts, walk_parts_between,
+};
 use sqlite::{Alter, Connection, Error, Row, Rows, Transaction};
 use std::test::Fail;
 
