@@ -1,5 +1,5 @@
 pub mod Tables
 pub mod Rows
-pub mod Numbers
 pub mod Stored
 pub mod Writes
+pub mod Leads
