@@ -1,5 +1,5 @@
 -- A table as the list of its rows in the order of their keys, with no rowid, tree or index in it.
-use Rattle.std.specs.Prelude.{◌≡◌, ◌&&◌, ℕ, true, not, List, [], ◌∷◌, map, filter, take, find, length, Option, None, is_some, if◌then◌else◌}
+use Rattle.std.specs.Prelude.{◌≡◌, ◌&&◌, ℕ, zero, suc, true, not, List, [], ◌∷◌, map, filter, take, find, length, Option, None, is_some, option_map, unwrap_or, if◌then◌else◌}
 use Rattle.std.specs.List.{range_with_len, list_any}
 use Rattle.std.specs.declared.cmp.Ordering.{Ordering}
 use Rattle.std.specs.declared.cmp.Ordering.TheVariants.{Equal}
@@ -37,6 +37,21 @@ put_row_by keys = put_in (by_key keys)
 -- the rows with this one in place of the row with its key, and unchanged if there is none
 abbrev pub replaced : ℕ → Row → List Row → List Row
 replaced keys row rows = if is_some (row_with keys (take keys row) rows) then put_row_by keys row rows else rows
+
+-- the rows with what `change` makes of the row with this key in its place, and unchanged if there is none
+abbrev pub updated : ℕ → Row → (Row → Row) → List Row → List Row
+updated keys key change rows = unwrap_or (option_map (λ row. put_row_by keys (change row) rows) (row_with keys key rows)) rows
+
+-- the row with this value in this column
+abbrev pub with_value : ℕ → Value → Row → Row
+with_value at value [] = []
+with_value zero value (v ∷ row) = value ∷ row
+with_value (suc at) value (v ∷ row) = v ∷ with_value at value row
+
+-- the row with each of these columns set to its value
+abbrev pub with_values : List (ℕ × Value) → Row → Row
+with_values [] row = row
+with_values (set ∷ sets) row = with_values sets (with_value set.0 set.1 row)
 
 -- no two stored rows have one rowid, wherever they stand
 abbrev pub AreSpread : List Row → Type 0

@@ -1,0 +1,10 @@
+pub mod Tables
+pub mod Rows
+pub mod Stored
+pub mod Writes
+pub mod Leads
+pub mod Between
+pub mod ChangeLaws
+pub mod CloseLaws
+pub mod NotThere
+pub mod Found

@@ -1,0 +1,137 @@
+-- Rows: how records of the operator stand in the tables, column by column. The columns of the key come first.
+use Rattle.std.specs.Prelude.{ℕ, ℤ, pos, List, [], ◌∷◌, ◌++◌, Bool, codes, if◌then◌else◌, Option, Some, None, option_map, slice_index_or}
+use Rattle.sqlite_value.specs.declared.value.Value.{Value}
+use Rattle.sqlite_value.specs.declared.value.Value.TheVariants.{Null, Int, Text}
+use Rattle.sqlite_value.specs.Order.{Row}
+use Rattle.sqlite.specs.Values.{or_null}
+use Rattle.bike_catalogue.specs.Rows.{SegmentRow, PlanRow, TypeRow, SystemRow}
+use Rattle.bike_catalogue.specs.Vehicle.{form_text, propulsion_text}
+use Rattle.bike_ledger.specs.Entries.{Entry}
+use Rattle.bike_ledger.specs.declared.entry.EntryKind.{EntryKind}
+use Rattle.bike_ledger.specs.declared.entry.EntryKind.TheVariants.{TopUp, Fare, Refund}
+use Rattle.bike_texts.specs.declared.ends.OrderEnd.{OrderEnd}
+use Rattle.bike_texts.specs.declared.ends.OrderEnd.TheVariants as end
+use Rattle.bike_operator.specs.declared.records.BikeState.{BikeState}
+use Rattle.bike_operator.specs.declared.records.BikeState.TheVariants.{Fit, Disabled, Retired}
+use Rattle.bike_operator.specs.declared.records.Place.{Place}
+use Rattle.bike_operator.specs.declared.records.Place.TheVariants as place
+use Rattle.bike_operator.specs.declared.records.Bike.{Bike}
+use Rattle.bike_operator.specs.declared.records.Rental.{Rental}
+use Rattle.bike_operator.specs.declared.records.Closing.{Closing}
+use Rattle.bike_operator.specs.declared.records.Order.{Order}
+use Rattle.bike_operator.specs.Operator.{Station}
+
+-- a truth value as its column holds it
+abbrev pub truth : Bool → ℤ
+truth b = if b then pos 1 else pos 0
+
+abbrev pub number_value : ℕ → Value
+number_value n = Int (pos n)
+
+-- one, app, version, now (seconds), cash, revenue (hundredths)
+abbrev pub meta_row : ℕ → ℕ → ℤ → ℤ → Row
+meta_row version now cash revenue = Int (pos 1) ∷ Text (codes "bikeshare") ∷ number_value version ∷ number_value now ∷ Int cash ∷ Int revenue ∷ []
+
+-- one, system_id, language, name, hours, contact, zone, currency, base_url, ttl (seconds)
+abbrev pub system_row : SystemRow → Row
+system_row x =
+    Int (pos 1) ∷ Text x.system_id ∷ Text x.language ∷ Text x.name ∷ Text x.opening_hours ∷ Text x.feed_contact_email ∷ Text x.timezone ∷ Text x.currency ∷ Text x.base_url
+    ∷ number_value x.ttl ∷ []
+
+-- plan_id, name, price (hundredths), taxable, description
+abbrev pub plan_row : List ℕ → PlanRow → Row
+plan_row id p = Text id ∷ Text p.name ∷ number_value p.price ∷ Int (truth p.taxable) ∷ Text p.description ∷ []
+
+-- plan_id, seq, start (minutes), rate (hundredths), every (minutes), finish (minutes, or NULL)
+abbrev pub segment_row : List ℕ → ℕ → SegmentRow → Row
+segment_row id seq g = Text id ∷ number_value seq ∷ number_value g.start ∷ Int g.rate ∷ number_value g.interval ∷ or_null number_value g.end ∷ []
+
+-- type_id, name, form, propulsion, range_m (metres), plan_id
+abbrev pub type_row : List ℕ → TypeRow → Row
+type_row id t = Text id ∷ Text t.name ∷ Text (form_text t.form) ∷ Text (propulsion_text t.propulsion) ∷ number_value t.max_range ∷ Text t.plan_id ∷ []
+
+-- station_id, name, lat, lon (microdegrees), docks, installed, renting, returning, reported (seconds), free, broken
+abbrev pub station_row : List ℕ → Station → ℤ → ℕ → Row
+station_row id x free broken =
+    Text id ∷ Text x.row.name ∷ Int x.row.lat ∷ Int x.row.lon ∷ number_value x.row.docks ∷ Int (truth x.is_installed) ∷ Int (truth x.is_renting) ∷ Int (truth x.is_returning)
+    ∷ number_value x.reported ∷ Int free ∷ number_value broken ∷ []
+
+-- station_id, dock, broken
+abbrev pub dock_row : List ℕ → ℕ → Bool → Row
+dock_row station dock broken = Text station ∷ number_value dock ∷ Int (truth broken) ∷ []
+
+-- 0 fit, 1 disabled, 2 retired
+abbrev pub state_number : BikeState → ℤ
+state_number Fit = pos 0
+state_number Disabled = pos 1
+state_number Retired = pos 2
+
+-- station_id, dock, rental, truck, ord: the one place, and NULL in place of the others; all NULL in the depot
+abbrev pub place_columns : Place → Row
+place_columns (place.Dock station dock) = Text station ∷ number_value dock ∷ Null ∷ Null ∷ Null ∷ []
+place_columns (place.Rental rental) = Null ∷ Null ∷ number_value rental ∷ Null ∷ Null ∷ []
+place_columns (place.Truck truck order) = Null ∷ Null ∷ Null ∷ number_value truck ∷ number_value order ∷ []
+place_columns place.Depot = Null ∷ Null ∷ Null ∷ Null ∷ Null ∷ []
+
+-- bike, type_id, state, and the columns of its place
+abbrev pub bike_row : ℕ → Bike → Row
+bike_row bike b = number_value bike ∷ Text b.type_id ∷ Int (state_number b.state) ∷ place_columns b.place
+
+-- truck, capacity
+abbrev pub truck_row : ℕ → ℕ → Row
+truck_row truck capacity = number_value truck ∷ number_value capacity ∷ []
+
+-- rider, blocked, balance (hundredths)
+abbrev pub rider_row : ℕ → Bool → ℤ → Row
+rider_row rider blocked balance = number_value rider ∷ Int (truth blocked) ∷ Int balance ∷ []
+
+-- to_station (NULL where the bicycle was recovered), finish (seconds), fare (hundredths); all NULL while it is open
+abbrev pub closing_columns : Option Closing → Row
+closing_columns None = Null ∷ Null ∷ Null ∷ []
+closing_columns (Some c) = or_null Text c.to_station ∷ number_value c.finish ∷ Int c.fare ∷ []
+
+-- rental, rider, bike, plan_id, from_station, start (seconds), the columns of its closing, refunded (hundredths)
+abbrev pub rental_row : ℕ → Rental → ℤ → Row
+rental_row rental r refunded =
+    number_value rental ∷ number_value r.rider ∷ number_value r.bike ∷ Text r.plan ∷ Text r.from_station ∷ number_value r.start ∷ (closing_columns r.closing ++ Int refunded ∷ [])
+
+-- a station's id, and * for the depot
+abbrev pub end_text : OrderEnd → List ℕ
+end_text end.Depot = codes "*"
+end_text (end.Station station) = station
+
+-- ord, truck, from_end, to_end, type_id, quantity, delivered, is_open
+abbrev pub order_row : ℕ → Order → Row
+order_row ord o =
+    number_value ord ∷ number_value o.truck ∷ Text (end_text o.from_end) ∷ Text (end_text o.to_end) ∷ Text o.type_id ∷ number_value o.count ∷ number_value o.delivered
+    ∷ Int (truth o.is_open) ∷ []
+
+-- 1 topup, 2 fare, 3 refund
+abbrev pub kind_number : EntryKind → ℤ
+kind_number TopUp = pos 1
+kind_number Fare = pos 2
+kind_number Refund = pos 3
+
+-- entry, kind, rider, rental (0 for a top-up), amount (hundredths), at (seconds)
+abbrev pub entry_row : ℕ → Entry → Row
+entry_row entry e = number_value entry ∷ Int (kind_number e.kind) ∷ number_value e.rider ∷ number_value e.rental ∷ Int e.amount ∷ number_value e.at ∷ []
+
+-- caller, req_key, command, reply, each as its text
+abbrev pub kept_row : List ℕ → List ℕ → List ℕ → List ℕ → Row
+kept_row caller key command reply = Text caller ∷ Text key ∷ Text command ∷ Text reply ∷ []
+
+-- station_id, type_id, available, disabled
+abbrev pub count_row : List ℕ → List ℕ → ℕ → ℕ → Row
+count_row station type_id available disabled = Text station ∷ Text type_id ∷ number_value available ∷ number_value disabled ∷ []
+
+-- ---- the parts of a key of two
+
+abbrev pub first_text : List (List ℕ) → List ℕ
+first_text k = slice_index_or k 0 []
+
+abbrev pub second_text : List (List ℕ) → List ℕ
+second_text k = slice_index_or k 1 []
+
+-- the number of a dock in the key of a dock
+abbrev pub second_number : List (List ℕ) → ℕ
+second_number k = slice_index_or (second_text k) 0 0

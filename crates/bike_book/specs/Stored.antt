@@ -1,0 +1,141 @@
+-- The tables of an operator: for each one the row of each record, in the order of its key, stored numbers by their definitions.
+use Rattle.std.specs.Prelude.{◌≡◌, ℕ, ℤ, pos, suc, List, [], ◌∷◌, ◌++◌, map, Option, Some, None, true, false}
+use Rattle.std.specs.FinMap as fin
+use Rattle.std.specs.FinMap.{FinMap}
+use Rattle.std.specs.FinSet.{FinSet, contains}
+use Rattle.sqlite_value.specs.Order.{Row}
+use Rattle.bike_catalogue.specs.Rows.{SegmentRow, PlanRow, TypeRow, SystemRow}
+use Rattle.bike_commands.specs.Commands.{text_of}
+use Rattle.bike_commands.specs.Replies.{reply_text}
+use Rattle.bike_ledger.specs.Entries.{Entry}
+use Rattle.bike_ledger.specs.Ledger.{balance_of, cash_of, revenue_of, refunded_of}
+use Rattle.bike_operator.specs.declared.records.Bike.{Bike}
+use Rattle.bike_operator.specs.declared.records.Rental.{Rental}
+use Rattle.bike_operator.specs.declared.records.Order.{Order}
+use Rattle.bike_operator.specs.Operator.{Operator, Station, Truck, Rider, Kept, Key, DockKey, texts_cmp, key_of, dock_key}
+use Rattle.bike_operator.specs.Counts.{available_of, docks_available, docks_broken}
+use Rattle.bike_operator.specs.Sound.{HasDock}
+use Rattle.bike_book.specs.declared.version.TheConstants.{NEWEST}
+use Rattle.bike_counts.specs.Numbers.{disabled_of}
+use Rattle.bike_book.specs.Tables.{Tables}
+use Rattle.bike_book.specs.Rows.{meta_row, system_row, plan_row, segment_row, type_row, station_row, dock_row, bike_row, truck_row, rider_row, rental_row, order_row, entry_row, kept_row, count_row, first_text, second_text, second_number}
+
+-- ---- numbered records with their numbers, from 1
+
+abbrev pub numbers_from : {A : Type 0} → ℕ → List A → List (ℕ × A)
+numbers_from n [] = []
+numbers_from n (x ∷ xs) = (n, x) ∷ numbers_from (suc n) xs
+
+abbrev pub with_numbers : {A : Type 0} → List A → List (ℕ × A)
+with_numbers xs = numbers_from 1 xs
+
+-- ---- the row of each record
+
+abbrev pub stored_plan : List ℕ × PlanRow → Row
+stored_plan e = plan_row e.0 e.1
+
+abbrev pub stored_type : List ℕ × TypeRow → Row
+stored_type e = type_row e.0 e.1
+
+-- with its docks that are available and those that are broken, as GBFS counts them
+abbrev pub stored_station : Operator → List ℕ × Station → Row
+stored_station s e = station_row e.0 e.1 (pos (docks_available s e.0 e.1.row.docks)) (docks_broken s e.0 e.1.row.docks)
+
+abbrev pub stored_dock : FinSet texts_cmp → DockKey × Unit {0} → Row
+stored_dock broken e = dock_row (first_text e.0) (second_number e.0) (contains broken e.0)
+
+abbrev pub stored_bike : ℕ × Bike → Row
+stored_bike e = bike_row e.0 e.1
+
+abbrev pub stored_truck : ℕ × Truck → Row
+stored_truck e = truck_row e.0 e.1.capacity
+
+-- with the rider's balance, which is a sum over the entries
+abbrev pub stored_rider : List Entry → ℕ × Rider → Row
+stored_rider entries e = rider_row e.0 e.1.is_blocked (balance_of e.0 entries)
+
+-- with the sum of the rental's refunds
+abbrev pub stored_rental : List Entry → ℕ × Rental → Row
+stored_rental entries e = rental_row e.0 e.1 (refunded_of e.0 entries)
+
+abbrev pub stored_order : ℕ × Order → Row
+stored_order e = order_row e.0 e.1
+
+abbrev pub stored_entry : ℕ × Entry → Row
+stored_entry e = entry_row e.0 e.1
+
+abbrev pub stored_kept : Key × Kept → Row
+stored_kept e = kept_row (first_text e.0) (second_text e.0) (text_of e.1.command) (reply_text e.1.reply)
+
+-- a station's bicycles of a type, those that can be rented and those that can't
+abbrev pub stored_count : Operator → Key × Unit {0} → Row
+stored_count s e =
+    count_row (first_text e.0) (second_text e.0) (available_of s (first_text e.0) (second_text e.0)) (disabled_of s (first_text e.0) (second_text e.0))
+
+-- ---- the rows of each table
+
+-- cash and revenue are sums over the entries
+abbrev pub meta_rows : Operator → List Row
+meta_rows s = meta_row NEWEST s.now (cash_of s.entries) (revenue_of s.entries) ∷ []
+
+abbrev pub system_rows : Option SystemRow → List Row
+system_rows None = []
+system_rows (Some x) = system_row x ∷ []
+
+abbrev pub segment_rows : List ℕ → ℕ → List SegmentRow → List Row
+segment_rows plan seq [] = []
+segment_rows plan seq (g ∷ gs) = segment_row plan seq g ∷ segment_rows plan (suc seq) gs
+
+abbrev pub plans_segments : List (List ℕ × PlanRow) → List Row
+plans_segments [] = []
+plans_segments (e ∷ es) = segment_rows e.0 1 e.1.segments ++ plans_segments es
+
+-- Which docks and which pairs of station and type have a row. A dock that works needs none, nor do counts of 0 and 0; no row is ever deleted.
+pub record Listed : Type 0 where
+  pub docks : FinMap texts_cmp (Unit {0})
+  pub counts : FinMap texts_cmp (Unit {0})
+
+abbrev pub none_listed : Listed
+none_listed = record { docks = fin.empty; counts = fin.empty }
+
+-- THE TABLES OF AN OPERATOR, with a row for each of these docks and pairs
+abbrev pub tables_for : Operator → Listed → Tables
+tables_for s m = record {
+  meta = meta_rows s;
+  system = system_rows s.system;
+  plans = map stored_plan (fin.entries s.plans);
+  segments = plans_segments (fin.entries s.plans);
+  types = map stored_type (fin.entries s.types);
+  stations = map (stored_station s) (fin.entries s.stations);
+  docks = map (stored_dock s.broken) (fin.entries m.docks);
+  bikes = map stored_bike (fin.entries s.bikes);
+  trucks = map stored_truck (fin.entries s.trucks);
+  riders = map (stored_rider s.entries) (fin.entries s.riders);
+  rentals = map (stored_rental s.entries) (with_numbers s.rentals);
+  orders = map stored_order (with_numbers s.orders);
+  entries = map stored_entry (with_numbers s.entries);
+  kept = map stored_kept (fin.entries s.kept);
+  counts = map (stored_count s) (fin.entries m.counts);
+}
+
+-- the key is that of a dock of a station
+pub record IsDockKey (s : Operator) (key : DockKey) : Type 0 where
+  pub station : List ℕ
+  pub dock : ℕ
+  pub key_is : key ≡ dock_key station dock
+  pub has : HasDock s station dock
+
+-- the key is that of a station and a type
+pub record IsCountKey (s : Operator) (key : Key) : Type 0 where
+  pub station : List ℕ
+  pub type_id : List ℕ
+  pub key_is : key ≡ key_of station type_id
+  pub has_station : fin.contains_key s.stations station ≡ true
+  pub has_type : fin.contains_key s.types type_id ≡ true
+
+-- What is listed is there, and what isn't listed works, or counts 0 and 0.
+pub record IsListing (s : Operator) (m : Listed) : Type 0 where
+  pub docks : (key : DockKey) → fin.contains_key m.docks key ≡ true → IsDockKey s key
+  pub marked : (key : DockKey) → contains s.broken key ≡ true → fin.contains_key m.docks key ≡ true
+  pub counts : (key : Key) → fin.contains_key m.counts key ≡ true → IsCountKey s key
+  pub counted : (station type_id : List ℕ) → fin.contains_key m.counts (key_of station type_id) ≡ false → (available_of s station type_id ≡ 0) × (disabled_of s station type_id ≡ 0)

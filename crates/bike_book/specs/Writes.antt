@@ -1,0 +1,87 @@
+-- What row changes do to the tables.
+use Rattle.std.specs.Prelude.{ℕ, ℤ, pos, ◌+◌, true, List, [], ◌∷◌, Option, Some, None}
+use Rattle.sqlite_value.specs.declared.value.Value.{Value}
+use Rattle.sqlite_value.specs.declared.value.Value.TheVariants.{Null, Int, Text}
+use Rattle.sqlite_value.specs.Order.{Row}
+use Rattle.bike_rows.specs.View.{put_row_by, updated, with_values}
+use Rattle.bike_operator.specs.declared.records.BikeState.{BikeState}
+use Rattle.bike_operator.specs.declared.records.BikeState.TheVariants.{Fit}
+use Rattle.bike_operator.specs.declared.records.Place.{Place}
+use Rattle.bike_operator.specs.declared.records.Place.TheVariants as place
+use Rattle.bike_operator.specs.Steps.{new_station}
+use Rattle.bike_operator.specs.Changes.{place_of, text_in}
+use Rattle.bike_book.specs.declared.row_change.RowChange.{RowChange}
+use Rattle.bike_book.specs.declared.row_change.RowChange.TheVariants as row
+use Rattle.bike_book.specs.declared.version.TheConstants.{NEWEST}
+use Rattle.bike_book.specs.Tables.{TableName, Tables, rows_in, with_rows, keys_of, Meta, System, Plans, Segments, Types, Stations, Docks, Bikes, Trucks, Riders, Rentals, Orders, Entries, Kept, Counts}
+use Rattle.bike_book.specs.Rows.{truth, number_value, state_number, place_columns, closing_columns, meta_row, system_row, plan_row, segment_row, type_row, station_row, dock_row, bike_row, truck_row, rider_row, rental_row, order_row, entry_row, kept_row, count_row}
+
+-- columns, counted from 0, and what they are set to
+abbrev pub Columns : Type 0
+Columns = List (ℕ × Value)
+
+-- One write to one table: a row is added under a key that is free, or columns are set in the row of a key, where there is one.
+pub data RowWrite : Type 0 where
+  Add : TableName → Row → RowWrite
+  Set : TableName → Row → Columns → RowWrite
+
+-- the rows of its table after a write
+abbrev pub rows_after : RowWrite → Tables → List Row
+rows_after (Add name row) t = put_row_by (keys_of name) row (rows_in t name)
+rows_after (Set name key columns) t = updated (keys_of name) key (with_values columns) (rows_in t name)
+
+abbrev pub table_of_write : RowWrite → TableName
+table_of_write (Add name row) = name
+table_of_write (Set name key columns) = name
+
+-- the tables after a write, and after a list of them
+abbrev pub tables_after : RowWrite → Tables → Tables
+tables_after w t = with_rows (table_of_write w) (rows_after w t) t
+
+abbrev pub tables_after_all : List RowWrite → Tables → Tables
+tables_after_all [] t = t
+tables_after_all (w ∷ ws) t = tables_after_all ws (tables_after w t)
+
+-- these columns, from a place on
+abbrev pub columns_from : ℕ → Row → Columns
+columns_from at [] = []
+columns_from at (v ∷ vs) = (at, v) ∷ columns_from (at + 1) vs
+
+-- THE TABLE: what each row change writes
+abbrev pub write_of : RowChange → RowWrite
+write_of (row.AddSystem x) = Add System (system_row x.now)
+write_of (row.AddPlan p) = Add Plans (plan_row p.now.plan_id p.now)
+write_of (row.AddSegment plan seq g) = Add Segments (segment_row plan.now seq g.now)
+write_of (row.AddType t) = Add Types (type_row t.now.type_id t.now)
+write_of (row.SetDefaultPlan type_id plan) = Set Types (Text type_id.now ∷ []) ((5, Text plan.now) ∷ [])
+write_of (row.AddStation x reported) = Add Stations (station_row x.now.station_id (new_station x.now reported) (pos x.now.docks) 0)
+write_of (row.SetFlags station installed renting returning reported) =
+    Set Stations (Text station.now ∷ []) ((5, Int (truth installed)) ∷ (6, Int (truth renting)) ∷ (7, Int (truth returning)) ∷ (8, number_value reported) ∷ [])
+write_of (row.SetReported station reported) = Set Stations (Text station.now ∷ []) ((8, number_value reported) ∷ [])
+write_of (row.SetDocks station free broken) = Set Stations (Text station.now ∷ []) ((9, number_value free) ∷ (10, number_value broken) ∷ [])
+write_of (row.AddDock station dock broken) = Add Docks (dock_row station.now dock broken)
+write_of (row.SetDock station dock broken) = Set Docks (Text station.now ∷ number_value dock ∷ []) ((2, Int (truth broken)) ∷ [])
+write_of (row.AddBike bike type_id) = Add Bikes (bike_row bike (record { type_id = type_id.now; state = Fit; place = place.Depot }))
+write_of (row.SetBike bike state p) = Set Bikes (number_value bike ∷ []) ((2, Int (state_number state)) ∷ columns_from 3 (place_columns (place_of p)))
+write_of (row.AddTruck truck capacity) = Add Trucks (truck_row truck capacity)
+write_of (row.AddRider rider blocked) = Add Riders (rider_row rider blocked (pos 0))
+write_of (row.SetBlocked rider blocked) = Set Riders (number_value rider ∷ []) ((1, Int (truth blocked)) ∷ [])
+write_of (row.SetBalance rider balance) = Set Riders (number_value rider ∷ []) ((2, Int balance) ∷ [])
+write_of (row.AddRental rental rider bike plan from_station start) =
+    Add Rentals (rental_row rental (record { rider = rider; bike = bike; plan = plan.now; from_station = from_station.now; start = start; closing = None }) (pos 0))
+write_of (row.CloseRental rental to_station finish fare) =
+    Set Rentals (number_value rental ∷ []) (columns_from 6 (closing_columns (Some (record { to_station = text_in to_station; finish = finish; fare = fare }))))
+write_of (row.SetRefunded rental refunded) = Set Rentals (number_value rental ∷ []) ((9, Int refunded) ∷ [])
+write_of (row.AddOrder order truck from_end to_end type_id count) =
+    Add Orders (order_row order (record { truck = truck; from_end = from_end.now; to_end = to_end.now; type_id = type_id.now; count = count; delivered = 0; is_open = true }))
+write_of (row.SetOrder order delivered is_open) = Set Orders (number_value order ∷ []) ((6, number_value delivered) ∷ (7, Int (truth is_open)) ∷ [])
+write_of (row.AddEntry e) = Add Entries (entry_row e.now.number e.now)
+write_of (row.AddKept caller key command reply) = Add Kept (kept_row caller.now key.now command.now reply.now)
+write_of (row.AddCount station type_id available disabled) = Add Counts (count_row station.now type_id.now available disabled)
+write_of (row.SetCount station type_id available disabled) =
+    Set Counts (Text station.now ∷ Text type_id.now ∷ []) ((2, number_value available) ∷ (3, number_value disabled) ∷ [])
+write_of (row.SetMeta now cash revenue) = Set Meta (Int (pos 1) ∷ []) ((3, number_value now) ∷ (4, Int cash) ∷ (5, Int revenue) ∷ [])
+
+abbrev pub writes_of : List RowChange → List RowWrite
+writes_of [] = []
+writes_of (c ∷ cs) = write_of c ∷ writes_of cs

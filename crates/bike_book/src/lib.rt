@@ -1,0 +1,17 @@
+//! The tables that stand for an operator, and what each change makes of them.
+//!
+//! `specs/Stored` gives the tables of an operator, row by row, with every stored number as a count or a sum over his
+//! records; `specs/Writes` what a row change does to the tables. The laws say which row changes lead from the tables of one
+//! operator to those of the next.
+#![tactic(auto)]
+
+mod laws;
+mod row_change;
+mod version;
+
+pub use laws::{
+    books_catalogue, books_close, books_fleet, books_in_turn, books_rentals, finds_rows,
+    leaves_close, starts_at_zero,
+};
+pub use row_change::RowChange;
+pub use version::NEWEST;

@@ -1,0 +1,3 @@
+//! The numbers of a station that are stored, as counts over the operator's records, and how a bicycle that is put somewhere or a
+//! dock that is marked changes them.
+#![tactic(auto)]
