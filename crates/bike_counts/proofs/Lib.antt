@@ -4,3 +4,4 @@ pub mod CountLemmas
 pub mod DockLaw
 pub mod PutLaw
 pub mod MarkLaw
+pub mod ShareLaw

@@ -4,4 +4,4 @@
 
 mod laws;
 
-pub use laws::{docks_law, mark_law, put_law};
+pub use laws::{docks_law, mark_law, put_law, share_law};
