@@ -1,3 +1,5 @@
 pub mod MapRows
 pub mod Keys
 pub mod NumberRows
+pub mod ListingLemmas
+pub mod BooksLemmas
