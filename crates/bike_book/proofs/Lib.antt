@@ -6,3 +6,6 @@ pub mod BooksLemmas
 pub mod CatalogueBooks
 pub mod FleetBooks
 pub mod RentalBooks
+pub mod PlanBooks
+pub mod LedgerRows
+pub mod CloseBooks
