@@ -9,3 +9,4 @@ pub mod RentalBooks
 pub mod PlanBooks
 pub mod LedgerRows
 pub mod CloseBooks
+pub mod SoundNumbers

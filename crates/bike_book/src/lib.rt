@@ -5,8 +5,12 @@
 //! operator to those of the next.
 #![tactic(auto)]
 
+mod laws;
 mod row_change;
 mod version;
 
+pub use laws::{
+    books_catalogue, books_close, books_fleet, books_rentals, leaves_close, starts_at_zero,
+};
 pub use row_change::RowChange;
 pub use version::NEWEST;
