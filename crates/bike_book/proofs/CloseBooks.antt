@@ -2,6 +2,7 @@
 use Rattle.std.proofs.Common.{◌≡◌, ℕ, ℤ, ◌+◌, List, [], ◌∷◌, ◌++◌, length, Option, Some, None, refl, sym, ap, ap₂, ◌∙◌}
 use Rattle.std.specs.Prelude.{map}
 use Rattle.std.specs.FinMap as fin
+use Rattle.std.specs.FinMap.{FinMap}
 use Rattle.bike_rows.specs.View.{put_row_by}
 use Rattle.bike_ledger.specs.Entries.{Entry}
 use Rattle.bike_ledger.specs.Ledger.{cash_of, revenue_of}
@@ -10,16 +11,16 @@ use Rattle.bike_commands.specs.declared.request.Request.{Request}
 use Rattle.bike_operator.specs.declared.change.Change.{Change}
 use Rattle.bike_operator.specs.declared.change.Change.TheVariants as change
 use Rattle.bike_operator.specs.declared.change.Accepted.{Accepted}
-use Rattle.bike_operator.specs.Operator.{Operator, Kept, Key, numbered}
+use Rattle.bike_operator.specs.Operator.{Operator, Kept, Key, texts_cmp, numbered}
 use Rattle.bike_operator.specs.Changes.{changed, all_changed, present, entry_added, made}
-use Rattle.bike_operator.specs.Runs.{key_in}
+use Rattle.bike_operator.specs.Runs.{key_in, accepted}
 use Rattle.bike_places.proofs.ItemLemmas.{number_last}
 use Rattle.bike_book.specs.declared.version.TheConstants.{NEWEST}
 use Rattle.bike_book.specs.Rows.{meta_row, kept_row}
 use Rattle.bike_book.specs.Stored.{stored_kept}
 use Rattle.bike_book.specs.Between.{tables_between}
 use Rattle.bike_book.specs.ChangeLaws.{LeavesLedger, ChangesLeaveLedger}
-use Rattle.bike_book.specs.CloseLaws.{closed, AreKept, AreTextsOf, AreNumbersWith, QuietCloseLaw, EntryCloseLaw, RefundCloseLaw, AtEachClose, AcceptedIsClosed, LastEntryNumber}
+use Rattle.bike_book.specs.CloseLaws.{closed, AreKept, AreTextsOf, AreNumbersWith, QuietCloseLaw, EntryCloseLaw, RefundCloseLaw, AtEachClose, AcceptedIsClosed, AcceptedEntryNumber, ChangesLeaveKept}
 use Rattle.bike_book.proofs.MapRows.{put_entries}
 use Rattle.bike_book.proofs.Keys.{pairs, IsPair}
 use Rattle.bike_book.proofs.ListingLemmas.{names_same, listing_same}
@@ -114,5 +115,14 @@ pub accepted_closed : AcceptedIsClosed
 accepted_closed s now q a decides =
     (λ i. record (sym decides.2 i) { now = now; kept = fin.insert (sym (kept_stays now a s) i) (key_in q) (record { command = q.command; reply = sym decides.1 i }) })
 
-pub last_number : LastEntryNumber
-last_number s before e sound is = (sound.entries (length before + 1) e (ap (numbered (length before + 1)) is ∙ number_last before e)).number_is
+pub accepted_entry : AcceptedEntryNumber
+accepted_entry s now q a e decides entry_is sound =
+    let before = all_changed now (present a.changes) s in
+    let n = accepted s now q in
+    let entries : n.entries ≡ before.entries ++ e ∷ [] =
+    ap (λ (o : Operator). o.entries) (accepted_closed s now q a decides) ∙ ap (λ (o : Option Entry). (entry_added o before).entries) entry_is in
+    let last : numbered (length before.entries + 1) n.entries ≡ Some e = ap (numbered (length before.entries + 1)) entries ∙ number_last before.entries e in
+    (sound.ledger.entries (length before.entries + 1) e last).number_is
+
+pub kept_left : ChangesLeaveKept
+kept_left s now changes sound key k found = sound.kept key k (ap (λ (m : FinMap texts_cmp Kept). fin.get m key) (sym (changes_leave now changes s).kept) ∙ found)

@@ -87,7 +87,7 @@ module _ (version old : ℕ) (c r : ℤ) where
   abbrev meta : Row
   meta = meta_row version old c r
 
-  meta_found : row_with 1 (number_key 1) (meta ∷ []) ≡ Some meta
+  pub meta_found : row_with 1 (number_key 1) (meta ∷ []) ≡ Some meta
   meta_found = rw one_key refl
 
   meta_put : (now : ℕ) (cash revenue : ℤ) → put_row_by 1 (meta_row version now cash revenue) (meta ∷ []) ≡ meta_row version now cash revenue ∷ []

@@ -10,3 +10,6 @@ pub mod PlanBooks
 pub mod LedgerRows
 pub mod CloseBooks
 pub mod SoundNumbers
+pub mod FoundKeys
+pub mod FoundNumbers
+pub mod FoundColumns

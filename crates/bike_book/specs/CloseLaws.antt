@@ -9,11 +9,12 @@ use Rattle.bike_commands.specs.declared.reply.Reply.{Reply}
 use Rattle.bike_commands.specs.declared.request.Request.{Request}
 use Rattle.bike_commands.specs.Commands.{text_of}
 use Rattle.bike_commands.specs.Replies.{reply_text}
+use Rattle.bike_operator.specs.declared.change.Change.{Change}
 use Rattle.bike_operator.specs.declared.change.Accepted.{Accepted}
 use Rattle.bike_operator.specs.Operator.{Operator, Kept, Key}
-use Rattle.bike_operator.specs.Changes.{Decides, made, entry_added}
+use Rattle.bike_operator.specs.Changes.{Decides, made, all_changed, present, entry_added}
 use Rattle.bike_operator.specs.Runs.{key_in, accepted}
-use Rattle.bike_operator.specs.Sound.{IsKept, IsLedgerSound}
+use Rattle.bike_operator.specs.Sound.{IsKept, IsSound}
 use Rattle.bike_book.specs.declared.row_change.RowChange.{RowChange}
 use Rattle.bike_book.specs.declared.row_change.RowChange.TheVariants as row
 use Rattle.bike_book.specs.Stored.{Listed, IsListing}
@@ -73,6 +74,12 @@ AtEachClose Law =
 abbrev pub AcceptedIsClosed : Type 0
 AcceptedIsClosed = (s : Operator) (now : ℕ) (q : Request) (a : Accepted) → Decides s now q.command (Ok a) → accepted s now q ≡ closed now q a.reply (made now a s)
 
--- The last entry of a sound ledger has the next number after the entries before it.
-abbrev pub LastEntryNumber : Type 0
-LastEntryNumber = (s : Operator) (before : List Entry) (e : Entry) → IsLedgerSound s → s.entries ≡ before ++ e ∷ [] → e.number ≡ length before + 1
+-- The entry of an accepted request has the next number, where the operator after the request is sound.
+abbrev pub AcceptedEntryNumber : Type 0
+AcceptedEntryNumber =
+    (s : Operator) (now : ℕ) (q : Request) (a : Accepted) (e : Entry) → Decides s now q.command (Ok a) → a.entry ≡ Some e → IsSound (accepted s now q)
+    → e.number ≡ length (all_changed now (present a.changes) s).entries + 1
+
+-- What is kept stands under a caller and a key between two changes too.
+abbrev pub ChangesLeaveKept : Type 0
+ChangesLeaveKept = (s : Operator) (now : ℕ) (changes : List Change) → IsSound s → AreKept (all_changed now changes s)

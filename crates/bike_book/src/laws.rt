@@ -1,7 +1,8 @@
 //! The laws: which row changes book each change of the operator.
 
 ghost use Rattle.bike_book.specs.ChangeLaws.{Everywhere, SetSystemLaw, AddPlanLaw, AddTypeLaw, SetPlanLaw, AddStationLaw, SetStationLaw, AddBikeLaw, AddTruckLaw, AddRiderLaw, SetRiderLaw, AddRentalLaw, CloseRentalLaw, AddOrderLaw, DeliverLaw, CloseOrderLaw, ChangesLeaveLedger};
-ghost use Rattle.bike_book.specs.CloseLaws.{AtEachClose, QuietCloseLaw, EntryCloseLaw, RefundCloseLaw, AcceptedIsClosed, LastEntryNumber};
+ghost use Rattle.bike_book.specs.CloseLaws.{AtEachClose, QuietCloseLaw, EntryCloseLaw, RefundCloseLaw, AcceptedIsClosed, AcceptedEntryNumber, ChangesLeaveKept};
+ghost use Rattle.bike_book.specs.Found.{WhereListed, FoundByKey, FoundListed, FoundByColumns, FoundNumbers};
 ghost use Rattle.bike_book.specs.NotThere.{WhereSound, NoRefundsYet, NoBalanceYet, NoneDockedYet, NoneBrokenYet};
 
 /// The laws of the changes of the catalogue.
@@ -42,7 +43,8 @@ pub fn books_close()
 pub fn leaves_close()
     ensures changes { ChangesLeaveLedger }
     ensures accepted { AcceptedIsClosed }
-    ensures last_entry { LastEntryNumber }
+    ensures entry_number { AcceptedEntryNumber }
+    ensures kept { ChangesLeaveKept }
 {}
 
 /// What soundness says of a rental, a rider and a station that isn't there: its numbers are 0.
@@ -51,4 +53,12 @@ pub fn starts_at_zero()
     ensures balance { WhereSound NoBalanceYet }
     ensures docked { WhereSound NoneDockedYet }
     ensures broken { WhereSound NoneBrokenYet }
+{}
+
+/// What is found in the tables of a sound operator: rows by their keys and by other columns, and how many there are.
+pub fn finds_rows()
+    ensures by_key { WhereListed FoundByKey }
+    ensures listed { WhereListed FoundListed }
+    ensures by_columns { WhereListed FoundByColumns }
+    ensures numbers { WhereListed FoundNumbers }
 {}
