@@ -49,7 +49,7 @@ module _ (bike : ℕ) (type_id : List ℕ) (old state : BikeState) where
   row_turned (place.Truck truck order) q = over Null Null Null (number_value truck) (number_value order) q
   row_turned place.Depot q = over Null Null Null Null Null q
 
-key_found : (m : FinMap nat_cmp Bike) (bike : ℕ) (f : Bike → Bike) (b : Bike) → fin.get m bike ≡ Some b → key_changed m bike f ≡ fin.insert m bike (f b)
+pub key_found : (m : FinMap nat_cmp Bike) (bike : ℕ) (f : Bike → Bike) (b : Bike) → fin.get m bike ≡ Some b → key_changed m bike f ≡ fin.insert m bike (f b)
 key_found m bike f b found = ap (found_changed m bike f) found
 
 pub bikes_set : (m : FinMap nat_cmp Bike) (bike : ℕ) (f : Bike → Bike) (b : Bike) (state : BikeState) (p : Place) → fin.get m bike ≡ Some b → record b { state = state; place = p } ≡ f b

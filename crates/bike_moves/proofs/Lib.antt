@@ -5,3 +5,5 @@ pub mod BikeMoves
 pub mod BikeBooks
 pub mod DockMarks
 pub mod MarkBooks
+pub mod After
+pub mod Ends
