@@ -47,7 +47,11 @@ no_shares = record { occupied = 0; available = 0; disabled = 0 }
 
 -- in a dock that is broken, or works
 abbrev pub dock_shares : Bool → BikeState → Shares
-dock_shares broken state = record { occupied = one (not broken); available = one (is_fit state && not broken); disabled = one (not (is_fit state && not broken)) }
+dock_shares broken state = record {
+  occupied = one (not broken);
+  available = one (is_fit state && not broken);
+  disabled = one (not (is_fit state && not broken));
+}
 
 -- in a place: where it is a dock, one that is broken, or works
 abbrev pub place_shares : Bool → BikeState → Place → Shares
@@ -114,8 +118,10 @@ pub record PutLaw (s next : Operator) (number : ℕ) (b : Bike) : Type 0 where
 
 -- its docks that are available, of which a bicycle in a working dock takes one
 abbrev pub PutDocksLaw : Operator → Operator → ℕ → Bike → Type 0
-PutDocksLaw s next number b = (station : List ℕ) (docks : ℕ) → HasDocks s station docks → HasDocks next station docks
-    → IsMoved (docks_available s station docks) (docks_available next station docks) (occupied_share s station (Some b)) (occupied_share s station (map.get s.bikes number))
+PutDocksLaw s next number b =
+    (station : List ℕ) (docks : ℕ) → HasDocks s station docks → HasDocks next station docks
+    → IsMoved (docks_available s station docks) (docks_available next station docks)
+    (occupied_share s station (Some b)) (occupied_share s station (map.get s.bikes number))
 
 -- ---- a dock marked
 

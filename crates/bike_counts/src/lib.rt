@@ -1,5 +1,5 @@
-//! The numbers of a station that are stored, as counts over the operator's records, and how a bicycle that is put somewhere or a
-//! dock that is marked changes them.
+//! The numbers of a station that are stored, as counts over the operator's records, and how a bicycle that is put
+//! somewhere or a dock that is marked changes them.
 #![tactic(auto)]
 
 mod laws;

@@ -28,7 +28,8 @@ module _ (s : Operator) (now : ℕ) where
 
   abbrev pub AfterPlace : Type 0
   AfterPlace =
-      (bike : ℕ) (b : Bike) (p : NewPlace) → map.get s.bikes bike ≡ Some b → map.get (changed now (change.PlaceBike bike p) s).bikes bike ≡ Some (record b { place = place_of p })
+      (bike : ℕ) (b : Bike) (p : NewPlace) → map.get s.bikes bike ≡ Some b
+      → map.get (changed now (change.PlaceBike bike p) s).bikes bike ≡ Some (record b { place = place_of p })
 
   abbrev pub AfterPlaceAway : Type 0
   AfterPlaceAway =
@@ -38,13 +39,15 @@ module _ (s : Operator) (now : ℕ) where
   abbrev pub AfterPlaceAt : Type 0
   AfterPlaceAt =
       (bike : ℕ) (b : Bike) (p : NewPlace) (station : List ℕ) (d e : DockTotals) (n o : BikeTotals) → IsPlacedAt s bike b (place_of p) station d e n o
-      → HasDockTotals (changed now (change.PlaceBike bike p) s) station e × HasBikeTotals (changed now (change.PlaceBike bike p) s) station b.type_id o
+      → HasDockTotals (changed now (change.PlaceBike bike p) s) station e
+      × HasBikeTotals (changed now (change.PlaceBike bike p) s) station b.type_id o
 
   -- ---- a bicycle's state
 
   abbrev pub AfterTurn : Type 0
   AfterTurn =
-      (bike : ℕ) (b : Bike) (state : BikeState) → map.get s.bikes bike ≡ Some b → map.get (changed now (change.SetState bike state) s).bikes bike ≡ Some (record b { state = state })
+      (bike : ℕ) (b : Bike) (state : BikeState) → map.get s.bikes bike ≡ Some b
+      → map.get (changed now (change.SetState bike state) s).bikes bike ≡ Some (record b { state = state })
 
   abbrev pub AfterTurnAway : Type 0
   AfterTurnAway =
@@ -67,7 +70,8 @@ module _ (s : Operator) (now : ℕ) where
   AfterMarkHeld =
       (station : Bor (List ℕ)) (dock : ℕ) (broken : Bool) (bike : ℕ) (b : Bike) (d e : DockTotals) (n o : BikeTotals)
       → AreBikesSound s → IsMarkedHeld s station.now dock broken bike b d e n o
-      → HasDockTotals (changed now (mark_change broken station dock) s) station.now e × HasBikeTotals (changed now (mark_change broken station dock) s) station.now b.type_id o
+      → HasDockTotals (changed now (mark_change broken station dock) s) station.now e
+      × HasBikeTotals (changed now (mark_change broken station dock) s) station.now b.type_id o
 
 -- the law of each operator, at each moment
 abbrev pub Always : (Operator → ℕ → Type 0) → Type 0

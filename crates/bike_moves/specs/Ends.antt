@@ -18,4 +18,6 @@ StoredDocksLaw =
 
 -- row changes that book all changes of a request lead from the operator's own tables to those of the next
 abbrev pub SoundEndsLaw : Type 0
-SoundEndsLaw = (changes : List RowChange) (s n : Operator) (m w : Listed) → AreBikesSound s → AreBikesSound n → Books changes s m n w → LeadsTo changes s m n w
+SoundEndsLaw =
+    (changes : List RowChange) (s n : Operator) (m w : Listed) → AreBikesSound s → AreBikesSound n
+    → Books changes s m n w → LeadsTo changes s m n w

@@ -37,7 +37,7 @@ pub record HasBikeTotals (s : Operator) (station type_id : List ℕ) (n : BikeTo
   pub available : available_of s station type_id ≡ n.available
   pub disabled : disabled_of s station type_id ≡ n.disabled
 
--- ---- how they move
+-- ---- how they move: d and n are the numbers before, e and o those after
 
 -- The bicycle added the one shares and adds the others now. A dock that it takes isn't available.
 pub record DocksMove (old new : DockTotals) (less more : Shares) : Type 0 where
@@ -49,7 +49,8 @@ pub record BikesMove (old new : BikeTotals) (less more : Shares) : Type 0 where
   pub disabled : IsMoved old.disabled new.disabled less.disabled more.disabled
 
 -- A bicycle is put from a dock of the station, or into one; other docks it neither leaves nor takes.
-pub record IsPlacedAt (s : Operator) (bike : ℕ) (b : Bike) (to : Place) (station : List ℕ) (d e : DockTotals) (n o : BikeTotals) : Type 0 where
+pub record IsPlacedAt (s : Operator) (bike : ℕ) (b : Bike) (to : Place) (station : List ℕ)
+    (d e : DockTotals) (n o : BikeTotals) : Type 0 where
   pub found : map.get s.bikes bike ≡ Some b
   pub from_broken : Bool
   pub to_broken : Bool
@@ -77,7 +78,8 @@ pub record IsMarkedEmpty (s : Operator) (station : List ℕ) (dock : ℕ) (broke
   pub broken_moves : IsMoved d.broken e.broken (one (is_broken s station dock)) (one broken)
 
 -- A dock of the station with a bicycle in it is marked. It wasn't available, and isn't.
-pub record IsMarkedHeld (s : Operator) (station : List ℕ) (dock : ℕ) (broken : Bool) (bike : ℕ) (b : Bike) (d e : DockTotals) (n o : BikeTotals) : Type 0 where
+pub record IsMarkedHeld (s : Operator) (station : List ℕ) (dock : ℕ) (broken : Bool) (bike : ℕ) (b : Bike)
+    (d e : DockTotals) (n o : BikeTotals) : Type 0 where
   pub has : HasDock s station dock
   pub held : docked_at s station dock ≡ Some (bike, b)
   pub docks : HasDockTotals s station d

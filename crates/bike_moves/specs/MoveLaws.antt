@@ -21,7 +21,8 @@ use Rattle.bike_moves.specs.Facts.{DockTotals, BikeTotals, IsPlacedAt, IsTurnedA
 
 abbrev pub count_change : Listed → Bor (List ℕ) → Bor (List ℕ) → BikeTotals → RowChange
 count_change m station type_id n =
-    if map.contains_key m.counts (key_of station.now type_id.now) then row.SetCount station type_id n.available n.disabled else row.AddCount station type_id n.available n.disabled
+    if map.contains_key m.counts (key_of station.now type_id.now) then row.SetCount station type_id n.available n.disabled
+    else row.AddCount station type_id n.available n.disabled
 
 abbrev pub dock_change : Listed → Bor (List ℕ) → ℕ → Bool → RowChange
 dock_change m station dock broken =
@@ -69,13 +70,15 @@ module _ (s : Operator) (m : Listed) (now : ℕ) where
   TurnAtLaw =
       (bike : ℕ) (b : Bike) (state : BikeState) (p : NewPlace) (station type_id : Bor (List ℕ)) (n o : BikeTotals)
       → place_of p ≡ b.place → type_id.now ≡ b.type_id → IsTurnedAt s bike b state station.now n o
-      → Books (row.SetBike bike state p ∷ count_change m station type_id o ∷ []) s m (changed now (change.SetState bike state) s) (with_count station.now type_id.now m)
+      → Books (row.SetBike bike state p ∷ count_change m station type_id o ∷ []) s m
+      (changed now (change.SetState bike state) s) (with_count station.now type_id.now m)
 
   -- an empty dock
   abbrev pub MarkEmptyLaw : Type 0
   MarkEmptyLaw =
       (station : Bor (List ℕ)) (dock : ℕ) (broken : Bool) (d e : DockTotals) → AreBikesSound s → IsMarkedEmpty s station.now dock broken d e
-      → Books (dock_change m station dock broken ∷ row.SetDocks station e.free e.broken ∷ []) s m (changed now (mark_change broken station dock) s) (with_dock station.now dock m)
+      → Books (dock_change m station dock broken ∷ row.SetDocks station e.free e.broken ∷ []) s m
+      (changed now (mark_change broken station dock) s) (with_dock station.now dock m)
 
   -- a dock with a bicycle in it
   abbrev pub MarkHeldLaw : Type 0

@@ -1,4 +1,4 @@
-//! The laws: which row changes book each change, what stands after it, and what holds at both ends of a request.
+//! The laws: which row changes book each change, what stands after it, and what holds at the ends of a request.
 
 ghost use Rattle.bike_book.specs.ChangeLaws.{Everywhere};
 ghost use Rattle.bike_moves.specs.AfterLaws.{Always, AfterReport, AfterPlace, AfterPlaceAway, AfterPlaceAt, AfterTurn, AfterTurnAway, AfterTurnAt, AfterMarkEmpty, AfterMarkHeld};
@@ -28,8 +28,8 @@ pub fn books_mark()
     ensures held { Everywhere MarkHeldLaw }
 {}
 
-/// What stands after each of these changes, for the next change of the same request: the bicycle's record, and the
-/// numbers of its station and type.
+/// What stands after each of these changes, for the next change of the same request: the bicycle's record, and
+/// the numbers of its station and type.
 pub fn stands_after()
     ensures report { Always AfterReport }
     ensures place { Always AfterPlace }
@@ -42,8 +42,8 @@ pub fn stands_after()
     ensures mark_held { Always AfterMarkHeld }
 {}
 
-/// The law of both ends of a request: between two sound operators, row changes that book what lies between lead from
-/// the tables of the one to those of the other, and a station's numbers begin as they are stored.
+/// The law of both ends of a request: between two sound operators, row changes that book what lies between lead
+/// from the tables of the one to those of the other, and a station's numbers begin as they are stored.
 pub fn books_request()
     ensures stored { StoredDocksLaw }
     ensures ends { SoundEndsLaw }

@@ -1,7 +1,8 @@
 //! Bicycles that move and docks that are marked, as row changes.
 //!
-//! Between two changes of one request no operator need be sound. So the laws by change hold over tables with each station's
-//! docks left in place of its docks available, and turn to the operator's own tables at both ends of the request.
+//! Between two changes of one request no operator need be sound. So the laws by change hold over tables with each
+//! station's docks left in place of its docks available. At both ends of the request these are the operator's own
+//! tables.
 #![tactic(auto)]
 
 mod laws;
