@@ -1,5 +1,5 @@
 -- The rows found by columns that are no key: the segments of a plan, bicycles by their places, and a rider's open rental.
-use Rattle.std.proofs.Common.{◌≡◌, inl, inr, ℕ, suc, List, [], ◌∷◌, ◌++◌, length, filter, find, Bool, true, false, cond, ◌&&◌, ◌||◌, T, Option, Some, None, is_some, refl, sym, ap, ap₂, ◌∙◌}
+use Rattle.std.proofs.Common.{◌≡◌, inl, inr, ℕ, suc, List, [], ◌∷◌, ◌++◌, length, filter, find, Bool, true, false, cond, ◌&&◌, ◌||◌, T, Some, is_some, refl, sym, ap, ap₂, ◌∙◌}
 use Rattle.std.specs.Prelude.{map, slice_get, option_map, ◌==◌}
 use Rattle.std.specs.List.{list_any}
 use Rattle.std.specs.Ordering.{nat_cmp, eq_by_cmp, is_eq, ordering_then}
@@ -28,6 +28,7 @@ use Rattle.bike_book.specs.Stored.{numbers_from, with_numbers, segment_rows, pla
 use Rattle.bike_book.specs.Found.{WhereListed, FoundByColumns, segments_in, rows_open}
 use Rattle.bike_book.proofs.MapRows.{both, below_has}
 use Rattle.bike_book.proofs.Keys.{value_cmp-number_value}
+use Rattle.bike_book.proofs.FoundKeys.{mapped_some}
 use Rattle.bike_book.proofs.FoundNumbers.{finish_null, same_length}
 
 -- ---- rows that pass are those of the records that pass
@@ -158,10 +159,6 @@ module _ (es : List Entry) (rider : ℕ) (rs : List Rental) where
 
   open_found : slice_get (rows_open (rows_where (1 ∷ []) (number_value rider ∷ []) (map (stored_rental es) (with_numbers rs)))) 0 ≡ option_map (stored_rental es) (find is_open_of_rider (with_numbers rs))
   open_found = ap (λ (xs : List Row). slice_get xs 0) rows_are ∙ first_found (stored_rental es) is_open_of_rider (with_numbers rs)
-
-mapped_some : {A B : Type 0} (f : A → B) (o : Option A) → is_some (option_map f o) ≡ is_some o
-mapped_some f None = refl
-mapped_some f (Some x) = refl
 
 any_found : (rider : ℕ) (n : ℕ) (rs : List Rental) → is_some (find (is_open_of_rider [] rider rs) (numbers_from n rs)) ≡ list_any (λ r. (r.rider == rider) && is_open r) rs
 any_found rider n [] = refl
