@@ -1,0 +1,10 @@
+//! Bicycles that move and docks that are marked, as row changes.
+//!
+//! Between two changes of one request no operator need be sound. So the laws by change hold over tables with each
+//! station's docks left in place of its docks available. At both ends of the request these are the operator's own
+//! tables.
+#![tactic(auto)]
+
+mod laws;
+
+pub use laws::{books_mark, books_place, books_report, books_request, books_state, stands_after};
