@@ -7,7 +7,7 @@ use Rattle.bike_operator.specs.declared.records.Closing.{Closing}
 use Rattle.bike_operator.specs.declared.view.RentalView.{RentalView}
 use Rattle.bike_operator.specs.declared.view.View.{View}
 use Rattle.bike_operator.specs.Counts.{is_open}
-use Rattle.bike_operator.specs.View.{most_entries}
+use Rattle.bike_operator.specs.declared.limits.TheConstants.{MOST_ENTRIES}
 use Rattle.bike_operator.specs.Steps.{first, is_ledger_full, on}
 use Rattle.bike_operator.specs.Bounds.{IsBounded, IsRentalWithin, IsOpenCounted}
 
@@ -27,15 +27,15 @@ none_holds (t ∷ ts) e = let p = passed t.0 t.1 (first ts) e in (p.0, none_hold
 pub in_some : {A : Type 0} (P : A → Type 0) (o : Option A) (x : A) → IfSome o P → o ≡ Some x → P x
 in_some P o x h e = subst (λ r. IfSome r P) e h
 
-pub ledger_room : (v : View) → is_ledger_full v ≡ false → v.entries + v.open_rentals < most_entries
-ledger_room v e = leb-false most_entries (v.entries + v.open_rentals) e
+pub ledger_room : (v : View) → is_ledger_full v ≡ false → v.entries + v.open_rentals < MOST_ENTRIES
+ledger_room v e = leb-false MOST_ENTRIES (v.entries + v.open_rentals) e
 
 counted : (n : ℕ) (o : Option Closing) → is_none o ≡ true → IsOpenCounted n o → 1 ≤ n
 counted n None is h = h
 counted n (Some c) is h = absurd cc
 
 -- an open rental has room for its fare
-open_room : (v : View) (now : ℕ) (r : RentalView) → IsBounded v now → v.rental ≡ Some r → is_open r.rental ≡ true → v.entries < most_entries
+open_room : (v : View) (now : ℕ) (r : RentalView) → IsBounded v now → v.rental ≡ Some r → is_open r.rental ≡ true → v.entries < MOST_ENTRIES
 open_room v now r b e is =
     let counts = counted v.open_rentals r.rental.closing is (in_some (λ r. IsRentalWithin v.entries now r × IsOpenCounted v.open_rentals r.rental.closing) v.rental r b.rental e).1 in
     omega (arith, b.few_entries, counts)
@@ -48,7 +48,7 @@ held_open None P h e = absurd cc
 held_open (Some b) P h e = h
 
 -- the rental of a bicycle
-pub held_room : (v : View) (now : ℕ) (r : RentalView) → IsBounded v now → is_none v.bike ≡ false → v.rental ≡ Some r → v.entries < most_entries
+pub held_room : (v : View) (now : ℕ) (r : RentalView) → IsBounded v now → is_none v.bike ≡ false → v.rental ≡ Some r → v.entries < MOST_ENTRIES
 held_room v now r b there e =
     open_room v now r b e (in_some (λ r. is_open r.rental ≡ true) v.rental r (held_open v.bike (IfSome v.rental (λ r. is_open r.rental ≡ true)) b.held there) e)
 
@@ -57,5 +57,5 @@ not_false true e = refl
 not_false false e = absurd cc
 
 -- an open rental that is recovered
-pub recovered_room : (v : View) (now : ℕ) (r : RentalView) → IsBounded v now → on v.rental (λ r. not (is_open r.rental)) ≡ false → v.rental ≡ Some r → v.entries < most_entries
+pub recovered_room : (v : View) (now : ℕ) (r : RentalView) → IsBounded v now → on v.rental (λ r. not (is_open r.rental)) ≡ false → v.rental ≡ Some r → v.entries < MOST_ENTRIES
 recovered_room v now r b is e = open_room v now r b e (not_false (is_open r.rental) (rw e at is))

@@ -10,7 +10,8 @@ use Rattle.bike_operator.specs.Runs.{Call, after, replies}
 use Rattle.bike_operator.specs.Steps.{refused, effect, reply_of}
 use Rattle.bike_operator.specs.Sound.{IsSound}
 use Rattle.bike_operator.specs.Bounds.{IsBounded, IsRentalWithin}
-use Rattle.bike_operator.specs.View.{view_of, most_entries}
+use Rattle.bike_operator.specs.View.{view_of}
+use Rattle.bike_operator.specs.declared.limits.TheConstants.{MOST_ENTRIES}
 use Rattle.bike_operator.specs.declared.view.RentalView.{RentalView}
 use Rattle.bike_plain.specs.declared.plain.Plain.{Plain}
 use Rattle.bike_plain.specs.Stands.{Stands}
@@ -44,7 +45,7 @@ pub record IsAccepted (p : Plain) (now : ℕ) (c : Command) : Type 0 where
 pub record IsDue (p : Plain) (now : ℕ) (r : RentalView) : Type 0 where
   pub operator : Operator
   pub stands : Stands p operator
-  pub room : length operator.entries < most_entries
+  pub room : length operator.entries < MOST_ENTRIES
   pub within : IsRentalWithin (length operator.entries) now r
 
 -- the refusal of each operator for whom the lists stand
