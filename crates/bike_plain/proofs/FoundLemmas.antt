@@ -6,9 +6,9 @@ use Rattle.std.specs.List.{list_any}
 use Rattle.std.specs.Ordering.{nat_cmp}
 use Rattle.std.specs.FinMap.{find, get, len}
 use Rattle.bike_operator.specs.Operator.{Operator, text_cmp, key_of, numbered}
-use Rattle.bike_operator.specs.Counts.{count, docked_at, is_broken, is_dock, is_on_truck, is_for_order, loaded, on_truck, is_open, is_riding, open_rentals}
+use Rattle.bike_operator.specs.Counts.{count, docked_at, is_broken, is_dock, is_on_truck, is_for_order, truck_load, order_load, is_open, is_riding, open_rentals}
 use Rattle.bike_ledger.specs.Ledger.{balance_of}
-use Rattle.bike_operator.specs.View.{truck_view, rider_view}
+use Rattle.bike_operator.specs.View.{truck_view, truck_at, rider_view, rider_at}
 use Rattle.bike_operator.specs.declared.view.TruckView.{TruckView}
 use Rattle.bike_operator.specs.declared.view.RiderView.{RiderView}
 use Rattle.bike_refusals.specs.Facts.{if_any, bike_row, rental_row, order_row}
@@ -63,10 +63,10 @@ kept_found p s caller key stands = sym (stands.kept caller key)
 pub docked_found : (p : Plain) (s : Operator) (station : List ℕ) (dock : ℕ) → Stands p s → find_first (λ b. is_dock station dock b.1.place) (valued bike_row p.bikes.items) ≡ docked_at s station dock
 docked_found p s station dock stands = ap (find_first (λ b. is_dock station dock b.1.place)) (sym stands.bikes)
 
-pub loaded_counted : (p : Plain) (s : Operator) (truck : ℕ) → Stands p s → count (λ b. is_on_truck truck b.1.place) (valued bike_row p.bikes.items) ≡ loaded s truck
+pub loaded_counted : (p : Plain) (s : Operator) (truck : ℕ) → Stands p s → count (λ b. is_on_truck truck b.1.place) (valued bike_row p.bikes.items) ≡ truck_load s truck
 loaded_counted p s truck stands = ap (count (λ b. is_on_truck truck b.1.place)) (sym stands.bikes)
 
-pub on_truck_counted : (p : Plain) (s : Operator) (order : ℕ) → Stands p s → count (λ b. is_for_order order b.1.place) (valued bike_row p.bikes.items) ≡ on_truck s order
+pub on_truck_counted : (p : Plain) (s : Operator) (order : ℕ) → Stands p s → count (λ b. is_for_order order b.1.place) (valued bike_row p.bikes.items) ≡ order_load s order
 on_truck_counted p s order stands = ap (count (λ b. is_for_order order b.1.place)) (sym stands.bikes)
 
 pub order_found : (p : Plain) (s : Operator) (n : ℕ) → Stands p s → if_any order_row (numbered n p.orders.items) ≡ numbered n s.orders
@@ -87,34 +87,28 @@ orders_counted p s stands = sym (ap length stands.orders ∙ length-map p.orders
 pub rentals_counted : (p : Plain) (s : Operator) → Stands p s → length p.rentals.items ≡ length s.rentals
 rentals_counted p s stands = sym (ap length stands.rentals ∙ length-map p.rentals.items rental_row)
 
-view-truck : (s : Operator) (n : ℕ) (o : Option ℕ) → truck_view s n (if_any truck_row o) ≡ if_any (λ c. record { capacity = c; loaded = loaded s n }) o
-view-truck s n None = refl
-view-truck s n (Some c) = refl
+view-truck : (o : Option ℕ) → truck_view (if_any truck_row o) ≡ if_any (λ c. record { capacity = c }) o
+view-truck None = refl
+view-truck (Some c) = refl
 
-view-rider : (s : Operator) (n : ℕ) (o : Option Bool) → rider_view s n (if_any rider_row o) ≡ if_any (λ b. record { is_blocked = b; balance = balance_of n s.entries; is_riding = is_riding s n }) o
+view-rider : (s : Operator) (n : ℕ) (o : Option Bool) → rider_view s n (if_any rider_row o) ≡ if_any (λ b. record { is_blocked = b; balance = balance_of n s.entries }) o
 view-rider s n None = refl
 view-rider s n (Some b) = refl
 
 -- a truck and a rider, as the lists have them
-abbrev pub truck_in : Plain → ℕ → ℕ → TruckView
-truck_in p n capacity = record { capacity = capacity; loaded = count (λ b. is_on_truck n b.1.place) (valued bike_row p.bikes.items) }
+abbrev pub truck_in : ℕ → TruckView
+truck_in capacity = record { capacity = capacity }
 
 abbrev pub rider_in : Plain → ℕ → Bool → RiderView
-rider_in p n is_blocked = record {
-  is_blocked = is_blocked;
-  balance = balance_of n p.entries.items;
-  is_riding = list_any (λ r. (r.rider == n) && is_open r) (map rental_row p.rentals.items);
-}
+rider_in p n is_blocked = record { is_blocked = is_blocked; balance = balance_of n p.entries.items }
 
-pub truck_seen : (p : Plain) (s : Operator) (n : ℕ) → Stands p s → truck_view s n (get s.trucks n) ≡ if_any (truck_in p n) (find nat_cmp n p.trucks.items)
-truck_seen p s n stands =
-    ap (truck_view s n) (sym (truck_found p s n stands)) ∙ view-truck s n (find nat_cmp n p.trucks.items)
-    ∙ (λ i. if_any (λ c. record { capacity = c; loaded = sym (loaded_counted p s n stands) i }) (find nat_cmp n p.trucks.items))
+pub truck_seen : (p : Plain) (s : Operator) (n : ℕ) → Stands p s → truck_at s n ≡ if_any truck_in (find nat_cmp n p.trucks.items)
+truck_seen p s n stands = ap truck_view (sym (truck_found p s n stands)) ∙ view-truck (find nat_cmp n p.trucks.items)
 
-pub rider_seen : (p : Plain) (s : Operator) (n : ℕ) → Stands p s → rider_view s n (get s.riders n) ≡ if_any (rider_in p n) (find nat_cmp n p.riders.items)
+pub rider_seen : (p : Plain) (s : Operator) (n : ℕ) → Stands p s → rider_at s n ≡ if_any (rider_in p n) (find nat_cmp n p.riders.items)
 rider_seen p s n stands =
     ap (rider_view s n) (sym (rider_found p s n stands)) ∙ view-rider s n (find nat_cmp n p.riders.items)
-    ∙ (λ i. if_any (λ b. record { is_blocked = b; balance = balance_of n (stands.entries i); is_riding = sym (riding_found p s n stands) i }) (find nat_cmp n p.riders.items))
+    ∙ (λ i. if_any (λ b. record { is_blocked = b; balance = balance_of n (stands.entries i) }) (find nat_cmp n p.riders.items))
 
 pub balance_counted : (p : Plain) (s : Operator) (rider : ℕ) → Stands p s → balance_of rider p.entries.items ≡ balance_of rider s.entries
 balance_counted p s rider stands = ap (balance_of rider) (sym stands.entries)

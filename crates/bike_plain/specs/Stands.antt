@@ -8,7 +8,7 @@ use Rattle.bike_catalogue.specs.Rows.{TypeRow}
 use Rattle.bike_commands.specs.declared.command.Command.{Command}
 use Rattle.bike_commands.specs.declared.reply.Reply.{Reply}
 use Rattle.bike_operator.specs.Operator.{Operator, Station, Truck, Rider, Kept, texts_cmp, dock_key, key_of}
-use Rattle.bike_operator.specs.View.{most_plans, most_types, most_stations, most_bikes, most_trucks, most_riders, most_orders, most_entries}
+use Rattle.bike_operator.specs.declared.limits.TheConstants.{MOST_PLANS, MOST_TYPES, MOST_STATIONS, MOST_BIKES, MOST_TRUCKS, MOST_RIDERS, MOST_ORDERS, MOST_ENTRIES}
 use Rattle.bike_refusals.specs.Facts.{if_any, bike_row, rental_row, order_row}
 use Rattle.bike_plain.specs.declared.facts.TypeFacts.{TypeFacts}
 use Rattle.bike_plain.specs.declared.facts.StationFacts.{StationFacts}
@@ -61,12 +61,12 @@ pub record Stands (p : Plain) (s : Operator) : Type 0 where
 
 -- The lists are no longer than an operator's may be.
 pub record IsSmall (p : Plain) : Type 0 where
-  pub plans : length p.plans.items ≤ most_plans
-  pub types : length p.types.items ≤ most_types
-  pub stations : length p.stations.items ≤ most_stations
-  pub bikes : length p.bikes.items ≤ most_bikes
-  pub trucks : length p.trucks.items ≤ most_trucks
-  pub riders : length p.riders.items ≤ most_riders
-  pub rentals : length p.rentals.items ≤ most_entries
-  pub orders : length p.orders.items ≤ most_orders
-  pub entries : length p.entries.items ≤ most_entries
+  pub plans : length p.plans.items ≤ MOST_PLANS
+  pub types : length p.types.items ≤ MOST_TYPES
+  pub stations : length p.stations.items ≤ MOST_STATIONS
+  pub bikes : length p.bikes.items ≤ MOST_BIKES
+  pub trucks : length p.trucks.items ≤ MOST_TRUCKS
+  pub riders : length p.riders.items ≤ MOST_RIDERS
+  pub rentals : length p.rentals.items ≤ MOST_ENTRIES
+  pub orders : length p.orders.items ≤ MOST_ORDERS
+  pub entries : length p.entries.items ≤ MOST_ENTRIES

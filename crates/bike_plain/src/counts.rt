@@ -5,7 +5,7 @@ ghost use Rattle.std.specs.Str.{bytes_eq};
 ghost use Rattle.bike_operator.specs.Operator.{Operator};
 ghost use Rattle.bike_operator.specs.Changes.{place_of};
 ghost use Rattle.bike_operator.specs.Counts.{count, is_at, is_fit, docks_up_to, available, available_of, disabled, docks_available, docks_broken};
-ghost use Rattle.bike_operator.specs.View.{most_bikes};
+ghost use Rattle.bike_operator.specs.declared.limits.TheConstants.{MOST_BIKES};
 ghost use Rattle.bike_refusals.specs.Facts.{bike_row};
 ghost use Rattle.bike_lists.specs.Rows.{valued, is_listed};
 ghost use Rattle.bike_plain.specs.Stands.{Stands, IsSmall};
@@ -60,7 +60,7 @@ fn count_to_rent(
     bikes: &[(BicycleNumber, BikeFacts)],
     station: &Ident,
 ) -> u32
-    requires { length bikes.now ≤ most_bikes }
+    requires { length bikes.now ≤ MOST_BIKES }
     ensures { result ≡ count (λ b. is_to_rent broken.now station.now b.1) (valued bike_row bikes.now) }
 {
     let mut count = 0;
@@ -79,7 +79,7 @@ fn count_to_rent_of(
     station: &Ident,
     type_id: &Ident,
 ) -> u32
-    requires { length bikes.now ≤ most_bikes }
+    requires { length bikes.now ≤ MOST_BIKES }
     ensures { result ≡ count (λ b. bytes_eq b.1.type_id type_id.now && is_to_rent broken.now station.now b.1) (valued bike_row bikes.now) }
 {
     let mut count = 0;
@@ -97,7 +97,7 @@ fn count_not_to_rent(
     bikes: &[(BicycleNumber, BikeFacts)],
     station: &Ident,
 ) -> u32
-    requires { length bikes.now ≤ most_bikes }
+    requires { length bikes.now ≤ MOST_BIKES }
     ensures { result ≡ count (λ b. is_at station.now b.1.place && not (is_to_rent broken.now station.now b.1)) (valued bike_row bikes.now) }
 {
     let mut count = 0;

@@ -3,9 +3,10 @@
 ghost use Rattle.std.specs.Prelude.{◌≡◌, nat_le, length};
 ghost use Rattle.std.specs.FinMap.{get, len};
 ghost use Rattle.bike_operator.specs.Operator.{Operator, numbered};
-ghost use Rattle.bike_operator.specs.Counts.{docked_at, is_broken};
-ghost use Rattle.bike_operator.specs.View.{docked_view, truck_view, order_view, has_end, most_bikes, most_trucks, most_orders};
-ghost use Rattle.bike_refusals.specs.Facts.{if_any, bike_row, docked_row, order_count};
+ghost use Rattle.bike_operator.specs.Counts.{docked_at, is_broken, truck_load, order_load};
+ghost use Rattle.bike_operator.specs.View.{docked_view, truck_at, has_end};
+ghost use Rattle.bike_operator.specs.declared.limits.TheConstants.{MOST_BIKES, MOST_TRUCKS, MOST_ORDERS};
+ghost use Rattle.bike_refusals.specs.Facts.{if_any, bike_row, docked_row, order_row};
 ghost use Rattle.bike_plain.specs.Stands.{Stands, IsSmall};
 
 use crate::places::{docked_at, loaded, on_truck};
@@ -13,7 +14,7 @@ use crate::plain::Plain;
 use bike_fields::{BicycleNumber, Ident, TruckNumber};
 use bike_lists::{find_number, is_listed, numbered};
 use bike_operator::TruckView;
-use bike_refusals::{BikeFacts, DockedFacts, OrderCount};
+use bike_refusals::{BikeFacts, DockedFacts, OrderFacts};
 use bike_texts::OrderEnd;
 
 impl<'a> Plain<'a> {
@@ -36,7 +37,7 @@ impl<'a> Plain<'a> {
     /// Whether there are as many bicycles as there may be.
     #[tactic(auto, using(crate::proofs::FoundLemmas::bikes_counted))]
     pub fn bikes_full(&self) -> bool
-        ensures { (s : Operator) → Stands self.now s → result ≡ nat_le most_bikes (len s.bikes) }
+        ensures { (s : Operator) → Stands self.now s → result ≡ nat_le MOST_BIKES (len s.bikes) }
     {
         self.bikes.len() >= 100_000
     }
@@ -52,6 +53,7 @@ impl<'a> Plain<'a> {
                 None => None,
                 Some(vehicle_type) => Some(DockedFacts {
                     bike: number,
+                    type_id: bike.type_id,
                     state: bike.state,
                     plan: vehicle_type.plan,
                 }),
@@ -59,42 +61,50 @@ impl<'a> Plain<'a> {
         }
     }
 
-    /// The truck of that number, with how many bicycles are on it.
+    /// The truck of that number.
     #[tactic(auto, using(crate::proofs::FoundLemmas::truck_seen))]
     pub fn truck(&self, number: TruckNumber) -> Option<TruckView>
-        requires { IsSmall self.now }
-        ensures { (s : Operator) → Stands self.now s → result ≡ truck_view s number (get s.trucks number) }
+        ensures { (s : Operator) → Stands self.now s → result ≡ truck_at s number }
     {
         match find_number(&self.trucks, number) {
             None => None,
-            Some(capacity) => Some(TruckView {
-                capacity,
-                loaded: loaded(number, &self.bikes),
-            }),
+            Some(capacity) => Some(TruckView { capacity }),
         }
+    }
+
+    /// How many bicycles are on a truck.
+    #[tactic(auto, using(crate::proofs::FoundLemmas::loaded_counted))]
+    pub fn truck_load(&self, number: TruckNumber) -> u32
+        requires { IsSmall self.now }
+        ensures { (s : Operator) → Stands self.now s → result ≡ truck_load s number }
+    {
+        loaded(number, &self.bikes)
     }
 
     /// Whether there are as many trucks as there may be.
     #[tactic(auto, using(crate::proofs::FoundLemmas::trucks_counted))]
     pub fn trucks_full(&self) -> bool
-        ensures { (s : Operator) → Stands self.now s → result ≡ nat_le most_trucks (len s.trucks) }
+        ensures { (s : Operator) → Stands self.now s → result ≡ nat_le MOST_TRUCKS (len s.trucks) }
     {
         self.trucks.len() >= 1000
     }
 
-    /// The order of that number, with how many bicycles are on the truck for it.
-    #[tactic(auto, using(crate::proofs::FoundLemmas::order_found, crate::proofs::FoundLemmas::on_truck_counted))]
-    pub fn order(&self, number: u32) -> Option<OrderCount<'a>>
+    /// The order of that number.
+    #[tactic(auto, using(crate::proofs::FoundLemmas::order_found))]
+    pub fn order(&self, number: u32) -> Option<OrderFacts<'a>>
         requires { IsSmall self.now }
-        ensures { (s : Operator) → Stands self.now s → if_any order_count result ≡ order_view s number (numbered number s.orders) }
+        ensures { (s : Operator) → Stands self.now s → if_any order_row result ≡ numbered number s.orders }
     {
-        match numbered(&self.orders, number) {
-            None => None,
-            Some(order) => Some(OrderCount {
-                order,
-                on_truck: on_truck(number, &self.bikes),
-            }),
-        }
+        numbered(&self.orders, number)
+    }
+
+    /// How many bicycles are on the truck for an order.
+    #[tactic(auto, using(crate::proofs::FoundLemmas::on_truck_counted))]
+    pub fn order_load(&self, number: u32) -> u32
+        requires { IsSmall self.now }
+        ensures { (s : Operator) → Stands self.now s → result ≡ order_load s number }
+    {
+        on_truck(number, &self.bikes)
     }
 
     /// How many orders there are.
@@ -109,7 +119,7 @@ impl<'a> Plain<'a> {
     /// Whether there are as many orders as there may be.
     #[tactic(auto, using(crate::proofs::FoundLemmas::orders_counted))]
     pub fn orders_full(&self) -> bool
-        ensures { (s : Operator) → Stands self.now s → result ≡ nat_le most_orders (length s.orders) }
+        ensures { (s : Operator) → Stands self.now s → result ≡ nat_le MOST_ORDERS (length s.orders) }
     {
         self.orders.len() >= 10_000_000
     }

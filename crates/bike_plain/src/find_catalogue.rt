@@ -3,7 +3,8 @@
 ghost use Rattle.std.specs.Prelude.{◌≡◌, nat_le, is_some};
 ghost use Rattle.std.specs.FinMap.{get, len};
 ghost use Rattle.bike_operator.specs.Operator.{Operator};
-ghost use Rattle.bike_operator.specs.View.{station_view, most_plans, most_types, most_stations};
+ghost use Rattle.bike_operator.specs.View.{station_view};
+ghost use Rattle.bike_operator.specs.declared.limits.TheConstants.{MOST_PLANS, MOST_TYPES, MOST_STATIONS};
 ghost use Rattle.bike_refusals.specs.Facts.{if_any};
 ghost use Rattle.bike_plain.specs.Stands.{Stands, type_row, station_row};
 
@@ -64,7 +65,7 @@ impl<'a> Plain<'a> {
     /// Whether there are as many plans as there may be.
     #[tactic(auto, using(crate::proofs::FoundLemmas::plans_counted))]
     pub fn plans_full(&self) -> bool
-        ensures { (s : Operator) → Stands self.now s → result ≡ nat_le most_plans (len s.plans) }
+        ensures { (s : Operator) → Stands self.now s → result ≡ nat_le MOST_PLANS (len s.plans) }
     {
         self.plans.len() >= 256
     }
@@ -72,7 +73,7 @@ impl<'a> Plain<'a> {
     /// Whether there are as many vehicle types as there may be.
     #[tactic(auto, using(crate::proofs::FoundLemmas::types_counted))]
     pub fn types_full(&self) -> bool
-        ensures { (s : Operator) → Stands self.now s → result ≡ nat_le most_types (len s.types) }
+        ensures { (s : Operator) → Stands self.now s → result ≡ nat_le MOST_TYPES (len s.types) }
     {
         self.types.len() >= 32
     }
@@ -80,7 +81,7 @@ impl<'a> Plain<'a> {
     /// Whether there are as many stations as there may be.
     #[tactic(auto, using(crate::proofs::FoundLemmas::stations_counted))]
     pub fn stations_full(&self) -> bool
-        ensures { (s : Operator) → Stands self.now s → result ≡ nat_le most_stations (len s.stations) }
+        ensures { (s : Operator) → Stands self.now s → result ≡ nat_le MOST_STATIONS (len s.stations) }
     {
         self.stations.len() >= 5000
     }

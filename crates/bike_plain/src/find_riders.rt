@@ -4,8 +4,9 @@ ghost use Rattle.std.specs.Prelude.{◌≡◌, ◌≤◌, nat_le, ◌+◌, lengt
 ghost use Rattle.std.specs.FinMap.{get, len};
 ghost use Rattle.bike_ledger.specs.Ledger.{balance_of};
 ghost use Rattle.bike_operator.specs.Operator.{Operator, numbered, key_of};
-ghost use Rattle.bike_operator.specs.Counts.{open_rentals};
-ghost use Rattle.bike_operator.specs.View.{rider_view, rental_view, rental_of, most_riders, most_entries};
+ghost use Rattle.bike_operator.specs.Counts.{is_riding, open_rentals};
+ghost use Rattle.bike_operator.specs.View.{rider_at, rental_view, rental_of};
+ghost use Rattle.bike_operator.specs.declared.limits.TheConstants.{MOST_RIDERS, MOST_ENTRIES};
 ghost use Rattle.bike_refusals.specs.Facts.{if_any, bike_row, rental_sums};
 ghost use Rattle.bike_plain.specs.Stands.{Stands, IsSmall, kept_answer};
 
@@ -24,16 +25,24 @@ impl<'a> Plain<'a> {
     #[tactic(auto, using(crate::proofs::FoundLemmas::rider_seen))]
     pub fn rider(&self, number: RiderNumber) -> Option<RiderView>
         requires { IsSmall self.now }
-        ensures { (s : Operator) → Stands self.now s → result ≡ rider_view s number (get s.riders number) }
+        ensures { (s : Operator) → Stands self.now s → result ≡ rider_at s number }
     {
         match find_number(&self.riders, number) {
             None => None,
             Some(is_blocked) => Some(RiderView {
                 is_blocked,
                 balance: balance_of(number, &self.entries),
-                is_riding: is_riding(number, &self.rentals),
             }),
         }
+    }
+
+    /// Whether the rider has an open rental.
+    #[tactic(auto, using(crate::proofs::FoundLemmas::riding_found))]
+    pub fn is_riding(&self, number: RiderNumber) -> bool
+        requires { IsSmall self.now }
+        ensures { (s : Operator) → Stands self.now s → result ≡ is_riding s number }
+    {
+        is_riding(number, &self.rentals)
     }
 
     /// The balance of a rider's entries, in hundredths.
@@ -48,7 +57,7 @@ impl<'a> Plain<'a> {
     /// Whether there are as many riders as there may be.
     #[tactic(auto, using(crate::proofs::FoundLemmas::riders_counted))]
     pub fn riders_full(&self) -> bool
-        ensures { (s : Operator) → Stands self.now s → result ≡ nat_le most_riders (len s.riders) }
+        ensures { (s : Operator) → Stands self.now s → result ≡ nat_le MOST_RIDERS (len s.riders) }
     {
         self.riders.len() >= 500_000
     }
@@ -121,7 +130,7 @@ impl<'a> Plain<'a> {
     #[tactic(auto, using(crate::proofs::FoundLemmas::open_counted))]
     pub fn is_ledger_full(&self) -> bool
         requires { IsSmall self.now }
-        ensures { (s : Operator) → Stands self.now s → result ≡ nat_le most_entries (length s.entries + open_rentals s) }
+        ensures { (s : Operator) → Stands self.now s → result ≡ nat_le MOST_ENTRIES (length s.entries + open_rentals s) }
     {
         self.entries.len() as u32 + count_open(&self.rentals) >= 100_000_000
     }

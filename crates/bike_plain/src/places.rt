@@ -3,7 +3,7 @@
 ghost use Rattle.std.specs.Prelude.{◌≡◌, ◌≤◌, length, find};
 ghost use Rattle.bike_operator.specs.Changes.{place_of};
 ghost use Rattle.bike_operator.specs.Counts.{count, is_dock, is_on_truck, is_for_order};
-ghost use Rattle.bike_operator.specs.View.{most_bikes};
+ghost use Rattle.bike_operator.specs.declared.limits.TheConstants.{MOST_BIKES};
 ghost use Rattle.bike_refusals.specs.Facts.{if_any, bike_row};
 ghost use Rattle.bike_lists.specs.Rows.{valued};
 
@@ -52,7 +52,7 @@ fn is_on_truck(truck: TruckNumber, place: &NewPlace) -> bool
 
 /// How many bicycles are on a truck.
 pub(crate) fn loaded(truck: TruckNumber, bikes: &[(BicycleNumber, BikeFacts)]) -> u32
-    requires { length bikes.now ≤ most_bikes }
+    requires { length bikes.now ≤ MOST_BIKES }
     ensures { result ≡ count (λ b. is_on_truck truck b.1.place) (valued bike_row bikes.now) }
 {
     let mut count = 0;
@@ -79,7 +79,7 @@ fn is_for_order(order: u32, place: &NewPlace) -> bool
 
 /// How many bicycles are on a truck for an order.
 pub(crate) fn on_truck(order: u32, bikes: &[(BicycleNumber, BikeFacts)]) -> u32
-    requires { length bikes.now ≤ most_bikes }
+    requires { length bikes.now ≤ MOST_BIKES }
     ensures { result ≡ count (λ b. is_for_order order b.1.place) (valued bike_row bikes.now) }
 {
     let mut count = 0;

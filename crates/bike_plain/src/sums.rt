@@ -4,7 +4,7 @@ ghost use Rattle.std.specs.Prelude.{◌≡◌, ◌≤◌, ◌≤ℤ◌, ◌==◌
 ghost use Rattle.std.specs.List.{list_any};
 ghost use Rattle.bike_ledger.specs.Ledger.{share, balance_of, given_back_of, refunded_of};
 ghost use Rattle.bike_operator.specs.Counts.{count, is_open};
-ghost use Rattle.bike_operator.specs.View.{most_entries};
+ghost use Rattle.bike_operator.specs.declared.limits.TheConstants.{MOST_ENTRIES};
 ghost use Rattle.bike_refusals.specs.Facts.{rental_row};
 
 use bike_fields::RiderNumber;
@@ -30,7 +30,7 @@ fn share(rider: RiderNumber, entry: &Entry) -> i64
 
 /// A rider's balance in hundredths.
 pub(crate) fn balance_of(rider: RiderNumber, entries: &[Entry]) -> i64
-    requires { length entries.now ≤ most_entries }
+    requires { length entries.now ≤ MOST_ENTRIES }
     ensures { result ≡ balance_of rider entries.now }
 {
     let mut total = 0;
@@ -59,7 +59,7 @@ fn given_back(rental: u32, entry: &Entry) -> i64
 
 /// All refunds of a rental, in hundredths.
 pub(crate) fn refunded_of(rental: u32, entries: &[Entry]) -> i64
-    requires { length entries.now ≤ most_entries }
+    requires { length entries.now ≤ MOST_ENTRIES }
     ensures { result ≡ refunded_of rental entries.now }
 {
     let mut total = 0;
@@ -90,7 +90,7 @@ pub(crate) fn is_riding(rider: RiderNumber, rentals: &[RentalFacts]) -> bool
 
 /// How many rentals are open.
 pub(crate) fn count_open(rentals: &[RentalFacts]) -> u32
-    requires { length rentals.now ≤ most_entries }
+    requires { length rentals.now ≤ MOST_ENTRIES }
     ensures value { result ≡ count is_open (map rental_row rentals.now) }
     ensures few { result ≤ length rentals.now }
 {

@@ -1,5 +1,5 @@
 -- What plain lists owe to the operator for which they stand.
-use Rattle.std.specs.Prelude.{◌≡◌, ◌≤◌, ◌<◌, ℕ, length, List, ◌++◌, false, Option, None, is_some, Result, IfOk}
+use Rattle.std.specs.Prelude.{◌≡◌, ◌≤◌, ℕ, length, List, ◌++◌, Option, None, is_some, Result, IfOk}
 use Rattle.std.specs.declared.alloc.AllocError.{AllocError}
 use Rattle.bike_commands.specs.declared.command.Command.{Command}
 use Rattle.bike_commands.specs.declared.refusal.Refusal.{Refusal}
@@ -9,8 +9,8 @@ use Rattle.bike_operator.specs.Operator.{Operator, no_operator}
 use Rattle.bike_operator.specs.Runs.{Call, after, replies}
 use Rattle.bike_operator.specs.Steps.{refused, effect, reply_of}
 use Rattle.bike_operator.specs.Sound.{IsSound}
-use Rattle.bike_operator.specs.Bounds.{IsBounded, IsRentalWithin}
-use Rattle.bike_operator.specs.View.{view_of, most_entries}
+use Rattle.bike_operator.specs.Bounds.{IsBounded, IsChargeable}
+use Rattle.bike_operator.specs.View.{view_of}
 use Rattle.bike_operator.specs.declared.view.RentalView.{RentalView}
 use Rattle.bike_plain.specs.declared.plain.Plain.{Plain}
 use Rattle.bike_plain.specs.Stands.{Stands}
@@ -40,12 +40,11 @@ pub record IsAccepted (p : Plain) (now : ℕ) (c : Command) : Type 0 where
   pub accepted : refused operator c ≡ None
   pub bounded : IsBounded (view_of operator c) now
 
--- There is room for an entry of a rental, which began by now.
+-- A rental began by now, and its fare can be booked.
 pub record IsDue (p : Plain) (now : ℕ) (r : RentalView) : Type 0 where
   pub operator : Operator
   pub stands : Stands p operator
-  pub room : length operator.entries < most_entries
-  pub within : IsRentalWithin (length operator.entries) now r
+  pub chargeable : IsChargeable (length operator.entries) now r
 
 -- the refusal of each operator for whom the lists stand
 abbrev pub Refuses : Plain → Command → Option Refusal → Type 0
@@ -60,12 +59,6 @@ pub record Names (v : View) (e : UnloadEnd) : Type 0 where
   pub station : v.station ≡ e.station
   pub is_broken : v.is_dock_broken ≡ e.is_broken
   pub is_taken : is_some v.docked ≡ e.is_taken
-
--- the view names no station
-pub record NamesNone (v : View) : Type 0 where
-  pub station : v.station ≡ None
-  pub is_broken : v.is_dock_broken ≡ false
-  pub docked : v.docked ≡ None
 
 -- Some requests are answered, and the lists stand for a sound operator who is to answer those that are left.
 pub record IsServing (p : Plain) (answers : List Reply) (left all : List Call) : Type 0 where

@@ -115,7 +115,7 @@ pub(crate) fn do_unload(
     let Some(row) = lists.order(order.get()) else {
         return Ok(Reply::Done);
     };
-    place_at_end(lists, now, bike, end_at(side, &row.order), dock)?;
+    place_at_end(lists, now, bike, end_at(side, &row), dock)?;
     deliver(lists, order, side);
     Ok(Reply::Done)
 }

@@ -39,7 +39,7 @@ pub(crate) fn do_top_up(
         unreachable!()
     };
     let entry = Entry::top_up(next_number(entries), rider, amount, now);
-    let reply = balance_reply(entries, &row.balance, &entry);
+    let reply = balance_reply(&row.balance, &entry);
     lists.add_entry(entry)?;
     Ok(reply)
 }
@@ -90,7 +90,7 @@ fn charge<'a>(
 {
     let entries = lists.entries();
     let entry = fare_entry(entries, row, now);
-    let reply = ended_reply(entries, &row.balance, &entry);
+    let reply = ended_reply(&row.balance, &entry);
     let fare = entry.amount().hundredths();
     lists.close_rental(row.number.get(), to_station, now, fare);
     lists.add_entry(entry)?;
@@ -160,7 +160,7 @@ pub(crate) fn do_refund(
     };
     let number = next_number(entries);
     let entry = Entry::refund(number, row.rental.rider, row.number, amount, now);
-    let reply = balance_reply(entries, &row.balance, &entry);
+    let reply = balance_reply(&row.balance, &entry);
     lists.add_entry(entry)?;
     Ok(reply)
 }

@@ -1,11 +1,11 @@
 //! Next numbers, entries, and balances after them.
 
 ghost use Rattle.std.specs.Prelude.{◌≡◌, ◌<◌, ◌≤◌, ◌+◌, ◌+ℤ◌};
-ghost use Rattle.bike_ledger.specs.Ledger.{IsAmount, credit};
+ghost use Rattle.bike_ledger.specs.Ledger.{IsAmount, IsBalance, credit};
 ghost use Rattle.bike_ledger.specs.declared.entry.EntryKind.TheVariants as kind;
 ghost use Rattle.bike_commands.specs.declared.reply.Reply.TheVariants.{Balance, Ended};
 ghost use Rattle.bike_operator.specs.Steps.{fare_now};
-ghost use Rattle.bike_operator.specs.Bounds.{IsWithin};
+ghost use Rattle.bike_operator.specs.declared.limits.TheConstants.{MOST_ENTRIES};
 ghost use Rattle.bike_refusals.specs.Facts.{rental_sums};
 
 use bike_commands::Reply;
@@ -17,7 +17,7 @@ use bike_texts::Fare;
 
 /// The number after so many numbered ones.
 pub(crate) fn next_number(count: u32) -> Within<1, 100_000_000>
-    requires { count < 100000000 }
+    requires { count < MOST_ENTRIES }
     ensures { result ≡ count + 1 }
 {
     match Within::new(count + 1) {
@@ -28,7 +28,7 @@ pub(crate) fn next_number(count: u32) -> Within<1, 100_000_000>
 
 /// The entry that books the fare of a rental which ends now.
 pub(crate) fn fare_entry(entries: u32, row: &RentalSums<'_>, now: Moment) -> Entry
-    requires few { entries < 100000000 }
+    requires few { entries < MOST_ENTRIES }
     requires began { row.now.rental.start ≤ now }
     ensures entry { result ≡ record { number = entries + 1; kind = kind.Fare; rider = row.now.rental.rider; rental = row.now.number; amount = fare_now (rental_sums row.now) now; at = now } }
     ensures amount { IsAmount result.amount }
@@ -44,20 +44,16 @@ pub(crate) fn fare_entry(entries: u32, row: &RentalSums<'_>, now: Moment) -> Ent
 }
 
 /// The reply that tells the balance of the entry's rider after it.
-pub(crate) fn balance_reply(entries: u32, balance: &i64, entry: &Entry) -> Reply
-    requires few { entries < 100000000 }
-    requires balance { IsWithin entries balance.now }
-    requires amount { IsAmount entry.now.amount }
+pub(crate) fn balance_reply(balance: &i64, entry: &Entry) -> Reply
+    requires { IsBalance balance.now }
     ensures { result ≡ Balance (balance.now +ℤ credit entry.now.kind entry.now.amount) }
 {
     Reply::Balance(balance_after(*balance, entry))
 }
 
 /// The reply that tells a fare, and the balance of the entry's rider after it.
-pub(crate) fn ended_reply(entries: u32, balance: &i64, entry: &Entry) -> Reply
-    requires few { entries < 100000000 }
-    requires balance { IsWithin entries balance.now }
-    requires amount { IsAmount entry.now.amount }
+pub(crate) fn ended_reply(balance: &i64, entry: &Entry) -> Reply
+    requires { IsBalance balance.now }
     ensures { result ≡ Ended entry.now.amount (balance.now +ℤ credit entry.now.kind entry.now.amount) }
 {
     Reply::Ended {

@@ -52,7 +52,8 @@ pub(crate) fn refuse_add_rider(lists: &Lists<'_>, rider: RiderNumber) -> Option<
     requires { IsSmall lists.now }
     ensures { Refuses lists.now (command.AddRider rider) result }
 {
-    refused_add_rider(lists.rider(rider), lists.riders_full())
+    let has_rider = lists.rider(rider).is_some();
+    refused_add_rider(has_rider, lists.riders_full())
 }
 
 /// Why blocking a rider, or ending the block, is refused.
@@ -60,7 +61,8 @@ pub(crate) fn refuse_set_rider(lists: &Lists<'_>, rider: RiderNumber) -> Option<
     requires { IsSmall lists.now }
     ensures { (blocked : Bool) → Refuses lists.now (command.SetRider rider blocked) result }
 {
-    refused_set_rider(lists.rider(rider))
+    let has_rider = lists.rider(rider).is_some();
+    refused_set_rider(has_rider)
 }
 
 /// Why a top-up is refused.

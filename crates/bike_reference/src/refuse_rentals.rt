@@ -2,12 +2,11 @@
 
 ghost use Rattle.std.specs.Prelude.{◌≡◌, None, false};
 ghost use Rattle.bike_commands.specs.declared.command.Command.TheVariants as command;
-ghost use Rattle.bike_operator.specs.declared.view.View.{View};
 ghost use Rattle.bike_operator.specs.Operator.{Operator};
-ghost use Rattle.bike_operator.specs.View.{at_end, at_order};
+ghost use Rattle.bike_operator.specs.View.{end_view, side_view};
 ghost use Rattle.bike_refusals.specs.Facts.{if_any, order_row};
 ghost use Rattle.bike_plain.specs.Stands.{Stands, IsSmall};
-ghost use Rattle.bike_reference.specs.Steps.{Refuses, Names, NamesNone};
+ghost use Rattle.bike_reference.specs.Steps.{Refuses, Names};
 
 use bike_commands::Refusal;
 use bike_fields::{
@@ -16,8 +15,9 @@ use bike_fields::{
 };
 use bike_plain::Plain as Lists;
 use bike_refusals::{
-    OrderCount, OrderEnds, UnloadEnd, end_at, refused_close_order, refused_end, refused_load,
-    refused_open_order, refused_recover, refused_refund, refused_start, refused_unload,
+    Loads, OrderEnds, OrderFacts, UnloadEnd, end_at, refused_close_order, refused_end,
+    refused_load, refused_open_order, refused_recover, refused_refund, refused_start,
+    refused_unload,
 };
 use bike_texts::{OrderEnd, Side, UnloadDock};
 
@@ -36,6 +36,7 @@ pub(crate) fn refuse_start(
     let is_full = lists.is_ledger_full();
     refused_start(
         lists.rider(rider),
+        lists.is_riding(rider),
         lists.station(station),
         dock,
         is_broken,
@@ -123,7 +124,11 @@ pub(crate) fn refuse_load(
     ensures { Refuses lists.now (command.Load truck order bike) result }
 {
     let found = lists.order(order.get());
-    refused_load(lists.truck(truck), truck, &found, lists.bike(bike))
+    let loads = Loads {
+        loaded: lists.truck_load(truck),
+        on_truck: lists.order_load(order.get()),
+    };
+    refused_load(lists.truck(truck), truck, &found, lists.bike(bike), loads)
 }
 
 /// What is known where no station is named.
@@ -141,7 +146,7 @@ fn no_end(dock: UnloadDock) -> UnloadEnd
 /// What is known of an end of an order at a dock: nothing at the depot.
 fn unload_end(lists: &Lists<'_>, end: &OrderEnd, dock: UnloadDock) -> UnloadEnd
     ensures dock { result.dock ≡ dock }
-    ensures end { (s : Operator) (v : View) → Stands lists.now s → NamesNone v → Names (at_end s end.now dock v) result }
+    ensures end { (s : Operator) → Stands lists.now s → Names (end_view s end.now dock) result }
 {
     match end {
         OrderEnd::Depot => no_end(dock),
@@ -157,16 +162,16 @@ fn unload_end(lists: &Lists<'_>, end: &OrderEnd, dock: UnloadDock) -> UnloadEnd
 /// What is known of an order's end at a side: nothing where there is no order.
 fn order_end(
     lists: &Lists<'_>,
-    order: &Option<OrderCount<'_>>,
+    order: &Option<OrderFacts<'_>>,
     side: Side,
     dock: UnloadDock,
 ) -> UnloadEnd
     ensures dock { result.dock ≡ dock }
-    ensures end { (s : Operator) (v : View) → Stands lists.now s → NamesNone v → Names (at_order s (if_any (λ o. order_row o.order) order.now) side dock v) result }
+    ensures end { (s : Operator) → Stands lists.now s → Names (side_view s (if_any order_row order.now) side dock) result }
 {
     match order {
         None => no_end(dock),
-        Some(row) => unload_end(lists, end_at(side, &row.order), dock),
+        Some(row) => unload_end(lists, end_at(side, row), dock),
     }
 }
 
@@ -200,5 +205,6 @@ pub(crate) fn refuse_close_order(lists: &Lists<'_>, order: OrderNumber) -> Optio
     requires { IsSmall lists.now }
     ensures { Refuses lists.now (command.CloseOrder order) result }
 {
-    refused_close_order(&lists.order(order.get()))
+    let on_truck = lists.order_load(order.get());
+    refused_close_order(&lists.order(order.get()), on_truck)
 }

@@ -6,7 +6,6 @@ use Rattle.bike_operator.specs.declared.records.Rental.{Rental}
 use Rattle.bike_operator.specs.declared.records.Order.{Order}
 use Rattle.bike_operator.specs.declared.view.DockedBike.{DockedBike}
 use Rattle.bike_operator.specs.declared.view.RentalView.{RentalView}
-use Rattle.bike_operator.specs.declared.view.OrderView.{OrderView}
 use Rattle.bike_operator.specs.Changes.{place_of, text_in}
 use Rattle.bike_refusals.specs.declared.facts.BikeFacts.{BikeFacts}
 use Rattle.bike_refusals.specs.declared.facts.ClosingFacts.{ClosingFacts}
@@ -14,7 +13,6 @@ use Rattle.bike_refusals.specs.declared.facts.RentalFacts.{RentalFacts}
 use Rattle.bike_refusals.specs.declared.facts.OrderFacts.{OrderFacts}
 use Rattle.bike_refusals.specs.declared.facts.DockedFacts.{DockedFacts}
 use Rattle.bike_refusals.specs.declared.facts.RentalSums.{RentalSums}
-use Rattle.bike_refusals.specs.declared.facts.OrderCount.{OrderCount}
 
 -- what stands for a record that may be there
 abbrev pub if_any : {A B : Type 0} → (A → B) → Option A → Option B
@@ -34,10 +32,7 @@ abbrev pub order_row : OrderFacts → Order
 order_row f = record { truck = f.truck; from_end = f.from_end.now; to_end = f.to_end.now; type_id = f.type_id.now; count = f.count; delivered = f.delivered; is_open = f.is_open }
 
 abbrev pub docked_row : DockedFacts → DockedBike
-docked_row f = record { bike = f.bike; state = f.state; plan = f.plan.now }
+docked_row f = record { bike = f.bike; type_id = f.type_id.now; state = f.state; plan = f.plan.now }
 
 abbrev pub rental_sums : RentalSums → RentalView
 rental_sums f = record { number = f.number; rental = rental_row f.rental; plan = f.plan.now; refunded = f.refunded; balance = f.balance }
-
-abbrev pub order_count : OrderCount → OrderView
-order_count f = record { order = order_row f.order; on_truck = f.on_truck }

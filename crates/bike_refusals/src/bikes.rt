@@ -5,7 +5,7 @@
 ghost use Rattle.std.specs.Prelude.{◌≡◌, ℕ, List, Bool};
 ghost use Rattle.bike_commands.specs.declared.command.Command.TheVariants as command;
 ghost use Rattle.bike_operator.specs.declared.view.View.{View};
-ghost use Rattle.bike_operator.specs.Steps.{first, tests, is_ledger_full};
+ghost use Rattle.bike_operator.specs.Steps.{first, tests};
 ghost use Rattle.bike_refusals.specs.Facts.{bike_row, if_any};
 
 use crate::facts::BikeFacts;
@@ -76,10 +76,10 @@ pub fn refused_add_truck(truck: Option<TruckView>, is_full: bool) -> Option<Refu
 }
 
 /// Why a new rider is refused.
-pub fn refused_add_rider(rider: Option<RiderView>, is_full: bool) -> Option<Refusal>
-    ensures { (v : View) (r : ℕ) → v.rider ≡ rider → v.is_full ≡ is_full → result ≡ first (tests v (command.AddRider r)) }
+pub fn refused_add_rider(has_rider: bool, is_full: bool) -> Option<Refusal>
+    ensures { (v : View) (r : ℕ) → v.has_rider ≡ has_rider → v.is_full ≡ is_full → result ≡ first (tests v (command.AddRider r)) }
 {
-    if rider.is_some() {
+    if has_rider {
         return Some(Refusal::AlreadyThere);
     }
     if is_full {
@@ -89,10 +89,10 @@ pub fn refused_add_rider(rider: Option<RiderView>, is_full: bool) -> Option<Refu
 }
 
 /// Why blocking a rider, or ending the block, is refused.
-pub fn refused_set_rider(rider: Option<RiderView>) -> Option<Refusal>
-    ensures { (v : View) (r : ℕ) (blocked : Bool) → v.rider ≡ rider → result ≡ first (tests v (command.SetRider r blocked)) }
+pub fn refused_set_rider(has_rider: bool) -> Option<Refusal>
+    ensures { (v : View) (r : ℕ) (blocked : Bool) → v.has_rider ≡ has_rider → result ≡ first (tests v (command.SetRider r blocked)) }
 {
-    if rider.is_none() {
+    if !has_rider {
         return Some(Refusal::UnknownRider);
     }
     None
@@ -100,7 +100,7 @@ pub fn refused_set_rider(rider: Option<RiderView>) -> Option<Refusal>
 
 /// Why a top-up is refused.
 pub fn refused_top_up(rider: Option<RiderView>, is_full: bool) -> Option<Refusal>
-    ensures { (v : View) (r amount : ℕ) → v.rider ≡ rider → is_ledger_full v ≡ is_full → result ≡ first (tests v (command.TopUp r amount)) }
+    ensures { (v : View) (r amount : ℕ) → v.rider ≡ rider → v.is_ledger_full ≡ is_full → result ≡ first (tests v (command.TopUp r amount)) }
 {
     if rider.is_none() {
         return Some(Refusal::UnknownRider);

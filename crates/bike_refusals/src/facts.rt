@@ -74,6 +74,8 @@ pub struct OrderFacts<'a> {
 pub struct DockedFacts<'a> {
     /// Its number.
     pub bike: BicycleNumber,
+    /// Its vehicle type.
+    pub type_id: &'a Ident,
     /// What it is good for.
     pub state: BikeState,
     /// The default plan of its type.
@@ -93,15 +95,6 @@ pub struct RentalSums<'a> {
     pub refunded: i64,
     /// Its rider's balance in hundredths.
     pub balance: i64,
-}
-
-/// An order with how many bicycles are on the truck for it.
-#[derive(Clone, Copy)]
-pub struct OrderCount<'a> {
-    /// The order.
-    pub order: OrderFacts<'a>,
-    /// How many bicycles are on the truck for it.
-    pub on_truck: u32,
 }
 
 impl<'a> BikeFacts<'a> {

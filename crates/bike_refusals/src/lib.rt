@@ -18,11 +18,10 @@ pub use catalogue::{
     refused_add_plan, refused_add_station, refused_add_type, refused_mark_dock, refused_set_plan,
     refused_set_station, refused_set_system,
 };
-pub use facts::{
-    BikeFacts, ClosingFacts, DockedFacts, OrderCount, OrderFacts, RentalFacts, RentalSums,
-};
+pub use facts::{BikeFacts, ClosingFacts, DockedFacts, OrderFacts, RentalFacts, RentalSums};
 pub use orders::{
-    OrderEnds, UnloadEnd, refused_close_order, refused_load, refused_open_order, refused_unload,
+    Loads, OrderEnds, UnloadEnd, refused_close_order, refused_load, refused_open_order,
+    refused_unload,
 };
 pub use places::{
     end_at, ends_apart, is_at_end, is_depot, is_fit, is_loaded, is_retired, is_same_end,

@@ -5,11 +5,11 @@
 ghost use Rattle.std.specs.Prelude.{◌≡◌, ◌+◌, ℕ, List, nat_le, is_some};
 ghost use Rattle.bike_commands.specs.declared.command.Command.TheVariants as command;
 ghost use Rattle.bike_operator.specs.declared.view.View.{View};
-ghost use Rattle.bike_operator.specs.View.{most_orders};
+ghost use Rattle.bike_operator.specs.declared.limits.TheConstants.{MOST_ORDERS};
 ghost use Rattle.bike_operator.specs.Steps.{first, tests};
-ghost use Rattle.bike_refusals.specs.Facts.{bike_row, order_count, if_any};
+ghost use Rattle.bike_refusals.specs.Facts.{bike_row, order_row, if_any};
 
-use crate::facts::{BikeFacts, OrderCount};
+use crate::facts::{BikeFacts, OrderFacts};
 use crate::places::{end_at, ends_apart, is_at_end, is_loaded, is_retired, is_same_end};
 use bike_commands::Refusal;
 use bike_fields::{OrderNumber, OrderQuantity, TruckNumber};
@@ -38,7 +38,7 @@ pub fn refused_open_order(
     count: OrderQuantity,
     is_full: bool,
 ) -> Option<Refusal>
-    ensures { (v : View) (t : ℕ) (type_id : List ℕ) → v.truck ≡ truck → v.has_from ≡ ends.entry.has_from → v.has_to ≡ ends.entry.has_to → v.has_type ≡ ends.entry.has_type → nat_le most_orders v.orders ≡ is_full
+    ensures { (v : View) (t : ℕ) (type_id : List ℕ) → v.truck ≡ truck → v.has_from ≡ ends.entry.has_from → v.has_to ≡ ends.entry.has_to → v.has_type ≡ ends.entry.has_type → nat_le MOST_ORDERS v.orders ≡ is_full
         → result ≡ first (tests v (command.OpenOrder t ends.entry.from_end.now ends.entry.to_end.now type_id count)) }
 {
     let Some(truck) = truck else {
@@ -63,20 +63,30 @@ pub fn refused_open_order(
 }
 
 /// Whether as many bicycles were brought or are on the truck as the order has.
-fn is_filled(row: &OrderCount<'_>) -> bool
-    ensures { result ≡ nat_le row.now.order.count (row.now.order.delivered + row.now.on_truck) }
+fn is_filled(order: &OrderFacts<'_>, on_truck: u32) -> bool
+    ensures { result ≡ nat_le order.now.count (order.now.delivered + on_truck) }
 {
-    u64::from(row.order.count.get()) <= u64::from(row.order.delivered) + u64::from(row.on_truck)
+    u64::from(order.count.get()) <= u64::from(order.delivered) + u64::from(on_truck)
+}
+
+/// How many bicycles are on a truck.
+#[derive(Clone, Copy)]
+pub struct Loads {
+    /// Over all orders.
+    pub loaded: u32,
+    /// For one order.
+    pub on_truck: u32,
 }
 
 /// Why loading a bicycle on a truck for an order is refused.
 pub fn refused_load(
     truck: Option<TruckView>,
     number: TruckNumber,
-    order: &Option<OrderCount<'_>>,
+    order: &Option<OrderFacts<'_>>,
     bike: Option<BikeFacts<'_>>,
+    loads: Loads,
 ) -> Option<Refusal>
-    ensures { (v : View) (o b : ℕ) → v.truck ≡ truck → v.order ≡ if_any order_count order.now → v.bike ≡ if_any bike_row bike.entry → result ≡ first (tests v (command.Load number o b)) }
+    ensures { (v : View) (o b : ℕ) → v.truck ≡ truck → v.loaded ≡ loads.loaded → v.on_truck ≡ loads.on_truck → v.order ≡ if_any order_row order.now → v.bike ≡ if_any bike_row bike.entry → result ≡ first (tests v (command.Load number o b)) }
 {
     let Some(truck) = truck else {
         return Some(Refusal::UnknownTruck);
@@ -84,10 +94,10 @@ pub fn refused_load(
     let Some(row) = order else {
         return Some(Refusal::UnknownOrder);
     };
-    if !row.order.is_open {
+    if !row.is_open {
         return Some(Refusal::OrderClosed);
     }
-    if row.order.truck.get() != number.get() {
+    if row.truck.get() != number.get() {
         return Some(Refusal::WrongTruckOrEnds);
     }
     let Some(bike) = bike else {
@@ -96,16 +106,16 @@ pub fn refused_load(
     if is_retired(bike.state) {
         return Some(Refusal::BikeRetired);
     }
-    if !is_at_end(row.order.from_end, bike.place) {
+    if !is_at_end(row.from_end, bike.place) {
         return Some(Refusal::WrongPlace);
     }
-    if bike.type_id.as_str() != row.order.type_id.as_str() {
+    if bike.type_id.as_str() != row.type_id.as_str() {
         return Some(Refusal::WrongType);
     }
-    if is_filled(row) {
+    if is_filled(row, loads.on_truck) {
         return Some(Refusal::OrderFilled);
     }
-    if truck.capacity.get() <= truck.loaded {
+    if truck.capacity.get() <= loads.loaded {
         return Some(Refusal::TruckFull);
     }
     None
@@ -128,13 +138,13 @@ pub struct UnloadEnd {
 pub fn refused_unload(
     truck: Option<TruckView>,
     number: TruckNumber,
-    order: &Option<OrderCount<'_>>,
+    order: &Option<OrderFacts<'_>>,
     order_number: OrderNumber,
     bike: Option<BikeFacts<'_>>,
     side: Side,
     end: UnloadEnd,
 ) -> Option<Refusal>
-    ensures { (v : View) (b : ℕ) → v.truck ≡ truck → v.order ≡ if_any order_count order.now → v.bike ≡ if_any bike_row bike.entry → v.station ≡ end.station → v.is_dock_broken ≡ end.is_broken
+    ensures { (v : View) (b : ℕ) → v.truck ≡ truck → v.order ≡ if_any order_row order.now → v.bike ≡ if_any bike_row bike.entry → v.station ≡ end.station → v.is_dock_broken ≡ end.is_broken
         → is_some v.docked ≡ end.is_taken → result ≡ first (tests v (command.Unload number order_number b side end.dock)) }
 {
     if truck.is_none() {
@@ -143,10 +153,10 @@ pub fn refused_unload(
     let Some(row) = order else {
         return Some(Refusal::UnknownOrder);
     };
-    if !row.order.is_open {
+    if !row.is_open {
         return Some(Refusal::OrderClosed);
     }
-    if row.order.truck.get() != number.get() {
+    if row.truck.get() != number.get() {
         return Some(Refusal::WrongTruckOrEnds);
     }
     let Some(bike) = bike else {
@@ -155,7 +165,7 @@ pub fn refused_unload(
     if !is_loaded(number, order_number, bike.place) {
         return Some(Refusal::WrongPlace);
     }
-    if ends_apart(end_at(side, &row.order), end.station, end.dock) {
+    if ends_apart(end_at(side, row), end.station, end.dock) {
         return Some(Refusal::UnknownDock);
     }
     if end.is_broken {
@@ -168,16 +178,16 @@ pub fn refused_unload(
 }
 
 /// Why closing an order is refused, which has to have no bicycle on its truck.
-pub fn refused_close_order(order: &Option<OrderCount<'_>>) -> Option<Refusal>
-    ensures { (v : View) (o : ℕ) → v.order ≡ if_any order_count order.now → result ≡ first (tests v (command.CloseOrder o)) }
+pub fn refused_close_order(order: &Option<OrderFacts<'_>>, on_truck: u32) -> Option<Refusal>
+    ensures { (v : View) (o : ℕ) → v.on_truck ≡ on_truck → v.order ≡ if_any order_row order.now → result ≡ first (tests v (command.CloseOrder o)) }
 {
     let Some(row) = order else {
         return Some(Refusal::UnknownOrder);
     };
-    if !row.order.is_open {
+    if !row.is_open {
         return Some(Refusal::OrderClosed);
     }
-    if row.on_truck > 0 {
+    if on_truck > 0 {
         return Some(Refusal::BikesOnTruck);
     }
     None

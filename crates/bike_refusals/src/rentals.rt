@@ -5,7 +5,7 @@
 ghost use Rattle.std.specs.Prelude.{◌≡◌, ◌-ℤ◌, ℕ, List, int_lt, pos};
 ghost use Rattle.bike_commands.specs.declared.command.Command.TheVariants as command;
 ghost use Rattle.bike_operator.specs.declared.view.View.{View};
-ghost use Rattle.bike_operator.specs.Steps.{first, tests, is_ledger_full};
+ghost use Rattle.bike_operator.specs.Steps.{first, tests};
 ghost use Rattle.bike_refusals.specs.Facts.{bike_row, docked_row, rental_sums, if_any};
 
 use crate::facts::{BikeFacts, DockedFacts, RentalSums};
@@ -17,14 +17,15 @@ use bike_operator::{RiderView, StationView};
 /// Why the start of a rental is refused: the rider's own state before the station, the station before its dock, and the dock before its bicycle.
 pub fn refused_start(
     rider: Option<RiderView>,
+    is_riding: bool,
     station: Option<StationView>,
     dock: DockNumber,
     is_broken: bool,
     docked: &Option<DockedFacts<'_>>,
     is_full: bool,
 ) -> Option<Refusal>
-    ensures { (v : View) (r : ℕ) (id : List ℕ) → v.rider ≡ rider → v.station ≡ station → v.is_dock_broken ≡ is_broken → v.docked ≡ if_any docked_row docked.now
-        → is_ledger_full v ≡ is_full → result ≡ first (tests v (command.Start r id dock)) }
+    ensures { (v : View) (r : ℕ) (id : List ℕ) → v.rider ≡ rider → v.is_riding ≡ is_riding → v.station ≡ station → v.is_dock_broken ≡ is_broken → v.docked ≡ if_any docked_row docked.now
+        → v.is_ledger_full ≡ is_full → result ≡ first (tests v (command.Start r id dock)) }
 {
     let Some(rider) = rider else {
         return Some(Refusal::UnknownRider);
@@ -35,7 +36,7 @@ pub fn refused_start(
     if rider.balance < 0 {
         return Some(Refusal::BalanceNegative);
     }
-    if rider.is_riding {
+    if is_riding {
         return Some(Refusal::RiderIsRiding);
     }
     let Some(station) = station else {
@@ -124,7 +125,7 @@ pub fn refused_refund(
     amount: Payment,
     is_full: bool,
 ) -> Option<Refusal>
-    ensures { (v : View) (r : ℕ) → v.rental ≡ if_any rental_sums rental.now → is_ledger_full v ≡ is_full → result ≡ first (tests v (command.Refund r amount)) }
+    ensures { (v : View) (r : ℕ) → v.rental ≡ if_any rental_sums rental.now → v.is_ledger_full ≡ is_full → result ≡ first (tests v (command.Refund r amount)) }
 {
     let Some(row) = rental else {
         return Some(Refusal::UnknownRental);

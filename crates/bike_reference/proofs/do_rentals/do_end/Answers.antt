@@ -5,7 +5,7 @@ use Rattle.bike_operator.specs.View.{view_of, rental_of}
 use Rattle.bike_operator.specs.Steps.{tests}
 use Rattle.bike_refusals.specs.Facts.{if_any, rental_sums}
 use Rattle.bike_reference.proofs.BalanceLemmas.{held_balance}
-use Rattle.bike_reference.proofs.RoomLemmas.{none_holds, held_room, rental_within}
+use Rattle.bike_reference.proofs.RoomLemmas.{none_holds, ended_charge}
 use Rattle.bike_reference.proofs.do_rentals.do_end.Goals as goal
 
 pub charge-requires-clause-due : goal.charge-requires-clause-due
@@ -17,7 +17,7 @@ charge-requires-clause-due c =
     let none = none_holds (tests v (command.End c.args.bike c.args.station.now c.args.dock)) a.accepted in
     let found : rental_of s (map.get s.bikes c.args.bike) ≡ Some r =
     ap (rental_of s) (sym (c.bike-found.ensures s a.stands)) ∙ sym (c.rental_of.ensures s a.stands) ∙ ap (if_any rental_sums) c.in-Some.is in
-    record { operator = s; stands = a.stands; room = held_room v c.args.now r a.bounded none.0 found; within = rental_within v c.args.now r a.bounded found }
+    record { operator = s; stands = a.stands; chargeable = ended_charge v c.args.now r a.bounded none.1.1.0 found }
 
 pub returns : goal.returns
 returns c = λ s st order.

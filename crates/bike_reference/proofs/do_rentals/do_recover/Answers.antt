@@ -5,7 +5,7 @@ use Rattle.bike_operator.specs.View.{view_of, rental_view}
 use Rattle.bike_operator.specs.Steps.{tests}
 use Rattle.bike_refusals.specs.Facts.{if_any, rental_sums}
 use Rattle.bike_reference.proofs.BalanceLemmas.{rental_balance}
-use Rattle.bike_reference.proofs.RoomLemmas.{none_holds, recovered_room, rental_within}
+use Rattle.bike_reference.proofs.RoomLemmas.{none_holds, recovered_charge}
 use Rattle.bike_reference.proofs.do_rentals.do_recover.Goals as goal
 
 pub charge-requires-clause-due : goal.charge-requires-clause-due
@@ -17,7 +17,7 @@ charge-requires-clause-due c =
     let none = none_holds (tests v (command.Recover c.args.rental)) a.accepted in
     let found : rental_view s c.args.rental (numbered c.args.rental s.rentals) ≡ Some r =
     rw c.get.ensures.value at (sym (c.rental.ensures s a.stands)) ∙ ap (if_any rental_sums) c.in-Some.is in
-    record { operator = s; stands = a.stands; room = recovered_room v c.args.now r a.bounded none.1.0 found; within = rental_within v c.args.now r a.bounded found }
+    record { operator = s; stands = a.stands; chargeable = recovered_charge v c.args.now r a.bounded none.1.0 found }
 
 pub returns : goal.returns
 returns c = λ s st order.

@@ -1,11 +1,11 @@
-use Rattle.std.proofs.Common.{◌≡◌, ◌+◌, Some, sym, ap, ◌∙◌, arith}
+use Rattle.std.proofs.Common.{◌≡◌, ◌+◌, Some, sym, ap, ◌∙◌}
 use Rattle.bike_commands.specs.declared.command.Command.TheVariants as command
 use Rattle.bike_commands.specs.declared.reply.Reply.TheVariants.{Started}
 use Rattle.bike_operator.specs.Counts.{docked_at}
 use Rattle.bike_operator.specs.View.{view_of, docked_view}
 use Rattle.bike_operator.specs.Steps.{tests}
 use Rattle.bike_refusals.specs.Facts.{if_any, docked_row}
-use Rattle.bike_reference.proofs.RoomLemmas.{none_holds, ledger_room}
+use Rattle.bike_reference.proofs.RoomLemmas.{none_holds}
 use Rattle.bike_reference.proofs.do_rentals.do_start.Goals as goal
 
 pub next_number-rental-requires : goal.next_number-rental-requires
@@ -13,9 +13,7 @@ next_number-rental-requires c =
     let a = c.requires.accepted in
     let v = view_of a.operator (command.Start c.args.rider c.args.station.now c.args.dock) in
     let none = none_holds (tests v (command.Start c.args.rider c.args.station.now c.args.dock)) a.accepted in
-    let room = ledger_room v none.1.1.1.1.1.1.1.1.1.1.0 in
-    let few = a.bounded.few_rentals in
-    rw (c.rentals.ensures a.operator a.stands) (omega (arith, room, few))
+    rw (c.rentals.ensures a.operator a.stands) (a.bounded.few_rentals none.1.1.1.1.1.1.1.1.1.1.0)
 
 pub returns : goal.returns
 returns c = λ s st order.

@@ -1,11 +1,9 @@
-use Rattle.std.proofs.Common.{◌≡◌, ◌==◌, ◌&&◌, map, sym, ap, ◌∙◌, Some, to_z, of_z, w64, arith}
+use Rattle.std.proofs.Common.{◌≡◌, sym, ap, ◌∙◌, Some, to_z, of_z, w64, arith}
 use Rattle.std.proofs.lemmas.Int.{ints}
-use Rattle.std.specs.List.{list_any}
 use Rattle.std.specs.Ordering.{nat_cmp}
 use Rattle.std.specs.FinMap.{find}
 use Rattle.bike_ledger.specs.Ledger.{balance_of}
-use Rattle.bike_operator.specs.Counts.{is_open}
-use Rattle.bike_refusals.specs.Facts.{if_any, rental_row}
+use Rattle.bike_refusals.specs.Facts.{if_any}
 use Rattle.bike_plain.proofs.FoundLemmas.{rider_seen, rider_in}
 use Rattle.bike_plain.proofs.plain.Plain.rider.Goals as goal
 
@@ -21,6 +19,5 @@ returns-in-Some c = λ s stands.
     let n = c.args.number in
     let kept : to_z w64 (of_z w64 c.balance_of.result) ≡ c.balance_of.result = omega (arith, ints) in
     let sum = kept ∙ c.balance_of.ensures ∙ ap (balance_of n) c.deref-in-Some.ensures.value in
-    let rides = c.is_riding.ensures ∙ ap (λ rentals. list_any (λ r. (r.rider == n) && is_open r) (map rental_row rentals)) c.deref-in-Some-2.ensures.value in
-    (λ i. Some (record { is_blocked = c.in-Some.is_blocked; balance = sum i; is_riding = rides i }))
+    (λ i. Some (record { is_blocked = c.in-Some.is_blocked; balance = sum i }))
     ∙ ap (if_any (rider_in p n)) (c.in-Some.ensures ∙ ap (find nat_cmp n) c.deref.ensures.value) ∙ sym (rider_seen p s n stands)
