@@ -1,6 +1,6 @@
 -- A table as the list of its rows in the order of their keys, with no rowid, tree or index in it.
-use Rattle.std.specs.Prelude.{◌≡◌, ◌&&◌, ℕ, true, not, List, [], ◌∷◌, map, filter, take, find, length, Option, None, is_some, if◌then◌else◌}
-use Rattle.std.specs.List.{range_with_len, list_any}
+use Rattle.std.specs.Prelude.{◌≡◌, ◌&&◌, ℕ, zero, suc, true, not, List, [], ◌∷◌, map, filter, take, find, length, Option, None, is_some, option_map, unwrap_or, if◌then◌else◌}
+use Rattle.std.specs.List.{range_with_len, list_any, list_all}
 use Rattle.std.specs.declared.cmp.Ordering.{Ordering}
 use Rattle.std.specs.declared.cmp.Ordering.TheVariants.{Equal}
 use Rattle.std.specs.Ordering.{on, is_eq, is_lt}
@@ -38,6 +38,21 @@ put_row_by keys = put_in (by_key keys)
 abbrev pub replaced : ℕ → Row → List Row → List Row
 replaced keys row rows = if is_some (row_with keys (take keys row) rows) then put_row_by keys row rows else rows
 
+-- the rows with what `change` makes of the row with this key in its place, and unchanged if there is none
+abbrev pub updated : ℕ → Row → (Row → Row) → List Row → List Row
+updated keys key change rows = unwrap_or (option_map (λ row. put_row_by keys (change row) rows) (row_with keys key rows)) rows
+
+-- the row with this value in this column
+abbrev pub with_value : ℕ → Value → Row → Row
+with_value at value [] = []
+with_value zero value (v ∷ row) = value ∷ row
+with_value (suc at) value (v ∷ row) = v ∷ with_value at value row
+
+-- the row with each of these columns set to its value
+abbrev pub with_values : List (ℕ × Value) → Row → Row
+with_values [] row = row
+with_values (set ∷ sets) row = with_values sets (with_value set.0 set.1 row)
+
 -- no two stored rows have one rowid, wherever they stand
 abbrev pub AreSpread : List Row → Type 0
 AreSpread = IsAscending (λ a b. value_cmp (rowid a) (rowid b) ≡ Equal → ⊥)
@@ -56,6 +71,10 @@ pub record IsKeyed (keys : ℕ) (table : Table) (rows : List Row) : Type 0 where
 abbrev pub rows_where : List ℕ → Row → List Row → List Row
 rows_where columns values = filter (λ row. is_eq (row_cmp (map (column row) columns) values))
 
+-- the rows whose columns at these places are NULL
+abbrev pub rows_null : List ℕ → List Row → List Row
+rows_null columns = filter (λ row. list_all is_null (map (column row) columns))
+
 -- the rows whose first column is not below the one value, and below the other
 abbrev pub rows_between : Value → Value → List Row → List Row
 rows_between from to = filter (λ row. not (is_lt (value_cmp (column row 0) from)) && is_lt (value_cmp (column row 0) to))
@@ -73,3 +92,7 @@ partner keys key rows = if list_any is_null key then None else row_with keys key
 -- LEFT JOIN: each row with its partner, the row of the other table that has its columns at these places as key
 abbrev pub left_joined : (Row → Option Row → Row) → List ℕ → ℕ → List Row → List Row → List Row
 left_joined show columns keys others = map (λ row. show row (partner keys (map (column row) columns) others))
+
+-- two LEFT JOINs: each row with its partner in each of two other tables
+abbrev pub twice_joined : (Row → Option Row → Option Row → Row) → List ℕ → ℕ → List Row → List ℕ → ℕ → List Row → List Row → List Row
+twice_joined show columns keys others more_columns more_keys more_others = map (λ row. show row (partner keys (map (column row) columns) others) (partner more_keys (map (column row) more_columns) more_others))
