@@ -12,7 +12,7 @@ pub fn run<S: Alter, E: From<Error>>(
     sql: &str,
     params: &[ValueRef<'_>],
 ) -> Result<(), E>
-    ensures { RunsInside S.Store tx.old.conn tx.new.conn sql.now (bound params.now) result }
+    ensures { RunsInside S.Store tx.old.conn tx.new.conn sql.now (bound params.now) E.from_gives result }
 {
     tx.execute(sql, params)?;
     Ok(())

@@ -1,5 +1,5 @@
 use Rattle.std.proofs.Common.{rules}
-use Rattle.bike_rows.proofs.CallLaws.{reads_as, reads_both, reads_failed}
+use Rattle.bike_rows.proofs.ChainLaws.{reads_as, reads_both, reads_failed}
 use Rattle.bike_rows.proofs.ParamLemmas.{bindings}
 use Rattle.bike_rows_example.proofs.parts.read_both_parts.Goals as goal
 
