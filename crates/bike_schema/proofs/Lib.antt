@@ -1,0 +1,3 @@
+pub mod TableLemmas
+pub mod KeyLemmas
+pub mod MakesLemmas

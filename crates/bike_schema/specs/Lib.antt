@@ -1,0 +1,3 @@
+pub mod Layouts
+pub mod Tables
+pub mod Makes
