@@ -1,3 +1,4 @@
 pub mod Layouts
 pub mod Tables
 pub mod Makes
+pub mod Stands
