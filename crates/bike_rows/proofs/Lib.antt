@@ -26,3 +26,9 @@ pub mod TextLemmas
 pub mod SelectLaws
 pub mod WriteLaws
 pub mod CallLaws
+pub mod PageLaw
+pub mod SetLaw
+pub mod IndexLaw
+pub mod TwoJoinsLaw
+pub mod LineLemmas
+pub mod UnionOfThreeLaw

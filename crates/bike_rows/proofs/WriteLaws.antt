@@ -13,13 +13,13 @@ use Rattle.sqlite_schema.specs.Names.{is_key}
 use Rattle.sqlite_resolve.specs.Compile.{first}
 use Rattle.sqlite_rules.specs.declared.error.Rowids.TheVariants.{Chosen}
 use Rattle.sqlite_rules.specs.Edit.{with_rowid}
-use Rattle.sqlite.specs.Effect.{value_rows}
+use Rattle.sqlite.specs.Effect.{value_rows, IsDatabase}
 use Rattle.sqlite.specs.declared.error.Error.{Error}
 use Rattle.sqlite.specs.State.{State, Executes, ExecutesInside, Shows}
 use Rattle.bike_names.specs.Inserts.{IsInsert}
 use Rattle.bike_names.proofs.InsertLaws.{insert_is}
 use Rattle.bike_rows.specs.Layout.{Layout, table_of}
-use Rattle.bike_rows.specs.View.{columns_of, put_row_by, replaced}
+use Rattle.bike_rows.specs.View.{columns_of, put_row_by, replaced, updated}
 use Rattle.bike_rows.specs.Stands.{rows_of, Stands, Sets}
 use Rattle.bike_rows.specs.Queries.{table_query, key_tests, key_in}
 use Rattle.bike_rows.proofs.ListLemmas.{map_map, map_same}
@@ -28,6 +28,7 @@ use Rattle.bike_rows.proofs.CrashLemmas.{done_inside}
 use Rattle.bike_rows.proofs.KeyLemmas.{IsKeyAt}
 use Rattle.bike_rows.proofs.TextLemmas.{IsUpdate, update_means}
 use Rattle.bike_rows.proofs.InsertLaw.{insert_sets}
+use Rattle.bike_rows.proofs.SetLaw.{are_exact, some_terms, sets_suit, update_some}
 use Rattle.bike_rows.proofs.UpdateLaw.{update_columns, update_number}
 
 -- Once the text is done, the table's rows are what `change` makes of them, and each table of another name is as it was.
@@ -105,4 +106,24 @@ pub number_replaced : {layout : Layout} (key : IsKeyAt 1 layout (0 ∷ [])) {tex
 number_replaced {layout} key {text} {n} {others} is suit shows = record {
   does = λ old new was. update_number layout key.key old new was text n others (set_terms layout) (column_values layout (Int n ∷ others)) (Int n ∷ others)
       (update_means (table_query 0 (key_tests 0 (0 ∷ [])) [] (set_terms layout)) layout text is old.now.schema was.at was.tree was.has) key.first refl suit (sets_values layout (Int n ∷ others)) shows;
+}
+
+-- ---- some columns
+
+-- The same where the database is sound, so that each value that stays is one that its column stores as it is.
+pub record ChangesSound (keys : ℕ) (layout : Layout) (text : List ℕ) (params : Row) (change : List Row → List Row) : Type 1 where
+  pub does : (old new : State) → IsDatabase old.now → Stands old.now keys layout → (count : ℕ) → Executes text params old new (Ok count) → Sets old.now new.now keys layout (change (rows_of keys layout.name old.now))
+
+pub changes_sound_inside : {keys : ℕ} {layout : Layout} {text : List ℕ} {params : Row} {change : List Row → List Row} (it : ChangesSound keys layout text params change) (old new : State) → IsDatabase old.now → Stands old.now keys layout → (r : Result ℕ Error) → ExecutesInside 0 text params old new r
+    → OnOk r (Shows old new new.now old.committed true × Sets old.now new.now keys layout (change (rows_of keys layout.name old.now)))
+changes_sound_inside {text = text} {params = params} it old new sound was r = done_inside 0 text params old new r (λ count shown executes. (shown, it.does old new sound was count executes))
+
+-- UPDATE the table SET some columns, each to a parameter, WHERE the key's columns = the parameters from `at` on
+pub row_updated : {keys : ℕ} {layout : Layout} {places : List ℕ} (key : IsKeyAt keys layout places) {text : List ℕ} {params : Row} (at : ℕ) (sets : List (ℕ × ℕ)) (change : Row → Row) → IsUpdate (table_query 0 (key_tests at places) [] (col 1 0 ∷ col 1 0 ∷ some_terms layout sets)) layout text
+    → list_any is_null (key_in at places params) ≡ false → are_exact layout.columns ≡ true → sets_suit sets params 0 layout.columns ≡ true
+    → ((r : Row) → columns_of (table_of layout 0) (rowid r ∷ eval_all (some_terms layout sets) (params ∷ r ∷ [])) ≡ change (columns_of (table_of layout 0) r))
+    → ((r : Row) → take keys (change (columns_of (table_of layout 0) r)) ≡ take keys (columns_of (table_of layout 0) r)) → ChangesSound keys layout text params (updated keys (key_in at places params) change)
+row_updated {keys} {layout} {places} key {text} {params} at sets change is solid exact suit shows keeps = record {
+  does = λ old new sound was. update_some keys layout key.key old new was text params at places sets change
+      (update_means (table_query 0 (key_tests at places) [] (col 1 0 ∷ col 1 0 ∷ some_terms layout sets)) layout text is old.now.schema was.at was.tree was.has) key.first solid exact suit shows keeps sound;
 }

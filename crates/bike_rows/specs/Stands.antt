@@ -49,3 +49,9 @@ pub record Sets (old new : Database) (keys : ℕ) (layout : Layout) (rows : List
   pub stands : Stands new keys layout
   pub rows_are : rows_of keys layout.name new ≡ rows
   pub others : (more : ℕ) (other : Layout) → is_same_text other.name layout.name ≡ false → Stands old more other → Stays old new more other
+
+-- The database is sound, its schema has the tables that it had, and each stands with its rows: only indexes may be new.
+pub record Indexes (old new : Database) : Type 0 where
+  pub tables : new.schema.tables ≡ old.schema.tables
+  pub sound : IsDatabase new
+  pub stays : (keys : ℕ) (layout : Layout) → Stands old keys layout → Stays old new keys layout

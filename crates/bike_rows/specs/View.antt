@@ -1,6 +1,6 @@
 -- A table as the list of its rows in the order of their keys, with no rowid, tree or index in it.
 use Rattle.std.specs.Prelude.{◌≡◌, ◌&&◌, ℕ, zero, suc, true, not, List, [], ◌∷◌, map, filter, take, find, length, Option, None, is_some, option_map, unwrap_or, if◌then◌else◌}
-use Rattle.std.specs.List.{range_with_len, list_any}
+use Rattle.std.specs.List.{range_with_len, list_any, list_all}
 use Rattle.std.specs.declared.cmp.Ordering.{Ordering}
 use Rattle.std.specs.declared.cmp.Ordering.TheVariants.{Equal}
 use Rattle.std.specs.Ordering.{on, is_eq, is_lt}
@@ -71,6 +71,10 @@ pub record IsKeyed (keys : ℕ) (table : Table) (rows : List Row) : Type 0 where
 abbrev pub rows_where : List ℕ → Row → List Row → List Row
 rows_where columns values = filter (λ row. is_eq (row_cmp (map (column row) columns) values))
 
+-- the rows whose columns at these places are NULL
+abbrev pub rows_null : List ℕ → List Row → List Row
+rows_null columns = filter (λ row. list_all is_null (map (column row) columns))
+
 -- the rows whose first column is not below the one value, and below the other
 abbrev pub rows_between : Value → Value → List Row → List Row
 rows_between from to = filter (λ row. not (is_lt (value_cmp (column row 0) from)) && is_lt (value_cmp (column row 0) to))
@@ -88,3 +92,7 @@ partner keys key rows = if list_any is_null key then None else row_with keys key
 -- LEFT JOIN: each row with its partner, the row of the other table that has its columns at these places as key
 abbrev pub left_joined : (Row → Option Row → Row) → List ℕ → ℕ → List Row → List Row → List Row
 left_joined show columns keys others = map (λ row. show row (partner keys (map (column row) columns) others))
+
+-- two LEFT JOINs: each row with its partner in each of two other tables
+abbrev pub twice_joined : (Row → Option Row → Option Row → Row) → List ℕ → ℕ → List Row → List ℕ → ℕ → List Row → List Row → List Row
+twice_joined show columns keys others more_columns more_keys more_others = map (λ row. show row (partner keys (map (column row) columns) others) (partner more_keys (map (column row) more_columns) more_others))
