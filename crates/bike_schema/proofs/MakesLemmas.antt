@@ -3,13 +3,13 @@ use Rattle.std.proofs.Common.{◌≡◌, Bool, true, false, List, [], ◌∷◌,
 use Rattle.std.proofs.Math.Path.{fun_ext}
 use Rattle.sqlite_value.specs.Order.{Row}
 use Rattle.sqlite.specs.Effect.{Database, IsDatabase}
-use Rattle.sqlite.specs.State.{State, Shows}
+use Rattle.sqlite.specs.State.{State}
 use Rattle.bike_rows.specs.Stands.{rows_of, is_same_text, Stands, Sets}
 use Rattle.bike_book.specs.Tables.{TableName, Tables, keys_of, is_table, rows_in, tables_by, with_rows}
 use Rattle.bike_book.specs.Writes.{RowWrite, table_of_write, rows_after, tables_after, tables_after_all}
 use Rattle.bike_schema.specs.Layouts.{layout_of, name_of}
 use Rattle.bike_schema.specs.Tables.{tables_of, HasTables}
-use Rattle.bike_schema.specs.Makes.{OthersStay, Makes, Puts}
+use Rattle.bike_schema.specs.Makes.{OthersStay, Makes, Continues, Puts}
 use Rattle.bike_schema.proofs.TableLemmas.{rows_in_by, same_table, every_false, names_apart}
 
 -- the rows of a table of the database, by its name
@@ -76,8 +76,8 @@ makes_then ws vs a b c first second = record {
   others = stay_then a b c first.others second.others;
 }
 
-pub shows_then : (a b c : State) → Shows a b b.now a.committed true → Shows b c c.now b.committed true → Shows a c c.now a.committed true
-shows_then a b c first second = record { was_open = first.was_open; is_open = second.is_open; now_is = refl; committed_is = second.committed_is ∙ first.committed_is; mode = second.mode }
+pub continues_then : (a b c : State) → Continues a b → Continues b c → Continues a c
+continues_then a b c first second = record { was_open = first.was_open; is_open = second.is_open; now_is = refl; committed_is = second.committed_is ∙ first.committed_is; mode = second.mode }
 
 pub puts_then : (ws vs : List RowWrite) (a b c : State) → Puts ws a b → Puts vs b c → Puts (ws ++ vs) a c
-puts_then ws vs a b c first second = record { shown = shows_then a b c first.shown second.shown; makes = makes_then ws vs a.now b.now c.now first.makes second.makes }
+puts_then ws vs a b c first second = record { continues = continues_then a b c first.continues second.continues; makes = makes_then ws vs a.now b.now c.now first.makes second.makes }

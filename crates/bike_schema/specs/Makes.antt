@@ -25,7 +25,11 @@ pub record Makes (writes : List RowWrite) (old new : Database) : Type 0 where
   pub tables : tables_of new ≡ tables_after_all writes (tables_of old)
   pub others : OthersStay old new
 
--- The same within a transaction, which goes on: what is committed stays.
+-- the transaction goes on, and what is committed stays
+abbrev pub Continues : State → State → Type 0
+Continues old new = Shows old new new.now old.committed true
+
+-- The same within a transaction.
 pub record Puts (writes : List RowWrite) (old new : State) : Type 0 where
-  pub shown : Shows old new new.now old.committed true
+  pub continues : Continues old new
   pub makes : Makes writes old.now new.now

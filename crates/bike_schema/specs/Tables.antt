@@ -1,6 +1,7 @@
 -- The product's tables in a database, each found by its name at whatever place of the schema it stands.
-use Rattle.std.specs.Prelude.{◌≡◌, ℕ, Bool, false, List, [], ◌∷◌, ◌++◌, map, None, codes}
-use Rattle.std.specs.List.{AllByRecursion, list_any}
+use Rattle.std.specs.Prelude.{◌&&◌, ℕ, Bool, not, List, [], ◌∷◌, ◌++◌, map, is_none, codes, IsTrue}
+use Rattle.std.specs.List.{list_any, list_all}
+use Rattle.sqlite_schema.specs.declared.schema.Table.{Table}
 use Rattle.sqlite_schema.specs.declared.schema.Schema.{Schema}
 use Rattle.sqlite_schema.specs.Names.{same_name, table_named}
 use Rattle.sqlite.specs.Effect.{Database, IsDatabase}
@@ -28,15 +29,18 @@ planned_names = codes "regions" ∷ codes "stations_2" ∷ codes "stations_3" �
 abbrev pub product_names : List (List ℕ)
 product_names = map name_of every_table ++ planned_names
 
+-- some foreign key of the table names this name
+abbrev pub names_parent : List ℕ → Table → Bool
+names_parent name table = list_any (λ ref. same_name name ref.parent) table.references
+
 -- some foreign key names a table of this name, whether there is one or not
 abbrev pub is_parent : Schema → List ℕ → Bool
-is_parent schema name = list_any (λ table. list_any (λ ref. same_name name ref.parent) table.references) schema.tables
+is_parent schema name = list_any (names_parent name) schema.tables
 
--- No table has the name, and no foreign key names it.
-pub record IsUnused (schema : Schema) (name : List ℕ) : Type 0 where
-  pub absent : table_named schema name ≡ None
-  pub unnamed : is_parent schema name ≡ false
+-- no table has the name, and no foreign key names it
+abbrev pub is_unused : Schema → List ℕ → Bool
+is_unused schema name = is_none (table_named schema name) && not (is_parent schema name)
 
 -- no name of the product's tables is used
 abbrev pub HasNone : Schema → Type 0
-HasNone schema = AllByRecursion (IsUnused schema) product_names
+HasNone schema = IsTrue (list_all (is_unused schema) product_names)
