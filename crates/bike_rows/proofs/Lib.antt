@@ -26,6 +26,8 @@ pub mod TextLemmas
 pub mod SelectLaws
 pub mod WriteLaws
 pub mod CallLaws
+pub mod ChainLaws
+pub mod TablesLaw
 pub mod PageLaw
 pub mod SetLaw
 pub mod IndexLaw

@@ -1,6 +1,7 @@
 -- SELECT .. WHERE tests ORDER BY the key LIMIT a number answers what it shows of the rows that pass, in the order of their keys, up to that number.
-use Rattle.std.proofs.Common.{◌≡◌, ℕ, List, [], ◌∷◌, ◌++◌, map, filter, take, slice_get, ◌&&◌, Bool, true, false, cond, refl, sym, ap, ap₂, ◌∙◌}
+use Rattle.std.proofs.Common.{◌≡◌, ℕ, ℤ, not, List, [], ◌∷◌, ◌++◌, map, filter, take, slice_get, ◌&&◌, Bool, true, false, cond, refl, sym, ap, ap₂, ◌∙◌}
 use Rattle.std.specs.List.{list_all}
+use Rattle.std.specs.Ordering.{is_lt}
 use Rattle.sqlite_value.specs.declared.value.Value.{Value}
 use Rattle.sqlite_value.specs.declared.value.Value.TheVariants.{Null, Int, Real, Text, Blob}
 use Rattle.sqlite_value.specs.declared.keys.Collation.TheVariants.{Binary}
@@ -9,7 +10,8 @@ use Rattle.sqlite_trees.proofs.ListLemmas.{filter-map}
 use Rattle.sqlite_sql.specs.Ops.{binary, is_true, is_null}
 use Rattle.sqlite_sql.specs.Term.{Term, eval, eval_all, holds}
 use Rattle.sqlite_sql.specs.Query.{as_count, limited}
-use Rattle.sqlite_sql.specs.declared.ops.BinaryOp.TheVariants.{Is}
+use Rattle.sqlite_sql.specs.declared.ops.BinaryOp.TheVariants.{Is, Compare}
+use Rattle.sqlite_sql.specs.declared.ops.CompareOp.TheVariants.{Ge, Lt}
 use Rattle.sqlite_rules.specs.Lists.{Has}
 use Rattle.sqlite.specs.Effect.{Database}
 use Rattle.bike_rows.specs.Keyed.{in_order}
@@ -21,7 +23,7 @@ use Rattle.bike_rows.specs.Answer.{MeansQuery, HasOneAnswer}
 use Rattle.bike_rows.proofs.TreeLemmas.{by_key_total, shown_apart}
 use Rattle.bike_rows.proofs.AnswerLemmas.{passes, answered_page}
 use Rattle.bike_rows.proofs.KeyOrderLemmas.{shown_in_key_order}
-use Rattle.bike_rows.proofs.RangeLaw.{order_filter, filter_has_same}
+use Rattle.bike_rows.proofs.RangeLaw.{order_filter, filter_has_same, ge_test, lt_test}
 use Rattle.bike_rows.proofs.FrameLemmas.{rows_of_is}
 use Rattle.bike_rows.proofs.WalkLaw.{one_answer}
 
@@ -38,6 +40,24 @@ null_test (Blob b) = refl
 pub tests_null : (places : List ℕ) (params r : Row) → list_all (holds (params ∷ r ∷ [])) (null_tests places) ≡ list_all is_null (map (column r) places)
 tests_null [] params r = refl
 tests_null (place ∷ places) params r = ap₂ ◌&&◌ (null_test (column r place)) (tests_null places params r)
+
+-- ---- comparison of what may be NULL with a number
+
+pub at_least_test : (v : Value) (n : ℤ) → is_true (binary (Compare Ge Binary) v (Int n)) ≡ not (is_lt (value_cmp v (Int n)))
+unfolding binary value_cmp
+at_least_test Null n = refl
+at_least_test (Int m) n = ge_test (Int m) (Int n) refl refl
+at_least_test (Real x) n = ge_test (Real x) (Int n) refl refl
+at_least_test (Text t) n = ge_test (Text t) (Int n) refl refl
+at_least_test (Blob b) n = ge_test (Blob b) (Int n) refl refl
+
+pub below_test : (v : Value) (n : ℤ) → is_true (binary (Compare Lt Binary) v (Int n)) ≡ (not (is_null v) && is_lt (value_cmp v (Int n)))
+unfolding binary
+below_test Null n = refl
+below_test (Int m) n = lt_test (Int m) (Int n) refl refl
+below_test (Real x) n = lt_test (Real x) (Int n) refl refl
+below_test (Text t) n = lt_test (Text t) (Int n) refl refl
+below_test (Blob b) n = lt_test (Blob b) (Int n) refl refl
 
 -- ---- lists of tests, and of rows
 

@@ -19,7 +19,7 @@ use Rattle.sqlite.specs.State.{State, Executes, ExecutesInside, Shows}
 use Rattle.bike_names.specs.Inserts.{IsInsert}
 use Rattle.bike_names.proofs.InsertLaws.{insert_is}
 use Rattle.bike_rows.specs.Layout.{Layout, table_of}
-use Rattle.bike_rows.specs.View.{columns_of, put_row_by, replaced, updated}
+use Rattle.bike_rows.specs.View.{columns_of, IsFree, put_row_by, replaced, updated}
 use Rattle.bike_rows.specs.Stands.{rows_of, Stands, Sets}
 use Rattle.bike_rows.specs.Queries.{table_query, key_tests, key_in}
 use Rattle.bike_rows.proofs.ListLemmas.{map_map, map_same}
@@ -27,18 +27,31 @@ use Rattle.bike_rows.proofs.CastLemmas.{suit_all, suits_row}
 use Rattle.bike_rows.proofs.CrashLemmas.{done_inside}
 use Rattle.bike_rows.proofs.KeyLemmas.{IsKeyAt}
 use Rattle.bike_rows.proofs.TextLemmas.{IsUpdate, update_means}
-use Rattle.bike_rows.proofs.InsertLaw.{insert_sets}
+use Rattle.bike_rows.proofs.InsertLaw.{insert_puts}
 use Rattle.bike_rows.proofs.SetLaw.{are_exact, some_terms, sets_suit, update_some}
 use Rattle.bike_rows.proofs.UpdateLaw.{update_columns, update_number}
 
--- Once the text is done, the table's rows are what `change` makes of them, and each table of another name is as it was.
-pub record Changes (keys : ℕ) (layout : Layout) (text : List ℕ) (params : Row) (change : List Row → List Row) : Type 1 where
-  pub does : (old new : State) → Stands old.now keys layout → (count : ℕ) → Executes text params old new (Ok count) → Sets old.now new.now keys layout (change (rows_of keys layout.name old.now))
+-- Once the text is done in a sound database, the table's rows are what `change` makes of them, and each table of another name is as it was. `tells` is what it says of the rows before.
+pub record Changes (keys : ℕ) (layout : Layout) (text : List ℕ) (params : Row) (change : List Row → List Row) (tells : List Row → Type 0) : Type 1 where
+  pub does : (old new : State) → IsDatabase old.now → Stands old.now keys layout → (count : ℕ) → Executes text params old new (Ok count)
+      → Sets old.now new.now keys layout (change (rows_of keys layout.name old.now)) × tells (rows_of keys layout.name old.now)
 
 -- Inside a transaction, what is committed is as it was.
-pub changes_inside : {keys : ℕ} {layout : Layout} {text : List ℕ} {params : Row} {change : List Row → List Row} (it : Changes keys layout text params change) (old new : State) → Stands old.now keys layout → (r : Result ℕ Error) → ExecutesInside 0 text params old new r
-    → OnOk r (Shows old new new.now old.committed true × Sets old.now new.now keys layout (change (rows_of keys layout.name old.now)))
-changes_inside {text = text} {params = params} it old new was r = done_inside 0 text params old new r (λ count shown executes. (shown, it.does old new was count executes))
+pub changes_inside : {keys : ℕ} {layout : Layout} {text : List ℕ} {params : Row} {change : List Row → List Row} {tells : List Row → Type 0} (it : Changes keys layout text params change tells) (old new : State) → IsDatabase old.now → Stands old.now keys layout → (r : Result ℕ Error) → ExecutesInside 0 text params old new r
+    → OnOk r (Shows old new new.now old.committed true × Sets old.now new.now keys layout (change (rows_of keys layout.name old.now)) × tells (rows_of keys layout.name old.now))
+changes_inside {text = text} {params = params} it old new sound was r = done_inside 0 text params old new r (λ count shown executes. let done = it.does old new sound was count executes in (shown, done.0, done.1))
+
+-- an INSERT of this row, whose key was free
+abbrev pub Inserts : ℕ → Layout → List ℕ → Row → Type 1
+Inserts keys layout text row = Changes keys layout text row (put_row_by keys row) (IsFree keys row)
+
+-- an UPDATE of all columns of the row with this row's key, if it is there
+abbrev pub Replaces : ℕ → Layout → List ℕ → Row → Type 1
+Replaces keys layout text row = Changes keys layout text row (replaced keys row) (λ rows. Unit {0})
+
+-- an UPDATE of the row with this key, if it is there
+abbrev pub Updates : ℕ → Layout → List ℕ → Row → Row → (Row → Row) → Type 1
+Updates keys layout text params key change = Changes keys layout text params (updated keys key change) (λ rows. Unit {0})
 
 -- ---- the row whose columns are the parameters, in order
 
@@ -69,9 +82,9 @@ width layout = length layout.columns + 1
 module _ {keys : ℕ} {layout : Layout} {places : List ℕ} (key : IsKeyAt keys layout places) {text : List ℕ} {params : Row} where
   -- INSERT INTO the table VALUES (?1, ..)
   pub row_put : ((s : Schema) (tree : ℕ) → IsInsert s (table_of layout tree) (first text) (Values (row_terms layout) (width layout))) → value_rows params (width layout) (length (row_terms layout) / width layout) (row_terms layout) ≡ row_values layout params ∷ []
-      → suits_row layout.columns (row_values layout params) ≡ true → ((rows : List Row) → columns_of (table_of layout 0) (with_rowid Chosen rows (row_values layout params)) ≡ params) → Changes keys layout text params (put_row_by keys params)
+      → suits_row layout.columns (row_values layout params) ≡ true → ((rows : List Row) → columns_of (table_of layout 0) (with_rowid Chosen rows (row_values layout params)) ≡ params) → Inserts keys layout text params
   row_put is gives suit shows = record {
-    does = λ old new was. insert_sets keys layout key.key old new was text params (width layout) (row_terms layout) (row_values layout params) params
+    does = λ old new sound was. insert_puts keys layout key.key old new was text params (width layout) (row_terms layout) (row_values layout params) params
         (insert_is old.now.schema was.at (table_of layout was.tree) was.has text (Values (row_terms layout) (width layout)) (is old.now.schema was.tree)) gives suit shows;
   }
 
@@ -94,36 +107,37 @@ sets_values layout params r =
 module _ {keys : ℕ} {layout : Layout} {places : List ℕ} (key : IsKeyAt keys layout places) {text : List ℕ} {params : Row} where
   -- UPDATE the table SET each column = its parameter WHERE the key's columns = the first parameters
   pub row_replaced : IsUpdate (table_query 0 (key_tests 0 places) [] (set_terms layout)) layout text → list_any is_null (key_in 0 places params) ≡ false → take keys params ≡ key_in 0 places params → suit_all layout.columns (column_values layout params) ≡ true
-      → ((id : Value) → columns_of (table_of layout 0) (id ∷ column_values layout params) ≡ params) → Changes keys layout text params (replaced keys params)
+      → ((id : Value) → columns_of (table_of layout 0) (id ∷ column_values layout params) ≡ params) → Replaces keys layout text params
   row_replaced is solid has_key suit shows = record {
-    does = λ old new was. update_columns keys layout key.key old new was text params places (set_terms layout) (column_values layout params) params
-        (update_means (table_query 0 (key_tests 0 places) [] (set_terms layout)) layout text is old.now.schema was.at was.tree was.has) key.first solid has_key suit (sets_values layout params) shows;
+    does = λ old new sound was count ran. (
+      update_columns keys layout key.key old new was text params places (set_terms layout) (column_values layout params) params
+          (update_means (table_query 0 (key_tests 0 places) [] (set_terms layout)) layout text is old.now.schema was.at was.tree was.has) key.first solid has_key suit (sets_values layout params) shows count ran,
+      tt,
+    );
   }
 
 -- UPDATE the table SET each other column = its parameter WHERE key = ?1
 pub number_replaced : {layout : Layout} (key : IsKeyAt 1 layout (0 ∷ [])) {text : List ℕ} {n : ℤ} {others : Row} → IsUpdate (table_query 0 (key_tests 0 (0 ∷ [])) [] (set_terms layout)) layout text → suit_all layout.columns (column_values layout (Int n ∷ others)) ≡ true
-    → columns_of (table_of layout 0) (Int n ∷ column_values layout (Int n ∷ others)) ≡ Int n ∷ others → Changes 1 layout text (Int n ∷ others) (replaced 1 (Int n ∷ others))
+    → columns_of (table_of layout 0) (Int n ∷ column_values layout (Int n ∷ others)) ≡ Int n ∷ others → Replaces 1 layout text (Int n ∷ others)
 number_replaced {layout} key {text} {n} {others} is suit shows = record {
-  does = λ old new was. update_number layout key.key old new was text n others (set_terms layout) (column_values layout (Int n ∷ others)) (Int n ∷ others)
-      (update_means (table_query 0 (key_tests 0 (0 ∷ [])) [] (set_terms layout)) layout text is old.now.schema was.at was.tree was.has) key.first refl suit (sets_values layout (Int n ∷ others)) shows;
+  does = λ old new sound was count ran. (
+    update_number layout key.key old new was text n others (set_terms layout) (column_values layout (Int n ∷ others)) (Int n ∷ others)
+        (update_means (table_query 0 (key_tests 0 (0 ∷ [])) [] (set_terms layout)) layout text is old.now.schema was.at was.tree was.has) key.first refl suit (sets_values layout (Int n ∷ others)) shows count ran,
+    tt,
+  );
 }
 
 -- ---- some columns
 
--- The same where the database is sound, so that each value that stays is one that its column stores as it is.
-pub record ChangesSound (keys : ℕ) (layout : Layout) (text : List ℕ) (params : Row) (change : List Row → List Row) : Type 1 where
-  pub does : (old new : State) → IsDatabase old.now → Stands old.now keys layout → (count : ℕ) → Executes text params old new (Ok count) → Sets old.now new.now keys layout (change (rows_of keys layout.name old.now))
-
-pub changes_sound_inside : {keys : ℕ} {layout : Layout} {text : List ℕ} {params : Row} {change : List Row → List Row} (it : ChangesSound keys layout text params change) (old new : State) → IsDatabase old.now → Stands old.now keys layout → (r : Result ℕ Error) → ExecutesInside 0 text params old new r
-    → OnOk r (Shows old new new.now old.committed true × Sets old.now new.now keys layout (change (rows_of keys layout.name old.now)))
-changes_sound_inside {text = text} {params = params} it old new sound was r = done_inside 0 text params old new r (λ count shown executes. (shown, it.does old new sound was count executes))
-
--- UPDATE the table SET some columns, each to a parameter, WHERE the key's columns = the parameters from `at` on
+-- UPDATE the table SET some columns, each to a parameter, WHERE the key's columns = the parameters from `at` on. What is set is told by (column, parameter), both counted from 0.
 pub row_updated : {keys : ℕ} {layout : Layout} {places : List ℕ} (key : IsKeyAt keys layout places) {text : List ℕ} {params : Row} (at : ℕ) (sets : List (ℕ × ℕ)) (change : Row → Row) → IsUpdate (table_query 0 (key_tests at places) [] (col 1 0 ∷ col 1 0 ∷ some_terms layout sets)) layout text
     → list_any is_null (key_in at places params) ≡ false → are_exact layout.columns ≡ true → sets_suit sets params 0 layout.columns ≡ true
     → ((r : Row) → columns_of (table_of layout 0) (rowid r ∷ eval_all (some_terms layout sets) (params ∷ r ∷ [])) ≡ change (columns_of (table_of layout 0) r))
-    → ((r : Row) → take keys (change (columns_of (table_of layout 0) r)) ≡ take keys (columns_of (table_of layout 0) r)) → ChangesSound keys layout text params (updated keys (key_in at places params) change)
+    → ((r : Row) → take keys (change (columns_of (table_of layout 0) r)) ≡ take keys (columns_of (table_of layout 0) r)) → Updates keys layout text params (key_in at places params) change
 row_updated {keys} {layout} {places} key {text} {params} at sets change is solid exact suit shows keeps = record {
-  does = λ old new sound was. update_some keys layout key.key old new was text params at places sets change
-      (update_means (table_query 0 (key_tests at places) [] (col 1 0 ∷ col 1 0 ∷ some_terms layout sets)) layout text is old.now.schema was.at was.tree was.has) key.first solid exact suit shows keeps sound;
+  does = λ old new sound was count ran. (
+    update_some keys layout key.key old new was text params at places sets change
+        (update_means (table_query 0 (key_tests at places) [] (col 1 0 ∷ col 1 0 ∷ some_terms layout sets)) layout text is old.now.schema was.at was.tree was.has) key.first solid exact suit shows keeps sound count ran,
+    tt,
+  );
 }

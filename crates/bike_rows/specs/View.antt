@@ -30,6 +30,10 @@ rows_in keys table trees = in_order (by_key keys) (map (columns_of table) (trees
 abbrev pub row_with : ℕ → Row → List Row → Option Row
 row_with keys key = find (λ row. is_eq (row_cmp (take keys row) key))
 
+-- no row has the key of this one
+abbrev pub IsFree : ℕ → Row → List Row → Type 0
+IsFree keys row rows = row_with keys (take keys row) rows ≡ None
+
 -- the rows with this one at its place, where it stands for the row with its key, if there is one
 abbrev pub put_row_by : ℕ → Row → List Row → List Row
 put_row_by keys = put_in (by_key keys)

@@ -1,7 +1,19 @@
-use crate::notes::{find_note, insert_note, update_note};
-use crate::parts::{find_part, insert_part, update_part};
-use crate::shelves::{insert_shelf, walk_inventory, walk_shelf_stocks, walk_shelves_between};
-use crate::walks::{count_parts_with, last_part, walk_notes_of, walk_parts, walk_parts_between};
+use crate::boxes::{index_boxes_by_part, insert_box};
+use crate::notes::{find_note, insert_note, set_body, update_note};
+use crate::parts::{
+    count_parts_with, first_stocked, insert_part, last_part, read_both_parts, read_part,
+    update_part,
+};
+use crate::shelves::{
+    count_shelves_with, first_empty_shelf, first_shelf_with, insert_shelf, set_part,
+};
+use crate::together::{
+    walk_boxes, walk_inventory, walk_shelf_stocks, walk_shelves_by_part, walk_stores_by_part,
+};
+use crate::walks::{
+    walk_empty_shelves, walk_notes_of, walk_parts, walk_parts_between, walk_shelves_between,
+    walk_stocked_parts,
+};
 use bike_rows::walk::next_row;
 use sqlite::{Alter, Connection, Error, Row, Rows, Transaction};
 use std::test::Fail;
@@ -9,25 +21,12 @@ use std::test::Fail;
 // These have no clause, so that the proof of the test does not carry the state of each call.
 fn make<S: Alter>(conn: &mut Connection<S>) -> Result<(), Error> {
     conn.execute_batch(
-        "CREATE TABLE other (a); CREATE TABLE parts (part INTEGER PRIMARY KEY, stock INTEGER NOT NULL) STRICT; CREATE TABLE notes (author TEXT NOT NULL, title TEXT NOT NULL, body TEXT, PRIMARY KEY (author, title)) STRICT; CREATE TABLE shelves (shelf INTEGER PRIMARY KEY, part INTEGER, room INTEGER NOT NULL) STRICT",
+        "CREATE TABLE other (a); CREATE TABLE parts (part INTEGER PRIMARY KEY, stock INTEGER NOT NULL) STRICT; CREATE TABLE notes (author TEXT NOT NULL, title TEXT NOT NULL, body TEXT, PRIMARY KEY (author, title)) STRICT; CREATE TABLE shelves (shelf INTEGER PRIMARY KEY, part INTEGER, room INTEGER NOT NULL) STRICT; CREATE TABLE boxes (box INTEGER PRIMARY KEY, part INTEGER NOT NULL, shelf INTEGER) STRICT",
     )
 }
 
 fn add_part<S: Alter>(tx: &mut Transaction<'_, S>, part: i64, stock: i64) -> Result<(), Error> {
-    insert_part(tx, part, stock)?;
-    Ok(())
-}
-
-fn set_part<S: Alter>(tx: &mut Transaction<'_, S>, part: i64, stock: i64) -> Result<(), Error> {
-    update_part(tx, part, stock)?;
-    Ok(())
-}
-
-fn put_parts<S: Alter>(tx: &mut Transaction<'_, S>) -> Result<(), Error> {
-    add_part(tx, 7, 10)?;
-    add_part(tx, 1, 10)?;
-    add_part(tx, 3, 30)?;
-    set_part(tx, 3, 10)
+    insert_part(tx, part, stock)
 }
 
 fn add_note<S: Alter>(
@@ -36,25 +35,7 @@ fn add_note<S: Alter>(
     title: &str,
     body: Option<&str>,
 ) -> Result<(), Error> {
-    insert_note(tx, author, title, body)?;
-    Ok(())
-}
-
-fn set_note<S: Alter>(
-    tx: &mut Transaction<'_, S>,
-    author: &str,
-    title: &str,
-    body: Option<&str>,
-) -> Result<(), Error> {
-    update_note(tx, author, title, body)?;
-    Ok(())
-}
-
-fn put_notes<S: Alter>(tx: &mut Transaction<'_, S>) -> Result<(), Error> {
-    add_note(tx, "ann", "b", None)?;
-    add_note(tx, "ann", "a", Some("first"))?;
-    add_note(tx, "bob", "a", Some("other"))?;
-    set_note(tx, "bob", "a", None)
+    insert_note(tx, author, title, body)
 }
 
 fn add_shelf<S: Alter>(
@@ -63,14 +44,73 @@ fn add_shelf<S: Alter>(
     part: Option<i64>,
     room: i64,
 ) -> Result<(), Error> {
-    insert_shelf(tx, shelf, part, room)?;
-    Ok(())
+    insert_shelf(tx, shelf, part, room)
+}
+
+fn add_box<S: Alter>(
+    tx: &mut Transaction<'_, S>,
+    number: i64,
+    part: i64,
+    shelf: Option<i64>,
+) -> Result<(), Error> {
+    insert_box(tx, number, part, shelf)
+}
+
+fn restock<S: Alter>(tx: &mut Transaction<'_, S>, part: i64, stock: i64) -> Result<(), Error> {
+    update_part(tx, part, stock)
+}
+
+fn rewrite<S: Alter>(
+    tx: &mut Transaction<'_, S>,
+    author: &str,
+    title: &str,
+    body: Option<&str>,
+) -> Result<(), Error> {
+    update_note(tx, author, title, body)
+}
+
+fn clear_body<S: Alter>(
+    tx: &mut Transaction<'_, S>,
+    author: &str,
+    title: &str,
+) -> Result<(), Error> {
+    set_body(tx, author, title, None)
+}
+
+fn empty<S: Alter>(tx: &mut Transaction<'_, S>, shelf: i64) -> Result<(), Error> {
+    set_part(tx, shelf, None)
+}
+
+fn make_index<S: Alter>(tx: &mut Transaction<'_, S>) -> Result<(), Error> {
+    index_boxes_by_part(tx)
+}
+
+fn put_parts<S: Alter>(tx: &mut Transaction<'_, S>) -> Result<(), Error> {
+    add_part(tx, 7, 10)?;
+    add_part(tx, 1, 10)?;
+    add_part(tx, 3, 30)?;
+    restock(tx, 3, 20)
+}
+
+fn put_notes<S: Alter>(tx: &mut Transaction<'_, S>) -> Result<(), Error> {
+    add_note(tx, "ann", "b", None)?;
+    add_note(tx, "ann", "a", Some("first"))?;
+    add_note(tx, "bob", "a", Some("other"))?;
+    rewrite(tx, "bob", "a", Some("new"))?;
+    clear_body(tx, "bob", "a")
 }
 
 fn put_shelves<S: Alter>(tx: &mut Transaction<'_, S>) -> Result<(), Error> {
     add_shelf(tx, 4, Some(8), 1)?;
     add_shelf(tx, 1, Some(3), 5)?;
-    add_shelf(tx, 2, None, 6)
+    add_shelf(tx, 2, Some(7), 6)?;
+    empty(tx, 2)
+}
+
+fn put_boxes<S: Alter>(tx: &mut Transaction<'_, S>) -> Result<(), Error> {
+    add_box(tx, 5, 3, Some(1))?;
+    add_box(tx, 2, 9, None)?;
+    make_index(tx)
 }
 
 fn fill<S: Alter>(conn: &mut Connection<S>) -> Result<(), Error> {
@@ -81,6 +121,7 @@ fn fill<S: Alter>(conn: &mut Connection<S>) -> Result<(), Error> {
     put_parts(&mut tx)?;
     put_notes(&mut tx)?;
     put_shelves(&mut tx)?;
+    put_boxes(&mut tx)?;
     tx.commit()
 }
 
@@ -92,15 +133,40 @@ fn number(row: Option<Row>, at: usize) -> Result<Option<i64>, Error> {
 }
 
 fn stock_of<S: Alter>(conn: &mut Connection<S>, part: i64) -> Result<Option<i64>, Error> {
-    number(find_part(conn, part)?, 1)
+    Ok(read_part(conn, part)?.map(|found| found.stock))
+}
+
+fn has_both<S: Alter>(conn: &mut Connection<S>, one: i64, other: i64) -> Result<bool, Error> {
+    let (first, second) = read_both_parts(conn, one, other)?;
+    Ok(first.is_some() && second.is_some())
 }
 
 fn greatest<S: Alter>(conn: &mut Connection<S>) -> Result<Option<i64>, Error> {
     number(last_part(conn)?, 0)
 }
 
+fn stocked<S: Alter>(conn: &mut Connection<S>, least: i64) -> Result<Option<i64>, Error> {
+    number(first_stocked(conn, least)?, 0)
+}
+
 fn count_with<S: Alter>(conn: &mut Connection<S>, stock: i64) -> Result<Option<i64>, Error> {
     number(count_parts_with(conn, stock)?, 0)
+}
+
+fn shelf_with<S: Alter>(conn: &mut Connection<S>, part: i64) -> Result<Option<i64>, Error> {
+    number(first_shelf_with(conn, part)?, 0)
+}
+
+fn empty_shelf<S: Alter>(conn: &mut Connection<S>, room: i64) -> Result<Option<i64>, Error> {
+    number(first_empty_shelf(conn, room)?, 0)
+}
+
+fn count_shelves<S: Alter>(
+    conn: &mut Connection<S>,
+    part: i64,
+    room: i64,
+) -> Result<Option<i64>, Error> {
+    number(count_shelves_with(conn, part, room)?, 0)
 }
 
 fn has_body<S: Alter>(conn: &mut Connection<S>, author: &str) -> Result<Option<bool>, Error> {
@@ -140,6 +206,11 @@ fn parts_between<S: Alter>(conn: &mut Connection<S>, from: i64, to: i64) -> Resu
     digits_of(&mut rows, 0)
 }
 
+fn stocked_parts<S: Alter>(conn: &mut Connection<S>, least: i64) -> Result<i64, Error> {
+    let mut rows = walk_stocked_parts(conn, least)?;
+    digits_of(&mut rows, 0)
+}
+
 fn shelf_stocks<S: Alter>(conn: &mut Connection<S>, at: usize) -> Result<i64, Error> {
     let mut rows = walk_shelf_stocks(conn)?;
     digits_of(&mut rows, at)
@@ -150,8 +221,28 @@ fn shelves_between<S: Alter>(conn: &mut Connection<S>, from: i64, to: i64) -> Re
     digits_of(&mut rows, 0)
 }
 
+fn empty_shelves<S: Alter>(conn: &mut Connection<S>, room: i64) -> Result<i64, Error> {
+    let mut rows = walk_empty_shelves(conn, room)?;
+    digits_of(&mut rows, 0)
+}
+
+fn all_boxes<S: Alter>(conn: &mut Connection<S>, at: usize) -> Result<i64, Error> {
+    let mut rows = walk_boxes(conn)?;
+    digits_of(&mut rows, at)
+}
+
 fn all_inventory<S: Alter>(conn: &mut Connection<S>, at: usize) -> Result<i64, Error> {
     let mut rows = walk_inventory(conn)?;
+    digits_of(&mut rows, at)
+}
+
+fn shelves_by_part<S: Alter>(conn: &mut Connection<S>, at: usize) -> Result<i64, Error> {
+    let mut rows = walk_shelves_by_part(conn)?;
+    digits_of(&mut rows, at)
+}
+
+fn stores_by_part<S: Alter>(conn: &mut Connection<S>, at: usize) -> Result<i64, Error> {
+    let mut rows = walk_stores_by_part(conn)?;
     digits_of(&mut rows, at)
 }
 
@@ -170,13 +261,20 @@ fn statements_do_what_they_say(rt: HostRuntime) -> Result<(), Fail> {
     let mut conn = Connection::open_in_memory(rt.alloc())?;
     make(&mut conn)?;
     fill(&mut conn)?;
-    for (part, want) in [(1, Some(10)), (2, None), (3, Some(10))] {
+    for (part, want) in [(1, Some(10)), (2, None), (3, Some(20))] {
         assert_eq!(rt; stock_of(&mut conn, part)?, want, "part {part}");
+    }
+    for (other, want) in [(2, false), (3, true)] {
+        assert_eq!(rt; has_both(&mut conn, 1, other)?, want, "parts 1 and {other}");
     }
     assert_eq!(rt; all_parts(&mut conn)?, 137);
     assert_eq!(rt; parts_between(&mut conn, 1, 7)?, 13);
     assert_eq!(rt; greatest(&mut conn)?, Some(7));
-    assert_eq!(rt; count_with(&mut conn, 10)?, Some(3));
+    assert_eq!(rt; count_with(&mut conn, 10)?, Some(2));
+    for (least, first, all) in [(5, Some(1), 137), (15, Some(3), 3), (25, None, 0)] {
+        assert_eq!(rt; stocked(&mut conn, least)?, first, "at least {least}");
+        assert_eq!(rt; stocked_parts(&mut conn, least)?, all, "at least {least}");
+    }
     for (author, want) in [("ann", Some(true)), ("bob", Some(false)), ("cy", None)] {
         assert_eq!(rt; has_body(&mut conn, author)?, want, "{author}");
     }
@@ -187,15 +285,43 @@ fn statements_do_what_they_say(rt: HostRuntime) -> Result<(), Fail> {
 }
 
 #[test]
-fn shelves_stand_beside_beside_their_parts(rt: HostRuntime) -> Result<(), Fail> {
+fn an_empty_shelf_is_found_by_its_null(rt: HostRuntime) -> Result<(), Fail> {
     let mut conn = Connection::open_in_memory(rt.alloc())?;
     make(&mut conn)?;
     fill(&mut conn)?;
-    for (at, want) in [(0, 124), (1, 1000)] {
+    assert_eq!(rt; shelves_between(&mut conn, 2, 5)?, 24);
+    for (part, want) in [(8, Some(4)), (7, None)] {
+        assert_eq!(rt; shelf_with(&mut conn, part)?, want, "part {part}");
+    }
+    for (room, first, all) in [(6, Some(2), 2), (5, None, 0)] {
+        assert_eq!(rt; empty_shelf(&mut conn, room)?, first, "room {room}");
+        assert_eq!(rt; empty_shelves(&mut conn, room)?, all, "room {room}");
+    }
+    for (room, want) in [(5, Some(1)), (6, Some(0))] {
+        assert_eq!(rt; count_shelves(&mut conn, 3, room)?, want, "room {room}");
+    }
+    Ok(())
+}
+
+#[test]
+fn rows_of_several_tables_stand_together(rt: HostRuntime) -> Result<(), Fail> {
+    let mut conn = Connection::open_in_memory(rt.alloc())?;
+    make(&mut conn)?;
+    fill(&mut conn)?;
+    for (at, want) in [(0, 124), (1, 2000)] {
         assert_eq!(rt; shelf_stocks(&mut conn, at)?, want, "column {at}");
+    }
+    for (at, want) in [(0, 25), (1, 20), (2, 5)] {
+        assert_eq!(rt; all_boxes(&mut conn, at)?, want, "column {at}");
     }
     for (at, want) in [(0, 111), (1, 137_124)] {
         assert_eq!(rt; all_inventory(&mut conn, at)?, want, "column {at}");
+    }
+    for (at, want) in [(0, 13_378), (2, 200_104)] {
+        assert_eq!(rt; shelves_by_part(&mut conn, at)?, want, "column {at}");
+    }
+    for (at, want) in [(0, 1_333_789), (1, 10_012_012)] {
+        assert_eq!(rt; stores_by_part(&mut conn, at)?, want, "column {at}");
     }
     Ok(())
 }

@@ -1,27 +1,20 @@
-//! The queries that answer many rows, in the order of their keys.
+//! The queries that answer many rows of one table, in the order of their keys.
 
-ghost use Rattle.std.specs.Prelude.{◌≡◌, [], ◌∷◌, IfOk, OnErr, Some, false, length, slice_get};
+ghost use Rattle.std.specs.Prelude.{[], ◌∷◌, filter, map, not};
+ghost use Rattle.std.specs.Borrow.{sem};
+ghost use Rattle.std.specs.Ordering.{is_lt};
 ghost use Rattle.sqlite.specs.declared.types.Value.TheVariants.{Int, Text};
-ghost use Rattle.sqlite_sql.specs.Aggregate.{count};
-ghost use Rattle.sqlite.specs.State.{HasCleanDisk, IsUnchanged, Survives};
-ghost use Rattle.sqlite.specs.Held.{state};
-ghost use Rattle.bike_rows.specs.View.{rows_where, rows_between, last_of};
-ghost use Rattle.bike_rows.specs.Outcome.{IsLeft};
-ghost use Rattle.std.specs.Borrow.{sem, RestsIfErr};
-ghost use Rattle.sqlite.specs.contracts.connection.Connection.{the_row};
-ghost use Rattle.bike_rows.specs.Walk.{IsWalking, LeavesAll};
-ghost use Rattle.bike_rows_example.specs.Tables.{HasTables, tables_of};
+ghost use Rattle.sqlite.specs.Order.{column, value_cmp};
+ghost use Rattle.bike_rows.specs.View.{rows_where, rows_null, rows_between};
+ghost use Rattle.bike_rows_example.specs.Calls.{Lends, Walks};
+ghost use Rattle.bike_rows_example.specs.Lines.{part_and_stock, shelf_and_room};
 
-use bike_rows::lookup::row_if_any;
-use sqlite::{Alter, Connection, Error, Row, Rows, params};
+use sqlite::{Alter, Connection, Error, Rows, params};
 
 /// All parts, in the order of their numbers. `bike_rows::walk::next_row` gives them in turn.
 pub fn walk_parts<S: Alter>(conn: &mut Connection<S>) -> Result<Rows<'_, S>, Error>
-    ensures* refused { sem 𝓛 (RestsIfErr (the_row S.row S.Store) conn.entry (λ rows. rows.conn.ghost_name) result (λ last. HasTables (state S.Store conn.old).now → LeavesAll S.Store conn.old last)) }
-    ensures same_reference { IfOk result (λ rows. rows.conn.ghost_name ≡ conn.entry.ghost_name) }
-    ensures begun { IfOk result (λ rows. HasTables (state S.Store conn.old).now → HasCleanDisk (state S.Store rows.conn.now) → IsWalking S.Store rows.conn.now (tables_of (state S.Store conn.old).now).parts × IsUnchanged (state S.Store conn.old) (state S.Store rows.conn.now)) }
-    ensures mode { IfOk result (λ rows. conn.old.in_transaction ≡ false → rows.conn.now.in_transaction ≡ false) }
-    ensures survives { IfOk result (λ rows. HasTables (state S.Store conn.old).now → Survives (state S.Store conn.old) (state S.Store rows.conn.now) (λ _. ⊥)) }
+    ensures* lends { sem 𝓛 (Lends S.row S.Store conn.entry result) }
+    ensures walks { Walks S.Store conn.entry result (λ t. t.parts) }
 {
     conn.query("SELECT * FROM parts ORDER BY part", &[])
 }
@@ -32,15 +25,27 @@ pub fn walk_parts_between<S: Alter>(
     from: i64,
     to: i64,
 ) -> Result<Rows<'_, S>, Error>
-    ensures* refused { sem 𝓛 (RestsIfErr (the_row S.row S.Store) conn.entry (λ rows. rows.conn.ghost_name) result (λ last. HasTables (state S.Store conn.old).now → LeavesAll S.Store conn.old last)) }
-    ensures same_reference { IfOk result (λ rows. rows.conn.ghost_name ≡ conn.entry.ghost_name) }
-    ensures begun { IfOk result (λ rows. HasTables (state S.Store conn.old).now → HasCleanDisk (state S.Store rows.conn.now) → IsWalking S.Store rows.conn.now (rows_between (Int from) (Int to) (tables_of (state S.Store conn.old).now).parts) × IsUnchanged (state S.Store conn.old) (state S.Store rows.conn.now)) }
-    ensures mode { IfOk result (λ rows. conn.old.in_transaction ≡ false → rows.conn.now.in_transaction ≡ false) }
-    ensures survives { IfOk result (λ rows. HasTables (state S.Store conn.old).now → Survives (state S.Store conn.old) (state S.Store rows.conn.now) (λ _. ⊥)) }
+    ensures* lends { sem 𝓛 (Lends S.row S.Store conn.entry result) }
+    ensures walks { Walks S.Store conn.entry result (λ t. rows_between (Int from) (Int to) t.parts) }
 {
     conn.query(
         "SELECT * FROM parts WHERE part >= ?1 AND part < ?2 ORDER BY part",
         params![from, to],
+    )
+}
+
+/// The parts of which there are at least so many, each with its stock.
+pub fn walk_stocked_parts<S: Alter>(
+    conn: &mut Connection<S>,
+    least: i64,
+) -> Result<Rows<'_, S>, Error>
+    ensures* lends { sem 𝓛 (Lends S.row S.Store conn.entry result) }
+    ensures walks { Walks S.Store conn.entry result (λ t.
+        map part_and_stock (filter (λ part. not (is_lt (value_cmp (column part 1) (Int least)))) t.parts)) }
+{
+    conn.query(
+        "SELECT part, stock FROM parts WHERE stock >= ?1 ORDER BY part",
+        params![least],
     )
 }
 
@@ -49,11 +54,8 @@ pub fn walk_notes_of<'a, S: Alter>(
     conn: &'a mut Connection<S>,
     author: &str,
 ) -> Result<Rows<'a, S>, Error>
-    ensures* refused { sem 𝓛 (RestsIfErr (the_row S.row S.Store) conn.entry (λ rows. rows.conn.ghost_name) result (λ last. HasTables (state S.Store conn.old).now → LeavesAll S.Store conn.old last)) }
-    ensures same_reference { IfOk result (λ rows. rows.conn.ghost_name ≡ conn.entry.ghost_name) }
-    ensures begun { IfOk result (λ rows. HasTables (state S.Store conn.old).now → HasCleanDisk (state S.Store rows.conn.now) → IsWalking S.Store rows.conn.now (rows_where (0 ∷ []) (Text author.now ∷ []) (tables_of (state S.Store conn.old).now).notes) × IsUnchanged (state S.Store conn.old) (state S.Store rows.conn.now)) }
-    ensures mode { IfOk result (λ rows. conn.old.in_transaction ≡ false → rows.conn.now.in_transaction ≡ false) }
-    ensures survives { IfOk result (λ rows. HasTables (state S.Store conn.old).now → Survives (state S.Store conn.old) (state S.Store rows.conn.now) (λ _. ⊥)) }
+    ensures* lends { sem 𝓛 (Lends S.row S.Store conn.entry result) }
+    ensures walks { Walks S.Store conn.entry result (λ t. rows_where (0 ∷ []) (Text author.now ∷ []) t.notes) }
 {
     conn.query(
         "SELECT * FROM notes WHERE author = ?1 ORDER BY author, title",
@@ -61,28 +63,32 @@ pub fn walk_notes_of<'a, S: Alter>(
     )
 }
 
-/// The part with the last number.
-pub fn last_part<S: Alter>(conn: &mut Connection<S>) -> Result<Option<Row>, Error>
-    ensures found { HasTables (state S.Store conn.old).now → HasCleanDisk (state S.Store conn.new) → IfOk result (λ row. (slice_get (last_of (tables_of (state S.Store conn.old).now).parts) 0 ≡ row) × IsUnchanged (state S.Store conn.old) (state S.Store conn.new)) }
-    ensures failed { HasTables (state S.Store conn.old).now → HasCleanDisk (state S.Store conn.new) → OnErr result (IsLeft (state S.Store conn.old) (state S.Store conn.new)) }
-    ensures mode { conn.old.in_transaction ≡ false → conn.new.in_transaction ≡ false }
-    ensures survives { HasTables (state S.Store conn.old).now → Survives (state S.Store conn.old) (state S.Store conn.new) (λ _. ⊥) }
+/// The shelves from this number to below that.
+pub fn walk_shelves_between<S: Alter>(
+    conn: &mut Connection<S>,
+    from: i64,
+    to: i64,
+) -> Result<Rows<'_, S>, Error>
+    ensures* lends { sem 𝓛 (Lends S.row S.Store conn.entry result) }
+    ensures walks { Walks S.Store conn.entry result (λ t. rows_between (Int from) (Int to) t.shelves) }
 {
-    row_if_any(conn.query_row("SELECT * FROM parts ORDER BY part DESC LIMIT 1", &[]))
+    conn.query(
+        "SELECT * FROM shelves WHERE shelf >= ?1 AND shelf < ?2 ORDER BY shelf",
+        params![from, to],
+    )
 }
 
-/// How many parts have this stock, as the one row of one number that SQL answers.
-pub fn count_parts_with<S: Alter>(
+/// The empty shelves of this room.
+pub fn walk_empty_shelves<S: Alter>(
     conn: &mut Connection<S>,
-    stock: i64,
-) -> Result<Option<Row>, Error>
-    ensures found { HasTables (state S.Store conn.old).now → HasCleanDisk (state S.Store conn.new) → IfOk result (λ row. (Some (count (length (rows_where (1 ∷ []) (Int stock ∷ []) (tables_of (state S.Store conn.old).now).parts)) ∷ []) ≡ row) × IsUnchanged (state S.Store conn.old) (state S.Store conn.new)) }
-    ensures failed { HasTables (state S.Store conn.old).now → HasCleanDisk (state S.Store conn.new) → OnErr result (IsLeft (state S.Store conn.old) (state S.Store conn.new)) }
-    ensures mode { conn.old.in_transaction ≡ false → conn.new.in_transaction ≡ false }
-    ensures survives { HasTables (state S.Store conn.old).now → Survives (state S.Store conn.old) (state S.Store conn.new) (λ _. ⊥) }
+    room: i64,
+) -> Result<Rows<'_, S>, Error>
+    ensures* lends { sem 𝓛 (Lends S.row S.Store conn.entry result) }
+    ensures walks { Walks S.Store conn.entry result (λ t.
+        map shelf_and_room (rows_null (1 ∷ []) (rows_where (2 ∷ []) (Int room ∷ []) t.shelves))) }
 {
-    row_if_any(conn.query_row(
-        "SELECT count(*) FROM parts WHERE stock = ?1",
-        params![stock],
-    ))
+    conn.query(
+        "SELECT shelf, room FROM shelves WHERE room = ?1 AND part IS NULL ORDER BY shelf",
+        params![room],
+    )
 }

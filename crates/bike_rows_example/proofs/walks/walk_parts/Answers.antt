@@ -1,9 +1,7 @@
-use Rattle.std.proofs.Common.{refl}
 use Rattle.bike_rows.proofs.CallLaws.{walk_returns}
+use Rattle.bike_rows.proofs.ParamLemmas.{bindings}
 use Rattle.bike_rows_example.proofs.PartLemmas.{lists}
 use Rattle.bike_rows_example.proofs.walks.walk_parts.Goals as goal
 
 pub returns : goal.returns
-returns g c =
-    walk_returns g.S.Store lists c.args.conn c.query.result _ refl
-    c.query.ensures c.query.follows.lender c.query.follows.lender-at-none c.query.follows.holds c.query.follows.holds-at-none
+returns g c = walk_returns g.S.Store lists c.args.conn c.query.result c.query.follows (search bindings)
