@@ -27,32 +27,92 @@ fn make<S: Alter>(conn: &mut Connection<S>) -> Result<(), Error> {
     )
 }
 
+fn add_part<S: Alter>(tx: &mut Transaction<'_, S>, part: i64, stock: i64) -> Result<(), Error> {
+    insert_part(tx, part, stock)
+}
+
+fn add_note<S: Alter>(
+    tx: &mut Transaction<'_, S>,
+    author: &str,
+    title: &str,
+    body: Option<&str>,
+) -> Result<(), Error> {
+    insert_note(tx, author, title, body)
+}
+
+fn add_shelf<S: Alter>(
+    tx: &mut Transaction<'_, S>,
+    shelf: i64,
+    part: Option<i64>,
+    room: i64,
+) -> Result<(), Error> {
+    insert_shelf(tx, shelf, part, room)
+}
+
+fn add_box<S: Alter>(
+    tx: &mut Transaction<'_, S>,
+    number: i64,
+    part: i64,
+    shelf: Option<i64>,
+) -> Result<(), Error> {
+    insert_box(tx, number, part, shelf)
+}
+
+fn restock<S: Alter>(tx: &mut Transaction<'_, S>, part: i64, stock: i64) -> Result<(), Error> {
+    update_part(tx, part, stock)
+}
+
+fn rewrite<S: Alter>(
+    tx: &mut Transaction<'_, S>,
+    author: &str,
+    title: &str,
+    body: Option<&str>,
+) -> Result<(), Error> {
+    update_note(tx, author, title, body)
+}
+
+fn clear_body<S: Alter>(
+    tx: &mut Transaction<'_, S>,
+    author: &str,
+    title: &str,
+) -> Result<(), Error> {
+    set_body(tx, author, title, None)
+}
+
+fn empty<S: Alter>(tx: &mut Transaction<'_, S>, shelf: i64) -> Result<(), Error> {
+    set_part(tx, shelf, None)
+}
+
+fn make_index<S: Alter>(tx: &mut Transaction<'_, S>) -> Result<(), Error> {
+    index_boxes_by_part(tx)
+}
+
 fn put_parts<S: Alter>(tx: &mut Transaction<'_, S>) -> Result<(), Error> {
-    insert_part(tx, 7, 10)?;
-    insert_part(tx, 1, 10)?;
-    insert_part(tx, 3, 30)?;
-    update_part(tx, 3, 20)
+    add_part(tx, 7, 10)?;
+    add_part(tx, 1, 10)?;
+    add_part(tx, 3, 30)?;
+    restock(tx, 3, 20)
 }
 
 fn put_notes<S: Alter>(tx: &mut Transaction<'_, S>) -> Result<(), Error> {
-    insert_note(tx, "ann", "b", None)?;
-    insert_note(tx, "ann", "a", Some("first"))?;
-    insert_note(tx, "bob", "a", Some("other"))?;
-    update_note(tx, "bob", "a", Some("new"))?;
-    set_body(tx, "bob", "a", None)
+    add_note(tx, "ann", "b", None)?;
+    add_note(tx, "ann", "a", Some("first"))?;
+    add_note(tx, "bob", "a", Some("other"))?;
+    rewrite(tx, "bob", "a", Some("new"))?;
+    clear_body(tx, "bob", "a")
 }
 
 fn put_shelves<S: Alter>(tx: &mut Transaction<'_, S>) -> Result<(), Error> {
-    insert_shelf(tx, 4, Some(8), 1)?;
-    insert_shelf(tx, 1, Some(3), 5)?;
-    insert_shelf(tx, 2, Some(7), 6)?;
-    set_part(tx, 2, None)
+    add_shelf(tx, 4, Some(8), 1)?;
+    add_shelf(tx, 1, Some(3), 5)?;
+    add_shelf(tx, 2, Some(7), 6)?;
+    empty(tx, 2)
 }
 
 fn put_boxes<S: Alter>(tx: &mut Transaction<'_, S>) -> Result<(), Error> {
-    insert_box(tx, 5, 3, Some(1))?;
-    insert_box(tx, 2, 9, None)?;
-    index_boxes_by_part(tx)
+    add_box(tx, 5, 3, Some(1))?;
+    add_box(tx, 2, 9, None)?;
+    make_index(tx)
 }
 
 fn fill<S: Alter>(conn: &mut Connection<S>) -> Result<(), Error> {

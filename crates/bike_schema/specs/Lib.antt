@@ -1,0 +1,7 @@
+pub mod Layouts
+pub mod Tables
+pub mod Makes
+pub mod Stands
+pub mod Faults
+pub mod Creates
+pub mod Columns
