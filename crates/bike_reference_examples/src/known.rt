@@ -209,7 +209,7 @@ fn known_of(alloc: Global, lists: &Plain, subject: &Subject) -> Result<String, F
         }
         Subject::Order(number) => match lists.order(*number) {
             None => Ok(String::from_str(alloc, "unknown")?),
-            Some(row) => Ok(format!(in alloc; "delivered {}", row.order.delivered)?),
+            Some(order) => Ok(format!(in alloc; "delivered {}", order.delivered)?),
         },
     }
 }
