@@ -12,13 +12,13 @@ use Rattle.sqlite_value.specs.Order.{Row}
 use Rattle.sqlite_trees.specs.declared.store.Store.{Ghosts}
 use Rattle.sqlite_resolve.specs.Compile.{first}
 use Rattle.sqlite_tied.specs.Compute.{everything}
-use Rattle.sqlite.specs.Effect.{Database}
+use Rattle.sqlite.specs.Effect.{Database, IsDatabase}
 use Rattle.sqlite.specs.Held.{Held, state}
 use Rattle.bike_rows.specs.Stands.{rows_of, Stands}
 use Rattle.bike_rows.specs.View.{put_row_by}
 use Rattle.bike_rows.proofs.ListLemmas.{no_list}
 use Rattle.bike_rows.proofs.IndexLaw.{IsOnlyIndex, index_made}
-use Rattle.bike_rows.proofs.WriteLaws.{Changes, row_put}
+use Rattle.bike_rows.proofs.WriteLaws.{Inserts, row_put}
 use Rattle.bike_operator.specs.Operator.{no_operator}
 use Rattle.bike_book.specs.Tables.{TableName, Tables, keys_of, rows_in, tables_by, with_rows, Meta, System, Plans, Segments, Types, Stations, Docks, Bikes, Trucks, Riders, Rentals, Orders, Entries, Kept, Counts}
 use Rattle.bike_book.specs.Rows.{meta_row}
@@ -91,6 +91,12 @@ module _ {S : Type 0} (g : Ghosts S) where
   all_continue (text ∷ []) some a c (mid, ran, same) = subst (λ h. Continues (state g a) (state g h)) same ran.1.1
   all_continue (text ∷ next ∷ texts) some a c (mid, ran, rest) = continues_then (state g a) (state g mid) (state g c) ran.1.1 (all_continue (next ∷ texts) refl mid c rest)
 
+  -- the database obeys its schema after the last of them
+  indexed_sound : (texts : List (List ℕ)) → is_some (slice_get texts 0) ≡ true → (a c : Held S) → AllByRecursion (λ text. IsOnlyIndex (first text)) texts → RanAll g texts a c → IsDatabase (state g c).now
+  indexed_sound [] some a c only ran = absurd (cc)
+  indexed_sound (text ∷ []) some a c only (mid, ran, same) = subst (λ h. IsDatabase (state g h).now) same (index_made text only.0 (state g a) (state g mid) ran.0 ran.1.0).sound
+  indexed_sound (text ∷ next ∷ texts) some a c only (mid, ran, rest) = indexed_sound (next ∷ texts) refl mid c only.1 rest
+
 -- ---- names that are free
 
 none_named : (db : Database) → HasNone db.schema → AreUnnamed db
@@ -108,7 +114,7 @@ insert_text = codes "INSERT INTO meta VALUES (?1, ?2, ?3, ?4, ?5, ?6)"
 abbrev pub first_row : Row
 first_row = meta_row NEWEST 0 (pos 0) (pos 0)
 
-inserts : Changes 1 (layout_of Meta) insert_text first_row (put_row_by 1 first_row)
+inserts : Inserts 1 (layout_of Meta) insert_text first_row
 unfolding everything
 inserts = row_put (table_key Meta) (λ s tree. (refl, refl, refl, λ base. refl)) refl refl (λ rows. refl)
 
@@ -149,7 +155,7 @@ module _ {S : Type 0} (g : Ghosts S) (a b c d : Held S) (none : HasNone (state g
       let stay = indexed_all g index_texts b c index_only indexes in
       let empty : (t : TableName) → IsEmpty old t = λ t. empty_stays (state g b).now old t stay (of_every (IsEmpty (state g b).now) made.empty t) in
       let has : HasTables old = λ t. (empty t).stands in
-      let set = inserts.does (state g c) (state g d) (has Meta) row.0 row.1.0 in
+      let set = (inserts.does (state g c) (state g d) (indexed_sound g index_texts refl b c index_only indexes) (has Meta) row.0 row.1.0).0 in
       let rows = put_row_by 1 first_row (rows_of 1 (name_of Meta) old) in
       let one : rows ≡ first_row ∷ [] = ap (put_row_by 1 first_row) (empty Meta).no_rows in
       let none_yet : tables_of old ≡ tables_by (λ t. []) = ap tables_by (fun_ext (λ t. (empty t).no_rows)) in
