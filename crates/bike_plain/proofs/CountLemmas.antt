@@ -1,5 +1,5 @@
 -- Counts over the lists that stand for an operator.
-use Rattle.std.proofs.Common.{◌≡◌, ◌+◌, add-one, ℕ, suc, List, [], ◌∷◌, ◌++◌, length, filter, Bool, not, cond, refl, ◌&&◌, sym, ap, ◌∙◌}
+use Rattle.std.proofs.Common.{◌≡◌, ◌+◌, add-one, ℕ, suc, List, [], ◌∷◌, ◌++◌, length, filter, Bool, not, refl, ◌&&◌, sym, ap, ◌∙◌}
 use Rattle.std.specs.Prelude.{is_none, find}
 use Rattle.std.proofs.lemmas.List.{length-append}
 use Rattle.std.proofs.lemmas.List.Elements.{filter-append}
