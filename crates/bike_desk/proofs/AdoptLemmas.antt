@@ -25,7 +25,9 @@ use Rattle.bike_small.specs.Sound.{IsSound, IsRiderNumber, IsKept, EachEntry}
 use Rattle.bike_tables.specs.Tables.{HasNone}
 use Rattle.bike_tables.specs.Stored.{IsOf, StandsFor, TreesStandFor, AllLeft}
 use Rattle.bike_tables.specs.Changes.{IsFresh, Creates}
-use Rattle.bike_desk.specs.Adoption.{AreFresh}
+use Rattle.bike_tables.specs.declared.fault.StatementFault.{StatementFault}
+use Rattle.bike_tables.specs.declared.fault.StatementFault.TheVariants.{NoMemory, StoreFailed}
+use Rattle.bike_desk.specs.Adoption.{AreFresh, handed, unmade}
 use Rattle.bike_desk.specs.Desk.{IsAt}
 use Rattle.bike_desk.proofs.KeepLemmas.{Settles, stands_in, settled_keeps}
 
@@ -123,3 +125,8 @@ module _ {S : Type 0} (g : Ghosts S) (settles : Settles g) (old : Held S) (settl
 pub nobody_here : {S : Type 0} (g : Ghosts S) (old end : Held S) (s : Operator) → IsLive (state g old) → IsTrue (state g old).is_open → HasNone (state g old).now.schema → TreesStandFor s (state g old).now.trees
     → IsAt g (record { conn = end; is_stopped = end.in_transaction }) no_operator → IsAt g (record { conn = end; is_stopped = end.in_transaction }) s
 nobody_here g old end s sound live none stands at = subst (IsAt g (record { conn = end; is_stopped = end.in_transaction })) (sym (nobody_else (state g old).now s (sound live).0 none stands)) at
+
+-- whatever the fault, the connection comes back
+pub handed_unmade : {S : Type 0} (fault : StatementFault) (conn : Held S) → handed (unmade fault conn) ≡ conn
+handed_unmade NoMemory conn = refl
+handed_unmade StoreFailed conn = refl

@@ -30,7 +30,7 @@ module _ {S : Type 0} (g : Ghosts S) (now : DeskValue S) (s : Operator) (calls :
   -- whatever ended the run, a crash leaves a front
   pub front_of : (told : List Reply) (end : Option DeskFault) → Ran g now s calls told end → AllLeft (shown g now) (IsAfterFront s calls (length told))
   front_of told None r db h = (length told, omega arith, omega arith, r.within, subst (λ xs. TreesStandFor (after s xs) db) (sym (take_all (length told) calls (omega (arith, r.ends.0)))) (r.ends.1.keeps.left db h))
-  front_of told (Some NoMemory) r db h = (length told, omega arith, omega arith, r.within, r.ends.keeps.left db h)
+  front_of told (Some NoMemory) r db h = (length told, omega arith, omega arith, r.within, r.ends.1.keeps.left db h)
   front_of told (Some StoreFailed) r db h = elim (r.ends.2 db h) [
     | inl before ↦ (length told, omega arith, omega arith, r.within, before)
     | inr after ↦ (length told + 1, omega arith, omega arith, omega (arith, r.ends.0), after)
@@ -42,6 +42,6 @@ module _ {S : Type 0} (g : Ghosts S) (now : DeskValue S) (s : Operator) (calls :
       → (fault ≡ NoMemory → now ≡ before) → (fault ≡ StoreFailed → IsTrue now.is_stopped)
       → (fault ≡ StoreFailed → AllLeft (shown g now) (TreesStandForEither (after s (take k calls)) (stepped (after s (take k calls)) c)))
       → (fault ≡ Stopped → IsTrue before.is_stopped) → EndsAt g now s calls k (Some fault)
-  fault_ends k c before NoMemory low is at same stops failed stopped = subst (λ (d : DeskValue S). IsAt g d (after s (take k calls))) (sym (same refl)) at
+  fault_ends k c before NoMemory low is at same stops failed stopped = (inr low, subst (λ (d : DeskValue S). IsAt g d (after s (take k calls))) (sym (same refl)) at)
   fault_ends k c before StoreFailed low is at same stops failed stopped = (low, stops refl, λ db h. subst (λ o. TreesStandForEither (after s (take k calls)) o db) (sym (after-next s calls k c low is)) (failed refl db h))
   fault_ends k c before Stopped low is at same stops failed stopped = both_ways before.is_stopped at.goes_on (stopped refl)

@@ -1,11 +1,13 @@
 -- What an adoption that fails hands back.
-use Rattle.std.specs.Prelude.{◌≡◌}
+use Rattle.std.specs.Prelude.{◌≡◌, ℕ, List, codes}
 use Rattle.sqlite.specs.Store.{Ghosts}
 use Rattle.sqlite.specs.Held.{Held, state}
 use Rattle.sqlite.specs.Tree.{Trees}
 use Rattle.sqlite.specs.Effect.{Database}
 use Rattle.bike_tables.specs.Tables.{HasNone}
 use Rattle.bike_tables.specs.Changes.{IsFresh}
+use Rattle.bike_tables.specs.declared.fault.StatementFault.{StatementFault}
+use Rattle.bike_tables.specs.declared.fault.StatementFault.TheVariants as statement
 use Rattle.bike_desk.specs.declared.adopt.AdoptFault.{AdoptFault}
 use Rattle.bike_desk.specs.declared.adopt.AdoptFault.TheVariants.{Foreign, NoMemory, StoreFailed}
 
@@ -19,6 +21,17 @@ module _ {S : Type 0} where
   handed (Foreign c) = c
   handed (NoMemory c) = c
   handed (StoreFailed c) = c
+
+  -- the tables couldn't be made on the connection
+  abbrev pub unmade : StatementFault → Held S → AdoptFault S
+  unmade statement.NoMemory c = NoMemory c
+  unmade statement.StoreFailed c = StoreFailed c
+
+  -- the line that tells the fault
+  abbrev pub line_of : AdoptFault S → List ℕ
+  line_of (Foreign c) = codes "foreign"
+  line_of (NoMemory c) = codes "out of memory"
+  line_of (StoreFailed c) = codes "store failed"
 
   -- foreign is a database with some of the tables, and it stays as it is; the other faults are told only where there are none
   abbrev pub IsToldOf : Ghosts S → Held S → AdoptFault S → Type 0

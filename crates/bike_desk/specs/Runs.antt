@@ -1,5 +1,5 @@
 -- What a run over a list of requests leaves, and what it answers.
-use Rattle.std.specs.Prelude.{◌≡◌, ◌≤◌, ◌<◌, ◌+◌, ℕ, IsTrue, List, length, take, Option, Some, None}
+use Rattle.std.specs.Prelude.{◌≡◌, ◌⊎◌, ◌≤◌, ◌<◌, ◌+◌, ℕ, IsTrue, false, List, length, take, Option, Some, None}
 use Rattle.sqlite.specs.Tree.{Trees}
 use Rattle.sqlite.specs.Store.{Ghosts}
 use Rattle.bike_commands.specs.declared.reply.Reply.{Reply}
@@ -11,10 +11,10 @@ use Rattle.bike_desk.specs.declared.fault.DeskFault.TheVariants.{NoMemory, Store
 use Rattle.bike_desk.specs.Desk.{DeskValue, shown, IsAt, TreesStandForEither}
 
 module _ {S : Type 0} (g : Ghosts S) (desk : DeskValue S) (s : Operator) (calls : List Call) where
-  -- the desk after k answers, as the fault tells, if there is one: an unstopped desk is not told that it is stopped
+  -- the desk after k answers, as the fault of the next request tells, or of the room for replies; an unstopped desk is not told that it is stopped
   abbrev pub EndsAt : ℕ → Option DeskFault → Type 0
   EndsAt k None = (k ≡ length calls) × IsAt g desk (after s calls)
-  EndsAt k (Some NoMemory) = IsAt g desk (after s (take k calls))
+  EndsAt k (Some NoMemory) = ((k ≡ 0) ⊎ (k < length calls)) × IsAt g desk (after s (take k calls))
   EndsAt k (Some StoreFailed) = (k < length calls) × IsTrue desk.is_stopped × AllLeft (shown g desk) (TreesStandForEither (after s (take k calls)) (after s (take (k + 1) calls)))
   EndsAt k (Some Stopped) = ⊥
 
@@ -23,6 +23,13 @@ module _ {S : Type 0} (g : Ghosts S) (desk : DeskValue S) (s : Operator) (calls 
     pub within : length told ≤ length calls
     pub front : told ≡ replies s (take (length told) calls)
     pub ends : EndsAt (length told) end
+
+-- A stopped desk refuses and stays as it is, and no other desk tells that; a failed store stops the desk, and nothing else does.
+pub record StopsBy {S : Type 0} (old new : DeskValue S) (end : Option DeskFault) : Type 0 where
+  pub refused : IsTrue old.is_stopped → (end ≡ Some Stopped) × (new ≡ old)
+  pub only : end ≡ Some Stopped → IsTrue old.is_stopped
+  pub stopped : end ≡ Some StoreFailed → IsTrue new.is_stopped
+  pub goes_on : old.is_stopped ≡ false → IsTrue new.is_stopped → end ≡ Some StoreFailed
 
 -- the trees stand for the operator after a front of the list that holds the k acknowledged requests and at most one more
 abbrev pub IsAfterFront : Operator → List Call → ℕ → Trees → Type 0

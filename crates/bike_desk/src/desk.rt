@@ -1,6 +1,6 @@
 //! The desk, and the one call that changes what it keeps.
 
-ghost use Rattle.std.specs.Prelude.{◌≡◌, ◌≤◌, false, IsTrue, IfOk, Err, option_map, Option, Some, None};
+ghost use Rattle.std.specs.Prelude.{◌≡◌, ◌≤◌, false, IsTrue, IfOk, OnOk, Err, option_map, Option, Some, None};
 ghost use Rattle.std.specs.FinMap as map;
 ghost use Rattle.sqlite.specs.State.{HasCleanDisk};
 ghost use Rattle.sqlite_trees.specs.View.{doubt};
@@ -80,6 +80,7 @@ impl<S: Alter> Desk<S> {
     ) -> Result<Reply, DeskFault>
         ensures clean { doubt (shown S.Store self.old).is_clean ≤ doubt (shown S.Store self.new).is_clean }
         ensures ok { HasCleanDisk (shown S.Store self.new) → (s : Operator) → IsAt S.Store self.old s → IfOk result (λ reply. (reply ≡ (step s moment request.now).0) × IsAt S.Store self.new (step s moment request.now).1) }
+        ensures goes_on { OnOk result (self.new.is_stopped ≡ false) }
         ensures no_memory { result ≡ Err DeskFault.NoMemory → self.new ≡ self.old }
         ensures store_failed { HasCleanDisk (shown S.Store self.new) → (s : Operator) → IsAt S.Store self.old s → result ≡ Err DeskFault.StoreFailed → AllLeft (shown S.Store self.new) (TreesStandForEither s (step s moment request.now).1) }
         ensures stops { result ≡ Err DeskFault.StoreFailed → IsTrue self.new.is_stopped }

@@ -1,12 +1,12 @@
 //! Serving a list of requests.
 
-ghost use Rattle.std.specs.Prelude.{◌≡◌, ◌≤◌, ◌<◌, ◌+◌, ◌++◌, IsTrue, [], ◌∷◌, length, vec_len, vec_capacity};
+ghost use Rattle.std.specs.Prelude.{◌≡◌, ◌≤◌, ◌<◌, ◌+◌, ◌++◌, IsNone, Some, [], ◌∷◌, length, vec_len, vec_capacity};
 ghost use Rattle.sqlite.specs.State.{HasCleanDisk};
 ghost use Rattle.sqlite_trees.specs.View.{doubt};
 ghost use Rattle.bike_small.specs.Operator.{Operator};
 ghost use Rattle.bike_tables.specs.Stored.{AllLeft};
 ghost use Rattle.bike_desk.specs.Desk.{shown, IsAt};
-ghost use Rattle.bike_desk.specs.Runs.{Ran, IsAfterFront};
+ghost use Rattle.bike_desk.specs.Runs.{Ran, IsAfterFront, StopsBy};
 
 use crate::desk::Desk;
 use crate::fault::DeskFault;
@@ -36,13 +36,24 @@ fn note(replies: &mut Vec<Reply>, reply: Reply)
 
 impl<S: Alter> Desk<S> {
     /// Serves requests in order, each with the moment at which it comes, up to the first fault. Room for
-    /// the replies is taken first. A stopped desk answers none and stays as it is.
+    /// the replies is taken first: where that is refused, `NoMemory` comes before the first reply.
+    ///
+    /// A stopped desk answers every list `Stopped`, the empty one too, and stays as it is; no other desk
+    /// answers that.
     pub fn run_list(&mut self, alloc: Global, calls: &[(Moment, Request)]) -> Run
         ensures clean { doubt (shown S.Store self.old).is_clean ≤ doubt (shown S.Store self.new).is_clean }
         ensures ran { HasCleanDisk (shown S.Store self.new) → (s : Operator) → IsAt S.Store self.old s → Ran S.Store self.new s calls.now result.replies.items result.end }
         ensures front { HasCleanDisk (shown S.Store self.new) → (s : Operator) → IsAt S.Store self.old s → AllLeft (shown S.Store self.new) (IsAfterFront s calls.now (length result.replies.items)) }
-        ensures stays { IsTrue self.old.is_stopped → (result.replies.items ≡ []) × (self.new ≡ self.old) }
+        ensures stops { StopsBy self.old self.new result.end }
+        ensures refused { result.end ≡ Some DeskFault.Stopped → result.replies.items ≡ [] }
+        ensures whole { IsNone result.end → length result.replies.items ≡ length calls.now }
     {
+        if self.stopped() {
+            return Run {
+                replies: Vec::new(alloc),
+                end: Some(DeskFault::Stopped),
+            };
+        }
         let mut replies = match Vec::with_capacity(alloc, calls.len()) {
             Ok(replies) => replies,
             Err(_) => {

@@ -2,7 +2,7 @@ use Rattle.std.proofs.Common.{rules, not, inl, refl, ap, ◌∙◌}
 use Rattle.sqlite.specs.Held.{state}
 use Rattle.bike_small.specs.Operator.{no_operator}
 use Rattle.bike_tables.specs.Tables.{HasNone}
-use Rattle.bike_desk.proofs.AdoptLemmas.{nobody_here, fresh_at, in_left, left_after}
+use Rattle.bike_desk.proofs.AdoptLemmas.{nobody_here, fresh_at, in_left, left_after, handed_unmade}
 use Rattle.bike_desk.proofs.desk.Desk.adopt.Goals as goal
 
 pub returns-then-not-has_none-clause-left : goal.returns-then-not-has_none-clause-left
@@ -26,24 +26,14 @@ returns-in-Ok-clause-only g c =
           fresh_at g.S.Store g.met.S.Store.settled c.args.conn c.make_tables.new.conn made.0 made.1),
     )
 
-pub returns-in-Err-NoMemory-clause-left : goal.returns-in-Err-NoMemory-clause-left
-returns-in-Err-NoMemory-clause-left g c s stands live clean =
+pub returns-in-Err-clause-left : goal.returns-in-Err-clause-left
+returns-in-Err-clause-left g c s stands live =
     let none : HasNone (state g.S.Store c.args.conn).now.schema = search rules in
     let settled = c.is_autocommit.ensures.settled (c.is_autocommit.ensures.value ∙ ap not c.requires) in
-    left_after g.S.Store g.met.S.Store.settled c.args.conn settled c.make_tables.new.conn c.schema.ensures.live none clean (c.make_tables.ensures.crash none) s stands live
+    let back = handed_unmade c.in-Err.fault c.make_tables.new.conn in
+    rw (c.unmade.ensures, back) (λ clean. left_after g.S.Store g.met.S.Store.settled c.args.conn settled c.make_tables.new.conn c.schema.ensures.live none clean (c.make_tables.ensures.crash none) s stands live)
 
-pub returns-in-Err-NoMemory-clause-stays : goal.returns-in-Err-NoMemory-clause-stays
-returns-in-Err-NoMemory-clause-stays g c never clean =
-    let none : HasNone (state g.S.Store c.args.conn).now.schema = search rules in
-    absurd (never no_operator (inl (none, refl)))
-
-pub returns-in-Err-StoreFailed-clause-left : goal.returns-in-Err-StoreFailed-clause-left
-returns-in-Err-StoreFailed-clause-left g c s stands live clean =
-    let none : HasNone (state g.S.Store c.args.conn).now.schema = search rules in
-    let settled = c.is_autocommit.ensures.settled (c.is_autocommit.ensures.value ∙ ap not c.requires) in
-    left_after g.S.Store g.met.S.Store.settled c.args.conn settled c.make_tables.new.conn c.schema.ensures.live none clean (c.make_tables.ensures.crash none) s stands live
-
-pub returns-in-Err-StoreFailed-clause-stays : goal.returns-in-Err-StoreFailed-clause-stays
-returns-in-Err-StoreFailed-clause-stays g c never clean =
+pub returns-in-Err-clause-stays : goal.returns-in-Err-clause-stays
+returns-in-Err-clause-stays g c never clean =
     let none : HasNone (state g.S.Store c.args.conn).now.schema = search rules in
     absurd (never no_operator (inl (none, refl)))

@@ -1,7 +1,7 @@
-use Rattle.std.proofs.Common.{length-append, ◌≡◌, IsTrue, ◌∷◌, [], ◌++◌, take, length, sym, ap, ◌∙◌, subst, arith, Some, Err}
+use Rattle.std.proofs.Common.{length-append, ◌≡◌, ◌∷◌, [], ◌++◌, take, length, sym, ap, ◌∙◌, subst, arith, Some, Err}
 use Rattle.std.proofs.lemmas.List.{take_all}
 use Rattle.bike_small.specs.Runs.{after, replies}
-use Rattle.bike_desk.specs.Desk.{DeskValue, IsAt}
+use Rattle.bike_desk.specs.Desk.{IsAt}
 use Rattle.bike_desk.specs.Runs.{EndsAt}
 use Rattle.bike_desk.proofs.RunLemmas.{after-next, replies-next, front_of, fault_ends}
 use Rattle.bike_desk.proofs.desk.Desk.run_list.Goals as goal
@@ -23,10 +23,7 @@ calls-preserved g c =
             c.note.ensures.items ∙ ap (λ told. told ++ c.in-Ok-apply.reply ∷ []) was.0 ∙ ap (λ r. replies s (take i xs) ++ r ∷ []) now.0 ∙ sym (replies-next s xs i item c.calls-test.true c.calls-item.is),
             subst (IsAt g.S.Store c.apply.new.self) (sym (after-next s xs i item c.calls-test.true c.calls-item.is)) now.1,
           );
-      stays = λ stopped.
-          let was = before.stays stopped in
-          let told = (c.in-Ok-apply.ensures.stays (subst (λ (d : DeskValue g.row.S.Denot). IsTrue d.is_stopped) (sym was.1) stopped)).0 in
-          absurd (cc);
+      goes_on = c.in-Ok-apply.ensures.goes_on;
     }
 
 pub returns-in-Err-apply-clause-ran : goal.returns-in-Err-apply-clause-ran
@@ -44,12 +41,6 @@ returns-in-Err-apply-clause-ran g c clean s at =
       front = was.0 ∙ ap (λ n. replies s (take n xs)) (sym before.count);
       ends = subst (λ n. EndsAt g.S.Store c.apply.new.self s xs n (Some fault)) (sym before.count) ends;
     }
-
-pub returns-in-Err-apply-clause-stays : goal.returns-in-Err-apply-clause-stays
-returns-in-Err-apply-clause-stays g c stopped =
-    let was = c.calls.invariant.stays stopped in
-    let told = c.in-Err-apply.ensures.stays (subst (λ (d : DeskValue g.row.S.Denot). IsTrue d.is_stopped) (sym was.1) stopped) in
-    (was.0, told.1 ∙ was.1)
 
 pub returns-in-Err-apply-clause-front : goal.returns-in-Err-apply-clause-front
 returns-in-Err-apply-clause-front g c clean s at = front_of g.S.Store c.apply.new.self s c.args.calls.now _ _ (returns-in-Err-apply-clause-ran g c clean s at)

@@ -1,4 +1,4 @@
-use Rattle.std.proofs.Common.{◌≡◌, ◌≤◌, IsTrue, [], take, length, vec_len, vec_capacity}
+use Rattle.std.proofs.Common.{◌≡◌, ◌≤◌, false, take, length, vec_len, vec_capacity}
 use Rattle.sqlite_trees.specs.View.{doubt}
 use Rattle.sqlite.specs.State.{HasCleanDisk}
 use Rattle.bike_small.specs.Operator.{Operator}
@@ -15,5 +15,5 @@ invariant-calls g l = record {
   clean : doubt (shown g.S.Store l.fn.self).is_clean ≤ doubt (shown g.S.Store l.self).is_clean;
   so_far : HasCleanDisk (shown g.S.Store l.self) → (s : Operator) → IsAt g.S.Store l.fn.self s
       → (l.replies.items ≡ replies s (take l.moment-index l.calls)) × IsAt g.S.Store l.self (after s (take l.moment-index l.calls));
-  stays : IsTrue l.fn.self.is_stopped → (l.replies.items ≡ []) × (l.self ≡ l.fn.self);
+  goes_on : l.self.is_stopped ≡ false;
 }
