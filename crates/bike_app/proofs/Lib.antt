@@ -1,2 +1,4 @@
+pub mod EndLemmas
 pub mod LineLemmas
+pub mod ProgramLemmas
 pub mod RunLemmas

@@ -1,5 +1,5 @@
 -- What each line of an input asks for, and what it is answered.
-use Rattle.std.specs.Prelude.{◌≡◌, ℕ, ◌≤◌, List, [], ◌∷◌, ◌++◌, Option, Some, None}
+use Rattle.std.specs.Prelude.{ℕ, ◌≤◌, List, [], ◌∷◌, ◌++◌, Option, Some, None}
 use Rattle.bike_fixed.specs.Whole.{last_moment}
 use Rattle.bike_commands.specs.declared.request.Request.{Request}
 use Rattle.bike_commands.specs.declared.reply.Reply.{Reply}

@@ -1,9 +1,15 @@
-//! The product's edges: request lines in, answer lines out.
+//! The product's edges: request lines in, answer lines out, and what the program tells at its end.
 #![tactic(auto)]
 
+mod end;
+mod fault;
 mod lines;
+mod program;
 
-pub use lines::{LinesFault, run_lines};
+pub use end::{Fault, exit_code};
+pub use fault::LinesFault;
+pub use lines::{MOST_READS, run_lines};
+pub use program::{serve, serve_in_memory, serve_text};
 
 #[cfg(test)]
 mod tests;

@@ -1,17 +1,19 @@
 //! Inputs served over a database in memory.
 
-use crate::{LinesFault, run_lines};
+use crate::{Fault, LinesFault, exit_code, run_lines, serve_text};
 use bike_desk::Desk;
 use sqlite::Connection;
 use std::alloc::Global;
 use std::io;
-use std::io::{Read, Write};
+use std::io::{ErrorKind, Read, Write};
+use std::process::ExitCode;
 use std::test::Fail;
 
-/// Gives one byte a read.
+/// Gives one byte a read, and fails where it has none left and is to fail.
 #[derive(Drop)]
 struct OneByte<'a> {
     bytes: &'a [u8],
+    fails: bool,
 }
 
 impl<'a> Read for OneByte<'a> {
@@ -22,6 +24,7 @@ impl<'a> Read for OneByte<'a> {
                 self.bytes = rest;
                 Ok(1)
             }
+            _ if self.fails => Err(ErrorKind::Other.into()),
             _ => Ok(0),
         }
     }
@@ -104,7 +107,10 @@ fn answers_each_line(rt: HostRuntime) -> Result<(), Fail> {
     let told = serve(rt.alloc(), &mut whole, &mut output)?;
     assert_eq!(rt; told, Ok(15));
     assert_eq!(rt; output.bytes.as_slice(), ANSWERS);
-    let mut slow = OneByte { bytes: LINES };
+    let mut slow = OneByte {
+        bytes: LINES,
+        fails: false,
+    };
     let mut output = Short {
         bytes: Vec::new(rt.alloc()),
         room: 10_000,
@@ -128,6 +134,67 @@ fn tells_where_the_output_ends(rt: HostRuntime) -> Result<(), Fail> {
         let told = serve(rt.alloc(), &mut input, &mut output)?;
         assert!(rt; told == Err(LinesFault::Write), "{room}");
         assert!(rt; output.bytes.as_slice() == &ANSWERS[..room], "{room}");
+    }
+    Ok(())
+}
+
+#[test]
+fn tells_where_the_input_fails(rt: HostRuntime) -> Result<(), Fail> {
+    let mut input = OneByte {
+        bytes: b"1700000000\toffice\tk1\tadd-rider\t17\n17000",
+        fails: true,
+    };
+    let mut output = Short {
+        bytes: Vec::new(rt.alloc()),
+        room: 100,
+        step: 100,
+    };
+    let told = serve(rt.alloc(), &mut input, &mut output)?;
+    assert_eq!(rt; told, Err(LinesFault::Read));
+    assert_eq!(rt; output.bytes.as_slice(), b"ok\n".as_slice());
+    Ok(())
+}
+
+#[test]
+fn answers_many_lines_and_long_ones(rt: HostRuntime) -> Result<(), Fail> {
+    let mut input = Vec::new(rt.alloc());
+    for length in [4_095, 4_096, 4_097, 70_000] {
+        for _ in 0..length {
+            input.push(b'x')?;
+        }
+        input.push(b'\n')?;
+    }
+    for _ in 0..3_000 {
+        input.extend_from_slice(b"\xff\n")?;
+    }
+    let mut output = Vec::new(rt.alloc());
+    let told = serve_text(rt.alloc(), input.as_slice(), &mut output);
+    assert_eq!(rt; told, Ok(3_004));
+    let refusal = b"refused\t11\tbad_field\n".as_slice();
+    assert!(rt;
+        output
+            .as_slice()
+            .chunks(refusal.len())
+            .all(|line| line == refusal)
+    );
+    assert_eq!(rt; output.len(), 3_004 * refusal.len());
+    Ok(())
+}
+
+#[test]
+fn tells_how_the_program_ends(rt: HostRuntime) -> Result<(), Fail> {
+    for (end, line, status) in [
+        (Ok(7), "", 0),
+        (Err(Fault::StoreFailed), "store failed\n", 3),
+        (Err(Fault::OutOfMemory), "out of memory\n", 4),
+        (Err(Fault::Foreign), "foreign\n", 5),
+        (Err(Fault::ReadFailed), "read failed\n", 6),
+        (Err(Fault::WriteFailed), "write failed\n", 6),
+    ] {
+        let mut errors = Vec::new(rt.alloc());
+        let code = exit_code(&mut errors, &end);
+        assert!(rt; code == ExitCode::from(status));
+        assert_eq!(rt; errors.as_slice(), line.as_bytes());
     }
     Ok(())
 }

@@ -1,5 +1,6 @@
 //! Why a call of a desk failed.
 
+use std::alloc::AllocError;
 use thiserror::Error;
 
 /// Why a call of a desk failed.
@@ -15,4 +16,15 @@ pub enum DeskFault {
     /// An earlier call had stopped the desk. Nothing changed.
     #[error("the desk was stopped before")]
     Stopped,
+}
+
+impl From<AllocError> for DeskFault {
+    ghost use Rattle.std.specs.Prelude.{◌≡◌};
+    ghost use Rattle.bike_desk.specs.declared.fault.DeskFault.TheVariants.{NoMemory};
+
+    ghost from_gives = { λ _ fault. fault ≡ NoMemory };
+
+    fn from(_: AllocError) -> DeskFault {
+        DeskFault::NoMemory
+    }
 }

@@ -1,3 +1,4 @@
 pub mod Lines
+pub mod Reads
 pub mod Taking
 pub mod Writing

@@ -1,23 +1,33 @@
 //! Lines out of a reader's bytes.
 
-ghost use Rattle.std.specs.Prelude.{◌≡◌, ℕ, ◌-◌, ◌≤◌, ◌<◌, ◌==◌, List, [], ◌++◌, IfOk, OnOk, OnErr, true, false, length, take, drop, vec_len};
+ghost use Rattle.std.specs.Prelude.{◌≡◌, ℕ, ◌-◌, ◌≤◌, ◌<◌, ◌==◌, List, [], ◌++◌, IfOk, OnOk, OnErr, Ok, Err, true, false, length, take, drop, vec_len};
 ghost use Rattle.std.specs.Io.KnownBytes.{Consumes, Keeps, IsAtEnd, prepend_known};
 ghost use Rattle.std.specs.Io.BufRead.{drop_through};
 ghost use Rattle.bike_stream.specs.Lines.{first_line, has_feed};
 ghost use Rattle.bike_stream.specs.Taking.{Takes, Interrupts};
+ghost use Rattle.bike_stream.specs.Reads.{most_ahead, ReadsBytes};
 
 use crate::line::Line;
 use memchr::memchr;
 use std::alloc::{AllocError, Global};
+use std::io;
 use std::io::Read;
 use std::marker::Model;
+use thiserror::Error;
 
 /// How many bytes one read asks for.
-const ROOM: usize = 65536;
+pub const READ_LENGTH: usize = 65_536;
 
-/// The input failed, or gave its bytes in more reads than were allowed.
-#[derive(Clone, Copy, Debug, PartialEq, Eq, Drop)]
-pub struct ReadFault;
+/// Why no line could be taken.
+#[derive(Clone, Copy, Debug, PartialEq, Eq, Error)]
+pub enum ReadFault {
+    /// A read of the input failed.
+    #[error("read failed")]
+    Failed,
+    /// One more read was needed than were allowed.
+    #[error("too many reads")]
+    TooMany,
+}
 
 /// The bytes that were read and aren't taken yet: seen as a list, what comes before all that is left in the
 /// reader.
@@ -29,11 +39,14 @@ pub struct LineBuffer {
 }
 
 impl Model for LineBuffer {
+    ghost use Rattle.std.specs.Prelude.{◌≡◌, ℕ, ◌-◌, ◌≤◌, List, take, drop, vec_len};
+    ghost use Rattle.bike_stream.specs.declared.buffer.TheConstants.{READ_LENGTH};
+
     ghost Value = { List ℕ };
 
     ghost view = { λ b. take (b.end - b.start) (drop b.start b.bytes.items) };
 
-    ghost invariant = { λ b. (b.start ≤ b.end) × (b.end ≤ vec_len b.bytes) × (0 < vec_len b.bytes) };
+    ghost invariant = { λ b. (b.start ≤ b.end) × (b.end ≤ vec_len b.bytes) × (vec_len b.bytes ≡ READ_LENGTH) };
 }
 
 impl LineBuffer {
@@ -41,7 +54,7 @@ impl LineBuffer {
     pub fn new(alloc: Global) -> Result<LineBuffer, AllocError>
         ensures { IfOk result (λ b. b ≡ []) }
     {
-        let bytes = vec![in alloc; 0; ROOM]?;
+        let bytes = vec![in alloc; 0; READ_LENGTH]?;
         Ok(LineBuffer {
             bytes,
             start: 0,
@@ -56,22 +69,19 @@ impl LineBuffer {
     }
 
     /// Reads once; false at the end of the input.
-    fn fill<R: Read>(&mut self, reader: &mut R) -> Result<bool, ReadFault>
+    fn fill<R: Read>(&mut self, reader: &mut R) -> io::Result<bool>
         requires { self.old ≡ [] }
         ensures bytes { OnOk result (Consumes (R.remaining reader.old) (R.remaining reader.new) self.new) }
+        ensures bound { length self.new ≤ READ_LENGTH }
         ensures more { IfOk result (λ more. more ≡ true → 0 < length self.new) }
         ensures end { IfOk result (λ more. more ≡ false → (self.new ≡ []) × IsAtEnd (R.remaining reader.new)) }
         ensures err { OnErr result ((self.new ≡ []) × Keeps (R.remaining reader.old) (R.remaining reader.new)) }
     {
         self.start = 0;
         self.end = 0;
-        match reader.read(self.bytes.as_mut_slice()) {
-            Ok(count) => {
-                self.end = count;
-                Ok(count != 0)
-            }
-            Err(_) => Err(ReadFault),
-        }
+        let count = reader.read(self.bytes.as_mut_slice())?;
+        self.end = count;
+        Ok(count != 0)
     }
 
     /// Takes the bytes up to the next line feed, which is taken too, or all; true where a line feed came.
@@ -98,8 +108,9 @@ impl LineBuffer {
 
     /// Takes the next line, as far as it is kept, and its line feed; false at the end of the input.
     ///
-    /// The last line needs no line feed. Each read takes one off `reads`; fails where the input does and
-    /// where a read is needed and `reads` is 0, and has then taken a front of the line.
+    /// The last line needs no line feed. Each read takes one off `reads`. `Failed` comes where a read does
+    /// that, `TooMany` where one is needed and `reads` is 0; a front of the line is then taken, and nothing is
+    /// held back.
     pub fn next_line<R: Read, const KEPT: usize>(
         &mut self,
         reader: &mut R,
@@ -110,17 +121,26 @@ impl LineBuffer {
             (prepend_known self.new (R.remaining reader.new)) more line.new) }
         ensures fault { OnErr result (Interrupts KEPT (prepend_known self.old (R.remaining reader.old))
             (prepend_known self.new (R.remaining reader.new)) line.new) }
+        ensures emptied { OnErr result (self.new ≡ []) }
+
+        // Each line takes a byte, and so does each read but one that finds the end or fails.
+        ensures fewer { result ≡ Ok true → most_ahead self.new reads.new < most_ahead self.old reads.old }
+        ensures read { ReadsBytes (R.remaining reader.old) (R.remaining reader.new) self.new reads.old reads.new result }
+        ensures tried { result ≡ Err ReadFault.Failed → reads.new < reads.old }
+        ensures none_left { result ≡ Err ReadFault.TooMany → reads.new ≡ 0 }
     {
         line.clear();
         let mut started = false;
         loop {
             if self.is_empty() {
                 if *reads == 0 {
-                    return Err(ReadFault);
+                    return Err(ReadFault::TooMany);
                 }
                 *reads -= 1;
-                if !self.fill(reader)? {
-                    return Ok(started);
+                match self.fill(reader) {
+                    Ok(true) => {}
+                    Ok(false) => return Ok(started),
+                    Err(_) => return Err(ReadFault::Failed),
                 }
             }
             started = true;

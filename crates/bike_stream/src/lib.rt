@@ -10,7 +10,7 @@ mod laws;
 mod line;
 mod write;
 
-pub use buffer::{LineBuffer, ReadFault};
+pub use buffer::{LineBuffer, READ_LENGTH, ReadFault};
 pub use laws::line_laws;
 pub use line::Line;
 pub use write::{WriteFault, write_whole};

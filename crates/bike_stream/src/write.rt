@@ -5,9 +5,11 @@ ghost use Rattle.std.specs.Io.KnownBytes.{Appends};
 ghost use Rattle.bike_stream.specs.Writing.{AppendsFront};
 
 use std::io::Write;
+use thiserror::Error;
 
 /// The output failed: a write ended in an error, or took no byte.
-#[derive(Clone, Copy, Debug, PartialEq, Eq, Drop)]
+#[derive(Clone, Copy, Debug, PartialEq, Eq, Error)]
+#[error("write failed")]
 pub struct WriteFault;
 
 /// Writes all the bytes, by as many writes as the writer needs, and takes no memory.

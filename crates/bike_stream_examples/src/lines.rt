@@ -118,12 +118,12 @@ fn ends_in_mid_line(rt: HostRuntime) -> Result<(), Fail> {
     };
     assert!(rt; buffer.next_line(&mut reader, &mut line, &mut reads)?);
     let fault = buffer.next_line(&mut reader, &mut line, &mut reads);
-    assert!(rt; fault == Err(ReadFault));
+    assert!(rt; fault == Err(ReadFault::Failed));
     assert_eq!(rt; reads, 94);
     let mut endless = Endless;
     let mut reads = 3;
     let fault = buffer.next_line(&mut endless, &mut line, &mut reads);
-    assert!(rt; fault == Err(ReadFault));
+    assert!(rt; fault == Err(ReadFault::TooMany));
     assert_eq!(rt; line.as_slice(), b"xxxx".as_slice());
     Ok(())
 }

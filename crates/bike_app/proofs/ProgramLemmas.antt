@@ -1,0 +1,79 @@
+-- What the program serves, and what it leaves.
+use Rattle.std.proofs.Common.{◌≡◌, ℕ, List, [], ◌∷◌, ◌++◌, refl, sym, subst, ap, Option, None, Some, Result, Ok, Err, inl, inr}
+use Rattle.std.specs.Prelude.{MatchResult, IsErrAnd}
+use Rattle.std.specs.Io.KnownBytes.{Keeps}
+use Rattle.sqlite.specs.Store.{Ghosts}
+use Rattle.sqlite.specs.Steps.{over_memory, IsEmpty}
+use Rattle.sqlite.specs.State.{HasCleanDisk}
+use Rattle.sqlite.specs.Held.{Held, state}
+use Rattle.sqlite.specs.Schema.{Schema}
+use Rattle.sqlite_trees.specs.View.{doubt}
+use Rattle.sqlite_trees.specs.declared.memory.MemStore.{MemStore}
+use Rattle.bike_small.specs.Operator.{Operator, no_operator}
+use Rattle.bike_small.specs.Runs.{Call}
+use Rattle.bike_small.specs.Sound.{IsCall, AreCalls}
+use Rattle.bike_tables.specs.Tables.{HasNone}
+use Rattle.bike_tables.specs.Stored.{AllLeft, TreesStandFor}
+use Rattle.bike_desk.specs.Desk.{DeskValue, shown}
+use Rattle.bike_desk.specs.declared.fault.DeskFault.{DeskFault}
+use Rattle.bike_desk.specs.declared.fault.DeskFault.TheVariants.{NoMemory, StoreFailed, Stopped}
+use Rattle.bike_desk.specs.declared.adopt.AdoptFault.{AdoptFault}
+use Rattle.bike_desk.specs.declared.adopt.AdoptFault.TheVariants as adopt
+use Rattle.bike_desk.specs.Adoption.{IsToldOf}
+use Rattle.bike_app.specs.declared.fault.LinesFault.{LinesFault}
+use Rattle.bike_app.specs.declared.end.Fault.{Fault}
+use Rattle.bike_app.specs.Ends.{lines_fault, adopt_fault, end_of}
+use Rattle.bike_app.specs.Runs.{ServesSome}
+use Rattle.bike_app.specs.Program.{StandsAfterSome, Serves, FailsToBegin, ServesInMemory}
+
+-- the fault of the lines is told as the program's
+pub end_told : (result : Result ℕ LinesFault) (told : Result ℕ Fault) → MatchResult result (λ count. told ≡ Ok count) (λ e. IsErrAnd told (λ f. f ≡ lines_fault e)) → told ≡ end_of result
+end_told (Ok count) told is = is
+end_told (Err e) (Ok count) is = absurd is
+end_told (Err e) (Err f) is = ap Err is
+
+-- ---- what a crash may leave
+
+calls_push : (calls : List Call) (c : Call) → AreCalls calls → IsCall c → AreCalls (calls ++ c ∷ [])
+calls_push [] c good more = (more, tt)
+calls_push (d ∷ calls) c good more = (good.0, calls_push calls c good.1 more)
+
+pub some_left : {S : Type 0} (g : Ghosts S) (desk : DeskValue S) (s : Operator) (fault : Option DeskFault) → ServesSome g desk s fault → AllLeft (shown g desk) (StandsAfterSome s)
+some_left g desk s None r db h = (r.calls, r.good, r.ends.keeps.left db h)
+some_left g desk s (Some NoMemory) r db h = (r.calls, r.good, r.ends.keeps.left db h)
+some_left g desk s (Some StoreFailed) r db h = elim (r.ends.3 db h) [
+  | inl before ↦ (r.calls, r.good, before)
+  | inr later ↦ (r.calls ++ r.ends.1 ∷ [], calls_push r.calls r.ends.1 r.good r.ends.2, later)
+]
+some_left g desk s (Some Stopped) r db h = absurd r.ends
+
+-- ---- a database in memory
+
+no_tables : Schema
+no_tables = record { tables = []; indexes = []; views = [] }
+
+none_in : HasNone no_tables
+unfolding no_tables
+none_in = record { meta = refl; riders = refl; entries = refl; kept = refl; unreferring = tt }
+
+pub memory_is_clean : (h : Held MemStore) → HasCleanDisk (state over_memory h)
+unfolding doubt
+memory_is_clean h = refl
+
+-- it has none of the tables, and begins with nothing
+pub memory_has_none : (h : Held MemStore) → IsEmpty (state over_memory h) → HasNone (state over_memory h).now.schema
+unfolding no_tables
+memory_has_none h empty = subst HasNone (sym empty.2) none_in
+
+pub memory_begins : (h : Held MemStore) → IsEmpty (state over_memory h) → TreesStandFor no_operator (state over_memory h).now.trees
+memory_begins h empty = ((state over_memory h).now.schema, record { sound = (empty.1 empty.0.is_open).0; is = inl (memory_has_none h empty, refl) })
+
+not_begun : (h : Held MemStore) (fault : AdoptFault MemStore) → HasNone (state over_memory h).now.schema → IsToldOf over_memory h fault → (input ahead old new : Option (List ℕ)) → Keeps input ahead → Keeps old new
+    → FailsToBegin input ahead old new (Err (adopt_fault fault))
+not_begun h (adopt.Foreign c) none told input ahead old new read written = absurd (told.0 none)
+not_begun h (adopt.NoMemory c) none told input ahead old new read written = record { told = inl refl; read = read; written = written }
+not_begun h (adopt.StoreFailed c) none told input ahead old new read written = record { told = inr refl; read = read; written = written }
+
+pub in_memory : (first last : Held MemStore) → IsEmpty (state over_memory first) → (input ahead old new : Option (List ℕ)) (end : Result ℕ Fault) → Serves over_memory input ahead old new first last no_operator end → ServesInMemory input ahead old new end
+in_memory first last empty input ahead old new end (inl r) = inl (subst (FailsToBegin input ahead old new) (sym r.told) (not_begun first r.fault (memory_has_none first empty) r.why input ahead old new r.read r.written))
+in_memory first last empty input ahead old new end (inr r) = inr (last, r)

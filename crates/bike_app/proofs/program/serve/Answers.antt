@@ -1,0 +1,37 @@
+use Rattle.std.proofs.Common.{arith, inl, inr, ap, Err, rules, []}
+use Rattle.sqlite.specs.State.{HasCleanDisk}
+use Rattle.bike_desk.specs.Desk.{shown}
+use Rattle.bike_app.proofs.ProgramLemmas.{end_told, some_left}
+use Rattle.bike_app.proofs.program.serve.Goals as goal
+
+pub returns-in-Ok-clause-served : goal.returns-in-Ok-clause-served
+returns-in-Ok-clause-served g c clean s stands =
+    let now : HasCleanDisk (shown g.S.Store c.run_lines-end.new.desk) = rw c.close.ensures.same at clean in
+    let early : HasCleanDisk (shown g.S.Store c.in-Ok.desk) = omega (arith, now, c.run_lines-end.ensures.clean) in
+    inr (record {
+      desk = c.run_lines-end.new.desk;
+      result = c.run_lines-end.result;
+      told = end_told _ _ c.map_err.ensures.cases;
+      conn = c.close.ensures.same;
+      ran = c.run_lines-end.ensures.ran now s (c.in-Ok.ensures.found s stands early);
+    })
+
+pub returns-in-Ok-clause-kept : goal.returns-in-Ok-clause-kept
+returns-in-Ok-clause-kept g c clean s stands live =
+    let now : HasCleanDisk (shown g.S.Store c.run_lines-end.new.desk) = rw c.close.ensures.same at clean in
+    let early : HasCleanDisk (shown g.S.Store c.in-Ok.desk) = omega (arith, now, c.run_lines-end.ensures.clean) in
+    rw c.close.ensures.same (some_left g.S.Store c.run_lines-end.new.desk s _ (c.run_lines-end.ensures.kept now s (c.in-Ok.ensures.found s stands early)))
+
+pub returns-in-Err-clause-served : goal.returns-in-Err-clause-served
+returns-in-Err-clause-served g c clean s stands = inl (record {
+  fault = c.in-Err.fault;
+  told = ap Err c.from-told.ensures;
+  why = c.in-Err.ensures.told;
+  conn = c.into_connection.ensures;
+  read = search rules;
+  written = search rules;
+})
+
+pub returns-in-Err-clause-kept : goal.returns-in-Err-clause-kept
+returns-in-Err-clause-kept g c clean s stands live =
+    rw c.into_connection.ensures (λ db h. ([], tt, c.in-Err.ensures.left s stands live (rw c.into_connection.ensures at clean) db h))

@@ -1,0 +1,67 @@
+-- What the program serves, and what it leaves.
+use Rattle.std.specs.Prelude.{◌≡◌, ◌⊎◌, ℕ, List, ◌++◌, length, Option, Result, Err}
+use Rattle.std.specs.Io.KnownBytes.{Keeps}
+use Rattle.sqlite.specs.Store.{Ghosts}
+use Rattle.sqlite.specs.Steps.{over_memory}
+use Rattle.sqlite.specs.Held.{Held}
+use Rattle.sqlite.specs.Tree.{Trees}
+use Rattle.sqlite_trees.specs.declared.memory.MemStore.{MemStore}
+use Rattle.bike_small.specs.Operator.{Operator, no_operator}
+use Rattle.bike_small.specs.Runs.{Call, after}
+use Rattle.bike_small.specs.Sound.{AreCalls}
+use Rattle.bike_tables.specs.Stored.{TreesStandFor}
+use Rattle.bike_desk.specs.Desk.{DeskValue}
+use Rattle.bike_desk.specs.declared.adopt.AdoptFault.{AdoptFault}
+use Rattle.bike_desk.specs.Adoption.{handed, IsToldOf}
+use Rattle.bike_stream.specs.Lines.{lines_of}
+use Rattle.bike_app.specs.declared.fault.LinesFault.{LinesFault}
+use Rattle.bike_app.specs.declared.end.Fault.{Fault}
+use Rattle.bike_app.specs.declared.end.Fault.TheVariants.{OutOfMemory, StoreFailed}
+use Rattle.bike_app.specs.Answers.{AreReadAs, answers}
+use Rattle.bike_app.specs.Ends.{adopt_fault, end_of}
+use Rattle.bike_app.specs.Runs.{RanLines}
+
+-- the trees stand for the operator after good requests
+abbrev pub StandsAfterSome : Operator → Trees → Type 0
+StandsAfterSome s trees = (calls : List Call) × AreCalls calls × TreesStandFor (after s calls) trees
+
+-- the input before and after, and what was written before and after
+module _ {S : Type 0} (g : Ghosts S) (input ahead old new : Option (List ℕ)) where
+  -- the connection couldn't be adopted, and nothing was read or written
+  pub record Refuses (first last : Held S) (end : Result ℕ Fault) : Type 0 where
+    pub fault : AdoptFault S
+    pub told : end ≡ Err (adopt_fault fault)
+    pub why : IsToldOf g first fault
+    pub conn : last ≡ handed fault
+    pub read : Keeps input ahead
+    pub written : Keeps old new
+
+  -- the input was served over a desk at the operator
+  pub record ServesLines (last : Held S) (s : Operator) (end : Result ℕ Fault) : Type 0 where
+    pub desk : DeskValue S
+    pub result : Result ℕ LinesFault
+    pub told : end ≡ end_of result
+    pub conn : last ≡ desk.conn
+    pub ran : RanLines g desk s input ahead old new result
+
+  -- over this connection, which becomes that one
+  abbrev pub Serves : Held S → Held S → Operator → Result ℕ Fault → Type 0
+  Serves first last s end = Refuses first last end ⊎ ServesLines last s end
+
+module _ (input ahead old new : Option (List ℕ)) where
+  -- there was no memory, or the tables couldn't be made, and nothing was read or written
+  pub record FailsToBegin (end : Result ℕ Fault) : Type 0 where
+    pub told : (end ≡ Err OutOfMemory) ⊎ (end ≡ Err StoreFailed)
+    pub read : Keeps input ahead
+    pub written : Keeps old new
+
+  -- a database in memory begins with nothing
+  abbrev pub ServesInMemory : Result ℕ Fault → Type 0
+  ServesInMemory end = FailsToBegin end ⊎ ((last : Held MemStore) × ServesLines over_memory input ahead old new last no_operator end)
+
+-- The output grew by the answers to the lines of the input, which the operator gives from nothing on.
+pub record AnswersText (input old new : List ℕ) (count : ℕ) : Type 0 where
+  pub calls : List (Option Call)
+  pub read : AreReadAs (lines_of input) calls
+  pub written : new ≡ old ++ answers no_operator calls
+  pub counted : count ≡ length (lines_of input)
