@@ -28,7 +28,7 @@ use Rattle.bike_operator.specs.declared.view.View.{View}
 use Rattle.bike_operator.specs.Operator.{Operator, Rider, numbered}
 use Rattle.bike_operator.specs.Counts.{docked_at}
 use Rattle.bike_operator.specs.View.{view_of, docked_view, rider_view, rental_view, rental_of, rental_in, planned_rental}
-use Rattle.bike_operator.specs.Steps.{first, tests, refused, is_ledger_full, fare_now}
+use Rattle.bike_operator.specs.Steps.{first, tests, refused, fare_now}
 use Rattle.bike_operator.specs.Changes.{Decides}
 
 -- the first test that holds over the view is the operator's refusal
@@ -95,7 +95,7 @@ fare_entry number r now = record { number = number; kind = kind.Fare; rider = r.
 abbrev pub refund_entry : ℕ → RentalView → ℕ → ℕ → Entry
 refund_entry number r amount now = record { number = number; kind = kind.Refund; rider = r.rental.rider; rental = r.number; amount = pos amount; at = now }
 
-pub top_up_decided : (s : Operator) (v : View) (now rider amount : ℕ) (row : RiderView) → v ≡ view_of s (command.TopUp rider amount) → v.rider ≡ Some row → is_ledger_full v ≡ false
+pub top_up_decided : (s : Operator) (v : View) (now rider amount : ℕ) (row : RiderView) → v ≡ view_of s (command.TopUp rider amount) → v.rider ≡ Some row → v.is_ledger_full ≡ false
     → Decides s now (command.TopUp rider amount) (Ok (record {
       reply = Balance (row.balance +ℤ pos amount);
       entry = Some (top_up_entry (v.entries + 1) rider amount now);

@@ -2,9 +2,7 @@
 use Rattle.std.proofs.Common.{◌≡◌, ℕ, ◌+◌, List, [], ◌∷◌, Option, Some, None, Ok, refl, sym, ap, ◌∙◌}
 use Rattle.std.specs.Borrow.{Bor}
 use Rattle.std.specs.FinMap as map
-use Rattle.std.proofs.lemmas.Option.{same_Some}
 use Rattle.bike_texts.specs.declared.ends.OrderEnd.{OrderEnd}
-use Rattle.bike_texts.specs.declared.ends.OrderEnd.TheVariants as end
 use Rattle.bike_texts.specs.declared.ends.Side.{Side}
 use Rattle.bike_commands.specs.declared.command.Command.TheVariants as command
 use Rattle.bike_commands.specs.declared.reply.Reply.TheVariants.{Done, Ordered}
@@ -14,10 +12,9 @@ use Rattle.bike_operator.specs.declared.change.Change.TheVariants as change
 use Rattle.bike_operator.specs.declared.records.Bike.{Bike}
 use Rattle.bike_operator.specs.declared.records.Order.{Order}
 use Rattle.bike_operator.specs.declared.records.Place.TheVariants as place
-use Rattle.bike_operator.specs.declared.view.OrderView.{OrderView}
 use Rattle.bike_operator.specs.declared.view.View.{View}
 use Rattle.bike_operator.specs.Operator.{Operator, numbered}
-use Rattle.bike_operator.specs.View.{view_of, order_view, end_at, at_end, at_order}
+use Rattle.bike_operator.specs.View.{view_of, end_at}
 use Rattle.bike_operator.specs.Steps.{first, tests, place_reported, bike_reported, bike_placed, delivered, placed_at_end}
 use Rattle.bike_operator.specs.Changes.{Decides, all_changed, present}
 use Rattle.bike_core.proofs.Decisions.{refused_as}
@@ -43,23 +40,9 @@ load_decided s v now truck order bike row report e none known reports =
     let moved = bike_placed bike (place.Truck truck order) s in
     (refused_as s v (command.Load truck order bike) None e none, refl, reports moved ∙ sym (ap (λ (o : Option Bike). bike_reported o now moved) found))
 
--- the order of a view is the numbered one
-same_order_at_end : (s : Operator) (e : OrderEnd) (dock : ℕ) (v : View) → (at_end s e dock v).order ≡ v.order
-same_order_at_end s end.Depot dock v = refl
-same_order_at_end s (end.Station station) dock v = refl
-
-same_order : (s : Operator) (o : Option Order) (side : Side) (dock : ℕ) (v : View) → (at_order s o side dock v).order ≡ v.order
-same_order s None side dock v = refl
-same_order s (Some o) side dock v = same_order_at_end s (end_at side o) dock v
-
-numbered_order : (s : Operator) (number : ℕ) (o : Option Order) (row : OrderView) → order_view s number o ≡ Some row → o ≡ Some row.order
-numbered_order s number None row e = absurd cc
-numbered_order s number (Some o) row e = ap (λ (x : OrderView). Some x.order) (same_Some _ row e)
-
-pub unload_decided : (s : Operator) (v : View) (now truck order bike : ℕ) (side : Side) (dock : ℕ) (row : OrderView) (changes : List (Option Change)) → v ≡ view_of s (command.Unload truck order bike side dock) → None ≡ first (tests v (command.Unload truck order bike side dock)) → v.order ≡ Some row
-    → all_changed now (present changes) s ≡ delivered order side (placed_at_end bike (end_at side row.order) dock now s)
+pub unload_decided : (s : Operator) (v : View) (now truck order bike : ℕ) (side : Side) (dock : ℕ) (row : Order) (changes : List (Option Change)) → v ≡ view_of s (command.Unload truck order bike side dock) → None ≡ first (tests v (command.Unload truck order bike side dock)) → v.order ≡ Some row
+    → all_changed now (present changes) s ≡ delivered order side (placed_at_end bike (end_at side row) dock now s)
     → Decides s now (command.Unload truck order bike side dock) (Ok (record { reply = Done; entry = None; changes = changes }))
 unload_decided s v now truck order bike side dock row changes e none known makes =
-    let seen : order_view s order (numbered order s.orders) ≡ Some row = sym (same_order s (numbered order s.orders) side dock _) ∙ ap (λ (w : View). w.order) (sym e) ∙ known in
-    let found : numbered order s.orders ≡ Some row.order = numbered_order s order (numbered order s.orders) row seen in
+    let found : numbered order s.orders ≡ Some row = ap (λ (w : View). w.order) (sym e) ∙ known in
     (refused_as s v (command.Unload truck order bike side dock) None e none, refl, rw found makes)

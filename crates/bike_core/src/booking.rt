@@ -1,38 +1,24 @@
 //! Next numbers, entries, and balances after them.
 
-ghost use Rattle.std.specs.Prelude.{◌≡◌, ◌<◌, ◌≤◌, ◌≤ℤ◌, ◌+◌, ◌+ℤ◌, ◌-ℤ◌, pos, int_lt};
+ghost use Rattle.std.specs.Prelude.{◌≡◌, ◌<◌, ◌≤◌, ◌≤ℤ◌, ◌+◌, ◌+ℤ◌, ◌-ℤ◌, pos, int_lt, MatchOption};
 ghost use Rattle.bike_fares.specs.Pricing.{greatest_fare};
-ghost use Rattle.bike_ledger.specs.Ledger.{IsAmount, credit};
-ghost use Rattle.bike_ledger.specs.Entries.{greatest_amount};
+ghost use Rattle.bike_ledger.specs.Ledger.{IsAmount, IsBalance, credit};
 ghost use Rattle.bike_ledger.specs.declared.entry.EntryKind.TheVariants as kind;
 ghost use Rattle.bike_commands.specs.declared.reply.Reply.TheVariants.{Balance, Ended};
 ghost use Rattle.bike_operator.specs.declared.change.Change.TheVariants as change;
-ghost use Rattle.bike_operator.specs.View.{most_entries};
-ghost use Rattle.bike_operator.specs.Steps.{is_ledger_full, fare_now};
-ghost use Rattle.bike_operator.specs.Bounds.{IsWithin};
+ghost use Rattle.bike_operator.specs.Steps.{fare_now};
 
 use bike_commands::Reply;
 use bike_fares::fare;
 use bike_fields::{Ident, Payment};
 use bike_fixed::{Cents, Moment, Within};
-use bike_ledger::{Entry, balance_after, refundable};
-use bike_operator::{Change, Closing, RentalView, View};
+use bike_ledger::{Entry, EntryNumber, balance_after, refundable};
+use bike_operator::{Change, Closing, MOST_ENTRIES, RentalView};
 use bike_texts::Fare;
 
-/// Entries and open rentals together are at most this many.
-const MOST_ENTRIES: u32 = 100_000_000;
-
-/// Whether entries and open rentals are as many as there may be.
-pub(crate) fn is_ledger_full(view: &View) -> bool
-    requires { view.now.entries + view.now.open_rentals ≤ most_entries }
-    ensures { result ≡ is_ledger_full view.now }
-{
-    view.entries + view.open_rentals >= MOST_ENTRIES
-}
-
-/// The number after so many numbered ones.
+/// The number after so many numbered ones, by the numbering rule.
 pub(crate) fn next_number(count: u32) -> Within<1, 100_000_000>
-    requires { count < 100000000 }
+    requires { count < MOST_ENTRIES }
     ensures { result ≡ count + 1 }
 {
     match Within::new(count + 1) {
@@ -41,9 +27,19 @@ pub(crate) fn next_number(count: u32) -> Within<1, 100_000_000>
     }
 }
 
-/// The entry that books the fare of a rental which ends now.
+/// The number of the entry after so many, if there may be one more. Where there may not, an operator's ledger is full.
+pub(crate) fn next_entry(entries: u32) -> Option<EntryNumber>
+    ensures { MatchOption result (MOST_ENTRIES ≤ entries) (λ number. number ≡ entries + 1) }
+{
+    if entries < MOST_ENTRIES {
+        return Some(next_number(entries));
+    }
+    None
+}
+
+/// The entry that books the fare of a rental which ends now, by the closing rule.
 pub(crate) fn fare_entry(entries: u32, row: &RentalView, now: Moment) -> Entry
-    requires few { entries < 100000000 }
+    requires few { entries < MOST_ENTRIES }
     requires began { row.now.rental.start ≤ now }
     ensures entry { result ≡ record { number = entries + 1; kind = kind.Fare; rider = row.now.rental.rider; rental = row.now.number; amount = fare_now row.now now; at = now } }
     ensures amount { IsAmount result.amount }
@@ -74,20 +70,16 @@ pub(crate) fn closing<'a>(
 }
 
 /// The reply that tells the balance after one more entry.
-pub(crate) fn balance_reply(entries: u32, balance: &i64, entry: &Entry) -> Reply
-    requires few { entries < 100000000 }
-    requires balance { IsWithin entries balance.now }
-    requires amount { IsAmount entry.now.amount }
+pub(crate) fn balance_reply(balance: &i64, entry: &Entry) -> Reply
+    requires { IsBalance balance.now }
     ensures { result ≡ Balance (balance.now +ℤ credit entry.now.kind entry.now.amount) }
 {
     Reply::Balance(balance_after(*balance, entry))
 }
 
 /// The reply that tells a fare and the balance after its entry.
-pub(crate) fn ended_reply(entries: u32, balance: &i64, entry: &Entry) -> Reply
-    requires few { entries < 100000000 }
-    requires balance { IsWithin entries balance.now }
-    requires amount { IsAmount entry.now.amount }
+pub(crate) fn ended_reply(balance: &i64, entry: &Entry) -> Reply
+    requires { IsBalance balance.now }
     ensures { result ≡ Ended entry.now.amount (balance.now +ℤ credit entry.now.kind entry.now.amount) }
 {
     Reply::Ended {
@@ -96,11 +88,10 @@ pub(crate) fn ended_reply(entries: u32, balance: &i64, entry: &Entry) -> Reply
     }
 }
 
-/// Whether an amount is more than what of a rental's fare isn't refunded yet.
+/// Whether an amount is more than what of a rental's fare isn't refunded yet, which the refund rule forbids.
 pub(crate) fn is_too_much(closing: &Closing, refunded: &i64, amount: Payment) -> bool
     requires low { pos 0 ≤ℤ refunded.now }
     requires high { refunded.now ≤ℤ closing.now.fare }
-    requires fare { closing.now.fare ≤ℤ greatest_amount }
     ensures { result ≡ int_lt (closing.now.fare -ℤ refunded.now) (pos amount) }
 {
     let left = refundable(Cents::new(closing.fare), Cents::new(*refunded));

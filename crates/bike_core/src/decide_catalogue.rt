@@ -97,7 +97,7 @@ pub(crate) fn decide_set_station<'a>(
     }))
 }
 
-/// Decides on a dock that is broken, or works again.
+/// Decides on a dock that is broken, or works again. By the no-change rule it may be so already.
 pub(crate) fn decide_mark_dock<'a>(
     view: &View,
     station: &'a Ident,

@@ -13,11 +13,8 @@ use crate::booking::next_number;
 use crate::places::{end_at, ends_apart, is_at_end, is_loaded, is_retired, is_same_end, report_of};
 use bike_commands::{Refusal, Reply};
 use bike_fields::{BicycleNumber, Ident, OrderNumber, OrderQuantity, TruckCapacity, TruckNumber};
-use bike_operator::{Accepted, Bike, Change, Decision, NewPlace, OrderView, View};
+use bike_operator::{Accepted, Bike, Change, Decision, MOST_ORDERS, NewPlace, Order, View};
 use bike_texts::{OrderEnd, Side, UnloadDock};
-
-/// There are at most this many orders.
-const MOST_ORDERS: u32 = 10_000_000;
 
 /// Decides on a new truck.
 pub(crate) fn decide_add_truck<'a>(
@@ -39,7 +36,7 @@ pub(crate) fn decide_add_truck<'a>(
     }))
 }
 
-/// The number of a new order, or the first refusal of it.
+/// The number of a new order, or the first refusal of it, the last of which is the limit rule's.
 fn check_open_order(
     view: &View,
     from_end: &OrderEnd,
@@ -99,9 +96,10 @@ pub(crate) fn decide_open_order<'a>(
     })
 }
 
-/// The bicycle that is loaded, or the first refusal of loading it.
+/// The bicycle that is loaded, or the first refusal of loading it. By the crew rule neither the station's flags nor the dock's
+/// mark are asked for, nor whether the bicycle is fit.
 fn check_load(view: &View, truck: TruckNumber) -> Result<&Bike, Refusal>
-    requires { IfSome view.now.order (λ o. o.order.delivered + o.on_truck ≤ o.order.count) }
+    requires { IfSome view.now.order (λ o. o.delivered + view.now.on_truck ≤ o.count) }
     ensures tests { (order bike : ℕ) → refusal_in result ≡ first (tests view.now (command.Load truck order bike)) }
     ensures bike { IfOk result (λ b. view.now.bike ≡ Some b.now) }
 {
@@ -111,10 +109,10 @@ fn check_load(view: &View, truck: TruckNumber) -> Result<&Bike, Refusal>
     let Some(row) = &view.order else {
         return Err(Refusal::UnknownOrder);
     };
-    if !row.order.is_open {
+    if !row.is_open {
         return Err(Refusal::OrderClosed);
     }
-    if row.order.truck.get() != truck.get() {
+    if row.truck.get() != truck.get() {
         return Err(Refusal::WrongTruckOrEnds);
     }
     let Some(bike) = &view.bike else {
@@ -123,16 +121,16 @@ fn check_load(view: &View, truck: TruckNumber) -> Result<&Bike, Refusal>
     if is_retired(bike.state) {
         return Err(Refusal::BikeRetired);
     }
-    if !is_at_end(&row.order.from_end, &bike.place) {
+    if !is_at_end(&row.from_end, &bike.place) {
         return Err(Refusal::WrongPlace);
     }
-    if bike.type_id.as_str() != row.order.type_id.as_str() {
+    if bike.type_id.as_str() != row.type_id.as_str() {
         return Err(Refusal::WrongType);
     }
-    if row.order.count.get() <= row.order.delivered + row.on_truck {
+    if row.count.get() <= row.delivered + view.on_truck {
         return Err(Refusal::OrderFilled);
     }
-    if truck_row.capacity.get() <= truck_row.loaded {
+    if truck_row.capacity.get() <= view.loaded {
         return Err(Refusal::TruckFull);
     }
     Ok(bike)
@@ -145,7 +143,7 @@ pub(crate) fn decide_load<'a>(
     order: OrderNumber,
     bike: BicycleNumber,
 ) -> Decision<'a>
-    requires { IfSome view.now.order (λ o. o.order.delivered + o.on_truck ≤ o.order.count) }
+    requires { IfSome view.now.order (λ o. o.delivered + view.now.on_truck ≤ o.count) }
     ensures { (s : Operator) (now : ℕ) → view.now ≡ view_of s (command.Load truck order bike) → Decides s now (command.Load truck order bike) result }
 {
     let row = match check_load(view, truck) {
@@ -166,14 +164,15 @@ pub(crate) fn decide_load<'a>(
     })
 }
 
-/// The order for which a bicycle is unloaded, or the first refusal of unloading it.
+/// The order for which a bicycle is unloaded, or the first refusal of unloading it. By the crew rule the station's flags are not
+/// asked for.
 fn check_unload(
     view: &View,
     truck: TruckNumber,
     order: OrderNumber,
     side: Side,
     dock: UnloadDock,
-) -> Result<&OrderView, Refusal>
+) -> Result<&Order, Refusal>
     ensures tests { (bike : ℕ) → refusal_in result ≡ first (tests view.now (command.Unload truck order bike side dock)) }
     ensures order { IfOk result (λ o. view.now.order ≡ Some o.now) }
 {
@@ -183,10 +182,10 @@ fn check_unload(
     let Some(row) = &view.order else {
         return Err(Refusal::UnknownOrder);
     };
-    if !row.order.is_open {
+    if !row.is_open {
         return Err(Refusal::OrderClosed);
     }
-    if row.order.truck.get() != truck.get() {
+    if row.truck.get() != truck.get() {
         return Err(Refusal::WrongTruckOrEnds);
     }
     let Some(bike) = &view.bike else {
@@ -195,7 +194,7 @@ fn check_unload(
     if !is_loaded(truck, order, &bike.place) {
         return Err(Refusal::WrongPlace);
     }
-    if ends_apart(end_at(side, &row.order), &view.station, dock) {
+    if ends_apart(end_at(side, row), &view.station, dock) {
         return Err(Refusal::UnknownDock);
     }
     if view.is_dock_broken {
@@ -255,7 +254,7 @@ pub(crate) fn decide_unload<'a>(
         Ok(row) => row,
         Err(refusal) => return Err(refusal),
     };
-    let end = end_at(side, &row.order);
+    let end = end_at(side, row);
     Ok(Accepted {
         reply: Reply::Done,
         entry: None,
@@ -267,19 +266,13 @@ pub(crate) fn decide_unload<'a>(
 pub(crate) fn decide_close_order<'a>(view: &View, order: OrderNumber) -> Decision<'a>
     ensures { (s : Operator) (now : ℕ) → view.now ≡ view_of s (command.CloseOrder order) → Decides s now (command.CloseOrder order) result }
 {
-    let Some(
-        OrderView {
-            order: row,
-            on_truck,
-        },
-    ) = &view.order
-    else {
+    let Some(row) = &view.order else {
         return Err(Refusal::UnknownOrder);
     };
     if !row.is_open {
         return Err(Refusal::OrderClosed);
     }
-    if *on_truck > 0 {
+    if view.on_truck > 0 {
         return Err(Refusal::BikesOnTruck);
     }
     Ok(Accepted::done(Change::CloseOrder { order: order.get() }))

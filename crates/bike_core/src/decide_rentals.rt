@@ -1,16 +1,16 @@
 //! Decisions on rentals.
 
-ghost use Rattle.std.specs.Prelude.{◌≡◌, ◌≤◌, ◌<◌, ◌+◌, ◌≤ℤ◌, ℕ, List, Some, IfOk, IfSome, IsSome, true};
+ghost use Rattle.std.specs.Prelude.{◌≡◌, ℕ, List, Some, IfOk, IfSome, IsSome, true, false};
 ghost use Rattle.bike_commands.specs.declared.command.Command.TheVariants as command;
 ghost use Rattle.bike_operator.specs.Operator.{Operator};
-ghost use Rattle.bike_operator.specs.View.{view_of, most_entries};
+ghost use Rattle.bike_operator.specs.View.{view_of};
 ghost use Rattle.bike_operator.specs.Steps.{first, tests};
 ghost use Rattle.bike_operator.specs.Changes.{Decides, refusal_in};
 ghost use Rattle.bike_operator.specs.Counts.{is_open};
-ghost use Rattle.bike_operator.specs.Bounds.{IsBounded, IsRefundable};
+ghost use Rattle.bike_operator.specs.Bounds.{IsRefundable, IsBounded};
 
 use crate::booking::{
-    balance_reply, closing, ended_reply, fare_entry, is_ledger_full, is_too_much, next_number,
+    balance_reply, closing, ended_reply, fare_entry, is_too_much, next_entry, next_number,
 };
 use crate::places::is_fit;
 use bike_commands::{Refusal, Reply};
@@ -23,10 +23,9 @@ use bike_operator::{
 
 /// The bicycle that a rental takes from its dock, or the first refusal of a start.
 fn check_start(view: &View, dock: DockNumber) -> Result<&DockedBike, Refusal>
-    requires { view.now.entries + view.now.open_rentals ≤ most_entries }
     ensures tests { (rider : ℕ) (station : List ℕ) → refusal_in result ≡ first (tests view.now (command.Start rider station dock)) }
     ensures docked { IfOk result (λ b. view.now.docked ≡ Some b.now) }
-    ensures room { IfOk result (λ b. view.now.entries + view.now.open_rentals < most_entries) }
+    ensures room { IfOk result (λ b. view.now.is_ledger_full ≡ false) }
 {
     let Some(rider) = &view.rider else {
         return Err(Refusal::UnknownRider);
@@ -37,7 +36,7 @@ fn check_start(view: &View, dock: DockNumber) -> Result<&DockedBike, Refusal>
     if rider.balance < 0 {
         return Err(Refusal::BalanceNegative);
     }
-    if rider.is_riding {
+    if view.is_riding {
         return Err(Refusal::RiderIsRiding);
     }
     let Some(station) = &view.station else {
@@ -58,13 +57,13 @@ fn check_start(view: &View, dock: DockNumber) -> Result<&DockedBike, Refusal>
     if !is_fit(docked.state) {
         return Err(Refusal::BikeDisabled);
     }
-    if is_ledger_full(view) {
+    if view.is_ledger_full {
         return Err(Refusal::LimitReached);
     }
     Ok(docked)
 }
 
-/// Decides on the start of a rental of the bicycle in a dock.
+/// Decides on the start of a rental of the bicycle in a dock. By the rental-plan rule it keeps the plan of the bicycle's type.
 pub(crate) fn decide_start<'a>(
     view: &'a View,
     now: Moment,
@@ -108,7 +107,7 @@ pub(crate) fn decide_start<'a>(
 /// The rental that ends with its bicycle in a dock, or the first refusal of its end.
 fn check_end(view: &View, dock: DockNumber) -> Result<&RentalView, Refusal>
     ensures tests { (bike : ℕ) (station : List ℕ) → refusal_in result ≡ first (tests view.now (command.End bike station dock)) }
-    ensures bike { IfOk result (λ r. IsSome view.now.bike) }
+    ensures station { IfOk result (λ r. IsSome view.now.station) }
     ensures rental { IfOk result (λ r. view.now.rental ≡ Some r.now) }
 {
     if view.bike.is_none() {
@@ -160,7 +159,7 @@ pub(crate) fn decide_end<'a>(
         },
     };
     Ok(Accepted {
-        reply: ended_reply(view.entries, &row.balance, &entry),
+        reply: ended_reply(&row.balance, &entry),
         entry: Some(entry),
         changes: [
             Some(closed),
@@ -207,7 +206,7 @@ pub(crate) fn decide_recover<'a>(view: &View, now: Moment, rental: RentalNumber)
         state: BikeState::Disabled,
     };
     Ok(Accepted {
-        reply: ended_reply(view.entries, &row.balance, &entry),
+        reply: ended_reply(&row.balance, &entry),
         entry: Some(entry),
         changes: [Some(closed), Some(moved), Some(disabled), None],
     })
@@ -215,11 +214,11 @@ pub(crate) fn decide_recover<'a>(view: &View, now: Moment, rental: RentalNumber)
 
 /// The rental of a refund, or the first refusal of it.
 fn check_refund(view: &View, amount: Payment) -> Result<&RentalView, Refusal>
-    requires few { view.now.entries + view.now.open_rentals ≤ most_entries }
-    requires refunded { IfSome view.now.rental (λ r. IsRefundable r.refunded r.rental.closing) }
+    requires { IfSome view.now.rental (λ r. IfSome r.rental.closing (λ c. IsRefundable view.now.entries r c.fare)) }
     ensures tests { (rental : ℕ) → refusal_in result ≡ first (tests view.now (command.Refund rental amount)) }
     ensures rental { IfOk result (λ r. view.now.rental ≡ Some r.now) }
-    ensures room { IfOk result (λ r. view.now.entries + view.now.open_rentals < most_entries) }
+    ensures is_closed { IfOk result (λ r. IsSome r.now.rental.closing) }
+    ensures room { IfOk result (λ r. view.now.is_ledger_full ≡ false) }
 {
     let Some(row) = &view.rental else {
         return Err(Refusal::UnknownRental);
@@ -230,7 +229,7 @@ fn check_refund(view: &View, amount: Payment) -> Result<&RentalView, Refusal>
     if is_too_much(closing, &row.refunded, amount) {
         return Err(Refusal::RefundTooLarge);
     }
-    if is_ledger_full(view) {
+    if view.is_ledger_full {
         return Err(Refusal::LimitReached);
     }
     Ok(row)
@@ -250,10 +249,12 @@ pub(crate) fn decide_refund<'a>(
         Ok(row) => row,
         Err(refusal) => return Err(refusal),
     };
-    let number = next_number(view.entries);
+    let Some(number) = next_entry(view.entries) else {
+        return Err(Refusal::LimitReached);
+    };
     let entry = Entry::refund(number, row.rental.rider, row.number, amount, now);
     Ok(Accepted {
-        reply: balance_reply(view.entries, &row.balance, &entry),
+        reply: balance_reply(&row.balance, &entry),
         entry: Some(entry),
         changes: [None, None, None, None],
     })

@@ -7,7 +7,7 @@ ghost use Rattle.bike_operator.specs.View.{view_of};
 ghost use Rattle.bike_operator.specs.Changes.{Decides};
 ghost use Rattle.bike_operator.specs.Bounds.{IsBounded};
 
-use crate::booking::{balance_reply, is_ledger_full, next_number};
+use crate::booking::{balance_reply, next_entry};
 use bike_commands::Refusal;
 use bike_fields::{Payment, RiderNumber};
 use bike_fixed::Moment;
@@ -18,7 +18,7 @@ use bike_operator::{Accepted, Change, Decision, View};
 pub(crate) fn decide_add_rider<'a>(view: &View, rider: RiderNumber) -> Decision<'a>
     ensures { (s : Operator) (now : ℕ) → view.now ≡ view_of s (command.AddRider rider) → Decides s now (command.AddRider rider) result }
 {
-    if view.rider.is_some() {
+    if view.has_rider {
         return Err(Refusal::AlreadyThere);
     }
     if view.is_full {
@@ -38,7 +38,7 @@ pub(crate) fn decide_set_rider<'a>(
 ) -> Decision<'a>
     ensures { (s : Operator) (now : ℕ) → view.now ≡ view_of s (command.SetRider rider is_blocked) → Decides s now (command.SetRider rider is_blocked) result }
 {
-    if view.rider.is_none() {
+    if !view.has_rider {
         return Err(Refusal::UnknownRider);
     }
     Ok(Accepted::done(Change::SetRider {
@@ -60,12 +60,15 @@ pub(crate) fn decide_top_up<'a>(
     let Some(row) = &view.rider else {
         return Err(Refusal::UnknownRider);
     };
-    if is_ledger_full(view) {
+    if view.is_ledger_full {
         return Err(Refusal::LimitReached);
     }
-    let entry = Entry::top_up(next_number(view.entries), rider, amount, now);
+    let Some(number) = next_entry(view.entries) else {
+        return Err(Refusal::LimitReached);
+    };
+    let entry = Entry::top_up(number, rider, amount, now);
     Ok(Accepted {
-        reply: balance_reply(view.entries, &row.balance, &entry),
+        reply: balance_reply(&row.balance, &entry),
         entry: Some(entry),
         changes: [None, None, None, None],
     })

@@ -5,6 +5,7 @@
 #![tactic(auto)]
 
 mod booking;
+mod bounds;
 mod decide_bikes;
 mod decide_catalogue;
 mod decide_orders;
@@ -13,4 +14,5 @@ mod decide_riders;
 mod decision;
 mod places;
 
+pub use bounds::is_bounded;
 pub use decision::decide;

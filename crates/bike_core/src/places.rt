@@ -41,7 +41,7 @@ pub(crate) fn is_depot(place: &Place) -> bool
     }
 }
 
-/// The report of the station at which a place is.
+/// The report, by the report rule, of the station at which a place is.
 pub(crate) fn report_of<'a>(place: &'a Place) -> Option<Change<'a>>
     ensures { (s : Operator) (now : ℕ) → all_changed now (present (result ∷ None ∷ None ∷ [])) s ≡ place_reported place.now now s }
 {

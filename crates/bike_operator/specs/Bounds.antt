@@ -1,39 +1,29 @@
--- What the numbers of a view keep where it is the view of a sound operator.
-use Rattle.std.specs.Prelude.{◌≡◌, ℕ, ℤ, ◌+◌, ◌*◌, ◌≤◌, true, pos, neg_ℤ, ◌≤ℤ◌, Option, Some, None, IfSome}
-use Rattle.bike_ledger.specs.Ledger.{}
-use Rattle.bike_ledger.specs.Entries.{greatest_amount}
-use Rattle.bike_operator.specs.declared.records.Closing.{Closing}
+-- What a decision needs of the numbers in a view. Each view of a sound operator has it.
+use Rattle.std.specs.Prelude.{◌≡◌, ℕ, ℤ, ◌+◌, ◌<◌, ◌≤◌, true, false, pos, ◌≤ℤ◌, IfSome, IfNone}
+use Rattle.bike_ledger.specs.Ledger.{IsBalance}
+use Rattle.bike_operator.specs.declared.limits.TheConstants.{MOST_ENTRIES}
 use Rattle.bike_operator.specs.declared.view.RentalView.{RentalView}
 use Rattle.bike_operator.specs.declared.view.View.{View}
 use Rattle.bike_operator.specs.Counts.{is_open}
-use Rattle.bike_operator.specs.View.{most_orders, most_entries}
 
--- the balance is one that so many entries can come to
-pub record IsWithin (entries : ℕ) (balance : ℤ) : Type 0 where
-  pub low : neg_ℤ (pos (34561800000 * entries)) ≤ℤ balance
-  pub high : balance ≤ℤ pos (34561800000 * entries)
-
--- refunds of a closed rental lie within its fare
-abbrev pub IsRefundable : ℤ → Option Closing → Type 0
-IsRefundable refunded None = Unit {0}
-IsRefundable refunded (Some c) = (pos 0 ≤ℤ refunded) × (refunded ≤ℤ c.fare) × (c.fare ≤ℤ greatest_amount)
-
--- the rental began by now; an open one is counted among the open rentals
-pub record IsRentalWithin (entries now : ℕ) (r : RentalView) : Type 0 where
+-- an open rental began by now, and its fare can be booked
+pub record IsChargeable (entries now : ℕ) (r : RentalView) : Type 0 where
   pub began : r.rental.start ≤ now
-  pub balance : IsWithin entries r.balance
-  pub refunded : IsRefundable r.refunded r.rental.closing
+  pub room : entries < MOST_ENTRIES
+  pub balance : IsBalance r.balance
 
-abbrev pub IsOpenCounted : ℕ → Option Closing → Type 0
-IsOpenCounted rentals None = 1 ≤ rentals
-IsOpenCounted rentals (Some c) = Unit {0}
+-- the refunds of a closed rental lie within its fare, and where there is room for an entry, one more can be booked
+pub record IsRefundable (entries : ℕ) (r : RentalView) (fare : ℤ) : Type 0 where
+  pub low : pos 0 ≤ℤ r.refunded
+  pub high : r.refunded ≤ℤ fare
+  pub balance : entries < MOST_ENTRIES → IsBalance r.balance
 
 pub record IsBounded (view : View) (now : ℕ) : Type 0 where
-  pub few_entries : view.entries + view.open_rentals ≤ most_entries
-  pub few_rentals : view.rentals ≤ view.entries + view.open_rentals
-  pub few_orders : view.orders ≤ most_orders
-  pub rider : IfSome view.rider (λ r. IsWithin view.entries r.balance)
-  pub rental : IfSome view.rental (λ r. IsRentalWithin view.entries now r × IsOpenCounted view.open_rentals r.rental.closing)
-  -- the rental of a bicycle is open
-  pub held : IfSome view.bike (λ b. IfSome view.rental (λ r. is_open r.rental ≡ true))
-  pub order : IfSome view.order (λ o. o.order.delivered + o.on_truck ≤ o.order.count)
+  -- where the ledger isn't full, one more rental has a number, and the rider's balance takes one more entry
+  pub few_rentals : view.is_ledger_full ≡ false → view.rentals < MOST_ENTRIES
+  pub rider : view.is_ledger_full ≡ false → IfSome view.rider (λ r. IsBalance r.balance)
+  pub charge : IfSome view.rental (λ r. IfNone r.rental.closing (IsChargeable view.entries now r))
+  pub refund : IfSome view.rental (λ r. IfSome r.rental.closing (λ c. IsRefundable view.entries r c.fare))
+  -- the rental that ends at a station is open
+  pub ends : IfSome view.station (λ x. IfSome view.rental (λ r. is_open r.rental ≡ true))
+  pub filled : IfSome view.order (λ o. o.delivered + view.on_truck ≤ o.count)

@@ -70,12 +70,12 @@ is_broken s station n = finset.contains s.broken (dock_key station n)
 
 -- ---- orders and trucks
 
--- the bicycles on a truck, and those on a truck for an order
-abbrev pub loaded : Operator → ℕ → ℕ
-loaded s truck = count (λ b. is_on_truck truck b.1.place) (finmap.entries s.bikes)
+-- how many bicycles are on a truck, and how many on a truck for an order
+abbrev pub truck_load : Operator → ℕ → ℕ
+truck_load s truck = count (λ b. is_on_truck truck b.1.place) (finmap.entries s.bikes)
 
-abbrev pub on_truck : Operator → ℕ → ℕ
-on_truck s order = count (λ b. is_for_order order b.1.place) (finmap.entries s.bikes)
+abbrev pub order_load : Operator → ℕ → ℕ
+order_load s order = count (λ b. is_for_order order b.1.place) (finmap.entries s.bikes)
 
 -- ---- rentals
 
@@ -89,7 +89,7 @@ open_rentals s = count is_open s.rentals
 abbrev pub is_riding : Operator → ℕ → Bool
 is_riding s rider = list_any (λ r. (r.rider == rider) && is_open r) s.rentals
 
--- ---- counts of a station, as GBFS's `station_status` has them
+-- ---- counts of a station, as GBFS's `station_status` has them: the count rule
 
 -- A bicycle is available where it is fit and in a dock that isn't broken; in another dock it is disabled.
 abbrev pub is_working_dock : Operator → List ℕ → Place → Bool

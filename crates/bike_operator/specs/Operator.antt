@@ -1,4 +1,5 @@
--- The operator: all that it keeps. It holds no balance, no count and no sum; those are figures of its records.
+-- The operator: all that it keeps. It holds no balance, no count and no sum; those are figures of its records. So the ledger
+-- rule holds: balances change by entries alone.
 use Rattle.std.specs.Prelude.{ℕ, zero, suc, List, [], ◌∷◌, Bool, Option, Some, None}
 use Rattle.std.specs.Ordering.{nat_cmp}
 use Rattle.std.specs.declared.cmp.Ordering.{Ordering}
@@ -66,7 +67,7 @@ pub record Operator : Type 0 where
   pub bikes : FinMap nat_cmp Bike
   pub trucks : FinMap nat_cmp Truck
   pub riders : FinMap nat_cmp Rider
-  -- the record at position i of these, from 1, has the number i
+  -- the numbering rule: the record at position i of these, from 1, has the number i
   pub rentals : List Rental
   pub orders : List Order
   pub entries : List Entry

@@ -13,6 +13,7 @@ use Rattle.bike_commands.specs.Commands.{text_of}
 use Rattle.bike_operator.specs.Operator.{Operator, Kept, Key, key_of}
 use Rattle.bike_operator.specs.Steps.{refused, effect, reply_of}
 
+-- the caller rule: what is kept is found by the caller's text and the key
 abbrev pub key_in : Request → Key
 key_in q = key_of (caller_text q.caller) q.key
 
@@ -20,17 +21,18 @@ key_in q = key_of (caller_text q.caller) q.key
 abbrev pub is_same : Command → Command → Bool
 is_same c d = bytes_eq (text_of c) (text_of d)
 
--- the operator after an accepted request at a moment: now it is that moment, and the key keeps command and reply
+-- the acceptance rule: after an accepted request at a moment, now it is that moment, and the key keeps command and reply
 abbrev pub accepted : Operator → ℕ → Request → Operator
 accepted s now q =
     record (effect s now q.command) { now = now; kept = map.insert s.kept (key_in q) (record { command = q.command; reply = reply_of s now q.command }) }
 
--- a refused request changes nothing
+-- the refusal rule: a refused request changes nothing
 abbrev pub decided : Operator → ℕ → Request → Option Refusal → Reply × Operator
 decided s now q (Some r) = (Refused r, s)
 decided s now q None = (reply_of s now q.command, accepted s now q)
 
--- a kept key answers an equal command as before and refuses another, and nothing changes
+-- The kept-key rule: a kept key answers an equal command as before and refuses another, and nothing changes.
+-- The now rule: else the moment is the greater of the request's and the operator's.
 abbrev pub answered : Operator → ℕ → Request → Option Kept → Reply × Operator
 answered s t q (Some k) = (if is_same k.command q.command then k.reply else Refused refusal.KeyReused, s)
 answered s t q None = decided s (max t s.now) q (refused s q.command)

@@ -18,6 +18,7 @@ use Rattle.bike_commands.specs.declared.reply.Reply.{Reply}
 use Rattle.bike_commands.specs.declared.reply.Reply.TheVariants.{Done, Balance, Started, Ended, Ordered, Refused}
 use Rattle.bike_commands.specs.Replies.{IsReply}
 use Rattle.bike_commands.specs.Requests.{IsRequest}
+use Rattle.bike_operator.specs.declared.limits.TheConstants.{MOST_PLANS, MOST_TYPES, MOST_STATIONS, MOST_BIKES, MOST_TRUCKS, MOST_RIDERS, MOST_ORDERS, MOST_ENTRIES}
 use Rattle.bike_operator.specs.declared.records.Place.{Place}
 use Rattle.bike_operator.specs.declared.records.Place.TheVariants as place
 use Rattle.bike_operator.specs.declared.records.Bike.{Bike}
@@ -25,8 +26,8 @@ use Rattle.bike_operator.specs.declared.records.Rental.{Rental}
 use Rattle.bike_operator.specs.declared.records.Closing.{Closing}
 use Rattle.bike_operator.specs.declared.records.Order.{Order}
 use Rattle.bike_operator.specs.Operator.{Operator, Station, Truck, Rider, Kept, Key, key_of, DockKey, dock_key, numbered}
-use Rattle.bike_operator.specs.Counts.{is_open, is_retired, loaded, on_truck, open_rentals}
-use Rattle.bike_operator.specs.View.{has_end, most_plans, most_types, most_stations, most_bikes, most_trucks, most_riders, most_orders, most_entries}
+use Rattle.bike_operator.specs.Counts.{is_open, is_retired, truck_load, order_load, open_rentals}
+use Rattle.bike_operator.specs.View.{has_end}
 use Rattle.bike_operator.specs.Steps.{is_same_end}
 use Rattle.bike_operator.specs.Runs.{Call}
 
@@ -70,9 +71,9 @@ pub record IsCatalogueSound (s : Operator) : Type 0 where
   pub types : (id : List ℕ) (t : TypeRow) → finmap.get s.types id ≡ Some t → IsTypeAt s id t
   pub stations : (id : List ℕ) (x : Station) → finmap.get s.stations id ≡ Some x → IsStationAt s id x
   pub broken : (key : DockKey) → finset.contains s.broken key ≡ true → IsBrokenDock s key
-  pub few_plans : finmap.len s.plans ≤ most_plans
-  pub few_types : finmap.len s.types ≤ most_types
-  pub few_stations : finmap.len s.stations ≤ most_stations
+  pub few_plans : finmap.len s.plans ≤ MOST_PLANS
+  pub few_types : finmap.len s.types ≤ MOST_TYPES
+  pub few_stations : finmap.len s.stations ≤ MOST_STATIONS
 
 -- ---- bicycles and places
 
@@ -104,12 +105,13 @@ pub record IsBikeAt (s : Operator) (number : ℕ) (b : Bike) : Type 0 where
   pub placed : IsPlace s number b.type_id b.place
   pub retired : is_retired b.state ≡ true → b.place ≡ place.Depot
 
+-- the place rule: each bicycle is in one place, and where it is in a rental or on a truck, that is its own
 pub record AreBikesSound (s : Operator) : Type 0 where
   pub bikes : (number : ℕ) (b : Bike) → finmap.get s.bikes number ≡ Some b → IsBikeAt s number b
   -- no two bicycles in one dock
   pub apart : (a b : ℕ) (x y : Bike) (station : List ℕ) (dock : ℕ) → finmap.get s.bikes a ≡ Some x → finmap.get s.bikes b ≡ Some y
       → x.place ≡ place.Dock station dock → y.place ≡ place.Dock station dock → a ≡ b
-  pub few : finmap.len s.bikes ≤ most_bikes
+  pub few : finmap.len s.bikes ≤ MOST_BIKES
 
 -- ---- trucks and orders
 
@@ -118,7 +120,7 @@ pub record IsTruckAt (s : Operator) (number : ℕ) (t : Truck) : Type 0 where
   pub high : number ≤ 999999
   pub some : 1 ≤ t.capacity
   pub most : t.capacity ≤ 60
-  pub holds : loaded s number ≤ t.capacity
+  pub holds : truck_load s number ≤ t.capacity
 
 -- the truck is there, and holds so many bicycles
 pub record HasTruck (s : Operator) (truck count : ℕ) : Type 0 where
@@ -133,13 +135,13 @@ pub record IsOrderAt (s : Operator) (number : ℕ) (o : Order) : Type 0 where
   pub to_is : has_end s o.to_end ≡ true
   pub ends : is_same_end o.from_end o.to_end ≡ false
   pub type_is : finmap.contains_key s.types o.type_id ≡ true
-  pub filled : o.delivered + on_truck s number ≤ o.count
+  pub filled : o.delivered + order_load s number ≤ o.count
 
 pub record AreOrdersSound (s : Operator) : Type 0 where
   pub trucks : (number : ℕ) (t : Truck) → finmap.get s.trucks number ≡ Some t → IsTruckAt s number t
   pub orders : (number : ℕ) (o : Order) → numbered number s.orders ≡ Some o → IsOrderAt s number o
-  pub few_trucks : finmap.len s.trucks ≤ most_trucks
-  pub few_orders : length s.orders ≤ most_orders
+  pub few_trucks : finmap.len s.trucks ≤ MOST_TRUCKS
+  pub few_orders : length s.orders ≤ MOST_ORDERS
 
 -- ---- rentals
 
@@ -179,7 +181,7 @@ abbrev pub fares_in : Option Closing → List ℤ
 fares_in None = []
 fares_in (Some c) = c.fare ∷ []
 
--- what may be refunded of a rental in all
+-- the refund rule: what may be refunded of a rental in all
 abbrev pub most_refunded : Option Closing → ℤ
 most_refunded None = pos 0
 most_refunded (Some c) = c.fare
@@ -237,8 +239,8 @@ pub record IsEntryAt (s : Operator) (number : ℕ) (e : Entry) : Type 0 where
 pub record IsLedgerSound (s : Operator) : Type 0 where
   pub riders : (number : ℕ) (r : Rider) → finmap.get s.riders number ≡ Some r → IsRiderNumber number
   pub entries : (number : ℕ) (e : Entry) → numbered number s.entries ≡ Some e → IsEntryAt s number e
-  pub few_riders : finmap.len s.riders ≤ most_riders
-  pub few_entries : length s.entries + open_rentals s ≤ most_entries
+  pub few_riders : finmap.len s.riders ≤ MOST_RIDERS
+  pub few_entries : length s.entries + open_rentals s ≤ MOST_ENTRIES
 
 -- ---- kept requests
 
@@ -271,7 +273,7 @@ pub record IsSound (s : Operator) : Type 0 where
   pub kept : (key : Key) (k : Kept) → finmap.get s.kept key ≡ Some k → IsKept key k
   pub now : s.now ≤ last_moment
 
--- a request of the program at a moment of the program
+-- a request of the program at a moment of the program: by the unreadable-request rule no other comes
 pub record IsCall (c : Call) : Type 0 where
   pub moment : c.0 ≤ last_moment
   pub request : IsRequest c.1

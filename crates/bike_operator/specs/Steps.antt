@@ -19,6 +19,7 @@ use Rattle.bike_commands.specs.declared.reply.Reply.{Reply}
 use Rattle.bike_commands.specs.declared.reply.Reply.TheVariants.{Done, Balance, Started, Ended, Ordered}
 use Rattle.bike_commands.specs.declared.refusal.Refusal.{Refusal}
 use Rattle.bike_commands.specs.declared.refusal.Refusal.TheVariants as refusal
+use Rattle.bike_operator.specs.declared.limits.TheConstants.{MOST_ORDERS}
 use Rattle.bike_operator.specs.declared.records.BikeState.{BikeState}
 use Rattle.bike_operator.specs.declared.records.BikeState.TheVariants.{Fit, Disabled, Retired}
 use Rattle.bike_operator.specs.declared.records.Place.{Place}
@@ -29,11 +30,10 @@ use Rattle.bike_operator.specs.declared.records.Order.{Order}
 use Rattle.bike_operator.specs.declared.view.StationView.{StationView}
 use Rattle.bike_operator.specs.declared.view.DockedBike.{DockedBike}
 use Rattle.bike_operator.specs.declared.view.RentalView.{RentalView}
-use Rattle.bike_operator.specs.declared.view.OrderView.{OrderView}
 use Rattle.bike_operator.specs.declared.view.View.{View}
 use Rattle.bike_operator.specs.Operator.{Operator, Station, dock_key, number_changed, numbered}
 use Rattle.bike_operator.specs.Counts.{is_at, is_depot, is_on_truck, is_for_order, is_fit, is_retired, is_open, docked_at}
-use Rattle.bike_operator.specs.View.{view_of, end_at, docked_view, rental_view, rental_of, most_orders, most_entries}
+use Rattle.bike_operator.specs.View.{view_of, end_at, docked_view, rental_view, rental_of}
 
 -- ---- tests
 
@@ -42,14 +42,10 @@ abbrev pub on : {A : Type 0} → Option A → (A → Bool) → Bool
 on None test = false
 on (Some x) test = test x
 
--- the refusal of the first test that holds
+-- the first-refusal rule: the refusal of the first test that holds
 abbrev pub first : List (Bool × Refusal) → Option Refusal
 first [] = None
 first (t ∷ ts) = if t.0 then Some t.1 else first ts
-
--- entries and open rentals are as many as there may be
-abbrev pub is_ledger_full : View → Bool
-is_ledger_full v = nat_le most_entries (v.entries + v.open_rentals)
 
 -- the station has no dock of this number
 abbrev pub has_no_dock : ℕ → Option StationView → Bool
@@ -71,31 +67,34 @@ abbrev pub is_at_end : OrderEnd → Place → Bool
 is_at_end end.Depot p = is_depot p
 is_at_end (end.Station station) p = is_at station p
 
-abbrev pub type_differs : Option OrderView → Option Bike → Bool
-type_differs order bike = on order (λ o. on bike (λ b. not (bytes_eq b.type_id o.order.type_id)))
+abbrev pub type_differs : Option Order → Option Bike → Bool
+type_differs order bike = on order (λ o. on bike (λ b. not (bytes_eq b.type_id o.type_id)))
 
 -- the bicycle isn't at the end from which the order takes bicycles
-abbrev pub is_elsewhere : Option OrderView → Option Bike → Bool
-is_elsewhere order bike = on order (λ o. on bike (λ b. not (is_at_end o.order.from_end b.place)))
+abbrev pub is_elsewhere : Option Order → Option Bike → Bool
+is_elsewhere order bike = on order (λ o. on bike (λ b. not (is_at_end o.from_end b.place)))
 
 -- the bicycle isn't on this truck for this order
 abbrev pub is_not_loaded : ℕ → ℕ → Option Bike → Bool
 is_not_loaded truck order bike = on bike (λ b. not (is_on_truck truck b.place && is_for_order order b.place))
 
--- the amount is more than the fare less its refunds
+-- the refund rule: the amount is more than the fare less its refunds
 abbrev pub is_too_much : ℕ → Option RentalView → Bool
 is_too_much amount rental = on rental (λ r. on r.rental.closing (λ c. int_lt (c.fare -ℤ r.refunded) (pos amount)))
 
-abbrev pub is_filled : Option OrderView → Bool
-is_filled order = on order (λ o. nat_le o.order.count (o.order.delivered + o.on_truck))
+-- what was delivered of the order and is on the truck for it is its count
+abbrev pub is_filled : Option Order → ℕ → Bool
+is_filled order on_truck = on order (λ o. nat_le o.count (o.delivered + on_truck))
 
-abbrev pub is_closed_order : Option OrderView → Bool
-is_closed_order order = on order (λ o. not o.order.is_open)
+abbrev pub is_closed_order : Option Order → Bool
+is_closed_order order = on order (λ o. not o.is_open)
 
-abbrev pub is_of_another : ℕ → Option OrderView → Bool
-is_of_another truck order = on order (λ o. not (o.order.truck == truck))
+abbrev pub is_of_another : ℕ → Option Order → Bool
+is_of_another truck order = on order (λ o. not (o.truck == truck))
 
--- THE TABLE: each command's tests, in order
+-- THE TABLE: each command's tests, in order.
+-- The no-change rule: no mark, and no setting but that of the system, asks whether it changes anything.
+-- The crew rule: loading asks neither for flags, nor for a fit bicycle, nor for the dock's mark; unloading for the mark alone.
 abbrev pub tests : View → Command → List (Bool × Refusal)
 tests v (command.SetSystem x) = (v.has_system, refusal.AlreadyThere) ∷ []
 tests v (command.AddPlan p) = (v.has_plan, refusal.AlreadyThere) ∷ (v.is_full, refusal.LimitReached) ∷ []
@@ -109,33 +108,33 @@ tests v (command.MarkBike bike disabled) = (is_none v.bike, refusal.UnknownBike)
 tests v (command.RetireBike bike) =
     (is_none v.bike, refusal.UnknownBike) ∷ (on v.bike (λ b. is_retired b.state), refusal.BikeRetired) ∷ (on v.bike (λ b. not (is_depot b.place)), refusal.NotInDepot) ∷ []
 tests v (command.AddTruck truck capacity) = (is_some v.truck, refusal.AlreadyThere) ∷ (v.is_full, refusal.LimitReached) ∷ []
-tests v (command.AddRider rider) = (is_some v.rider, refusal.AlreadyThere) ∷ (v.is_full, refusal.LimitReached) ∷ []
-tests v (command.SetRider rider blocked) = (is_none v.rider, refusal.UnknownRider) ∷ []
-tests v (command.TopUp rider amount) = (is_none v.rider, refusal.UnknownRider) ∷ (is_ledger_full v, refusal.LimitReached) ∷ []
+tests v (command.AddRider rider) = (v.has_rider, refusal.AlreadyThere) ∷ (v.is_full, refusal.LimitReached) ∷ []
+tests v (command.SetRider rider blocked) = (not v.has_rider, refusal.UnknownRider) ∷ []
+tests v (command.TopUp rider amount) = (is_none v.rider, refusal.UnknownRider) ∷ (v.is_ledger_full, refusal.LimitReached) ∷ []
 tests v (command.Start rider station dock) =
     (is_none v.rider, refusal.UnknownRider) ∷ (on v.rider (λ r. r.is_blocked), refusal.RiderBlocked) ∷ (on v.rider (λ r. int_lt r.balance (pos 0)), refusal.BalanceNegative)
-    ∷ (on v.rider (λ r. r.is_riding), refusal.RiderIsRiding) ∷ (is_none v.station, refusal.UnknownStation) ∷ (has_no_dock dock v.station, refusal.UnknownDock)
+    ∷ (v.is_riding, refusal.RiderIsRiding) ∷ (is_none v.station, refusal.UnknownStation) ∷ (has_no_dock dock v.station, refusal.UnknownDock)
     ∷ (on v.station (λ x. not (x.is_installed && x.is_renting)), refusal.NotRenting) ∷ (v.is_dock_broken, refusal.DockBroken) ∷ (is_none v.docked, refusal.DockEmpty)
-    ∷ (on v.docked (λ b. not (is_fit b.state)), refusal.BikeDisabled) ∷ (is_ledger_full v, refusal.LimitReached) ∷ []
+    ∷ (on v.docked (λ b. not (is_fit b.state)), refusal.BikeDisabled) ∷ (v.is_ledger_full, refusal.LimitReached) ∷ []
 tests v (command.End bike station dock) =
     (is_none v.bike, refusal.UnknownBike) ∷ (is_none v.rental, refusal.NotRented) ∷ (is_none v.station, refusal.UnknownStation) ∷ (has_no_dock dock v.station, refusal.UnknownDock)
     ∷ (on v.station (λ x. not (x.is_installed && x.is_returning)), refusal.NotReturning) ∷ (v.is_dock_broken, refusal.DockBroken) ∷ (is_some v.docked, refusal.DockFull) ∷ []
 tests v (command.Recover rental) = (is_none v.rental, refusal.UnknownRental) ∷ (on v.rental (λ r. not (is_open r.rental)), refusal.RentalClosed) ∷ []
 tests v (command.Refund rental amount) =
     (is_none v.rental, refusal.UnknownRental) ∷ (on v.rental (λ r. is_open r.rental), refusal.RentalOpen) ∷ (is_too_much amount v.rental, refusal.RefundTooLarge)
-    ∷ (is_ledger_full v, refusal.LimitReached) ∷ []
+    ∷ (v.is_ledger_full, refusal.LimitReached) ∷ []
 tests v (command.OpenOrder truck from_end to_end type_id count) =
     (is_none v.truck, refusal.UnknownTruck) ∷ (not v.has_from, refusal.UnknownStation) ∷ (not v.has_to, refusal.UnknownStation) ∷ (is_same_end from_end to_end, refusal.WrongTruckOrEnds)
-    ∷ (not v.has_type, refusal.UnknownType) ∷ (on v.truck (λ t. nat_lt t.capacity count), refusal.TruckTooSmall) ∷ (nat_le most_orders v.orders, refusal.LimitReached) ∷ []
+    ∷ (not v.has_type, refusal.UnknownType) ∷ (on v.truck (λ t. nat_lt t.capacity count), refusal.TruckTooSmall) ∷ (nat_le MOST_ORDERS v.orders, refusal.LimitReached) ∷ []
 tests v (command.Load truck order bike) =
     (is_none v.truck, refusal.UnknownTruck) ∷ (is_none v.order, refusal.UnknownOrder) ∷ (is_closed_order v.order, refusal.OrderClosed) ∷ (is_of_another truck v.order, refusal.WrongTruckOrEnds)
     ∷ (is_none v.bike, refusal.UnknownBike) ∷ (on v.bike (λ b. is_retired b.state), refusal.BikeRetired) ∷ (is_elsewhere v.order v.bike, refusal.WrongPlace)
-    ∷ (type_differs v.order v.bike, refusal.WrongType) ∷ (is_filled v.order, refusal.OrderFilled) ∷ (on v.truck (λ t. nat_le t.capacity t.loaded), refusal.TruckFull) ∷ []
+    ∷ (type_differs v.order v.bike, refusal.WrongType) ∷ (is_filled v.order v.on_truck, refusal.OrderFilled) ∷ (on v.truck (λ t. nat_le t.capacity v.loaded), refusal.TruckFull) ∷ []
 tests v (command.Unload truck order bike side dock) =
     (is_none v.truck, refusal.UnknownTruck) ∷ (is_none v.order, refusal.UnknownOrder) ∷ (is_closed_order v.order, refusal.OrderClosed) ∷ (is_of_another truck v.order, refusal.WrongTruckOrEnds)
-    ∷ (is_none v.bike, refusal.UnknownBike) ∷ (is_not_loaded truck order v.bike, refusal.WrongPlace) ∷ (on v.order (λ o. ends_apart (end_at side o.order) v.station dock), refusal.UnknownDock)
+    ∷ (is_none v.bike, refusal.UnknownBike) ∷ (is_not_loaded truck order v.bike, refusal.WrongPlace) ∷ (on v.order (λ o. ends_apart (end_at side o) v.station dock), refusal.UnknownDock)
     ∷ (v.is_dock_broken, refusal.DockBroken) ∷ (is_some v.docked, refusal.DockFull) ∷ []
-tests v (command.CloseOrder order) = (is_none v.order, refusal.UnknownOrder) ∷ (is_closed_order v.order, refusal.OrderClosed) ∷ (on v.order (λ o. nat_lt 0 o.on_truck), refusal.BikesOnTruck) ∷ []
+tests v (command.CloseOrder order) = (is_none v.order, refusal.UnknownOrder) ∷ (is_closed_order v.order, refusal.OrderClosed) ∷ (nat_lt 0 v.on_truck, refusal.BikesOnTruck) ∷ []
 
 abbrev pub refused : Operator → Command → Option Refusal
 refused s c = first (tests (view_of s c) c)
@@ -150,7 +149,7 @@ found_changed m k f (Some x) = map.insert m k (f x)
 abbrev pub key_changed : {K X : Type 0} {R : K → K → Ordering} → map.FinMap R X → K → (X → X) → map.FinMap R X
 key_changed m k f = found_changed m k f (map.get m k)
 
--- a station reports: its last report is now
+-- the report rule: a station reports, and its last report is now
 abbrev pub reported : List ℕ → ℕ → Operator → Operator
 reported station now s = record s { stations = key_changed s.stations station (λ x. record x { reported = now }) }
 
@@ -178,7 +177,7 @@ bike_placed bike p s = record s { bikes = key_changed s.bikes bike (λ b. record
 abbrev pub bike_marked : ℕ → BikeState → Operator → Operator
 bike_marked bike state s = record s { bikes = key_changed s.bikes bike (λ b. record b { state = state }) }
 
--- entries, rentals and orders are numbered on from those that are there
+-- the numbering rule: entries, rentals and orders are numbered on from those that are there
 abbrev pub booked : EntryKind → ℕ → ℕ → ℤ → ℕ → Operator → Operator
 booked kind rider rental amount now s =
     record s { entries = s.entries ++ record { number = length s.entries + 1; kind = kind; rider = rider; rental = rental; amount = amount; at = now } ∷ [] }
@@ -196,11 +195,12 @@ order_added o s = record s { orders = s.orders ++ o ∷ [] }
 abbrev pub order_changed : ℕ → (Order → Order) → Operator → Operator
 order_changed number f s = record s { orders = number_changed number f s.orders }
 
--- the fare of a rental that ends now: by the rental's own plan
+-- the fare of a rental that ends now. The rental-plan rule: by the rental's own plan. `fare_of` decides the fare rule, with the
+-- elapsed-time rule and the charging-minute rule.
 abbrev pub fare_now : RentalView → ℕ → ℤ
 fare_now r now = fare_of r.plan r.rental.start now
 
--- a rental that is closed costs its fare
+-- the closing rule: a rental that is closed costs its fare, in one entry
 abbrev pub charged : RentalView → Option (List ℕ) → ℕ → Operator → Operator
 charged r to_station now s = booked kind.Fare r.rental.rider r.number (fare_now r now) now (rental_closed r.number to_station now (fare_now r now) s)
 

@@ -1,14 +1,19 @@
-//! The operator of a bike share, defined: what it keeps, the order that it is in, its 22 commands with their tests, effects and
+//! The operator of a bike share, defined: what it keeps, when it is sound, its 22 commands with their tests, effects and
 //! replies, and the view by which a command is decided.
 //!
-//! The code here is data alone: the records, the view of an operator for a command, and the changes that a
-//! decision makes. Decisions stand above.
+//! The code here is data alone: the records and how many there may be, the view of an operator for a command, and the
+//! changes that a decision makes. Decisions stand above.
 #![tactic(auto)]
 
 mod change;
+mod limits;
 mod records;
 mod view;
 
 pub use change::{Accepted, Change, Decision, NewPlace};
+pub use limits::{
+    MOST_BIKES, MOST_ENTRIES, MOST_ORDERS, MOST_PLANS, MOST_RIDERS, MOST_STATIONS, MOST_TRUCKS,
+    MOST_TYPES,
+};
 pub use records::{Bike, BikeState, Closing, Order, Place, Rental};
-pub use view::{DockedBike, OrderView, RentalView, RiderView, StationView, TruckView, View};
+pub use view::{DockedBike, RentalView, RiderView, StationView, TruckView, View};

@@ -18,7 +18,7 @@ pub enum BikeState {
     Retired,
 }
 
-/// Where a bicycle is. Each is in exactly one place.
+/// Where a bicycle is. The place rule: each is in exactly one place.
 #[derive(Debug, Drop)]
 pub enum Place {
     /// In a dock of a station.

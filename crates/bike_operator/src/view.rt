@@ -1,4 +1,4 @@
-//! The view: what a command names of the operator, each there or absent.
+//! The view: what a command names of the operator, each there or absent, and what is counted for it.
 
 use crate::records::{Bike, BikeState, Order, Rental};
 use bike_catalogue::Plan;
@@ -22,6 +22,8 @@ pub struct StationView {
 pub struct DockedBike {
     /// Its number.
     pub bike: BicycleNumber,
+    /// Its vehicle type.
+    pub type_id: Ident,
     /// What it is good for.
     pub state: BikeState,
     /// The default plan of its type.
@@ -50,8 +52,6 @@ pub struct RiderView {
     pub is_blocked: bool,
     /// The balance in hundredths of the currency.
     pub balance: i64,
-    /// Whether the rider has an open rental.
-    pub is_riding: bool,
 }
 
 /// What a decision needs to know of a truck.
@@ -59,20 +59,10 @@ pub struct RiderView {
 pub struct TruckView {
     /// How many bicycles it holds.
     pub capacity: TruckCapacity,
-    /// How many are on it, over all orders.
-    pub loaded: u32,
 }
 
-/// What a decision needs to know of an order.
-#[derive(Debug, Drop)]
-pub struct OrderView {
-    /// The order.
-    pub order: Order,
-    /// How many bicycles are on the truck for it.
-    pub on_truck: u32,
-}
-
-/// What a command names, each there or absent, and the counts of its tests.
+/// What a command names, each there or absent, and what is counted for it. A field that the command does not ask for is
+/// `false`, none or 0.
 #[derive(Debug, Drop)]
 pub struct View {
     /// Whether the system is set.
@@ -85,30 +75,38 @@ pub struct View {
     pub has_from: bool,
     /// Whether the end is there to which it brings them.
     pub has_to: bool,
+    /// Whether the rider is there who is added, blocked or opened.
+    pub has_rider: bool,
     /// Whether there are as many as there may be of what the command adds.
     pub is_full: bool,
+    /// Whether entries and open rentals together are as many as there may be, where the command needs one more.
+    pub is_ledger_full: bool,
     /// The station.
     pub station: Option<StationView>,
-    /// Whether the dock is broken.
+    /// Whether the dock is broken that the command names, or in which the bicycle stands that it loads or marks.
     pub is_dock_broken: bool,
-    /// The bicycle in the dock.
+    /// The bicycle in the dock that the command names.
     pub docked: Option<DockedBike>,
-    /// The bicycle that the command names.
+    /// The bicycle that the command names, which for a recovery is that of the rental.
     pub bike: Option<Bike>,
     /// The rental, which for the end of one is that of its bicycle.
     pub rental: Option<RentalView>,
-    /// The rider.
+    /// The rider who pays in or rides.
     pub rider: Option<RiderView>,
+    /// Whether the rider who starts a rental has an open one.
+    pub is_riding: bool,
     /// The truck.
     pub truck: Option<TruckView>,
+    /// How many bicycles are on the truck that is loaded, over all orders.
+    pub loaded: u32,
     /// The order.
-    pub order: Option<OrderView>,
-    /// How many rentals there are.
+    pub order: Option<Order>,
+    /// How many bicycles are on the truck for the order that is loaded for or closed.
+    pub on_truck: u32,
+    /// How many rentals there are, where one starts.
     pub rentals: u32,
-    /// How many of them are open.
-    pub open_rentals: u32,
-    /// How many orders there are.
+    /// How many orders there are, where one is opened.
     pub orders: u32,
-    /// How many entries there are.
+    /// How many entries there are, where one is booked.
     pub entries: u32,
 }

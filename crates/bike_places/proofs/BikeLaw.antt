@@ -20,10 +20,9 @@ use Rattle.bike_operator.specs.declared.records.Rental.{Rental}
 use Rattle.bike_operator.specs.declared.records.Order.{Order}
 use Rattle.bike_operator.specs.declared.view.DockedBike.{DockedBike}
 use Rattle.bike_operator.specs.declared.view.RentalView.{RentalView}
-use Rattle.bike_operator.specs.declared.view.OrderView.{OrderView}
 use Rattle.bike_operator.specs.Operator.{Operator, Station, Kept, texts_cmp, numbered}
-use Rattle.bike_operator.specs.Counts.{docked_at, is_fit, is_retired, is_depot, is_on_truck, is_for_order, on_truck}
-use Rattle.bike_operator.specs.View.{view_of, order_view, docked_view, rental_of, rental_view, end_at}
+use Rattle.bike_operator.specs.Counts.{docked_at, is_fit, is_retired, is_depot, is_on_truck, is_for_order, order_load}
+use Rattle.bike_operator.specs.View.{view_of, docked_view, rental_of, rental_view, end_at}
 use Rattle.bike_operator.specs.Steps.{on, tests, effect, key_changed, reported, place_reported, bike_reported, bike_marked, bike_placed, rental_added, rental_closed, charged, fare_now, started, ended, recovered, refunded_by, placed_at_end, delivered, new_station, dock_marked}
 use Rattle.bike_operator.specs.Sound.{HasDock, IsRidden, IsPlace, AreBikesSound}
 use Rattle.bike_places.specs.Accepted.{AcceptedKeeps}
@@ -31,7 +30,7 @@ use Rattle.bike_places.proofs.Moment.{at_moment, reports}
 use Rattle.bike_places.proofs.MapLemmas.{text_order, number_order, known_added, known_changed}
 use Rattle.bike_places.proofs.ItemLemmas.{number_last}
 use Rattle.bike_places.proofs.CountLemmas.{uncounted}
-use Rattle.bike_places.proofs.TestLemmas.{none_holds, dock_of, same_some, order_of, on_row, on_view, holds, same_bytes, same_number, no_station}
+use Rattle.bike_places.proofs.TestLemmas.{none_holds, dock_of, same_some, some_of, on_row, holds, same_bytes, same_number, no_station}
 use Rattle.bike_places.proofs.FoundLemmas.{docked_of, free_dock, rental_row, ridden_in}
 use Rattle.bike_places.proofs.UnloadLemmas.{TakesBike, IsUnloaded, unloaded_of}
 use Rattle.bike_places.proofs.CatalogueLemmas.{docks_changed, docks_added}
@@ -225,16 +224,16 @@ bikes_law s now (command.OpenOrder truck from_end to_end type_id count) k order 
     order_added_bikes (at_moment s now k) (record { truck = truck; from_end = from_end; to_end = to_end; type_id = type_id; count = count; delivered = 0; is_open = true }) (later_bikes s now k order.bikes)
 bikes_law s now (command.Load truck order bike) k o good free late =
     let tested = none_holds (tests (view_of s (command.Load truck order bike)) (command.Load truck order bike)) free in
-    let x = order_of s order (numbered order s.orders) tested.1.0 in
+    let x = some_of (numbered order s.orders) tested.1.0 in
     let at : Operator = at_moment s now k in
     let can : IsPlaceable at bike (place.Truck truck order) = record {
       placed = λ b found. record {
         row = x.0;
         found = x.1;
-        not_closed = holds x.0.is_open (on_view (order_view s order) (λ (v : OrderView). not v.order.is_open) (numbered order s.orders) x.0 x.1 tested.1.1.0);
-        truck_is = same_number x.0.truck truck (holds (x.0.truck == truck) (on_view (order_view s order) (λ (v : OrderView). not (v.order.truck == truck)) (numbered order s.orders) x.0 x.1 tested.1.1.1.0));
+        not_closed = holds x.0.is_open (on_row (λ (o : Order). not o.is_open) (numbered order s.orders) x.0 x.1 tested.1.1.0);
+        truck_is = same_number x.0.truck truck (holds (x.0.truck == truck) (on_row (λ (o : Order). not (o.truck == truck)) (numbered order s.orders) x.0 x.1 tested.1.1.1.0));
         type_is = sym (same_bytes b.type_id x.0.type_id (holds (bytes_eq b.type_id x.0.type_id) (on_row (λ (b : Bike). not (bytes_eq b.type_id x.0.type_id)) (map.get s.bikes bike) b found
-            (on_view (order_view s order) (λ (v : OrderView). on (map.get s.bikes bike) (λ b. not (bytes_eq b.type_id v.order.type_id))) (numbered order s.orders) x.0 x.1 tested.1.1.1.1.1.1.1.0))));
+            (on_row (λ (o : Order). on (map.get s.bikes bike) (λ b. not (bytes_eq b.type_id o.type_id))) (numbered order s.orders) x.0 x.1 tested.1.1.1.1.1.1.1.0))));
       };
       retired = λ b found is. let fit = on_row (λ (b : Bike). is_retired b.state) (map.get s.bikes bike) b found tested.1.1.1.1.1.0 in absurd cc;
       free = free_truck at truck order;
@@ -245,7 +244,7 @@ bikes_law s now (command.Unload truck order bike side dock) k o good free late =
     rw x.1 (unloaded_bikes s now k truck order bike side dock x.0 x.2 (later_bikes s now k o.bikes))
 bikes_law s now (command.CloseOrder order) k o good free late =
     let tested = none_holds (tests (view_of s (command.CloseOrder order)) (command.CloseOrder order)) free in
-    let x = order_of s order (numbered order s.orders) tested.0 in
-    let none = no_more (on_truck s order) (on_view (order_view s order) (λ (v : OrderView). nat_lt 0 v.on_truck) (numbered order s.orders) x.0 x.1 tested.1.1.0) in
+    let x = some_of (numbered order s.orders) tested.0 in
+    let none = no_more (order_load s order) tested.1.1.0 in
     order_changed_bikes (at_moment s now k) order (λ o. record o { is_open = false }) (λ bike b truck found is. for_order order truck b.place is (uncounted number_order (λ (y : Bike). is_for_order order y.place) s.bikes bike b none found))
     (later_bikes s now k o.bikes)

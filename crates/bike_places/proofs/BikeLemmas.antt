@@ -14,7 +14,7 @@ use Rattle.bike_operator.specs.declared.records.Rental.{Rental}
 use Rattle.bike_operator.specs.declared.records.Order.{Order}
 use Rattle.bike_operator.specs.Operator.{Operator, Station, text_cmp, numbered, number_changed}
 use Rattle.bike_operator.specs.Counts.{is_retired}
-use Rattle.bike_operator.specs.View.{most_bikes}
+use Rattle.bike_operator.specs.declared.limits.TheConstants.{MOST_BIKES}
 use Rattle.bike_operator.specs.Steps.{bike_placed, bike_marked, rental_added, rental_closed, order_added, order_changed}
 use Rattle.bike_operator.specs.Sound.{HasDock, IsRidden, IsCarried, IsPlace, IsBikeAt, AreBikesSound}
 use Rattle.bike_places.proofs.MapLemmas.{number_order, IsAdded, New, Old, IsChanged, Changed, Other, IsKept, Same, Turned, added_at, changed_at, few_added, len_changed}
@@ -195,12 +195,12 @@ free_truck s truck order bike b station dock found e = absurd cc
 pub free_depot : (s : Operator) → IsFree s place.Depot
 free_depot s bike b station dock found e = absurd cc
 
-pub bike_added_bikes : (s : Operator) (bike : ℕ) (type_id : List ℕ) → map.contains_key s.types type_id ≡ true → 1 ≤ bike → bike ≤ 999999 → leb most_bikes (map.len s.bikes) ≡ false
+pub bike_added_bikes : (s : Operator) (bike : ℕ) (type_id : List ℕ) → map.contains_key s.types type_id ≡ true → 1 ≤ bike → bike ≤ 999999 → leb MOST_BIKES (map.len s.bikes) ≡ false
     → AreBikesSound s → AreBikesSound (record s { bikes = map.insert s.bikes bike (record { type_id = type_id; state = Fit; place = place.Depot }) })
 bike_added_bikes s bike type_id known low high full h = record {
   bikes = λ q y found. is_bike q y (added_at number_order s.bikes bike new q y found);
   apart = λ a b x y station dock fa fb. is_apart a b x y station dock (added_at number_order s.bikes bike new a x fa) (added_at number_order s.bikes bike new b y fb);
-  few = few_added number_order s.bikes bike new most_bikes full;
+  few = few_added number_order s.bikes bike new MOST_BIKES full;
 }
   where
     new : Bike

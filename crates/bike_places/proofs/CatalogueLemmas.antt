@@ -8,7 +8,7 @@ use Rattle.std.specs.FinSet.{FinSet}
 use Rattle.bike_fields.specs.Bytes.{is_ident}
 use Rattle.bike_catalogue.specs.Rows.{PlanRow, TypeRow, StationRow, SystemRow, IsStation, IsSystem}
 use Rattle.bike_operator.specs.Operator.{Operator, Station, text_cmp, texts_cmp, DockKey, dock_key}
-use Rattle.bike_operator.specs.View.{most_plans, most_types, most_stations}
+use Rattle.bike_operator.specs.declared.limits.TheConstants.{MOST_PLANS, MOST_TYPES, MOST_STATIONS}
 use Rattle.bike_operator.specs.Steps.{key_changed, reported, dock_marked}
 use Rattle.bike_operator.specs.Sound.{IsCatalogueSound, IsSetSystem, IsPlanAt, IsTypeAt, IsStationAt, HasDock, IsBrokenDock}
 use Rattle.bike_places.proofs.MapLemmas.{text_order, texts_order, tied, IsAdded, New, Old, IsChanged, Changed, Other, added_at, changed_at, kept_added, known_added, few_added, len_changed, IsKept, Same, Turned, kept_changed}
@@ -81,7 +81,7 @@ system_set s x good h = record {
   few_stations = h.few_stations;
 }
 
-pub plan_added : (s : Operator) (p : PlanRow) → IsPlanAt p.plan_id p → leb most_plans (map.len s.plans) ≡ false → IsCatalogueSound s → IsCatalogueSound (record s { plans = map.insert s.plans p.plan_id p })
+pub plan_added : (s : Operator) (p : PlanRow) → IsPlanAt p.plan_id p → leb MOST_PLANS (map.len s.plans) ≡ false → IsCatalogueSound s → IsCatalogueSound (record s { plans = map.insert s.plans p.plan_id p })
 plan_added s p good full h =
     let n : Operator = record s { plans = map.insert s.plans p.plan_id p } in
     record {
@@ -90,7 +90,7 @@ plan_added s p good full h =
       types = λ id t found. let x = h.types id t found in record { id_is = x.id_is; good = x.good; plan = known_added text_order s.plans p.plan_id p t.plan_id x.plan };
       stations = λ id r found. let x = h.stations id r found in record { id_is = x.id_is; good = x.good; by_now = x.by_now };
       broken = λ key found. broken_stand s n key (same_docks s n refl) (h.broken key found);
-      few_plans = few_added text_order s.plans p.plan_id p most_plans full;
+      few_plans = few_added text_order s.plans p.plan_id p MOST_PLANS full;
       few_types = h.few_types;
       few_stations = h.few_stations;
     }
@@ -100,7 +100,7 @@ plan_added s p good full h =
     is_plan id q (Old apart found) = h.plans id q found
 
 -- types with another list of them
-types_changed : (s : Operator) (types : FinMap text_cmp TypeRow) → ((id : List ℕ) (t : TypeRow) → map.get types id ≡ Some t → IsTypeAt s id t) → map.len types ≤ most_types
+types_changed : (s : Operator) (types : FinMap text_cmp TypeRow) → ((id : List ℕ) (t : TypeRow) → map.get types id ≡ Some t → IsTypeAt s id t) → map.len types ≤ MOST_TYPES
     → IsCatalogueSound s → IsCatalogueSound (record s { types = types })
 types_changed s types each few h =
     let n : Operator = record s { types = types } in
@@ -115,9 +115,9 @@ types_changed s types each few h =
       few_stations = h.few_stations;
     }
 
-pub type_added : (s : Operator) (t : TypeRow) → IsTypeAt s t.type_id t → leb most_types (map.len s.types) ≡ false → IsCatalogueSound s → IsCatalogueSound (record s { types = map.insert s.types t.type_id t })
+pub type_added : (s : Operator) (t : TypeRow) → IsTypeAt s t.type_id t → leb MOST_TYPES (map.len s.types) ≡ false → IsCatalogueSound s → IsCatalogueSound (record s { types = map.insert s.types t.type_id t })
 type_added s t good full h =
-    types_changed s (map.insert s.types t.type_id t) (λ id q found. is_type id q (added_at text_order s.types t.type_id t id q found)) (few_added text_order s.types t.type_id t most_types full) h
+    types_changed s (map.insert s.types t.type_id t) (λ id q found. is_type id q (added_at text_order s.types t.type_id t id q found)) (few_added text_order s.types t.type_id t MOST_TYPES full) h
   where
     is_type : (id : List ℕ) (q : TypeRow) → IsAdded s.types t.type_id t id q → IsTypeAt s id q
     is_type id q (New same is) = rw (same, is) good
@@ -144,7 +144,7 @@ type_changed s type_id plan known good h =
     is_type id q (Other apart found) = h.types id q found
 
 -- stations with another list of them
-stations_changed : (s : Operator) (stations : FinMap text_cmp Station) → ((id : List ℕ) (x : Station) → map.get stations id ≡ Some x → IsStationAt s id x) → map.len stations ≤ most_stations
+stations_changed : (s : Operator) (stations : FinMap text_cmp Station) → ((id : List ℕ) (x : Station) → map.get stations id ≡ Some x → IsStationAt s id x) → map.len stations ≤ MOST_STATIONS
     → ((station : List ℕ) (dock : ℕ) → HasDock s station dock → HasDock (record s { stations = stations }) station dock)
     → IsCatalogueSound s → IsCatalogueSound (record s { stations = stations })
 stations_changed s stations each few docks h =
@@ -160,11 +160,11 @@ stations_changed s stations each few docks h =
       few_stations = few;
     }
 
-pub station_added : (s : Operator) (x : Station) → IsStationAt s x.row.station_id x → map.get s.stations x.row.station_id ≡ None → leb most_stations (map.len s.stations) ≡ false
+pub station_added : (s : Operator) (x : Station) → IsStationAt s x.row.station_id x → map.get s.stations x.row.station_id ≡ None → leb MOST_STATIONS (map.len s.stations) ≡ false
     → IsCatalogueSound s → IsCatalogueSound (record s { stations = map.insert s.stations x.row.station_id x })
 station_added s x good free full h =
     stations_changed s (map.insert s.stations x.row.station_id x) (λ id q found. is_station id q (added_at text_order s.stations x.row.station_id x id q found))
-    (few_added text_order s.stations x.row.station_id x most_stations full) (docks_added s (record s { stations = map.insert s.stations x.row.station_id x }) x.row.station_id x free refl) h
+    (few_added text_order s.stations x.row.station_id x MOST_STATIONS full) (docks_added s (record s { stations = map.insert s.stations x.row.station_id x }) x.row.station_id x free refl) h
   where
     is_station : (id : List ℕ) (q : Station) → IsAdded s.stations x.row.station_id x id q → IsStationAt s id q
     is_station id q (New same is) = rw (same, is) good

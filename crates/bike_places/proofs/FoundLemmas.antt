@@ -33,7 +33,7 @@ docked_of s station dock d h = go (docked_at s station dock) refl h where
   typed b e None h = absurd cc
   typed b e (Some t) h =
       let f = found_by number_order (λ (y : Bike). is_dock station dock y.place) s.bikes b e in
-      let d_is : ◌≡◌ {A = DockedBike} (record { bike = b.0; state = b.1.state; plan = t.plan_id }) d = cc in
+      let d_is : ◌≡◌ {A = DockedBike} (record { bike = b.0; type_id = b.1.type_id; state = b.1.state; plan = t.plan_id }) d = cc in
       record { row = b.1; found = subst (λ (z : DockedBike). map.get s.bikes z.bike ≡ Some b.1) d_is f.0; state_is = ap (λ (z : DockedBike). z.state) d_is; placed = f.1 }
 
   go : (o : Option (ℕ × Bike)) → docked_at s station dock ≡ o → docked_view s o ≡ Some d → IsDocked s station dock d

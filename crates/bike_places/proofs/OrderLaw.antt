@@ -16,17 +16,16 @@ use Rattle.bike_operator.specs.declared.records.Bike.{Bike}
 use Rattle.bike_operator.specs.declared.records.Order.{Order}
 use Rattle.bike_operator.specs.declared.view.DockedBike.{DockedBike}
 use Rattle.bike_operator.specs.declared.view.RentalView.{RentalView}
-use Rattle.bike_operator.specs.declared.view.OrderView.{OrderView}
 use Rattle.bike_operator.specs.declared.view.TruckView.{TruckView}
 use Rattle.bike_operator.specs.Operator.{Operator, Station, Kept, texts_cmp, numbered}
-use Rattle.bike_operator.specs.Counts.{docked_at, is_for_order, loaded, on_truck}
-use Rattle.bike_operator.specs.View.{view_of, truck_view, order_view, docked_view, rental_of, rental_view, end_at, has_end}
+use Rattle.bike_operator.specs.Counts.{docked_at, is_for_order, truck_load, order_load}
+use Rattle.bike_operator.specs.View.{view_of, truck_view, docked_view, rental_of, rental_view, end_at, has_end}
 use Rattle.bike_operator.specs.Steps.{tests, effect, key_changed, reported, place_reported, bike_reported, bike_marked, bike_placed, started, ended, recovered, refunded_by, placed_at_end, delivered, new_station, dock_marked}
 use Rattle.bike_operator.specs.Sound.{IsOrderAt, AreOrdersSound}
 use Rattle.bike_places.specs.Accepted.{AcceptedKeeps}
 use Rattle.bike_places.proofs.Moment.{at_moment, reports}
 use Rattle.bike_places.proofs.MapLemmas.{text_order, known_added, known_changed}
-use Rattle.bike_places.proofs.TestLemmas.{none_holds, some_of, truck_of, no_truck, on_view, holds}
+use Rattle.bike_places.proofs.TestLemmas.{none_holds, some_of, truck_of, no_truck, on_row, on_view, holds}
 use Rattle.bike_places.proofs.UnloadLemmas.{IsUnloaded, unloaded_of}
 use Rattle.bike_places.proofs.OrderLemmas.{end_stands, order_parts, same_orders, known_orders, bike_placed_orders, bike_marked_orders, bike_added_orders, bike_loaded_orders, one_less, none_loaded, none_on_truck, truck_added_orders, order_added_orders, order_changed_orders}
 
@@ -84,7 +83,7 @@ refunded_orders s now k amount (Some r) h = same_orders (at_moment s now k) (at_
 -- ---- orders
 
 -- the same order after one more bicycle is delivered, or closed
-delivered_order : (s : Operator) (number : ℕ) (o : Order) → IsOrderAt s number o → o.delivered + 1 + on_truck s number ≤ o.count → IsOrderAt s number (record o { delivered = o.delivered + 1 })
+delivered_order : (s : Operator) (number : ℕ) (o : Order) → IsOrderAt s number o → o.delivered + 1 + order_load s number ≤ o.count → IsOrderAt s number (record o { delivered = o.delivered + 1 })
 delivered_order s number o h filled = record { truck_is = h.truck_is; some = h.some; from_is = h.from_is; to_is = h.to_is; ends = h.ends; type_is = h.type_is; filled = filled }
 
 closed_order : (s : Operator) (number : ℕ) (o : Order) → IsOrderAt s number o → IsOrderAt s number (record o { is_open = false })
@@ -101,15 +100,15 @@ brought : (s : Operator) (now : ℕ) (k : FinMap texts_cmp Kept) (order bike : �
 brought s now k order bike end.Depot dock b found was h =
     let n : Operator = at_moment (placed_at_end bike end.Depot dock now s) now k in
     let placed = placed_at_end_orders s now k bike end.Depot dock h in
-    let less : on_truck n order + 1 ≡ on_truck s order = one_less s bike order place.Depot b found was refl in
+    let less : order_load n order + 1 ≡ order_load s order = one_less s bike order place.Depot b found was refl in
     order_changed_orders n order (λ o. record o { delivered = o.delivered + 1 })
-    (λ o found. delivered_order n order o (placed.orders order o found) (let old : o.delivered + on_truck s order ≤ o.count = (h.orders order o found).filled in omega (arith, less, old))) placed
+    (λ o found. delivered_order n order o (placed.orders order o found) (let old : o.delivered + order_load s order ≤ o.count = (h.orders order o found).filled in omega (arith, less, old))) placed
 brought s now k order bike (end.Station station) dock b found was h =
     let n : Operator = at_moment (placed_at_end bike (end.Station station) dock now s) now k in
     let placed = placed_at_end_orders s now k bike (end.Station station) dock h in
-    let less : on_truck n order + 1 ≡ on_truck s order = one_less s bike order (place.Dock station dock) b found was refl in
+    let less : order_load n order + 1 ≡ order_load s order = one_less s bike order (place.Dock station dock) b found was refl in
     order_changed_orders n order (λ o. record o { delivered = o.delivered + 1 })
-    (λ o found. delivered_order n order o (placed.orders order o found) (let old : o.delivered + on_truck s order ≤ o.count = (h.orders order o found).filled in omega (arith, less, old))) placed
+    (λ o found. delivered_order n order o (placed.orders order o found) (let old : o.delivered + order_load s order ≤ o.count = (h.orders order o found).filled in omega (arith, less, old))) placed
 
 unloaded_orders : (s : Operator) (now : ℕ) (k : FinMap texts_cmp Kept) (truck order bike : ℕ) (side : Side) (dock : ℕ) (x : Order) → IsUnloaded s truck order bike side dock x → AreOrdersSound (at_moment s now k)
     → AreOrdersSound (at_moment (delivered order side (placed_at_end bike (end_at side x) dock now s)) now k)
@@ -154,8 +153,8 @@ orders_law s now (command.MarkBike bike disabled) k order good free late =
 orders_law s now (command.RetireBike bike) k order good free late = bike_marked_orders (at_moment s now k) bike Retired (later_orders s now k order.orders)
 orders_law s now (command.AddTruck truck capacity) k order good free late =
     let tested = none_holds (tests (view_of s (command.AddTruck truck capacity)) (command.AddTruck truck capacity)) free in
-    let absent = no_truck s truck (map.get s.trucks truck) tested.0 in
-    let none : loaded s truck ≡ 0 = none_loaded s truck order.bikes order.orders absent in
+    let absent = no_truck (map.get s.trucks truck) tested.0 in
+    let none : truck_load s truck ≡ 0 = none_loaded s truck order.bikes order.orders absent in
     truck_added_orders (at_moment s now k) truck (record { capacity = capacity }) (record { low = good.0.0; high = good.0.1; some = good.1.0.0; most = good.1.0.1; holds = omega (arith, none) }) absent tested.1.0
     (later_orders s now k order.orders)
 orders_law s now (command.AddRider rider) k order good free late = unchanged s now (command.AddRider rider) k refl order.orders
@@ -167,9 +166,9 @@ orders_law s now (command.Recover rental) k order good free late = recovered_ord
 orders_law s now (command.Refund rental amount) k order good free late = refunded_orders s now k amount (rental_view s rental (numbered rental s.rentals)) (later_orders s now k order.orders)
 orders_law s now (command.OpenOrder truck from_end to_end type_id count) k order good free late =
     let tested = none_holds (tests (view_of s (command.OpenOrder truck from_end to_end type_id count)) (command.OpenOrder truck from_end to_end type_id count)) free in
-    let t = truck_of s truck (map.get s.trucks truck) tested.0 in
-    let none : on_truck s (length s.orders + 1) ≡ 0 = none_on_truck s order.bikes in
-    let enough : count ≤ t.0.capacity = not_below t.0.capacity count (on_view (truck_view s truck) (λ (v : TruckView). nat_lt v.capacity count) (map.get s.trucks truck) t.0 t.1 tested.1.1.1.1.1.0) in
+    let t = truck_of (map.get s.trucks truck) tested.0 in
+    let none : order_load s (length s.orders + 1) ≡ 0 = none_on_truck s order.bikes in
+    let enough : count ≤ t.0.capacity = not_below t.0.capacity count (on_view truck_view (λ (v : TruckView). nat_lt v.capacity count) (map.get s.trucks truck) t.0 t.1 tested.1.1.1.1.1.0) in
     let some : 1 ≤ count = good.1.1.1.1.0.0 in
     let at : Operator = at_moment s now k in
     let o : Order = record { truck = truck; from_end = from_end; to_end = to_end; type_id = type_id; count = count; delivered = 0; is_open = true } in
@@ -189,8 +188,8 @@ orders_law s now (command.Load truck order bike) k o good free late =
     let tested = none_holds (tests (view_of s (command.Load truck order bike)) (command.Load truck order bike)) free in
     bike_reported_orders (bike_placed bike (place.Truck truck order) s) now k (map.get s.bikes bike)
     (bike_loaded_orders (at_moment s now k) bike truck order
-    (λ t found. below t.capacity (loaded s truck) (on_view (truck_view s truck) (λ (v : TruckView). leb v.capacity v.loaded) (map.get s.trucks truck) t found tested.1.1.1.1.1.1.1.1.1.0))
-    (λ x found. below x.count (x.delivered + on_truck s order) (on_view (order_view s order) (λ (v : OrderView). leb v.order.count (v.order.delivered + v.on_truck)) (numbered order s.orders) x found tested.1.1.1.1.1.1.1.1.0))
+    (λ t found. below t.capacity (truck_load s truck) (on_view truck_view (λ (v : TruckView). leb v.capacity (truck_load s truck)) (map.get s.trucks truck) t found tested.1.1.1.1.1.1.1.1.1.0))
+    (λ x found. below x.count (x.delivered + order_load s order) (on_row (λ (o : Order). leb o.count (o.delivered + order_load s order)) (numbered order s.orders) x found tested.1.1.1.1.1.1.1.1.0))
     (later_orders s now k o.orders))
 orders_law s now (command.Unload truck order bike side dock) k o good free late =
     let x = unloaded_of s truck order bike side dock o.orders free in

@@ -13,8 +13,9 @@ use Rattle.bike_operator.specs.declared.records.Place.TheVariants as place
 use Rattle.bike_operator.specs.declared.records.Bike.{Bike}
 use Rattle.bike_operator.specs.declared.records.Order.{Order}
 use Rattle.bike_operator.specs.Operator.{Operator, Station, Truck, text_cmp, numbered}
-use Rattle.bike_operator.specs.Counts.{count, is_on_truck, is_for_order, loaded, on_truck}
-use Rattle.bike_operator.specs.View.{most_trucks, most_orders, has_end}
+use Rattle.bike_operator.specs.Counts.{count, is_on_truck, is_for_order, truck_load, order_load}
+use Rattle.bike_operator.specs.declared.limits.TheConstants.{MOST_TRUCKS, MOST_ORDERS}
+use Rattle.bike_operator.specs.View.{has_end}
 use Rattle.bike_operator.specs.Steps.{key_changed, bike_placed, bike_marked, order_added, order_changed}
 use Rattle.bike_operator.specs.Sound.{IsPlace, AreBikesSound, IsTruckAt, HasTruck, IsOrderAt, AreOrdersSound}
 use Rattle.bike_places.proofs.MapLemmas.{number_order, IsAdded, New, Old, added_at, kept_added, few_added}
@@ -37,7 +38,7 @@ pub record OrdersStand (s n : Operator) : Type 0 where
 truck_stands : (s n : Operator) → OrdersStand s n → (truck count : ℕ) → HasTruck s truck count → HasTruck n truck count
 truck_stands s n stand truck count h = record { row = h.row; found = stand.trucks truck h.row h.found; enough = h.enough }
 
-order_stands : (s n : Operator) → OrdersStand s n → (number : ℕ) (o : Order) → IsOrderAt s number o → o.delivered + on_truck n number ≤ o.count → IsOrderAt n number o
+order_stands : (s n : Operator) → OrdersStand s n → (number : ℕ) (o : Order) → IsOrderAt s number o → o.delivered + order_load n number ≤ o.count → IsOrderAt n number o
 order_stands s n stand number o h filled = record {
   truck_is = truck_stands s n stand o.truck o.count h.truck_is;
   some = h.some;
@@ -69,11 +70,11 @@ same_orders s n e h =
     record {
       trucks = λ q t found.
           let x = h.trucks q t (ap (λ (m : FinMap nat_cmp Truck). map.get m q) (sym trucks) ∙ found) in
-          let c : loaded n q ≡ loaded s q = ap (λ (m : FinMap nat_cmp Bike). count (λ e. is_on_truck q e.1.place) (map.entries m)) bikes in
+          let c : truck_load n q ≡ truck_load s q = ap (λ (m : FinMap nat_cmp Bike). count (λ e. is_on_truck q e.1.place) (map.entries m)) bikes in
           record { low = x.low; high = x.high; some = x.some; most = x.most; holds = rw c x.holds };
       orders = λ q o found.
           let x = h.orders q o (ap (λ (os : List Order). numbered q os) (sym orders) ∙ found) in
-          let c : on_truck n q ≡ on_truck s q = ap (λ (m : FinMap nat_cmp Bike). count (λ e. is_for_order q e.1.place) (map.entries m)) bikes in
+          let c : order_load n q ≡ order_load s q = ap (λ (m : FinMap nat_cmp Bike). count (λ e. is_for_order q e.1.place) (map.entries m)) bikes in
           order_stands s n stand q o x (rw c x.filled);
       few_trucks = rw trucks h.few_trucks;
       few_orders = rw orders h.few_orders;
@@ -95,8 +96,8 @@ known_orders s types stations types_known stations_known h =
 -- ---- bicycles that are placed
 
 -- with other bicycles no truck and no order holds too many
-bikes_orders : (s : Operator) (bikes : FinMap nat_cmp Bike) → ((truck : ℕ) (t : Truck) → map.get s.trucks truck ≡ Some t → loaded (record s { bikes = bikes }) truck ≤ t.capacity)
-    → ((order : ℕ) (o : Order) → numbered order s.orders ≡ Some o → o.delivered + on_truck (record s { bikes = bikes }) order ≤ o.count) → AreOrdersSound s → AreOrdersSound (record s { bikes = bikes })
+bikes_orders : (s : Operator) (bikes : FinMap nat_cmp Bike) → ((truck : ℕ) (t : Truck) → map.get s.trucks truck ≡ Some t → truck_load (record s { bikes = bikes }) truck ≤ t.capacity)
+    → ((order : ℕ) (o : Order) → numbered order s.orders ≡ Some o → o.delivered + order_load (record s { bikes = bikes }) order ≤ o.count) → AreOrdersSound s → AreOrdersSound (record s { bikes = bikes })
 bikes_orders s bikes holds filled h =
     let n : Operator = record s { bikes = bikes } in
     let stand : OrdersStand s n = record { trucks = λ q t found. found; types = λ id known. known; stations = λ id known. known } in
@@ -108,7 +109,7 @@ bikes_orders s bikes holds filled h =
     }
 
 -- no more bicycles are on trucks
-fewer_orders : (s : Operator) (bikes : FinMap nat_cmp Bike) → ((truck : ℕ) → loaded (record s { bikes = bikes }) truck ≤ loaded s truck) → ((order : ℕ) → on_truck (record s { bikes = bikes }) order ≤ on_truck s order)
+fewer_orders : (s : Operator) (bikes : FinMap nat_cmp Bike) → ((truck : ℕ) → truck_load (record s { bikes = bikes }) truck ≤ truck_load s truck) → ((order : ℕ) → order_load (record s { bikes = bikes }) order ≤ order_load s order)
     → AreOrdersSound s → AreOrdersSound (record s { bikes = bikes })
 fewer_orders s bikes fewer_loaded fewer_on h =
     bikes_orders s bikes (λ q t found. let x = (h.trucks q t found).holds in let f = fewer_loaded q in omega (arith, x, f))
@@ -148,33 +149,33 @@ bike_added_orders s bike b is h =
         omega (arith, c, w)
 
 -- a bicycle is put on a truck for an order: both have room for it
-pub bike_loaded_orders : (s : Operator) (bike truck order : ℕ) → ((t : Truck) → map.get s.trucks truck ≡ Some t → loaded s truck < t.capacity)
-    → ((o : Order) → numbered order s.orders ≡ Some o → o.delivered + on_truck s order < o.count) → AreOrdersSound s → AreOrdersSound (bike_placed bike (place.Truck truck order) s)
+pub bike_loaded_orders : (s : Operator) (bike truck order : ℕ) → ((t : Truck) → map.get s.trucks truck ≡ Some t → truck_load s truck < t.capacity)
+    → ((o : Order) → numbered order s.orders ≡ Some o → o.delivered + order_load s order < o.count) → AreOrdersSound s → AreOrdersSound (bike_placed bike (place.Truck truck order) s)
 bike_loaded_orders s bike truck order room wanted h =
     bikes_orders s (key_changed s.bikes bike (placed (place.Truck truck order)))
     (λ q t found. holds q t found (truck == q) refl (count-most number_order (λ (y : Bike). is_on_truck q y.place) s.bikes bike (placed (place.Truck truck order)) (truck == q) (λ x. refl)))
     (λ q o found. filled q o found (order == q) refl (count-most number_order (λ (y : Bike). is_for_order q y.place) s.bikes bike (placed (place.Truck truck order)) (order == q) (λ x. refl))) h
   where
-    holds : (q : ℕ) (t : Truck) → map.get s.trucks q ≡ Some t → (b : Bool) → (truck == q) ≡ b → loaded (bike_placed bike (place.Truck truck order) s) q ≤ loaded s q + one b → loaded (bike_placed bike (place.Truck truck order) s) q ≤ t.capacity
+    holds : (q : ℕ) (t : Truck) → map.get s.trucks q ≡ Some t → (b : Bool) → (truck == q) ≡ b → truck_load (bike_placed bike (place.Truck truck order) s) q ≤ truck_load s q + one b → truck_load (bike_placed bike (place.Truck truck order) s) q ≤ t.capacity
     holds q t found true is most =
         let same = same_number truck q is in
         let r = room t (subst (λ (z : ℕ). map.get s.trucks z ≡ Some t) (sym same) found) in
-        let c : loaded s truck ≡ loaded s q = ap (loaded s) same in
+        let c : truck_load s truck ≡ truck_load s q = ap (truck_load s) same in
         omega (arith, most, r, c)
     holds q t found false is most = let x = (h.trucks q t found).holds in omega (arith, most, x)
 
-    filled : (q : ℕ) (o : Order) → numbered q s.orders ≡ Some o → (b : Bool) → (order == q) ≡ b → on_truck (bike_placed bike (place.Truck truck order) s) q ≤ on_truck s q + one b
-        → o.delivered + on_truck (bike_placed bike (place.Truck truck order) s) q ≤ o.count
+    filled : (q : ℕ) (o : Order) → numbered q s.orders ≡ Some o → (b : Bool) → (order == q) ≡ b → order_load (bike_placed bike (place.Truck truck order) s) q ≤ order_load s q + one b
+        → o.delivered + order_load (bike_placed bike (place.Truck truck order) s) q ≤ o.count
     filled q o found true is most =
         let same = same_number order q is in
         let w = wanted o (subst (λ (z : ℕ). numbered z s.orders ≡ Some o) (sym same) found) in
-        let c : on_truck s order ≡ on_truck s q = ap (on_truck s) same in
+        let c : order_load s order ≡ order_load s q = ap (order_load s) same in
         omega (arith, most, w, c)
     filled q o found false is most = let x = (h.orders q o found).filled in omega (arith, most, x)
 
 -- one bicycle less is on the truck for an order, where one leaves it
 pub one_less : (s : Operator) (bike order : ℕ) (p : Place) (b : Bike) → map.get s.bikes bike ≡ Some b → is_for_order order b.place ≡ true → is_for_order order p ≡ false
-    → on_truck (bike_placed bike p s) order + 1 ≡ on_truck s order
+    → order_load (bike_placed bike p s) order + 1 ≡ order_load s order
 one_less s bike order p b found was is =
     let c = count-changed number_order (λ (y : Bike). is_for_order order y.place) s.bikes bike (placed p) b found in
     let v : one (is_for_order order b.place) ≡ 1 = ap one was in
@@ -184,7 +185,7 @@ one_less s bike order p b found was is =
 -- ---- trucks and orders that are added or changed
 
 -- no bicycle is on a truck that isn't there
-pub none_loaded : (s : Operator) (truck : ℕ) → AreBikesSound s → AreOrdersSound s → map.get s.trucks truck ≡ None → loaded s truck ≡ 0
+pub none_loaded : (s : Operator) (truck : ℕ) → AreBikesSound s → AreOrdersSound s → map.get s.trucks truck ≡ None → truck_load s truck ≡ 0
 none_loaded s truck bikes h free = none_counted number_order (λ (y : Bike). is_on_truck truck y.place) s.bikes (λ q y found. off q y.type_id y.place (bikes.bikes q y found).placed) where
   apart : (on order : ℕ) (type_id : List ℕ) → IsPlace s on type_id (place.Truck on order) → (b : Bool) → (on == truck) ≡ b → b ≡ false
   apart on order type_id carried false e = refl
@@ -202,7 +203,7 @@ none_loaded s truck bikes h free = none_counted number_order (λ (y : Bike). is_
   off q type_id place.Depot is = refl
 
 -- none is on a truck for an order that isn't there
-pub none_on_truck : (s : Operator) → AreBikesSound s → on_truck s (length s.orders + 1) ≡ 0
+pub none_on_truck : (s : Operator) → AreBikesSound s → order_load s (length s.orders + 1) ≡ 0
 none_on_truck s bikes = none_counted number_order (λ (y : Bike). is_for_order (length s.orders + 1) y.place) s.bikes (λ q y found. off q y.type_id y.place (bikes.bikes q y found).placed) where
   off : (q : ℕ) (type_id : List ℕ) (p : Place) → IsPlace s q type_id p → is_for_order (length s.orders + 1) p ≡ false
   off q type_id (place.Dock station dock) is = refl
@@ -210,7 +211,7 @@ none_on_truck s bikes = none_counted number_order (λ (y : Bike). is_for_order (
   off q type_id (place.Truck on order) is = let within = number_within order s.orders is.row is.found in grind (arith, nat_tests, within)
   off q type_id place.Depot is = refl
 
-pub truck_added_orders : (s : Operator) (truck : ℕ) (t : Truck) → IsTruckAt s truck t → map.get s.trucks truck ≡ None → leb most_trucks (map.len s.trucks) ≡ false → AreOrdersSound s
+pub truck_added_orders : (s : Operator) (truck : ℕ) (t : Truck) → IsTruckAt s truck t → map.get s.trucks truck ≡ None → leb MOST_TRUCKS (map.len s.trucks) ≡ false → AreOrdersSound s
     → AreOrdersSound (record s { trucks = map.insert s.trucks truck t })
 truck_added_orders s truck t good free full h =
     let n : Operator = record s { trucks = map.insert s.trucks truck t } in
@@ -218,7 +219,7 @@ truck_added_orders s truck t good free full h =
     record {
       trucks = λ q x found. is_truck q x (added_at number_order s.trucks truck t q x found);
       orders = λ q o found. let x = h.orders q o found in order_stands s n stand q o x x.filled;
-      few_trucks = few_added number_order s.trucks truck t most_trucks full;
+      few_trucks = few_added number_order s.trucks truck t MOST_TRUCKS full;
       few_orders = h.few_orders;
     }
   where
@@ -226,7 +227,7 @@ truck_added_orders s truck t good free full h =
     is_truck q x (New same is) = rw (same, is) (record { low = good.low; high = good.high; some = good.some; most = good.most; holds = good.holds })
     is_truck q x (Old apart found) = let y = h.trucks q x found in record { low = y.low; high = y.high; some = y.some; most = y.most; holds = y.holds }
 
-pub order_added_orders : (s : Operator) (o : Order) → IsOrderAt s (length s.orders + 1) o → leb most_orders (length s.orders) ≡ false → AreOrdersSound s → AreOrdersSound (order_added o s)
+pub order_added_orders : (s : Operator) (o : Order) → IsOrderAt s (length s.orders + 1) o → leb MOST_ORDERS (length s.orders) ≡ false → AreOrdersSound s → AreOrdersSound (order_added o s)
 order_added_orders s o good full h = record {
   trucks = λ q t found. let x = h.trucks q t found in record { low = x.low; high = x.high; some = x.some; most = x.most; holds = x.holds };
   orders = λ q x found. is_order q x (number_or_last q s.orders o x found);
@@ -241,8 +242,8 @@ order_added_orders s o good full h = record {
     is_order q x (inl found) = let y = h.orders q x found in order_stands s (order_added o s) stand q x y y.filled
     is_order q x (inr last) = rw (last.0, last.1) (order_stands s (order_added o s) stand (length s.orders + 1) o good good.filled)
 
-    few : length (s.orders ++ o ∷ []) ≡ length s.orders + 1 → length (s.orders ++ o ∷ []) ≤ most_orders
-    few e = let b : length s.orders < most_orders = grind (arith, nat_tests, full) in omega (arith, e, b)
+    few : length (s.orders ++ o ∷ []) ≡ length s.orders + 1 → length (s.orders ++ o ∷ []) ≤ MOST_ORDERS
+    few e = let b : length s.orders < MOST_ORDERS = grind (arith, nat_tests, full) in omega (arith, e, b)
 
 -- an order is changed to one that keeps its bounds
 pub order_changed_orders : (s : Operator) (number : ℕ) (f : Order → Order) → ((o : Order) → numbered number s.orders ≡ Some o → IsOrderAt s number (f o)) → AreOrdersSound s → AreOrdersSound (order_changed number f s)

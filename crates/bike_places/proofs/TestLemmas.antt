@@ -5,9 +5,8 @@ use Rattle.std.proofs.Common.{◌==◌, ◌&&◌, ◌||◌, not, is_some, subst,
 use Rattle.std.specs.FinMap as map
 use Rattle.std.proofs.lemmas.Bool.Decides.{nat_tests}
 use Rattle.bike_commands.specs.declared.refusal.Refusal.{Refusal}
-use Rattle.bike_operator.specs.declared.records.Order.{Order}
 use Rattle.bike_operator.specs.Operator.{Operator, Station, Truck}
-use Rattle.bike_operator.specs.View.{station_view, truck_view, order_view}
+use Rattle.bike_operator.specs.View.{station_view, truck_view}
 use Rattle.bike_operator.specs.Steps.{on, first, has_no_dock}
 use Rattle.bike_operator.specs.Sound.{HasDock}
 
@@ -37,17 +36,13 @@ none_of (Some x) e = absurd cc
 pub same_some : {A : Type 0} (x y : A) → Some x ≡ Some y → x ≡ y
 same_some x y e = cc
 
-pub truck_of : (s : Operator) (truck : ℕ) (o : Option Truck) → is_none (truck_view s truck o) ≡ false → (t : Truck) × (o ≡ Some t)
-truck_of s truck None e = absurd cc
-truck_of s truck (Some t) e = (t, refl)
+pub truck_of : (o : Option Truck) → is_none (truck_view o) ≡ false → (t : Truck) × (o ≡ Some t)
+truck_of None e = absurd cc
+truck_of (Some t) e = (t, refl)
 
-pub no_truck : (s : Operator) (truck : ℕ) (o : Option Truck) → is_some (truck_view s truck o) ≡ false → o ≡ None
-no_truck s truck None e = refl
-no_truck s truck (Some t) e = absurd cc
-
-pub order_of : (s : Operator) (order : ℕ) (o : Option Order) → is_none (order_view s order o) ≡ false → (x : Order) × (o ≡ Some x)
-order_of s order None e = absurd cc
-order_of s order (Some x) e = (x, refl)
+pub no_truck : (o : Option Truck) → is_some (truck_view o) ≡ false → o ≡ None
+no_truck None e = refl
+no_truck (Some t) e = absurd cc
 
 -- a test of a row that is there
 pub on_row : {A : Type 0} (test : A → Bool) (o : Option A) (x : A) → o ≡ Some x → on o test ≡ false → test x ≡ false

@@ -12,7 +12,7 @@ use Rattle.bike_operator.specs.declared.records.Order.{Order}
 use Rattle.bike_operator.specs.declared.view.View.{View}
 use Rattle.bike_operator.specs.Operator.{Operator, Station, numbered}
 use Rattle.bike_operator.specs.Counts.{is_on_truck, is_for_order, docked_at}
-use Rattle.bike_operator.specs.View.{station_view, truck_view, order_view, docked_view, no_rows, at_end, at_order, end_at, has_end}
+use Rattle.bike_operator.specs.View.{station_view, truck_at, docked_view, empty_view, end_view, side_view, end_at, has_end}
 use Rattle.bike_operator.specs.Steps.{tests, first, ends_apart, has_no_dock, refused}
 use Rattle.bike_operator.specs.Sound.{HasDock, IsOrderAt, AreOrdersSound}
 use Rattle.bike_places.proofs.TestLemmas.{NoneHolds, none_holds, dock_of, on_row, both_hold, neither, holds, same_number}
@@ -38,11 +38,12 @@ end_known : (s : Operator) (side : Side) (order : ℕ) (x : Order) → IsOrderAt
 end_known s From order x h = h.from_is
 end_known s To order x h = h.to_is
 
-abbrev base : Operator → ℕ → ℕ → ℕ → Option Order → View
-base s truck order bike o = record (no_rows s) { truck = truck_view s truck (map.get s.trucks truck); order = order_view s order o; bike = map.get s.bikes bike }
+-- the view of an unloading, beside what is at the dock
+abbrev seen : Operator → ℕ → ℕ → Option Order → View → View
+seen s truck bike o v = record v { truck = truck_at s truck; order = o; bike = map.get s.bikes bike }
 
 module _ (s : Operator) (truck order bike : ℕ) (side : Side) (dock : ℕ) (x : Order) where
-  at_the_end : (e : OrderEnd) → end_at side x ≡ e → has_end s e ≡ true → NoneHolds (tests (at_end s e dock (base s truck order bike (Some x))) (command.Unload truck order bike side dock)) → IsUnloaded s truck order bike side dock x
+  at_the_end : (e : OrderEnd) → end_at side x ≡ e → has_end s e ≡ true → NoneHolds (tests (seen s truck bike (Some x) (end_view s e dock)) (command.Unload truck order bike side dock)) → IsUnloaded s truck order bike side dock x
   at_the_end end.Depot e known tested = record {
     not_closed = holds x.is_open tested.1.1.0;
     truck_is = same_number x.truck truck (holds (x.truck == truck) tested.1.1.1.0);
@@ -71,9 +72,9 @@ module _ (s : Operator) (truck order bike : ℕ) (side : Side) (dock : ℕ) (x :
 pub unloaded_of : (s : Operator) (truck order bike : ℕ) (side : Side) (dock : ℕ) → AreOrdersSound s → refused s (command.Unload truck order bike side dock) ≡ None
     → (x : Order) × (numbered order s.orders ≡ Some x) × IsUnloaded s truck order bike side dock x
 unloaded_of s truck order bike side dock h free = go (numbered order s.orders) refl free where
-  go : (o : Option Order) → numbered order s.orders ≡ o → first (tests (at_order s o side dock (base s truck order bike o)) (command.Unload truck order bike side dock)) ≡ None
+  go : (o : Option Order) → numbered order s.orders ≡ o → first (tests (seen s truck bike o (side_view s o side dock)) (command.Unload truck order bike side dock)) ≡ None
       → (x : Order) × (numbered order s.orders ≡ Some x) × IsUnloaded s truck order bike side dock x
-  go None e free = let tested = none_holds (tests (base s truck order bike None) (command.Unload truck order bike side dock)) free in absurd (let f = tested.1.0 in cc)
+  go None e free = let tested = none_holds (tests (seen s truck bike None empty_view) (command.Unload truck order bike side dock)) free in absurd (let f = tested.1.0 in cc)
   go (Some x) e free =
-      let tested = none_holds (tests (at_end s (end_at side x) dock (base s truck order bike (Some x))) (command.Unload truck order bike side dock)) free in
+      let tested = none_holds (tests (seen s truck bike (Some x) (end_view s (end_at side x) dock)) (command.Unload truck order bike side dock)) free in
       (x, e, at_the_end s truck order bike side dock x (end_at side x) refl (end_known s side order x (h.orders order x e)) tested)

@@ -7,5 +7,5 @@ pub returns-in-Err : goal.returns-in-Err
 returns-in-Err c = λ s e. refused_as s c.args.view.now (command.Refund c.args.rental c.args.amount) (Some c.in-Err.refusal) e (c.in-Err.ensures.tests c.args.rental)
 
 pub returns : goal.returns
-returns c = λ s e. rw (c.balance_reply.ensures, c.refund-entry.ensures, c.next_number-number.ensures)
+returns c = λ s e. rw (c.balance_reply.ensures, c.refund-entry.ensures, c.in-Some.ensures)
     (refund_decided s c.args.view.now c.args.now c.args.rental c.args.amount c.in-Ok.row.now e (c.in-Ok.ensures.tests c.args.rental) c.in-Ok.ensures.rental)
