@@ -1,0 +1,3 @@
+pub mod MapRows
+pub mod Keys
+pub mod NumberRows

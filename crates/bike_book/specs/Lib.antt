@@ -3,3 +3,4 @@ pub mod Rows
 pub mod Stored
 pub mod Writes
 pub mod Leads
+pub mod Between

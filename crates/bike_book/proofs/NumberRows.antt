@@ -1,0 +1,126 @@
+-- Numbered records as rows: one is found by its number, one is added, and columns are set in the row of one.
+use Rattle.std.proofs.Common.{◌≡◌, ℕ, zero, suc, ◌+◌, ◌<◌, List, [], ◌∷◌, ◌++◌, length, Bool, true, false, cond, ◌&&◌, T, Option, Some, None, refl, sym, ap, ◌∙◌, arith}
+use Rattle.std.specs.Prelude.{map, option_map}
+use Rattle.std.specs.Ordering.{nat_cmp, eq_by_cmp, is_eq, is_lt}
+use Rattle.std.specs.declared.cmp.Ordering.{Ordering}
+use Rattle.std.specs.declared.cmp.Ordering.TheVariants.{Less, Equal, Greater}
+use Rattle.std.specs.Cmp.{nat_cmp_is}
+use Rattle.std.specs.FinMap.Entries as entries
+use Rattle.sqlite_value.specs.Order.{Row}
+use Rattle.bike_rows.specs.View.{row_with, put_row_by, updated}
+use Rattle.bike_operator.specs.Operator.{item_at, numbered, item_changed, number_changed}
+use Rattle.bike_book.specs.Stored.{numbers_from, with_numbers}
+use Rattle.bike_book.proofs.MapRows.{BeginsWithKey, found_sorted, put_sorted, set_sorted, unset_sorted}
+use Rattle.bike_book.proofs.Keys.{number_key, numbers}
+
+is_less : (a b : ℕ) → a < b → nat_cmp a b ≡ Less
+is_less a b h = sym (nat_cmp_is a b Less h)
+
+is_equal : (a b : ℕ) → a ≡ b → nat_cmp a b ≡ Equal
+is_equal a b h = sym (nat_cmp_is a b Equal h)
+
+is_greater : (a b : ℕ) → b < a → nat_cmp a b ≡ Greater
+is_greater a b h = sym (nat_cmp_is a b Greater h)
+
+both_hold : (a b : Bool) → a ≡ true → T b → T (a && b)
+both_hold true b e t = t
+both_hold false b e t = absurd cc
+
+and_intro : (a b : Bool) → T a → T b → T (a && b)
+and_intro true b s t = t
+and_intro false b s t = s
+
+-- a list with an item changed to itself
+pub same_item : {A : Type 0} (n : ℕ) (xs : List A) → item_changed n (λ x. x) xs ≡ xs
+same_item n [] = refl
+same_item zero (x ∷ xs) = refl
+same_item (suc n) (x ∷ xs) = ap (λ zs. x ∷ zs) (same_item n xs)
+
+pub same_number : {A : Type 0} (n : ℕ) (xs : List A) → number_changed n (λ x. x) xs ≡ xs
+same_number zero xs = refl
+same_number (suc n) xs = same_item n xs
+
+module _ {A : Type 0} where
+  below : (k n : ℕ) (xs : List A) → k < n → T (entries.below_all nat_cmp k (numbers_from n xs))
+  below k n [] h = tt
+  below k n (x ∷ xs) h = both_hold (is_lt (nat_cmp k n)) (entries.below_all nat_cmp k (numbers_from (suc n) xs)) (ap is_lt (is_less k n h)) (below k (suc n) xs (omega (arith, h)))
+
+  sorted : (n : ℕ) (xs : List A) → T (entries.is_sorted nat_cmp (numbers_from n xs))
+  sorted n [] = tt
+  sorted n (x ∷ xs) = and_intro (entries.below_all nat_cmp n (numbers_from (suc n) xs)) (entries.is_sorted nat_cmp (numbers_from (suc n) xs)) (below n (suc n) xs (omega arith)) (sorted (suc n) xs)
+
+  -- ---- found
+
+  none_below : (k n : ℕ) (xs : List A) → k < n → entries.find nat_cmp k (numbers_from n xs) ≡ None
+  none_below k n [] h = refl
+  none_below k n (x ∷ xs) h = ap (λ (r : Ordering). cond (is_eq r) (Some x) (entries.find nat_cmp k (numbers_from (suc n) xs))) (is_less k n h) ∙ none_below k (suc n) xs (omega (arith, h))
+
+  find_item : (n i k : ℕ) (xs : List A) → k ≡ n + i → entries.find nat_cmp k (numbers_from n xs) ≡ item_at i xs
+  find_item n i k [] is = refl
+  find_item n zero k (x ∷ xs) is = ap (λ (r : Ordering). cond (is_eq r) (Some x) (entries.find nat_cmp k (numbers_from (suc n) xs))) (is_equal k n (omega (arith, is)))
+  find_item n (suc i) k (x ∷ xs) is =
+      ap (λ (r : Ordering). cond (is_eq r) (Some x) (entries.find nat_cmp k (numbers_from (suc n) xs))) (is_greater k n (omega (arith, is))) ∙ find_item (suc n) i k xs (omega (arith, is))
+
+  pub find_numbered : (k : ℕ) (xs : List A) → entries.find nat_cmp k (with_numbers xs) ≡ numbered k xs
+  find_numbered zero xs = none_below 0 1 xs (omega arith)
+  find_numbered (suc k) xs = find_item 1 k (suc k) xs (omega arith)
+
+  pub found_number : (row : ℕ × A → Row) → BeginsWithKey numbers row → (k : ℕ) (xs : List A) → row_with 1 (number_key k) (map row (with_numbers xs)) ≡ option_map (λ x. row (k, x)) (numbered k xs)
+  found_number row begins k xs = found_sorted numbers row begins k tt (with_numbers xs) (λ e has. tt) ∙ ap (option_map (λ x. row (k, x))) (find_numbered k xs)
+
+  -- ---- added
+
+  put_last : (n k : ℕ) (xs : List A) (y : A) → k ≡ n + length xs → entries.put nat_cmp k y (numbers_from n xs) ≡ numbers_from n (xs ++ y ∷ [])
+  put_last n k [] y is = let e : k ≡ n = omega (arith, is) in ap (λ (z : ℕ). (z, y) ∷ []) e
+  put_last n k (x ∷ xs) y is =
+      ap (λ (r : Ordering). entries.by_order r ((k, y) ∷ (n, x) ∷ numbers_from (suc n) xs) ((n, y) ∷ numbers_from (suc n) xs) ((n, x) ∷ entries.put nat_cmp k y (numbers_from (suc n) xs))) (is_greater k n (omega (arith, is)))
+      ∙ ap (λ (es : List (ℕ × A)). (n, x) ∷ es) (put_last (suc n) k xs y (omega (arith, is)))
+
+  -- a row is added behind the last, and the other rows stay
+  pub put_number : (row next : ℕ × A → Row) → BeginsWithKey numbers row → BeginsWithKey numbers next → (xs : List A) (k : ℕ) (y : A) → k ≡ length xs + 1
+      → ((e : ℕ × A) → eq_by_cmp nat_cmp k e.0 ≡ false → row e ≡ next e) → put_row_by 1 (next (k, y)) (map row (with_numbers xs)) ≡ map next (with_numbers (xs ++ y ∷ []))
+  put_number row next begins begins_next xs k y is same =
+      put_sorted numbers row next begins begins_next k y tt (with_numbers xs) (sorted 1 xs) (λ e has. (tt, same e)) ∙ ap (map next) (put_last 1 k xs y (omega (arith, is)))
+
+  -- ---- changed
+
+  put_item : (n i k : ℕ) (f : A → A) (xs : List A) (x : A) → k ≡ n + i → item_at i xs ≡ Some x → entries.put nat_cmp k (f x) (numbers_from n xs) ≡ numbers_from n (item_changed i f xs)
+  put_item n i k f [] x is found = absurd cc
+  put_item n zero k f (y ∷ xs) x is found =
+      let same : y ≡ x = cc in
+      ap (λ (r : Ordering). entries.by_order r ((k, f x) ∷ (n, y) ∷ numbers_from (suc n) xs) ((n, f x) ∷ numbers_from (suc n) xs) ((n, y) ∷ entries.put nat_cmp k (f x) (numbers_from (suc n) xs))) (is_equal k n (omega (arith, is)))
+      ∙ ap (λ (z : A). (n, f z) ∷ numbers_from (suc n) xs) (sym same)
+  put_item n (suc i) k f (y ∷ xs) x is found =
+      ap (λ (r : Ordering). entries.by_order r ((k, f x) ∷ (n, y) ∷ numbers_from (suc n) xs) ((n, f x) ∷ numbers_from (suc n) xs) ((n, y) ∷ entries.put nat_cmp k (f x) (numbers_from (suc n) xs))) (is_greater k n (omega (arith, is)))
+      ∙ ap (λ (es : List (ℕ × A)). (n, y) ∷ es) (put_item (suc n) i k f xs x (omega (arith, is)) found)
+
+  put_numbered : (k : ℕ) (f : A → A) (xs : List A) (x : A) → numbered k xs ≡ Some x → entries.put nat_cmp k (f x) (with_numbers xs) ≡ with_numbers (number_changed k f xs)
+  put_numbered zero f xs x found = absurd cc
+  put_numbered (suc k) f xs x found = put_item 1 k (suc k) f xs x (omega arith) found
+
+  no_item : (n : ℕ) (f : A → A) (xs : List A) → item_at n xs ≡ None → item_changed n f xs ≡ xs
+  no_item n f [] none = refl
+  no_item zero f (x ∷ xs) none = absurd cc
+  no_item (suc n) f (x ∷ xs) none = ap (λ zs. x ∷ zs) (no_item n f xs none)
+
+  no_number : (k : ℕ) (f : A → A) (xs : List A) → numbered k xs ≡ None → number_changed k f xs ≡ xs
+  no_number zero f xs none = refl
+  no_number (suc k) f xs none = no_item k f xs none
+
+  -- A record is changed where it is there, and so is its row.
+  pub changed_number : (row next : ℕ × A → Row) → BeginsWithKey numbers row → BeginsWithKey numbers next → (xs : List A) (k : ℕ) (change : Row → Row) (f : A → A)
+      → ((x : A) → numbered k xs ≡ Some x → change (row (k, x)) ≡ next (k, f x)) → ((e : ℕ × A) → eq_by_cmp nat_cmp k e.0 ≡ false → row e ≡ next e)
+      → updated 1 (number_key k) change (map row (with_numbers xs)) ≡ map next (with_numbers (number_changed k f xs))
+  changed_number row next begins begins_next xs k change f is same = go (numbered k xs) refl where
+    go : (o : Option A) → numbered k xs ≡ o → updated 1 (number_key k) change (map row (with_numbers xs)) ≡ map next (with_numbers (number_changed k f xs))
+    go None none =
+        unset_sorted numbers row next begins k tt change (with_numbers xs) (find_numbered k xs ∙ none) (λ e has. (tt, same e)) ∙ ap (λ zs. map next (with_numbers zs)) (sym (no_number k f xs none))
+    go (Some x) found =
+        set_sorted numbers row next begins begins_next k tt change (with_numbers xs) (sorted 1 xs) x (f x) (find_numbered k xs ∙ found) (is x found) (λ e has. (tt, same e)) ∙ ap (map next) (put_numbered k f xs x found)
+
+  -- The list stays, and what is stored beside the record of one number changes.
+  pub kept_number : (row next : ℕ × A → Row) → BeginsWithKey numbers row → BeginsWithKey numbers next → (xs : List A) (k : ℕ) (change : Row → Row)
+      → ((x : A) → numbered k xs ≡ Some x → change (row (k, x)) ≡ next (k, x)) → ((e : ℕ × A) → eq_by_cmp nat_cmp k e.0 ≡ false → row e ≡ next e)
+      → updated 1 (number_key k) change (map row (with_numbers xs)) ≡ map next (with_numbers xs)
+  kept_number row next begins begins_next xs k change is same =
+      changed_number row next begins begins_next xs k change (λ x. x) is same ∙ ap (λ zs. map next (with_numbers zs)) (same_number k xs)
