@@ -2,11 +2,10 @@
 
 ghost use Rattle.bike_operator.specs.Bounds.{IsBounded};
 
-use crate::bounds::is_bounded;
 use crate::changes::push_change;
 use crate::words::{push_number, push_seconds, push_signed};
 use bike_commands::{Command, Reply};
-use bike_core::decide;
+use bike_core::{decide, is_bounded};
 use bike_fixed::Moment;
 use bike_ledger::{Entry, EntryKind};
 use bike_operator::View;

@@ -47,8 +47,6 @@ pub(crate) fn knowing(alloc: Global, known: &str) -> Result<View, Fail> {
         docked: has(known, "full").then_some(other),
         bike: has(known, "bike").then_some(bike),
         rental: has(known, "rental").then_some(rental),
-        rentals: 1,
-        open_rentals: 1,
         entries: ride.entries,
         ..nothing()
     })

@@ -8,8 +8,6 @@ mod answers;
 #[cfg(test)]
 mod bicycles;
 #[cfg(test)]
-mod bounds;
-#[cfg(test)]
 mod catalogue;
 #[cfg(test)]
 mod changes;

@@ -17,7 +17,7 @@ fn orders_of(known: &str) -> u32 {
 /// The view in which the truck, the ends and the type are there, with all orders that there may be, with one or with none,
 /// or in which no more trucks may be added.
 pub(crate) fn knowing(known: &str) -> Result<View, Fail> {
-    let truck = truck(20, 0)?;
+    let truck = truck(20)?;
     Ok(View {
         truck: has(known, "truck").then_some(truck),
         has_from: has(known, "from"),
@@ -64,16 +64,16 @@ fn loaded(alloc: Global, mended: usize) -> Result<Bike, Fail> {
 /// A load with all its faults, of which so many are mended from the first on: the truck is unknown, the order too, closed and
 /// another truck's, the bicycle is unknown and has its own faults, the order is filled, and the truck is full.
 pub(crate) fn loading(alloc: Global, mended: usize) -> Result<View, Fail> {
-    let truck = truck(20, if mended < 10 { 20 } else { 19 })?;
+    let truck = truck(20)?;
     let owner = if mended < 4 { 4 } else { 3 };
-    let on_truck = if mended < 9 { 1 } else { 0 };
-    let order = order(alloc, owner, "a1", 1, on_truck, mended >= 3)?;
+    let order = order(alloc, owner, "a1", 1, mended >= 3)?;
     let bike = loaded(alloc, mended)?;
     Ok(View {
         truck: (mended >= 1).then_some(truck),
+        loaded: if mended < 10 { 20 } else { 19 },
         order: (mended >= 2).then_some(order),
+        on_truck: if mended < 9 { 1 } else { 0 },
         bike: (mended >= 5).then_some(bike),
-        orders: 2,
         ..nothing()
     })
 }

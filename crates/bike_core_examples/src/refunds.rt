@@ -32,13 +32,12 @@ fn ride_of(known: &str) -> Ride {
     RECOVERED
 }
 
-/// The view in which the rental is there, or in which the ledger is full. One rental is open.
+/// The view in which the rental is there, or in which the ledger is full.
 pub(crate) fn knowing(alloc: Global, known: &str) -> Result<View, Fail> {
     let rental = rental(alloc, &ride_of(known))?;
     Ok(View {
         rental: has(known, "rental").then_some(rental),
-        rentals: 1,
-        open_rentals: 1,
+        is_ledger_full: has(known, "full"),
         entries: if has(known, "full") { 99_999_999 } else { 2 },
         ..nothing()
     })

@@ -11,12 +11,12 @@ pub(crate) fn knowing(known: &str) -> View {
     let rider = RiderView {
         is_blocked: false,
         balance: 2500,
-        is_riding: false,
     };
     View {
+        has_rider: has(known, "rider"),
         rider: has(known, "rider").then_some(rider),
         entries: if has(known, "ledger") { 99_999_999 } else { 1 },
-        open_rentals: if has(known, "ledger full") { 1 } else { 0 },
+        is_ledger_full: has(known, "ledger full"),
         is_full: has(known, "no room"),
         ..nothing()
     }

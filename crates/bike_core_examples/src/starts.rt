@@ -13,7 +13,6 @@ pub(crate) fn starting(alloc: Global, mended: usize) -> Result<View, Fail> {
     let rider = RiderView {
         is_blocked: mended < 2,
         balance: if mended < 3 { -1 } else { 0 },
-        is_riding: mended < 4,
     };
     let station = station(mended >= 7, true)?;
     let state = if mended < 10 {
@@ -24,10 +23,12 @@ pub(crate) fn starting(alloc: Global, mended: usize) -> Result<View, Fail> {
     let docked = docked(alloc, 7, state)?;
     Ok(View {
         rider: (mended >= 1).then_some(rider),
+        is_riding: mended < 4,
         station: (mended >= 5).then_some(station),
         is_dock_broken: mended < 8,
         docked: (mended >= 9).then_some(docked),
-        entries: if mended < 11 { 100_000_000 } else { 99_999_999 },
+        is_ledger_full: mended < 11,
+        rentals: 99_999_999,
         ..nothing()
     })
 }
@@ -45,5 +46,5 @@ pub(crate) const STARTS: &[Row] = rows![
     "start\t17\ta1\t1" => "refused\t12\tdock_empty";
     "start\t17\ta1\t1" => "refused\t15\tbike_disabled";
     "start\t17\ta1\t1" => "refused\t32\tlimit_reached";
-    "start\t17\ta1\t1" => "rental\t1\t7; rental of bike 7 by rider 17 from a1 under basic; bike 7 in rental 1; a1 reports";
+    "start\t17\ta1\t1" => "rental\t100000000\t7; rental of bike 7 by rider 17 from a1 under basic; bike 7 in rental 100000000; a1 reports";
 ];

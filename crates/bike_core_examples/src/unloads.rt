@@ -3,7 +3,7 @@
 use crate::rows::{Row, rows};
 use crate::views::{bike, docked, in_dock, nothing, on_truck, order, station, truck};
 use crate::words::has;
-use bike_operator::{Bike, BikeState, OrderView, View};
+use bike_operator::{Bike, BikeState, Order, View};
 use std::alloc::Global;
 use std::test::Fail;
 
@@ -11,11 +11,11 @@ use std::test::Fail;
 /// first on: the truck is unknown, the order too, closed and another truck's, the bicycle is unknown and on the truck for another
 /// order, the dock is unknown, broken and full.
 pub(crate) fn unloading(alloc: Global, mended: usize) -> Result<View, Fail> {
-    let truck = truck(20, 2)?;
+    let truck = truck(20)?;
     let station = station(false, false)?;
     let docked = docked(alloc, 8, BikeState::Fit)?;
     let owner = if mended < 4 { 4 } else { 3 };
-    let order = order(alloc, owner, "b2", 0, 2, mended >= 3)?;
+    let order = order(alloc, owner, "b2", 0, mended >= 3)?;
     let place = on_truck(3, if mended < 6 { 2 } else { 3 })?;
     let bike = bike(alloc, "city", BikeState::Disabled, place)?;
     Ok(View {
@@ -25,7 +25,6 @@ pub(crate) fn unloading(alloc: Global, mended: usize) -> Result<View, Fail> {
         docked: (mended < 9).then_some(docked),
         order: (mended >= 2).then_some(order),
         bike: (mended >= 5).then_some(bike),
-        orders: 3,
         ..nothing()
     })
 }
@@ -45,11 +44,9 @@ pub(crate) const UNLOADS: &[Row] = rows![
 ];
 
 /// Order 3 of two bicycles from station b2 to the depot: both are on the truck, or one was delivered.
-fn known_order(alloc: Global, known: &str) -> Result<OrderView, Fail> {
-    if has(known, "loaded") {
-        return order(alloc, 3, "b2", 0, 2, !has(known, "closed"));
-    }
-    order(alloc, 3, "b2", 1, 0, true)
+fn known_order(alloc: Global, known: &str) -> Result<Order, Fail> {
+    let delivered = if has(known, "loaded") { 0 } else { 1 };
+    order(alloc, 3, "b2", delivered, !has(known, "closed"))
 }
 
 /// A bicycle in dock 2 of station b2, or on the truck for the order.
@@ -64,7 +61,7 @@ fn bicycle(alloc: Global, known: &str) -> Result<Bike, Fail> {
 
 /// The view in which truck 3, the order and bicycle 2 are there.
 pub(crate) fn knowing(alloc: Global, known: &str) -> Result<View, Fail> {
-    let truck = truck(20, 2)?;
+    let truck = truck(20)?;
     let station = station(true, true)?;
     let bike = bicycle(alloc, known)?;
     let order = known_order(alloc, known)?;
@@ -72,8 +69,9 @@ pub(crate) fn knowing(alloc: Global, known: &str) -> Result<View, Fail> {
         truck: Some(truck),
         station: Some(station),
         bike: Some(bike),
+        loaded: 2,
         order: Some(order),
-        orders: 3,
+        on_truck: if has(known, "loaded") { 2 } else { 0 },
         ..nothing()
     })
 }

@@ -4,8 +4,8 @@ use bike_catalogue::{Plan, Segment};
 use bike_fields::{Field, Ident};
 use bike_fixed::{Moment, Within};
 use bike_operator::{
-    Bike, BikeState, Closing, DockedBike, Order, OrderView, Place, Rental, RentalView, StationView,
-    TruckView, View,
+    Bike, BikeState, Closing, DockedBike, Order, Place, Rental, RentalView, StationView, TruckView,
+    View,
 };
 use bike_texts::OrderEnd;
 use std::alloc::Global;
@@ -22,17 +22,21 @@ pub(crate) fn nothing() -> View {
         has_type: false,
         has_from: false,
         has_to: false,
+        has_rider: false,
         is_full: false,
+        is_ledger_full: false,
         station: None,
         is_dock_broken: false,
         docked: None,
         bike: None,
         rental: None,
         rider: None,
+        is_riding: false,
         truck: None,
+        loaded: 0,
         order: None,
+        on_truck: 0,
         rentals: 0,
-        open_rentals: 0,
         orders: 0,
         entries: 0,
     }
@@ -60,11 +64,17 @@ pub(crate) fn station(is_renting: bool, is_returning: bool) -> Result<StationVie
     })
 }
 
-/// The bicycle in a dock, of a type under plan basic.
+/// The bicycle in a dock, of type city under plan basic.
 pub(crate) fn docked(alloc: Global, bike: u32, state: BikeState) -> Result<DockedBike, Fail> {
     let bike = number(bike)?;
+    let type_id = ident(alloc, "city")?;
     let plan = ident(alloc, "basic")?;
-    Ok(DockedBike { bike, state, plan })
+    Ok(DockedBike {
+        bike,
+        type_id,
+        state,
+        plan,
+    })
 }
 
 /// A bicycle of that type.
@@ -168,27 +178,25 @@ pub(crate) fn rental(alloc: Global, ride: &Ride) -> Result<RentalView, Fail> {
     })
 }
 
-/// A truck with so many bicycles on it.
-pub(crate) fn truck(capacity: u32, loaded: u32) -> Result<TruckView, Fail> {
+/// A truck for so many bicycles.
+pub(crate) fn truck(capacity: u32) -> Result<TruckView, Fail> {
     Ok(TruckView {
         capacity: number(capacity)?,
-        loaded,
     })
 }
 
-/// An order of two bicycles of type city from a station to the depot, of which so many were delivered and are on the truck.
+/// An order of two bicycles of type city from a station to the depot, of which so many were delivered.
 pub(crate) fn order(
     alloc: Global,
     truck: u32,
     from_station: &str,
     delivered: u32,
-    on_truck: u32,
     is_open: bool,
-) -> Result<OrderView, Fail> {
+) -> Result<Order, Fail> {
     let truck = number(truck)?;
     let count = number(2)?;
     let from_end = OrderEnd::Station(ident(alloc, from_station)?);
-    let order = Order {
+    Ok(Order {
         truck,
         from_end,
         to_end: OrderEnd::Depot,
@@ -196,6 +204,5 @@ pub(crate) fn order(
         count,
         delivered,
         is_open,
-    };
-    Ok(OrderView { order, on_truck })
+    })
 }

@@ -1,5 +1,5 @@
 -- Sums over entries: balances, refunds and fares, and one more entry.
-use Rattle.std.proofs.Common.{sym, ◌≡◌, ℕ, ℤ, zero, suc, pos, neg_ℤ, ◌+ℤ◌, ◌≤ℤ◌, List, [], ◌∷◌, ◌++◌, length, map, filter, Bool, true, false, cond, eqb, Some, refl, ap, ◌∙◌, arith, inl, inr}
+use Rattle.std.proofs.Common.{sym, ◌≡◌, ℕ, ℤ, zero, suc, pos, neg_ℤ, ◌*◌, ◌+ℤ◌, ◌≤ℤ◌, List, [], ◌∷◌, ◌++◌, length, map, filter, Bool, true, false, cond, eqb, Some, refl, ap, ◌∙◌, arith, inl, inr}
 use Rattle.std.specs.Prelude.{◌&&◌}
 use Rattle.std.proofs.lemmas.Bool.Decides.{eqb_tells}
 use Rattle.std.proofs.lemmas.Int.{ints}
@@ -13,7 +13,6 @@ use Rattle.bike_ledger.specs.Entries.{greatest_amount}
 use Rattle.bike_ledger.proofs.SumLemmas.{total-append}
 use Rattle.bike_operator.specs.Operator.{Operator, item_at}
 use Rattle.bike_operator.specs.Sound.{is_fare, fares_of, IsPayment, IsBooking, IsLedgerSound}
-use Rattle.bike_operator.specs.Bounds.{IsWithin}
 
 -- ---- amounts
 
@@ -54,6 +53,11 @@ credit_share Refund z is = let low = is.low in let high = is.high in record { lo
 own_share : (own : Bool) (z : ℤ) → IsShare z → IsShare (cond own z (pos 0))
 own_share true z is = is
 own_share false z is = record { low = omega (arith, ints); high = omega (arith, ints) }
+
+-- the balance is one that so many entries can come to
+pub record IsWithin (entries : ℕ) (balance : ℤ) : Type 0 where
+  pub low : neg_ℤ (pos (34561800000 * entries)) ≤ℤ balance
+  pub high : balance ≤ℤ pos (34561800000 * entries)
 
 -- a balance lies within what so many entries can come to
 pub balance_within : (es : List Entry) (rider : ℕ) → AreAmounts es → IsWithin (length es) (balance_of rider es)

@@ -6,11 +6,12 @@ use Rattle.bike_ledger.specs.declared.entry.EntryKind.TheVariants.{TopUp}
 use Rattle.bike_commands.specs.declared.command.Command.TheVariants as command
 use Rattle.bike_operator.specs.Operator.{numbered}
 use Rattle.bike_operator.specs.Counts.{open_rentals, docked_at}
-use Rattle.bike_operator.specs.View.{view_of, rental_view, rental_of, docked_view, most_riders, most_entries}
+use Rattle.bike_operator.specs.View.{view_of, rental_view, rental_of, docked_view}
+use Rattle.bike_operator.specs.declared.limits.TheConstants.{MOST_RIDERS, MOST_ENTRIES}
 use Rattle.bike_operator.specs.Steps.{tests, effect}
 use Rattle.bike_operator.specs.Sound.{IsLedgerSound}
 use Rattle.bike_places.specs.Accepted.{AcceptedKeeps}
-use Rattle.bike_places.proofs.TestLemmas.{none_holds}
+use Rattle.bike_places.proofs.TestLemmas.{none_holds, holds}
 use Rattle.bike_laws.proofs.FoundLemmas.{below_of, view_is, rental_is, rider_there, open_of, closed_of}
 use Rattle.bike_laws.proofs.QuietLaw.{quiet_kind, same_riders}
 use Rattle.bike_laws.proofs.LedgerLemmas.{ledger_quiet, ledger_rider, ledger_ended, ledger_recovered, ledger_started, is_payment, ledger_paid, ledger_refunded}
@@ -27,23 +28,23 @@ pub ledger_law : AcceptedKeeps IsLedgerSound
 ledger_law s now (command.AddRider rider) kept order good none later =
     let free = none_holds (tests (view_of s (command.AddRider rider)) (command.AddRider rider)) none in
     ledger_rider s now kept rider (record { is_blocked = false }) order.ledger later (record { low = good.0.0; high = good.0.1 })
-    (one_more (finmap.contains_key s.riders rider) (finmap.len s.riders) (finmap.len (finmap.insert s.riders rider (record { is_blocked = false }))) most_riders
-    (finmap.len-insert nat_cmp_total s.riders rider (record { is_blocked = false })) (below_of most_riders (finmap.len s.riders) free.1.0))
+    (one_more (finmap.contains_key s.riders rider) (finmap.len s.riders) (finmap.len (finmap.insert s.riders rider (record { is_blocked = false }))) MOST_RIDERS
+    (finmap.len-insert nat_cmp_total s.riders rider (record { is_blocked = false })) (below_of MOST_RIDERS (finmap.len s.riders) free.1.0))
     (quiet_kind s now (command.AddRider rider) refl none)
 ledger_law s now (command.SetRider rider blocked) kept order good none later =
     let free = none_holds (tests (view_of s (command.SetRider rider blocked)) (command.SetRider rider blocked)) none in
     ledger_rider s now kept rider (record { is_blocked = blocked }) order.ledger later (record { low = good.0.0; high = good.0.1 })
-    (no_more (finmap.contains_key s.riders rider) (finmap.len s.riders) (finmap.len (finmap.insert s.riders rider (record { is_blocked = blocked }))) most_riders
-    (rider_there s rider (finmap.get s.riders rider) free.0) (finmap.len-insert nat_cmp_total s.riders rider (record { is_blocked = blocked })) order.ledger.few_riders)
+    (no_more (finmap.contains_key s.riders rider) (finmap.len s.riders) (finmap.len (finmap.insert s.riders rider (record { is_blocked = blocked }))) MOST_RIDERS
+    (holds (finmap.contains_key s.riders rider) free.0) (finmap.len-insert nat_cmp_total s.riders rider (record { is_blocked = blocked })) order.ledger.few_riders)
     (quiet_kind s now (command.SetRider rider blocked) refl none)
 ledger_law s now (command.TopUp rider amount) kept order good none later =
     let free = none_holds (tests (view_of s (command.TopUp rider amount)) (command.TopUp rider amount)) none in
-    ledger_paid s now kept TopUp rider 0 amount order (record { room = below_of most_entries (length s.entries + open_rentals s) free.1.0 }) later
+    ledger_paid s now kept TopUp rider 0 amount order (record { room = below_of MOST_ENTRIES (length s.entries + open_rentals s) free.1.0 }) later
     (rider_there s rider (finmap.get s.riders rider) free.0) (refl, is_payment amount (record { low = good.1.0.0; high = good.1.0.1 }))
 ledger_law s now (command.Start rider station dock) kept order good none later =
     let free = none_holds (tests (view_of s (command.Start rider station dock)) (command.Start rider station dock)) none in
     ledger_started s now kept rider station (docked_view s (docked_at s station dock)) order
-    (record { room = below_of most_entries (length s.entries + open_rentals s) free.1.1.1.1.1.1.1.1.1.1.0 }) later
+    (record { room = below_of MOST_ENTRIES (length s.entries + open_rentals s) free.1.1.1.1.1.1.1.1.1.1.0 }) later
 ledger_law s now (command.End bike station dock) kept order good none later =
     ledger_ended s now kept bike station dock (rental_of s (finmap.get s.bikes bike)) order later (λ r i. rental_is s bike (finmap.get s.bikes bike) r order.bikes refl i)
 ledger_law s now (command.Recover rental) kept order good none later =
@@ -53,6 +54,6 @@ ledger_law s now (command.Recover rental) kept order good none later =
 ledger_law s now (command.Refund rental amount) kept order good none later =
     let free = none_holds (tests (view_of s (command.Refund rental amount)) (command.Refund rental amount)) none in
     ledger_refunded s now kept amount (rental_view s rental (numbered rental s.rentals)) order
-    (record { room = below_of most_entries (length s.entries + open_rentals s) free.1.1.1.0 }) (record { low = good.1.0.0; high = good.1.0.1 }) later
+    (record { room = below_of MOST_ENTRIES (length s.entries + open_rentals s) free.1.1.1.0 }) (record { low = good.1.0.0; high = good.1.0.1 }) later
     (λ r i. (view_is s rental (numbered rental s.rentals) r refl i, closed_of (rental_view s rental (numbered rental s.rentals)) r i free.1.0))
 ledger_law s now c kept order good none later = ledger_quiet s (effect s now c) now kept order.ledger later (quiet_kind s now c refl none) (same_riders s now c refl)

@@ -13,7 +13,7 @@ use Rattle.bike_operator.specs.declared.view.RentalView.{RentalView}
 use Rattle.bike_operator.specs.declared.view.DockedBike.{DockedBike}
 use Rattle.bike_operator.specs.Operator.{Operator, Rider, Kept, texts_cmp, numbered, number_changed}
 use Rattle.bike_operator.specs.Counts.{count, open_rentals, is_open}
-use Rattle.bike_operator.specs.View.{most_riders, most_entries}
+use Rattle.bike_operator.specs.declared.limits.TheConstants.{MOST_RIDERS, MOST_ENTRIES}
 use Rattle.bike_operator.specs.Steps.{fare_now, booked, charged, started, ended, recovered, refunded_by}
 use Rattle.bike_operator.specs.Sound.{IsPayment, IsRiderNumber, IsOfRental, IsBooking, IsEntryAt, IsLedgerSound, IsSound}
 use Rattle.bike_places.proofs.ItemLemmas.{number_stays, number_or_last, number_apart}
@@ -63,7 +63,7 @@ ledger_same s next ledger k riders entries ongoing =
 
 -- an entry is added
 ledger_booked : (s next : Operator) (e : Entry) → IsLedgerSound s → KeepsBooked s next → next.riders ≡ s.riders → next.entries ≡ s.entries ++ e ∷ [] → IsEntryAt next (length s.entries + 1) e
-    → length s.entries + 1 + open_rentals next ≤ most_entries → IsLedgerSound next
+    → length s.entries + 1 + open_rentals next ≤ MOST_ENTRIES → IsLedgerSound next
 ledger_booked s next e ledger k riders entries last few =
     let few_riders = ledger.few_riders in
     let count_riders : finmap.len next.riders ≡ finmap.len s.riders = ap (λ m. finmap.len m) riders in
@@ -95,7 +95,7 @@ ledger_quiet s x now kept ledger later q riders =
     ledger_same s (at_moment x now kept) ledger (quiet_keeps s x now kept later q) riders q.entries (ap (λ (rs : List Rental). count is_open rs) q.rentals)
 
 -- a rider is added or changed
-pub ledger_rider : (s : Operator) (now : ℕ) (kept : FinMap texts_cmp Kept) (rider : ℕ) (r : Rider) → IsLedgerSound s → s.now ≤ now → IsRiderNumber rider → finmap.len (finmap.insert s.riders rider r) ≤ most_riders
+pub ledger_rider : (s : Operator) (now : ℕ) (kept : FinMap texts_cmp Kept) (rider : ℕ) (r : Rider) → IsLedgerSound s → s.now ≤ now → IsRiderNumber rider → finmap.len (finmap.insert s.riders rider r) ≤ MOST_RIDERS
     → IsQuiet s (record s { riders = finmap.insert s.riders rider r }) → IsLedgerSound (at_moment (record s { riders = finmap.insert s.riders rider r }) now kept)
 ledger_rider s now kept rider r ledger later good few q = record {
   riders = λ number x i. each number x i (either number rider);
@@ -157,7 +157,7 @@ ledger_charged s x now kept r to_station order later v ongoing riders rentals en
           by_now = omega arith;
         }
 
-    few : length s.entries + 1 + open_rentals (at_moment x now kept) ≤ most_entries
+    few : length s.entries + 1 + open_rentals (at_moment x now kept) ≤ MOST_ENTRIES
     few =
         let fewer : open_rentals (at_moment x now kept) + 1 ≡ open_rentals s =
         ap (λ (rs : List Rental). count is_open rs + 1) changed ∙ count_changed is_open r.number (closed_by c) s.rentals r.rental v.found ongoing refl in

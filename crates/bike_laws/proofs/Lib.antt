@@ -4,6 +4,7 @@ pub mod EntryLemmas
 pub mod FoundLemmas
 pub mod RetryLemmas
 pub mod ViewLemmas
+pub mod RoomLemmas
 pub mod ReplyLemmas
 pub mod NameLemmas
 pub mod QuietLemmas

@@ -1,5 +1,5 @@
 -- Each kind of command that touches neither rentals nor entries.
-use Rattle.std.proofs.Common.{◌≡◌, ℕ, Bool, true, false, cond, Option, Some, None, refl, sym, ap, ◌∙◌}
+use Rattle.std.proofs.Common.{◌≡◌, ℕ, Bool, true, false, cond, Option, Some, None, refl, ◌∙◌}
 use Rattle.std.specs.FinMap as finmap
 use Rattle.std.specs.Cmp.{nat_cmp_total}
 use Rattle.std.specs.Cmp.Lexicographic.{nat_list_cmp_total}
@@ -16,10 +16,10 @@ use Rattle.bike_operator.specs.declared.records.Bike.{Bike}
 use Rattle.bike_operator.specs.declared.records.Order.{Order}
 use Rattle.bike_operator.specs.Operator.{Operator, numbered}
 use Rattle.bike_operator.specs.View.{end_at, view_of}
-use Rattle.bike_operator.specs.Steps.{new_station, dock_marked, is_not_loaded, tests, refused, place_reported, bike_reported, bike_placed, bike_marked, placed_at_end, delivered, unloaded, effect}
+use Rattle.bike_operator.specs.Steps.{new_station, dock_marked, tests, refused, place_reported, bike_reported, bike_placed, bike_marked, placed_at_end, delivered, unloaded, effect}
 use Rattle.bike_places.proofs.TestLemmas.{none_holds, none_of}
 use Rattle.bike_laws.proofs.NameLemmas.{insert_keeps, changed_keeps}
-use Rattle.bike_laws.proofs.QuietLemmas.{IsQuiet, quiet_fields, quiet_reported, quiet_bike_reported, quiet_marked, quiet_placed, quiet_added, elsewhere_in, loaded_in, order_bike, quiet_unloaded}
+use Rattle.bike_laws.proofs.QuietLemmas.{IsQuiet, quiet_fields, quiet_reported, quiet_bike_reported, quiet_marked, quiet_placed, quiet_added, elsewhere_in, loaded_in, quiet_unloaded}
 
 -- commands that touch rentals or entries
 abbrev pub moves_money : Command → Bool
@@ -93,13 +93,10 @@ quiet_kind s now (command.SetRider rider blocked) free none = record {
 quiet_kind s now (command.Load truck order bike) free none =
     let tests_free = none_holds (tests (view_of s (command.Load truck order bike)) (command.Load truck order bike)) none in
     quiet_bike_reported s (bike_placed bike (place.Truck truck order) s) (finmap.get s.bikes bike) now
-    (quiet_placed s bike (place.Truck truck order) (elsewhere_in s order bike (numbered order s.orders) tests_free.1.0 tests_free.1.1.1.1.1.1.0))
+    (quiet_placed s bike (place.Truck truck order) (elsewhere_in s bike (numbered order s.orders) tests_free.1.0 tests_free.1.1.1.1.1.1.0))
 quiet_kind s now (command.Unload truck order bike side dock) free none =
     let tests_free = none_holds (tests (view_of s (command.Unload truck order bike side dock)) (command.Unload truck order bike side dock)) none in
-    let bike_is : (view_of s (command.Unload truck order bike side dock)).bike ≡ finmap.get s.bikes bike =
-    order_bike s (numbered order s.orders) side dock (view_of s (command.Load truck order bike)) in
-    quiet_unloaded s order bike side dock now (numbered order s.orders)
-    (loaded_in s truck order bike (ap (λ (o : Option Bike). is_not_loaded truck order o) (sym bike_is) ∙ tests_free.1.1.1.1.1.0))
+    quiet_unloaded s order bike side dock now (numbered order s.orders) (loaded_in s truck order bike tests_free.1.1.1.1.1.0)
 quiet_kind s now c free none = quiet_fields s (effect s now c) refl refl refl refl refl refl
 
 -- ---- riders

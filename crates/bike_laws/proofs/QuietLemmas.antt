@@ -14,10 +14,9 @@ use Rattle.bike_operator.specs.declared.records.Place.{Place}
 use Rattle.bike_operator.specs.declared.records.Place.TheVariants as place
 use Rattle.bike_operator.specs.declared.records.Bike.{Bike}
 use Rattle.bike_operator.specs.declared.records.Order.{Order}
-use Rattle.bike_operator.specs.declared.view.View.{View}
 use Rattle.bike_operator.specs.Operator.{Operator}
 use Rattle.bike_operator.specs.Counts.{is_on_truck, is_for_order}
-use Rattle.bike_operator.specs.View.{end_at, at_end, at_order, order_view}
+use Rattle.bike_operator.specs.View.{end_at}
 use Rattle.bike_operator.specs.Steps.{on, is_at_end, is_elsewhere, is_not_loaded, key_changed, reported, place_reported, bike_reported, bike_placed, bike_marked, placed_at_end, delivered, unloaded}
 use Rattle.bike_operator.specs.Sound.{IsOut}
 use Rattle.bike_places.proofs.TestLemmas.{holds}
@@ -143,21 +142,12 @@ in_by_test s bike (Some b) test fails is e = record { not_out = λ number o. apa
       let none : test b.place ≡ false = ap test there ∙ fails number in
       absurd cc
 
-pub elsewhere_in : (s : Operator) (number bike : ℕ) (o : Option Order) → is_none (order_view s number o) ≡ false → is_elsewhere (order_view s number o) (finmap.get s.bikes bike) ≡ false → IsIn s bike
-elsewhere_in s number bike None found e = absurd cc
-elsewhere_in s number bike (Some x) found e = in_by_test s bike (finmap.get s.bikes bike) (is_at_end x.from_end) (end_is_apart x.from_end) refl e
+pub elsewhere_in : (s : Operator) (bike : ℕ) (o : Option Order) → is_none o ≡ false → is_elsewhere o (finmap.get s.bikes bike) ≡ false → IsIn s bike
+elsewhere_in s bike None found e = absurd cc
+elsewhere_in s bike (Some x) found e = in_by_test s bike (finmap.get s.bikes bike) (is_at_end x.from_end) (end_is_apart x.from_end) refl e
 
 pub loaded_in : (s : Operator) (truck number bike : ℕ) → is_not_loaded truck number (finmap.get s.bikes bike) ≡ false → IsIn s bike
 loaded_in s truck number bike e = in_by_test s bike (finmap.get s.bikes bike) (λ p. is_on_truck truck p && is_for_order number p) (λ n. refl) refl e
-
--- what lies at a dock is no part of the view's bicycle
-end_bike : (s : Operator) (e : OrderEnd) (dock : ℕ) (v : View) → (at_end s e dock v).bike ≡ v.bike
-end_bike s end.Depot dock v = refl
-end_bike s (end.Station station) dock v = refl
-
-pub order_bike : (s : Operator) (o : Option Order) (side : Side) (dock : ℕ) (v : View) → (at_order s o side dock v).bike ≡ v.bike
-order_bike s None side dock v = refl
-order_bike s (Some o) side dock v = end_bike s (end_at side o) dock v
 
 quiet_at_end : (s : Operator) (bike : ℕ) (e : OrderEnd) (dock now : ℕ) → IsIn s bike → IsQuiet s (placed_at_end bike e dock now s)
 quiet_at_end s bike end.Depot dock now is = quiet_placed s bike place.Depot is

@@ -1,12 +1,12 @@
 -- The law of rentals for each kind of command.
-use Rattle.std.proofs.Common.{◌≡◌, ℕ, ◌-ℤ◌, pos, false, Option, Some, None, refl, sym, ap, ◌∙◌}
-use Rattle.std.specs.Prelude.{is_none, int_lt}
+use Rattle.std.proofs.Common.{◌≡◌, ℕ, ◌-ℤ◌, pos, false, Option, Some, refl, sym, ap, ◌∙◌}
+use Rattle.std.specs.Prelude.{int_lt}
 use Rattle.std.specs.FinMap as finmap
 use Rattle.bike_commands.specs.declared.command.Command.TheVariants as command
 use Rattle.bike_operator.specs.declared.view.RentalView.{RentalView}
-use Rattle.bike_operator.specs.Operator.{Operator, Rider, numbered}
-use Rattle.bike_operator.specs.Counts.{is_riding, docked_at}
-use Rattle.bike_operator.specs.View.{view_of, rider_view, rental_view, rental_of, docked_view}
+use Rattle.bike_operator.specs.Operator.{numbered}
+use Rattle.bike_operator.specs.Counts.{docked_at}
+use Rattle.bike_operator.specs.View.{view_of, rental_view, rental_of, docked_view}
 use Rattle.bike_operator.specs.Steps.{on, is_too_much, tests, effect}
 use Rattle.bike_operator.specs.Sound.{AreRentalsSound}
 use Rattle.bike_places.specs.Accepted.{AcceptedKeeps}
@@ -16,10 +16,6 @@ use Rattle.bike_laws.proofs.QuietLaw.{quiet_kind}
 use Rattle.bike_laws.proofs.RentalLemmas.{rentals_quiet, rentals_topped_up, rentals_refunded}
 use Rattle.bike_laws.proofs.RideLemmas.{docked_view_is, rentals_started}
 use Rattle.bike_laws.proofs.EndLemmas.{rentals_ended, rentals_recovered}
-
-not_riding : (s : Operator) (rider : ℕ) (o : Option Rider) → is_none (rider_view s rider o) ≡ false → on (rider_view s rider o) (λ r. r.is_riding) ≡ false → is_riding s rider ≡ false
-not_riding s rider None there e = absurd cc
-not_riding s rider (Some r) there e = e
 
 small_enough : (amount : ℕ) (o : Option RentalView) (r : RentalView) → o ≡ Some r → is_too_much amount o ≡ false → on r.rental.closing (λ c. int_lt (c.fare -ℤ r.refunded) (pos amount)) ≡ false
 small_enough amount o r is e = ap (λ (x : Option RentalView). is_too_much amount x) (sym is) ∙ e
@@ -31,7 +27,7 @@ rentals_law s now (command.Start rider station dock) kept order good none later 
     rentals_started s now kept rider station dock (docked_view s (docked_at s station dock)) order later
     (record {
       rider_is = rider_there s rider (finmap.get s.riders rider) free.0;
-      idle = not_riding s rider (finmap.get s.riders rider) free.0 free.1.1.1.0;
+      idle = free.1.1.1.0;
       station_is = station_there (finmap.get s.stations station) free.1.1.1.1.0;
     })
     (λ b i. docked_view_is s station dock (docked_at s station dock) b refl i)

@@ -20,13 +20,13 @@ use Rattle.bike_operator.specs.declared.records.Rental.{Rental}
 use Rattle.bike_operator.specs.declared.view.RentalView.{RentalView}
 use Rattle.bike_operator.specs.Operator.{Operator, numbered}
 use Rattle.bike_operator.specs.Counts.{docked_at, open_rentals, is_open}
-use Rattle.bike_operator.specs.View.{docked_view, typed_bike, rental_view, rental_of, view_of, most_entries, most_orders}
+use Rattle.bike_operator.specs.View.{docked_view, typed_bike, rental_view, rental_of, view_of}
+use Rattle.bike_operator.specs.declared.limits.TheConstants.{MOST_ENTRIES, MOST_ORDERS}
 use Rattle.bike_operator.specs.Steps.{tests, refused, fare_now, ended, recovered, refunded_by, started_reply, ended_reply, refunded_reply, reply_of}
 use Rattle.bike_operator.specs.Sound.{IsSound, is_refused}
-use Rattle.bike_operator.specs.Bounds.{IsWithin}
 use Rattle.bike_places.proofs.TestLemmas.{none_holds}
 use Rattle.bike_laws.proofs.NumberLemmas.{count_some}
-use Rattle.bike_laws.proofs.EntryLemmas.{amounts_of, amounts_added, balance_within}
+use Rattle.bike_laws.proofs.EntryLemmas.{amounts_of, amounts_added, IsWithin, balance_within}
 use Rattle.bike_laws.proofs.FoundLemmas.{below_of, docked_is, IsViewOf, view_is, IsRentalOf, rental_is, open_of}
 
 -- a reply of the program that isn't a refusal
@@ -55,14 +55,14 @@ fare_amount s now r order v =
 
 -- ---- balances
 
-good_balance : (n : ℕ) (balance : ℤ) → n ≤ most_entries → IsWithin n balance → IsGood (Any balance)
+good_balance : (n : ℕ) (balance : ℤ) → n ≤ MOST_ENTRIES → IsWithin n balance → IsGood (Any balance)
 good_balance n balance few within =
     let low = within.low in
     let high = within.high in
     (omega (arith, ints, few, low), omega (arith, ints, few, high), omega (arith, ints), omega (arith, ints))
 
 -- the balance after one more entry
-balance_after : (s : Operator) (rider : ℕ) (e : Entry) → IsSound s → length s.entries < most_entries → IsAmount e.amount → IsGood (Any (balance_of rider (s.entries ++ e ∷ [])))
+balance_after : (s : Operator) (rider : ℕ) (e : Entry) → IsSound s → length s.entries < MOST_ENTRIES → IsAmount e.amount → IsGood (Any (balance_of rider (s.entries ++ e ∷ [])))
 balance_after s rider e order few is =
     let size = length-append s.entries (e ∷ []) in
     good_balance (length (s.entries ++ e ∷ [])) (balance_of rider (s.entries ++ e ∷ [])) (omega (arith, size, few))
@@ -72,10 +72,10 @@ balance_after s rider e order few is =
 
 -- entries and open rentals are fewer than there may be
 pub record HasRoom (s : Operator) : Type 0 where
-  pub room : length s.entries + open_rentals s < most_entries
+  pub room : length s.entries + open_rentals s < MOST_ENTRIES
 
 -- where a rental is open there is room for its fare
-pub room_for_fare : (s : Operator) (number : ℕ) (x : Rental) → IsSound s → numbered number s.rentals ≡ Some x → is_open x ≡ true → length s.entries < most_entries
+pub room_for_fare : (s : Operator) (number : ℕ) (x : Rental) → IsSound s → numbered number s.rentals ≡ Some x → is_open x ≡ true → length s.entries < MOST_ENTRIES
 room_for_fare s number x order found now =
     let one = count_some (λ r. is_open r) number s.rentals x found now in
     let few = order.ledger.few_entries in
@@ -143,11 +143,11 @@ reply_good s now (command.AddRider rider) order good none later = done
 reply_good s now (command.SetRider rider blocked) order good none later = done
 reply_good s now (command.TopUp rider amount) order good none later =
     let free = none_holds (tests (view_of s (command.TopUp rider amount)) (command.TopUp rider amount)) none in
-    let room = below_of most_entries (length s.entries + open_rentals s) free.1.0 in
+    let room = below_of MOST_ENTRIES (length s.entries + open_rentals s) free.1.0 in
     ((balance_after s rider _ order (omega (arith, room)) (paid_amount amount (record { low = good.1.0.0; high = good.1.0.1 })), tt), refl)
 reply_good s now (command.Start rider station dock) order good none later =
     let free = none_holds (tests (view_of s (command.Start rider station dock)) (command.Start rider station dock)) none in
-    started_good s station dock (docked_at s station dock) order (record { room = below_of most_entries (length s.entries + open_rentals s) free.1.1.1.1.1.1.1.1.1.1.0 }) refl
+    started_good s station dock (docked_at s station dock) order (record { room = below_of MOST_ENTRIES (length s.entries + open_rentals s) free.1.1.1.1.1.1.1.1.1.1.0 }) refl
 reply_good s now (command.End bike station dock) order good none later =
     ended_good s now bike station dock (rental_of s (finmap.get s.bikes bike)) order (λ r i. rental_is s bike (finmap.get s.bikes bike) r order.bikes refl i)
 reply_good s now (command.Recover rental) order good none later =
@@ -157,10 +157,10 @@ reply_good s now (command.Recover rental) order good none later =
 reply_good s now (command.Refund rental amount) order good none later =
     let free = none_holds (tests (view_of s (command.Refund rental amount)) (command.Refund rental amount)) none in
     refunded_good s now amount (rental_view s rental (numbered rental s.rentals)) order
-    (record { room = below_of most_entries (length s.entries + open_rentals s) free.1.1.1.0 }) (record { low = good.1.0.0; high = good.1.0.1 })
+    (record { room = below_of MOST_ENTRIES (length s.entries + open_rentals s) free.1.1.1.0 }) (record { low = good.1.0.0; high = good.1.0.1 })
 reply_good s now (command.OpenOrder truck from_end to_end type_id count) order good none later =
     let free = none_holds (tests (view_of s (command.OpenOrder truck from_end to_end type_id count)) (command.OpenOrder truck from_end to_end type_id count)) none in
-    let few = below_of most_orders (length s.orders) free.1.1.1.1.1.1.0 in
+    let few = below_of MOST_ORDERS (length s.orders) free.1.1.1.1.1.1.0 in
     (((omega arith, omega (arith, few), omega arith), tt), refl)
 reply_good s now (command.Load truck number bike) order good none later = done
 reply_good s now (command.Unload truck number bike side dock) order good none later = done

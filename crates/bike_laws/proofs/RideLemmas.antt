@@ -47,7 +47,7 @@ typed_is : (s : Operator) (station : List ℕ) (dock : ℕ) (x : ℕ × Bike) (o
 typed_is s station dock x None b at types is = absurd cc
 typed_is s station dock x (Some t) b at types is =
     let d = docked_is s station dock x at in
-    subst (IsDockedView s station dock) (same_Some (record { bike = x.0; state = x.1.state; plan = t.plan_id }) b is)
+    subst (IsDockedView s station dock) (same_Some (record { bike = x.0; type_id = x.1.type_id; state = x.1.state; plan = t.plan_id }) b is)
     (record { row = x.1; found = d.found; in_dock = d.in_dock; type = t; type_found = types; plan_is = refl })
 
 pub docked_view_is : (s : Operator) (station : List ℕ) (dock : ℕ) (o : Option (ℕ × Bike)) (b : DockedBike) → docked_at s station dock ≡ o → docked_view s o ≡ Some b → IsDockedView s station dock b

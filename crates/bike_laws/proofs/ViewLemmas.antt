@@ -1,143 +1,216 @@
 -- The numbers of a view are bounded.
-use Rattle.std.proofs.Common.{◌≡◌, ℕ, ℤ, ◌+◌, ◌≤◌, ◌≤ℤ◌, pos, length, true, Option, Some, None, refl, sym, ap, subst, arith}
-use Rattle.std.specs.Prelude.{IfSome, is_none}
+use Rattle.std.proofs.Common.{◌≡◌, ℕ, ℤ, ◌+◌, ◌<◌, ◌≤◌, ◌≤ℤ◌, pos, length, true, false, Option, Some, None, refl, sym, ap, subst, arith}
+use Rattle.std.specs.Prelude.{IfSome, IfNone, is_none}
 use Rattle.std.specs.FinMap as finmap
-use Rattle.bike_ledger.specs.Ledger.{refunded_of}
+use Rattle.bike_ledger.specs.Ledger.{balance_of, refunded_of, IsBalance}
+use Rattle.bike_ledger.proofs.BoundLemmas.{balance_of-bound}
 use Rattle.bike_texts.specs.declared.ends.OrderEnd.{OrderEnd}
 use Rattle.bike_texts.specs.declared.ends.OrderEnd.TheVariants as end
 use Rattle.bike_texts.specs.declared.ends.Side.{Side}
 use Rattle.bike_commands.specs.declared.command.Command.{Command}
 use Rattle.bike_commands.specs.declared.command.Command.TheVariants as command
-use Rattle.bike_operator.specs.declared.records.Bike.{Bike}
-use Rattle.bike_operator.specs.declared.records.Rental.{Rental}
+use Rattle.bike_operator.specs.declared.limits.TheConstants.{MOST_ENTRIES}
 use Rattle.bike_operator.specs.declared.records.Closing.{Closing}
 use Rattle.bike_operator.specs.declared.records.Order.{Order}
 use Rattle.bike_operator.specs.declared.view.RentalView.{RentalView}
+use Rattle.bike_operator.specs.declared.view.StationView.{StationView}
 use Rattle.bike_operator.specs.declared.view.View.{View}
 use Rattle.bike_operator.specs.Operator.{Operator, Rider, numbered}
-use Rattle.bike_operator.specs.Counts.{open_rentals, is_open}
-use Rattle.bike_operator.specs.View.{rider_view, rental_view, rental_of, order_view, at_end, at_order, end_at, view_of}
-use Rattle.bike_operator.specs.Sound.{IsSound, IsOpenOrClosed, most_refunded}
-use Rattle.bike_operator.specs.Bounds.{IsWithin, IsRefundable, IsRentalWithin, IsOpenCounted, IsBounded}
+use Rattle.bike_operator.specs.Counts.{order_load, open_rentals, is_open}
+use Rattle.bike_operator.specs.View.{has_full_ledger, station_at, rider_view, rental_at, rental_of, end_at, end_view, side_view, view_of}
+use Rattle.bike_operator.specs.Sound.{IsSound, most_refunded}
+use Rattle.bike_operator.specs.Bounds.{IsChargeable, IsRefundable, IsBounded}
 use Rattle.bike_laws.proofs.NumberLemmas.{count_some}
-use Rattle.bike_laws.proofs.EntryLemmas.{amounts_of, balance_within, refunded_low}
-use Rattle.bike_laws.proofs.FoundLemmas.{each_some, IsViewOf, view_is, rental_is}
+use Rattle.bike_laws.proofs.EntryLemmas.{amounts_of, refunded_low}
+use Rattle.bike_laws.proofs.FoundLemmas.{each_some, below_of, IsViewOf, view_is, rental_is}
 
--- ---- rows
+-- ---- room
 
-rider_bounded : (s : Operator) (rider : ℕ) (o : Option Rider) → IsSound s → IfSome (rider_view s rider o) (λ r. IsWithin (length s.entries) r.balance)
-rider_bounded s rider None order = tt
-rider_bounded s rider (Some r) order = balance_within s.entries rider (amounts_of s order.ledger)
+room_of : (s : Operator) → has_full_ledger s ≡ false → length s.entries + open_rentals s < MOST_ENTRIES
+room_of s room = below_of MOST_ENTRIES (length s.entries + open_rentals s) room
 
-order_bounded : (s : Operator) (number : ℕ) (o : Option Order) → IsSound s → numbered number s.orders ≡ o → IfSome (order_view s number o) (λ v. v.order.delivered + v.on_truck ≤ v.order.count)
-order_bounded s number None order e = tt
-order_bounded s number (Some x) order e = (order.orders.orders number x e).filled
+-- where there is room for an entry, each balance takes one more
+balance_bounded : (s : Operator) (rider : ℕ) → IsSound s → length s.entries < MOST_ENTRIES → IsBalance (balance_of rider s.entries)
+balance_bounded s rider sound room = balance_of-bound s.entries rider (amounts_of s sound.ledger) (omega (arith, room))
 
-refundable : (s : Operator) (number : ℕ) (x : Rental) (o : Option Closing) (z : ℤ) → IsOpenOrClosed s number x o → pos 0 ≤ℤ z → z ≤ℤ most_refunded o → IsRefundable z o
-refundable s number x None z is low high = tt
-refundable s number x (Some c) z is low high = (low, high, is.high)
+rentals_bounded : (s : Operator) → IsSound s → has_full_ledger s ≡ false → length s.rentals < MOST_ENTRIES
+rentals_bounded s sound room =
+    let left = room_of s room in
+    let few = sound.rentals.few_rentals in
+    omega (arith, left, few)
 
-open_counted : (s : Operator) (number : ℕ) (x : Rental) (o : Option Closing) → numbered number s.rentals ≡ Some x → x.closing ≡ o → IsOpenCounted (open_rentals s) o
-open_counted s number x None found is = count_some (λ r. is_open r) number s.rentals x found (ap (λ (c : Option Closing). is_none c) is)
-open_counted s number x (Some c) found is = tt
+rider_bounded : (s : Operator) (rider : ℕ) (o : Option Rider) → IsSound s → has_full_ledger s ≡ false → IfSome (rider_view s rider o) (λ r. IsBalance r.balance)
+rider_bounded s rider None sound room = tt
+rider_bounded s rider (Some r) sound room = let left = room_of s room in balance_bounded s rider sound (omega (arith, left))
 
-one_rental : (s : Operator) (now : ℕ) (r : RentalView) → IsSound s → s.now ≤ now → IsViewOf s r → IsRentalWithin (length s.entries) now r × IsOpenCounted (open_rentals s) r.rental.closing
-one_rental s now r order later v =
-    let at = order.rentals.rentals r.number r.rental v.found in
-    let began = at.by_now in
-    let amounts = amounts_of s order.ledger in (
-      record {
-        began = omega (arith, began, later);
-        balance = subst (IsWithin (length s.entries)) (sym v.balance_is) (balance_within s.entries r.rental.rider amounts);
-        refunded = subst (λ (z : ℤ). IsRefundable z r.rental.closing) (sym v.refunded_is)
-            (refundable s r.number r.rental r.rental.closing (refunded_of r.number s.entries) at.closing (refunded_low s.entries r.number amounts) at.refunded);
-      },
-      open_counted s r.number r.rental r.rental.closing v.found refl,
-    )
+-- ---- rentals
 
-rental_bounded : (s : Operator) (now : ℕ) (o : Option RentalView) → IsSound s → s.now ≤ now → ((r : RentalView) → o ≡ Some r → IsViewOf s r) → IfSome o (λ r. IsRentalWithin (length s.entries) now r × IsOpenCounted (open_rentals s) r.rental.closing)
-rental_bounded s now None order later is = tt
-rental_bounded s now (Some r) order later is = one_rental s now r order later (is r refl)
+viewed_bounded : (s : Operator) (r : RentalView) → IsSound s → IsViewOf s r → length s.entries < MOST_ENTRIES → IsBalance r.balance
+viewed_bounded s r sound v room = subst IsBalance (sym v.balance_is) (balance_bounded s r.rental.rider sound room)
 
--- where no rental is viewed there is nothing to hold
-none_held : (o : Option Bike) → IfSome o (λ b. Unit {0})
-none_held None = tt
-none_held (Some b) = tt
+charge_bounded : (s : Operator) (now : ℕ) (r : RentalView) → IsSound s → s.now ≤ now → IsViewOf s r → (o : Option Closing) → r.rental.closing ≡ o → IfNone o (IsChargeable (length s.entries) now r)
+charge_bounded s now r sound later v None is =
+    let began = (sound.rentals.rentals r.number r.rental v.found).by_now in
+    let one : 1 ≤ open_rentals s = count_some (λ x. is_open x) r.number s.rentals r.rental v.found (ap (λ (c : Option Closing). is_none c) is) in
+    let few = sound.ledger.few_entries in
+    let room : length s.entries < MOST_ENTRIES = omega (arith, one, few) in
+    record { began = omega (arith, began, later); room = room; balance = viewed_bounded s r sound v room }
+charge_bounded s now r sound later v (Some c) is = tt
+
+refund_bounded : (s : Operator) (r : RentalView) → IsSound s → IsViewOf s r → (o : Option Closing) → r.rental.closing ≡ o → IfSome o (λ c. IsRefundable (length s.entries) r c.fare)
+refund_bounded s r sound v None is = tt
+refund_bounded s r sound v (Some c) is =
+    let at = sound.rentals.rentals r.number r.rental v.found in
+    let low : pos 0 ≤ℤ refunded_of r.number s.entries = refunded_low s.entries r.number (amounts_of s sound.ledger) in
+    let high : refunded_of r.number s.entries ≤ℤ c.fare = subst (λ (o : Option Closing). refunded_of r.number s.entries ≤ℤ most_refunded o) is at.refunded in
+    record {
+      low = subst (λ (z : ℤ). pos 0 ≤ℤ z) (sym v.refunded_is) low;
+      high = subst (λ (z : ℤ). z ≤ℤ c.fare) (sym v.refunded_is) high;
+      balance = λ room. viewed_bounded s r sound v room;
+    }
+
+-- a rental in a view: what is booked of it is bounded
+charges_bounded : (s : Operator) (now : ℕ) (o : Option RentalView) → IsSound s → s.now ≤ now → ((r : RentalView) → o ≡ Some r → IsViewOf s r) → IfSome o (λ r. IfNone r.rental.closing (IsChargeable (length s.entries) now r))
+charges_bounded s now o sound later viewed =
+    each_some o (λ r. IfNone r.rental.closing (IsChargeable (length s.entries) now r)) (λ r i. charge_bounded s now r sound later (viewed r i) r.rental.closing refl)
+
+refunds_bounded : (s : Operator) (o : Option RentalView) → IsSound s → ((r : RentalView) → o ≡ Some r → IsViewOf s r) → IfSome o (λ r. IfSome r.rental.closing (λ c. IsRefundable (length s.entries) r c.fare))
+refunds_bounded s o sound viewed =
+    each_some o (λ r. IfSome r.rental.closing (λ c. IsRefundable (length s.entries) r c.fare)) (λ r i. refund_bounded s r sound (viewed r i) r.rental.closing refl)
+
+-- the rental that ends at a station is open
+ends_open : (s : Operator) (bike : ℕ) (at : Option StationView) → IsSound s → IfSome at (λ x. IfSome (rental_of s (finmap.get s.bikes bike)) (λ r. is_open r.rental ≡ true))
+ends_open s bike at sound =
+    each_some at (λ x. IfSome (rental_of s (finmap.get s.bikes bike)) (λ r. is_open r.rental ≡ true))
+    (λ x i. each_some (rental_of s (finmap.get s.bikes bike)) (λ r. is_open r.rental ≡ true) (λ r j. (rental_is s bike (finmap.get s.bikes bike) r sound.bikes refl j).not_closed))
+
+-- where no rental is viewed, none ends
+none_ends : (at : Option StationView) → IfSome at (λ x. Unit {0})
+none_ends None = tt
+none_ends (Some x) = tt
+
+-- ---- orders
+
+order_filled : (s : Operator) (number : ℕ) → IsSound s → IfSome (numbered number s.orders) (λ o. o.delivered + order_load s number ≤ o.count)
+order_filled s number sound = each_some (numbered number s.orders) (λ o. o.delivered + order_load s number ≤ o.count) (λ o i. (sound.orders.orders number o i).filled)
+
+order_delivered : (s : Operator) (number on : ℕ) → IsSound s → on ≡ 0 → IfSome (numbered number s.orders) (λ o. o.delivered + on ≤ o.count)
+order_delivered s number on sound none =
+    each_some (numbered number s.orders) (λ o. o.delivered + on ≤ o.count) (λ o i. let filled = (sound.orders.orders number o i).filled in omega (arith, filled, none))
 
 -- ---- views
 
-bounded : (s : Operator) (now : ℕ) (v : View) → IsSound s → v.entries ≡ length s.entries → v.open_rentals ≡ open_rentals s → v.rentals ≡ length s.rentals → v.orders ≡ length s.orders
-    → IfSome v.rider (λ r. IsWithin v.entries r.balance)
-    → IfSome v.rental (λ r. IsRentalWithin v.entries now r × IsOpenCounted v.open_rentals r.rental.closing)
-    → IfSome v.bike (λ b. IfSome v.rental (λ r. is_open r.rental ≡ true))
-    → IfSome v.order (λ o. o.order.delivered + o.on_truck ≤ o.order.count)
-    → IsBounded v now
-bounded s now v order entries ongoing rentals orders rider rental held orderly =
-    let few_entries = order.ledger.few_entries in
-    let few_rentals = order.rentals.few_rentals in
-    let few_orders = order.orders.few_orders in
+-- the view has neither rider nor rental, and counts nothing
+record IsBare (v : View) : Type 0 where
+  rider : v.rider ≡ None
+  rental : v.rental ≡ None
+  rentals : v.rentals ≡ 0
+  on_truck : v.on_truck ≡ 0
+
+bare_bounded : (now : ℕ) (v : View) → IsBare v → IfSome v.order (λ o. o.delivered + v.on_truck ≤ o.count) → IsBounded v now
+bare_bounded now v bare filled =
+    let few = bare.rentals in
     record {
-      few_entries = omega (arith, entries, ongoing, few_entries);
-      few_rentals = omega (arith, entries, ongoing, rentals, few_rentals);
-      few_orders = omega (arith, orders, few_orders);
-      rider = rider;
-      rental = rental;
-      held = held;
-      order = orderly;
+      few_rentals = λ room. omega (arith, few);
+      rider = λ room. rw bare.rider tt;
+      charge = rw bare.rental tt;
+      refund = rw bare.rental tt;
+      ends = rw bare.rental (none_ends v.station);
+      filled = filled;
     }
 
--- what lies at a dock bounds nothing
-bounded_at_end : (s : Operator) (now : ℕ) (e : OrderEnd) (dock : ℕ) (v : View) → IsBounded v now → IsBounded (at_end s e dock v) now
-bounded_at_end s now end.Depot dock v b = b
-bounded_at_end s now (end.Station station) dock v b =
-    record { few_entries = b.few_entries; few_rentals = b.few_rentals; few_orders = b.few_orders; rider = b.rider; rental = b.rental; held = b.held; order = b.order }
+-- a view in which no order stands either
+plain_bounded : (now : ℕ) (v : View) → v.rider ≡ None → v.rental ≡ None → v.rentals ≡ 0 → v.on_truck ≡ 0 → v.order ≡ None → IsBounded v now
+plain_bounded now v rider rental rentals on_truck order = bare_bounded now v (record { rider = rider; rental = rental; rentals = rentals; on_truck = on_truck }) (rw order tt)
 
-bounded_at_order : (s : Operator) (now : ℕ) (o : Option Order) (side : Side) (dock : ℕ) (v : View) → IsBounded v now → IsBounded (at_order s o side dock v) now
-bounded_at_order s now None side dock v b = b
-bounded_at_order s now (Some o) side dock v b = bounded_at_end s now (end_at side o) dock v b
+end_bare : (s : Operator) (e : OrderEnd) (dock : ℕ) → IsBare (end_view s e dock)
+end_bare s end.Depot dock = record { rider = refl; rental = refl; rentals = refl; on_truck = refl }
+end_bare s (end.Station station) dock = record { rider = refl; rental = refl; rentals = refl; on_truck = refl }
+
+side_bare : (s : Operator) (o : Option Order) (side : Side) (dock : ℕ) → IsBare (side_view s o side dock)
+side_bare s None side dock = record { rider = refl; rental = refl; rentals = refl; on_truck = refl }
+side_bare s (Some o) side dock = end_bare s (end_at side o) dock
+
+rental_viewed : (s : Operator) (number : ℕ) (r : RentalView) → rental_at s number ≡ Some r → IsViewOf s r
+rental_viewed s number r is = view_is s number (numbered number s.rentals) r refl is
+
+bike_viewed : (s : Operator) (bike : ℕ) → IsSound s → (r : RentalView) → rental_of s (finmap.get s.bikes bike) ≡ Some r → IsViewOf s r
+bike_viewed s bike sound r is = (rental_is s bike (finmap.get s.bikes bike) r sound.bikes refl is).view
 
 pub view_bounded : (s : Operator) (now : ℕ) (c : Command) → IsSound s → s.now ≤ now → IsBounded (view_of s c) now
-view_bounded s now (command.SetSystem x) order later = bounded s now (view_of s (command.SetSystem x)) order refl refl refl refl tt tt tt tt
-view_bounded s now (command.AddPlan p) order later = bounded s now (view_of s (command.AddPlan p)) order refl refl refl refl tt tt tt tt
-view_bounded s now (command.AddType t) order later = bounded s now (view_of s (command.AddType t)) order refl refl refl refl tt tt tt tt
-view_bounded s now (command.SetPlan type_id plan) order later = bounded s now (view_of s (command.SetPlan type_id plan)) order refl refl refl refl tt tt tt tt
-view_bounded s now (command.AddStation x) order later = bounded s now (view_of s (command.AddStation x)) order refl refl refl refl tt tt tt tt
-view_bounded s now (command.SetStation station installed renting returning) order later =
-    bounded s now (view_of s (command.SetStation station installed renting returning)) order refl refl refl refl tt tt tt tt
-view_bounded s now (command.MarkDock station dock broken) order later = bounded s now (view_of s (command.MarkDock station dock broken)) order refl refl refl refl tt tt tt tt
-view_bounded s now (command.AddBike bike type_id) order later =
-    bounded s now (view_of s (command.AddBike bike type_id)) order refl refl refl refl tt tt (none_held (finmap.get s.bikes bike)) tt
-view_bounded s now (command.MarkBike bike disabled) order later =
-    bounded s now (view_of s (command.MarkBike bike disabled)) order refl refl refl refl tt tt (none_held (finmap.get s.bikes bike)) tt
-view_bounded s now (command.RetireBike bike) order later =
-    bounded s now (view_of s (command.RetireBike bike)) order refl refl refl refl tt tt (none_held (finmap.get s.bikes bike)) tt
-view_bounded s now (command.AddTruck truck capacity) order later = bounded s now (view_of s (command.AddTruck truck capacity)) order refl refl refl refl tt tt tt tt
-view_bounded s now (command.AddRider rider) order later =
-    bounded s now (view_of s (command.AddRider rider)) order refl refl refl refl (rider_bounded s rider (finmap.get s.riders rider) order) tt tt tt
-view_bounded s now (command.SetRider rider blocked) order later =
-    bounded s now (view_of s (command.SetRider rider blocked)) order refl refl refl refl (rider_bounded s rider (finmap.get s.riders rider) order) tt tt tt
-view_bounded s now (command.TopUp rider amount) order later =
-    bounded s now (view_of s (command.TopUp rider amount)) order refl refl refl refl (rider_bounded s rider (finmap.get s.riders rider) order) tt tt tt
-view_bounded s now (command.Start rider station dock) order later =
-    bounded s now (view_of s (command.Start rider station dock)) order refl refl refl refl (rider_bounded s rider (finmap.get s.riders rider) order) tt tt tt
-view_bounded s now (command.End bike station dock) order later =
-    bounded s now (view_of s (command.End bike station dock)) order refl refl refl refl tt
-    (rental_bounded s now (rental_of s (finmap.get s.bikes bike)) order later (λ r i. (rental_is s bike (finmap.get s.bikes bike) r order.bikes refl i).view))
-    (each_some (finmap.get s.bikes bike) (λ b. IfSome (rental_of s (finmap.get s.bikes bike)) (λ r. is_open r.rental ≡ true))
-    (λ b e. each_some (rental_of s (finmap.get s.bikes bike)) (λ r. is_open r.rental ≡ true) (λ r i. (rental_is s bike (finmap.get s.bikes bike) r order.bikes refl i).not_closed)))
-    tt
-view_bounded s now (command.Recover rental) order later =
-    bounded s now (view_of s (command.Recover rental)) order refl refl refl refl tt
-    (rental_bounded s now (rental_view s rental (numbered rental s.rentals)) order later (λ r i. view_is s rental (numbered rental s.rentals) r refl i)) tt tt
-view_bounded s now (command.Refund rental amount) order later =
-    bounded s now (view_of s (command.Refund rental amount)) order refl refl refl refl tt
-    (rental_bounded s now (rental_view s rental (numbered rental s.rentals)) order later (λ r i. view_is s rental (numbered rental s.rentals) r refl i)) tt tt
-view_bounded s now (command.OpenOrder truck from_end to_end type_id count) order later =
-    bounded s now (view_of s (command.OpenOrder truck from_end to_end type_id count)) order refl refl refl refl tt tt tt tt
-view_bounded s now (command.Load truck number bike) order later =
-    bounded s now (view_of s (command.Load truck number bike)) order refl refl refl refl tt tt (none_held (finmap.get s.bikes bike)) (order_bounded s number (numbered number s.orders) order refl)
-view_bounded s now (command.Unload truck number bike side dock) order later =
-    bounded_at_order s now (numbered number s.orders) side dock (view_of s (command.Load truck number bike))
-    (bounded s now (view_of s (command.Load truck number bike)) order refl refl refl refl tt tt (none_held (finmap.get s.bikes bike)) (order_bounded s number (numbered number s.orders) order refl))
-view_bounded s now (command.CloseOrder number) order later =
-    bounded s now (view_of s (command.CloseOrder number)) order refl refl refl refl tt tt tt (order_bounded s number (numbered number s.orders) order refl)
+view_bounded s now (command.SetSystem x) sound later = plain_bounded now (view_of s (command.SetSystem x)) refl refl refl refl refl
+view_bounded s now (command.AddPlan p) sound later = plain_bounded now (view_of s (command.AddPlan p)) refl refl refl refl refl
+view_bounded s now (command.AddType t) sound later = plain_bounded now (view_of s (command.AddType t)) refl refl refl refl refl
+view_bounded s now (command.SetPlan type_id plan) sound later = plain_bounded now (view_of s (command.SetPlan type_id plan)) refl refl refl refl refl
+view_bounded s now (command.AddStation x) sound later = plain_bounded now (view_of s (command.AddStation x)) refl refl refl refl refl
+view_bounded s now (command.SetStation station installed renting returning) sound later =
+    plain_bounded now (view_of s (command.SetStation station installed renting returning)) refl refl refl refl refl
+view_bounded s now (command.MarkDock station dock broken) sound later = plain_bounded now (view_of s (command.MarkDock station dock broken)) refl refl refl refl refl
+view_bounded s now (command.AddBike bike type_id) sound later = plain_bounded now (view_of s (command.AddBike bike type_id)) refl refl refl refl refl
+view_bounded s now (command.MarkBike bike disabled) sound later = plain_bounded now (view_of s (command.MarkBike bike disabled)) refl refl refl refl refl
+view_bounded s now (command.RetireBike bike) sound later = plain_bounded now (view_of s (command.RetireBike bike)) refl refl refl refl refl
+view_bounded s now (command.AddTruck truck capacity) sound later = plain_bounded now (view_of s (command.AddTruck truck capacity)) refl refl refl refl refl
+view_bounded s now (command.AddRider rider) sound later = plain_bounded now (view_of s (command.AddRider rider)) refl refl refl refl refl
+view_bounded s now (command.SetRider rider blocked) sound later = plain_bounded now (view_of s (command.SetRider rider blocked)) refl refl refl refl refl
+view_bounded s now (command.TopUp rider amount) sound later = record {
+  few_rentals = λ room. omega arith;
+  rider = λ room. rider_bounded s rider (finmap.get s.riders rider) sound room;
+  charge = tt;
+  refund = tt;
+  ends = tt;
+  filled = tt;
+}
+view_bounded s now (command.Start rider station dock) sound later = record {
+  few_rentals = λ room. rentals_bounded s sound room;
+  rider = λ room. rider_bounded s rider (finmap.get s.riders rider) sound room;
+  charge = tt;
+  refund = tt;
+  ends = none_ends (station_at s station);
+  filled = tt;
+}
+view_bounded s now (command.End bike station dock) sound later = record {
+  few_rentals = λ room. omega arith;
+  rider = λ room. tt;
+  charge = charges_bounded s now (rental_of s (finmap.get s.bikes bike)) sound later (bike_viewed s bike sound);
+  refund = refunds_bounded s (rental_of s (finmap.get s.bikes bike)) sound (bike_viewed s bike sound);
+  ends = ends_open s bike (station_at s station) sound;
+  filled = tt;
+}
+view_bounded s now (command.Recover rental) sound later = record {
+  few_rentals = λ room. omega arith;
+  rider = λ room. tt;
+  charge = charges_bounded s now (rental_at s rental) sound later (rental_viewed s rental);
+  refund = refunds_bounded s (rental_at s rental) sound (rental_viewed s rental);
+  ends = tt;
+  filled = tt;
+}
+view_bounded s now (command.Refund rental amount) sound later = record {
+  few_rentals = λ room. omega arith;
+  rider = λ room. tt;
+  charge = charges_bounded s now (rental_at s rental) sound later (rental_viewed s rental);
+  refund = refunds_bounded s (rental_at s rental) sound (rental_viewed s rental);
+  ends = tt;
+  filled = tt;
+}
+view_bounded s now (command.OpenOrder truck from_end to_end type_id count) sound later =
+    plain_bounded now (view_of s (command.OpenOrder truck from_end to_end type_id count)) refl refl refl refl refl
+view_bounded s now (command.Load truck order bike) sound later = record {
+  few_rentals = λ room. omega arith;
+  rider = λ room. tt;
+  charge = tt;
+  refund = tt;
+  ends = tt;
+  filled = order_filled s order sound;
+}
+view_bounded s now (command.Unload truck order bike side dock) sound later =
+    let bare = side_bare s (numbered order s.orders) side dock in
+    bare_bounded now (view_of s (command.Unload truck order bike side dock)) (record { rider = bare.rider; rental = bare.rental; rentals = bare.rentals; on_truck = bare.on_truck })
+    (order_delivered s order (side_view s (numbered order s.orders) side dock).on_truck sound bare.on_truck)
+view_bounded s now (command.CloseOrder order) sound later = record {
+  few_rentals = λ room. omega arith;
+  rider = λ room. tt;
+  charge = tt;
+  refund = tt;
+  ends = tt;
+  filled = order_filled s order sound;
+}

@@ -21,12 +21,12 @@ pub fn keeps_rentals()
     ensures { AcceptedKeeps AreRentalsSound }
 {}
 
-/// The law of order: a step keeps an operator sound.
+/// The law of soundness: a step keeps an operator sound.
 pub fn keeps_soundness()
     ensures { (s : Operator) (t : ℕ) (q : Request) → t ≤ last_moment → IsRequest q → IsSound s → IsSound (step s t q).1 }
 {}
 
-/// The law of order over lists: every list of requests leaves a sound operator sound.
+/// The law of soundness over lists: every list of requests leaves a sound operator sound.
 pub fn keeps_soundness_over_lists()
     ensures { (s : Operator) (cs : List Call) → AreCalls cs → IsSound s → IsSound (after s cs) }
 {}

@@ -1,11 +1,14 @@
-//! Laws of views and replies.
+//! Laws of views, of the ledger's room and of replies.
 
-ghost use Rattle.std.specs.Prelude.{◌≡◌, ◌≤◌, ℕ, None, false};
+ghost use Rattle.std.specs.Prelude.{◌≡◌, ◌≤◌, ◌<◌, ◌+◌, ℕ, None, false, length};
+ghost use Rattle.std.specs.FinMap.{len};
 ghost use Rattle.bike_commands.specs.declared.command.Command.{Command};
 ghost use Rattle.bike_commands.specs.Commands.{IsCommand};
 ghost use Rattle.bike_commands.specs.Replies.{IsReply};
+ghost use Rattle.bike_operator.specs.declared.limits.TheConstants.{MOST_BIKES, MOST_ENTRIES};
 ghost use Rattle.bike_operator.specs.Operator.{Operator};
-ghost use Rattle.bike_operator.specs.View.{view_of};
+ghost use Rattle.bike_operator.specs.Counts.{open_rentals};
+ghost use Rattle.bike_operator.specs.View.{view_of, has_full_ledger};
 ghost use Rattle.bike_operator.specs.Steps.{refused, reply_of};
 ghost use Rattle.bike_operator.specs.Sound.{IsSound, is_refused};
 ghost use Rattle.bike_operator.specs.Bounds.{IsBounded};
@@ -13,6 +16,14 @@ ghost use Rattle.bike_operator.specs.Bounds.{IsBounded};
 /// The law of views: the numbers of a view of a sound operator are bounded.
 pub fn view_law()
     ensures { (s : Operator) (now : ℕ) (c : Command) → IsSound s → IsCommand c → s.now ≤ now → IsBounded (view_of s c) now }
+{}
+
+/// The law of the ledger's room: a sound operator has no more open rentals than bicycles, so that few entries leave room
+/// without a count of open rentals.
+pub fn ledger_room_law()
+    ensures bikes { (s : Operator) → IsSound s → open_rentals s ≤ len s.bikes }
+    ensures few { (s : Operator) → IsSound s → open_rentals s ≤ MOST_BIKES }
+    ensures room { (s : Operator) → IsSound s → length s.entries + MOST_BIKES < MOST_ENTRIES → has_full_ledger s ≡ false }
 {}
 
 /// The law of replies: an accepted command of a sound operator is answered by a reply of the program, which
