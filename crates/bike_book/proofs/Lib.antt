@@ -1,3 +1,15 @@
 pub mod MapRows
 pub mod Keys
 pub mod NumberRows
+pub mod ListingLemmas
+pub mod BooksLemmas
+pub mod CatalogueBooks
+pub mod FleetBooks
+pub mod RentalBooks
+pub mod PlanBooks
+pub mod LedgerRows
+pub mod CloseBooks
+pub mod SoundNumbers
+pub mod FoundKeys
+pub mod FoundNumbers
+pub mod FoundColumns

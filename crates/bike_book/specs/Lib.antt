@@ -4,3 +4,7 @@ pub mod Stored
 pub mod Writes
 pub mod Leads
 pub mod Between
+pub mod ChangeLaws
+pub mod CloseLaws
+pub mod NotThere
+pub mod Found

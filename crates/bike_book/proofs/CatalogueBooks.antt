@@ -1,0 +1,99 @@
+-- The row changes that book a system set, a type or station added, and a type's default plan or a station's flags set.
+use Rattle.std.proofs.Common.{◌≡◌, ℕ, pos, List, [], ◌∷◌, true, Option, Some, None, refl, sym, ap, ap₂, ◌∙◌, arith}
+use Rattle.std.specs.Prelude.{map}
+use Rattle.std.specs.Ordering.{nat_cmp}
+use Rattle.std.specs.declared.cmp.Ordering.TheVariants.{Equal}
+use Rattle.std.specs.Cmp.{eq_by_cmp_equiv, Equal-is}
+use Rattle.std.specs.FinMap as fin
+use Rattle.std.proofs.lemmas.Int.{ints}
+use Rattle.sqlite_value.specs.Order.{Row, row_cmp}
+use Rattle.bike_rows.specs.View.{put_row_by}
+use Rattle.bike_catalogue.specs.Rows.{SystemRow}
+use Rattle.bike_operator.specs.declared.change.Change.TheVariants as change
+use Rattle.bike_operator.specs.Operator.{Operator, Station}
+use Rattle.bike_operator.specs.Steps.{key_changed, new_station}
+use Rattle.bike_operator.specs.Changes.{changed}
+use Rattle.bike_places.proofs.MapLemmas.{number_order, text_order, known_added, known_changed}
+use Rattle.bike_places.proofs.CatalogueLemmas.{same_docks, docks_changed, docks_added}
+use Rattle.bike_book.specs.Rows.{system_row, station_row}
+use Rattle.bike_book.specs.Stored.{Listed, IsListing, system_rows, stored_type}
+use Rattle.bike_book.specs.Between.{docks_left, counted_station, tables_between}
+use Rattle.bike_book.specs.ChangeLaws.{Everywhere, SetSystemLaw, AddTypeLaw, SetPlanLaw, AddStationLaw, SetStationLaw}
+use Rattle.bike_book.proofs.MapRows.{put_entries, changed_entries}
+use Rattle.bike_book.proofs.Keys.{numbers, number_key, texts}
+use Rattle.bike_book.proofs.ListingLemmas.{KeepsNames, names_same, listing_same}
+
+-- the one key of `system` and `meta`
+pub one_key : row_cmp (number_key 1) (number_key 1) ≡ Equal
+one_key = numbers.compares 1 1 tt tt ∙ (Equal-is (nat_cmp 1 1)).0 ((eq_by_cmp_equiv number_order.total).refl 1)
+
+-- ---- the system
+
+system_put : (x : SystemRow) (o : Option SystemRow) → put_row_by 1 (system_row x) (system_rows o) ≡ system_row x ∷ []
+system_put x None = refl
+system_put x (Some y) = rw one_key refl
+
+pub set_system : Everywhere SetSystemLaw
+set_system s m now listing x = record {
+  leads = λ i. record (tables_between s m) { system = system_put x.now s.system i };
+  listing = listing_same s (changed now (change.SetSystem x) s) m (names_same s (changed now (change.SetSystem x) s) refl refl) refl refl listing;
+}
+
+-- ---- types
+
+types_known : (s n : Operator) → n.stations ≡ s.stations → ((q : List ℕ) → fin.contains_key s.types q ≡ true → fin.contains_key n.types q ≡ true) → KeepsNames s n
+types_known s n stations types = let same = names_same s (record n { types = s.types }) stations refl in record { docks = same_docks s n stations; stations = same.stations; types = types }
+
+pub add_type : Everywhere AddTypeLaw
+add_type s m now listing t =
+    let n = changed now (change.AddType t) s in
+    let types = put_entries texts stored_type stored_type (λ e. refl) (λ e. refl) s.types t.now.type_id t.now tt (λ q y found. (tt, λ apart. refl)) in
+    record {
+      leads = λ i. record (tables_between s m) { types = types i };
+      listing = listing_same s n m (types_known s n refl (λ q h. known_added text_order s.types t.now.type_id t.now q h)) refl refl listing;
+    }
+
+pub set_plan : Everywhere SetPlanLaw
+set_plan s m now listing type_id plan =
+    let n = changed now (change.SetPlan type_id plan) s in
+    let types = changed_entries texts stored_type stored_type (λ e. refl) (λ e. refl) s.types type_id.now tt _ (λ t. record t { plan_id = plan.now }) (λ v found. refl) (λ q y found. (tt, λ apart. refl)) in
+    record {
+      leads = λ i. record (tables_between s m) { types = types i };
+      listing = listing_same s n m (types_known s n refl (λ q h. known_changed text_order s.types type_id.now (λ t. record t { plan_id = plan.now }) q h)) refl refl listing;
+    }
+
+-- ---- stations
+
+pub add_station : Everywhere AddStationLaw
+add_station s m now listing x free none_taken none_broken =
+    let n = changed now (change.AddStation x) s in
+    let left : pos x.now.docks ≡ docks_left s x.now.station_id x.now.docks = omega (arith, ints, none_taken, none_broken) in
+    let stations =
+    ap (λ (r : Row). put_row_by 1 r (map (counted_station s) (fin.entries s.stations))) (ap₂ (station_row x.now.station_id (new_station x.now now)) left (sym none_broken))
+    ∙ put_entries texts (counted_station s) (counted_station s) (λ e. refl) (λ e. refl) s.stations x.now.station_id (new_station x.now now) tt (λ q y found. (tt, λ apart. refl)) in
+    record {
+      leads = λ i. record (tables_between s m) { stations = stations i };
+      listing = listing_same s n m (record {
+        docks = docks_added s n x.now.station_id (new_station x.now now) free refl;
+        stations = λ q h. known_added text_order s.stations x.now.station_id (new_station x.now now) q h;
+        types = λ q h. h;
+      }) refl refl listing;
+    }
+
+-- a station's flags or its report change, and not its record
+pub names_station : (s : Operator) (id : List ℕ) (f : Station → Station) → ((x : Station) → (f x).row ≡ x.row) → KeepsNames s (record s { stations = key_changed s.stations id f })
+names_station s id f rows = record {
+  docks = docks_changed s (record s { stations = key_changed s.stations id f }) id f rows refl;
+  stations = λ q h. known_changed text_order s.stations id f q h;
+  types = λ q h. h;
+}
+
+pub set_station : Everywhere SetStationLaw
+set_station s m now listing station installed renting returning =
+    let n = changed now (change.SetStation station installed renting returning) s in
+    let f = λ (x : Station). record x { is_installed = installed; is_renting = renting; is_returning = returning; reported = now } in
+    let stations = changed_entries texts (counted_station s) (counted_station s) (λ e. refl) (λ e. refl) s.stations station.now tt _ f (λ v found. refl) (λ q y found. (tt, λ apart. refl)) in
+    record {
+      leads = λ i. record (tables_between s m) { stations = stations i };
+      listing = listing_same s n m (names_station s station.now f (λ x. refl)) refl refl listing;
+    }

@@ -1,0 +1,84 @@
+-- The row changes that book a bicycle, truck or rider added, and a rider blocked or opened.
+use Rattle.std.proofs.Common.{◌≡◌, ℕ, ◌+◌, ℤ, pos, ◌-ℤ◌, List, Bool, true, false, ◌&&◌, Option, Some, None, refl, sym, ap, ap₂, ◌∙◌, arith}
+use Rattle.std.specs.Prelude.{map}
+use Rattle.std.specs.Borrow.{Bor}
+use Rattle.std.specs.Str.{bytes_eq}
+use Rattle.std.specs.FinMap as fin
+use Rattle.bike_rows.specs.View.{put_row_by}
+use Rattle.bike_operator.specs.declared.records.BikeState.TheVariants.{Fit}
+use Rattle.bike_operator.specs.declared.records.Place.TheVariants as place
+use Rattle.bike_operator.specs.declared.records.Bike.{Bike}
+use Rattle.bike_operator.specs.declared.change.Change.TheVariants as change
+use Rattle.bike_operator.specs.Operator.{Operator}
+use Rattle.bike_operator.specs.Counts.{count, is_available, is_working_dock, docks_broken}
+use Rattle.bike_operator.specs.Changes.{changed}
+use Rattle.bike_places.proofs.MapLemmas.{number_order, there_of}
+use Rattle.bike_places.proofs.CountLemmas.{one, weight, count-added}
+use Rattle.bike_counts.specs.Numbers.{is_disabled_of}
+use Rattle.bike_book.specs.Rows.{station_row, count_row, rider_row, first_text, second_text}
+use Rattle.bike_book.specs.Stored.{stored_bike, stored_truck, stored_rider, stored_count}
+use Rattle.bike_book.specs.Between.{counted_station, tables_between}
+use Rattle.bike_book.specs.ChangeLaws.{Everywhere, AddBikeLaw, AddTruckLaw, AddRiderLaw, SetRiderLaw}
+use Rattle.bike_book.proofs.MapRows.{same_entries, put_entries, set_entries}
+use Rattle.bike_book.proofs.Keys.{numbers, texts, pairs}
+use Rattle.bike_book.proofs.ListingLemmas.{names_same, listing_same, listing_counted}
+
+-- ---- bicycles
+
+neither : (b : Bool) → (b && false) ≡ false
+neither true = refl
+neither false = refl
+
+-- a bicycle under a new number counts for nothing where it fails the test
+uncounted_added : (s : Operator) (test : Bike → Bool) (bike : ℕ) (b : Bike) → fin.get s.bikes bike ≡ None → test b ≡ false
+    → count (λ e. test e.1) (fin.entries (fin.insert s.bikes bike b)) ≡ count (λ e. test e.1) (fin.entries s.bikes)
+uncounted_added s test bike b none fails =
+    let added = count-added number_order test s.bikes bike b in
+    let before : weight test (fin.get s.bikes bike) ≡ 0 = ap (weight test) none in
+    let now : one (test b) ≡ 0 = ap one fails in
+    omega (arith, added, before, now)
+
+pub add_bike : Everywhere AddBikeLaw
+add_bike s m now listing bike type_id none =
+    let b : Bike = record { type_id = type_id.now; state = Fit; place = place.Depot } in
+    let n = changed now (change.AddBike bike type_id) s in
+    let occupied_is = λ (station : List ℕ). uncounted_added s (λ x. is_working_dock s station x.place) bike b none refl in
+    let available_is = λ (station kind : List ℕ). uncounted_added s (λ x. bytes_eq x.type_id kind && is_available s station x) bike b none (neither (bytes_eq type_id.now kind)) in
+    let disabled_is = λ (station kind : List ℕ). uncounted_added s (is_disabled_of s station kind) bike b none (neither (bytes_eq type_id.now kind)) in
+    let bikes = put_entries numbers stored_bike stored_bike (λ e. refl) (λ e. refl) s.bikes bike b tt (λ q y found. (tt, λ apart. refl)) in
+    let stations =
+    same_entries texts (counted_station s) (counted_station n) s.stations (λ q x found.
+    ap (λ (taken : ℕ). station_row q x (pos x.row.docks -ℤ pos (taken + docks_broken s q x.row.docks)) (docks_broken s q x.row.docks)) (sym (occupied_is q))) in
+    let counts =
+    same_entries pairs (stored_count s) (stored_count n) m.counts (λ k y found.
+    ap₂ (count_row (first_text k) (second_text k)) (sym (available_is (first_text k) (second_text k))) (sym (disabled_is (first_text k) (second_text k)))) in
+    record {
+      leads = λ i. record (tables_between s m) { bikes = bikes i; stations = stations i; counts = counts i };
+      listing = listing_counted s n m (names_same s n refl refl) refl (λ station kind. (available_is station kind, disabled_is station kind)) listing;
+    }
+
+-- ---- trucks
+
+pub add_truck : Everywhere AddTruckLaw
+add_truck s m now listing truck capacity =
+    let n = changed now (change.AddTruck truck capacity) s in
+    let trucks = put_entries numbers stored_truck stored_truck (λ e. refl) (λ e. refl) s.trucks truck (record { capacity = capacity }) tt (λ q y found. (tt, λ apart. refl)) in
+    record { leads = λ i. record (tables_between s m) { trucks = trucks i }; listing = listing_same s n m (names_same s n refl refl) refl refl listing }
+
+-- ---- riders
+
+pub add_rider : Everywhere AddRiderLaw
+add_rider s m now listing rider blocked none =
+    let n = changed now (change.SetRider rider blocked) s in
+    let riders =
+    ap (λ (b : ℤ). put_row_by 1 (rider_row rider blocked b) (map (stored_rider s.entries) (fin.entries s.riders))) (sym none)
+    ∙ put_entries numbers (stored_rider s.entries) (stored_rider s.entries) (λ e. refl) (λ e. refl) s.riders rider (record { is_blocked = blocked }) tt (λ q y found. (tt, λ apart. refl)) in
+    record { leads = λ i. record (tables_between s m) { riders = riders i }; listing = listing_same s n m (names_same s n refl refl) refl refl listing }
+
+pub set_rider : Everywhere SetRiderLaw
+set_rider s m now listing rider blocked known =
+    let n = changed now (change.SetRider rider blocked) s in
+    let there = there_of (fin.get s.riders rider) known in
+    let riders =
+    set_entries numbers (stored_rider s.entries) (stored_rider s.entries) (λ e. refl) (λ e. refl) s.riders rider tt _ there.0 (record { is_blocked = blocked }) there.1 refl (λ q y found. (tt, λ apart. refl)) in
+    record { leads = λ i. record (tables_between s m) { riders = riders i }; listing = listing_same s n m (names_same s n refl refl) refl refl listing }

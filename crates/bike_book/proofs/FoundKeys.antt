@@ -1,0 +1,64 @@
+-- The rows found by their keys.
+use Rattle.std.proofs.Common.{◌≡◌, ℕ, List, [], ◌∷◌, cond, Bool, true, false, Option, Some, None, is_some, refl, sym, ap, ◌∙◌}
+use Rattle.std.specs.Prelude.{option_map}
+use Rattle.std.specs.FinMap as fin
+use Rattle.bike_rows.specs.View.{row_with}
+use Rattle.bike_catalogue.specs.Rows.{SystemRow}
+use Rattle.bike_ledger.specs.Ledger.{cash_of, revenue_of}
+use Rattle.bike_operator.specs.Operator.{Operator, Key, DockKey, key_of, dock_key}
+use Rattle.bike_operator.specs.Counts.{is_broken}
+use Rattle.bike_book.specs.declared.version.TheConstants.{NEWEST}
+use Rattle.bike_book.specs.Rows.{system_row, meta_row}
+use Rattle.bike_book.specs.Stored.{Listed, IsListing, system_rows, stored_plan, stored_type, stored_station, stored_dock, stored_bike, stored_truck, stored_rider, stored_rental, stored_order, stored_entry, stored_kept, stored_count}
+use Rattle.bike_book.specs.Found.{WhereListed, FoundByKey, FoundListed}
+use Rattle.bike_book.proofs.MapRows.{found_entries}
+use Rattle.bike_book.proofs.Keys.{number_key, numbers, texts, pairs, docks, IsPair, IsDockPair}
+use Rattle.bike_book.proofs.NumberRows.{found_number}
+use Rattle.bike_book.proofs.CatalogueBooks.{one_key}
+use Rattle.bike_book.proofs.LedgerRows.{meta_found}
+use Rattle.bike_book.proofs.CloseBooks.{kept_pair}
+
+system_found : (o : Option SystemRow) → row_with 1 (number_key 1) (system_rows o) ≡ option_map system_row o
+system_found None = refl
+system_found (Some x) = rw one_key refl
+
+pub found_by_key : WhereListed FoundByKey
+found_by_key s m sound listing = record {
+  meta = meta_found NEWEST s.now (cash_of s.entries) (revenue_of s.entries);
+  system = system_found s.system;
+  plans = λ id. found_entries texts stored_plan (λ e. refl) id tt s.plans (λ q y found. tt);
+  types = λ id. found_entries texts stored_type (λ e. refl) id tt s.types (λ q y found. tt);
+  stations = λ id. found_entries texts (stored_station s) (λ e. refl) id tt s.stations (λ q y found. tt);
+  bikes = λ bike. found_entries numbers stored_bike (λ e. refl) bike tt s.bikes (λ q y found. tt);
+  trucks = λ truck. found_entries numbers stored_truck (λ e. refl) truck tt s.trucks (λ q y found. tt);
+  riders = λ rider. found_entries numbers (stored_rider s.entries) (λ e. refl) rider tt s.riders (λ q y found. tt);
+  rentals = λ rental. found_number (stored_rental s.entries) (λ e. refl) rental s.rentals;
+  orders = λ order. found_number stored_order (λ e. refl) order s.orders;
+  entries = λ entry. found_number stored_entry (λ e. refl) entry s.entries;
+  kept = λ caller key. found_entries pairs stored_kept (λ e. refl) (key_of caller key) (record { first = caller; second = key; is = refl }) s.kept (λ k y found. kept_pair s sound.kept k y found);
+}
+
+-- ---- docks and counts
+
+module _ (s : Operator) (m : Listed) (listing : IsListing s m) where
+  pub count_pair : (key : Key) (y : Unit {0}) → fin.get m.counts key ≡ Some y → IsPair key
+  count_pair key y found = let it = listing.counts key (ap is_some found) in record { first = it.station; second = it.type_id; is = it.key_is }
+
+  pub dock_pair : (key : DockKey) (y : Unit {0}) → fin.get m.docks key ≡ Some y → IsDockPair key
+  dock_pair key y found = let it = listing.docks key (ap is_some found) in record { station = it.station; dock = it.dock; is = it.key_is }
+
+  -- a broken dock is listed
+  unlisted_works : (station : List ℕ) (dock : ℕ) → fin.get m.docks (dock_key station dock) ≡ None → (b : Bool) → is_broken s station dock ≡ b → b ≡ false
+  unlisted_works station dock none true marked =
+      let there = listing.marked (dock_key station dock) marked in
+      let not_there : is_some (fin.get m.docks (dock_key station dock)) ≡ false = ap is_some none in
+      absurd cc
+  unlisted_works station dock none false marked = refl
+
+pub found_listed : WhereListed FoundListed
+found_listed s m sound listing = record {
+  docks = λ station dock. found_entries docks (stored_dock s.broken) (λ e. refl) (dock_key station dock) (record { station = station; dock = dock; is = refl }) m.docks (dock_pair s m listing);
+  works = λ station dock none. unlisted_works s m listing station dock none (is_broken s station dock) refl;
+  counts = λ station type_id. found_entries pairs (stored_count s) (λ e. refl) (key_of station type_id) (record { first = station; second = type_id; is = refl }) m.counts (count_pair s m listing);
+  none = λ station type_id none. listing.counted station type_id (ap is_some none);
+}

@@ -1,0 +1,105 @@
+-- An entry as rows: its own, its rider's, its rental's and that of `meta`.
+use Rattle.std.proofs.Common.{◌≡◌, ◌≢◌, ℕ, ℤ, pos, ◌+◌, ◌+ℤ◌, List, [], ◌∷◌, ◌++◌, length, Bool, true, false, cond, Option, Some, None, refl, sym, ap, ◌∙◌, arith}
+use Rattle.std.specs.Prelude.{map, ◌==◌, option_map, unwrap_or}
+use Rattle.std.specs.Ordering.{nat_cmp, eq_by_cmp}
+use Rattle.std.specs.Cmp.{eq_by_cmp_equiv, unsigned_tied}
+use Rattle.std.specs.FinMap as fin
+use Rattle.std.specs.FinMap.{FinMap}
+use Rattle.std.proofs.lemmas.Int.{ints}
+use Rattle.sqlite_value.specs.declared.value.Value.TheVariants.{Int}
+use Rattle.sqlite_value.specs.Order.{Row}
+use Rattle.bike_rows.specs.View.{row_with, put_row_by, updated, with_values}
+use Rattle.bike_ledger.specs.Entries.{Entry}
+use Rattle.bike_ledger.specs.Ledger.{credit, cash_in, earned, given_back, given_back_of, balance_of, cash_of, revenue_of, refunded_of}
+use Rattle.bike_ledger.proofs.SumLemmas.{total-append, balance_of-own, balance_of-other}
+use Rattle.bike_operator.specs.declared.records.Rental.{Rental}
+use Rattle.bike_operator.specs.declared.records.Closing.{Closing}
+use Rattle.bike_operator.specs.Operator.{Rider}
+use Rattle.bike_places.proofs.MapLemmas.{number_order}
+use Rattle.bike_book.specs.Rows.{number_value, meta_row, rider_row, entry_row, rental_row}
+use Rattle.bike_book.specs.Stored.{with_numbers, stored_rider, stored_entry, stored_rental}
+use Rattle.bike_book.proofs.MapRows.{same_rows, kept_entries}
+use Rattle.bike_book.proofs.Keys.{numbers, number_key}
+use Rattle.bike_book.proofs.NumberRows.{put_number, kept_number}
+use Rattle.bike_book.proofs.CatalogueBooks.{one_key}
+
+own_number : (a : ℕ) → (a == a) ≡ true
+own_number a = sym (unsigned_tied a a) ∙ (eq_by_cmp_equiv number_order.total).refl a
+
+other_number : (a b : ℕ) → eq_by_cmp nat_cmp a b ≡ false → (a == b) ≡ false
+other_number a b apart = sym (unsigned_tied a b) ∙ apart
+
+not_same : (a b : ℕ) → eq_by_cmp nat_cmp a b ≡ false → a ≢ b
+not_same a b apart same =
+    let tie : eq_by_cmp nat_cmp a b ≡ true = ap (eq_by_cmp nat_cmp a) (sym same) ∙ (eq_by_cmp_equiv number_order.total).refl a in
+    absurd cc
+
+-- ---- the entry
+
+pub entry_put : (es : List Entry) (e : Entry) → e.number ≡ length es + 1 → put_row_by 1 (entry_row e.number e) (map stored_entry (with_numbers es)) ≡ map stored_entry (with_numbers (es ++ e ∷ []))
+entry_put es e is = put_number stored_entry stored_entry (λ x. refl) (λ x. refl) es e.number e is (λ x apart. refl)
+
+-- ---- its rider
+
+pub balance_set : (riders : FinMap nat_cmp Rider) (es : List Entry) (e : Entry) (balance : ℤ) → balance ≡ balance_of e.rider es +ℤ credit e.kind e.amount
+    → updated 1 (number_key e.rider) (with_values ((2, Int balance) ∷ [])) (map (stored_rider es) (fin.entries riders)) ≡ map (stored_rider (es ++ e ∷ [])) (fin.entries riders)
+balance_set riders es e balance is =
+    kept_entries numbers (stored_rider es) (stored_rider (es ++ e ∷ [])) (λ x. refl) (λ x. refl) riders e.rider tt _
+    (λ r found. ap (rider_row e.rider r.is_blocked) (is ∙ sym (balance_of-own es e)))
+    (λ q r found. (tt, λ apart. ap (rider_row q r.is_blocked) (sym (balance_of-other es e q (not_same e.rider q apart)))))
+
+-- ---- its rental
+
+either_none : (b : Bool) (z : ℤ) → z ≡ pos 0 → cond b z (pos 0) ≡ pos 0
+either_none true z e = e
+either_none false z e = refl
+
+-- what gives nothing back to a rental leaves its refunds
+refunds_stay : (es : List Entry) (e : Entry) (rental : ℕ) → given_back_of rental e ≡ pos 0 → refunded_of rental es ≡ refunded_of rental (es ++ e ∷ [])
+refunds_stay es e rental none = let all = total-append (given_back_of rental) es e in omega (arith, ints, all, none)
+
+refund_counted : (es : List Entry) (e : Entry) → refunded_of e.rental (es ++ e ∷ []) ≡ refunded_of e.rental es +ℤ given_back e.kind e.amount
+refund_counted es e =
+    let own : given_back_of e.rental e ≡ given_back e.kind e.amount = ap (λ (b : Bool). cond b (given_back e.kind e.amount) (pos 0)) (own_number e.rental) in
+    total-append (given_back_of e.rental) es e ∙ ap (λ z. refunded_of e.rental es +ℤ z) own
+
+pub rentals_same : (rentals : List Rental) (es : List Entry) (e : Entry) → given_back e.kind e.amount ≡ pos 0
+    → map (stored_rental es) (with_numbers rentals) ≡ map (stored_rental (es ++ e ∷ [])) (with_numbers rentals)
+rentals_same rentals es e none =
+    same_rows numbers (stored_rental es) (stored_rental (es ++ e ∷ [])) (with_numbers rentals)
+    (λ x has. ap (rental_row x.0 x.1) (refunds_stay es e x.0 (either_none (e.rental == x.0) (given_back e.kind e.amount) none)))
+
+-- what is set in the row of a rental for a refund
+refunded_row : (rental : ℕ) (r : Rental) (old refunded : ℤ) (c : Option Closing)
+    → with_values ((9, Int refunded) ∷ []) (rental_row rental (record r { closing = c }) old) ≡ rental_row rental (record r { closing = c }) refunded
+refunded_row rental r old refunded None = refl
+refunded_row rental r old refunded (Some c) = refl
+
+pub refunded_set : (rentals : List Rental) (es : List Entry) (e : Entry) (refunded : ℤ) → refunded ≡ refunded_of e.rental es +ℤ given_back e.kind e.amount
+    → updated 1 (number_key e.rental) (with_values ((9, Int refunded) ∷ [])) (map (stored_rental es) (with_numbers rentals)) ≡ map (stored_rental (es ++ e ∷ [])) (with_numbers rentals)
+refunded_set rentals es e refunded is =
+    kept_number (stored_rental es) (stored_rental (es ++ e ∷ [])) (λ x. refl) (λ x. refl) rentals e.rental _ (λ r found. refunded_row e.rental r (refunded_of e.rental es) refunded r.closing ∙ ap (rental_row e.rental r) (is ∙ sym (refund_counted es e)))
+    (λ x apart. ap (rental_row x.0 x.1) (refunds_stay es e x.0 (ap (λ (b : Bool). cond b (given_back e.kind e.amount) (pos 0)) (other_number e.rental x.0 apart))))
+
+-- ---- meta
+
+module _ (version old : ℕ) (c r : ℤ) where
+  abbrev meta : Row
+  meta = meta_row version old c r
+
+  pub meta_found : row_with 1 (number_key 1) (meta ∷ []) ≡ Some meta
+  meta_found = rw one_key refl
+
+  meta_put : (now : ℕ) (cash revenue : ℤ) → put_row_by 1 (meta_row version now cash revenue) (meta ∷ []) ≡ meta_row version now cash revenue ∷ []
+  meta_put now cash revenue = rw one_key refl
+
+  pub meta_set : (now : ℕ) (cash revenue : ℤ) → updated 1 (number_key 1) (with_values ((3, number_value now) ∷ (4, Int cash) ∷ (5, Int revenue) ∷ [])) (meta ∷ []) ≡ meta_row version now cash revenue ∷ []
+  meta_set now cash revenue =
+      ap (λ (o : Option Row). unwrap_or (option_map (λ x. put_row_by 1 (with_values ((3, number_value now) ∷ (4, Int cash) ∷ (5, Int revenue) ∷ []) x) (meta ∷ [])) o) (meta ∷ [])) meta_found
+      ∙ meta_put now cash revenue
+
+pub cash_after : (es : List Entry) (e : Entry) → cash_of (es ++ e ∷ []) ≡ cash_of es +ℤ cash_in e.kind e.amount
+cash_after es e = total-append (λ (x : Entry). cash_in x.kind x.amount) es e
+
+pub revenue_after : (es : List Entry) (e : Entry) → revenue_of (es ++ e ∷ []) ≡ revenue_of es +ℤ earned e.kind e.amount
+revenue_after es e = total-append (λ (x : Entry). earned x.kind x.amount) es e

@@ -1,0 +1,21 @@
+use Rattle.bike_book.proofs.CatalogueBooks.{set_system, add_type, set_plan, add_station, set_station}
+use Rattle.bike_book.proofs.PlanBooks.{add_plan}
+use Rattle.bike_book.proofs.laws.books_catalogue.Goals as goal
+
+pub returns-clause-set_system : goal.returns-clause-set_system
+returns-clause-set_system c = set_system
+
+pub returns-clause-add_plan : goal.returns-clause-add_plan
+returns-clause-add_plan c = add_plan
+
+pub returns-clause-add_type : goal.returns-clause-add_type
+returns-clause-add_type c = add_type
+
+pub returns-clause-set_plan : goal.returns-clause-set_plan
+returns-clause-set_plan c = set_plan
+
+pub returns-clause-add_station : goal.returns-clause-add_station
+returns-clause-add_station c = add_station
+
+pub returns-clause-set_station : goal.returns-clause-set_station
+returns-clause-set_station c = set_station

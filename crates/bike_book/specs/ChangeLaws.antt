@@ -1,0 +1,119 @@
+-- The row changes that book each change of a catalogue record, rider, rental or order, and each bicycle that is added.
+use Rattle.std.specs.Prelude.{◌≡◌, ◌+◌, ℕ, suc, ℤ, pos, length, List, [], ◌∷◌, Bool, true, false, Option, Some, None}
+use Rattle.std.specs.Borrow.{Bor}
+use Rattle.std.specs.FinMap as fin
+use Rattle.bike_catalogue.specs.Rows.{SegmentRow, PlanRow, TypeRow, StationRow, SystemRow}
+use Rattle.bike_ledger.specs.Ledger.{balance_of, refunded_of}
+use Rattle.bike_texts.specs.declared.ends.OrderEnd.{OrderEnd}
+use Rattle.bike_operator.specs.declared.records.Order.{Order}
+use Rattle.bike_operator.specs.declared.change.Change.{Change}
+use Rattle.bike_operator.specs.declared.change.Change.TheVariants as change
+use Rattle.bike_operator.specs.Operator.{Operator, numbered}
+use Rattle.bike_operator.specs.Counts.{docks_broken}
+use Rattle.bike_operator.specs.Changes.{changed, all_changed}
+use Rattle.bike_counts.specs.Numbers.{occupied}
+use Rattle.bike_book.specs.declared.row_change.RowChange.{RowChange}
+use Rattle.bike_book.specs.declared.row_change.RowChange.TheVariants as row
+use Rattle.bike_book.specs.Tables.{Segments}
+use Rattle.bike_book.specs.Rows.{segment_row}
+use Rattle.bike_book.specs.Stored.{Listed, IsListing}
+use Rattle.bike_book.specs.Writes.{RowWrite, Add, writes_of}
+use Rattle.bike_book.specs.Between.{Books}
+
+-- the segments of a plan, each a row that is added, from a place on
+abbrev pub segment_writes : List ℕ → ℕ → List SegmentRow → List RowWrite
+segment_writes plan seq [] = []
+segment_writes plan seq (g ∷ gs) = Add Segments (segment_row plan seq g) ∷ segment_writes plan (suc seq) gs
+
+module _ (s : Operator) (m : Listed) (now : ℕ) where
+  -- The row changes book the change, and the same rows are listed after it.
+  abbrev pub BooksChange : List RowChange → Change → Type 0
+  BooksChange rows c = Books rows s m (changed now c s) m
+
+  -- ---- the catalogue
+
+  abbrev pub SetSystemLaw : Type 0
+  SetSystemLaw = (x : Bor SystemRow) → BooksChange (row.AddSystem x ∷ []) (change.SetSystem x)
+
+  -- a plan that isn't there, with row changes that write its segments
+  abbrev pub AddPlanLaw : Type 0
+  AddPlanLaw =
+      (p : Bor PlanRow) (rows : List RowChange) → fin.get s.plans p.now.plan_id ≡ None → writes_of rows ≡ segment_writes p.now.plan_id 1 p.now.segments
+      → BooksChange (row.AddPlan p ∷ rows) (change.AddPlan p)
+
+  abbrev pub AddTypeLaw : Type 0
+  AddTypeLaw = (t : Bor TypeRow) → BooksChange (row.AddType t ∷ []) (change.AddType t)
+
+  abbrev pub SetPlanLaw : Type 0
+  SetPlanLaw = (type_id plan : Bor (List ℕ)) → BooksChange (row.SetDefaultPlan type_id plan ∷ []) (change.SetPlan type_id plan)
+
+  -- a station that isn't there, with no bicycle in a dock of it and no broken dock
+  abbrev pub AddStationLaw : Type 0
+  AddStationLaw =
+      (x : Bor StationRow) → fin.get s.stations x.now.station_id ≡ None → occupied s x.now.station_id ≡ 0 → docks_broken s x.now.station_id x.now.docks ≡ 0
+      → BooksChange (row.AddStation x now ∷ []) (change.AddStation x)
+
+  abbrev pub SetStationLaw : Type 0
+  SetStationLaw =
+      (station : Bor (List ℕ)) (installed renting returning : Bool)
+      → BooksChange (row.SetFlags station installed renting returning now ∷ []) (change.SetStation station installed renting returning)
+
+  -- ---- bicycles, trucks and riders
+
+  -- a bicycle that isn't there
+  abbrev pub AddBikeLaw : Type 0
+  AddBikeLaw = (bike : ℕ) (type_id : Bor (List ℕ)) → fin.get s.bikes bike ≡ None → BooksChange (row.AddBike bike type_id ∷ []) (change.AddBike bike type_id)
+
+  abbrev pub AddTruckLaw : Type 0
+  AddTruckLaw = (truck capacity : ℕ) → BooksChange (row.AddTruck truck capacity ∷ []) (change.AddTruck truck capacity)
+
+  -- a rider of whom no entry adds to a balance
+  abbrev pub AddRiderLaw : Type 0
+  AddRiderLaw = (rider : ℕ) (blocked : Bool) → balance_of rider s.entries ≡ pos 0 → BooksChange (row.AddRider rider blocked ∷ []) (change.SetRider rider blocked)
+
+  -- a rider who is there
+  abbrev pub SetRiderLaw : Type 0
+  SetRiderLaw = (rider : ℕ) (blocked : Bool) → fin.contains_key s.riders rider ≡ true → BooksChange (row.SetBlocked rider blocked ∷ []) (change.SetRider rider blocked)
+
+  -- ---- rentals and orders
+
+  -- the next rental, of which no refund is booked
+  abbrev pub AddRentalLaw : Type 0
+  AddRentalLaw =
+      (rental rider bike : ℕ) (plan from_station : Bor (List ℕ)) → rental ≡ length s.rentals + 1 → refunded_of rental s.entries ≡ pos 0
+      → BooksChange (row.AddRental rental rider bike plan from_station now ∷ []) (change.AddRental rider bike plan from_station)
+
+  abbrev pub CloseRentalLaw : Type 0
+  CloseRentalLaw =
+      (rental : ℕ) (to_station : Option (Bor (List ℕ))) (fare : ℤ) → BooksChange (row.CloseRental rental to_station now fare ∷ []) (change.CloseRental rental to_station fare)
+
+  -- the next order
+  abbrev pub AddOrderLaw : Type 0
+  AddOrderLaw =
+      (order truck : ℕ) (from_end to_end : Bor OrderEnd) (type_id : Bor (List ℕ)) (count : ℕ) → order ≡ length s.orders + 1
+      → BooksChange (row.AddOrder order truck from_end to_end type_id count ∷ []) (change.AddOrder truck from_end to_end type_id count)
+
+  -- an order that is there, with one more delivered
+  abbrev pub DeliverLaw : Type 0
+  DeliverLaw =
+      (order delivered : ℕ) (is_open : Bool) (o : Order) → numbered order s.orders ≡ Some o → delivered ≡ o.delivered + 1 → is_open ≡ o.is_open
+      → BooksChange (row.SetOrder order delivered is_open ∷ []) (change.Deliver order)
+
+  -- an order that is there
+  abbrev pub CloseOrderLaw : Type 0
+  CloseOrderLaw =
+      (order delivered : ℕ) (o : Order) → numbered order s.orders ≡ Some o → delivered ≡ o.delivered
+      → BooksChange (row.SetOrder order delivered false ∷ []) (change.CloseOrder order)
+
+-- The law holds of each operator whose rows are listed right, at each moment.
+abbrev pub Everywhere : (Operator → Listed → ℕ → Type 0) → Type 0
+Everywhere Law = (s : Operator) (m : Listed) (now : ℕ) → IsListing s m → Law s m now
+
+-- Changes leave the entries, what is kept of requests, and the operator's moment.
+pub record LeavesLedger (s next : Operator) : Type 0 where
+  pub entries : next.entries ≡ s.entries
+  pub kept : next.kept ≡ s.kept
+  pub now : next.now ≡ s.now
+
+abbrev pub ChangesLeaveLedger : Type 0
+ChangesLeaveLedger = (now : ℕ) (changes : List Change) (s : Operator) → LeavesLedger s (all_changed now changes s)

@@ -1,0 +1,122 @@
+-- What is found in the tables of an operator: the row of a key, rows by other columns, the last row, and how many there are.
+use Rattle.std.specs.Prelude.{◌≡◌, ◌==◌, ◌&&◌, ℕ, pos, length, List, [], ◌∷◌, Bool, false, Option, Some, None, is_some, option_map, find, map, filter, slice_get}
+use Rattle.std.specs.List.{list_all}
+use Rattle.std.specs.FinMap as fin
+use Rattle.sqlite_value.specs.declared.value.Value.TheVariants.{Text}
+use Rattle.sqlite_value.specs.Order.{Row, column}
+use Rattle.sqlite_sql.specs.Ops.{is_null}
+use Rattle.bike_rows.specs.View.{row_with, rows_where, last_of}
+use Rattle.bike_catalogue.specs.Rows.{PlanRow}
+use Rattle.bike_commands.specs.Commands.{text_of}
+use Rattle.bike_commands.specs.Replies.{reply_text}
+use Rattle.bike_ledger.specs.Ledger.{balance_of, cash_of, revenue_of, refunded_of}
+use Rattle.bike_operator.specs.declared.records.Rental.{Rental}
+use Rattle.bike_operator.specs.Operator.{Operator, numbered, key_of, dock_key}
+use Rattle.bike_operator.specs.Counts.{docked_at, is_broken, is_open, is_riding, loaded, on_truck, open_rentals, available_of, docks_available, docks_broken}
+use Rattle.bike_operator.specs.Sound.{IsSound}
+use Rattle.bike_book.specs.declared.version.TheConstants.{NEWEST}
+use Rattle.bike_counts.specs.Numbers.{disabled_of}
+use Rattle.bike_book.specs.Tables.{TableName, rows_in, keys_of, Meta, System, Plans, Segments, Types, Stations, Docks, Bikes, Trucks, Riders, Rentals, Orders, Entries, Kept, Counts}
+use Rattle.bike_book.specs.Rows.{number_value, meta_row, system_row, plan_row, type_row, station_row, dock_row, bike_row, truck_row, rider_row, rental_row, order_row, entry_row, kept_row, count_row}
+use Rattle.bike_book.specs.Stored.{Listed, IsListing, with_numbers, segment_rows, stored_bike, stored_rental, tables_for}
+
+-- the fact holds of each sound operator whose rows are listed right
+abbrev pub WhereListed : (Operator → Listed → Type 0) → Type 0
+WhereListed Fact = (s : Operator) (m : Listed) → IsSound s → IsListing s m → Fact s m
+
+-- the rows of one table
+abbrev pub rows_of : Operator → Listed → TableName → List Row
+rows_of s m name = rows_in (tables_for s m) name
+
+-- the row under a key
+abbrev pub row_under : Operator → Listed → TableName → Row → Option Row
+row_under s m name key = row_with (keys_of name) key (rows_of s m name)
+
+-- ---- by the key
+
+-- The row under a key is that of the record, and there is none where there is no record.
+pub record FoundByKey (s : Operator) (m : Listed) : Type 0 where
+  pub meta : row_under s m Meta (number_value 1 ∷ []) ≡ Some (meta_row NEWEST s.now (cash_of s.entries) (revenue_of s.entries))
+  pub system : row_under s m System (number_value 1 ∷ []) ≡ option_map system_row s.system
+  pub plans : (id : List ℕ) → row_under s m Plans (Text id ∷ []) ≡ option_map (plan_row id) (fin.get s.plans id)
+  pub types : (id : List ℕ) → row_under s m Types (Text id ∷ []) ≡ option_map (type_row id) (fin.get s.types id)
+  pub stations : (id : List ℕ) → row_under s m Stations (Text id ∷ [])
+      ≡ option_map (λ x. station_row id x (pos (docks_available s id x.row.docks)) (docks_broken s id x.row.docks)) (fin.get s.stations id)
+  pub bikes : (bike : ℕ) → row_under s m Bikes (number_value bike ∷ []) ≡ option_map (bike_row bike) (fin.get s.bikes bike)
+  pub trucks : (truck : ℕ) → row_under s m Trucks (number_value truck ∷ []) ≡ option_map (λ t. truck_row truck t.capacity) (fin.get s.trucks truck)
+  pub riders : (rider : ℕ) → row_under s m Riders (number_value rider ∷ []) ≡ option_map (λ r. rider_row rider r.is_blocked (balance_of rider s.entries)) (fin.get s.riders rider)
+  pub rentals : (rental : ℕ) → row_under s m Rentals (number_value rental ∷ []) ≡ option_map (λ r. rental_row rental r (refunded_of rental s.entries)) (numbered rental s.rentals)
+  pub orders : (order : ℕ) → row_under s m Orders (number_value order ∷ []) ≡ option_map (order_row order) (numbered order s.orders)
+  pub entries : (entry : ℕ) → row_under s m Entries (number_value entry ∷ []) ≡ option_map (entry_row entry) (numbered entry s.entries)
+  pub kept : (caller key : List ℕ) → row_under s m Kept (Text caller ∷ Text key ∷ [])
+      ≡ option_map (λ k. kept_row caller key (text_of k.command) (reply_text k.reply)) (fin.get s.kept (key_of caller key))
+
+-- A dock has a row where it is listed, and works where it has none; and so with the counts of a type at a station, which are 0 where they have none.
+pub record FoundListed (s : Operator) (m : Listed) : Type 0 where
+  pub docks : (station : List ℕ) (dock : ℕ) → row_under s m Docks (Text station ∷ number_value dock ∷ [])
+      ≡ option_map (λ listed. dock_row station dock (is_broken s station dock)) (fin.get m.docks (dock_key station dock))
+  pub works : (station : List ℕ) (dock : ℕ) → fin.get m.docks (dock_key station dock) ≡ None → is_broken s station dock ≡ false
+  pub counts : (station type_id : List ℕ) → row_under s m Counts (Text station ∷ Text type_id ∷ [])
+      ≡ option_map (λ listed. count_row station type_id (available_of s station type_id) (disabled_of s station type_id)) (fin.get m.counts (key_of station type_id))
+  pub none : (station type_id : List ℕ) → fin.get m.counts (key_of station type_id) ≡ None → (available_of s station type_id ≡ 0) × (disabled_of s station type_id ≡ 0)
+
+-- ---- by other columns
+
+abbrev pub segments_in : List ℕ → Option PlanRow → List Row
+segments_in plan None = []
+segments_in plan (Some p) = segment_rows plan 1 p.segments
+
+-- the rows whose columns at these places have these values
+abbrev pub rows_by : Operator → Listed → TableName → List ℕ → Row → List Row
+rows_by s m name columns values = rows_where columns values (rows_of s m name)
+
+-- the rows of rentals that are open, whose finish is NULL
+abbrev pub rows_open : List Row → List Row
+rows_open = filter (λ row. list_all is_null (map (column row) (7 ∷ [])))
+
+-- the first row of a rider's open rentals
+abbrev pub open_row : Operator → Listed → ℕ → Option Row
+open_row s m rider = slice_get (rows_open (rows_by s m Rentals (1 ∷ []) (number_value rider ∷ []))) 0
+
+-- the first open rental of a rider, with its number
+abbrev pub open_rental : Operator → ℕ → Option (ℕ × Rental)
+open_rental s rider = find (λ e. (e.1.rider == rider) && is_open e.1) (with_numbers s.rentals)
+
+-- The rows found by columns that are no key.
+pub record FoundByColumns (s : Operator) (m : Listed) : Type 0 where
+  pub segments : (plan : List ℕ) → rows_by s m Segments (0 ∷ []) (Text plan ∷ []) ≡ segments_in plan (fin.get s.plans plan)
+  pub docked : (station : List ℕ) (dock : ℕ) → slice_get (rows_by s m Bikes (3 ∷ 4 ∷ []) (Text station ∷ number_value dock ∷ [])) 0 ≡ option_map stored_bike (docked_at s station dock)
+  pub loaded_is : (truck : ℕ) → length (rows_by s m Bikes (6 ∷ []) (number_value truck ∷ [])) ≡ loaded s truck
+  pub on_truck_is : (order : ℕ) → length (rows_by s m Bikes (7 ∷ []) (number_value order ∷ [])) ≡ on_truck s order
+  pub open_is : (rider : ℕ) → open_row s m rider ≡ option_map (stored_rental s.entries) (open_rental s rider)
+  pub riding : (rider : ℕ) → is_some (open_row s m rider) ≡ is_riding s rider
+
+-- ---- numbers of rows
+
+-- the last row of a table, whose key is how many records there are; none of no record
+abbrev pub IsLast : ℕ → Option Row → Type 0
+IsLast count None = count ≡ 0
+IsLast count (Some row) = column row 0 ≡ number_value count
+
+abbrev pub last_row : Operator → Listed → TableName → Option Row
+last_row s m name = slice_get (last_of (rows_of s m name)) 0
+
+abbrev pub row_count : Operator → Listed → TableName → ℕ
+row_count s m name = length (rows_of s m name)
+
+-- How many records there are, by the last row or by the rows.
+pub record FoundNumbers (s : Operator) (m : Listed) : Type 0 where
+  pub last_rental : IsLast (length s.rentals) (last_row s m Rentals)
+  pub last_order : IsLast (length s.orders) (last_row s m Orders)
+  pub last_entry : IsLast (length s.entries) (last_row s m Entries)
+  pub plans : row_count s m Plans ≡ fin.len s.plans
+  pub types : row_count s m Types ≡ fin.len s.types
+  pub stations : row_count s m Stations ≡ fin.len s.stations
+  pub bikes : row_count s m Bikes ≡ fin.len s.bikes
+  pub trucks : row_count s m Trucks ≡ fin.len s.trucks
+  pub riders : row_count s m Riders ≡ fin.len s.riders
+  pub rentals : row_count s m Rentals ≡ length s.rentals
+  pub orders : row_count s m Orders ≡ length s.orders
+  pub entries : row_count s m Entries ≡ length s.entries
+  pub kept : row_count s m Kept ≡ fin.len s.kept
+  pub open_rentals_are : length (rows_open (rows_of s m Rentals)) ≡ open_rentals s

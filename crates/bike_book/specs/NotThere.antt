@@ -1,0 +1,24 @@
+-- What soundness says of the numbers of a record that isn't there: all are 0.
+use Rattle.std.specs.Prelude.{◌≡◌, ◌<◌, ℕ, pos, length, List, None}
+use Rattle.std.specs.FinMap as fin
+use Rattle.bike_ledger.specs.Ledger.{balance_of, refunded_of}
+use Rattle.bike_operator.specs.Operator.{Operator}
+use Rattle.bike_operator.specs.Counts.{docks_broken}
+use Rattle.bike_operator.specs.Sound.{IsSound}
+use Rattle.bike_counts.specs.Numbers.{occupied}
+
+abbrev pub NoRefundsYet : Operator → Type 0
+NoRefundsYet s = (rental : ℕ) → length s.rentals < rental → refunded_of rental s.entries ≡ pos 0
+
+abbrev pub NoBalanceYet : Operator → Type 0
+NoBalanceYet s = (rider : ℕ) → fin.get s.riders rider ≡ None → balance_of rider s.entries ≡ pos 0
+
+abbrev pub NoneDockedYet : Operator → Type 0
+NoneDockedYet s = (station : List ℕ) → fin.get s.stations station ≡ None → occupied s station ≡ 0
+
+abbrev pub NoneBrokenYet : Operator → Type 0
+NoneBrokenYet s = (station : List ℕ) (docks : ℕ) → fin.get s.stations station ≡ None → docks_broken s station docks ≡ 0
+
+-- the fact holds of each sound operator
+abbrev pub WhereSound : (Operator → Type 0) → Type 0
+WhereSound Fact = (s : Operator) → IsSound s → Fact s

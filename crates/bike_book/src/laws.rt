@@ -1,0 +1,64 @@
+//! The laws: which row changes book each change of the operator.
+
+ghost use Rattle.bike_book.specs.ChangeLaws.{Everywhere, SetSystemLaw, AddPlanLaw, AddTypeLaw, SetPlanLaw, AddStationLaw, SetStationLaw, AddBikeLaw, AddTruckLaw, AddRiderLaw, SetRiderLaw, AddRentalLaw, CloseRentalLaw, AddOrderLaw, DeliverLaw, CloseOrderLaw, ChangesLeaveLedger};
+ghost use Rattle.bike_book.specs.CloseLaws.{AtEachClose, QuietCloseLaw, EntryCloseLaw, RefundCloseLaw, AcceptedIsClosed, AcceptedEntryNumber, ChangesLeaveKept};
+ghost use Rattle.bike_book.specs.Found.{WhereListed, FoundByKey, FoundListed, FoundByColumns, FoundNumbers};
+ghost use Rattle.bike_book.specs.NotThere.{WhereSound, NoRefundsYet, NoBalanceYet, NoneDockedYet, NoneBrokenYet};
+
+/// The laws of the changes of the catalogue.
+pub fn books_catalogue()
+    ensures set_system { Everywhere SetSystemLaw }
+    ensures add_plan { Everywhere AddPlanLaw }
+    ensures add_type { Everywhere AddTypeLaw }
+    ensures set_plan { Everywhere SetPlanLaw }
+    ensures add_station { Everywhere AddStationLaw }
+    ensures set_station { Everywhere SetStationLaw }
+{}
+
+/// The laws of a bicycle, truck or rider added, and of a rider blocked or opened.
+pub fn books_fleet()
+    ensures add_bike { Everywhere AddBikeLaw }
+    ensures add_truck { Everywhere AddTruckLaw }
+    ensures add_rider { Everywhere AddRiderLaw }
+    ensures set_rider { Everywhere SetRiderLaw }
+{}
+
+/// The laws of the changes of rentals and orders.
+pub fn books_rentals()
+    ensures add_rental { Everywhere AddRentalLaw }
+    ensures close_rental { Everywhere CloseRentalLaw }
+    ensures add_order { Everywhere AddOrderLaw }
+    ensures deliver { Everywhere DeliverLaw }
+    ensures close_order { Everywhere CloseOrderLaw }
+{}
+
+/// The laws of the close of a request: with no entry, with a top-up or a fare, and with a refund.
+pub fn books_close()
+    ensures quiet { AtEachClose QuietCloseLaw }
+    ensures entry { AtEachClose EntryCloseLaw }
+    ensures refund { AtEachClose RefundCloseLaw }
+{}
+
+/// What a decision leaves to the close: no change touches the ledger, and the operator after it is the one closed.
+pub fn leaves_close()
+    ensures changes { ChangesLeaveLedger }
+    ensures accepted { AcceptedIsClosed }
+    ensures entry_number { AcceptedEntryNumber }
+    ensures kept { ChangesLeaveKept }
+{}
+
+/// What soundness says of a rental, a rider and a station that isn't there: its numbers are 0.
+pub fn starts_at_zero()
+    ensures refunds { WhereSound NoRefundsYet }
+    ensures balance { WhereSound NoBalanceYet }
+    ensures docked { WhereSound NoneDockedYet }
+    ensures broken { WhereSound NoneBrokenYet }
+{}
+
+/// What is found in the tables of a sound operator: rows by their keys and by other columns, and how many there are.
+pub fn finds_rows()
+    ensures by_key { WhereListed FoundByKey }
+    ensures listed { WhereListed FoundListed }
+    ensures by_columns { WhereListed FoundByColumns }
+    ensures numbers { WhereListed FoundNumbers }
+{}

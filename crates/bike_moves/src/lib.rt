@@ -1,0 +1,9 @@
+//! Bicycles that move and docks that are marked, as row changes.
+//!
+//! Between two changes of one request no operator need be sound. So the laws by change hold over tables with each station's
+//! docks left in place of its docks available, and turn to the operator's own tables at both ends of the request.
+#![tactic(auto)]
+
+mod laws;
+
+pub use laws::{mark_law, place_law, report_law, state_law};
