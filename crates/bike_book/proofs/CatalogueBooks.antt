@@ -16,7 +16,7 @@ use Rattle.bike_operator.specs.Changes.{changed}
 use Rattle.bike_places.proofs.MapLemmas.{number_order, text_order, known_added, known_changed}
 use Rattle.bike_places.proofs.CatalogueLemmas.{same_docks, docks_changed, docks_added}
 use Rattle.bike_book.specs.Rows.{system_row, station_row}
-use Rattle.bike_book.specs.Stored.{Listed, IsListing, system_rows, stored_type}
+use Rattle.bike_book.specs.Stored.{system_rows, stored_type}
 use Rattle.bike_book.specs.Between.{docks_left, counted_station, tables_between}
 use Rattle.bike_book.specs.ChangeLaws.{Everywhere, SetSystemLaw, AddTypeLaw, SetPlanLaw, AddStationLaw, SetStationLaw}
 use Rattle.bike_book.proofs.MapRows.{put_entries, changed_entries}

@@ -20,7 +20,7 @@ use Rattle.bike_book.specs.Rows.{meta_row, kept_row}
 use Rattle.bike_book.specs.Stored.{stored_kept}
 use Rattle.bike_book.specs.Between.{tables_between}
 use Rattle.bike_book.specs.ChangeLaws.{LeavesLedger, ChangesLeaveLedger}
-use Rattle.bike_book.specs.CloseLaws.{closed, AreKept, AreTextsOf, AreNumbersWith, QuietCloseLaw, EntryCloseLaw, RefundCloseLaw, AtEachClose, AcceptedIsClosed, AcceptedEntryNumber, ChangesLeaveKept}
+use Rattle.bike_book.specs.CloseLaws.{closed, AreKept, AreTextsOf, QuietCloseLaw, EntryCloseLaw, RefundCloseLaw, AtEachClose, AcceptedIsClosed, AcceptedEntryNumber, ChangesLeaveKept}
 use Rattle.bike_book.proofs.MapRows.{put_entries}
 use Rattle.bike_book.proofs.Keys.{pairs, IsPair}
 use Rattle.bike_book.proofs.ListingLemmas.{names_same, listing_same}

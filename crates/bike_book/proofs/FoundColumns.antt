@@ -1,7 +1,7 @@
 -- The rows found by columns that are no key: the segments of a plan, bicycles by their places, and a rider's open rental.
 use Rattle.std.proofs.Common.{◌≡◌, inl, inr, ℕ, suc, List, [], ◌∷◌, ◌++◌, length, filter, find, Bool, true, false, cond, ◌&&◌, ◌||◌, T, Option, Some, None, is_some, refl, sym, ap, ap₂, ◌∙◌}
 use Rattle.std.specs.Prelude.{map, slice_get, option_map, ◌==◌}
-use Rattle.std.specs.List.{list_all, list_any}
+use Rattle.std.specs.List.{list_any}
 use Rattle.std.specs.Ordering.{nat_cmp, eq_by_cmp, is_eq, ordering_then}
 use Rattle.std.specs.declared.cmp.Ordering.{Ordering}
 use Rattle.std.specs.declared.cmp.Ordering.TheVariants.{Less, Equal, Greater}
@@ -9,10 +9,9 @@ use Rattle.std.specs.Cmp.{eq_by_cmp_equiv, unsigned_tied}
 use Rattle.std.specs.FinMap as fin
 use Rattle.std.specs.FinMap.Entries as entries
 use Rattle.std.proofs.lemmas.Map.Text.{is_eq-slice_cmp}
-use Rattle.sqlite_value.specs.declared.value.Value.TheVariants.{Null, Text}
+use Rattle.sqlite_value.specs.declared.value.Value.TheVariants.{Text}
 use Rattle.sqlite_value.specs.Order.{Row, column, row_cmp, value_cmp}
 use Rattle.sqlite_value.proofs.OrderLemmas.{value_cmp-Text, value_cmp-Null, then-Equal}
-use Rattle.sqlite_sql.specs.Ops.{is_null}
 use Rattle.sqlite_rules.specs.Lists.{Has}
 use Rattle.bike_rows.specs.View.{rows_where}
 use Rattle.bike_catalogue.specs.Rows.{SegmentRow, PlanRow}
@@ -26,7 +25,7 @@ use Rattle.bike_operator.specs.Counts.{is_dock, is_on_truck, is_for_order, is_op
 use Rattle.bike_places.proofs.MapLemmas.{text_order, tied}
 use Rattle.bike_book.specs.Rows.{number_value, bike_row, segment_row}
 use Rattle.bike_book.specs.Stored.{numbers_from, with_numbers, segment_rows, plans_segments, stored_bike, stored_rental}
-use Rattle.bike_book.specs.Found.{WhereListed, FoundByColumns, segments_in, rows_open, open_row}
+use Rattle.bike_book.specs.Found.{WhereListed, FoundByColumns, segments_in, rows_open}
 use Rattle.bike_book.proofs.MapRows.{both, below_has}
 use Rattle.bike_book.proofs.Keys.{value_cmp-number_value}
 use Rattle.bike_book.proofs.FoundNumbers.{finish_null, same_length}
@@ -178,12 +177,12 @@ found_by_columns s m sound listing = record {
   docked = λ station dock.
       ap (λ (xs : List Row). slice_get xs 0) (filtered stored_bike _ (λ e. is_dock station dock e.1.place) (λ e. in_dock station dock e.0 e.1 e.1.place) (fin.entries s.bikes))
       ∙ first_found stored_bike (λ e. is_dock station dock e.1.place) (fin.entries s.bikes);
-  loaded_is = λ truck.
+  on_truck = λ truck.
       ap length (filtered stored_bike _ (λ e. is_on_truck truck e.1.place) (λ e. on_truck_at truck e.0 e.1 e.1.place) (fin.entries s.bikes))
       ∙ same_length stored_bike (filter (λ e. is_on_truck truck e.1.place) (fin.entries s.bikes));
-  on_truck_is = λ order.
+  for_order = λ order.
       ap length (filtered stored_bike _ (λ e. is_for_order order e.1.place) (λ e. for_order_at order e.0 e.1 e.1.place) (fin.entries s.bikes))
       ∙ same_length stored_bike (filter (λ e. is_for_order order e.1.place) (fin.entries s.bikes));
-  open_is = λ rider. open_found s.entries rider s.rentals;
+  open_rental_is = λ rider. open_found s.entries rider s.rentals;
   riding = λ rider. ap is_some (open_found s.entries rider s.rentals) ∙ mapped_some (stored_rental s.entries) (find (is_his_open s.entries rider s.rentals) (with_numbers s.rentals)) ∙ any_found rider 1 s.rentals;
 }

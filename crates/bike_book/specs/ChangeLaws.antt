@@ -1,5 +1,5 @@
 -- The row changes that book each change of a catalogue record, rider, rental or order, and each bicycle that is added.
-use Rattle.std.specs.Prelude.{◌≡◌, ◌+◌, ℕ, suc, ℤ, pos, length, List, [], ◌∷◌, Bool, true, false, Option, Some, None}
+use Rattle.std.specs.Prelude.{◌≡◌, ◌+◌, ℕ, suc, ℤ, pos, length, List, [], ◌∷◌, ◌++◌, Bool, true, false, Option, Some, None}
 use Rattle.std.specs.Borrow.{Bor}
 use Rattle.std.specs.FinMap as fin
 use Rattle.bike_catalogue.specs.Rows.{SegmentRow, PlanRow, TypeRow, StationRow, SystemRow}
@@ -32,6 +32,7 @@ module _ (s : Operator) (m : Listed) (now : ℕ) where
 
   -- ---- the catalogue
 
+  -- the system, whether it was set or not
   abbrev pub SetSystemLaw : Type 0
   SetSystemLaw = (x : Bor SystemRow) → BooksChange (row.AddSystem x ∷ []) (change.SetSystem x)
 
@@ -41,9 +42,11 @@ module _ (s : Operator) (m : Listed) (now : ℕ) where
       (p : Bor PlanRow) (rows : List RowChange) → fin.get s.plans p.now.plan_id ≡ None → writes_of rows ≡ segment_writes p.now.plan_id 1 p.now.segments
       → BooksChange (row.AddPlan p ∷ rows) (change.AddPlan p)
 
+  -- a type, whether it was there or not
   abbrev pub AddTypeLaw : Type 0
   AddTypeLaw = (t : Bor TypeRow) → BooksChange (row.AddType t ∷ []) (change.AddType t)
 
+  -- the default plan of a type, where it is there
   abbrev pub SetPlanLaw : Type 0
   SetPlanLaw = (type_id plan : Bor (List ℕ)) → BooksChange (row.SetDefaultPlan type_id plan ∷ []) (change.SetPlan type_id plan)
 
@@ -53,6 +56,7 @@ module _ (s : Operator) (m : Listed) (now : ℕ) where
       (x : Bor StationRow) → fin.get s.stations x.now.station_id ≡ None → occupied s x.now.station_id ≡ 0 → docks_broken s x.now.station_id x.now.docks ≡ 0
       → BooksChange (row.AddStation x now ∷ []) (change.AddStation x)
 
+  -- the flags of a station, where it is there, and its report
   abbrev pub SetStationLaw : Type 0
   SetStationLaw =
       (station : Bor (List ℕ)) (installed renting returning : Bool)
@@ -64,10 +68,11 @@ module _ (s : Operator) (m : Listed) (now : ℕ) where
   abbrev pub AddBikeLaw : Type 0
   AddBikeLaw = (bike : ℕ) (type_id : Bor (List ℕ)) → fin.get s.bikes bike ≡ None → BooksChange (row.AddBike bike type_id ∷ []) (change.AddBike bike type_id)
 
+  -- a truck, whether it was there or not
   abbrev pub AddTruckLaw : Type 0
   AddTruckLaw = (truck capacity : ℕ) → BooksChange (row.AddTruck truck capacity ∷ []) (change.AddTruck truck capacity)
 
-  -- a rider of whom no entry adds to a balance
+  -- a rider whose balance is 0, as of one who isn't there
   abbrev pub AddRiderLaw : Type 0
   AddRiderLaw = (rider : ℕ) (blocked : Bool) → balance_of rider s.entries ≡ pos 0 → BooksChange (row.AddRider rider blocked ∷ []) (change.SetRider rider blocked)
 
@@ -83,6 +88,7 @@ module _ (s : Operator) (m : Listed) (now : ℕ) where
       (rental rider bike : ℕ) (plan from_station : Bor (List ℕ)) → rental ≡ length s.rentals + 1 → refunded_of rental s.entries ≡ pos 0
       → BooksChange (row.AddRental rental rider bike plan from_station now ∷ []) (change.AddRental rider bike plan from_station)
 
+  -- a rental closed, where it is there
   abbrev pub CloseRentalLaw : Type 0
   CloseRentalLaw =
       (rental : ℕ) (to_station : Option (Bor (List ℕ))) (fare : ℤ) → BooksChange (row.CloseRental rental to_station now fare ∷ []) (change.CloseRental rental to_station fare)
@@ -108,6 +114,14 @@ module _ (s : Operator) (m : Listed) (now : ℕ) where
 -- The law holds of each operator whose rows are listed right, at each moment.
 abbrev pub Everywhere : (Operator → Listed → ℕ → Type 0) → Type 0
 Everywhere Law = (s : Operator) (m : Listed) (now : ℕ) → IsListing s m → Law s m now
+
+-- No row change leads to the same operator, and the row changes of two steps lead through both.
+abbrev pub NoneInTurn : Type 0
+NoneInTurn = (s : Operator) (m : Listed) → IsListing s m → Books [] s m s m
+
+abbrev pub BothInTurn : Type 0
+BothInTurn =
+    (cs ds : List RowChange) (s n o : Operator) (m w v : Listed) → Books cs s m n w → Books ds n w o v → Books (cs ++ ds) s m o v
 
 -- Changes leave the entries, what is kept of requests, and the operator's moment.
 pub record LeavesLedger (s next : Operator) : Type 0 where

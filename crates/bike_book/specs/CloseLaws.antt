@@ -1,5 +1,5 @@
 -- The row changes that book the close of a request: its entry, the operator's moment and sums, and what is kept.
-use Rattle.std.specs.Prelude.{◌≡◌, ◌+◌, ◌+ℤ◌, ℕ, ℤ, pos, length, List, [], ◌∷◌, ◌++◌, Option, Some, None, Ok}
+use Rattle.std.specs.Prelude.{◌≡◌, ◌+◌, ◌+ℤ◌, ℕ, ℤ, pos, length, List, [], ◌∷◌, Some, Ok}
 use Rattle.std.specs.Borrow.{Bor}
 use Rattle.std.specs.FinMap as fin
 use Rattle.bike_fields.specs.Caller.{caller_text}
@@ -15,7 +15,6 @@ use Rattle.bike_operator.specs.Operator.{Operator, Kept, Key}
 use Rattle.bike_operator.specs.Changes.{Decides, made, all_changed, present, entry_added}
 use Rattle.bike_operator.specs.Runs.{key_in, accepted}
 use Rattle.bike_operator.specs.Sound.{IsKept, IsSound}
-use Rattle.bike_book.specs.declared.row_change.RowChange.{RowChange}
 use Rattle.bike_book.specs.declared.row_change.RowChange.TheVariants as row
 use Rattle.bike_book.specs.Stored.{Listed, IsListing}
 use Rattle.bike_book.specs.Between.{Books}

@@ -1,5 +1,5 @@
 -- What is found in the tables of an operator: the row of a key, rows by other columns, the last row, and how many there are.
-use Rattle.std.specs.Prelude.{◌≡◌, ◌==◌, ◌&&◌, ℕ, pos, length, List, [], ◌∷◌, Bool, false, Option, Some, None, is_some, option_map, find, map, filter, slice_get}
+use Rattle.std.specs.Prelude.{◌≡◌, ◌==◌, ◌&&◌, ℕ, pos, length, List, [], ◌∷◌, false, Option, Some, None, is_some, option_map, find, map, filter, slice_get}
 use Rattle.std.specs.List.{list_all}
 use Rattle.std.specs.FinMap as fin
 use Rattle.sqlite_value.specs.declared.value.Value.TheVariants.{Text}
@@ -12,7 +12,7 @@ use Rattle.bike_commands.specs.Replies.{reply_text}
 use Rattle.bike_ledger.specs.Ledger.{balance_of, cash_of, revenue_of, refunded_of}
 use Rattle.bike_operator.specs.declared.records.Rental.{Rental}
 use Rattle.bike_operator.specs.Operator.{Operator, numbered, key_of, dock_key}
-use Rattle.bike_operator.specs.Counts.{docked_at, is_broken, is_open, is_riding, loaded, on_truck, open_rentals, available_of, docks_available, docks_broken}
+use Rattle.bike_operator.specs.Counts.{count, is_on_truck, is_for_order, docked_at, is_broken, is_open, is_riding, open_rentals, available_of, docks_available, docks_broken}
 use Rattle.bike_operator.specs.Sound.{IsSound}
 use Rattle.bike_book.specs.declared.version.TheConstants.{NEWEST}
 use Rattle.bike_counts.specs.Numbers.{disabled_of}
@@ -86,9 +86,9 @@ open_rental s rider = find (λ e. (e.1.rider == rider) && is_open e.1) (with_num
 pub record FoundByColumns (s : Operator) (m : Listed) : Type 0 where
   pub segments : (plan : List ℕ) → rows_by s m Segments (0 ∷ []) (Text plan ∷ []) ≡ segments_in plan (fin.get s.plans plan)
   pub docked : (station : List ℕ) (dock : ℕ) → slice_get (rows_by s m Bikes (3 ∷ 4 ∷ []) (Text station ∷ number_value dock ∷ [])) 0 ≡ option_map stored_bike (docked_at s station dock)
-  pub loaded_is : (truck : ℕ) → length (rows_by s m Bikes (6 ∷ []) (number_value truck ∷ [])) ≡ loaded s truck
-  pub on_truck_is : (order : ℕ) → length (rows_by s m Bikes (7 ∷ []) (number_value order ∷ [])) ≡ on_truck s order
-  pub open_is : (rider : ℕ) → open_row s m rider ≡ option_map (stored_rental s.entries) (open_rental s rider)
+  pub on_truck : (truck : ℕ) → length (rows_by s m Bikes (6 ∷ []) (number_value truck ∷ [])) ≡ count (λ b. is_on_truck truck b.1.place) (fin.entries s.bikes)
+  pub for_order : (order : ℕ) → length (rows_by s m Bikes (7 ∷ []) (number_value order ∷ [])) ≡ count (λ b. is_for_order order b.1.place) (fin.entries s.bikes)
+  pub open_rental_is : (rider : ℕ) → open_row s m rider ≡ option_map (stored_rental s.entries) (open_rental s rider)
   pub riding : (rider : ℕ) → is_some (open_row s m rider) ≡ is_riding s rider
 
 -- ---- numbers of rows

@@ -1,6 +1,6 @@
 //! The laws: which row changes book each change of the operator.
 
-ghost use Rattle.bike_book.specs.ChangeLaws.{Everywhere, SetSystemLaw, AddPlanLaw, AddTypeLaw, SetPlanLaw, AddStationLaw, SetStationLaw, AddBikeLaw, AddTruckLaw, AddRiderLaw, SetRiderLaw, AddRentalLaw, CloseRentalLaw, AddOrderLaw, DeliverLaw, CloseOrderLaw, ChangesLeaveLedger};
+ghost use Rattle.bike_book.specs.ChangeLaws.{Everywhere, SetSystemLaw, AddPlanLaw, AddTypeLaw, SetPlanLaw, AddStationLaw, SetStationLaw, AddBikeLaw, AddTruckLaw, AddRiderLaw, SetRiderLaw, AddRentalLaw, CloseRentalLaw, AddOrderLaw, DeliverLaw, CloseOrderLaw, NoneInTurn, BothInTurn, ChangesLeaveLedger};
 ghost use Rattle.bike_book.specs.CloseLaws.{AtEachClose, QuietCloseLaw, EntryCloseLaw, RefundCloseLaw, AcceptedIsClosed, AcceptedEntryNumber, ChangesLeaveKept};
 ghost use Rattle.bike_book.specs.Found.{WhereListed, FoundByKey, FoundListed, FoundByColumns, FoundNumbers};
 ghost use Rattle.bike_book.specs.NotThere.{WhereSound, NoRefundsYet, NoBalanceYet, NoneDockedYet, NoneBrokenYet};
@@ -37,6 +37,12 @@ pub fn books_close()
     ensures quiet { AtEachClose QuietCloseLaw }
     ensures entry { AtEachClose EntryCloseLaw }
     ensures refund { AtEachClose RefundCloseLaw }
+{}
+
+/// The law of row changes one after the other.
+pub fn books_in_turn()
+    ensures none { NoneInTurn }
+    ensures both { BothInTurn }
 {}
 
 /// What a decision leaves to the close: no change touches the ledger, and the operator after it is the one closed.

@@ -10,8 +10,8 @@ mod row_change;
 mod version;
 
 pub use laws::{
-    books_catalogue, books_close, books_fleet, books_rentals, finds_rows, leaves_close,
-    starts_at_zero,
+    books_catalogue, books_close, books_fleet, books_in_turn, books_rentals, finds_rows,
+    leaves_close, starts_at_zero,
 };
 pub use row_change::RowChange;
 pub use version::NEWEST;
