@@ -18,6 +18,7 @@ pub record IsRefundable (entries : ℕ) (r : RentalView) (fare : ℤ) : Type 0 w
   pub high : r.refunded ≤ℤ fare
   pub balance : entries < MOST_ENTRIES → IsBalance r.balance
 
+-- what a decision needs of a view, at a moment
 pub record IsBounded (view : View) (now : ℕ) : Type 0 where
   -- where the ledger isn't full, one more rental has a number, and the rider's balance takes one more entry
   pub few_rentals : view.is_ledger_full ≡ false → view.rentals < MOST_ENTRIES

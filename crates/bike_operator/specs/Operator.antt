@@ -1,5 +1,5 @@
--- The operator: all that it keeps. It holds no balance, no count and no sum; those are figures of its records. So the ledger
--- rule holds: balances change by entries alone.
+-- The operator: all that it keeps. It holds no balance, no count and no sum; those are figures of its records.
+-- The ledger rule: so balances change by entries alone.
 use Rattle.std.specs.Prelude.{ℕ, zero, suc, List, [], ◌∷◌, Bool, Option, Some, None}
 use Rattle.std.specs.Ordering.{nat_cmp}
 use Rattle.std.specs.declared.cmp.Ordering.{Ordering}

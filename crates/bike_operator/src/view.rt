@@ -1,4 +1,4 @@
-//! The view: what a command names of the operator, each there or absent, and what is counted for it.
+//! The view of an operator for a command: what its tests ask, and the records that its changes touch.
 
 use crate::records::{Bike, BikeState, Order, Rental};
 use bike_catalogue::Plan;
@@ -61,7 +61,7 @@ pub struct TruckView {
     pub capacity: TruckCapacity,
 }
 
-/// What a command names, each there or absent, and what is counted for it. A field that the command does not ask for is
+/// What a command names, each there or absent, and what is counted for it. A field that is of no use to the command is
 /// `false`, none or 0.
 #[derive(Debug, Drop)]
 pub struct View {
