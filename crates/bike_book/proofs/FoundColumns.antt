@@ -1,5 +1,5 @@
 -- The rows found by columns that are no key: the segments of a plan, bicycles by their places, and a rider's open rental.
-use Rattle.std.proofs.Common.{◌≡◌, inl, inr, ℕ, suc, List, [], ◌∷◌, ◌++◌, length, filter, find, Bool, true, false, cond, ◌&&◌, ◌||◌, T, Option, Some, None, is_some, refl, sym, ap, ap₂, ◌∙◌}
+use Rattle.std.proofs.Common.{◌≡◌, inl, inr, ℕ, suc, List, [], ◌∷◌, ◌++◌, length, filter, find, Bool, true, false, cond, ◌&&◌, ◌||◌, T, Some, is_some, refl, sym, ap, ap₂, ◌∙◌}
 use Rattle.std.specs.Prelude.{map, slice_get, option_map, ◌==◌}
 use Rattle.std.specs.List.{list_any}
 use Rattle.std.specs.Ordering.{nat_cmp, eq_by_cmp, is_eq, ordering_then}
@@ -28,6 +28,7 @@ use Rattle.bike_book.specs.Stored.{numbers_from, with_numbers, segment_rows, pla
 use Rattle.bike_book.specs.Found.{WhereListed, FoundByColumns, segments_in, rows_open}
 use Rattle.bike_book.proofs.MapRows.{both, below_has}
 use Rattle.bike_book.proofs.Keys.{value_cmp-number_value}
+use Rattle.bike_book.proofs.FoundKeys.{mapped_some}
 use Rattle.bike_book.proofs.FoundNumbers.{finish_null, same_length}
 
 -- ---- rows that pass are those of the records that pass
@@ -144,30 +145,26 @@ module _ (plan : List ℕ) where
 -- ---- a rider's open rental
 
 module _ (es : List Entry) (rider : ℕ) (rs : List Rental) where
-  abbrev is_his : ℕ × Rental → Bool
-  is_his e = e.1.rider == rider
+  abbrev is_of_rider : ℕ × Rental → Bool
+  is_of_rider e = e.1.rider == rider
 
-  abbrev is_his_open : ℕ × Rental → Bool
-  is_his_open e = (e.1.rider == rider) && is_open e.1
+  abbrev is_open_of_rider : ℕ × Rental → Bool
+  is_open_of_rider e = (e.1.rider == rider) && is_open e.1
 
-  rows_are : rows_open (rows_where (1 ∷ []) (number_value rider ∷ []) (map (stored_rental es) (with_numbers rs))) ≡ map (stored_rental es) (filter is_his_open (with_numbers rs))
+  rows_are : rows_open (rows_where (1 ∷ []) (number_value rider ∷ []) (map (stored_rental es) (with_numbers rs))) ≡ map (stored_rental es) (filter is_open_of_rider (with_numbers rs))
   rows_are =
-      ap rows_open (filtered (stored_rental es) _ is_his (λ e. same_number e.1.rider rider) (with_numbers rs))
-      ∙ filtered (stored_rental es) _ (λ e. is_open e.1) (λ e. finish_null es e.0 e.1 e.1.closing) (filter is_his (with_numbers rs))
-      ∙ ap (map (stored_rental es)) (filtered_twice is_his (λ e. is_open e.1) (with_numbers rs))
+      ap rows_open (filtered (stored_rental es) _ is_of_rider (λ e. same_number e.1.rider rider) (with_numbers rs))
+      ∙ filtered (stored_rental es) _ (λ e. is_open e.1) (λ e. finish_null es e.0 e.1 e.1.closing) (filter is_of_rider (with_numbers rs))
+      ∙ ap (map (stored_rental es)) (filtered_twice is_of_rider (λ e. is_open e.1) (with_numbers rs))
 
-  open_found : slice_get (rows_open (rows_where (1 ∷ []) (number_value rider ∷ []) (map (stored_rental es) (with_numbers rs)))) 0 ≡ option_map (stored_rental es) (find is_his_open (with_numbers rs))
-  open_found = ap (λ (xs : List Row). slice_get xs 0) rows_are ∙ first_found (stored_rental es) is_his_open (with_numbers rs)
+  open_found : slice_get (rows_open (rows_where (1 ∷ []) (number_value rider ∷ []) (map (stored_rental es) (with_numbers rs)))) 0 ≡ option_map (stored_rental es) (find is_open_of_rider (with_numbers rs))
+  open_found = ap (λ (xs : List Row). slice_get xs 0) rows_are ∙ first_found (stored_rental es) is_open_of_rider (with_numbers rs)
 
-mapped_some : {A B : Type 0} (f : A → B) (o : Option A) → is_some (option_map f o) ≡ is_some o
-mapped_some f None = refl
-mapped_some f (Some x) = refl
-
-any_found : (rider : ℕ) (n : ℕ) (rs : List Rental) → is_some (find (is_his_open [] rider rs) (numbers_from n rs)) ≡ list_any (λ r. (r.rider == rider) && is_open r) rs
+any_found : (rider : ℕ) (n : ℕ) (rs : List Rental) → is_some (find (is_open_of_rider [] rider rs) (numbers_from n rs)) ≡ list_any (λ r. (r.rider == rider) && is_open r) rs
 any_found rider n [] = refl
 any_found rider n (r ∷ rs) = go ((r.rider == rider) && is_open r) (any_found rider (suc n) rs) where
-  go : (b : Bool) → is_some (find (is_his_open [] rider rs) (numbers_from (suc n) rs)) ≡ list_any (λ z. (z.rider == rider) && is_open z) rs
-      → is_some (cond b (Some (n, r)) (find (is_his_open [] rider rs) (numbers_from (suc n) rs))) ≡ (b || list_any (λ z. (z.rider == rider) && is_open z) rs)
+  go : (b : Bool) → is_some (find (is_open_of_rider [] rider rs) (numbers_from (suc n) rs)) ≡ list_any (λ z. (z.rider == rider) && is_open z) rs
+      → is_some (cond b (Some (n, r)) (find (is_open_of_rider [] rider rs) (numbers_from (suc n) rs))) ≡ (b || list_any (λ z. (z.rider == rider) && is_open z) rs)
   go true rest = refl
   go false rest = rest
 
@@ -184,5 +181,5 @@ found_by_columns s m sound listing = record {
       ap length (filtered stored_bike _ (λ e. is_for_order order e.1.place) (λ e. for_order_at order e.0 e.1 e.1.place) (fin.entries s.bikes))
       ∙ same_length stored_bike (filter (λ e. is_for_order order e.1.place) (fin.entries s.bikes));
   open_rental_is = λ rider. open_found s.entries rider s.rentals;
-  riding = λ rider. ap is_some (open_found s.entries rider s.rentals) ∙ mapped_some (stored_rental s.entries) (find (is_his_open s.entries rider s.rentals) (with_numbers s.rentals)) ∙ any_found rider 1 s.rentals;
+  riding = λ rider. ap is_some (open_found s.entries rider s.rentals) ∙ mapped_some (stored_rental s.entries) (find (is_open_of_rider s.entries rider s.rentals) (with_numbers s.rentals)) ∙ any_found rider 1 s.rentals;
 }

@@ -1,16 +1,19 @@
 -- The rows found by their keys.
-use Rattle.std.proofs.Common.{◌≡◌, ℕ, List, Bool, true, false, Option, Some, None, is_some, refl, ap}
+use Rattle.std.proofs.Common.{◌≡◌, ℕ, List, [], ◌∷◌, Bool, true, false, Option, Some, None, is_some, refl, ap, ◌∙◌}
 use Rattle.std.specs.Prelude.{option_map}
 use Rattle.std.specs.FinMap as fin
+use Rattle.sqlite_value.specs.declared.value.Value.TheVariants.{Text}
 use Rattle.bike_rows.specs.View.{row_with}
 use Rattle.bike_catalogue.specs.Rows.{SystemRow}
 use Rattle.bike_ledger.specs.Ledger.{cash_of, revenue_of}
 use Rattle.bike_operator.specs.Operator.{Operator, Key, DockKey, key_of, dock_key}
-use Rattle.bike_operator.specs.Counts.{is_broken}
+use Rattle.bike_operator.specs.Counts.{is_broken, available_of}
 use Rattle.bike_book.specs.declared.version.TheConstants.{NEWEST}
-use Rattle.bike_book.specs.Rows.{system_row}
+use Rattle.bike_counts.specs.Numbers.{disabled_of}
+use Rattle.bike_book.specs.Tables.{Docks, Counts}
+use Rattle.bike_book.specs.Rows.{number_value, system_row, dock_row, count_row}
 use Rattle.bike_book.specs.Stored.{Listed, IsListing, system_rows, stored_plan, stored_type, stored_station, stored_dock, stored_bike, stored_truck, stored_rider, stored_rental, stored_order, stored_entry, stored_kept, stored_count}
-use Rattle.bike_book.specs.Found.{WhereListed, FoundByKey, FoundListed}
+use Rattle.bike_book.specs.Found.{row_under, WhereListed, FoundByKey, FoundListed}
 use Rattle.bike_book.proofs.MapRows.{found_entries}
 use Rattle.bike_book.proofs.Keys.{number_key, numbers, texts, pairs, docks, IsPair, IsDockPair}
 use Rattle.bike_book.proofs.NumberRows.{found_number}
@@ -55,10 +58,23 @@ module _ (s : Operator) (m : Listed) (listing : IsListing s m) where
       absurd cc
   unlisted_works station dock none false marked = refl
 
+  dock_found : (station : List ℕ) (dock : ℕ) → row_under s m Docks (Text station ∷ number_value dock ∷ []) ≡ option_map (λ listed. dock_row station dock (is_broken s station dock)) (fin.get m.docks (dock_key station dock))
+  dock_found station dock = found_entries docks (stored_dock s.broken) (λ e. refl) (dock_key station dock) (record { station = station; dock = dock; is = refl }) m.docks dock_pair
+
+  count_found : (station type_id : List ℕ) → row_under s m Counts (Text station ∷ Text type_id ∷ [])
+      ≡ option_map (λ listed. count_row station type_id (available_of s station type_id) (disabled_of s station type_id)) (fin.get m.counts (key_of station type_id))
+  count_found station type_id = found_entries pairs (stored_count s) (λ e. refl) (key_of station type_id) (record { first = station; second = type_id; is = refl }) m.counts count_pair
+
+pub mapped_some : {A B : Type 0} (f : A → B) (o : Option A) → is_some (option_map f o) ≡ is_some o
+mapped_some f None = refl
+mapped_some f (Some x) = refl
+
 pub found_listed : WhereListed FoundListed
 found_listed s m sound listing = record {
-  docks = λ station dock. found_entries docks (stored_dock s.broken) (λ e. refl) (dock_key station dock) (record { station = station; dock = dock; is = refl }) m.docks (dock_pair s m listing);
+  docks = dock_found s m listing;
+  dock_listed = λ station dock. ap is_some (dock_found s m listing station dock) ∙ mapped_some _ (fin.get m.docks (dock_key station dock));
   works = λ station dock none. unlisted_works s m listing station dock none (is_broken s station dock) refl;
-  counts = λ station type_id. found_entries pairs (stored_count s) (λ e. refl) (key_of station type_id) (record { first = station; second = type_id; is = refl }) m.counts (count_pair s m listing);
+  counts = count_found s m listing;
+  count_listed = λ station type_id. ap is_some (count_found s m listing station type_id) ∙ mapped_some _ (fin.get m.counts (key_of station type_id));
   none = λ station type_id none. listing.counted station type_id (ap is_some none);
 }

@@ -115,10 +115,11 @@ module _ (s : Operator) (m : Listed) (now : ℕ) where
 abbrev pub Everywhere : (Operator → Listed → ℕ → Type 0) → Type 0
 Everywhere Law = (s : Operator) (m : Listed) (now : ℕ) → IsListing s m → Law s m now
 
--- No row change leads to the same operator, and the row changes of two steps lead through both.
+-- no row change leads to the same operator
 abbrev pub NoneInTurn : Type 0
 NoneInTurn = (s : Operator) (m : Listed) → IsListing s m → Books [] s m s m
 
+-- the row changes of two steps, one after the other, lead through both
 abbrev pub BothInTurn : Type 0
 BothInTurn =
     (cs ds : List RowChange) (s n o : Operator) (m w v : Listed) → Books cs s m n w → Books ds n w o v → Books (cs ++ ds) s m o v
@@ -129,5 +130,6 @@ pub record LeavesLedger (s next : Operator) : Type 0 where
   pub kept : next.kept ≡ s.kept
   pub now : next.now ≡ s.now
 
+-- a list of changes leaves them
 abbrev pub ChangesLeaveLedger : Type 0
 ChangesLeaveLedger = (now : ℕ) (changes : List Change) (s : Operator) → LeavesLedger s (all_changed now changes s)

@@ -51,17 +51,20 @@ pub record FoundByKey (s : Operator) (m : Listed) : Type 0 where
   pub kept : (caller key : List ℕ) → row_under s m Kept (Text caller ∷ Text key ∷ [])
       ≡ option_map (λ k. kept_row caller key (text_of k.command) (reply_text k.reply)) (fin.get s.kept (key_of caller key))
 
--- A dock has a row where it is listed, and works where it has none; and so with the counts of a type at a station, which are 0 where they have none.
+-- A dock has a row where it is listed, and works where it has none. Counts have a row where they are listed, and are 0 where they have none.
 pub record FoundListed (s : Operator) (m : Listed) : Type 0 where
   pub docks : (station : List ℕ) (dock : ℕ) → row_under s m Docks (Text station ∷ number_value dock ∷ [])
       ≡ option_map (λ listed. dock_row station dock (is_broken s station dock)) (fin.get m.docks (dock_key station dock))
+  pub dock_listed : (station : List ℕ) (dock : ℕ) → is_some (row_under s m Docks (Text station ∷ number_value dock ∷ [])) ≡ fin.contains_key m.docks (dock_key station dock)
   pub works : (station : List ℕ) (dock : ℕ) → fin.get m.docks (dock_key station dock) ≡ None → is_broken s station dock ≡ false
   pub counts : (station type_id : List ℕ) → row_under s m Counts (Text station ∷ Text type_id ∷ [])
       ≡ option_map (λ listed. count_row station type_id (available_of s station type_id) (disabled_of s station type_id)) (fin.get m.counts (key_of station type_id))
+  pub count_listed : (station type_id : List ℕ) → is_some (row_under s m Counts (Text station ∷ Text type_id ∷ [])) ≡ fin.contains_key m.counts (key_of station type_id)
   pub none : (station type_id : List ℕ) → fin.get m.counts (key_of station type_id) ≡ None → (available_of s station type_id ≡ 0) × (disabled_of s station type_id ≡ 0)
 
 -- ---- by other columns
 
+-- the segments of a plan, where it is there
 abbrev pub segments_in : List ℕ → Option PlanRow → List Row
 segments_in plan None = []
 segments_in plan (Some p) = segment_rows plan 1 p.segments
@@ -93,14 +96,16 @@ pub record FoundByColumns (s : Operator) (m : Listed) : Type 0 where
 
 -- ---- numbers of rows
 
--- the last row of a table, whose key is how many records there are; none of no record
+-- the key of a last row is how many records there are; there is none of no record
 abbrev pub IsLast : ℕ → Option Row → Type 0
 IsLast count None = count ≡ 0
 IsLast count (Some row) = column row 0 ≡ number_value count
 
+-- the last row of a table
 abbrev pub last_row : Operator → Listed → TableName → Option Row
 last_row s m name = slice_get (last_of (rows_of s m name)) 0
 
+-- how many rows a table has
 abbrev pub row_count : Operator → Listed → TableName → ℕ
 row_count s m name = length (rows_of s m name)
 

@@ -7,15 +7,19 @@ use Rattle.bike_operator.specs.Counts.{docks_broken}
 use Rattle.bike_operator.specs.Sound.{IsSound}
 use Rattle.bike_counts.specs.Numbers.{occupied}
 
+-- a rental with a number above the last has no refunds
 abbrev pub NoRefundsYet : Operator → Type 0
 NoRefundsYet s = (rental : ℕ) → length s.rentals < rental → refunded_of rental s.entries ≡ pos 0
 
+-- a rider who isn't there has a balance of 0
 abbrev pub NoBalanceYet : Operator → Type 0
 NoBalanceYet s = (rider : ℕ) → fin.get s.riders rider ≡ None → balance_of rider s.entries ≡ pos 0
 
+-- no bicycle is in a working dock of a station that isn't there
 abbrev pub NoneDockedYet : Operator → Type 0
 NoneDockedYet s = (station : List ℕ) → fin.get s.stations station ≡ None → occupied s station ≡ 0
 
+-- no dock of a station that isn't there is broken
 abbrev pub NoneBrokenYet : Operator → Type 0
 NoneBrokenYet s = (station : List ℕ) (docks : ℕ) → fin.get s.stations station ≡ None → docks_broken s station docks ≡ 0
 
