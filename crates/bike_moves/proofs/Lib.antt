@@ -1,7 +1,9 @@
-pub mod Elsewhere
-pub mod ListingLemmas
-pub mod ReportLaw
-pub mod PutRows
-pub mod PlaceLaw
-pub mod MarkRows
-pub mod MarkLaw
+pub mod TotalsRows
+pub mod Listed
+pub mod ReportBooks
+pub mod BikeMoves
+pub mod BikeBooks
+pub mod DockMarks
+pub mod MarkBooks
+pub mod After
+pub mod Ends

@@ -1,2 +1,4 @@
 pub mod Facts
 pub mod MoveLaws
+pub mod AfterLaws
+pub mod Ends

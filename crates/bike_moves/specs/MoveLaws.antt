@@ -13,7 +13,7 @@ use Rattle.bike_operator.specs.Sound.{AreBikesSound}
 use Rattle.bike_counts.specs.Laws.{IsAway}
 use Rattle.bike_book.specs.declared.row_change.RowChange.{RowChange}
 use Rattle.bike_book.specs.declared.row_change.RowChange.TheVariants as row
-use Rattle.bike_book.specs.Stored.{Listed, IsListing}
+use Rattle.bike_book.specs.Stored.{Listed}
 use Rattle.bike_book.specs.Between.{Books}
 use Rattle.bike_moves.specs.Facts.{DockTotals, BikeTotals, IsPlacedAt, IsTurnedAt, IsMarkedEmpty, IsMarkedHeld}
 
@@ -84,7 +84,3 @@ module _ (s : Operator) (m : Listed) (now : ℕ) where
       → AreBikesSound s → type_id.now ≡ b.type_id → IsMarkedHeld s station.now dock broken bike b d e n o
       → Books (dock_change m station dock broken ∷ row.SetDocks station e.free e.broken ∷ count_change m station type_id o ∷ []) s m
       (changed now (mark_change broken station dock) s) (with_count station.now type_id.now (with_dock station.now dock m))
-
--- the law at every operator whose rows are listed right, and at every moment
-abbrev pub Everywhere : (Operator → Listed → ℕ → Type 0) → Type 0
-Everywhere Law = (s : Operator) (m : Listed) (now : ℕ) → IsListing s m → Law s m now

@@ -6,4 +6,4 @@
 
 mod laws;
 
-pub use laws::{mark_law, place_law, report_law, state_law};
+pub use laws::{books_mark, books_place, books_report, books_request, books_state, stands_after};

@@ -1,8 +1,9 @@
--- Operators whose numbers differ at one station or one of its types, and their rows.
-use Rattle.std.proofs.Common.{◌≡◌, ◌≢◌, ℕ, pos, List, [], ◌∷◌, Bool, true, false, Option, Some, is_some, refl, sym, ap, ap₂, ◌∙◌, subst}
+-- Rows of stations, counts and docks, where the numbers of one station change.
+use Rattle.std.proofs.Common.{◌≡◌, ◌≢◌, ℕ, pos, List, [], ◌∷◌, Bool, true, false, Option, Some, refl, sym, ap, ap₂, ◌∙◌, subst}
 use Rattle.std.specs.Prelude.{map, if◌then◌else◌}
 use Rattle.std.specs.Ordering.{eq_by_cmp}
-use Rattle.std.specs.Cmp.{eq_by_cmp_equiv}
+use Rattle.std.specs.declared.cmp.Ordering.{Ordering}
+use Rattle.std.specs.Cmp.{IsTotalOrder, eq_by_cmp_equiv}
 use Rattle.std.specs.FinMap as fin
 use Rattle.std.specs.Borrow.{Bor}
 use Rattle.sqlite_value.specs.declared.value.Value.TheVariants.{Int, Text}
@@ -19,45 +20,37 @@ use Rattle.bike_book.specs.Writes.{write_of, tables_after}
 use Rattle.bike_book.specs.Between.{docks_left, counted_station}
 use Rattle.bike_book.proofs.MapRows.{same_entries, put_entries, set_entries, kept_entries}
 use Rattle.bike_book.proofs.Keys.{texts, pairs, docks, IsPair, IsDockPair}
+use Rattle.bike_book.proofs.FoundKeys.{count_pair, dock_pair}
 use Rattle.bike_moves.specs.Facts.{DockTotals, BikeTotals, HasDockTotals}
 use Rattle.bike_moves.specs.MoveLaws.{count_change, dock_change, with_count, with_dock}
 
 -- ---- keys that differ
 
-apart_texts : (a b : List ℕ) → eq_by_cmp text_cmp a b ≡ false → b ≢ a
-apart_texts a b apart same =
-    let itself : eq_by_cmp text_cmp a a ≡ true = (eq_by_cmp_equiv text_order.total).refl a in
-    let not : eq_by_cmp text_cmp a a ≡ false = ap (eq_by_cmp text_cmp a) (sym same) ∙ apart in
+apart_keys : {K : Type 0} {R : K → K → Ordering} → IsTotalOrder R → (a b : K) → eq_by_cmp R a b ≡ false → a ≢ b
+apart_keys {R = R} total a b apart same =
+    let itself : eq_by_cmp R a a ≡ true = (eq_by_cmp_equiv total).refl a in
+    let not : eq_by_cmp R a a ≡ false = ap (eq_by_cmp R a) same ∙ apart in
     absurd cc
+
+apart_texts : (a b : List ℕ) → eq_by_cmp text_cmp a b ≡ false → b ≢ a
+apart_texts a b apart same = apart_keys text_order.total a b apart (sym same)
 
 pub apart_pairs : (a b c d : List ℕ) → eq_by_cmp texts_cmp (key_of a b) (key_of c d) ≡ false → c ≡ a → d ≢ b
-apart_pairs a b c d apart first second =
-    let itself : eq_by_cmp texts_cmp (key_of a b) (key_of a b) ≡ true = (eq_by_cmp_equiv texts_order.total).refl (key_of a b) in
-    let not : eq_by_cmp texts_cmp (key_of a b) (key_of a b) ≡ false = ap₂ (λ (x y : List ℕ). eq_by_cmp texts_cmp (key_of a b) (key_of x y)) (sym first) (sym second) ∙ apart in
-    absurd cc
+apart_pairs a b c d apart first second = apart_keys texts_order.total (key_of a b) (key_of c d) apart (ap₂ key_of (sym first) (sym second))
 
 apart_docks : (a b : List ℕ) (m n : ℕ) → eq_by_cmp texts_cmp (dock_key a m) (dock_key b n) ≡ false → b ≡ a → n ≢ m
-apart_docks a b m n apart first second =
-    let itself : eq_by_cmp texts_cmp (dock_key a m) (dock_key a m) ≡ true = (eq_by_cmp_equiv texts_order.total).refl (dock_key a m) in
-    let not : eq_by_cmp texts_cmp (dock_key a m) (dock_key a m) ≡ false = ap₂ (λ (x : List ℕ) (y : ℕ). eq_by_cmp texts_cmp (dock_key a m) (dock_key x y)) (sym first) (sym second) ∙ apart in
-    absurd cc
-
--- ---- the keys of listed rows
-
-count_pairs : (s : Operator) (m : Listed) → IsListing s m → (key : Key) → fin.contains_key m.counts key ≡ true → IsPair key
-count_pairs s m h key there = let k = h.counts key there in record { first = k.station; second = k.type_id; is = k.key_is }
-
-dock_pairs : (s : Operator) (m : Listed) → IsListing s m → (key : DockKey) → fin.contains_key m.docks key ≡ true → IsDockPair key
-dock_pairs s m h key there = let k = h.docks key there in record { station = k.station; dock = k.dock; is = k.key_is }
+apart_docks a b m n apart first second = apart_keys texts_order.total (dock_key a m) (dock_key b n) apart (ap₂ dock_key (sym first) (sym second))
 
 -- ---- stations
 
--- the numbers of a station, at the row that is found
-pub totals_at : (s : Operator) (station : List ℕ) (d : DockTotals) → HasDockTotals s station d → (x : Station) → fin.get s.stations station ≡ Some x
-    → (docks_left s station x.row.docks ≡ pos d.free) × (docks_broken s station x.row.docks ≡ d.broken)
+-- these are the numbers of a station, with this row
+abbrev pub HasTotalsAt : Operator → List ℕ → Station → DockTotals → Type 0
+HasTotalsAt s station x d = (docks_left s station x.row.docks ≡ pos d.free) × (docks_broken s station x.row.docks ≡ d.broken)
+
+pub totals_at : (s : Operator) (station : List ℕ) (d : DockTotals) → HasDockTotals s station d → (x : Station) → fin.get s.stations station ≡ Some x → HasTotalsAt s station x d
 totals_at s station d has x found =
     let row : has.row ≡ x = (let same : ◌≡◌ {A = Option Station} (Some has.row) (Some x) = sym has.found ∙ found in cc) in
-    (subst (λ (z : Station). docks_left s station z.row.docks ≡ pos d.free) row has.free, subst (λ (z : Station). docks_broken s station z.row.docks ≡ d.broken) row has.broken)
+    subst (λ (z : Station). HasTotalsAt s station z d) row (has.free, has.broken)
 
 module _ (s n : Operator) where
   -- a station has as many docks left and broken in both
@@ -69,7 +62,7 @@ module _ (s n : Operator) where
 
   -- the numbers of one station are set
   pub stations_set : (station : List ℕ) (e : DockTotals) → ((other : List ℕ) → other ≢ station → SameDocks other)
-      → ((x : Station) → fin.get s.stations station ≡ Some x → (docks_left n station x.row.docks ≡ pos e.free) × (docks_broken n station x.row.docks ≡ e.broken))
+      → ((x : Station) → fin.get s.stations station ≡ Some x → HasTotalsAt n station x e)
       → updated 1 (Text station ∷ []) (with_values ((9, number_value e.free) ∷ (10, number_value e.broken) ∷ [])) (map (counted_station s) (fin.entries s.stations)) ≡ map (counted_station n) (fin.entries s.stations)
   stations_set station e others here =
       kept_entries texts (counted_station s) (counted_station n) (λ x. refl) (λ x. refl) s.stations station tt (with_values ((9, number_value e.free) ∷ (10, number_value e.broken) ∷ []))
@@ -88,7 +81,7 @@ module _ (s n : Operator) where
   module _ (m : Listed) (listing : IsListing s m) where
     pub counts_same : ((station type_id : List ℕ) → SameBikes station type_id) → map (stored_count s) (fin.entries m.counts) ≡ map (stored_count n) (fin.entries m.counts)
     counts_same same = same_entries pairs (stored_count s) (stored_count n) m.counts (λ q y there.
-        let p = count_pairs s m listing q (ap is_some there) in
+        let p = count_pair s m listing q y there in
         let e = same p.first p.second in
         rw p.is (ap₂ (count_row p.first p.second) e.0 e.1))
 
@@ -105,7 +98,7 @@ module _ (s n : Operator) where
 
       each : (q : Key) (y : Unit {0}) → fin.get m.counts q ≡ Some y → IsPair q × (eq_by_cmp texts_cmp (key_of station.now type_id.now) q ≡ false → stored_count s (q, y) ≡ stored_count n (q, y))
       each q y found =
-          let p = count_pairs s m listing q (ap is_some found) in (
+          let p = count_pair s m listing q y found in (
             p,
             λ apart.
                 let differ : eq_by_cmp texts_cmp (key_of station.now type_id.now) (key_of p.first p.second) ≡ false = ap (eq_by_cmp texts_cmp (key_of station.now type_id.now)) (sym p.is) ∙ apart in
@@ -144,7 +137,7 @@ dock_written s n m listing station dock broken others here t is = go (fin.contai
 
   each : (q : DockKey) (y : Unit {0}) → fin.get m.docks q ≡ Some y → IsDockPair q × (eq_by_cmp texts_cmp (dock_key station.now dock) q ≡ false → stored_dock s.broken (q, y) ≡ stored_dock n.broken (q, y))
   each q y found =
-      let p = dock_pairs s m listing q (ap is_some found) in (
+      let p = dock_pair s m listing q y found in (
         p,
         λ apart.
             let differ : eq_by_cmp texts_cmp (dock_key station.now dock) (dock_key p.station p.dock) ≡ false = ap (eq_by_cmp texts_cmp (dock_key station.now dock)) (sym p.is) ∙ apart in

@@ -1,0 +1,79 @@
+-- A dock marked as broken or as working, as row changes.
+use Rattle.std.proofs.Common.{◌≡◌, ℕ, List, [], ◌∷◌, Bool, true, false, refl, sym, ap, ◌∙◌, subst}
+use Rattle.std.specs.Prelude.{map}
+use Rattle.std.specs.FinMap as fin
+use Rattle.std.specs.Borrow.{Bor}
+use Rattle.bike_operator.specs.declared.records.Bike.{Bike}
+use Rattle.bike_operator.specs.Operator.{Operator, dock_key}
+use Rattle.bike_operator.specs.Counts.{available_of}
+use Rattle.bike_operator.specs.Steps.{dock_marked}
+use Rattle.bike_operator.specs.Sound.{AreBikesSound}
+use Rattle.bike_counts.specs.Numbers.{disabled_of}
+use Rattle.bike_counts.proofs.MarkLaw.{marked_here, marked_other}
+use Rattle.bike_book.specs.declared.row_change.RowChange.TheVariants as row
+use Rattle.bike_book.specs.Tables.{Tables}
+use Rattle.bike_book.specs.Stored.{Listed, IsListing, stored_dock, stored_count}
+use Rattle.bike_book.specs.Writes.{write_of, writes_of, tables_after, tables_after_all}
+use Rattle.bike_book.specs.Between.{tables_between, Books}
+use Rattle.bike_book.specs.ChangeLaws.{Everywhere}
+use Rattle.bike_book.proofs.ListingLemmas.{KeepsNames, names_same}
+use Rattle.bike_moves.specs.Facts.{DockTotals, BikeTotals, IsMarkedEmpty, IsMarkedHeld}
+use Rattle.bike_moves.specs.MoveLaws.{count_change, dock_change, with_count, with_dock, MarkEmptyLaw, MarkHeldLaw}
+use Rattle.bike_moves.proofs.TotalsRows.{stations_set, counts_same, count_written, dock_written, SameBikesElsewhere}
+use Rattle.bike_moves.proofs.Listed.{AreMarksListed, marks_turned, listing_dock, listing_kept, listing_counted_at}
+use Rattle.bike_moves.proofs.DockMarks.{has_marked, marks_elsewhere, empty_bikes, empty_elsewhere, empty_here, held_bikes, held_elsewhere, held_here, held_available, held_disabled}
+
+module _ (s : Operator) (m : Listed) (listing : IsListing s m) (sound : AreBikesSound s) (station : Bor (List ℕ)) (dock : ℕ) (mark : Bool) where
+  abbrev next : Operator
+  next = dock_marked station.now dock mark s
+
+  abbrev w : Listed
+  w = with_dock station.now dock m
+
+  names : KeepsNames s next
+  names = names_same s next refl refl
+
+  marks : AreMarksListed next w
+  marks = marks_turned s next m station.now dock listing (marks_elsewhere s.broken (dock_key station.now dock) mark)
+
+  -- the tables with the dock's row
+  abbrev with_mark : Tables
+  with_mark = record (tables_between s m) { docks = map (stored_dock next.broken) (fin.entries w.docks) }
+
+  mark_written : tables_after (write_of (dock_change m station dock mark)) (tables_between s m) ≡ with_mark
+  mark_written =
+      let marked = has_marked s station.now dock mark in
+      dock_written s next m listing station dock mark (λ other d apart. sym (marked_other s next station.now dock mark marked other d apart)) (marked_here s next station.now dock mark marked) (tables_between s m) refl
+
+  empty_books : (d e : DockTotals) → IsMarkedEmpty s station.now dock mark d e → Books (dock_change m station dock mark ∷ row.SetDocks station e.free e.broken ∷ []) s m next w
+  empty_books d e h =
+      let stations = stations_set s next station.now e (empty_elsewhere sound h) (empty_here sound h) in
+      let counts = counts_same s next m listing (empty_bikes sound h) in
+      record {
+        leads = ap (tables_after_all (writes_of (row.SetDocks station e.free e.broken ∷ []))) mark_written ∙ (λ i. record with_mark { stations = stations i; counts = counts i });
+        listing = listing_kept s next w names marks (listing_dock s m station.now dock h.has listing) (empty_bikes sound h);
+      }
+
+  held_books : (type_id : Bor (List ℕ)) (bike : ℕ) (b : Bike) (d e : DockTotals) (n o : BikeTotals) → type_id.now ≡ b.type_id → IsMarkedHeld s station.now dock mark bike b d e n o
+      → Books (dock_change m station dock mark ∷ row.SetDocks station e.free e.broken ∷ count_change m station type_id o ∷ []) s m next (with_count station.now type_id.now w)
+  held_books type_id bike b d e n o type_is h =
+      let others = subst (SameBikesElsewhere s next station.now) (sym type_is) (held_bikes sound h) in
+      let has_type = subst (λ (t : List ℕ). fin.contains_key s.types t ≡ true) (sym type_is) h.bikes.type_is in
+      let stations = stations_set s next station.now e (held_elsewhere sound h) (held_here sound h) in
+      let counts = count_written s next m listing station type_id o others (ap (available_of next station.now) type_is ∙ held_available sound h) (ap (disabled_of next station.now) type_is ∙ held_disabled sound h) in
+      record {
+        leads = ap (tables_after_all (writes_of (row.SetDocks station e.free e.broken ∷ count_change m station type_id o ∷ []))) mark_written
+            ∙ counts (tables_after (write_of (row.SetDocks station e.free e.broken)) with_mark) refl
+            ∙ (λ i. record with_mark { stations = stations i; counts = map (stored_count next) (fin.entries (with_count station.now type_id.now m).counts) });
+        listing = listing_counted_at s next w names marks (listing_dock s m station.now dock h.has listing) station.now type_id.now h.bikes.station_is has_type others;
+      }
+
+-- ---- the laws
+
+pub mark_empty : Everywhere MarkEmptyLaw
+mark_empty s m now listing station dock true d e sound h = empty_books s m listing sound station dock true d e h
+mark_empty s m now listing station dock false d e sound h = empty_books s m listing sound station dock false d e h
+
+pub mark_held : Everywhere MarkHeldLaw
+mark_held s m now listing station type_id dock true bike b d e n o sound type_is h = held_books s m listing sound station dock true type_id bike b d e n o type_is h
+mark_held s m now listing station type_id dock false bike b d e n o sound type_is h = held_books s m listing sound station dock false type_id bike b d e n o type_is h
