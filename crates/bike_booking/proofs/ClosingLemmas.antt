@@ -1,5 +1,5 @@
 -- From the changes of an acceptance to the operator after it: the close.
-use Rattle.std.proofs.Common.{◌≡◌, ◌+◌, ℕ, ℤ, pos, length, List, [], ◌∷◌, ◌++◌, append_assoc, Option, Some, None, Ok, refl, sym, ap, ap₂, ◌∙◌, subst}
+use Rattle.std.proofs.Common.{◌≡◌, ℕ, ℤ, pos, List, [], ◌∷◌, ◌++◌, append_assoc, Option, Some, None, Ok, refl, sym, ap, ap₂, ◌∙◌, subst}
 use Rattle.std.specs.Prelude.{◌+ℤ◌}
 use Rattle.std.specs.Borrow.{Bor}
 use Rattle.bike_ledger.specs.declared.entry.EntryKind.{EntryKind}

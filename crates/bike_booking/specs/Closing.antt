@@ -1,10 +1,10 @@
 -- The row changes that close a request.
-use Rattle.std.specs.Prelude.{◌≡◌, ◌+◌, ◌+ℤ◌, ℕ, ℤ, pos, List, [], ◌∷◌, ◌++◌}
+use Rattle.std.specs.Prelude.{◌≡◌, ◌+ℤ◌, ℕ, ℤ, List, [], ◌∷◌, ◌++◌}
 use Rattle.std.specs.Borrow.{Bor}
 use Rattle.bike_ledger.specs.declared.entry.EntryKind.{EntryKind}
 use Rattle.bike_ledger.specs.declared.entry.EntryKind.TheVariants.{TopUp, Fare, Refund}
 use Rattle.bike_ledger.specs.Entries.{Entry}
-use Rattle.bike_ledger.specs.Ledger.{credit, cash_in, earned, given_back, balance_of, refunded_of}
+use Rattle.bike_ledger.specs.Ledger.{credit, cash_in, earned, balance_of, refunded_of}
 use Rattle.bike_commands.specs.declared.command.Command.{Command}
 use Rattle.bike_operator.specs.declared.view.View.{View}
 use Rattle.bike_operator.specs.Operator.{Operator}

@@ -1,6 +1,6 @@
 use Rattle.std.proofs.Common.{Option, sym, subst}
 use Rattle.bike_operator.specs.declared.change.Change.{Change}
-use Rattle.bike_booking.specs.Stages.{BooksStep, IsOn, after_change}
+use Rattle.bike_booking.specs.Stages.{BooksStep, after_change}
 use Rattle.bike_booking.proofs.booking.book_change.Goals as goal
 
 pub returns-in-Some : goal.returns-in-Some

@@ -1,8 +1,7 @@
-use Rattle.std.proofs.Common.{rules, w64, FitsSigned, ◌≡◌, ℤ, List, [], ◌∷◌, sym, ap, ap₂, ◌∙◌}
+use Rattle.std.proofs.Common.{rules, w64, FitsSigned, ℤ, [], ◌∷◌, sym, ap, ap₂, ◌∙◌}
 use Rattle.std.proofs.lemmas.Int.{to_z-of_z}
 use Rattle.bike_ledger.specs.Ledger.{credit}
 use Rattle.std.specs.Prelude.{◌+ℤ◌}
-use Rattle.bike_book.specs.declared.row_change.RowChange.{RowChange}
 use Rattle.bike_book.specs.declared.row_change.RowChange.TheVariants as row
 use Rattle.bike_booking.proofs.BookingLemmas.{added}
 use Rattle.bike_booking.proofs.ClosingLemmas.{refund_booked}

@@ -1,4 +1,4 @@
-use Rattle.std.proofs.Common.{◌≡◌, List, [], ◌∷◌, Bool, true, false, Option, Some, None, is_some, sym, ap, ◌∙◌, subst}
+use Rattle.std.proofs.Common.{◌≡◌, [], ◌∷◌, true, false, sym, ◌∙◌, subst}
 use Rattle.std.specs.FinMap as fin
 use Rattle.bike_operator.specs.declared.change.Change.{Change}
 use Rattle.bike_book.specs.declared.row_change.RowChange.TheVariants as row

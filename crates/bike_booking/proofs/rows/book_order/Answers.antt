@@ -1,4 +1,4 @@
-use Rattle.std.proofs.Common.{List, [], ◌∷◌, false, refl, sym, subst}
+use Rattle.std.proofs.Common.{[], ◌∷◌, false, refl, sym, subst}
 use Rattle.bike_operator.specs.declared.change.Change.{Change}
 use Rattle.bike_book.specs.declared.row_change.RowChange.TheVariants as row
 use Rattle.bike_book.proofs.RentalBooks.{add_order, close_order}

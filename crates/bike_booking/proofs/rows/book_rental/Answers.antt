@@ -1,4 +1,4 @@
-use Rattle.std.proofs.Common.{rules, FitsSigned, ◌≡◌, ℤ, w64, List, [], ◌∷◌, arith, refl, sym, subst, subst₂, ◌∙◌}
+use Rattle.std.proofs.Common.{rules, FitsSigned, ℤ, w64, [], ◌∷◌, arith, refl, sym, subst, subst₂, ◌∙◌}
 use Rattle.std.proofs.lemmas.Int.{to_z-of_z}
 use Rattle.bike_operator.specs.declared.change.Change.{Change}
 use Rattle.bike_book.specs.declared.row_change.RowChange.TheVariants as row
