@@ -1,0 +1,2 @@
+pub mod BookingLemmas
+pub mod ClosingLemmas

@@ -1,0 +1,4 @@
+pub mod Touched
+pub mod Stages
+pub mod Closing
+pub mod Booking

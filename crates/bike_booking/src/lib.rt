@@ -1,0 +1,17 @@
+//! The book of a request: the row changes by which what was decided is stored.
+#![tactic(auto)]
+
+mod booking;
+mod closing;
+mod reading;
+mod rows;
+mod stage;
+mod stored;
+mod texts;
+mod touched;
+
+pub use booking::book_request;
+pub use stage::Stage;
+pub use stored::{StoredNumbers, Sums};
+pub use texts::KeptTexts;
+pub use touched::Touched;

@@ -1,0 +1,140 @@
+//! What was read for a request, and the facts that its changes ask of it.
+
+ghost use Rattle.std.specs.Prelude.{◌≡◌, ◌+◌, length, IfSome, true, Some, None};
+ghost use Rattle.std.specs.FinMap as map;
+ghost use Rattle.std.specs.Str.{bytes_eq};
+ghost use Rattle.bike_ledger.specs.Ledger.{balance_of, refunded_of};
+ghost use Rattle.bike_operator.specs.Operator.{Operator, numbered};
+ghost use Rattle.bike_operator.specs.View.{view_of};
+
+use bike_commands::Command;
+use bike_fields::Ident;
+use bike_operator::{Order, View};
+
+/// Whether the identifiers are the same.
+fn is_same(one: &Ident, other: &Ident) -> bool
+    ensures { result ≡ bytes_eq one.now other.now }
+{
+    one.as_str() == other.as_str()
+}
+
+/// Whether the view shows that the plan isn't there.
+pub(crate) fn lacks_plan(command: &Command, view: &View, plan: &Ident) -> bool
+    ensures { (s : Operator) → view.now ≡ view_of s command.now → result ≡ true → map.get s.plans plan.now ≡ None }
+{
+    match command {
+        Command::AddPlan(added) => !view.has_plan && is_same(added.plan_id(), plan),
+        _ => false,
+    }
+}
+
+/// Whether the view shows that the station isn't there.
+pub(crate) fn lacks_station(command: &Command, view: &View, station: &Ident) -> bool
+    ensures { (s : Operator) → view.now ≡ view_of s command.now → result ≡ true → map.get s.stations station.now ≡ None }
+{
+    match command {
+        Command::AddStation(added) => {
+            view.station.is_none() && is_same(added.station_id(), station)
+        }
+        _ => false,
+    }
+}
+
+/// Whether the view shows that the bicycle isn't there.
+pub(crate) fn lacks_bike(command: &Command, view: &View, bike: u32) -> bool
+    ensures { (s : Operator) → view.now ≡ view_of s command.now → result ≡ true → map.get s.bikes bike ≡ None }
+{
+    match command {
+        Command::AddBike { bike: added, .. } => view.bike.is_none() && added.get() == bike,
+        _ => false,
+    }
+}
+
+/// Whether the rider is there, where the view shows it.
+pub(crate) fn has_rider(command: &Command, view: &View, rider: u32) -> Option<bool>
+    ensures { (s : Operator) → view.now ≡ view_of s command.now → IfSome result (λ has. map.contains_key s.riders rider ≡ has) }
+{
+    match command {
+        Command::AddRider { rider: named } | Command::SetRider { rider: named, .. } => {
+            if named.get() == rider {
+                Some(view.has_rider)
+            } else {
+                None
+            }
+        }
+        _ => None,
+    }
+}
+
+/// The number of the next rental, where the view shows it.
+pub(crate) fn next_rental(command: &Command, view: &View) -> Option<u32>
+    ensures { (s : Operator) → view.now ≡ view_of s command.now → IfSome result (λ n. n ≡ length s.rentals + 1) }
+{
+    match command {
+        Command::Start { .. } => view.rentals.checked_add(1),
+        _ => None,
+    }
+}
+
+/// The number of the next order, where the view shows it.
+pub(crate) fn next_order(command: &Command, view: &View) -> Option<u32>
+    ensures { (s : Operator) → view.now ≡ view_of s command.now → IfSome result (λ n. n ≡ length s.orders + 1) }
+{
+    match command {
+        Command::OpenOrder { .. } => view.orders.checked_add(1),
+        _ => None,
+    }
+}
+
+/// The order of that number, where the view shows it.
+pub(crate) fn order_read<'a>(command: &Command, view: &'a View, order: u32) -> Option<&'a Order>
+    ensures { (s : Operator) → view.now ≡ view_of s command.now → IfSome result (λ o. numbered order s.orders ≡ Some o.now) }
+{
+    match command {
+        Command::Unload { order: named, .. } | Command::CloseOrder { order: named } => {
+            if named.get() == order {
+                view.order.as_ref()
+            } else {
+                None
+            }
+        }
+        _ => None,
+    }
+}
+
+/// The balance of the rider in hundredths, where the view shows it.
+pub(crate) fn balance_read(command: &Command, view: &View, rider: u32) -> Option<i64>
+    ensures { (s : Operator) → view.now ≡ view_of s command.now → IfSome result (λ balance. balance ≡ balance_of rider s.entries) }
+{
+    match command {
+        Command::TopUp { rider: named, .. } => {
+            let paying = view.rider?;
+            if named.get() == rider {
+                Some(paying.balance)
+            } else {
+                None
+            }
+        }
+        _ => {
+            let rented = view.rental.as_ref()?;
+            if rented.rental.rider.get() == rider {
+                Some(rented.balance)
+            } else {
+                None
+            }
+        }
+    }
+}
+
+/// The refunds of the rental in hundredths, where the view shows them.
+pub(crate) fn refunds_read(command: &Command, view: &View, rental: u32) -> Option<i64>
+    ensures { (s : Operator) → view.now ≡ view_of s command.now → IfSome result (λ refunded. refunded ≡ refunded_of rental s.entries) }
+{
+    let _ = command;
+    let rented = view.rental.as_ref()?;
+    if rented.number.get() == rental {
+        Some(rented.refunded)
+    } else {
+        None
+    }
+}

@@ -1,0 +1,14 @@
+//! How far the changes of a request are booked.
+
+/// How far the changes of a request are booked, by what is still as it was read.
+#[derive(Clone, Copy, Debug, PartialEq, Eq)]
+pub enum Stage {
+    /// No change is booked: everything.
+    First,
+    /// A rental was added or closed: everything but rentals.
+    Rented,
+    /// A bicycle was moved or a dock marked, or a station reported: orders.
+    Moved,
+    /// Nothing.
+    Last,
+}
