@@ -11,8 +11,8 @@ ghost use Rattle.bike_tables.specs.Stored.{AllLeft, Keeps};
 ghost use Rattle.bike_desk.specs.Serving.{KeepsSame, meta_of};
 
 use bike_commands::Command;
-use bike_small::{RiderView, View};
 use bike_fields::RiderNumber;
+use bike_small::{RiderView, View};
 use bike_tables::{
     KeptRow, MetaRow, StatementFault, last_entry, last_rider, read_kept, read_meta, read_rider,
     riders_full,

@@ -23,9 +23,9 @@ ghost use Rattle.bike_desk.specs.Serving.{meta_of, Accepts, AreOf};
 use crate::reads::{find_kept, find_meta, find_view};
 use crate::transaction::make_all;
 use bike_commands::{Refusal, Reply, Request};
-use bike_small::{Change, View, decide};
 use bike_fixed::{Cents, Moment};
 use bike_ledger::{Entry, EntryKind, balance_after};
+use bike_small::{Change, View, decide};
 use bike_tables::{KeptRow, MetaRow, RiderRow, RowChange, StatementFault};
 use sqlite::{Alter, Connection};
 

@@ -1,11 +1,10 @@
 -- The tables as they are made: empty but for the one row of `meta`.
-use Rattle.std.proofs.Common.{◌≡◌, ℕ, pos, not, true, false, List, [], ◌∷◌, codes, map, slice_get, is_some, is_none, Result, OnOk, refl, sym, ap, subst, ◌∙◌}
+use Rattle.std.proofs.Common.{◌≡◌, ℕ, pos, not, true, false, List, [], ◌∷◌, codes, map, slice_get, is_some, is_none, refl, sym, ap, subst, ◌∙◌}
 use Rattle.std.specs.List.{AllByRecursion, list_all}
 use Rattle.std.specs.FinMap as fin
 use Rattle.std.specs.declared.cmp.Ordering.{Ordering}
 use Rattle.std.proofs.Math.Path.{fun_ext}
 use Rattle.std.proofs.lemmas.Bool.{and_parts, not-true}
-use Rattle.std.proofs.lemmas.Result.{on_ok_weaker}
 use Rattle.std.proofs.lemmas.List.Folds.{list_all-append, list_all-map}
 use Rattle.sqlite_schema.specs.Names.{table_named}
 use Rattle.sqlite_value.specs.Order.{Row}
@@ -15,9 +14,9 @@ use Rattle.sqlite_tied.specs.Compute.{everything}
 use Rattle.sqlite.specs.Effect.{Database, IsDatabase}
 use Rattle.sqlite.specs.Held.{Held, state}
 use Rattle.bike_rows.specs.Stands.{rows_of, Stands}
-use Rattle.bike_rows.specs.View.{put_row_by}
 use Rattle.bike_rows.proofs.ListLemmas.{no_list}
 use Rattle.bike_rows.proofs.IndexLaw.{IsOnlyIndex, index_made}
+use Rattle.bike_rows.proofs.CallLaws.{Does}
 use Rattle.bike_rows.proofs.WriteLaws.{Inserts, row_put}
 use Rattle.bike_operator.specs.Operator.{no_operator}
 use Rattle.bike_book.specs.Tables.{TableName, Tables, keys_of, rows_in, tables_by, with_rows, Meta, System, Plans, Segments, Types, Stations, Docks, Bikes, Trucks, Riders, Rentals, Orders, Entries, Kept, Counts}
@@ -25,12 +24,14 @@ use Rattle.bike_book.specs.Rows.{meta_row}
 use Rattle.bike_book.specs.Stored.{none_listed, tables_for, stored_plan, plans_segments, stored_type, stored_station, stored_dock, stored_bike, stored_truck, stored_rider, stored_kept, stored_count}
 use Rattle.bike_book.specs.declared.version.TheConstants.{NEWEST}
 use Rattle.bike_schema.specs.Layouts.{layout_of, name_of, every_table}
-use Rattle.bike_schema.specs.Tables.{tables_of, HasTables, is_parent, is_unused, HasNone, planned_names}
-use Rattle.bike_schema.specs.Makes.{Continues}
-use Rattle.bike_schema.specs.Creates.{Ran, RanAll, table_texts, index_texts, Creates}
+use Rattle.bike_schema.specs.Tables.{IsOurs, tables_of, is_parent, is_unused, HasNone, planned_names}
+use Rattle.bike_schema.specs.Makes.{Continues, Puts}
+use Rattle.bike_schema.specs.Calls.{WasFree}
+use Rattle.bike_book.specs.Writes.{tables_after}
+use Rattle.bike_schema.specs.Creates.{RanAll, table_texts, index_texts, first_write, Creates}
 use Rattle.bike_schema.proofs.TableLemmas.{of_every, every_true}
 use Rattle.bike_schema.proofs.KeyLemmas.{table_key}
-use Rattle.bike_schema.proofs.MakesLemmas.{set_has, set_tables, set_others, continues_then}
+use Rattle.bike_schema.proofs.MakesLemmas.{continues_then, adds_row}
 use Rattle.bike_schema.proofs.MakeFacts.{text_of, declared, index_only}
 use Rattle.bike_schema.proofs.MakeLemmas.{adds}
 use Rattle.bike_schema.proofs.GrowthLemmas.{AllStay, still_unnamed, made_stands, made_empty, all_stay}
@@ -118,6 +119,9 @@ inserts : Inserts 1 (layout_of Meta) insert_text first_row
 unfolding everything
 inserts = row_put (table_key Meta) (λ s tree. (refl, refl, refl, λ base. refl)) refl refl (λ rows. refl)
 
+pub adds_meta : Does IsOurs (λ db. WasFree first_write (tables_of db)) (Puts (first_write ∷ [])) insert_text first_row
+adds_meta = adds_row Meta inserts
+
 -- ---- the tables of the operator of whom nothing was asked
 
 none_in : {K X : Type 0} (R : K → K → Ordering) → fin.entries (fin.empty {X = X} {R = R}) ≡ []
@@ -145,33 +149,33 @@ first_rows Counts = sym (ap (map (stored_count no_operator)) (none_in _))
 
 -- ---- all of it
 
-module _ {S : Type 0} (g : Ghosts S) (a b c d : Held S) (none : HasNone (state g a).now.schema) (tables : RanAll g table_texts a b) (indexes : RanAll g index_texts b c) where
-  creates_by : Ran insert_text first_row (state g c) (state g d) → Creates (state g a) (state g d)
-  creates_by row =
-      let was = (state g a).now in
-      let old = (state g c).now in
-      let new = (state g d).now in
-      let made = made_all g every_table a b tables (none_named was none) in
-      let stay = indexed_all g index_texts b c index_only indexes in
-      let empty : (t : TableName) → IsEmpty old t = λ t. empty_stays (state g b).now old t stay (of_every (IsEmpty (state g b).now) made.empty t) in
-      let has : HasTables old = λ t. (empty t).stands in
-      let set = (inserts.does (state g c) (state g d) (indexed_sound g index_texts refl b c index_only indexes) (has Meta) row.0 row.1.0).0 in
-      let rows = put_row_by 1 first_row (rows_of 1 (name_of Meta) old) in
-      let one : rows ≡ first_row ∷ [] = ap (put_row_by 1 first_row) (empty Meta).no_rows in
-      let none_yet : tables_of old ≡ tables_by (λ t. []) = ap tables_by (fun_ext (λ t. (empty t).no_rows)) in
+module _ {S : Type 0} (g : Ghosts S) (a b c : Held S) (none : HasNone (state g a).now.schema) (tables : RanAll g table_texts a b) (indexes : RanAll g index_texts b c) where
+  -- the tables stand, empty, and the database obeys its schema
+  stays : AllStay (state g b).now (state g c).now
+  stays = indexed_all g index_texts b c index_only indexes
+
+  made : AreMade every_table (state g a).now (state g b).now
+  made = made_all g every_table a b tables (none_named (state g a).now none)
+
+  empty : (t : TableName) → IsEmpty (state g c).now t
+  empty t = empty_stays (state g b).now (state g c).now t stays (of_every (IsEmpty (state g b).now) made.empty t)
+
+  pub are_ours : IsOurs (state g c).now
+  are_ours = record { sound = indexed_sound g index_texts refl b c index_only indexes; has = λ t. (empty t).stands }
+
+  pub creates : (d : Held S) → Puts (first_write ∷ []) (state g c) (state g d) → Creates (state g a) (state g d)
+  creates d it =
+      let none_yet : tables_of (state g c).now ≡ tables_by (λ t. []) = ap tables_by (fun_ext (λ t. (empty t).no_rows)) in
+      let continued = continues_then (state g a) (state g b) (state g c) (all_continue g table_texts refl a b tables) (all_continue g index_texts refl b c indexes) in
       record {
-        continues = continues_then (state g a) (state g b) (state g d) (all_continue g table_texts refl a b tables) (continues_then (state g b) (state g c) (state g d) (all_continue g index_texts refl b c indexes) row.1.1);
+        continues = continues_then (state g a) (state g c) (state g d) continued it.continues;
         fresh = record {
-          sound = set.sound;
-          has = set_has old new Meta rows has set;
-          tables = set_tables old new Meta rows has set ∙ ap (λ r. with_rows Meta r (tables_of old)) one ∙ ap (with_rows Meta (first_row ∷ [])) none_yet ∙ ap tables_by (fun_ext first_rows);
+          sound = it.makes.sound;
+          has = it.makes.has;
+          tables = it.makes.tables ∙ ap (tables_after first_write) none_yet ∙ ap tables_by (fun_ext first_rows);
           others = λ keys layout other stands.
-              let kept = stay_both was (state g b).now old made.stay stay keys layout stands in
-              let last = set_others old new Meta rows has set keys layout other kept.stands in
+              let kept = stay_both (state g a).now (state g b).now (state g c).now made.stay stays keys layout stands in
+              let last = it.makes.others keys layout other kept.stands in
               record { stands = last.stands; rows = last.rows ∙ kept.rows };
         };
       }
-
-  -- what the third statement is sent computes to the row
-  pub creates : {X E : Type 0} (r : Result X E) (sent : Row) → sent ≡ first_row → OnOk r (Ran insert_text sent (state g c) (state g d)) → OnOk r (Creates (state g a) (state g d))
-  creates r sent same ran = on_ok_weaker r creates_by (subst (λ values. OnOk r (Ran insert_text values (state g c) (state g d))) same ran)

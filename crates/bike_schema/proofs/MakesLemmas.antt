@@ -1,14 +1,27 @@
 -- A write to one table is a write to the tables, and so is one after another.
-use Rattle.std.proofs.Common.{◌≡◌, Bool, true, false, List, [], ◌∷◌, ◌++◌, if◌then◌else◌, refl, sym, ap, subst, ◌∙◌}
+use Rattle.std.proofs.Common.{◌≡◌, ℕ, Bool, true, false, List, [], ◌∷◌, ◌++◌, if◌then◌else◌, Result, Ok, Err, IfErr, refl, sym, ap, subst, ◌∙◌}
 use Rattle.std.proofs.Math.Path.{fun_ext}
+use Rattle.std.proofs.lemmas.Result.{on_ok_weaker}
 use Rattle.sqlite_value.specs.Order.{Row}
 use Rattle.sqlite.specs.Effect.{Database, IsDatabase}
-use Rattle.sqlite.specs.State.{State}
+use Rattle.std.specs.Borrow.{MutBor}
+use Rattle.sqlite_trees.specs.declared.store.Store.{Ghosts}
+use Rattle.sqlite.specs.declared.error.Error.{Error}
+use Rattle.sqlite.specs.Held.{Held, state}
+use Rattle.sqlite.specs.State.{State, ExecutesInside}
+use Rattle.bike_rows.specs.Outcome.{ToldAs}
+use Rattle.bike_rows.specs.View.{put_row_by, updated, with_values, IsFree}
+use Rattle.bike_rows.specs.Runs.{RunsInside}
+use Rattle.bike_rows.proofs.CallLaws.{Does, insert_returns}
+use Rattle.bike_rows.proofs.WriteLaws.{Inserts, Updates, changes_inside}
 use Rattle.bike_rows.specs.Stands.{rows_of, is_same_text, Stands, Sets}
 use Rattle.bike_book.specs.Tables.{TableName, Tables, keys_of, is_table, rows_in, tables_by, with_rows}
-use Rattle.bike_book.specs.Writes.{RowWrite, table_of_write, rows_after, tables_after, tables_after_all}
+use Rattle.bike_book.specs.Writes.{RowWrite, Add, Set, Columns, table_of_write, rows_after, tables_after, tables_after_all}
 use Rattle.bike_schema.specs.Layouts.{layout_of, name_of}
-use Rattle.bike_schema.specs.Tables.{tables_of, HasTables}
+use Rattle.bike_schema.specs.Tables.{tables_of, HasTables, IsOurs}
+use Rattle.bike_schema.specs.declared.fault.StatementFault.{StatementFault}
+use Rattle.bike_schema.specs.Faults.{fault_of}
+use Rattle.bike_schema.specs.Calls.{WasFree, IsFaultOf, Writes}
 use Rattle.bike_schema.specs.Makes.{OthersStay, Makes, Continues, Puts}
 use Rattle.bike_schema.proofs.TableLemmas.{rows_in_by, same_table, every_false, names_apart}
 
@@ -52,6 +65,9 @@ sets_makes old new w has set =
       others = set_others old new t rows has set;
     }
 
+pub makes_ours : {ws : List RowWrite} {old new : Database} → Makes ws old new → IsOurs new
+makes_ours it = record { sound = it.sound; has = it.has }
+
 -- ---- one after the other
 
 pub stay_then : (a b c : Database) → OthersStay a b → OthersStay b c → OthersStay a c
@@ -81,3 +97,43 @@ continues_then a b c first second = record { was_open = first.was_open; is_open 
 
 pub puts_then : (ws vs : List RowWrite) (a b c : State) → Puts ws a b → Puts vs b c → Puts (ws ++ vs) a c
 puts_then ws vs a b c first second = record { continues = continues_then a b c first.continues second.continues; makes = makes_then ws vs a.now b.now c.now first.makes second.makes }
+
+-- ---- statements
+
+-- An INSERT of a row into a table is that write, and the row's key was free.
+pub adds_row : (t : TableName) {text : List ℕ} {row : Row} → Inserts (keys_of t) (layout_of t) text row → Does IsOurs (λ db. WasFree (Add t row) (tables_of db)) (Puts (Add t row ∷ [])) text row
+adds_row t {text} {row} it = record { does = λ old new ours r ran. on_ok_weaker r (puts old new ours) (changes_inside it old new ours.sound (ours.has t) r ran) }
+  where
+    puts : (old new : State) (ours : IsOurs old.now) → Continues old new × Sets old.now new.now (keys_of t) (layout_of t) (put_row_by (keys_of t) row (rows_of (keys_of t) (name_of t) old.now)) × IsFree (keys_of t) row (rows_of (keys_of t) (name_of t) old.now)
+        → Puts (Add t row ∷ []) old new × WasFree (Add t row) (tables_of old.now)
+    puts old new ours done =
+        let w = Add t row in
+        let same = sym (rows_of_table old.now t) in
+        let set = subst (λ rows. Sets old.now new.now (keys_of t) (layout_of t) (put_row_by (keys_of t) row rows)) same done.1 in
+        (record { continues = done.0; makes = sets_makes old.now new.now w ours.has set }, subst (IsFree (keys_of t) row) same done.2)
+
+-- An UPDATE of columns of the row with a key is that write.
+pub sets_columns : (t : TableName) {text : List ℕ} {params : Row} (key : Row) (columns : Columns) → Updates (keys_of t) (layout_of t) text params key (with_values columns)
+    → Does IsOurs (λ db. WasFree (Set t key columns) (tables_of db)) (Puts (Set t key columns ∷ [])) text params
+sets_columns t {text} {params} key columns it = record { does = λ old new ours r ran. on_ok_weaker r (puts old new ours) (changes_inside it old new ours.sound (ours.has t) r ran) }
+  where
+    puts : (old new : State) (ours : IsOurs old.now) → Continues old new × Sets old.now new.now (keys_of t) (layout_of t) (updated (keys_of t) key (with_values columns) (rows_of (keys_of t) (name_of t) old.now)) × Unit {0}
+        → Puts (Set t key columns ∷ []) old new × WasFree (Set t key columns) (tables_of old.now)
+    puts old new ours done =
+        let w = Set t key columns in
+        let set = subst (λ rows. Sets old.now new.now (keys_of t) (layout_of t) (updated (keys_of t) key (with_values columns) rows)) (sym (rows_of_table old.now t)) done.1 in
+        (record { continues = done.0; makes = sets_makes old.now new.now w ours.has set }, tt)
+
+-- What a function of one statement tells, from what its text does and what the engine makes of it. The values that it sends compute to the parameters.
+pub writes_told : {S X : Type 0} {g : Ghosts S} {w : RowWrite} {text : List ℕ} {params sent : Row} {old new : MutBor (Held S)} {result : Result X StatementFault} → Does IsOurs (λ db. WasFree w (tables_of db)) (Puts (w ∷ [])) text params
+    → RunsInside g old new text sent (λ error fault. fault ≡ fault_of error) result → sent ≡ params → Writes g old new result w
+writes_told {X = X} {g = g} {text = text} {sent = sent} {old = old} {new = new} does ran same = record {
+  writes = insert_returns does ran same;
+  told = λ clean inside. let it = ran.ran clean inside in faults it.0 _ it.1 it.2;
+}
+  where
+    faults : (r : Result ℕ Error) (q : Result X StatementFault) → ExecutesInside 0 text sent (state g old.now) (state g new.now) r → ToldAs (λ error fault. fault ≡ fault_of error) (λ count done. Unit {0}) r q → IfErr q (IsFaultOf g old.now new.now)
+    faults (Ok count) (Ok x) ran told = tt
+    faults (Err error) (Err fault) ran told = record { text = text; params = sent; error = error; refused = ran; fault_is = told }
+    faults (Ok count) (Err fault) ran told = absurd told
+    faults (Err error) (Ok x) ran told = absurd told

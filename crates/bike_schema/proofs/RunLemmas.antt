@@ -1,4 +1,4 @@
--- Statements that run one after another within a transaction.
+-- Statements with no parameters that run one after another within a transaction.
 use Rattle.std.proofs.Common.{◌≡◌, ◌+◌, ◌<◌, ℕ, List, [], ◌∷◌, ◌++◌, length, map, take, get_or, IsTrue, Result, Ok, Err, OnErr, refl, sym, ap, subst, ◌∙◌, inl, inr}
 use Rattle.std.proofs.lemmas.List.{take_more, map-append}
 use Rattle.sqlite_trees.specs.declared.store.Store.{Ghosts}
@@ -38,6 +38,6 @@ module _ {S : Type 0} (g : Ghosts S) where
   all_inside (text ∷ texts) a c (mid, ran, rest) inside = all_inside texts mid c rest ran.1.1.mode
 
   -- one more
-  pub ran_more : (texts : List (List ℕ)) (text : List ℕ) (a b c : Held S) → RanAll g texts a b → Ran text [] (state g b) (state g c) → RanAll g (texts ++ text ∷ []) a c
-  ran_more [] text a b c same ran = (c, subst (λ h. Ran text [] (state g h) (state g c)) (sym same) ran, refl)
+  pub ran_more : (texts : List (List ℕ)) (text : List ℕ) (a b c : Held S) → RanAll g texts a b → Ran text (state g b) (state g c) → RanAll g (texts ++ text ∷ []) a c
+  ran_more [] text a b c same ran = (c, subst (λ h. Ran text (state g h) (state g c)) (sym same) ran, refl)
   ran_more (t ∷ texts) text a b c (mid, ran, rest) next = (mid, ran, ran_more texts text mid b c rest next)

@@ -1,24 +1,27 @@
 -- What making the tables does to a database.
-use Rattle.std.specs.Prelude.{◌≡◌, ℕ, List, [], ◌∷◌, map, Ok}
-use Rattle.sqlite_value.specs.Order.{Row}
+use Rattle.std.specs.Prelude.{◌≡◌, ℕ, pos, List, [], ◌∷◌, map, Ok}
 use Rattle.sqlite.specs.Effect.{Database, IsDatabase}
 use Rattle.sqlite.specs.Held.{Held, state}
 use Rattle.sqlite.specs.State.{State, ExecutesInside}
 use Rattle.sqlite_trees.specs.declared.store.Store.{Ghosts}
 use Rattle.bike_schema.specs.declared.create.TheConstants.{TABLES, INDEXES}
 use Rattle.bike_operator.specs.Operator.{no_operator}
+use Rattle.bike_book.specs.declared.version.TheConstants.{NEWEST}
+use Rattle.bike_book.specs.Tables.{Meta}
+use Rattle.bike_book.specs.Rows.{meta_row}
+use Rattle.bike_book.specs.Writes.{RowWrite, Add}
 use Rattle.bike_book.specs.Stored.{none_listed, tables_for}
 use Rattle.bike_schema.specs.Tables.{tables_of, HasTables}
 use Rattle.bike_schema.specs.Makes.{OthersStay, Continues}
 
--- the statement ran within the transaction
-abbrev pub Ran : List ℕ → Row → State → State → Type 0
-Ran text params old new = (count : ℕ) × ExecutesInside 0 text params old new (Ok count)
+-- the statement ran within the transaction, with no parameters
+abbrev pub Ran : List ℕ → State → State → Type 0
+Ran text old new = (count : ℕ) × ExecutesInside 0 text [] old new (Ok count)
 
--- these ran, one after another, with no parameters
+-- these ran, one after another
 abbrev pub RanAll : {S : Type 0} (g : Ghosts S) → List (List ℕ) → Held S → Held S → Type 0
 RanAll g [] old new = old ≡ new
-RanAll g (text ∷ texts) old new = (mid : Held _) × Ran text [] (state g old) (state g mid) × RanAll g texts mid new
+RanAll g (text ∷ texts) old new = (mid : Held _) × Ran text (state g old) (state g mid) × RanAll g texts mid new
 
 -- the statements that make the tables, in the order of the schema, and those that make the indexes
 abbrev pub table_texts : List (List ℕ)
@@ -26,6 +29,10 @@ table_texts = map (λ text. text.now) TABLES
 
 abbrev pub index_texts : List (List ℕ)
 index_texts = map (λ text. text.now) INDEXES
+
+-- the one row of `meta` as it is made: the newest version, and all figures 0
+abbrev pub first_write : RowWrite
+first_write = Add Meta (meta_row NEWEST 0 (pos 0) (pos 0))
 
 -- The tables are there, and are those of the operator of whom nothing was asked. Every other table stays.
 pub record IsFresh (old new : Database) : Type 0 where

@@ -1,7 +1,9 @@
 pub mod Layouts
 pub mod Tables
 pub mod Makes
+pub mod Calls
 pub mod Stands
 pub mod Faults
 pub mod Creates
 pub mod Columns
+pub mod Answers

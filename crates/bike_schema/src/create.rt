@@ -1,16 +1,15 @@
 //! The statements that make the tables.
 
-ghost use Rattle.std.specs.Prelude.{◌≡◌, IsTrue, OnOk, OnErr, map};
+ghost use Rattle.std.specs.Prelude.{◌≡◌, IsTrue, IfErr, OnOk, OnErr, map};
 ghost use Rattle.sqlite.specs.State.{HasCleanDisk, KeepsCommit, Survives};
 ghost use Rattle.sqlite.specs.Held.{state};
-ghost use Rattle.sqlite.specs.Values.{bound};
-ghost use Rattle.bike_rows.specs.Outcome.{IsLeft};
-ghost use Rattle.bike_schema.specs.Creates.{Ran, RanAll, table_texts, index_texts, Creates};
+ghost use Rattle.bike_schema.specs.Calls.{IsFaultOf, Writes};
+ghost use Rattle.bike_schema.specs.Creates.{RanAll, table_texts, index_texts, first_write, Creates};
 ghost use Rattle.bike_schema.specs.Tables.{HasNone};
 
 use crate::fault::StatementFault;
 use bike_book::NEWEST;
-use sqlite::types::ValueRef;
+use bike_rows::write::run;
 use sqlite::{Alter, Transaction, params};
 
 /// The open transaction. What it has changed so far is the relation that the caller keeps; it is spent by
@@ -46,30 +45,16 @@ const INDEXES: [&str; 3] = [
     "CREATE INDEX rentals_by_rider ON rentals (rider)",
 ];
 
-/// Runs a statement.
-fn run<S: Alter>(
-    staged: &mut Staged<'_, S>,
-    sql: &str,
-    params: &[ValueRef<'_>],
-) -> Result<(), StatementFault>
-    ensures same_reference { staged.new.conn.ghost_name ≡ staged.old.conn.ghost_name }
-    ensures ran { HasCleanDisk (state S.Store staged.new.conn.now) → IsTrue staged.old.conn.now.in_transaction → OnOk result (Ran sql.now (bound params.now) (state S.Store staged.old.conn.now) (state S.Store staged.new.conn.now)) }
-    ensures refused { HasCleanDisk (state S.Store staged.new.conn.now) → IsTrue staged.old.conn.now.in_transaction → OnErr result (IsLeft (state S.Store staged.old.conn.now) (state S.Store staged.new.conn.now)) }
-    ensures survives { Survives (state S.Store staged.old.conn.now) (state S.Store staged.new.conn.now) (λ _. ⊥) }
-{
-    staged.execute(sql, params)?;
-    Ok(())
-}
-
 /// Runs the statements one after another, with no parameters, up to the first that fails.
 fn run_all<S: Alter>(staged: &mut Staged<'_, S>, texts: &[&str]) -> Result<(), StatementFault>
     ensures same_reference { staged.new.conn.ghost_name ≡ staged.old.conn.ghost_name }
     ensures ran { HasCleanDisk (state S.Store staged.new.conn.now) → IsTrue staged.old.conn.now.in_transaction → OnOk result (RanAll S.Store (map (λ text. text.now) texts.now) staged.old.conn.now staged.new.conn.now) }
     ensures refused { HasCleanDisk (state S.Store staged.new.conn.now) → IsTrue staged.old.conn.now.in_transaction → OnErr result (KeepsCommit (state S.Store staged.old.conn.now) (state S.Store staged.new.conn.now)) }
+    ensures told { HasCleanDisk (state S.Store staged.new.conn.now) → IsTrue staged.old.conn.now.in_transaction → IfErr result (λ fault. (mid : _) × IsFaultOf S.Store mid staged.new.conn.now fault) }
     ensures survives { Survives (state S.Store staged.old.conn.now) (state S.Store staged.new.conn.now) (λ _. ⊥) }
 {
     for sql in texts {
-        run(staged, sql, &[])?;
+        staged.execute(sql, &[])?;
     }
     Ok(())
 }
@@ -88,6 +73,17 @@ fn index_texts() -> &'static [&'static str]
     &INDEXES
 }
 
+/// Adds the one row of `meta`, with all figures 0.
+fn add_meta<S: Alter>(staged: &mut Staged<'_, S>) -> Result<(), StatementFault>
+    ensures { Writes S.Store staged.old.conn staged.new.conn result first_write }
+{
+    run(
+        staged,
+        "INSERT INTO meta VALUES (?1, ?2, ?3, ?4, ?5, ?6)",
+        params![1_i64, APP, NEWEST, 0_i64, 0_i64, 0_i64],
+    )
+}
+
 /// Makes the empty tables, the indexes beside those of the keys, and the one row of `meta`, in a database that has
 /// none of them (`has_none`). It fails where a view or an index has the name of a table, or anything that of one of
 /// these indexes. After an error some may stand in the transaction: let it go, and the tables are as before it.
@@ -95,13 +91,10 @@ pub fn create_tables<S: Alter>(staged: &mut Staged<'_, S>) -> Result<(), Stateme
     ensures same_reference { staged.new.conn.ghost_name ≡ staged.old.conn.ghost_name }
     ensures creates { HasCleanDisk (state S.Store staged.new.conn.now) → IsTrue staged.old.conn.now.in_transaction → HasNone (state S.Store staged.old.conn.now).now.schema → OnOk result (Creates (state S.Store staged.old.conn.now) (state S.Store staged.new.conn.now)) }
     ensures refused { HasCleanDisk (state S.Store staged.new.conn.now) → IsTrue staged.old.conn.now.in_transaction → OnErr result (KeepsCommit (state S.Store staged.old.conn.now) (state S.Store staged.new.conn.now)) }
+    ensures told { HasCleanDisk (state S.Store staged.new.conn.now) → IsTrue staged.old.conn.now.in_transaction → IfErr result (λ fault. (mid : _) × IsFaultOf S.Store mid staged.new.conn.now fault) }
     ensures survives { Survives (state S.Store staged.old.conn.now) (state S.Store staged.new.conn.now) (λ _. ⊥) }
 {
     run_all(staged, table_texts())?;
     run_all(staged, index_texts())?;
-    run(
-        staged,
-        "INSERT INTO meta VALUES (?1, ?2, ?3, ?4, ?5, ?6)",
-        params![1_i64, APP, NEWEST, 0_i64, 0_i64, 0_i64],
-    )
+    add_meta(staged)
 }

@@ -1,0 +1,2 @@
+pub mod Meta
+pub mod Kept
