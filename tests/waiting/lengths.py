@@ -1,0 +1,51 @@
+"""Texts of fields at their lengths and one past them. A length counts the bytes of the value, and not of its spelling."""
+
+HEAD = b"0\toffice\t"
+OK = b"ok\n"
+BAD_FIELD = b"refused\t11\tbad_field\n"
+SYSTEM = [b"set-system", b"metro", b"en", b"Metro", b"24/7", b"a@example.org", b"Etc/UTC", b"EUR", b"http://127.0.0.1", b"30"]
+
+
+def is_read(program, fields, at, text):
+    """Whether the command is accepted with this text in the place of one field."""
+    command = b"\t".join([*fields[:at], text, *fields[at + 1 :]])
+    status, found, said = program.run(given=HEAD + b"k1\t" + command + b"\n")
+    assert (status, said) == (0, b"") and found in (OK, BAD_FIELD), f"status {status}, answers {found}, messages {said}"
+    return found == OK
+
+
+def has_lengths(program, fields, at, unit, least, most):
+    for count in (least - 1, least, most, most + 1):
+        found = is_read(program, fields, at, unit * count)
+        assert found == (least <= count <= most), f"{count} times {unit} at field {at}: {'read' if found else 'refused'}"
+
+
+def test_identifiers(program):
+    has_lengths(program, SYSTEM, 1, b"a", 1, 36)
+
+
+def test_languages(program):
+    has_lengths(program, SYSTEM, 2, b"a", 2, 35)
+
+
+def test_names(program):
+    for unit, most in ((b"N", 120), (b"\\\\", 120), (b"\\n", 120), ("é".encode(), 60), ("🚲".encode(), 30)):
+        has_lengths(program, SYSTEM, 3, unit, 1, most)
+
+
+def test_printable_fields(program):
+    for at in (4, 5, 6, 8):
+        for unit in (b"~", b" ", b"\\\\"):
+            has_lengths(program, SYSTEM, at, unit, 1, 200)
+        for text in (b"\x1f", b"\x7f", b"\\t", b"\\n", b"\\r", "é".encode()):
+            assert not is_read(program, SYSTEM, at, text), f"{text} was read at field {at}"
+
+
+def test_currencies(program):
+    has_lengths(program, SYSTEM, 7, b"E", 3, 3)
+
+
+def test_the_longest_system(program):
+    fields = [b"set-system", b"m" * 36, b"e" * 35, b"\\\\" * 120, *[b"\\\\" * 200] * 3, b"EUR", b"\\\\" * 200, b"86400"]
+    line = b"253402300799\timport:" + b"i" * 36 + b"\t" + b"k" * 64 + b"\t" + b"\t".join(fields) + b"\n"
+    program.answers(line + line, OK + OK)
