@@ -1,9 +1,0 @@
-pub mod ReadLemmas
-pub mod RiderLemmas
-pub mod NumberLemmas
-pub mod PlanLemmas
-pub mod MetaLemmas
-pub mod LimitLemmas
-pub mod KeptLemmas
-pub mod CountLemmas
-pub mod LedgerLemmas

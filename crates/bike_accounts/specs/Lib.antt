@@ -1,2 +1,0 @@
-pub mod Meta
-pub mod Kept
