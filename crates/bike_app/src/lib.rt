@@ -10,6 +10,3 @@ pub use end::{Fault, exit_code};
 pub use fault::LinesFault;
 pub use lines::{MOST_READS, run_lines};
 pub use program::{serve, serve_in_memory, serve_text};
-
-#[cfg(test)]
-mod tests;

@@ -17,6 +17,3 @@ pub use columns::{
 pub use create::{Staged, create_tables};
 pub use fault::StatementFault;
 pub use schema::has_none;
-
-#[cfg(test)]
-mod tests;
