@@ -1,6 +1,8 @@
 pub mod TableLemmas
 pub mod KeyLemmas
 pub mod MakesLemmas
+pub mod AnswerLemmas
+pub mod ReadLemmas
 mod RunLemmas
 mod MakeTexts
 mod MakeFacts

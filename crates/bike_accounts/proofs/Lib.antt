@@ -1,0 +1,4 @@
+pub mod CountLemmas
+pub mod TextLemmas
+pub mod RowLemmas
+pub mod SegmentLemmas

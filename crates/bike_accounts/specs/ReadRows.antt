@@ -1,0 +1,25 @@
+-- What is read of rows by their columns.
+use Rattle.std.specs.Prelude.{◌≡◌, ℕ, List, [], ◌∷◌, map, Option, Some}
+use Rattle.sqlite_value.specs.Order.{Row, column}
+use Rattle.sqlite_sql.specs.Aggregate.{count}
+use Rattle.bike_commands.specs.Commands.{text_of}
+use Rattle.bike_commands.specs.Replies.{reply_text, IsReply}
+use Rattle.bike_operator.specs.declared.records.Closing.{Closing}
+use Rattle.bike_operator.specs.Operator.{Kept}
+use Rattle.bike_book.specs.Rows.{closing_columns, kept_row}
+use Rattle.bike_accounts.specs.declared.kept.KeptRow.{KeptRow}
+use Rattle.bike_accounts.specs.Accounts.{KeepsSame}
+
+-- the row is that of one count
+abbrev pub IsCountOf : ℕ → Row → Type 0
+IsCountOf n row = row ≡ count n ∷ []
+
+-- the closing that stands in the row of a rental
+abbrev pub HasClosing : Row → Option Closing → Type 0
+HasClosing row closing = map (column row) (6 ∷ 7 ∷ 8 ∷ []) ≡ closing_columns closing
+
+-- the row keeps what it was made of, under any caller and key
+abbrev pub KeepsRow : Row → KeptRow → Type 0
+KeepsRow row x =
+    (caller key : List ℕ) (k : Kept) → IsReply k.reply → row ≡ kept_row caller key (text_of k.command) (reply_text k.reply)
+    → KeepsSame (Some k) (Some x)

@@ -1,0 +1,19 @@
+//! The reads of the tables of riders, rentals, plans, the ledger and kept requests. Each answers what the operator has
+//! whose tables stand in the database, and changes nothing.
+#![tactic(auto)]
+
+mod entries;
+mod kept;
+mod meta;
+mod numbers;
+mod plans;
+mod rentals;
+mod riders;
+mod segments;
+
+pub use entries::entry_count;
+pub use kept::{KeptRow, find_kept};
+pub use meta::{MetaRow, find_meta};
+pub use plans::{are_plans_full, find_plan, has_plan, has_system};
+pub use rentals::{StoredRental, find_rental, is_riding, open_rental_count, rental_count};
+pub use riders::{are_riders_full, find_rider, has_rider};

@@ -1,0 +1,118 @@
+//! The riders.
+
+ghost use Rattle.std.specs.Prelude.{◌≡◌, ◌≤◌, [], ◌∷◌, Some};
+ghost use Rattle.std.specs.FinMap as map;
+ghost use Rattle.sqlite_sql.specs.Aggregate.{count};
+ghost use Rattle.bike_operator.specs.declared.limits.TheConstants.{MOST_RIDERS};
+ghost use Rattle.bike_operator.specs.View.{is_at_limit, rider_at};
+ghost use Rattle.bike_book.specs.Tables.{Riders};
+ghost use Rattle.bike_book.specs.Rows.{number_value, rider_row};
+ghost use Rattle.bike_book.specs.Found.{row_under, last_row, row_count};
+ghost use Rattle.bike_schema.specs.Answers.{Answers, IsReadOf};
+
+use crate::numbers::{last_number, reaches};
+use bike_fields::RiderNumber;
+use bike_operator::{MOST_RIDERS, RiderView};
+use bike_rows::lookup::first_row;
+use bike_schema::{StatementFault, cents_at, flag_at};
+use sqlite::{Alter, Connection, Row, params};
+
+/// The rider's row of `riders`.
+fn find_rider_row<S: Alter>(
+    conn: &mut Connection<S>,
+    rider: RiderNumber,
+) -> Result<Option<Row>, StatementFault>
+    ensures { Answers S.Store conn.old conn.new result
+        (λ s m row. row ≡ row_under s m Riders (number_value rider ∷ [])) }
+{
+    first_row(
+        conn,
+        "SELECT * FROM riders WHERE rider = ?1",
+        params![rider.get()],
+    )
+}
+
+/// The rider that stands in a row of `riders`, whatever the number.
+fn read_rider(row: &Row) -> Result<RiderView, StatementFault>
+    ensures { (rider : _) → IsReadOf (λ r. rider_row rider r.is_blocked r.balance) row.now result }
+{
+    let is_blocked = flag_at(row, 1)?;
+    let balance = cents_at(row, 2)?;
+    Ok(RiderView {
+        is_blocked,
+        balance: balance.hundredths(),
+    })
+}
+
+/// The last row of `riders`.
+fn find_last_row<S: Alter>(conn: &mut Connection<S>) -> Result<Option<Row>, StatementFault>
+    ensures { Answers S.Store conn.old conn.new result (λ s m row. row ≡ last_row s m Riders) }
+{
+    first_row(
+        conn,
+        "SELECT * FROM riders ORDER BY rider DESC LIMIT 1",
+        &[],
+    )
+}
+
+/// The count of riders, as the database answers it.
+fn count_riders<S: Alter>(conn: &mut Connection<S>) -> Result<Option<Row>, StatementFault>
+    ensures { Answers S.Store conn.old conn.new result
+        (λ s m row. row ≡ Some (count (row_count s m Riders) ∷ [])) }
+{
+    first_row(conn, "SELECT count(*) FROM riders", &[])
+}
+
+/// The last rider's number, 0 where there is none. There are at most so many riders, since their numbers begin at 1.
+fn last_rider<S: Alter>(conn: &mut Connection<S>) -> Result<u32, StatementFault>
+    ensures { Answers S.Store conn.old conn.new result (λ s m x. map.len s.riders ≤ x) }
+{
+    let row = find_last_row(conn)?;
+    last_number(&row)
+}
+
+/// Whether there are as many riders as there may be, by a count over all of them.
+fn is_count_full<S: Alter>(conn: &mut Connection<S>) -> Result<bool, StatementFault>
+    ensures { Answers S.Store conn.old conn.new result (λ s m x. x ≡ is_at_limit MOST_RIDERS s.riders) }
+{
+    match count_riders(conn)? {
+        Some(row) => reaches(&row, MOST_RIDERS),
+        None => Err(StatementFault::StoreFailed),
+    }
+}
+
+/// Whether there is a rider of this number. Every fault is the database's.
+pub fn has_rider<S: Alter>(
+    conn: &mut Connection<S>,
+    rider: RiderNumber,
+) -> Result<bool, StatementFault>
+    ensures { Answers S.Store conn.old conn.new result (λ s m x. x ≡ map.contains_key s.riders rider) }
+{
+    let row = find_rider_row(conn, rider)?;
+    Ok(row.is_some())
+}
+
+/// Whether there are as many riders as there may be. Every fault is the database's.
+pub fn are_riders_full<S: Alter>(conn: &mut Connection<S>) -> Result<bool, StatementFault>
+    ensures { Answers S.Store conn.old conn.new result (λ s m x. x ≡ is_at_limit MOST_RIDERS s.riders) }
+{
+    // A count goes over all riders, so it is asked only where the last number doesn't tell.
+    let last = last_rider(conn)?;
+    if last < MOST_RIDERS {
+        return Ok(false);
+    }
+    is_count_full(conn)
+}
+
+/// The rider of this number, if there is one. Every fault is the database's.
+pub fn find_rider<S: Alter>(
+    conn: &mut Connection<S>,
+    rider: RiderNumber,
+) -> Result<Option<RiderView>, StatementFault>
+    ensures { Answers S.Store conn.old conn.new result (λ s m x. x ≡ rider_at s rider) }
+{
+    match find_rider_row(conn, rider)? {
+        Some(row) => Ok(Some(read_rider(&row)?)),
+        None => Ok(None),
+    }
+}
