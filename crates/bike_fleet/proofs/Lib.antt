@@ -1,0 +1,5 @@
+mod AnswerLemmas
+mod StatementLemmas
+mod ColumnLemmas
+mod FoundLemmas
+mod LoadLemmas

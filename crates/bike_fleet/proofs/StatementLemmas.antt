@@ -1,0 +1,105 @@
+-- What each statement finds.
+use Rattle.std.proofs.Common.{ℕ, List, [], ◌∷◌, codes, length, Option, Some, slice_get, refl, sym, subst}
+use Rattle.sqlite_value.specs.declared.value.Value.TheVariants.{Text}
+use Rattle.sqlite_value.specs.Order.{Row}
+use Rattle.sqlite_sql.specs.Aggregate.{count}
+use Rattle.sqlite_tied.specs.Compute.{everything}
+use Rattle.sqlite.specs.Effect.{Database}
+use Rattle.bike_rows.specs.Stands.{rows_of}
+use Rattle.bike_rows.specs.View.{row_with, rows_where, last_of}
+use Rattle.bike_rows.proofs.ListLemmas.{filter_all}
+use Rattle.bike_rows.proofs.PageLaw.{map_same_list}
+use Rattle.bike_rows.proofs.SelectLaws.{counted_rows, first_with, last_row, every_column}
+use Rattle.bike_rows.proofs.WalkLaw.{Finds}
+use Rattle.bike_book.specs.Tables.{TableName, keys_of, rows_in, Types, Stations, Docks, Bikes, Trucks, Orders, Counts}
+use Rattle.bike_book.specs.Rows.{number_value}
+use Rattle.bike_schema.specs.Layouts.{layout_of, name_of}
+use Rattle.bike_schema.specs.Tables.{HasTables}
+use Rattle.bike_schema.proofs.AnswerLemmas.{FindsIn, keyed_in}
+use Rattle.bike_schema.proofs.KeyLemmas.{table_key}
+use Rattle.bike_schema.proofs.MakesLemmas.{rows_of_table}
+
+-- what a text finds in the rows of one table
+in_table : (t : TableName) {text : List ℕ} {params : Row} (found : List Row → Option Row) → ((db : Database) → HasTables db → Finds db text params (found (rows_of (keys_of t) (name_of t) db))) → FindsIn text params (λ tables. found (rows_in tables t))
+in_table t {text} {params} found finds = record { finds = λ db has. subst (λ rows. Finds db text params (found rows)) (sym (rows_of_table db t)) (finds db has) }
+
+-- ---- by the key
+
+pub finds_station : (station : List ℕ) → FindsIn (codes "SELECT * FROM stations WHERE station_id = ?1") (Text station ∷ []) (λ t. row_with 1 (Text station ∷ []) t.stations)
+unfolding everything
+finds_station station = keyed_in Stations (λ tree. refl, refl) refl
+
+pub finds_dock : (station : List ℕ) (dock : ℕ) → FindsIn (codes "SELECT * FROM docks WHERE station_id = ?1 AND dock = ?2") (Text station ∷ number_value dock ∷ []) (λ t. row_with 2 (Text station ∷ number_value dock ∷ []) t.docks)
+unfolding everything
+finds_dock station dock = keyed_in Docks (λ tree. refl, refl) refl
+
+pub finds_counts : (station type_id : List ℕ) → FindsIn (codes "SELECT * FROM counts WHERE station_id = ?1 AND type_id = ?2") (Text station ∷ Text type_id ∷ []) (λ t. row_with 2 (Text station ∷ Text type_id ∷ []) t.counts)
+unfolding everything
+finds_counts station type_id = keyed_in Counts (λ tree. refl, refl) refl
+
+pub finds_type : (type_id : List ℕ) → FindsIn (codes "SELECT * FROM types WHERE type_id = ?1") (Text type_id ∷ []) (λ t. row_with 1 (Text type_id ∷ []) t.types)
+unfolding everything
+finds_type type_id = keyed_in Types (λ tree. refl, refl) refl
+
+pub finds_bike : (bike : ℕ) → FindsIn (codes "SELECT * FROM bikes WHERE bike = ?1") (number_value bike ∷ []) (λ t. row_with 1 (number_value bike ∷ []) t.bikes)
+unfolding everything
+finds_bike bike = keyed_in Bikes (λ tree. refl, refl) refl
+
+pub finds_truck : (truck : ℕ) → FindsIn (codes "SELECT * FROM trucks WHERE truck = ?1") (number_value truck ∷ []) (λ t. row_with 1 (number_value truck ∷ []) t.trucks)
+unfolding everything
+finds_truck truck = keyed_in Trucks (λ tree. refl, refl) refl
+
+pub finds_order : (order : ℕ) → FindsIn (codes "SELECT * FROM orders WHERE ord = ?1") (number_value order ∷ []) (λ t. row_with 1 (number_value order ∷ []) t.orders)
+unfolding everything
+finds_order order = keyed_in Orders (λ tree. refl, refl) refl
+
+-- ---- by other columns, and the last row
+
+abbrev in_dock : List ℕ → ℕ → List Row → List Row
+in_dock station dock = rows_where (3 ∷ 4 ∷ []) (Text station ∷ number_value dock ∷ [])
+
+pub finds_docked : (station : List ℕ) (dock : ℕ) → FindsIn (codes "SELECT * FROM bikes WHERE station_id = ?1 AND dock = ?2 ORDER BY bike LIMIT 1") (Text station ∷ number_value dock ∷ []) (λ t. slice_get (in_dock station dock t.bikes) 0)
+unfolding everything
+finds_docked station dock =
+    let shown = λ (db : Database) (rows : List Row). Finds db (codes "SELECT * FROM bikes WHERE station_id = ?1 AND dock = ?2 ORDER BY bike LIMIT 1") (Text station ∷ number_value dock ∷ []) (slice_get rows 0) in
+    in_table Bikes (λ rows. slice_get (in_dock station dock rows) 0)
+    (λ db has. subst (shown db) (map_same_list _) (first_with (table_key Bikes) (has Bikes) (every_column (layout_of Bikes)) (λ row. row) (λ r. refl) 0 (3 ∷ 4 ∷ []) (λ tree. refl, refl) refl (λ r. refl)))
+
+pub finds_last_order : FindsIn (codes "SELECT * FROM orders ORDER BY ord DESC LIMIT 1") [] (λ t. slice_get (last_of t.orders) 0)
+unfolding everything
+finds_last_order = in_table Orders (λ rows. slice_get (last_of rows) 0) (λ db has. last_row (table_key Orders) (has Orders) (λ tree. refl, refl))
+
+-- ---- counts
+
+abbrev count_row_of : List Row → Option Row
+count_row_of rows = Some (count (length rows) ∷ [])
+
+pub counts_on_truck : (truck : ℕ) → FindsIn (codes "SELECT count(*) FROM bikes WHERE truck = ?1") (number_value truck ∷ []) (λ t. count_row_of (rows_where (6 ∷ []) (number_value truck ∷ []) t.bikes))
+unfolding everything
+counts_on_truck truck = in_table Bikes (λ rows. count_row_of (rows_where (6 ∷ []) (number_value truck ∷ []) rows)) (λ db has. counted_rows (table_key Bikes) (has Bikes) 0 (6 ∷ []) (λ tree. refl, refl) refl (λ r. refl))
+
+pub counts_on_truck_for : (truck order : ℕ)
+    → FindsIn (codes "SELECT count(*) FROM bikes WHERE truck = ?1 AND ord = ?2") (number_value truck ∷ number_value order ∷ []) (λ t. count_row_of (rows_where (6 ∷ 7 ∷ []) (number_value truck ∷ number_value order ∷ []) t.bikes))
+unfolding everything
+counts_on_truck_for truck order =
+    in_table Bikes (λ rows. count_row_of (rows_where (6 ∷ 7 ∷ []) (number_value truck ∷ number_value order ∷ []) rows)) (λ db has. counted_rows (table_key Bikes) (has Bikes) 0 (6 ∷ 7 ∷ []) (λ tree. refl, refl) refl (λ r. refl))
+
+-- a count with no test is that of all rows
+counts_all : (t : TableName) {text : List ℕ} → ((db : Database) → HasTables db → Finds db text [] (count_row_of (rows_where [] [] (rows_of (keys_of t) (name_of t) db)))) → FindsIn text [] (λ tables. count_row_of (rows_in tables t))
+counts_all t {text} finds = in_table t count_row_of (λ db has. subst (λ rows. Finds db text [] (count_row_of rows)) (filter_all _) (finds db has))
+
+pub counts_stations : FindsIn (codes "SELECT count(*) FROM stations") [] (λ t. count_row_of t.stations)
+unfolding everything
+counts_stations = counts_all Stations (λ db has. counted_rows (table_key Stations) (has Stations) 0 [] (λ tree. refl, refl) refl (λ r. refl))
+
+pub counts_types : FindsIn (codes "SELECT count(*) FROM types") [] (λ t. count_row_of t.types)
+unfolding everything
+counts_types = counts_all Types (λ db has. counted_rows (table_key Types) (has Types) 0 [] (λ tree. refl, refl) refl (λ r. refl))
+
+pub counts_bikes : FindsIn (codes "SELECT count(*) FROM bikes") [] (λ t. count_row_of t.bikes)
+unfolding everything
+counts_bikes = counts_all Bikes (λ db has. counted_rows (table_key Bikes) (has Bikes) 0 [] (λ tree. refl, refl) refl (λ r. refl))
+
+pub counts_trucks : FindsIn (codes "SELECT count(*) FROM trucks") [] (λ t. count_row_of t.trucks)
+unfolding everything
+counts_trucks = counts_all Trucks (λ db has. counted_rows (table_key Trucks) (has Trucks) 0 [] (λ tree. refl, refl) refl (λ r. refl))

@@ -1,0 +1,35 @@
+//! Columns of a row, and the answers of counts.
+
+ghost use Rattle.std.specs.Prelude.{◌≡◌, ℕ, [], ◌∷◌, IfOk, Some, nat_le};
+ghost use Rattle.sqlite.specs.Order.{column};
+ghost use Rattle.sqlite_sql.specs.Aggregate.{count};
+ghost use Rattle.bike_book.specs.Rows.{number_value};
+
+use bike_fixed::Within;
+use bike_schema::{StatementFault, number_at};
+use sqlite::Row;
+
+/// The column as a number that fits.
+pub(crate) fn whole_at(row: &Row, at: usize) -> Result<u32, StatementFault>
+    ensures { IfOk result (λ n. column row.now at ≡ number_value n) }
+{
+    let number: Within<0, 4_294_967_295> = number_at(row, at)?;
+    Ok(number.get())
+}
+
+/// The count that the one row of its answer tells.
+pub(crate) fn count_of(answer: &Option<Row>) -> Result<u32, StatementFault>
+    ensures { IfOk result (λ n. (rows : ℕ) → answer.now ≡ Some (count rows ∷ []) → n ≡ rows) }
+{
+    match answer {
+        Some(row) => whole_at(row, 0),
+        None => Err(StatementFault::StoreFailed),
+    }
+}
+
+/// Whether the count that the one row of its answer tells is as many as there may be.
+pub(crate) fn is_full(answer: &Option<Row>, most: u32) -> Result<bool, StatementFault>
+    ensures { IfOk result (λ full. (rows : ℕ) → answer.now ≡ Some (count rows ∷ []) → full ≡ nat_le most rows) }
+{
+    Ok(count_of(answer)? >= most)
+}

@@ -1,0 +1,24 @@
+//! Reads of stations, docks, counts, types, bicycles, trucks and orders. Each answers what is so of the operator whose
+//! tables stand in the database, and changes nothing.
+//!
+//! A private function sends one statement and gives its row, another reads the row's columns, and the public function
+//! joins both. A row that holds what the product never writes is `StoreFailed`; memory that is refused is `NoMemory`.
+#![tactic(auto)]
+
+mod bikes;
+mod columns;
+mod counts;
+mod docks;
+mod orders;
+mod places;
+mod stations;
+mod trucks;
+mod types;
+
+pub use bikes::{NumberedBike, are_bikes_full, find_bike, find_docked, truck_load};
+pub use counts::{TypeCounts, find_counts};
+pub use docks::find_mark;
+pub use orders::{find_order, order_count, order_load};
+pub use stations::{DockNumbers, are_stations_full, find_dock_numbers, find_station, has_station};
+pub use trucks::{are_trucks_full, find_truck};
+pub use types::{are_types_full, find_default_plan, has_type};

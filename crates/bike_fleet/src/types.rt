@@ -1,0 +1,84 @@
+//! The statements on `types`.
+
+ghost use Rattle.std.specs.Prelude.{◌≡◌, [], ◌∷◌, IfOk, Some, option_map};
+ghost use Rattle.std.specs.FinMap.{contains_key, get};
+ghost use Rattle.sqlite.specs.declared.types.Value.TheVariants.{Text};
+ghost use Rattle.sqlite_sql.specs.Aggregate.{count};
+ghost use Rattle.bike_operator.specs.declared.limits.TheConstants.{MOST_TYPES};
+ghost use Rattle.bike_operator.specs.View.{is_at_limit};
+ghost use Rattle.bike_book.specs.Tables.{Types};
+ghost use Rattle.bike_book.specs.Found.{row_count, row_under};
+ghost use Rattle.bike_schema.specs.Answers.{Answers};
+ghost use Rattle.bike_fleet.specs.Holds.{HoldsAny, HoldsPlan};
+
+use crate::columns::is_full;
+use bike_fields::Ident;
+use bike_operator::MOST_TYPES;
+use bike_rows::lookup::first_row;
+use bike_schema::{StatementFault, ident_at};
+use sqlite::{Alter, Connection, Row, params};
+use std::alloc::Global;
+
+/// The type's row.
+fn select_type<S: Alter>(
+    conn: &mut Connection<S>,
+    type_id: &Ident,
+) -> Result<Option<Row>, StatementFault>
+    ensures { Answers S.Store conn.old conn.new result
+        (λ s m row. row ≡ row_under s m Types (Text type_id.now ∷ [])) }
+{
+    first_row(
+        conn,
+        "SELECT * FROM types WHERE type_id = ?1",
+        params![type_id.as_str()],
+    )
+}
+
+/// The default plan in the stored row.
+fn plan_of(alloc: Global, row: &Option<Row>) -> Result<Option<Ident>, StatementFault>
+    ensures { IfOk result (λ plan. HoldsAny HoldsPlan row.now plan) }
+{
+    match row {
+        Some(row) => {
+            let plan = ident_at(alloc, row, 5)?;
+            Ok(Some(plan))
+        }
+        None => Ok(None),
+    }
+}
+
+/// How many vehicle types there are, as the database answers it.
+fn count_types<S: Alter>(conn: &mut Connection<S>) -> Result<Option<Row>, StatementFault>
+    ensures { Answers S.Store conn.old conn.new result (λ s m row. row ≡ Some (count (row_count s m Types) ∷ [])) }
+{
+    first_row(conn, "SELECT count(*) FROM types", &[])
+}
+
+/// Whether there is a vehicle type with this identifier.
+pub fn has_type<S: Alter>(conn: &mut Connection<S>, type_id: &Ident) -> Result<bool, StatementFault>
+    ensures { Answers S.Store conn.old conn.new result (λ s m x. x ≡ contains_key s.types type_id.now) }
+{
+    let row = select_type(conn, type_id)?;
+    Ok(row.is_some())
+}
+
+/// The default pricing plan of a vehicle type; `None` where there is no such type.
+pub fn find_default_plan<S: Alter>(
+    alloc: Global,
+    conn: &mut Connection<S>,
+    type_id: &Ident,
+) -> Result<Option<Ident>, StatementFault>
+    ensures { Answers S.Store conn.old conn.new result
+        (λ s m x. x ≡ option_map (λ t. t.plan_id) (get s.types type_id.now)) }
+{
+    let row = select_type(conn, type_id)?;
+    plan_of(alloc, &row)
+}
+
+/// Whether there are as many vehicle types as there may be, by a count over all of them.
+pub fn are_types_full<S: Alter>(conn: &mut Connection<S>) -> Result<bool, StatementFault>
+    ensures { Answers S.Store conn.old conn.new result (λ s m x. x ≡ is_at_limit MOST_TYPES s.types) }
+{
+    let answer = count_types(conn)?;
+    is_full(&answer, MOST_TYPES)
+}
