@@ -1,0 +1,33 @@
+-- The statements on the catalogue.
+use Rattle.std.proofs.Common.{List, ℕ, [], ◌∷◌, codes, refl}
+use Rattle.std.specs.Borrow.{Bor}
+use Rattle.sqlite_value.specs.declared.value.Value.TheVariants.{Text}
+use Rattle.bike_catalogue.specs.Rows.{SegmentRow, PlanRow, TypeRow, SystemRow}
+use Rattle.bike_book.specs.Tables.{System, Plans, Segments, Types}
+use Rattle.bike_book.specs.Rows.{system_row, plan_row, segment_row, type_row}
+use Rattle.bike_writes.proofs.TextLemmas.{Makes, number_suits}
+use Rattle.sqlite_tied.specs.Compute.{everything}
+use Rattle.bike_rows.proofs.WriteLaws.{row_put, row_updated}
+use Rattle.bike_book.specs.declared.row_change.RowChange.TheVariants as row
+use Rattle.bike_schema.proofs.KeyLemmas.{table_key}
+use Rattle.bike_schema.proofs.MakesLemmas.{adds_row, sets_columns}
+
+pub adds_system : (x : Bor SystemRow) → Makes (codes "INSERT INTO system VALUES (?1, ?2, ?3, ?4, ?5, ?6, ?7, ?8, ?9, ?10)") (system_row x.now) (row.AddSystem x)
+unfolding everything
+adds_system x = adds_row System (row_put (table_key System) (λ s tree. (refl, refl, refl, λ base. refl)) refl refl (λ rows. refl))
+
+pub adds_plan : (p : Bor PlanRow) → Makes (codes "INSERT INTO plans VALUES (?1, ?2, ?3, ?4, ?5)") (plan_row p.now.plan_id p.now) (row.AddPlan p)
+unfolding everything
+adds_plan p = adds_row Plans (row_put (table_key Plans) (λ s tree. (refl, refl, refl, λ base. refl)) refl refl (λ rows. refl))
+
+pub adds_segment : (plan : Bor (List ℕ)) (seq : ℕ) (g : Bor SegmentRow) → Makes (codes "INSERT INTO segments VALUES (?1, ?2, ?3, ?4, ?5, ?6)") (segment_row plan.now seq g.now) (row.AddSegment plan seq g)
+unfolding everything
+adds_segment plan seq g = adds_row Segments (row_put (table_key Segments) (λ s tree. (refl, refl, refl, λ base. refl)) refl (rw (number_suits g.now.end)) (λ rows. refl))
+
+pub adds_type : (t : Bor TypeRow) → Makes (codes "INSERT INTO types VALUES (?1, ?2, ?3, ?4, ?5, ?6)") (type_row t.now.type_id t.now) (row.AddType t)
+unfolding everything
+adds_type t = adds_row Types (row_put (table_key Types) (λ s tree. (refl, refl, refl, λ base. refl)) refl refl (λ rows. refl))
+
+pub sets_default_plan : (type_id plan : Bor (List ℕ)) → Makes (codes "UPDATE types SET plan_id = ?2 WHERE type_id = ?1") (Text type_id.now ∷ Text plan.now ∷ []) (row.SetDefaultPlan type_id plan)
+unfolding everything
+sets_default_plan type_id plan = sets_columns Types _ _ (row_updated (table_key Types) 0 ((5, 1) ∷ []) _ (λ tree. (refl, refl, refl), refl) refl refl refl (λ r. refl) (λ r. refl))

@@ -1,0 +1,31 @@
+-- What a text does, as a row change, and the values that it is sent.
+use Rattle.std.proofs.Common.{◌≡◌, ℕ, pos, List, [], ◌∷◌, Option, Some, None, true, refl, rules}
+use Rattle.std.proofs.lemmas.Int.{to_z-of_z}
+use Rattle.sqlite_value.specs.declared.value.Value.TheVariants.{Int}
+use Rattle.sqlite_value.specs.Order.{Row}
+use Rattle.sqlite_schema.specs.declared.schema.Kind.TheVariants.{Integer}
+use Rattle.sqlite.specs.Values.{or_null, bound_value}
+use Rattle.bike_rows.proofs.CallLaws.{Does}
+use Rattle.bike_rows.proofs.CastLemmas.{suits}
+use Rattle.bike_rows.proofs.ParamLemmas.{text_or_null}
+use Rattle.bike_book.specs.declared.row_change.RowChange.{RowChange}
+use Rattle.bike_book.specs.Rows.{number_value}
+use Rattle.bike_book.specs.Writes.{write_of}
+use Rattle.bike_schema.specs.Tables.{IsOurs, tables_of}
+use Rattle.bike_schema.specs.Makes.{Puts}
+use Rattle.bike_schema.specs.Calls.{WasFree}
+
+-- with these parameters the text makes the row change
+abbrev pub Makes : List ℕ → Row → RowChange → Type 1
+Makes text params change = Does IsOurs (λ db. WasFree (write_of change) (tables_of db)) (Puts (write_of change ∷ [])) text params
+
+pub number_or_null : (o : Option ℕ) → bound_value (or_null (λ n. Int (pos n)) o) ≡ or_null number_value o
+number_or_null None = refl
+number_or_null (Some n) = refl
+
+pub number_suits : (o : Option ℕ) → suits Integer (or_null number_value o) ≡ true
+number_suits None = refl
+number_suits (Some n) = refl
+
+-- by which `search` finds that the values sent are the parameters
+pub ruleset bindings = (rules, to_z-of_z, text_or_null, number_or_null)

@@ -1,0 +1,7 @@
+use Rattle.bike_schema.proofs.MakesLemmas.{writes_told}
+use Rattle.bike_writes.proofs.TextLemmas.{bindings}
+use Rattle.bike_writes.proofs.StationTexts.{sets_dock}
+use Rattle.bike_writes.proofs.stations.set_dock.Goals as goal
+
+pub returns : goal.returns
+returns g c = writes_told (sets_dock c.args.station c.args.dock c.args.is_broken) c.run.ensures (search bindings)

@@ -1,0 +1,112 @@
+//! The statements on `system`, `plans`, `segments` and `types`.
+
+ghost use Rattle.bike_book.specs.declared.row_change.RowChange.TheVariants as row;
+ghost use Rattle.bike_book.specs.Writes.{write_of};
+ghost use Rattle.bike_schema.specs.Calls.{Writes};
+
+use bike_catalogue::{Plan, Segment, System, VehicleType};
+use bike_fields::Ident;
+use bike_rows::write::run;
+use bike_schema::{Staged, StatementFault};
+use sqlite::{Alter, params};
+
+/// Adds the one row of `system`.
+pub(crate) fn add_system<S: Alter>(
+    tx: &mut Staged<'_, S>,
+    system: &System,
+) -> Result<(), StatementFault>
+    ensures { Writes S.Store tx.old.conn tx.new.conn result (write_of (row.AddSystem system.entry)) }
+{
+    run(
+        tx,
+        "INSERT INTO system VALUES (?1, ?2, ?3, ?4, ?5, ?6, ?7, ?8, ?9, ?10)",
+        params![
+            1_i64,
+            system.system_id().as_str(),
+            system.language().as_str(),
+            system.name().as_str(),
+            system.opening_hours().as_str(),
+            system.feed_contact_email().as_str(),
+            system.timezone().as_str(),
+            system.currency().as_str(),
+            system.base_url().as_str(),
+            system.ttl().get()
+        ],
+    )
+}
+
+/// Adds a plan, without its segments.
+pub(crate) fn add_plan<S: Alter>(tx: &mut Staged<'_, S>, plan: &Plan) -> Result<(), StatementFault>
+    ensures { Writes S.Store tx.old.conn tx.new.conn result (write_of (row.AddPlan plan.entry)) }
+{
+    run(
+        tx,
+        "INSERT INTO plans VALUES (?1, ?2, ?3, ?4, ?5)",
+        params![
+            plan.plan_id().as_str(),
+            plan.name().as_str(),
+            plan.price().get(),
+            plan.taxable(),
+            plan.description().as_str()
+        ],
+    )
+}
+
+/// Adds the `seq`-th segment of a plan.
+pub(crate) fn add_segment<S: Alter>(
+    tx: &mut Staged<'_, S>,
+    plan: &Ident,
+    seq: u32,
+    segment: &Segment,
+) -> Result<(), StatementFault>
+    ensures { Writes S.Store tx.old.conn tx.new.conn result (write_of (row.AddSegment plan.entry seq segment.entry)) }
+{
+    run(
+        tx,
+        "INSERT INTO segments VALUES (?1, ?2, ?3, ?4, ?5, ?6)",
+        params![
+            plan.as_str(),
+            seq,
+            segment.start(),
+            segment.rate(),
+            segment.interval(),
+            segment.end()
+        ],
+    )
+}
+
+/// Adds a vehicle type.
+pub(crate) fn add_type<S: Alter>(
+    tx: &mut Staged<'_, S>,
+    vehicle_type: &VehicleType,
+) -> Result<(), StatementFault>
+    ensures { Writes S.Store tx.old.conn tx.new.conn result (write_of (row.AddType vehicle_type.entry)) }
+{
+    run(
+        tx,
+        "INSERT INTO types VALUES (?1, ?2, ?3, ?4, ?5, ?6)",
+        params![
+            vehicle_type.type_id().as_str(),
+            vehicle_type.name().as_str(),
+            vehicle_type.form().as_str(),
+            vehicle_type.propulsion().as_str(),
+            vehicle_type.max_range().get(),
+            vehicle_type.plan_id().as_str()
+        ],
+    )
+}
+
+/// Sets the default plan of a type.
+pub(crate) fn set_default_plan<S: Alter>(
+    tx: &mut Staged<'_, S>,
+    type_id: &Ident,
+    plan: &Ident,
+) -> Result<(), StatementFault>
+    ensures { Writes S.Store tx.old.conn tx.new.conn result (write_of (row.SetDefaultPlan type_id.entry plan.entry)) }
+{
+    run(
+        tx,
+        "UPDATE types SET plan_id = ?2 WHERE type_id = ?1",
+        params![type_id.as_str(), plan.as_str()],
+    )
+}

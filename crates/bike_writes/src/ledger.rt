@@ -1,0 +1,72 @@
+//! The statements on `entries`, `kept` and `meta`.
+
+ghost use Rattle.bike_book.specs.declared.row_change.RowChange.TheVariants as row;
+ghost use Rattle.bike_book.specs.Writes.{write_of};
+ghost use Rattle.bike_schema.specs.Calls.{Writes};
+
+use crate::columns::{kind_number, seconds_of};
+use bike_fixed::{Cents, Moment};
+use bike_ledger::Entry;
+use bike_rows::write::run;
+use bike_schema::{Staged, StatementFault};
+use sqlite::{Alter, params};
+
+/// Adds an entry.
+pub(crate) fn add_entry<S: Alter>(
+    tx: &mut Staged<'_, S>,
+    entry: &Entry,
+) -> Result<(), StatementFault>
+    ensures { Writes S.Store tx.old.conn tx.new.conn result (write_of (row.AddEntry entry.entry)) }
+{
+    run(
+        tx,
+        "INSERT INTO entries VALUES (?1, ?2, ?3, ?4, ?5, ?6)",
+        params![
+            entry.number().get(),
+            kind_number(entry.kind()),
+            entry.rider().get(),
+            entry.rental().get(),
+            entry.amount().hundredths(),
+            seconds_of(entry.at())
+        ],
+    )
+}
+
+/// Adds what is kept of a request.
+pub(crate) fn add_kept<S: Alter>(
+    tx: &mut Staged<'_, S>,
+    caller: &str,
+    key: &str,
+    command: &str,
+    reply: &str,
+) -> Result<(), StatementFault>
+    ensures { Writes S.Store tx.old.conn tx.new.conn result
+        (write_of (row.AddKept caller.entry key.entry command.entry reply.entry)) }
+{
+    run(
+        tx,
+        "INSERT INTO kept VALUES (?1, ?2, ?3, ?4)",
+        params![caller, key, command, reply],
+    )
+}
+
+/// Sets the operator's moment and sums.
+pub(crate) fn set_meta<S: Alter>(
+    tx: &mut Staged<'_, S>,
+    now: Moment,
+    cash: Cents,
+    revenue: Cents,
+) -> Result<(), StatementFault>
+    ensures { Writes S.Store tx.old.conn tx.new.conn result (write_of (row.SetMeta now cash revenue)) }
+{
+    run(
+        tx,
+        "UPDATE meta SET now = ?2, cash = ?3, revenue = ?4 WHERE one = ?1",
+        params![
+            1_i64,
+            seconds_of(now),
+            cash.hundredths(),
+            revenue.hundredths()
+        ],
+    )
+}

@@ -1,0 +1,55 @@
+//! The statements on `riders`.
+
+ghost use Rattle.bike_book.specs.declared.row_change.RowChange.TheVariants as row;
+ghost use Rattle.bike_book.specs.Writes.{write_of};
+ghost use Rattle.bike_schema.specs.Calls.{Writes};
+
+use bike_fixed::Cents;
+use bike_rows::write::run;
+use bike_schema::{Staged, StatementFault};
+use sqlite::{Alter, params};
+
+/// Adds the row, with balance 0.
+pub(crate) fn add_rider<S: Alter>(
+    tx: &mut Staged<'_, S>,
+    rider: u32,
+    is_blocked: bool,
+) -> Result<(), StatementFault>
+    ensures { Writes S.Store tx.old.conn tx.new.conn result (write_of (row.AddRider rider is_blocked)) }
+{
+    run(
+        tx,
+        "INSERT INTO riders VALUES (?1, ?2, ?3)",
+        params![rider, is_blocked, 0_i64],
+    )
+}
+
+/// Sets whether the rider is blocked.
+pub(crate) fn set_blocked<S: Alter>(
+    tx: &mut Staged<'_, S>,
+    rider: u32,
+    is_blocked: bool,
+) -> Result<(), StatementFault>
+    ensures { Writes S.Store tx.old.conn tx.new.conn result (write_of (row.SetBlocked rider is_blocked)) }
+{
+    run(
+        tx,
+        "UPDATE riders SET blocked = ?2 WHERE rider = ?1",
+        params![rider, is_blocked],
+    )
+}
+
+/// Sets the rider's balance.
+pub(crate) fn set_balance<S: Alter>(
+    tx: &mut Staged<'_, S>,
+    rider: u32,
+    balance: Cents,
+) -> Result<(), StatementFault>
+    ensures { Writes S.Store tx.old.conn tx.new.conn result (write_of (row.SetBalance rider balance)) }
+{
+    run(
+        tx,
+        "UPDATE riders SET balance = ?2 WHERE rider = ?1",
+        params![rider, balance.hundredths()],
+    )
+}

@@ -1,0 +1,164 @@
+//! The statements on `stations`, `docks` and `counts`.
+
+ghost use Rattle.bike_book.specs.declared.row_change.RowChange.TheVariants as row;
+ghost use Rattle.bike_book.specs.Writes.{write_of};
+ghost use Rattle.bike_schema.specs.Calls.{Writes};
+
+use crate::columns::seconds_of;
+use bike_catalogue::Station;
+use bike_fields::Ident;
+use bike_fixed::Moment;
+use bike_rows::write::run;
+use bike_schema::{Staged, StatementFault};
+use sqlite::{Alter, params};
+
+/// Adds a station: installed, renting, returning, with all docks available.
+pub(crate) fn add_station<S: Alter>(
+    tx: &mut Staged<'_, S>,
+    station: &Station,
+    reported: Moment,
+) -> Result<(), StatementFault>
+    ensures { Writes S.Store tx.old.conn tx.new.conn result (write_of (row.AddStation station.entry reported)) }
+{
+    run(
+        tx,
+        "INSERT INTO stations VALUES (?1, ?2, ?3, ?4, ?5, ?6, ?7, ?8, ?9, ?10, ?11)",
+        params![
+            station.station_id().as_str(),
+            station.name().as_str(),
+            station.lat().microdegrees(),
+            station.lon().microdegrees(),
+            station.docks().get(),
+            true,
+            true,
+            true,
+            seconds_of(reported),
+            station.docks().get(),
+            0_i64
+        ],
+    )
+}
+
+/// Sets a station's flags and its report.
+pub(crate) fn set_flags<S: Alter>(
+    tx: &mut Staged<'_, S>,
+    station: &Ident,
+    is_installed: bool,
+    is_renting: bool,
+    is_returning: bool,
+    reported: Moment,
+) -> Result<(), StatementFault>
+    ensures { Writes S.Store tx.old.conn tx.new.conn result
+        (write_of (row.SetFlags station.entry is_installed is_renting is_returning reported)) }
+{
+    run(
+        tx,
+        "UPDATE stations SET installed = ?2, renting = ?3, \"returning\" = ?4, reported = ?5 WHERE station_id = ?1",
+        params![
+            station.as_str(),
+            is_installed,
+            is_renting,
+            is_returning,
+            seconds_of(reported)
+        ],
+    )
+}
+
+/// Sets when a station reported last.
+pub(crate) fn set_reported<S: Alter>(
+    tx: &mut Staged<'_, S>,
+    station: &Ident,
+    reported: Moment,
+) -> Result<(), StatementFault>
+    ensures { Writes S.Store tx.old.conn tx.new.conn result (write_of (row.SetReported station.entry reported)) }
+{
+    run(
+        tx,
+        "UPDATE stations SET reported = ?2 WHERE station_id = ?1",
+        params![station.as_str(), seconds_of(reported)],
+    )
+}
+
+/// Sets how many docks of a station are available, and how many are broken.
+pub(crate) fn set_docks<S: Alter>(
+    tx: &mut Staged<'_, S>,
+    station: &Ident,
+    free: u32,
+    broken: u32,
+) -> Result<(), StatementFault>
+    ensures { Writes S.Store tx.old.conn tx.new.conn result (write_of (row.SetDocks station.entry free broken)) }
+{
+    run(
+        tx,
+        "UPDATE stations SET free = ?2, broken = ?3 WHERE station_id = ?1",
+        params![station.as_str(), free, broken],
+    )
+}
+
+/// Adds a dock.
+pub(crate) fn add_dock<S: Alter>(
+    tx: &mut Staged<'_, S>,
+    station: &Ident,
+    dock: u32,
+    is_broken: bool,
+) -> Result<(), StatementFault>
+    ensures { Writes S.Store tx.old.conn tx.new.conn result (write_of (row.AddDock station.entry dock is_broken)) }
+{
+    run(
+        tx,
+        "INSERT INTO docks VALUES (?1, ?2, ?3)",
+        params![station.as_str(), dock, is_broken],
+    )
+}
+
+/// Sets whether a dock is broken.
+pub(crate) fn set_dock<S: Alter>(
+    tx: &mut Staged<'_, S>,
+    station: &Ident,
+    dock: u32,
+    is_broken: bool,
+) -> Result<(), StatementFault>
+    ensures { Writes S.Store tx.old.conn tx.new.conn result (write_of (row.SetDock station.entry dock is_broken)) }
+{
+    run(
+        tx,
+        "UPDATE docks SET broken = ?3 WHERE station_id = ?1 AND dock = ?2",
+        params![station.as_str(), dock, is_broken],
+    )
+}
+
+/// Adds the counts of a type at a station.
+pub(crate) fn add_count<S: Alter>(
+    tx: &mut Staged<'_, S>,
+    station: &Ident,
+    type_id: &Ident,
+    available: u32,
+    disabled: u32,
+) -> Result<(), StatementFault>
+    ensures { Writes S.Store tx.old.conn tx.new.conn result
+        (write_of (row.AddCount station.entry type_id.entry available disabled)) }
+{
+    run(
+        tx,
+        "INSERT INTO counts VALUES (?1, ?2, ?3, ?4)",
+        params![station.as_str(), type_id.as_str(), available, disabled],
+    )
+}
+
+/// Sets the counts of a type at a station.
+pub(crate) fn set_count<S: Alter>(
+    tx: &mut Staged<'_, S>,
+    station: &Ident,
+    type_id: &Ident,
+    available: u32,
+    disabled: u32,
+) -> Result<(), StatementFault>
+    ensures { Writes S.Store tx.old.conn tx.new.conn result
+        (write_of (row.SetCount station.entry type_id.entry available disabled)) }
+{
+    run(
+        tx,
+        "UPDATE counts SET available = ?3, disabled = ?4 WHERE station_id = ?1 AND type_id = ?2",
+        params![station.as_str(), type_id.as_str(), available, disabled],
+    )
+}
