@@ -1,18 +1,32 @@
 -- The row changes of a request, change by change.
 use Rattle.std.proofs.Common.{◌≡◌, ℕ, List, [], ◌∷◌, ◌++◌, get_or, length, Bool, true, false, cond, Option, Some, None, is_some, refl, sym, ap, ◌∙◌, subst, subst₂, arith}
 use Rattle.std.specs.Prelude.{Result, is_ok, IfSome}
+use Rattle.std.specs.FinMap as fin
 use Rattle.bike_commands.specs.declared.command.Command.{Command}
+use Rattle.bike_operator.specs.declared.records.BikeState.{BikeState}
+use Rattle.bike_operator.specs.declared.records.Place.TheVariants as place
+use Rattle.bike_operator.specs.declared.records.Rental.{Rental}
+use Rattle.bike_operator.specs.declared.change.NewPlace.{NewPlace}
+use Rattle.bike_operator.specs.declared.change.NewPlace.TheVariants as new
 use Rattle.bike_operator.specs.declared.change.Change.{Change}
+use Rattle.bike_operator.specs.declared.change.Change.TheVariants as change
 use Rattle.bike_operator.specs.declared.view.View.{View}
 use Rattle.bike_operator.specs.Operator.{Operator}
-use Rattle.bike_operator.specs.Changes.{changed, all_changed, present}
+use Rattle.bike_operator.specs.Changes.{changed, all_changed, present, place_of}
+use Rattle.bike_places.proofs.MapLemmas.{there_of}
+use Rattle.bike_counts.specs.Laws.{IsAway}
 use Rattle.bike_book.specs.declared.row_change.RowChange.{RowChange}
+use Rattle.bike_book.specs.declared.row_change.RowChange.TheVariants as row
 use Rattle.bike_book.specs.Stored.{Listed, IsListing}
 use Rattle.bike_book.specs.Between.{Books}
 use Rattle.bike_book.proofs.BooksLemmas.{books_none, books_then}
+use Rattle.bike_moves.proofs.BikeBooks.{turn_away}
+use Rattle.bike_moves.proofs.After.{after_place}
+use Rattle.bike_booking.specs.declared.reading.Reading.{Reading}
 use Rattle.bike_booking.specs.declared.stage.Stage.{Stage}
-use Rattle.bike_booking.specs.declared.stage.Stage.TheVariants.{First, Rented}
-use Rattle.bike_booking.specs.Stages.{IsRead, IsRowBooked, IsAt, IsOn, ChangesRentals, after_change}
+use Rattle.bike_booking.specs.declared.stage.Stage.TheVariants.{First, Rented, Stored, Moved}
+use Rattle.bike_booking.specs.Moves.{HasBike}
+use Rattle.bike_booking.specs.Stages.{IsRead, IsReading, IsRowBooked, AreRowsBooked, AreMovesBooked, with_rentals, stage_after, IsAt, IsOn, ChangesRentals, BooksStep, after_change}
 
 pub is_none_there : {A : Type 0} (o : Option A) → is_some o ≡ false → o ≡ None
 is_none_there None e = refl
@@ -39,6 +53,60 @@ first_step command view now c before after next first s m read on booked at =
 -- what changes rentals alone leaves the rest as it was read
 pub rented_at : (now : ℕ) (c : Change) (first s : Operator) (m w : Listed) → ChangesRentals now c → IsAt first m s w First → IsAt first m (changed now c s) w Rented
 rented_at now c first s m w rentals at = let k = rentals s in (k.0, k.1 ∙ ap (λ (o : Operator). record o { rentals = k.0 }) at.0, at.1)
+
+-- ---- steps of several rows
+
+-- a step after which no stage but the last needs what was read
+pub rows_step : (r : Reading) (now : ℕ) (c : Change) (before after : List RowChange) (next : Stage) (first s : Operator) (m : Listed) → IsReading first m r → (on : IsOn first m s First before)
+    → AreRowsBooked r now c before after → ((w : Listed) → IsAt first m (changed now c first) w next) → IsOn first m (changed now c s) next after
+rows_step r now c before after next first s m read on booked stands =
+    let k = booked.books first m read in
+    let books = subst₂ (λ (o : Operator) (w : Listed). Books booked.rows o w (changed now c o) k.0) (sym on.stands.0) (sym on.stands.1) k.1 in
+    let at = subst (λ (o : Operator). IsAt first m (changed now c o) k.0 next) (sym on.stands.0) (stands k.0) in
+    on_then first m s (changed now c s) First next before booked.rows after on k.0 books at booked.added
+
+-- a step of a bicycle, whatever the rentals are by now
+pub move_step : (r : Reading) (now : ℕ) (c : Change) (before after : List RowChange) (next : Stage) (first s : Operator) (m : Listed) → IsReading first m r → (on : IsOn first m s Rented before)
+    → AreMovesBooked r now c before after → ((w : Listed) (rentals : List Rental) → IsAt first m (changed now c (with_rentals rentals first)) w next) → IsOn first m (changed now c s) next after
+move_step r now c before after next first s m read on booked stands =
+    let rentals = on.stands.0 in
+    let k = booked.books first m rentals read in
+    let books = subst₂ (λ (o : Operator) (w : Listed). Books booked.rows o w (changed now c o) k.0) (sym on.stands.1) (sym on.stands.2) k.1 in
+    let at = subst (λ (o : Operator). IsAt first m (changed now c o) k.0 next) (sym on.stands.1) (stands k.0 rentals) in
+    on_then first m s (changed now c s) Rented next before booked.rows after on k.0 books at booked.added
+
+-- at the first change the rentals are as they were read
+pub rented_step : (r : Reading) (before : List RowChange) (step : Operator → Operator) (next : Option Stage) (after : List RowChange) → BooksStep r Rented before step next after → BooksStep r First before step next after
+rented_step r before step next after h first s m read on = h first s m read (record { listed = on.listed; books = on.books; stands = (first.rentals, on.stands.0, on.stands.1) })
+
+-- what is known of the bicycle in the depot can be left
+pub stored_step : (r : Reading) (bike : ℕ) (before : List RowChange) (step : Operator → Operator) (next : Option Stage) (after : List RowChange) → BooksStep r Moved before step next after
+    → BooksStep r (Stored bike) before step next after
+stored_step r bike before step next after h first s m read on = h first s m read (record { listed = on.listed; books = on.books; stands = on.stands.0 })
+
+-- a bicycle that is put in a place stands there
+pub placed_stands : (now : ℕ) (bike : ℕ) (p : NewPlace) (first s : Operator) (m w : Listed) → s.orders ≡ first.orders → fin.contains_key s.bikes bike ≡ true
+    → IsAt first m (changed now (change.PlaceBike bike p) s) w (stage_after bike (place_of p))
+placed_stands now bike (new.Dock station dock) first s m w orders known = orders
+placed_stands now bike (new.Rental rental) first s m w orders known = orders
+placed_stands now bike (new.Truck truck order) first s m w orders known = orders
+placed_stands now bike new.Depot first s m w orders known =
+    let b = there_of (fin.get s.bikes bike) known in
+    (orders, record { row = record b.0 { place = place.Depot }; found = after_place s now bike b.0 new.Depot b.1; place_is = refl })
+
+pub place_step : (r : Reading) (now bike : ℕ) (p : NewPlace) (before after : List RowChange) (first s : Operator) (m : Listed) → IsReading first m r → IsOn first m s Rented before
+    → AreMovesBooked r now (change.PlaceBike bike p) before after → HasBike r bike → IsOn first m (changed now (change.PlaceBike bike p) s) (stage_after bike (place_of p)) after
+place_step r now bike p before after first s m read on booked has =
+    move_step r now (change.PlaceBike bike p) before after (stage_after bike (place_of p)) first s m read on booked
+    (λ w rentals. placed_stands now bike p first (with_rentals rentals first) m w refl (has first read.read.sound read.read.view_is))
+
+-- another state of the bicycle that was put in the depot
+pub turn_step : (r : Reading) (now bike : ℕ) (state : BikeState) (before after : List RowChange) (first s : Operator) (m : Listed) → IsOn first m s (Stored bike) before
+    → after ≡ before ++ row.SetBike bike state new.Depot ∷ [] → IsOn first m (changed now (change.SetState bike state) s) Moved after
+turn_step r now bike state before after first s m on are =
+    let it = on.stands.1 in
+    let books = turn_away s on.listed now on.books.listing bike it.row state new.Depot it.found (sym it.place_is) (subst IsAway (sym it.place_is) tt) in
+    on_then first m s (changed now (change.SetState bike state) s) (Stored bike) Moved before (row.SetBike bike state new.Depot ∷ []) after on on.listed books on.stands.0 are
 
 -- before the first change
 pub begun : (s : Operator) (m : Listed) (rows : List RowChange) → IsListing s m → rows ≡ [] → IsOn s m s First rows

@@ -1,4 +1,7 @@
 pub mod Touched
+pub mod Moves
+pub mod Marks
 pub mod Stages
+pub mod Plans
 pub mod Closing
 pub mod Booking

@@ -67,10 +67,14 @@ type_touched s (command.Load truck order bike) = type_of_bike (map.get s.bikes b
 type_touched s (command.Unload truck order bike side dock) = type_of_bike (map.get s.bikes bike)
 type_touched s c = None
 
+-- the dock, and the type there
+abbrev pub IsDockWith : Option DockPlace → Option (List ℕ) → Option Touched → Type 0
+IsDockWith dock type_id None = dock ≡ None
+IsDockWith dock type_id (Some t) = (dock ≡ Some (t.station.now, t.dock)) × (type_id ≡ option_map (λ id. id.now) t.type_id)
+
 -- what a command touches, as it was found
 abbrev pub IsTouched : Operator → Command → Option Touched → Type 0
-IsTouched s c None = dock_touched s c ≡ None
-IsTouched s c (Some t) = (dock_touched s c ≡ Some (t.station.now, t.dock)) × (type_touched s c ≡ option_map (λ id. id.now) t.type_id)
+IsTouched s c t = IsDockWith (dock_touched s c) (type_touched s c) t
 
 -- What the tables store of a type at a station.
 pub record AreCounts (s : Operator) (m : Listed) (station : List ℕ) (n : StoredNumbers) (type_id : List ℕ) : Type 0 where

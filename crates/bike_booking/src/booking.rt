@@ -1,15 +1,19 @@
 //! The book of a request: the row changes by which what was decided is stored.
 
 ghost use Rattle.std.specs.Prelude.{◌≡◌, ℕ, [], true};
+ghost use Rattle.bike_commands.specs.declared.reply.Reply.{Reply};
 ghost use Rattle.bike_commands.specs.declared.request.Request.{Request};
 ghost use Rattle.bike_operator.specs.Operator.{Operator};
-ghost use Rattle.bike_operator.specs.Changes.{changed, all_changed, present};
+ghost use Rattle.bike_operator.specs.Changes.{changed, all_changed, present, place_of};
 ghost use Rattle.bike_book.specs.Stored.{Listed};
-ghost use Rattle.bike_booking.specs.Stages.{BooksStep, after_change};
+ghost use Rattle.bike_booking.specs.Stages.{BooksStep, stage_after, after_change};
 ghost use Rattle.bike_booking.specs.Booking.{IsAccepted, AreSums, AreTexts, Books};
 
 use crate::closing::{book_close, book_entry, sums_after};
-use crate::reading::order_read;
+use crate::marks::book_mark;
+use crate::moves::{book_place, book_state};
+use crate::plans::book_plan;
+use crate::reading::{Reading, order_read};
 use crate::rows::{book_record, book_rental};
 use crate::stage::Stage;
 use crate::stored::{StoredNumbers, Sums};
@@ -18,28 +22,80 @@ use crate::touched::Touched;
 use bike_book::RowChange;
 use bike_commands::Command;
 use bike_fixed::Moment;
-use bike_operator::{Accepted, Change, View};
+use bike_ledger::Entry;
+use bike_operator::{Change, NewPlace, View};
 use std::alloc::Global;
 
-/// Books the first change of a request.
-fn book_first<'a>(
-    command: &Command,
-    view: &View,
+/// The stage after a bicycle is put in a place.
+fn stage_after(bike: u32, place: &NewPlace) -> Stage
+    ensures { result ≡ stage_after bike (place_of place.now) }
+{
+    match place {
+        NewPlace::Depot => Stage::Stored { bike },
+        NewPlace::Dock { .. } | NewPlace::Rental { .. } | NewPlace::Truck { .. } => Stage::Moved,
+    }
+}
+
+/// Books a bicycle put in another place, or another state of one.
+fn book_move<'a>(
+    reading: &Reading<'_, 'a>,
     rows: &mut Vec<RowChange<'a>, Global>,
     now: Moment,
     change: &Change<'a>,
 ) -> Option<Stage>
-    ensures { BooksStep command.now view.now Stage.First rows.old.items (changed now change.now) result rows.new.items }
+    ensures { BooksStep reading.now Stage.Rented rows.old.items (changed now change.now) result rows.new.items }
+{
+    match change {
+        Change::PlaceBike { bike, place } => {
+            let bike = *bike;
+            if !book_place(reading, rows, now, bike, place) {
+                return None;
+            }
+            Some(stage_after(bike, place))
+        }
+        Change::SetState { bike, state } => {
+            if !book_state(reading, rows, now, *bike, *state) {
+                return None;
+            }
+            Some(Stage::Moved)
+        }
+        _ => None,
+    }
+}
+
+/// Books the first change of a request.
+fn book_first<'a>(
+    reading: &Reading<'_, 'a>,
+    rows: &mut Vec<RowChange<'a>, Global>,
+    now: Moment,
+    change: &Change<'a>,
+) -> Option<Stage>
+    ensures { BooksStep reading.now Stage.First rows.old.items (changed now change.now) result rows.new.items }
 {
     match change {
         Change::AddRental { .. } | Change::CloseRental { .. } => {
-            if !book_rental(command, view, rows, now, change) {
+            if !book_rental(reading.command, reading.view, rows, now, change) {
                 return None;
             }
             Some(Stage::Rented)
         }
+        Change::PlaceBike { .. } | Change::SetState { .. } => {
+            book_move(reading, rows, now, change)
+        }
+        Change::BreakDock { .. } | Change::MendDock { .. } => {
+            if !book_mark(reading, rows, now, change) {
+                return None;
+            }
+            Some(Stage::Moved)
+        }
+        Change::AddPlan(plan) => {
+            if !book_plan(reading, rows, now, plan) {
+                return None;
+            }
+            Some(Stage::Last)
+        }
         _ => {
-            if !book_record(command, view, rows, now, change) {
+            if !book_record(reading.command, reading.view, rows, now, change) {
                 return None;
             }
             Some(Stage::Last)
@@ -49,13 +105,12 @@ fn book_first<'a>(
 
 /// Books a report or a delivery, after a bicycle is moved or a dock marked.
 fn book_moved<'a>(
-    command: &Command,
-    view: &View,
+    reading: &Reading<'_, 'a>,
     rows: &mut Vec<RowChange<'a>, Global>,
     now: Moment,
     change: &Change<'a>,
 ) -> Option<Stage>
-    ensures { BooksStep command.now view.now Stage.Moved rows.old.items (changed now change.now) result rows.new.items }
+    ensures { BooksStep reading.now Stage.Moved rows.old.items (changed now change.now) result rows.new.items }
 {
     match change {
         Change::Report { station } => {
@@ -70,7 +125,7 @@ fn book_moved<'a>(
         }
         Change::Deliver { order } => {
             let order = *order;
-            let read = order_read(command, view, order)?;
+            let read = order_read(reading.command, reading.view, order)?;
             let delivered = read.delivered.checked_add(1)?;
             let row = RowChange::SetOrder {
                 order,
@@ -86,60 +141,89 @@ fn book_moved<'a>(
     }
 }
 
+/// Books the state of the bicycle that was put in the depot, or a report or a delivery after it.
+fn book_stored<'a>(
+    reading: &Reading<'_, 'a>,
+    rows: &mut Vec<RowChange<'a>, Global>,
+    stored: u32,
+    now: Moment,
+    change: &Change<'a>,
+) -> Option<Stage>
+    ensures { BooksStep reading.now (Stage.Stored stored) rows.old.items (changed now change.now) result rows.new.items }
+{
+    match change {
+        Change::SetState { bike, state } => {
+            let bike = *bike;
+            if bike != stored {
+                return None;
+            }
+            let row = RowChange::SetBike {
+                bike,
+                state: *state,
+                place: NewPlace::Depot,
+            };
+            if !rows.push(row).is_ok() {
+                return None;
+            }
+            Some(Stage::Moved)
+        }
+        _ => book_moved(reading, rows, now, change),
+    }
+}
+
 /// Books a change at its stage.
 fn book_one<'a>(
-    command: &Command,
-    view: &View,
+    reading: &Reading<'_, 'a>,
     rows: &mut Vec<RowChange<'a>, Global>,
     stage: Stage,
     now: Moment,
     change: &Change<'a>,
 ) -> Option<Stage>
-    ensures { BooksStep command.now view.now stage rows.old.items (changed now change.now) result rows.new.items }
+    ensures { BooksStep reading.now stage rows.old.items (changed now change.now) result rows.new.items }
 {
     match stage {
-        Stage::First => book_first(command, view, rows, now, change),
-        Stage::Moved => book_moved(command, view, rows, now, change),
-        Stage::Rented | Stage::Last => None,
+        Stage::First => book_first(reading, rows, now, change),
+        Stage::Rented => book_move(reading, rows, now, change),
+        Stage::Stored { bike } => book_stored(reading, rows, bike, now, change),
+        Stage::Moved => book_moved(reading, rows, now, change),
+        Stage::Last => None,
     }
 }
 
 /// Books a change, if there is one.
 fn book_change<'a>(
-    command: &Command,
-    view: &View,
+    reading: &Reading<'_, 'a>,
     rows: &mut Vec<RowChange<'a>, Global>,
     stage: Stage,
     now: Moment,
     change: &Option<Change<'a>>,
 ) -> Option<Stage>
-    ensures { BooksStep command.now view.now stage rows.old.items (after_change now change.now) result rows.new.items }
+    ensures { BooksStep reading.now stage rows.old.items (after_change now change.now) result rows.new.items }
 {
     match change {
         None => Some(stage),
-        Some(change) => book_one(command, view, rows, stage, now, change),
+        Some(change) => book_one(reading, rows, stage, now, change),
     }
 }
 
 /// Books the changes of a decision, in their order.
 fn book_changes<'a>(
-    command: &Command,
-    view: &View,
+    reading: &Reading<'_, 'a>,
     rows: &mut Vec<RowChange<'a>, Global>,
     now: Moment,
     changes: &[Option<Change<'a>>; 4],
 ) -> Option<Stage>
-    ensures { BooksStep command.now view.now Stage.First rows.old.items (all_changed now (present changes.now)) result rows.new.items }
+    ensures { BooksStep reading.now Stage.First rows.old.items (all_changed now (present changes.now)) result rows.new.items }
 {
     let [one, two, three, four] = changes;
-    let after_one = book_change(command, view, rows, Stage::First, now, one)?;
-    let after_two = book_change(command, view, rows, after_one, now, two)?;
-    let after_three = book_change(command, view, rows, after_two, now, three)?;
-    book_change(command, view, rows, after_three, now, four)
+    let after_one = book_change(reading, rows, Stage::First, now, one)?;
+    let after_two = book_change(reading, rows, after_one, now, two)?;
+    let after_three = book_change(reading, rows, after_two, now, three)?;
+    book_change(reading, rows, after_three, now, four)
 }
 
-/// The row changes by which the acceptance is stored, or false where what was read can't be a sound operator's, and where
-/// the acceptance adds a plan, moves a bicycle, or marks a bicycle or a dock.
+/// The row changes by which an acceptance with this entry and these changes is stored, or false where there is no memory, and
+/// where what was read can't be a sound operator's.
 pub fn book_request<'a>(
     rows: &mut Vec<RowChange<'a>, Global>,
     command: &Command,
@@ -148,26 +232,30 @@ pub fn book_request<'a>(
     numbers: &StoredNumbers,
     sums: &Sums,
     now: Moment,
-    accepted: &'a Accepted<'a>,
+    entry: &'a Option<Entry>,
+    changes: &[Option<Change<'a>>; 4],
     texts: &KeptTexts<'a>,
 ) -> bool
-    ensures { (s : Operator) (m : Listed) (q : Request) → rows.old.items ≡ [] → command.now ≡ q.command
-        → IsAccepted s m now q view.now touched.now numbers.now accepted.now → AreSums s sums.now → AreTexts s now q texts.now
-        → result ≡ true → Books rows.new.items s m now q }
+    ensures { (s : Operator) (m : Listed) (q : Request) (reply : Reply) → rows.old.items ≡ [] → command.now ≡ q.command
+        → IsAccepted s m now q view.now touched.now numbers.now (record { reply = reply; entry = entry.now; changes = changes.now })
+        → AreSums s sums.now → AreTexts s now q texts.now → result ≡ true → Books rows.new.items s m now q }
 {
-    let _ = touched;
-    let _ = numbers;
-    let changes = &accepted.changes;
-    if book_changes(command, view, rows, now, changes).is_none() {
+    let reading = Reading {
+        command,
+        view,
+        touched,
+        numbers,
+    };
+    if book_changes(&reading, rows, now, changes).is_none() {
         return false;
     }
-    match &accepted.entry {
+    match entry {
         None => book_close(rows, now, sums, texts),
-        Some(entry) => {
-            let Some(after) = sums_after(sums, entry) else {
+        Some(booked) => {
+            let Some(after) = sums_after(sums, booked) else {
                 return false;
             };
-            if !book_entry(command, view, rows, entry) {
+            if !book_entry(command, view, rows, booked) {
                 return false;
             }
             book_close(rows, now, &after, texts)

@@ -7,12 +7,23 @@ ghost use Rattle.bike_ledger.specs.Ledger.{balance_of, refunded_of};
 ghost use Rattle.bike_operator.specs.Operator.{Operator, numbered};
 ghost use Rattle.bike_operator.specs.View.{view_of};
 
+use crate::stored::StoredNumbers;
+use crate::touched::Touched;
 use bike_commands::Command;
 use bike_fields::Ident;
 use bike_operator::{Order, View};
 
+/// What was read for a request: its command and the view, the dock that it touches, and the numbers stored there.
+#[derive(Drop)]
+pub(crate) struct Reading<'r, 'a> {
+    pub command: &'r Command,
+    pub view: &'r View,
+    pub touched: &'r Option<Touched<'a>>,
+    pub numbers: &'r StoredNumbers,
+}
+
 /// Whether the identifiers are the same.
-fn is_same(one: &Ident, other: &Ident) -> bool
+pub(crate) fn is_same(one: &Ident, other: &Ident) -> bool
     ensures { result ≡ bytes_eq one.now other.now }
 {
     one.as_str() == other.as_str()

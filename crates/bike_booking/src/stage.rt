@@ -7,6 +7,8 @@ pub enum Stage {
     First,
     /// A rental was added or closed: everything but rentals.
     Rented,
+    /// A bicycle was put in the depot: that it is there, and orders.
+    Stored { bike: u32 },
     /// A bicycle was moved or a dock marked, or a station reported: orders.
     Moved,
     /// Nothing.

@@ -27,7 +27,7 @@ returns-else-not-is_ok-2 c = λ first s m read on.
     let o = c.in_ok-read-in-Deliver.read.now in
     let delivered = c.in_ok-delivered-in-Deliver.delivered in
     let rows = row.SetOrder order delivered o.is_open ∷ [] in
-    let found : numbered order s.orders ≡ Some o = ap (numbered order) on.stands ∙ c.in_ok-read-in-Deliver.ensures first read.view_is in
+    let found : numbered order s.orders ≡ Some o = ap (numbered order) on.stands ∙ c.in_ok-read-in-Deliver.ensures first read.read.view_is in
     let more = c.in_ok-delivered-in-Deliver.ensures in
     let are = added c.args.rows.now.items rows c.push-in-Deliver.result c.push-in-Deliver.ensures.items c.if-not-is_ok-2.false c.is_ok-in-Deliver.ensures.value in
     subst (λ (d : Change). IsOn first m (changed now d s) Last c.push-in-Deliver.new.self.items) (sym c.in-Deliver.is)
