@@ -1,0 +1,83 @@
+-- Parts of a view, from the records that were read.
+use Rattle.std.proofs.Common.{◌≡◌, ℕ, ℤ, List, Option, Some, None, refl, sym, ap, ◌∙◌}
+use Rattle.std.specs.Prelude.{option_map, is_some, unwrap_or, true, IfSome}
+use Rattle.bike_catalogue.specs.Rows.{PlanRow, TypeRow}
+use Rattle.bike_ledger.specs.Entries.{Entry}
+use Rattle.bike_ledger.specs.Ledger.{balance_of, refunded_of}
+use Rattle.bike_operator.specs.declared.records.Bike.{Bike}
+use Rattle.bike_operator.specs.declared.records.Rental.{Rental}
+use Rattle.bike_operator.specs.declared.view.RiderView.{RiderView}
+use Rattle.bike_operator.specs.Operator.{Operator, Rider}
+use Rattle.bike_operator.specs.View.{planned_rental, rider_view, typed_bike}
+use Rattle.bike_book.specs.Stored.{Listed}
+use Rattle.bike_booking.specs.declared.stored.StoredNumbers.{StoredNumbers}
+use Rattle.bike_booking.specs.Touched as touched
+use Rattle.bike_accounts.specs.declared.rentals.StoredRental.{StoredRental}
+use Rattle.bike_fleet.specs.declared.counts.TypeCounts.{TypeCounts}
+use Rattle.bike_fleet.specs.Fleet as fleet
+use Rattle.bike_fleet.specs.Fleet.{no_counts, type_counts_of}
+use Rattle.bike_views.specs.Parts.{no_numbers}
+
+-- ---- the bicycle in a dock
+
+pub typed_none : (b : ℕ × Bike) (o : Option TypeRow) {x : Option (List ℕ)} → x ≡ option_map (λ t. t.plan_id) o → x ≡ None → None ≡ typed_bike b o
+typed_none b None read none = refl
+typed_none b (Some t) read none = absurd cc
+
+pub typed_some : (b : ℕ × Bike) (o : Option TypeRow) {x : Option (List ℕ)} {plan : List ℕ} → x ≡ option_map (λ t. t.plan_id) o → x ≡ Some plan
+    → Some (record { bike = b.0; type_id = b.1.type_id; state = b.1.state; plan = plan }) ≡ typed_bike b o
+typed_some b None read some = absurd cc
+typed_some b (Some t) {plan = plan} read some = let same : plan ≡ t.plan_id = cc in ap (λ p. Some (record { bike = b.0; type_id = b.1.type_id; state = b.1.state; plan = p })) same
+
+-- ---- a rental
+
+-- the rental that was read, and the sum of its refunds
+pub rental_read : (number : ℕ) (entries : List Entry) (o : Option Rental) {x : Option StoredRental} {stored : StoredRental} → x ≡ option_map (λ r. record { rental = r; refunded = refunded_of number entries }) o → x ≡ Some stored
+    → (o ≡ Some stored.rental) × (stored.refunded ≡ refunded_of number entries)
+rental_read number entries None read some = absurd cc
+rental_read number entries (Some r) {stored = stored} read some =
+    let found : StoredRental = record { rental = r; refunded = refunded_of number entries } in
+    let same : found ≡ stored = cc in (ap (λ f. Some f.rental) same, ap (λ f. f.refunded) (sym same))
+
+pub rental_lacks : (number : ℕ) (entries : List Entry) (o : Option Rental) {x : Option StoredRental} → x ≡ option_map (λ r. record { rental = r; refunded = refunded_of number entries }) o → x ≡ None → None ≡ o
+rental_lacks number entries None read none = refl
+rental_lacks number entries (Some r) read none = absurd cc
+
+-- the balance of a rider who was read
+pub balance_read : (s : Operator) (rider : ℕ) (o : Option Rider) {x : Option RiderView} {found : RiderView} → x ≡ rider_view s rider o → x ≡ Some found → found.balance ≡ balance_of rider s.entries
+balance_read s rider None read some = absurd cc
+balance_read s rider (Some r) {found = found} read some =
+    let view : RiderView = record { is_blocked = r.is_blocked; balance = balance_of rider s.entries } in
+    let same : view ≡ found = cc in ap (λ v. v.balance) (sym same)
+
+pub planned_some : (s : Operator) (number : ℕ) (r : Rental) (o : Option PlanRow) {x : Option PlanRow} {plan : PlanRow} {refunded balance : ℤ} → x ≡ o → x ≡ Some plan → refunded ≡ refunded_of number s.entries → balance ≡ balance_of r.rider s.entries
+    → Some (record { number = number; rental = r; plan = plan; refunded = refunded; balance = balance }) ≡ planned_rental s number r o
+planned_some s number r o {plan = plan} read some refunds balances =
+    (λ i. Some (record { number = number; rental = r; plan = plan; refunded = refunds i; balance = balances i })) ∙ ap (planned_rental s number r) (sym some ∙ read)
+
+-- ---- counts of a type
+
+-- the same counts with other numbers of the dock
+pub counts_kept : {A : Type 0} (s : Operator) (m : Listed) (station : List ℕ) (text_of : A → List ℕ) (o : Option A) (n k : StoredNumbers) → n.available ≡ k.available → n.disabled ≡ k.disabled → n.has_count_row ≡ k.has_count_row
+    → IfSome o (λ id. touched.AreCounts s m station k (text_of id)) → IfSome o (λ id. touched.AreCounts s m station n (text_of id))
+counts_kept s m station text_of None n k a d row counts = tt
+counts_kept s m station text_of (Some id) n k a d row counts = record { available = a ∙ counts.available; disabled = d ∙ counts.disabled; has_row = row ∙ counts.has_row }
+
+pub counts_none : (s : Operator) (m : Listed) (station type_id : List ℕ) {x : Option TypeCounts} {n : StoredNumbers} → fleet.AreCounts s m station type_id x → x ≡ None → n ≡ no_numbers → touched.AreCounts s m station n type_id
+counts_none s m station type_id read none empty =
+    let same = sym (ap (λ o. unwrap_or o no_counts) none) ∙ read.1 in
+    record {
+      available = ap (λ k. k.available) empty ∙ ap (λ c. c.available) same;
+      disabled = ap (λ k. k.disabled) empty ∙ ap (λ c. c.disabled) same;
+      has_row = ap (λ k. k.has_count_row) empty ∙ sym (ap is_some none) ∙ read.0;
+    }
+
+pub counts_some : (s : Operator) (m : Listed) (station type_id : List ℕ) {x : Option TypeCounts} {counts : TypeCounts} {n : StoredNumbers} → fleet.AreCounts s m station type_id x → x ≡ Some counts
+    → n.available ≡ counts.available → n.disabled ≡ counts.disabled → n.has_count_row ≡ true → touched.AreCounts s m station n type_id
+counts_some s m station type_id read some available disabled has =
+    let same = sym (ap (λ o. unwrap_or o no_counts) some) ∙ read.1 in
+    record {
+      available = available ∙ ap (λ c. c.available) same;
+      disabled = disabled ∙ ap (λ c. c.disabled) same;
+      has_row = has ∙ sym (ap is_some some) ∙ read.0;
+    }

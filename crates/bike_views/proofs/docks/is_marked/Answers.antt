@@ -1,0 +1,6 @@
+use Rattle.std.proofs.Common.{◌∙◌}
+use Rattle.bike_rows.proofs.ChainLaws.{reads_as}
+use Rattle.bike_views.proofs.docks.is_marked.Goals as goal
+
+pub returns : goal.returns
+returns g c = reads_as c.in_ok-mark.ensures (λ db it s h. c.unwrap_or.ensures ∙ (it s h).1)

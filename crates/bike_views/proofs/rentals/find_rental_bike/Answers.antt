@@ -1,0 +1,12 @@
+use Rattle.std.proofs.Common.{rules, w64, ◌∙◌}
+use Rattle.std.proofs.lemmas.Int.{to_z-of_z}
+use Rattle.bike_rows.proofs.ChainLaws.{reads_as, reads_both, reads_failed}
+use Rattle.bike_views.proofs.rentals.find_rental_bike.Goals as goal
+
+pub returns-in_err-rental : goal.returns-in_err-rental
+returns-in_err-rental g c = reads_failed (reads_both c.in_ok-bike.ensures c.in_err-rental.ensures) (search rules)
+
+pub returns : goal.returns
+returns g c = reads_as (reads_both c.in_ok-bike.ensures c.in_ok-rental.ensures) (λ db it s h refunds.
+    let rental = it.1 s h (to_z-of_z w64 c.args.refunded c.ranges.refunded ∙ refunds) in
+    λ i. record { bike = it.0 s h i; rental = rental i })

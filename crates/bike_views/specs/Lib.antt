@@ -1,0 +1,2 @@
+pub mod Open
+pub mod Parts

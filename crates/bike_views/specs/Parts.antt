@@ -1,0 +1,64 @@
+-- Parts of a view that are read together.
+use Rattle.std.specs.Prelude.{ℕ, List, length, false}
+use Rattle.std.specs.FinMap as map
+use Rattle.bike_texts.specs.declared.ends.OrderEnd.{OrderEnd}
+use Rattle.bike_texts.specs.declared.ends.Side.{Side}
+use Rattle.bike_operator.specs.declared.records.Rental.{Rental}
+use Rattle.bike_operator.specs.declared.view.View.{View}
+use Rattle.bike_operator.specs.Operator.{Operator, numbered}
+use Rattle.bike_operator.specs.Counts.{is_riding, order_load, truck_load}
+use Rattle.bike_operator.specs.View.{bike_of, has_end, has_full_ledger, planned_rental, rental_at, rental_of, rider_at, side_view, truck_at}
+use Rattle.bike_booking.specs.declared.stored.StoredNumbers.{StoredNumbers}
+use Rattle.bike_views.specs.declared.ledger.LedgerRoom.{LedgerRoom}
+use Rattle.bike_views.specs.declared.rentals.StartView.{StartView}
+use Rattle.bike_views.specs.declared.rentals.RentalBike.{RentalBike}
+use Rattle.bike_views.specs.declared.orders.OrderNames.{OrderNames}
+use Rattle.bike_views.specs.declared.orders.Loads.{Loads}
+
+-- the entries, and whether one more would be too many
+abbrev pub room_of : Operator → LedgerRoom
+room_of s = record { entries = length s.entries; is_full = has_full_ledger s }
+
+-- the rider who starts a rental, and the numbers that are asked for it
+abbrev pub start_view : Operator → ℕ → StartView
+start_view s rider = record {
+  rider = rider_at s rider;
+  is_riding = is_riding s rider;
+  is_ledger_full = has_full_ledger s;
+  rentals = length s.rentals;
+}
+
+-- a bicycle, and the rental in which it is
+abbrev pub ridden_bike : Operator → ℕ → RentalBike
+ridden_bike s bike = record { bike = map.get s.bikes bike; rental = rental_of s (map.get s.bikes bike) }
+
+-- a rental's bicycle, and the rental with its plan
+abbrev pub rental_bike : Operator → ℕ → Rental → RentalBike
+rental_bike s number r = record {
+  bike = map.get s.bikes r.bike;
+  rental = planned_rental s number r (map.get s.plans r.plan);
+}
+
+-- the same by the rental's number, where it is there
+abbrev pub rental_bike_at : Operator → ℕ → RentalBike
+rental_bike_at s rental = record { bike = bike_of s (numbered rental s.rentals); rental = rental_at s rental }
+
+-- whether the type and the ends of an order are there
+abbrev pub names_of : Operator → OrderEnd → OrderEnd → List ℕ → OrderNames
+names_of s from_end to_end type_id = record {
+  has_type = map.contains_key s.types type_id;
+  has_from = has_end s from_end;
+  has_to = has_end s to_end;
+}
+
+-- a truck, and the bicycles on it, over all orders and for one
+abbrev pub loads_of : Operator → ℕ → ℕ → Loads
+loads_of s truck order = record { truck = truck_at s truck; loaded = truck_load s truck; on_truck = order_load s order }
+
+-- an order, and the dock at a side of it
+abbrev pub delivery_view : Operator → ℕ → Side → ℕ → View
+delivery_view s order side dock = record (side_view s (numbered order s.orders) side dock) { order = numbered order s.orders }
+
+-- the numbers where nothing is stored
+abbrev pub no_numbers : StoredNumbers
+no_numbers = record { free = 0; broken = 0; has_dock_row = false; available = 0; disabled = 0; has_count_row = false }

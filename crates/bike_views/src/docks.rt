@@ -1,0 +1,84 @@
+//! What is read of a dock.
+
+ghost use Rattle.std.specs.Prelude.{◌≡◌};
+ghost use Rattle.std.specs.FinMap as map;
+ghost use Rattle.bike_operator.specs.Counts.{docked_at, is_broken};
+ghost use Rattle.bike_operator.specs.View.{dock_view, docked_view, typed_bike};
+ghost use Rattle.bike_schema.specs.Answers.{Answers};
+ghost use Rattle.bike_fleet.specs.Fleet.{numbered_pair};
+
+use crate::empty::empty_view;
+use bike_fields::Ident;
+use bike_fleet::{NumberedBike, find_default_plan, find_docked, find_mark, find_station};
+use bike_operator::{DockedBike, View};
+use bike_schema::StatementFault;
+use sqlite::{Alter, Connection};
+use std::alloc::Global;
+
+/// Whether the dock is marked as broken. A dock with no row works.
+pub(crate) fn is_marked<S: Alter>(
+    conn: &mut Connection<S>,
+    station: &Ident,
+    dock: u32,
+) -> Result<bool, StatementFault>
+    ensures { Answers S.Store conn.old conn.new result (λ s m broken. broken ≡ is_broken s station.now dock) }
+{
+    let mark = find_mark(conn, station, dock)?;
+    Ok(mark.unwrap_or(false))
+}
+
+/// The bicycle with the default plan of its type.
+fn find_typed_bike<S: Alter>(
+    alloc: Global,
+    conn: &mut Connection<S>,
+    docked: NumberedBike,
+) -> Result<Option<DockedBike>, StatementFault>
+    ensures { Answers S.Store conn.old conn.new result
+        (λ s m found. found ≡ typed_bike (numbered_pair docked) (map.get s.types docked.bike.type_id)) }
+{
+    match find_default_plan(alloc, conn, &docked.bike.type_id)? {
+        None => Ok(None),
+        Some(plan) => Ok(Some(DockedBike {
+            bike: docked.number,
+            type_id: docked.bike.type_id,
+            state: docked.bike.state,
+            plan,
+        })),
+    }
+}
+
+/// The bicycle in a dock, with the default plan of its type.
+fn find_docked_bike<S: Alter>(
+    alloc: Global,
+    conn: &mut Connection<S>,
+    station: &Ident,
+    dock: u32,
+) -> Result<Option<DockedBike>, StatementFault>
+    ensures { Answers S.Store conn.old conn.new result
+        (λ s m found. found ≡ docked_view s (docked_at s station.now dock)) }
+{
+    match find_docked(alloc, conn, station, dock)? {
+        None => Ok(None),
+        Some(docked) => find_typed_bike(alloc, conn, docked),
+    }
+}
+
+/// The station, the mark of its dock and the bicycle in it.
+pub(crate) fn find_dock_view<S: Alter>(
+    alloc: Global,
+    conn: &mut Connection<S>,
+    station: &Ident,
+    dock: u32,
+) -> Result<View, StatementFault>
+    ensures { Answers S.Store conn.old conn.new result (λ s m view. view ≡ dock_view s station.now dock) }
+{
+    let found = find_station(conn, station)?;
+    let is_dock_broken = is_marked(conn, station, dock)?;
+    let docked = find_docked_bike(alloc, conn, station, dock)?;
+    Ok(View {
+        station: found,
+        is_dock_broken,
+        docked,
+        ..empty_view()
+    })
+}

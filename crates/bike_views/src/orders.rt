@@ -1,0 +1,246 @@
+//! What the commands on trucks and their orders name.
+
+ghost use Rattle.std.specs.Prelude.{◌≡◌, ℕ};
+ghost use Rattle.bike_commands.specs.declared.command.Command.TheVariants as command;
+ghost use Rattle.bike_operator.specs.View.{end_at as end_of_order, end_view, has_end, side_view, view_of};
+ghost use Rattle.bike_schema.specs.Answers.{Answers};
+ghost use Rattle.bike_views.specs.Open.{AnswersOpen};
+ghost use Rattle.bike_views.specs.Parts.{delivery_view, loads_of, names_of};
+
+use crate::bikes::find_bike_view;
+use crate::docks::find_dock_view;
+use crate::empty::empty_view;
+use bike_fields::{BicycleNumber, Ident, OrderNumber, TruckNumber};
+use bike_fleet::{
+    are_trucks_full, find_bike, find_order, find_truck, has_station, has_type, order_count,
+    order_load, truck_load,
+};
+use bike_operator::{Order, TruckView, View};
+use bike_schema::StatementFault;
+use bike_texts::{OrderEnd, Side, UnloadDock};
+use sqlite::{Alter, Connection};
+use std::alloc::Global;
+
+/// Whether what an order names is there.
+#[derive(Clone, Copy, Debug)]
+pub(crate) struct OrderNames {
+    pub(crate) has_type: bool,
+    pub(crate) has_from: bool,
+    pub(crate) has_to: bool,
+}
+
+/// A truck, and how many bicycles are on it: over all orders, and for one.
+#[derive(Clone, Copy, Debug)]
+pub(crate) struct Loads {
+    pub(crate) truck: Option<TruckView>,
+    pub(crate) loaded: u32,
+    pub(crate) on_truck: u32,
+}
+
+/// The view for a new truck, whatever it holds.
+pub(crate) fn view_to_add_truck<S: Alter>(
+    conn: &mut Connection<S>,
+    truck: TruckNumber,
+) -> Result<View, StatementFault>
+    ensures { Answers S.Store conn.old conn.new result
+        (λ s m view. (capacity : ℕ) → view ≡ view_of s (command.AddTruck truck capacity)) }
+{
+    let truck = find_truck(conn, truck)?;
+    let is_full = are_trucks_full(conn)?;
+    Ok(View {
+        truck,
+        is_full,
+        ..empty_view()
+    })
+}
+
+/// Whether the end of an order is there, as the depot always is.
+fn is_end_there<S: Alter>(conn: &mut Connection<S>, end: &OrderEnd) -> Result<bool, StatementFault>
+    ensures { AnswersOpen S.Store conn.old conn.new result (λ s m there. there ≡ has_end s end.now) }
+{
+    match end {
+        OrderEnd::Depot => Ok(true),
+        OrderEnd::Station(station) => has_station(conn, station),
+    }
+}
+
+/// Whether the type and the ends of an order are there.
+fn find_names<S: Alter>(
+    conn: &mut Connection<S>,
+    from_end: &OrderEnd,
+    to_end: &OrderEnd,
+    type_id: &Ident,
+) -> Result<OrderNames, StatementFault>
+    ensures { Answers S.Store conn.old conn.new result
+        (λ s m names. names ≡ names_of s from_end.now to_end.now type_id.now) }
+{
+    let has_type = has_type(conn, type_id)?;
+    let has_from = is_end_there(conn, from_end)?;
+    let has_to = is_end_there(conn, to_end)?;
+    Ok(OrderNames {
+        has_type,
+        has_from,
+        has_to,
+    })
+}
+
+/// The view for a new order, whatever its quantity.
+pub(crate) fn view_to_open_order<S: Alter>(
+    conn: &mut Connection<S>,
+    truck: TruckNumber,
+    from_end: &OrderEnd,
+    to_end: &OrderEnd,
+    type_id: &Ident,
+) -> Result<View, StatementFault>
+    ensures { Answers S.Store conn.old conn.new result (λ s m view. (count : ℕ)
+        → view ≡ view_of s (command.OpenOrder truck from_end.now to_end.now type_id.now count)) }
+{
+    let truck = find_truck(conn, truck)?;
+    let names = find_names(conn, from_end, to_end, type_id)?;
+    let orders = order_count(conn)?;
+    Ok(View {
+        truck,
+        has_from: names.has_from,
+        has_to: names.has_to,
+        has_type: names.has_type,
+        orders,
+        ..empty_view()
+    })
+}
+
+/// The truck and its loads.
+fn find_loads<S: Alter>(
+    conn: &mut Connection<S>,
+    truck: TruckNumber,
+    order: OrderNumber,
+) -> Result<Loads, StatementFault>
+    ensures { Answers S.Store conn.old conn.new result (λ s m loads. loads ≡ loads_of s truck order) }
+{
+    let found = find_truck(conn, truck)?;
+    let loaded = truck_load(conn, truck)?;
+    let on_truck = order_load(conn, order)?;
+    Ok(Loads {
+        truck: found,
+        loaded,
+        on_truck,
+    })
+}
+
+/// The view for a bicycle that is loaded.
+pub(crate) fn view_to_load<S: Alter>(
+    alloc: Global,
+    conn: &mut Connection<S>,
+    truck: TruckNumber,
+    order: OrderNumber,
+    bike: BicycleNumber,
+) -> Result<View, StatementFault>
+    ensures { Answers S.Store conn.old conn.new result
+        (λ s m view. view ≡ view_of s (command.Load truck order bike)) }
+{
+    let loads = find_loads(conn, truck, order)?;
+    let order = find_order(alloc, conn, order)?;
+    let view = find_bike_view(alloc, conn, bike)?;
+    Ok(View {
+        truck: loads.truck,
+        loaded: loads.loaded,
+        order,
+        on_truck: loads.on_truck,
+        ..view
+    })
+}
+
+/// The end of an order at a side.
+fn end_at(side: Side, order: &Order) -> &OrderEnd
+    ensures { result.now ≡ end_of_order side order.now }
+{
+    match side {
+        Side::From => &order.from_end,
+        Side::To => &order.to_end,
+    }
+}
+
+/// The dock at an end of an order, where there is one: the depot has none.
+fn find_end_view<S: Alter>(
+    alloc: Global,
+    conn: &mut Connection<S>,
+    end: &OrderEnd,
+    dock: u32,
+) -> Result<View, StatementFault>
+    ensures { AnswersOpen S.Store conn.old conn.new result (λ s m view. view ≡ end_view s end.now dock) }
+{
+    match end {
+        OrderEnd::Depot => Ok(empty_view()),
+        OrderEnd::Station(station) => find_dock_view(alloc, conn, station, dock),
+    }
+}
+
+/// The dock at a side of an order, where both are there.
+fn find_side_view<S: Alter>(
+    alloc: Global,
+    conn: &mut Connection<S>,
+    order: &Option<Order>,
+    side: Side,
+    dock: u32,
+) -> Result<View, StatementFault>
+    ensures { AnswersOpen S.Store conn.old conn.new result (λ s m view. view ≡ side_view s order.now side dock) }
+{
+    match order {
+        None => Ok(empty_view()),
+        Some(order) => find_end_view(alloc, conn, end_at(side, order), dock),
+    }
+}
+
+/// The order, and the dock at a side of it.
+fn find_delivery<S: Alter>(
+    alloc: Global,
+    conn: &mut Connection<S>,
+    order: OrderNumber,
+    side: Side,
+    dock: u32,
+) -> Result<View, StatementFault>
+    ensures { Answers S.Store conn.old conn.new result (λ s m view. view ≡ delivery_view s order side dock) }
+{
+    let order = find_order(alloc, conn, order)?;
+    let view = find_side_view(alloc, conn, &order, side, dock)?;
+    Ok(View { order, ..view })
+}
+
+/// The view for a bicycle that is unloaded.
+pub(crate) fn view_to_unload<S: Alter>(
+    alloc: Global,
+    conn: &mut Connection<S>,
+    truck: TruckNumber,
+    order: OrderNumber,
+    bike: BicycleNumber,
+    side: Side,
+    dock: UnloadDock,
+) -> Result<View, StatementFault>
+    ensures { Answers S.Store conn.old conn.new result
+        (λ s m view. view ≡ view_of s (command.Unload truck order bike side dock)) }
+{
+    let truck = find_truck(conn, truck)?;
+    let bike = find_bike(alloc, conn, bike)?;
+    let view = find_delivery(alloc, conn, order, side, dock.get())?;
+    Ok(View {
+        truck,
+        bike,
+        ..view
+    })
+}
+
+/// The view for an order that is closed.
+pub(crate) fn view_to_close_order<S: Alter>(
+    alloc: Global,
+    conn: &mut Connection<S>,
+    order: OrderNumber,
+) -> Result<View, StatementFault>
+    ensures { Answers S.Store conn.old conn.new result (λ s m view. view ≡ view_of s (command.CloseOrder order)) }
+{
+    let on_truck = order_load(conn, order)?;
+    let order = find_order(alloc, conn, order)?;
+    Ok(View {
+        order,
+        on_truck,
+        ..empty_view()
+    })
+}

@@ -1,0 +1,240 @@
+//! What the commands on rentals name.
+
+ghost use Rattle.std.specs.Prelude.{◌≡◌, ℕ};
+ghost use Rattle.std.specs.FinMap as map;
+ghost use Rattle.bike_ledger.specs.Ledger.{refunded_of};
+ghost use Rattle.bike_commands.specs.declared.command.Command.TheVariants as command;
+ghost use Rattle.bike_operator.specs.View.{planned_rental, rental_at, rental_of, view_of};
+ghost use Rattle.bike_schema.specs.Answers.{Answers};
+ghost use Rattle.bike_views.specs.Open.{AnswersOpen};
+ghost use Rattle.bike_views.specs.Parts.{rental_bike_at, rental_bike, ridden_bike, start_view};
+
+use crate::docks::find_dock_view;
+use crate::empty::empty_view;
+use crate::ledger::find_room;
+use bike_accounts::{entry_count, find_plan, find_rental, find_rider, is_riding, rental_count};
+use bike_fields::{BicycleNumber, DockNumber, Ident, RentalNumber, RiderNumber};
+use bike_fleet::find_bike;
+use bike_operator::{Bike, Place, Rental, RentalView, RiderView, View};
+use bike_schema::StatementFault;
+use sqlite::{Alter, Connection};
+use std::alloc::Global;
+
+/// What a start asks of its rider and of the ledger.
+#[derive(Clone, Copy, Debug)]
+pub(crate) struct StartView {
+    pub(crate) rider: Option<RiderView>,
+    pub(crate) is_riding: bool,
+    pub(crate) is_ledger_full: bool,
+    pub(crate) rentals: u32,
+}
+
+/// A bicycle, and the rental in which it is.
+#[derive(Debug, Drop)]
+pub(crate) struct RentalBike {
+    pub(crate) bike: Option<Bike>,
+    pub(crate) rental: Option<RentalView>,
+}
+
+/// The rental with its plan and its rider's balance. A rental's rider is there, or the store has failed.
+fn find_planned_rental<S: Alter>(
+    alloc: Global,
+    conn: &mut Connection<S>,
+    number: RentalNumber,
+    rental: Rental,
+    refunded: i64,
+) -> Result<Option<RentalView>, StatementFault>
+    ensures { Answers S.Store conn.old conn.new result (λ s m found. refunded ≡ refunded_of number s.entries
+        → found ≡ planned_rental s number rental (map.get s.plans rental.plan)) }
+{
+    let Some(rider) = find_rider(conn, rental.rider)? else {
+        return Err(StatementFault::StoreFailed);
+    };
+    match find_plan(alloc, conn, &rental.plan)? {
+        None => Ok(None),
+        Some(plan) => Ok(Some(RentalView {
+            number,
+            rental,
+            plan,
+            refunded,
+            balance: rider.balance,
+        })),
+    }
+}
+
+/// The rental with its plan.
+fn find_rental_view<S: Alter>(
+    alloc: Global,
+    conn: &mut Connection<S>,
+    rental: RentalNumber,
+) -> Result<Option<RentalView>, StatementFault>
+    ensures { Answers S.Store conn.old conn.new result (λ s m found. found ≡ rental_at s rental) }
+{
+    match find_rental(alloc, conn, rental)? {
+        None => Ok(None),
+        Some(stored) => find_planned_rental(alloc, conn, rental, stored.rental, stored.refunded),
+    }
+}
+
+/// The rental in which the bicycle is.
+fn find_rental_of<S: Alter>(
+    alloc: Global,
+    conn: &mut Connection<S>,
+    bike: &Option<Bike>,
+) -> Result<Option<RentalView>, StatementFault>
+    ensures { AnswersOpen S.Store conn.old conn.new result (λ s m found. found ≡ rental_of s bike.now) }
+{
+    match bike {
+        None => Ok(None),
+        Some(bike) => match &bike.place {
+            Place::Rental { rental } => find_rental_view(alloc, conn, *rental),
+            Place::Dock { .. } | Place::Truck { .. } | Place::Depot => Ok(None),
+        },
+    }
+}
+
+/// The bicycle, and the rental in which it is.
+fn find_ridden_bike<S: Alter>(
+    alloc: Global,
+    conn: &mut Connection<S>,
+    bike: BicycleNumber,
+) -> Result<RentalBike, StatementFault>
+    ensures { Answers S.Store conn.old conn.new result (λ s m ridden. ridden ≡ ridden_bike s bike) }
+{
+    let bike = find_bike(alloc, conn, bike)?;
+    let rental = find_rental_of(alloc, conn, &bike)?;
+    Ok(RentalBike { bike, rental })
+}
+
+/// The rider who starts a rental, and the numbers that are asked for it.
+fn find_start_view<S: Alter>(
+    conn: &mut Connection<S>,
+    rider: RiderNumber,
+) -> Result<StartView, StatementFault>
+    ensures { Answers S.Store conn.old conn.new result (λ s m start. start ≡ start_view s rider) }
+{
+    let found = find_rider(conn, rider)?;
+    let is_riding = is_riding(conn, rider)?;
+    let rentals = rental_count(conn)?;
+    let room = find_room(conn)?;
+    Ok(StartView {
+        rider: found,
+        is_riding,
+        is_ledger_full: room.is_full,
+        rentals,
+    })
+}
+
+/// The view for the start of a rental.
+pub(crate) fn view_to_start<S: Alter>(
+    alloc: Global,
+    conn: &mut Connection<S>,
+    rider: RiderNumber,
+    station: &Ident,
+    dock: DockNumber,
+) -> Result<View, StatementFault>
+    ensures { Answers S.Store conn.old conn.new result
+        (λ s m view. view ≡ view_of s (command.Start rider station.now dock)) }
+{
+    let start = find_start_view(conn, rider)?;
+    let view = find_dock_view(alloc, conn, station, dock.get())?;
+    Ok(View {
+        rider: start.rider,
+        is_riding: start.is_riding,
+        is_ledger_full: start.is_ledger_full,
+        rentals: start.rentals,
+        ..view
+    })
+}
+
+/// The view for the end of a rental.
+pub(crate) fn view_to_end<S: Alter>(
+    alloc: Global,
+    conn: &mut Connection<S>,
+    bike: BicycleNumber,
+    station: &Ident,
+    dock: DockNumber,
+) -> Result<View, StatementFault>
+    ensures { Answers S.Store conn.old conn.new result
+        (λ s m view. view ≡ view_of s (command.End bike station.now dock)) }
+{
+    let entries = entry_count(conn)?;
+    let ridden = find_ridden_bike(alloc, conn, bike)?;
+    let view = find_dock_view(alloc, conn, station, dock.get())?;
+    Ok(View {
+        bike: ridden.bike,
+        rental: ridden.rental,
+        entries,
+        ..view
+    })
+}
+
+/// The bicycle of the rental, and the rental with its plan.
+fn find_rental_bike<S: Alter>(
+    alloc: Global,
+    conn: &mut Connection<S>,
+    number: RentalNumber,
+    rental: Rental,
+    refunded: i64,
+) -> Result<RentalBike, StatementFault>
+    ensures { Answers S.Store conn.old conn.new result (λ s m ridden. refunded ≡ refunded_of number s.entries
+        → ridden ≡ rental_bike s number rental) }
+{
+    let bike = find_bike(alloc, conn, rental.bike)?;
+    let rental = find_planned_rental(alloc, conn, number, rental, refunded)?;
+    Ok(RentalBike { bike, rental })
+}
+
+/// The bicycle of a rental, and the rental with its plan, where it is there.
+fn find_rental_bike_at<S: Alter>(
+    alloc: Global,
+    conn: &mut Connection<S>,
+    rental: RentalNumber,
+) -> Result<RentalBike, StatementFault>
+    ensures { Answers S.Store conn.old conn.new result (λ s m ridden. ridden ≡ rental_bike_at s rental) }
+{
+    match find_rental(alloc, conn, rental)? {
+        None => Ok(RentalBike {
+            bike: None,
+            rental: None,
+        }),
+        Some(stored) => find_rental_bike(alloc, conn, rental, stored.rental, stored.refunded),
+    }
+}
+
+/// The view for a rental that is closed at the depot.
+pub(crate) fn view_to_recover<S: Alter>(
+    alloc: Global,
+    conn: &mut Connection<S>,
+    rental: RentalNumber,
+) -> Result<View, StatementFault>
+    ensures { Answers S.Store conn.old conn.new result (λ s m view. view ≡ view_of s (command.Recover rental)) }
+{
+    let entries = entry_count(conn)?;
+    let recovered = find_rental_bike_at(alloc, conn, rental)?;
+    Ok(View {
+        rental: recovered.rental,
+        bike: recovered.bike,
+        entries,
+        ..empty_view()
+    })
+}
+
+/// The view for a refund, whatever its amount.
+pub(crate) fn view_to_refund<S: Alter>(
+    alloc: Global,
+    conn: &mut Connection<S>,
+    rental: RentalNumber,
+) -> Result<View, StatementFault>
+    ensures { Answers S.Store conn.old conn.new result
+        (λ s m view. (amount : ℕ) → view ≡ view_of s (command.Refund rental amount)) }
+{
+    let room = find_room(conn)?;
+    let rental = find_rental_view(alloc, conn, rental)?;
+    Ok(View {
+        rental,
+        is_ledger_full: room.is_full,
+        entries: room.entries,
+        ..empty_view()
+    })
+}

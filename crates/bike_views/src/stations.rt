@@ -1,0 +1,61 @@
+//! What the commands on stations and their docks name.
+
+ghost use Rattle.std.specs.Prelude.{◌≡◌, Bool};
+ghost use Rattle.bike_commands.specs.declared.command.Command.TheVariants as command;
+ghost use Rattle.bike_operator.specs.View.{view_of};
+ghost use Rattle.bike_schema.specs.Answers.{Answers};
+
+use crate::docks::find_dock_view;
+use crate::empty::empty_view;
+use bike_catalogue::Station;
+use bike_fields::{DockNumber, Ident};
+use bike_fleet::{are_stations_full, find_station};
+use bike_operator::View;
+use bike_schema::StatementFault;
+use sqlite::{Alter, Connection};
+use std::alloc::Global;
+
+/// The view for a new station.
+pub(crate) fn view_to_add_station<S: Alter>(
+    conn: &mut Connection<S>,
+    added: &Station,
+) -> Result<View, StatementFault>
+    ensures { Answers S.Store conn.old conn.new result
+        (λ s m view. view ≡ view_of s (command.AddStation added.now)) }
+{
+    let station = find_station(conn, added.station_id())?;
+    let is_full = are_stations_full(conn)?;
+    Ok(View {
+        station,
+        is_full,
+        ..empty_view()
+    })
+}
+
+/// The view for other flags of a station, whatever they are.
+pub(crate) fn view_to_set_station<S: Alter>(
+    conn: &mut Connection<S>,
+    station: &Ident,
+) -> Result<View, StatementFault>
+    ensures { Answers S.Store conn.old conn.new result (λ s m view. (installed renting returning : Bool)
+        → view ≡ view_of s (command.SetStation station.now installed renting returning)) }
+{
+    let station = find_station(conn, station)?;
+    Ok(View {
+        station,
+        ..empty_view()
+    })
+}
+
+/// The view for another mark of a dock, whichever it is.
+pub(crate) fn view_to_mark_dock<S: Alter>(
+    alloc: Global,
+    conn: &mut Connection<S>,
+    station: &Ident,
+    dock: DockNumber,
+) -> Result<View, StatementFault>
+    ensures { Answers S.Store conn.old conn.new result
+        (λ s m view. (broken : Bool) → view ≡ view_of s (command.MarkDock station.now dock broken)) }
+{
+    find_dock_view(alloc, conn, station, dock.get())
+}

@@ -1,0 +1,77 @@
+//! The view of the stored operator for a command.
+
+ghost use Rattle.std.specs.Prelude.{◌≡◌};
+ghost use Rattle.bike_operator.specs.View.{view_of};
+ghost use Rattle.bike_schema.specs.Answers.{Answers};
+
+use crate::bikes::{view_to_add_bike, view_to_mark_bike, view_to_retire_bike};
+use crate::catalogue::{view_to_add_plan, view_to_add_type, view_to_set_plan, view_to_set_system};
+use crate::orders::{
+    view_to_add_truck, view_to_close_order, view_to_load, view_to_open_order, view_to_unload,
+};
+use crate::rentals::{view_to_end, view_to_recover, view_to_refund, view_to_start};
+use crate::riders::{view_to_add_rider, view_to_set_rider, view_to_top_up};
+use crate::stations::{view_to_add_station, view_to_mark_dock, view_to_set_station};
+use bike_commands::Command;
+use bike_operator::View;
+use bike_schema::StatementFault;
+use sqlite::{Alter, Connection};
+use std::alloc::Global;
+
+/// What the command names of the stored operator, each there or absent, and what is counted for it.
+///
+/// `NoMemory` comes where the engine or the view wants memory that is refused, and `StoreFailed` where the engine fails
+/// otherwise, or a row holds what the product never writes. In each case the tables are as before the call, or as before
+/// the transaction.
+pub fn find_view<S: Alter>(
+    alloc: Global,
+    conn: &mut Connection<S>,
+    command: &Command,
+) -> Result<View, StatementFault>
+    ensures { Answers S.Store conn.old conn.new result (λ s m view. view ≡ view_of s command.now) }
+{
+    match command {
+        Command::SetSystem(_) => view_to_set_system(conn),
+        Command::AddPlan(plan) => view_to_add_plan(conn, plan),
+        Command::AddType(added) => view_to_add_type(conn, added),
+        Command::SetPlan { type_id, plan } => view_to_set_plan(conn, type_id, plan),
+        Command::AddStation(added) => view_to_add_station(conn, added),
+        Command::SetStation { station, .. } => view_to_set_station(conn, station),
+        Command::MarkDock { station, dock, .. } => view_to_mark_dock(alloc, conn, station, *dock),
+        Command::AddBike { bike, type_id } => view_to_add_bike(alloc, conn, *bike, type_id),
+        Command::MarkBike { bike, .. } => view_to_mark_bike(alloc, conn, *bike),
+        Command::RetireBike { bike } => view_to_retire_bike(alloc, conn, *bike),
+        Command::AddTruck { truck, .. } => view_to_add_truck(conn, *truck),
+        Command::AddRider { rider } => view_to_add_rider(conn, *rider),
+        Command::SetRider { rider, .. } => view_to_set_rider(conn, *rider),
+        Command::TopUp { rider, .. } => view_to_top_up(conn, *rider),
+        Command::Start {
+            rider,
+            station,
+            dock,
+        } => view_to_start(alloc, conn, *rider, station, *dock),
+        Command::End {
+            bike,
+            station,
+            dock,
+        } => view_to_end(alloc, conn, *bike, station, *dock),
+        Command::Recover { rental } => view_to_recover(alloc, conn, *rental),
+        Command::Refund { rental, .. } => view_to_refund(alloc, conn, *rental),
+        Command::OpenOrder {
+            truck,
+            from_end,
+            to_end,
+            type_id,
+            ..
+        } => view_to_open_order(conn, *truck, from_end, to_end, type_id),
+        Command::Load { truck, order, bike } => view_to_load(alloc, conn, *truck, *order, *bike),
+        Command::Unload {
+            truck,
+            order,
+            bike,
+            side,
+            dock,
+        } => view_to_unload(alloc, conn, *truck, *order, *bike, *side, *dock),
+        Command::CloseOrder { order } => view_to_close_order(alloc, conn, *order),
+    }
+}
