@@ -9,11 +9,11 @@ use Rattle.sqlite.specs.Held.{Held, state}
 use Rattle.sqlite.specs.Schema.{Schema}
 use Rattle.sqlite_trees.specs.View.{doubt}
 use Rattle.sqlite_trees.specs.declared.memory.MemStore.{MemStore}
-use Rattle.bike_small.specs.Operator.{Operator, no_operator}
-use Rattle.bike_small.specs.Runs.{Call}
-use Rattle.bike_small.specs.Sound.{IsCall, AreCalls}
-use Rattle.bike_tables.specs.Tables.{HasNone}
-use Rattle.bike_tables.specs.Stored.{AllLeft, TreesStandFor}
+use Rattle.bike_operator.specs.Operator.{Operator, no_operator}
+use Rattle.bike_operator.specs.Runs.{Call}
+use Rattle.bike_operator.specs.Sound.{IsCall, AreCalls}
+use Rattle.bike_schema.specs.Tables.{HasNone}
+use Rattle.bike_schema.specs.Stands.{AllLeft, TreesStandFor}
 use Rattle.bike_desk.specs.Desk.{DeskValue, shown}
 use Rattle.bike_desk.specs.declared.fault.DeskFault.{DeskFault}
 use Rattle.bike_desk.specs.declared.fault.DeskFault.TheVariants.{NoMemory, StoreFailed, Stopped}
@@ -54,7 +54,7 @@ no_tables = record { tables = []; indexes = []; views = [] }
 
 none_in : HasNone no_tables
 unfolding no_tables
-none_in = record { meta = refl; riders = refl; entries = refl; kept = refl; unreferring = tt }
+none_in = refl
 
 pub memory_is_clean : (h : Held MemStore) → HasCleanDisk (state over_memory h)
 unfolding doubt

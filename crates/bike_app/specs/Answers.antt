@@ -7,8 +7,8 @@ use Rattle.bike_commands.specs.declared.reply.Reply.TheVariants.{Refused}
 use Rattle.bike_commands.specs.declared.refusal.Refusal.TheVariants.{BadField}
 use Rattle.bike_commands.specs.Replies.{reply_text}
 use Rattle.bike_commands.specs.Requests.{IsRequest, IsLine}
-use Rattle.bike_small.specs.Operator.{Operator}
-use Rattle.bike_small.specs.Runs.{Call, step}
+use Rattle.bike_operator.specs.Operator.{Operator}
+use Rattle.bike_operator.specs.Runs.{Call, step}
 
 -- the line spells the request at the moment, or spells none
 abbrev pub IsReadAs : List ℕ → Option Call → Type 0

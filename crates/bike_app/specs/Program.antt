@@ -6,10 +6,10 @@ use Rattle.sqlite.specs.Steps.{over_memory}
 use Rattle.sqlite.specs.Held.{Held}
 use Rattle.sqlite.specs.Tree.{Trees}
 use Rattle.sqlite_trees.specs.declared.memory.MemStore.{MemStore}
-use Rattle.bike_small.specs.Operator.{Operator, no_operator}
-use Rattle.bike_small.specs.Runs.{Call, after}
-use Rattle.bike_small.specs.Sound.{AreCalls}
-use Rattle.bike_tables.specs.Stored.{TreesStandFor}
+use Rattle.bike_operator.specs.Operator.{Operator, no_operator}
+use Rattle.bike_operator.specs.Runs.{Call, after}
+use Rattle.bike_operator.specs.Sound.{AreCalls}
+use Rattle.bike_schema.specs.Stands.{TreesStandFor}
 use Rattle.bike_desk.specs.Desk.{DeskValue}
 use Rattle.bike_desk.specs.declared.adopt.AdoptFault.{AdoptFault}
 use Rattle.bike_desk.specs.Adoption.{handed, IsToldOf}

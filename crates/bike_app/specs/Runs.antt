@@ -3,10 +3,10 @@ use Rattle.std.specs.Prelude.{◌≡◌, ◌⊎◌, ℕ, ◌+◌, ◌<◌, ◌�
 use Rattle.std.specs.Io.KnownBytes.{Appends, Keeps, IsAtEnd}
 use Rattle.sqlite.specs.Store.{Ghosts}
 use Rattle.bike_commands.specs.Requests.{line_length}
-use Rattle.bike_small.specs.Operator.{Operator}
-use Rattle.bike_small.specs.Runs.{Call, step, after}
-use Rattle.bike_small.specs.Sound.{IsCall, AreCalls}
-use Rattle.bike_tables.specs.Stored.{AllLeft}
+use Rattle.bike_operator.specs.Operator.{Operator}
+use Rattle.bike_operator.specs.Runs.{Call, step, after}
+use Rattle.bike_operator.specs.Sound.{IsCall, AreCalls}
+use Rattle.bike_schema.specs.Stands.{AllLeft}
 use Rattle.bike_desk.specs.Desk.{DeskValue, shown, IsAt, TreesStandForEither}
 use Rattle.bike_desk.specs.declared.fault.DeskFault.{DeskFault}
 use Rattle.bike_desk.specs.declared.fault.DeskFault.TheVariants.{NoMemory, StoreFailed, Stopped}

@@ -5,9 +5,9 @@ use Rattle.sqlite.specs.State.{HasCleanDisk}
 use Rattle.sqlite_trees.specs.View.{doubt}
 use Rattle.bike_commands.specs.declared.reply.Reply.{Reply}
 use Rattle.bike_commands.specs.Requests.{line_length}
-use Rattle.bike_small.specs.Operator.{Operator}
-use Rattle.bike_small.specs.Runs.{Call, step}
-use Rattle.bike_tables.specs.Stored.{AllLeft}
+use Rattle.bike_operator.specs.Operator.{Operator}
+use Rattle.bike_operator.specs.Runs.{Call, step}
+use Rattle.bike_schema.specs.Stands.{AllLeft}
 use Rattle.bike_desk.specs.Desk.{DeskValue, shown, IsAt, TreesStandForEither}
 use Rattle.bike_desk.specs.declared.fault.DeskFault.{DeskFault}
 use Rattle.bike_desk.specs.declared.fault.DeskFault.TheVariants.{NoMemory, StoreFailed, Stopped}

@@ -5,7 +5,7 @@ ghost use Rattle.std.specs.Io.KnownBytes.{Keeps};
 ghost use Rattle.sqlite.specs.State.{HasCleanDisk};
 ghost use Rattle.sqlite_trees.specs.View.{doubt};
 ghost use Rattle.bike_commands.specs.Replies.{reply_text};
-ghost use Rattle.bike_small.specs.Operator.{Operator};
+ghost use Rattle.bike_operator.specs.Operator.{Operator};
 ghost use Rattle.bike_desk.specs.Desk.{shown, IsAt};
 ghost use Rattle.bike_desk.specs.Runs.{StopsBy};
 ghost use Rattle.bike_app.specs.Serving.{RepliesTo};

@@ -4,8 +4,8 @@ ghost use Rattle.std.specs.Prelude.{◌≡◌, ◌≤◌, false, IsTrue, IfOk};
 ghost use Rattle.sqlite.specs.State.{HasCleanDisk};
 ghost use Rattle.sqlite.specs.Held.{state};
 ghost use Rattle.sqlite_trees.specs.View.{doubt};
-ghost use Rattle.bike_small.specs.Operator.{Operator};
-ghost use Rattle.bike_tables.specs.Stored.{AllLeft, TreesStandFor};
+ghost use Rattle.bike_operator.specs.Operator.{Operator};
+ghost use Rattle.bike_schema.specs.Stands.{AllLeft, TreesStandFor};
 ghost use Rattle.bike_app.specs.Program.{Serves, StandsAfterSome, ServesInMemory, AnswersText};
 
 use crate::end::Fault;

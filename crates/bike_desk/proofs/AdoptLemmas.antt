@@ -1,35 +1,40 @@
 -- From an empty database to a desk.
-use Rattle.std.proofs.Common.{◌≡◌, inl, inr, ℕ, ◌+◌, pos, true, false, IsTrue, List, [], ◌∷◌, length, Ok, Some, None, Result, codes, refl, sym, ap, ◌∙◌, subst, arith}
+use Rattle.std.proofs.Common.{◌≡◌, inl, inr, ℕ, ◌+◌, pos, true, false, IsTrue, List, [], ◌∷◌, length, Ok, Some, None, Result, codes, refl, sym, ap, ◌∙◌, subst, arith, Bool, filter}
 use Rattle.std.specs.List.{AllZip}
+use Rattle.std.specs.declared.cmp.Ordering.{Ordering}
+use Rattle.std.specs.FinMap as map
+use Rattle.std.specs.FinSet as set
 use Rattle.sqlite_value.specs.declared.value.Value.{Value}
 use Rattle.sqlite_value.specs.declared.value.Value.TheVariants.{Int, Text}
-use Rattle.sqlite_trees.specs.Tree.{rowid}
+use Rattle.sqlite_trees.specs.Tree.{Trees, rowid}
+use Rattle.sqlite_trees.specs.declared.store.Store.{Ghosts}
+use Rattle.sqlite_schema.specs.declared.schema.Table.{Table}
+use Rattle.sqlite_schema.specs.declared.schema.Schema.{Schema}
 use Rattle.sqlite_schema.specs.Names.{table_named}
 use Rattle.sqlite_resolve.specs.Compile.{table_defined_by}
-use Rattle.sqlite_catalog.specs.Listing.{IsTableRow, IsSound as IsListing}
+use Rattle.sqlite_catalog.specs.Listing.{IsTableRow, IsSound as IsSchemaOf}
 use Rattle.sqlite.specs.Order.{Row, column}
-use Rattle.sqlite.specs.Tree.{Trees}
-use Rattle.sqlite.specs.Table.{Table}
-use Rattle.sqlite.specs.Schema.{Schema}
-use Rattle.sqlite.specs.Store.{Ghosts}
 use Rattle.sqlite.specs.Effect.{Database, IsDatabase}
 use Rattle.sqlite.specs.State.{HasCleanDisk, Survives, Shows, IsLive}
 use Rattle.sqlite.specs.Held.{Held, state}
 use Rattle.sqlite.proofs.StateLemmas.{survives_then}
 use Rattle.sqlite.proofs.Callers.{survives_begin}
-use Rattle.std.specs.Ordering.{nat_cmp}
-use Rattle.std.specs.Cmp.Lexicographic.{slice_cmp}
-use Rattle.std.specs.FinMap as map
-use Rattle.bike_small.specs.Operator.{Operator, Rider, Kept, no_operator}
-use Rattle.bike_small.specs.Sound.{IsSound, IsRiderNumber, IsKept, EachEntry}
-use Rattle.bike_tables.specs.Tables.{HasNone}
-use Rattle.bike_tables.specs.Stored.{IsOf, StandsFor, TreesStandFor, AllLeft}
-use Rattle.bike_tables.specs.Changes.{IsFresh, Creates}
-use Rattle.bike_tables.specs.declared.fault.StatementFault.{StatementFault}
-use Rattle.bike_tables.specs.declared.fault.StatementFault.TheVariants.{NoMemory, StoreFailed}
+use Rattle.bike_rows.proofs.ListLemmas.{no_list}
+use Rattle.bike_operator.specs.Operator.{Operator, Key, DockKey, key_of, no_operator, texts_cmp}
+use Rattle.bike_operator.specs.declared.records.Bike.{Bike}
+use Rattle.bike_operator.specs.Counts.{count, available_of}
+use Rattle.bike_counts.specs.Numbers.{disabled_of}
+use Rattle.bike_laws.proofs.NoOperatorLemmas.{none_sound}
+use Rattle.bike_book.specs.Tables.{Meta}
+use Rattle.bike_book.specs.Stored.{none_listed, IsListing}
+use Rattle.bike_schema.specs.Tables.{HasNone}
+use Rattle.bike_schema.specs.Stands.{IsOf, StandsFor, TreesStandFor, AllLeft}
+use Rattle.bike_schema.specs.Creates.{IsFresh, Creates}
+use Rattle.bike_schema.specs.declared.fault.StatementFault.{StatementFault}
+use Rattle.bike_schema.specs.declared.fault.StatementFault.TheVariants.{NoMemory, StoreFailed}
 use Rattle.bike_desk.specs.Adoption.{AreFresh, handed, unmade}
 use Rattle.bike_desk.specs.Desk.{IsAt}
-use Rattle.bike_desk.proofs.KeepLemmas.{Settles, stands_in, settled_keeps}
+use Rattle.bike_desk.proofs.KeepLemmas.{Settles, no_meta, stands_in, settled_keeps}
 
 -- ---- trees list one set of tables
 
@@ -57,7 +62,7 @@ same_listed (r ∷ rows) (a ∷ ts) [] p q = absurd q
 same_listed (r ∷ rows) [] us p q = absurd p
 same_listed (r ∷ rows) (a ∷ ts) (b ∷ us) p q = ap (λ x. x ∷ ts) (same_table r a b p.0 q.0) ∙ ap (λ xs. b ∷ xs) (same_listed rows ts us p.1 q.1)
 
-pub same_tables : (a b : Schema) (trees : Trees) → IsListing a trees → IsListing b trees → a.tables ≡ b.tables
+pub same_tables : (a b : Schema) (trees : Trees) → IsSchemaOf a trees → IsSchemaOf b trees → a.tables ≡ b.tables
 same_tables a b trees p q = same_listed _ a.tables b.tables p.lists.listed.tables q.lists.listed.tables
 
 same_place : (a b : Schema) (name : List ℕ) (at : ℕ) → a.tables ≡ b.tables → table_named a name ≡ Some at → table_named b name ≡ None → ⊥
@@ -66,7 +71,7 @@ same_place a b name at same there none =
 
 nobody_in : (schema : Schema) (db : Database) (s : Operator) → schema.tables ≡ db.schema.tables → HasNone db.schema → IsOf (record { schema = schema; trees = db.trees }) s → s ≡ no_operator
 nobody_in schema db s same none (inl h) = h.1
-nobody_in schema db s same none (inr h) = absurd (same_place schema db.schema (codes "meta") h.0.meta.at same h.0.meta.has.found none.meta)
+nobody_in schema db s same none (inr h) = let meta = h.has Meta in absurd (same_place schema db.schema (codes "meta") meta.at same meta.has.found (no_meta db.schema none))
 
 -- where there are none of the tables, the trees stand for the empty operator alone
 pub nobody_else : (db : Database) (s : Operator) → IsDatabase db → HasNone db.schema → TreesStandFor s db.trees → s ≡ no_operator
@@ -74,39 +79,45 @@ nobody_else db s sound none h = nobody_in h.0 db s (same_tables h.0 db.schema db
 
 -- ---- the empty tables
 
-pub fresh_stands : (db : Database) → IsFresh db → IsSound no_operator → StandsFor db no_operator
-fresh_stands db h order = record { sound = h.sound; is = inr (h.has, order, h.tables) }
+no_entries : {K X : Type 0} (R : K → K → Ordering) → map.entries (map.empty {X = X} {R = R}) ≡ []
+no_entries {K} {X} R = no_list _ (sym (map.len-entries (map.empty {X = X} {R = R})) ∙ map.len-empty R X)
 
-each_of_none : {K X : Type 0} (P : K → X → Type 0) (es : List (K × X)) → length es ≡ 0 → EachEntry P es
-each_of_none P [] none = tt
-each_of_none P (e ∷ es) none = absurd (omega (arith, none))
+none_counted : (test : ℕ × Bike → Bool) → count test (map.entries no_operator.bikes) ≡ 0
+none_counted test = ap (count test) (no_entries _)
 
-pub empty_sound : IsSound no_operator
-empty_sound =
-    let riders = map.len-empty nat_cmp Rider in
-    let kept = map.len-empty (slice_cmp (slice_cmp nat_cmp)) Kept in
-    record {
-      riders = each_of_none (λ rider _. IsRiderNumber rider) (map.entries no_operator.riders) (sym (map.len-entries no_operator.riders) ∙ riders);
-      few_riders = omega (arith, riders);
-      entries = tt;
-      few_entries = omega arith;
-      kept = each_of_none IsKept (map.entries no_operator.kept) (sym (map.len-entries no_operator.kept) ∙ kept);
-      now = omega arith;
-    }
+no_row : (key : Key) → map.contains_key none_listed.counts key ≡ true → ⊥
+no_row key e = let none = map.get-empty {X = Unit {0}} texts_cmp key in absurd cc
+
+no_dock_row : (key : DockKey) → map.contains_key none_listed.docks key ≡ true → ⊥
+no_dock_row key e = let none = map.get-empty {X = Unit {0}} texts_cmp key in absurd cc
+
+no_broken_dock : (key : DockKey) → set.contains no_operator.broken key ≡ true → ⊥
+no_broken_dock key e = let none = set.contains-empty texts_cmp key in absurd cc
+
+pub none_listing : IsListing no_operator none_listed
+none_listing = record {
+  docks = λ key there. absurd (no_dock_row key there);
+  marked = λ key broken. absurd (no_broken_dock key broken);
+  counts = λ key there. absurd (no_row key there);
+  counted = λ station type_id _. (none_counted _, none_counted _);
+}
+
+pub fresh_stands : (old db : Database) → IsFresh old db → StandsFor db no_operator
+fresh_stands old db h = record { sound = h.sound; is = inr (record { has = h.has; sound = none_sound; listed = none_listed; listing = none_listing; tables = h.tables }) }
 
 module _ {S : Type 0} (g : Ghosts S) (old last end : Held S)
     (made : HasCleanDisk (state g last) → Creates (state g (record old { in_transaction = true })) (state g last)) (calm : Survives (state g (record old { in_transaction = true })) (state g last) (λ _. ⊥)) where
-  pub tables_leave : Survives (state g last) (state g end) (λ db. db ≡ (state g last).now.trees) → Survives (state g old) (state g end) AreFresh
-  tables_leave commit = survives_then (state g old) (state g last) (state g end) _ _ AreFresh (λ _ db none. absurd none)
+  pub tables_leave : Survives (state g last) (state g end) (λ db. db ≡ (state g last).now.trees) → Survives (state g old) (state g end) (AreFresh (state g old).now)
+  tables_leave commit = survives_then (state g old) (state g last) (state g end) _ _ (AreFresh (state g old).now) (λ _ db none. absurd none)
       (λ clean db is. ((state g last).now, (made (omega (arith, commit.clean))).fresh, is))
       (survives_begin g old (state g last) _ calm) commit
 
 -- an adopted connection is at the empty operator
-pub fresh_at : {S : Type 0} (g : Ghosts S) → Settles g → (old end : Held S) → Shows (state g old) (state g end) (state g end).now (state g end).now false → IsFresh (state g end).now
+pub fresh_at : {S : Type 0} (g : Ghosts S) → Settles g → (old end : Held S) → Shows (state g old) (state g end) (state g end).now (state g end).now false → IsFresh (state g old).now (state g end).now
     → IsAt g (record { conn = end; is_stopped = end.in_transaction }) no_operator
 fresh_at g settles old end shown fresh = record {
   goes_on = shown.mode;
-  keeps = settled_keeps g settles end no_operator shown.is_open shown.mode shown.committed_is (fresh_stands (state g end).now fresh empty_sound) fresh.has;
+  keeps = settled_keeps g settles end no_operator shown.is_open shown.mode shown.committed_is (fresh_stands (state g old).now (state g end).now fresh) fresh.has;
 }
 
 module _ {S : Type 0} (g : Ghosts S) (settles : Settles g) (old : Held S) (settled : IsTrue (state g old).is_open → (state g old).now ≡ (state g old).committed) where
@@ -114,11 +125,11 @@ module _ {S : Type 0} (g : Ghosts S) (settles : Settles g) (old : Held S) (settl
   pub in_left : (s : Operator) → TreesStandFor s (state g old).now.trees → IsTrue (state g old).is_open → AllLeft (state g old) (TreesStandFor s)
   in_left s stands live db h = subst (TreesStandFor s) (sym (settles old.store db live h ∙ sym (ap (λ (d : Database). d.trees) (settled live)))) stands
 
-  pub left_after : (end : Held S) → IsLive (state g old) → HasNone (state g old).now.schema → HasCleanDisk (state g end) → Survives (state g old) (state g end) AreFresh
+  pub left_after : (end : Held S) → IsLive (state g old) → HasNone (state g old).now.schema → HasCleanDisk (state g end) → Survives (state g old) (state g end) (AreFresh (state g old).now)
       → (s : Operator) → TreesStandFor s (state g old).now.trees → IsTrue (state g old).is_open → AllLeft (state g end) (TreesStandFor s)
   left_after end sound none clean crash s stands live db h = elim (crash.crash clean db h) [
     | inl before ↦ in_left s stands live db before
-    | inr made ↦ subst (λ o. TreesStandFor o db) (sym (nobody_else (state g old).now s (sound live).0 none stands)) (stands_in made.0 db no_operator (fresh_stands made.0 made.1 empty_sound) made.2)
+    | inr made ↦ subst (λ o. TreesStandFor o db) (sym (nobody_else (state g old).now s (sound live).0 none stands)) (stands_in made.0 db no_operator (fresh_stands (state g old).now made.0 made.1) made.2)
   ]
 
 -- an adopted connection is at whomever its trees stood for

@@ -1,31 +1,25 @@
 -- Row changes one after the other.
-use Rattle.std.proofs.Common.{◌≡◌, ℕ, ◌+◌, ◌<◌, List, [], ◌∷◌, ◌++◌, true, IsTrue, refl, sym, ap, ◌∙◌, take, length, get_or, add-one}
+use Rattle.std.proofs.Common.{◌≡◌, ℕ, ◌+◌, ◌<◌, List, [], ◌∷◌, ◌++◌, true, IsTrue, refl, sym, ap, ◌∙◌, subst, take, length, get_or, add-one}
 use Rattle.std.proofs.Math.Seq.{take-suc}
 use Rattle.sqlite.specs.State.{State}
-use Rattle.bike_tables.specs.declared.rows.RowChange.{RowChange}
-use Rattle.bike_tables.specs.Tables.{Tables, tables_of, HasTables}
-use Rattle.bike_tables.specs.Changes.{made, all_made, Puts}
+use Rattle.bike_book.specs.declared.row_change.RowChange.{RowChange}
+use Rattle.bike_book.specs.Writes.{RowWrite, write_of, writes_of}
+use Rattle.bike_schema.specs.Tables.{IsOurs}
+use Rattle.bike_schema.specs.Makes.{Puts}
+use Rattle.bike_schema.proofs.MakesLemmas.{makes_none, puts_then}
 
-all_made-append : (xs : List RowChange) (c : RowChange) (t : Tables) → all_made (xs ++ c ∷ []) t ≡ made c (all_made xs t)
-all_made-append [] c t = refl
-all_made-append (x ∷ xs) c t = all_made-append xs c (made x t)
+writes_more : (xs : List RowChange) (c : RowChange) → writes_of (xs ++ c ∷ []) ≡ writes_of xs ++ write_of c ∷ []
+writes_more [] c = refl
+writes_more (x ∷ xs) c = ap (λ (ws : List RowWrite). write_of x ∷ ws) (writes_more xs c)
 
-pub none_put : (s : State) → IsTrue s.is_open → s.in_transaction ≡ true → Puts [] s s
-none_put s live inside = record {
-  shown = record { was_open = live; is_open = live; now_is = refl; committed_is = refl; mode = inside };
-  makes = record { schema = refl; sound = λ h. h; has = λ h. h; tables = λ _. refl };
+pub none_put : (s : State) → IsTrue s.is_open → s.in_transaction ≡ true → IsOurs s.now → Puts [] s s
+none_put s live inside ours = record {
+  continues = record { was_open = live; is_open = live; now_is = refl; committed_is = refl; mode = inside };
+  makes = makes_none s.now ours.sound ours.has;
 }
 
-pub put_more : (xs : List RowChange) (c : RowChange) (a b d : State) → Puts xs a b → Puts (c ∷ []) b d → HasTables a.now → Puts (xs ++ c ∷ []) a d
-put_more xs c a b d one two all = record {
-  shown = record { was_open = one.shown.was_open; is_open = two.shown.is_open; now_is = refl; committed_is = two.shown.committed_is ∙ one.shown.committed_is; mode = two.shown.mode };
-  makes = record {
-    schema = two.makes.schema ∙ one.makes.schema;
-    sound = λ h. two.makes.sound (one.makes.sound h);
-    has = λ h. two.makes.has (one.makes.has h);
-    tables = λ h. two.makes.tables (one.makes.has h) ∙ ap (made c) (one.makes.tables h) ∙ sym (all_made-append xs c (tables_of a.now));
-  };
-}
+pub put_more : (xs : List RowChange) (c : RowChange) (a b d : State) → Puts (writes_of xs) a b → Puts (write_of c ∷ []) b d → Puts (writes_of (xs ++ c ∷ [])) a d
+put_more xs c a b d one two = subst (λ (ws : List RowWrite). Puts ws a d) (sym (writes_more xs c)) (puts_then (writes_of xs) (write_of c ∷ []) a b d one two)
 
 take-next : {A : Type 0} (xs : List A) (i : ℕ) (d : A) → i < length xs → take (i + 1) xs ≡ take i xs ++ get_or xs i d ∷ []
 take-next xs i d h = ap (λ n. take n xs) (add-one i) ∙ take-suc xs i d h

@@ -2,12 +2,12 @@
 use Rattle.std.proofs.Common.{IsTrue, ◌≡◌, inl, inr, ℕ, ◌+◌, ◌<◌, ◌++◌, [], ◌∷◌, List, take, length, get_or, refl, sym, ap, ◌∙◌, subst, arith, Option, Some, None}
 use Rattle.std.proofs.lemmas.List.{take_all}
 use Rattle.std.proofs.lemmas.Bool.{both_ways}
-use Rattle.sqlite.specs.Store.{Ghosts}
+use Rattle.sqlite_trees.specs.declared.store.Store.{Ghosts}
 use Rattle.bike_commands.specs.declared.reply.Reply.{Reply}
-use Rattle.bike_small.specs.Operator.{Operator}
-use Rattle.bike_small.specs.Runs.{Call, step, after, replies}
-use Rattle.bike_small.proofs.RunLemmas.{after-append, replies-append}
-use Rattle.bike_tables.specs.Stored.{AllLeft, TreesStandFor}
+use Rattle.bike_operator.specs.Operator.{Operator}
+use Rattle.bike_operator.specs.Runs.{Call, step, after, replies}
+use Rattle.bike_laws.proofs.RunLemmas.{after-append, replies-append}
+use Rattle.bike_schema.specs.Stands.{AllLeft, TreesStandFor}
 use Rattle.bike_desk.specs.declared.fault.DeskFault.{DeskFault}
 use Rattle.bike_desk.specs.declared.fault.DeskFault.TheVariants.{NoMemory, StoreFailed, Stopped}
 use Rattle.bike_desk.specs.Desk.{DeskValue, shown, IsAt, TreesStandForEither}

@@ -1,8 +1,9 @@
 -- One step, as serving takes it.
-use Rattle.std.proofs.Common.{◌≡◌, ℕ, ◌≤◌, List, [], ◌∷◌, cond, Option, Some, None, Ok, Err, sym, ap, ap₂, ◌∙◌, subst, arith}
+use Rattle.std.proofs.Common.{◌≡◌, ℕ, ◌≤◌, List, [], ◌∷◌, true, cond, Option, Some, None, Ok, Err, refl, sym, ap, ap₂, ◌∙◌, subst, arith}
 use Rattle.std.specs.Prelude.{max, string_bytes}
 use Rattle.std.specs.Str.{bytes_eq}
 use Rattle.std.specs.FinMap as map
+use Rattle.sqlite.specs.State.{State}
 use Rattle.bike_fixed.specs.Whole.{last_moment}
 use Rattle.bike_commands.specs.declared.request.Request.{Request}
 use Rattle.bike_commands.specs.declared.reply.Reply.{Reply}
@@ -11,16 +12,30 @@ use Rattle.bike_commands.specs.declared.refusal.Refusal.{Refusal}
 use Rattle.bike_commands.specs.declared.refusal.Refusal.TheVariants as refusal
 use Rattle.bike_commands.specs.Commands.{text_of}
 use Rattle.bike_commands.specs.Requests.{IsRequest}
-use Rattle.bike_small.specs.declared.change.Accepted.{Accepted}
-use Rattle.bike_small.specs.declared.change.Change.{Change}
-use Rattle.bike_small.specs.Operator.{Operator, Kept}
-use Rattle.bike_small.specs.Sound.{IsSound}
-use Rattle.bike_small.specs.Steps.{refused, reply_of}
-use Rattle.bike_small.specs.Changes.{present, all_changed, Decides}
-use Rattle.bike_small.specs.Runs.{step, answered, decided, accepted, key_in}
-use Rattle.bike_small.proofs.OrderLemmas.{step_sound}
-use Rattle.bike_tables.specs.declared.rows.KeptRow.{KeptRow}
-use Rattle.bike_desk.specs.Serving.{Accepts, KeepsSame}
+use Rattle.bike_ledger.specs.Entries.{Entry}
+use Rattle.bike_operator.specs.declared.change.Accepted.{Accepted}
+use Rattle.bike_operator.specs.declared.change.Change.{Change}
+use Rattle.bike_operator.specs.declared.view.View.{View}
+use Rattle.bike_operator.specs.Operator.{Operator, Kept}
+use Rattle.bike_operator.specs.Sound.{IsSound}
+use Rattle.bike_operator.specs.Steps.{refused, reply_of}
+use Rattle.bike_operator.specs.Changes.{Decides}
+use Rattle.bike_operator.specs.Runs.{step, answered, decided, accepted, key_in}
+use Rattle.bike_laws.proofs.OrderLemmas.{step_sound}
+use Rattle.bike_book.specs.declared.row_change.RowChange.{RowChange}
+use Rattle.bike_book.specs.Stored.{Listed, IsListing}
+use Rattle.bike_schema.specs.Tables.{tables_of}
+use Rattle.bike_schema.specs.Stands.{Stores, Keeps}
+use Rattle.bike_accounts.specs.declared.kept.KeptRow.{KeptRow}
+use Rattle.bike_accounts.specs.declared.meta.MetaRow.{MetaRow}
+use Rattle.bike_accounts.specs.Accounts.{KeepsSame, meta_of}
+use Rattle.bike_booking.specs.declared.stored.StoredNumbers.{StoredNumbers}
+use Rattle.bike_booking.specs.declared.stored.Sums.{Sums}
+use Rattle.bike_booking.specs.declared.touched.Touched.{Touched}
+use Rattle.bike_booking.specs.declared.texts.KeptTexts.{KeptTexts}
+use Rattle.bike_booking.specs.Booking.{AreOfTouched, AreSums, IsAccepted, AreTexts, Books}
+use Rattle.bike_booking.specs.Touched.{IsTouched}
+use Rattle.bike_desk.specs.Serving.{IsNextBy, IsReadFor, Accepts}
 
 module _ (s : Operator) (t : ℕ) (q : Request) where
   -- a kept key
@@ -44,11 +59,34 @@ module _ (s : Operator) (t : ℕ) (q : Request) where
     pub step_accepted : refused s q.command ≡ None → step s t q ≡ (reply_of s now q.command, accepted s now q)
     step_accepted free = ap (answered s t q) anew ∙ ap (decided s (max t s.now) q) free ∙ ap (λ (n : ℕ). let p : Reply × Operator = (reply_of s n q.command, accepted s n q) in p) (sym later)
 
-    pub accepts_of : (a : Accepted) (change : Change) → t ≤ last_moment → IsRequest q → IsSound s → Decides s now q.command (Ok a) → present a.changes ≡ change ∷ [] → Accepts s now q (change ∷ [])
-    accepts_of a change moment good order decides only = record {
-      later = omega (arith, later);
-      anew = anew;
-      free = decides.0;
-      makes = ap (λ cs. all_changed cs s) (sym only) ∙ decides.2;
-      order = subst (λ (p : Reply × Operator). IsSound p.1) (step_accepted decides.0) (step_sound s t q moment good order);
-    }
+    -- the operator after it is sound
+    pub accepted_sound : t ≤ last_moment → IsRequest q → IsSound s → refused s q.command ≡ None → IsSound (accepted s now q)
+    accepted_sound moment good order free = subst (λ (p : Reply × Operator). IsSound p.1) (step_accepted free) (step_sound s t q moment good order)
+
+-- the sums that were read are those of the entries
+pub sums_are : (s : Operator) (meta : MetaRow) → meta ≡ meta_of s → AreSums s (record { cash = meta.cash; revenue = meta.revenue })
+sums_are s meta is = (ap (λ (m : MetaRow). m.cash) is, ap (λ (m : MetaRow). m.revenue) is)
+
+-- what is booked leads on, from the same rows after a read
+pub booked_next : (old new : State) (s : Operator) (now : ℕ) (q : Request) (h : Stores old.now s) (rows : List RowChange) → new.now ≡ old.now → Keeps new s → IsSound (accepted s now q) → Books rows s h.listed now q → IsNextBy new rows s (accepted s now q)
+booked_next old new s now q h rows same keeps sound books =
+    let again : Stores new.now s = record { has = keeps.tables; sound = h.sound; listed = h.listed; listing = h.listing; tables = ap tables_of same ∙ h.tables } in
+    record { keeps = keeps; stores = again; listed = books.listed; leads = books.leads; sound = sound }
+
+pub accepts_reads : (s : Operator) (m : Listed) (now : ℕ) (q : Request) (meta : MetaRow) (view : View) (entry : Option Entry) (changes : List (Option Change)) (texts : KeptTexts) (touched : Option Touched) (n : StoredNumbers)
+    → IsSound s → IsListing s m → (it : Accepts s now q meta view entry changes texts) → IsTouched s q.command touched → AreOfTouched s m touched n
+    → IsAccepted s m now q view touched n (record { reply = it.reply; entry = entry; changes = changes })
+accepts_reads s m now q meta view entry changes texts touched n sound listing it touches stored =
+    record { sound = sound; listing = listing; view_is = it.view_is; touches = touches; stored = stored; decides = it.decides; sound_after = it.sound_after }
+
+-- the operator accepts a request by the decision on what was read for it
+pub accepts_read : (s : Operator) (t now : ℕ) (q : Request) (meta : MetaRow) (view : View) (a : Accepted) (texts : KeptTexts) → IsSound s → IsReadFor s t now q meta view → IsRequest q
+    → Decides s now q.command (Ok a) → AreTexts s now q texts → Accepts s now q meta view a.entry a.changes texts
+accepts_read s t now q meta view a texts sound it good decides told = record {
+  meta_is = it.meta_is;
+  view_is = it.view_is;
+  reply = a.reply;
+  decides = decides;
+  sound_after = accepted_sound s t q now it.later it.anew it.in_time good sound decides.0;
+  texts_are = told;
+}

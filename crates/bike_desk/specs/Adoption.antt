@@ -1,19 +1,19 @@
 -- What an adoption that fails hands back.
 use Rattle.std.specs.Prelude.{◌≡◌, ℕ, List, codes}
-use Rattle.sqlite.specs.Store.{Ghosts}
+use Rattle.sqlite_trees.specs.declared.store.Store.{Ghosts}
+use Rattle.sqlite_trees.specs.Tree.{Trees}
 use Rattle.sqlite.specs.Held.{Held, state}
-use Rattle.sqlite.specs.Tree.{Trees}
 use Rattle.sqlite.specs.Effect.{Database}
-use Rattle.bike_tables.specs.Tables.{HasNone}
-use Rattle.bike_tables.specs.Changes.{IsFresh}
-use Rattle.bike_tables.specs.declared.fault.StatementFault.{StatementFault}
-use Rattle.bike_tables.specs.declared.fault.StatementFault.TheVariants as statement
+use Rattle.bike_schema.specs.Tables.{HasNone}
+use Rattle.bike_schema.specs.Creates.{IsFresh}
+use Rattle.bike_schema.specs.declared.fault.StatementFault.{StatementFault}
+use Rattle.bike_schema.specs.declared.fault.StatementFault.TheVariants as statement
 use Rattle.bike_desk.specs.declared.adopt.AdoptFault.{AdoptFault}
 use Rattle.bike_desk.specs.declared.adopt.AdoptFault.TheVariants.{Foreign, NoMemory, StoreFailed}
 
--- the trees hold the empty tables
-abbrev pub AreFresh : Trees → Type 0
-AreFresh trees = (db : Database) × IsFresh db × (trees ≡ db.trees)
+-- the trees hold the empty tables, beside the other tables of this database
+abbrev pub AreFresh : Database → Trees → Type 0
+AreFresh old trees = (db : Database) × IsFresh old db × (trees ≡ db.trees)
 
 module _ {S : Type 0} where
   -- the connection in a fault

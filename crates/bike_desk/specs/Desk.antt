@@ -1,12 +1,12 @@
 -- What contracts see of a desk, and when it stands for an operator.
 use Rattle.std.specs.Prelude.{◌≡◌, ◌⊎◌, Bool, false, refl}
 use Rattle.std.specs.Coded.{Coded, code_by, coded×, coded_bool}
-use Rattle.sqlite.specs.Tree.{Trees}
-use Rattle.sqlite.specs.Store.{Ghosts}
+use Rattle.sqlite_trees.specs.Tree.{Trees}
+use Rattle.sqlite_trees.specs.declared.store.Store.{Ghosts}
 use Rattle.sqlite.specs.State.{State}
 use Rattle.sqlite.specs.Held.{Held, held_code, state}
-use Rattle.bike_small.specs.Operator.{Operator}
-use Rattle.bike_tables.specs.Stored.{Keeps, TreesStandFor}
+use Rattle.bike_operator.specs.Operator.{Operator}
+use Rattle.bike_schema.specs.Stands.{Keeps, TreesStandFor}
 
 -- a connection, and whether the desk serves no more
 pub record DeskValue (S : Type 0) : Type 0 where

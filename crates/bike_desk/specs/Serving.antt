@@ -1,49 +1,48 @@
--- What serving one request reads and writes.
-use Rattle.std.specs.Prelude.{◌≡◌, ◌≤◌, ℕ, List, Option, Some, None, string_bytes}
+-- What serving one request rests on.
+use Rattle.std.specs.Prelude.{◌≡◌, ◌≤◌, ℕ, max, List, Option, None, Ok}
 use Rattle.std.specs.FinMap as map
-use Rattle.bike_ledger.specs.Ledger.{cash_of, revenue_of}
-use Rattle.bike_commands.specs.declared.request.Request.{Request}
+use Rattle.sqlite.specs.State.{State}
+use Rattle.bike_fixed.specs.Whole.{last_moment}
+use Rattle.bike_ledger.specs.Entries.{Entry}
 use Rattle.bike_commands.specs.declared.reply.Reply.{Reply}
-use Rattle.bike_commands.specs.Commands.{text_of}
-use Rattle.bike_fields.specs.Caller.{caller_text}
-use Rattle.bike_commands.specs.Replies.{reply_text}
-use Rattle.bike_small.specs.declared.change.Change.{Change}
-use Rattle.bike_small.specs.Operator.{Operator, Kept}
-use Rattle.bike_small.specs.Sound.{IsSound}
-use Rattle.bike_small.specs.Steps.{refused, effect}
-use Rattle.bike_small.specs.Changes.{all_changed}
-use Rattle.bike_small.specs.Runs.{key_in, accepted}
-use Rattle.bike_tables.specs.declared.rows.KeptRow.{KeptRow}
-use Rattle.bike_tables.specs.declared.rows.MetaRow.{MetaRow}
-use Rattle.bike_tables.specs.declared.rows.RowChange.{RowChange}
-use Rattle.bike_desk.specs.declared.serve.KeptTexts.{KeptTexts}
-use Rattle.bike_tables.specs.Stored.{tables_for}
-use Rattle.bike_tables.specs.Changes.{all_made}
+use Rattle.bike_commands.specs.declared.request.Request.{Request}
+use Rattle.bike_operator.specs.declared.change.Change.{Change}
+use Rattle.bike_operator.specs.declared.view.View.{View}
+use Rattle.bike_operator.specs.Operator.{Operator}
+use Rattle.bike_operator.specs.View.{view_of}
+use Rattle.bike_operator.specs.Changes.{Decides}
+use Rattle.bike_operator.specs.Runs.{key_in, accepted}
+use Rattle.bike_operator.specs.Sound.{IsSound}
+use Rattle.bike_book.specs.declared.row_change.RowChange.{RowChange}
+use Rattle.bike_book.specs.Stored.{Listed}
+use Rattle.bike_book.specs.Leads.{LeadsTo}
+use Rattle.bike_schema.specs.Stands.{Stores, Keeps}
+use Rattle.bike_booking.specs.declared.texts.KeptTexts.{KeptTexts}
+use Rattle.bike_booking.specs.Booking.{AreTexts}
+use Rattle.bike_accounts.specs.declared.meta.MetaRow.{MetaRow}
+use Rattle.bike_accounts.specs.Accounts.{meta_of}
 
--- the row keeps what the operator keeps, or neither keeps anything
-abbrev pub KeepsSame : Option Kept → Option KeptRow → Type 0
-KeepsSame None None = Unit {0}
-KeepsSame None (Some row) = ⊥
-KeepsSame (Some k) None = ⊥
-KeepsSame (Some k) (Some row) = (string_bytes row.command ≡ text_of k.command) × (row.reply ≡ k.reply)
+-- The connection keeps the operator, and the row changes lead from his tables to those of the next one, who is sound.
+pub record IsNextBy (c : State) (changes : List RowChange) (s next : Operator) : Type 0 where
+  pub keeps : Keeps c s
+  pub stores : Stores c.now s
+  pub listed : Listed
+  pub leads : LeadsTo changes s stores.listed next listed
+  pub sound : IsSound next
 
--- the moment and the sums of the operator
-abbrev pub meta_of : Operator → MetaRow
-meta_of s = record { now = s.now; cash = cash_of s.entries; revenue = revenue_of s.entries }
-
--- the texts are those of the request and of the reply
-abbrev pub AreOf : KeptTexts → Request → Reply → Type 0
-AreOf kept q r = (kept.caller.now ≡ caller_text q.caller) × (kept.key.now ≡ q.key) × (kept.command.now ≡ text_of q.command) × (kept.reply.now ≡ reply_text r)
-
--- The row changes lead from the tables of the one operator to those of the other, which is sound.
-pub record LeadsTo (changes : List RowChange) (s next : Operator) : Type 0 where
-  pub tables : all_made changes (tables_for s) ≡ tables_for next
-  pub order : IsSound next
-
--- The operator accepts the request at the moment, with these record changes.
-pub record Accepts (s : Operator) (now : ℕ) (q : Request) (changes : List Change) : Type 0 where
-  pub later : s.now ≤ now
+-- What was read for a request that comes at a moment: its key isn't kept, the figures and the view are the operator's, and `now` is the later of both moments.
+pub record IsReadFor (s : Operator) (moment now : ℕ) (q : Request) (meta : MetaRow) (view : View) : Type 0 where
+  pub in_time : moment ≤ last_moment
+  pub later : now ≡ max moment s.now
   pub anew : map.get s.kept (key_in q) ≡ None
-  pub free : refused s q.command ≡ None
-  pub makes : all_changed changes s ≡ effect s now q.command
-  pub order : IsSound (accepted s now q)
+  pub meta_is : meta ≡ meta_of s
+  pub view_is : view ≡ view_of s q.command
+
+-- What was read is the operator's, who accepts the request with this entry and these changes, and then is sound; the texts are those of both.
+pub record Accepts (s : Operator) (now : ℕ) (q : Request) (meta : MetaRow) (view : View) (entry : Option Entry) (changes : List (Option Change)) (texts : KeptTexts) : Type 0 where
+  pub meta_is : meta ≡ meta_of s
+  pub view_is : view ≡ view_of s q.command
+  pub reply : Reply
+  pub decides : Decides s now q.command (Ok (record { reply = reply; entry = entry; changes = changes }))
+  pub sound_after : IsSound (accepted s now q)
+  pub texts_are : AreTexts s now q texts

@@ -4,15 +4,16 @@ ghost use Rattle.std.specs.Prelude.{◌≡◌, ◌≤◌, false, IsTrue, IfOk, I
 ghost use Rattle.sqlite.specs.State.{HasCleanDisk};
 ghost use Rattle.sqlite.specs.Held.{state};
 ghost use Rattle.sqlite_trees.specs.View.{doubt};
-ghost use Rattle.bike_small.specs.Operator.{Operator, no_operator};
-ghost use Rattle.bike_tables.specs.Tables.{HasNone};
-ghost use Rattle.bike_tables.specs.Stored.{AllLeft, IsOf, TreesStandFor};
+ghost use Rattle.bike_operator.specs.Operator.{Operator, no_operator};
+ghost use Rattle.bike_schema.specs.Tables.{HasNone};
+ghost use Rattle.bike_schema.specs.Makes.{OthersStay};
+ghost use Rattle.bike_schema.specs.Stands.{AllLeft, IsOf, TreesStandFor};
 ghost use Rattle.bike_desk.specs.Desk.{shown, IsAt};
 ghost use Rattle.bike_desk.specs.Adoption.{handed, unmade, IsToldOf};
 
 use crate::desk::Desk;
 use crate::transaction::make_tables;
-use bike_tables::{StatementFault, has_none};
+use bike_schema::{StatementFault, has_none};
 use sqlite::{Alter, Connection};
 use std::error::Error;
 use std::fmt;
@@ -21,7 +22,7 @@ use std::fmt::{Debug, Display, Formatter};
 /// Why a connection wasn't adopted. Each fault hands it back.
 #[derive(Drop)]
 pub enum AdoptFault<S: Alter> {
-    /// The database has some of the product's tables, or a table with a foreign key. It is as it was.
+    /// The database has some of the product's tables, or a foreign key that names one. It is as it was.
     Foreign(Connection<S>),
     /// Memory was refused while the tables were made. What is stored stands for the empty operator.
     NoMemory(Connection<S>),
@@ -77,9 +78,9 @@ impl<S: Alter> Debug for AdoptFault<S> {
 impl<S: Alter + Drop> Error for AdoptFault<S> {}
 
 impl<S: Alter> Desk<S> {
-    /// Takes a connection outside a transaction whose database has none of the product's tables, and no table
-    /// with a foreign key, and makes them in one transaction: the desk begins with the operator of whom
-    /// nothing was asked. Every other database comes back as `Foreign`, and as it was.
+    /// Takes a connection outside a transaction whose database has none of the product's tables, and no foreign
+    /// key that names one, and makes them in one transaction: the desk begins with the operator of whom
+    /// nothing was asked, and every other table stays. Every other database comes back as `Foreign`, and as it was.
     pub fn adopt(mut conn: Connection<S>) -> Result<Desk<S>, AdoptFault<S>>
         requires { conn.in_transaction ≡ false }
         ensures clean { MatchResult result
@@ -87,6 +88,8 @@ impl<S: Alter> Desk<S> {
             (λ e. doubt (state S.Store conn).is_clean ≤ doubt (state S.Store (handed e)).is_clean) }
         ensures only { IfOk result (λ d. HasNone (state S.Store conn).now.schema
             × (HasCleanDisk (shown S.Store d) → IsAt S.Store d no_operator)) }
+        ensures others { IfOk result (λ d. HasCleanDisk (shown S.Store d)
+            → OthersStay (state S.Store conn).now (shown S.Store d).now) }
         ensures found { (s : Operator) → TreesStandFor s (state S.Store conn).now.trees
             → IfOk result (λ d. HasCleanDisk (shown S.Store d) → IsAt S.Store d s) }
         ensures foreign { ¬ HasNone (state S.Store conn).now.schema → result ≡ Err (AdoptFault.Foreign conn) }

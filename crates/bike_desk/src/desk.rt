@@ -5,14 +5,14 @@ ghost use Rattle.std.specs.FinMap as map;
 ghost use Rattle.sqlite.specs.State.{HasCleanDisk};
 ghost use Rattle.sqlite_trees.specs.View.{doubt};
 ghost use Rattle.bike_ledger.specs.Ledger.{balance_of};
-ghost use Rattle.bike_small.specs.Operator.{Operator};
-ghost use Rattle.bike_small.specs.Runs.{step};
-ghost use Rattle.bike_tables.specs.Stored.{AllLeft};
+ghost use Rattle.bike_operator.specs.Operator.{Operator};
+ghost use Rattle.bike_operator.specs.Runs.{step};
+ghost use Rattle.bike_schema.specs.Stands.{AllLeft};
 ghost use Rattle.bike_desk.specs.Desk.{shown, IsAt, TreesStandForEither};
 
 use crate::fault::DeskFault;
-use crate::reads::find_rider;
 use crate::serve::serve;
+use bike_accounts::find_rider;
 use bike_commands::{Reply, Request};
 use bike_fields::RiderNumber;
 use bike_fixed::{Cents, Moment};
@@ -20,6 +20,9 @@ use bike_requests::command_text;
 use sqlite::{Alter, Connection};
 use std::alloc::Global;
 use std::marker::Model;
+
+/// How many row changes a request makes at most, or more.
+const MOST_ROWS: usize = 16;
 
 /// A connection whose tables stand for an operator.
 #[derive(Drop)]
@@ -79,10 +82,12 @@ impl<S: Alter> Desk<S> {
         request: &Request,
     ) -> Result<Reply, DeskFault>
         ensures clean { doubt (shown S.Store self.old).is_clean ≤ doubt (shown S.Store self.new).is_clean }
-        ensures ok { HasCleanDisk (shown S.Store self.new) → (s : Operator) → IsAt S.Store self.old s → IfOk result (λ reply. (reply ≡ (step s moment request.now).0) × IsAt S.Store self.new (step s moment request.now).1) }
+        ensures ok { HasCleanDisk (shown S.Store self.new) → (s : Operator) → IsAt S.Store self.old s
+            → IfOk result (λ reply. (reply ≡ (step s moment request.now).0) × IsAt S.Store self.new (step s moment request.now).1) }
         ensures goes_on { OnOk result (self.new.is_stopped ≡ false) }
         ensures no_memory { result ≡ Err DeskFault.NoMemory → self.new ≡ self.old }
-        ensures store_failed { HasCleanDisk (shown S.Store self.new) → (s : Operator) → IsAt S.Store self.old s → result ≡ Err DeskFault.StoreFailed → AllLeft (shown S.Store self.new) (TreesStandForEither s (step s moment request.now).1) }
+        ensures store_failed { HasCleanDisk (shown S.Store self.new) → (s : Operator) → IsAt S.Store self.old s
+            → result ≡ Err DeskFault.StoreFailed → AllLeft (shown S.Store self.new) (TreesStandForEither s (step s moment request.now).1) }
         ensures stops { result ≡ Err DeskFault.StoreFailed → IsTrue self.new.is_stopped }
         ensures stopped { result ≡ Err DeskFault.Stopped → IsTrue self.old.is_stopped }
         ensures stays { IsTrue self.old.is_stopped → (result ≡ Err DeskFault.Stopped) × (self.new ≡ self.old) }
@@ -90,11 +95,15 @@ impl<S: Alter> Desk<S> {
         if self.stopped() {
             return Err(DeskFault::Stopped);
         }
-        // All that takes memory comes before the transaction.
+        // What writing takes of memory is taken before anything is read.
         let Ok(text) = command_text(alloc, &request.command) else {
             return Err(DeskFault::NoMemory);
         };
-        match serve(&mut self.conn, moment, request, text.as_str()) {
+        let Ok(room) = Vec::with_capacity(alloc, MOST_ROWS) else {
+            return Err(DeskFault::NoMemory);
+        };
+        let text = text.as_str();
+        match serve(alloc, &mut self.conn, moment, request, text, room) {
             Ok(reply) => Ok(reply),
             Err(_) => {
                 self.stopped = true;
@@ -108,9 +117,11 @@ impl<S: Alter> Desk<S> {
     /// `Stopped`.
     pub fn balance(&mut self, rider: RiderNumber) -> Result<Option<Cents>, DeskFault>
         ensures clean { doubt (shown S.Store self.old).is_clean ≤ doubt (shown S.Store self.new).is_clean }
-        ensures ok { HasCleanDisk (shown S.Store self.new) → (s : Operator) → IsAt S.Store self.old s → IfOk result (λ balance. (balance ≡ option_map (λ _. balance_of rider s.entries) (map.get s.riders rider)) × IsAt S.Store self.new s) }
+        ensures ok { HasCleanDisk (shown S.Store self.new) → (s : Operator) → IsAt S.Store self.old s → IfOk result (λ balance.
+            (balance ≡ option_map (λ _. balance_of rider s.entries) (map.get s.riders rider)) × IsAt S.Store self.new s) }
         ensures no_memory { result ≡ Err DeskFault.NoMemory → ⊥ }
-        ensures left { HasCleanDisk (shown S.Store self.new) → (s : Operator) → IsAt S.Store self.old s → AllLeft (shown S.Store self.new) (shown S.Store self.old).may_leave }
+        ensures left { HasCleanDisk (shown S.Store self.new) → (s : Operator) → IsAt S.Store self.old s
+            → AllLeft (shown S.Store self.new) (shown S.Store self.old).may_leave }
         ensures stops { result ≡ Err DeskFault.StoreFailed → IsTrue self.new.is_stopped }
         ensures stopped { result ≡ Err DeskFault.Stopped → IsTrue self.old.is_stopped }
         ensures stays { IsTrue self.old.is_stopped → (result ≡ Err DeskFault.Stopped) × (self.new ≡ self.old) }

@@ -7,7 +7,6 @@
 mod adopt;
 mod desk;
 mod fault;
-mod reads;
 mod run;
 mod serve;
 mod transaction;
@@ -16,6 +15,3 @@ pub use adopt::AdoptFault;
 pub use desk::Desk;
 pub use fault::DeskFault;
 pub use run::Run;
-
-#[cfg(test)]
-mod tests;

@@ -1,6 +1,6 @@
 //! Serving one request: from its kept answer, or by a decision on what it names.
 
-ghost use Rattle.std.specs.Prelude.{◌≡◌, ◌≤◌, ◌+ℤ◌, false, IsTrue, IfOk, OnOk, OnErr, IfSome, IsSome, None, [], ◌∷◌, string_bytes, if◌then◌else◌};
+ghost use Rattle.std.specs.Prelude.{◌≡◌, ◌≤◌, ℕ, false, IfOk, OnOk, OnErr, None, [], string_bytes, if◌then◌else◌};
 ghost use Rattle.std.specs.Str.{bytes_eq};
 ghost use Rattle.std.specs.FinMap as map;
 ghost use Rattle.sqlite.specs.State.{HasCleanDisk};
@@ -8,45 +8,34 @@ ghost use Rattle.sqlite.specs.Held.{state};
 ghost use Rattle.sqlite_trees.specs.View.{doubt};
 ghost use Rattle.bike_fields.specs.Caller.{caller_text};
 ghost use Rattle.bike_commands.specs.Commands.{text_of};
-ghost use Rattle.bike_commands.specs.declared.request.Request.{Request};
-ghost use Rattle.bike_small.specs.Operator.{Operator};
-ghost use Rattle.bike_small.specs.Runs.{step, accepted, key_in};
-ghost use Rattle.bike_small.specs.View.{view_of, IsBounded};
-ghost use Rattle.bike_small.specs.Steps.{reply_of};
-ghost use Rattle.bike_small.specs.Changes.{present};
-ghost use Rattle.bike_ledger.specs.Ledger.{credit, cash_in, earned};
-ghost use Rattle.bike_tables.specs.Stored.{AllLeft, Keeps};
-ghost use Rattle.bike_tables.specs.declared.rows.RowChange.TheVariants as change;
+ghost use Rattle.bike_operator.specs.Operator.{Operator};
+ghost use Rattle.bike_operator.specs.Runs.{step, accepted, key_in};
+ghost use Rattle.bike_schema.specs.Stands.{AllLeft, Keeps};
 ghost use Rattle.bike_desk.specs.Desk.{TreesStandForEither};
-ghost use Rattle.bike_desk.specs.Serving.{meta_of, Accepts, AreOf};
+ghost use Rattle.bike_desk.specs.Serving.{Accepts, IsReadFor};
 
-use crate::reads::{find_kept, find_meta, find_view};
 use crate::transaction::make_all;
+use bike_accounts::{KeptRow, MetaRow, find_kept, find_meta};
+use bike_book::RowChange;
+use bike_booking::{KeptTexts, Sums, book_request, find_touched};
 use bike_commands::{Refusal, Reply, Request};
-use bike_fixed::{Cents, Moment};
-use bike_ledger::{Entry, EntryKind, balance_after};
-use bike_small::{Change, View, decide};
-use bike_tables::{KeptRow, MetaRow, RiderRow, RowChange, StatementFault};
+use bike_core::{decide, is_bounded};
+use bike_fixed::Moment;
+use bike_ledger::Entry;
+use bike_operator::{Change, View};
+use bike_schema::StatementFault;
+use bike_views::{find_numbers, find_view};
 use sqlite::{Alter, Connection};
+use std::alloc::Global;
 
-/// How many entries there may be.
-const MOST_ENTRIES: u32 = 100_000_000;
+/// Room for the row changes of a request, before there are any.
+pub type Room = Vec<RowChange<'static>>;
 
-/// The greatest amount of an entry, in hundredths.
-const GREATEST_AMOUNT: i64 = 34_561_800_000;
-
-/// Whether the balance is one that so many entries can come to, as every operator's is.
-fn is_bounded(view: &View) -> bool
-    ensures { IsTrue result → IsBounded view.now }
+/// The room, to be filled.
+fn rows_in<'a>(room: Room) -> Vec<RowChange<'a>>
+    ensures { result ≡ room.entry }
 {
-    if view.entries > MOST_ENTRIES {
-        return false;
-    }
-    let most = GREATEST_AMOUNT * i64::from(view.entries);
-    match view.rider {
-        Some(row) => -most <= row.balance && row.balance <= most,
-        None => true,
-    }
+    room
 }
 
 /// What a kept key is answered: as before where the command is the same.
@@ -60,192 +49,150 @@ fn kept_answer(kept: &KeptRow, text: &str) -> Reply
     }
 }
 
-/// The change, where there is exactly one and it comes first.
-fn only_change(changes: &[Option<Change>; 8]) -> Option<Change>
-    ensures { IfSome result (λ change. present changes.now ≡ change ∷ []) }
-{
-    match changes {
-        [Some(change), None, None, None, None, None, None, None] => Some(*change),
-        _ => None,
-    }
-}
-
-/// The row of the entry's rider after it, where the view is that of the rider and within bounds.
-fn booked_rider(view: &View, entry: &Entry) -> Option<RiderRow>
-    requires { IsBounded view.now }
-    ensures { IfSome result (λ after. IfSome view.now.rider (λ before. after ≡ record { rider = entry.now.rider; blocked = before.blocked; balance = before.balance +ℤ credit entry.now.kind entry.now.amount }) × IsSome view.now.rider) }
-{
-    let row = view.rider?;
-    if view.entries >= MOST_ENTRIES {
-        return None;
-    }
-    Some(RiderRow {
-        rider: entry.rider(),
-        blocked: row.blocked,
-        balance: Cents::new(balance_after(row.balance, entry)),
-    })
-}
-
-/// Cash and revenue after an entry of this kind and amount, where they are of 64 bits.
-fn booked_sums(meta: &MetaRow, kind: EntryKind, amount: &Cents) -> Option<(Cents, Cents)>
-    ensures { IfSome result (λ sums. (sums.0 ≡ meta.entry.now.cash +ℤ cash_in kind amount.now) × (sums.1 ≡ meta.entry.now.revenue +ℤ earned kind amount.now)) }
-{
-    let amount = amount.hundredths();
-    let cash = meta.cash.hundredths();
-    let revenue = meta.revenue.hundredths();
-    match kind {
-        EntryKind::TopUp => Some((Cents::new(cash.checked_add(amount)?), meta.revenue)),
-        EntryKind::Fare => Some((meta.cash, Cents::new(revenue.checked_add(amount)?))),
-        EntryKind::Refund => Some((meta.cash, Cents::new(revenue.checked_sub(amount)?))),
-    }
-}
-
-/// The operator's moment and sums after the entry, where the sums are of 64 bits.
-fn booked_meta(meta: &MetaRow, now: Moment, entry: &Entry) -> Option<MetaRow>
-    ensures { IfSome result (λ after. after ≡ record { now = now; cash = meta.entry.now.cash +ℤ cash_in entry.now.kind entry.now.amount; revenue = meta.entry.now.revenue +ℤ earned entry.now.kind entry.now.amount }) }
-{
-    let (cash, revenue) = booked_sums(meta, entry.kind(), &entry.amount())?;
-    Some(MetaRow { now, cash, revenue })
-}
-
-/// The texts by which an accepted request is kept.
-#[derive(Drop)]
-struct KeptTexts<'a> {
-    caller: &'a str,
-    key: &'a str,
-    command: &'a str,
-    reply: &'a str,
-}
-
-impl<'a> KeptTexts<'a> {
-    /// The change that adds their row.
-    fn row(&self) -> RowChange<'a>
-        ensures { result ≡ change.AddKept self.now.caller self.now.key self.now.command self.now.reply }
-    {
-        RowChange::AddKept {
-            caller: self.caller,
-            key: self.key,
-            command: self.command,
-            reply: self.reply,
-        }
-    }
-}
-
-/// Makes the change of an accepted request with the rows that follow from it, and keeps the request, all
-/// in one transaction.
-fn book<S: Alter>(
+/// Makes the changes of an accepted request with the rows that follow from them, and keeps the request, all in one
+/// transaction.
+fn store_accepted<'a, S: Alter>(
     conn: &mut Connection<S>,
+    request: &'a Request,
     meta: &MetaRow,
-    view: &View,
+    view: &'a View,
     now: Moment,
-    change: &Change,
-    kept: &KeptTexts<'_>,
+    entry: &'a Option<Entry>,
+    changes: &'a [Option<Change<'a>>; 4],
+    texts: &KeptTexts<'a>,
+    mut rows: Vec<RowChange<'a>>,
 ) -> Result<(), StatementFault>
     requires outside { conn.old.in_transaction ≡ false }
-    requires bounded { IsBounded view.now }
+    requires empty { rows.items ≡ [] }
     ensures ended { conn.new.in_transaction ≡ false }
     ensures clean { doubt (state S.Store conn.old).is_clean ≤ doubt (state S.Store conn.new).is_clean }
-    ensures made { HasCleanDisk (state S.Store conn.new) → (s : Operator) (q : Request) → Keeps (state S.Store conn.old) s → meta.entry.now ≡ meta_of s → view.now ≡ view_of s q.command → Accepts s now q (change.now ∷ []) → AreOf kept.now q (reply_of s now q.command) → OnOk result (Keeps (state S.Store conn.new) (accepted s now q)) }
-    ensures left { HasCleanDisk (state S.Store conn.new) → (s : Operator) (q : Request) → Keeps (state S.Store conn.old) s → meta.entry.now ≡ meta_of s → view.now ≡ view_of s q.command → Accepts s now q (change.now ∷ []) → AreOf kept.now q (reply_of s now q.command) → AllLeft (state S.Store conn.new) (TreesStandForEither s (accepted s now q)) }
+    ensures made { HasCleanDisk (state S.Store conn.new) → (s : Operator) → Keeps (state S.Store conn.old) s
+        → Accepts s now request.now meta.entry.now view.now entry.now changes.now texts.now
+        → OnOk result (Keeps (state S.Store conn.new) (accepted s now request.now)) }
+    ensures left { HasCleanDisk (state S.Store conn.new) → (s : Operator) → Keeps (state S.Store conn.old) s
+        → Accepts s now request.now meta.entry.now view.now entry.now changes.now texts.now
+        → AllLeft (state S.Store conn.new) (TreesStandForEither s (accepted s now request.now)) }
 {
-    let kept = kept.row();
-    match change {
-        Change::AddRider(rider) => {
-            let row = RiderRow {
-                rider: *rider,
-                blocked: false,
-                balance: Cents::new(0),
+    let command = &request.command;
+    let touched = find_touched(command, view);
+    let numbers = find_numbers(conn, &touched)?;
+    let sums = Sums {
+        cash: meta.cash,
+        revenue: meta.revenue,
+    };
+    if !book_request(
+        &mut rows, command, view, &touched, &numbers, &sums, now, entry, changes, texts,
+    ) {
+        return Err(StatementFault::StoreFailed);
+    }
+    make_all(conn, rows.as_slice())
+}
+
+/// Serves a request whose key isn't kept by a decision on what was read for it: the operator's figures and the view.
+fn serve_read<'a, S: Alter>(
+    conn: &mut Connection<S>,
+    meta: &MetaRow,
+    view: &'a View,
+    now: Moment,
+    request: &'a Request,
+    caller: &'a str,
+    text: &'a str,
+    room: Room,
+) -> Result<Reply, StatementFault>
+    requires outside { conn.old.in_transaction ≡ false }
+    requires caller { caller.now ≡ caller_text request.now.caller }
+    requires text { text.now ≡ text_of request.now.command }
+    requires empty { room.items ≡ [] }
+    ensures ended { conn.new.in_transaction ≡ false }
+    ensures clean { doubt (state S.Store conn.old).is_clean ≤ doubt (state S.Store conn.new).is_clean }
+    ensures ok { HasCleanDisk (state S.Store conn.new) → (s : Operator) (t : ℕ) → Keeps (state S.Store conn.old) s
+        → IsReadFor s t now request.now meta.entry.now view.now
+        → IfOk result (λ reply. (reply ≡ (step s t request.now).0) × Keeps (state S.Store conn.new) (step s t request.now).1) }
+    ensures failed { HasCleanDisk (state S.Store conn.new) → (s : Operator) (t : ℕ) → Keeps (state S.Store conn.old) s
+        → IsReadFor s t now request.now meta.entry.now view.now
+        → OnErr result (AllLeft (state S.Store conn.new) (TreesStandForEither s (step s t request.now).1)) }
+{
+    request.bounds();
+    // Every view of a sound operator is bounded.
+    if !is_bounded(view, now) {
+        return Err(StatementFault::StoreFailed);
+    }
+    match decide(view, now, &request.command) {
+        Err(refusal) => Ok(Reply::Refused(refusal)),
+        Ok(accepted) => {
+            let reply = accepted.reply;
+            let entry = accepted.entry;
+            let changes = accepted.changes;
+            let spelled = reply.text();
+            let key = request.key.as_str();
+            let texts = KeptTexts {
+                caller,
+                key,
+                command: text,
+                reply: spelled.as_str(),
             };
-            let meta = MetaRow {
-                now,
-                cash: meta.cash,
-                revenue: meta.revenue,
-            };
-            make_all(
-                conn,
-                &[RowChange::AddRider(row), RowChange::SetMeta(meta), kept],
-            )
-        }
-        Change::AddEntry(entry) => {
-            let Some(row) = booked_rider(view, entry) else {
-                return Err(StatementFault::StoreFailed);
-            };
-            let Some(meta) = booked_meta(meta, now, entry) else {
-                return Err(StatementFault::StoreFailed);
-            };
-            let changes = [
-                RowChange::AddEntry(*entry),
-                RowChange::SetRider(row),
-                RowChange::SetMeta(meta),
-                kept,
-            ];
-            make_all(conn, &changes)
+            let rows = rows_in(room);
+            store_accepted(
+                conn, request, meta, view, now, &entry, &changes, &texts, rows,
+            )?;
+            Ok(reply)
         }
     }
 }
 
-/// Serves a request whose key isn't kept, by a decision on what it names.
+/// Serves a request whose key isn't kept.
 fn serve_anew<'a, S: Alter>(
+    alloc: Global,
     conn: &mut Connection<S>,
     moment: Moment,
     request: &'a Request,
     caller: &'a str,
     text: &'a str,
+    room: Room,
 ) -> Result<Reply, StatementFault>
     requires outside { conn.old.in_transaction ≡ false }
     requires caller { caller.now ≡ caller_text request.now.caller }
     requires text { text.now ≡ text_of request.now.command }
+    requires empty { room.items ≡ [] }
     ensures ended { conn.new.in_transaction ≡ false }
     ensures clean { doubt (state S.Store conn.old).is_clean ≤ doubt (state S.Store conn.new).is_clean }
-    ensures ok { HasCleanDisk (state S.Store conn.new) → (s : Operator) → Keeps (state S.Store conn.old) s → map.get s.kept (key_in request.now) ≡ None → IfOk result (λ reply. (reply ≡ (step s moment request.now).0) × Keeps (state S.Store conn.new) (step s moment request.now).1) }
-    ensures failed { HasCleanDisk (state S.Store conn.new) → (s : Operator) → Keeps (state S.Store conn.old) s → map.get s.kept (key_in request.now) ≡ None → OnErr result (AllLeft (state S.Store conn.new) (TreesStandForEither s (step s moment request.now).1)) }
+    ensures ok { HasCleanDisk (state S.Store conn.new) → (s : Operator) → Keeps (state S.Store conn.old) s
+        → map.get s.kept (key_in request.now) ≡ None
+        → IfOk result (λ reply. (reply ≡ (step s moment request.now).0) × Keeps (state S.Store conn.new) (step s moment request.now).1) }
+    ensures failed { HasCleanDisk (state S.Store conn.new) → (s : Operator) → Keeps (state S.Store conn.old) s
+        → map.get s.kept (key_in request.now) ≡ None
+        → OnErr result (AllLeft (state S.Store conn.new) (TreesStandForEither s (step s moment request.now).1)) }
 {
     let meta = find_meta(conn)?;
-    let view = find_view(conn, &request.command)?;
-    if !is_bounded(&view) {
-        return Err(StatementFault::StoreFailed);
-    }
+    let view = find_view(alloc, conn, &request.command)?;
     let now = moment.later(&meta.now);
     let _ = moment.seconds();
-    request.bounds();
-    let key = request.key.as_str();
-    match decide(&view, now, &request.command) {
-        Err(refusal) => Ok(Reply::Refused(refusal)),
-        Ok(accepted) => {
-            let Some(change) = only_change(&accepted.changes) else {
-                return Err(StatementFault::StoreFailed);
-            };
-            let spelled = accepted.reply.text();
-            let reply = spelled.as_str();
-            let kept = KeptTexts {
-                caller,
-                key,
-                command: text,
-                reply,
-            };
-            book(conn, &meta, &view, now, &change, &kept)?;
-            Ok(accepted.reply)
-        }
-    }
+    serve_read(conn, &meta, &view, now, request, caller, text, room)
 }
 
-/// Serves one request, of whose command `text` is the text.
+/// Serves one request, of whose command `text` is the text. Its row changes are put together in the room.
 pub fn serve<S: Alter>(
+    alloc: Global,
     conn: &mut Connection<S>,
     moment: Moment,
     request: &Request,
     text: &str,
+    room: Room,
 ) -> Result<Reply, StatementFault>
     requires outside { conn.old.in_transaction ≡ false }
     requires text { text.now ≡ text_of request.now.command }
+    requires empty { room.items ≡ [] }
     ensures ended { conn.new.in_transaction ≡ false }
     ensures clean { doubt (state S.Store conn.old).is_clean ≤ doubt (state S.Store conn.new).is_clean }
-    ensures ok { HasCleanDisk (state S.Store conn.new) → (s : Operator) → Keeps (state S.Store conn.old) s → IfOk result (λ reply. (reply ≡ (step s moment request.now).0) × Keeps (state S.Store conn.new) (step s moment request.now).1) }
-    ensures failed { HasCleanDisk (state S.Store conn.new) → (s : Operator) → Keeps (state S.Store conn.old) s → OnErr result (AllLeft (state S.Store conn.new) (TreesStandForEither s (step s moment request.now).1)) }
+    ensures ok { HasCleanDisk (state S.Store conn.new) → (s : Operator) → Keeps (state S.Store conn.old) s
+        → IfOk result (λ reply. (reply ≡ (step s moment request.now).0) × Keeps (state S.Store conn.new) (step s moment request.now).1) }
+    ensures failed { HasCleanDisk (state S.Store conn.new) → (s : Operator) → Keeps (state S.Store conn.old) s
+        → OnErr result (AllLeft (state S.Store conn.new) (TreesStandForEither s (step s moment request.now).1)) }
 {
     let caller = request.caller.text();
-    match find_kept(conn, caller.as_str(), request.key.as_str())? {
+    let caller = caller.as_str();
+    match find_kept(alloc, conn, caller, request.key.as_str())? {
         Some(kept) => Ok(kept_answer(&kept, text)),
-        None => serve_anew(conn, moment, request, caller.as_str(), text),
+        None => serve_anew(alloc, conn, moment, request, caller, text, room),
     }
 }

@@ -1,18 +1,20 @@
 //! Row changes in one transaction: all of them or none.
 
-ghost use Rattle.std.specs.Prelude.{◌≡◌, ◌≤◌, ◌⊎◌, false, OnOk};
+ghost use Rattle.std.specs.Prelude.{◌≡◌, ◌≤◌, false, OnOk};
 ghost use Rattle.sqlite.specs.State.{HasCleanDisk, Survives, Shows};
 ghost use Rattle.sqlite.specs.Held.{state};
 ghost use Rattle.sqlite_trees.specs.View.{doubt};
-ghost use Rattle.bike_small.specs.Operator.{Operator};
-ghost use Rattle.bike_tables.specs.Tables.{HasNone};
-ghost use Rattle.bike_tables.specs.Changes.{IsFresh};
-ghost use Rattle.bike_tables.specs.Stored.{AllLeft, Keeps};
+ghost use Rattle.bike_operator.specs.Operator.{Operator};
+ghost use Rattle.bike_schema.specs.Tables.{HasNone};
+ghost use Rattle.bike_schema.specs.Creates.{IsFresh};
+ghost use Rattle.bike_schema.specs.Stands.{AllLeft, Keeps};
 ghost use Rattle.bike_desk.specs.Desk.{TreesStandForEither};
-ghost use Rattle.bike_desk.specs.Serving.{LeadsTo};
+ghost use Rattle.bike_desk.specs.Serving.{IsNextBy};
 ghost use Rattle.bike_desk.specs.Adoption.{AreFresh};
 
-use bike_tables::{RowChange, StatementFault, create_tables, put};
+use bike_book::RowChange;
+use bike_schema::{StatementFault, create_tables};
+use bike_writes::put;
 use sqlite::{Alter, Connection};
 
 /// Makes all changes in one transaction, or none. An error says nothing of whether they were made.
@@ -23,8 +25,12 @@ pub fn make_all<S: Alter>(
     requires { conn.old.in_transaction ≡ false }
     ensures ended { conn.new.in_transaction ≡ false }
     ensures clean { doubt (state S.Store conn.old).is_clean ≤ doubt (state S.Store conn.new).is_clean }
-    ensures made { HasCleanDisk (state S.Store conn.new) → (s next : Operator) → Keeps (state S.Store conn.old) s → LeadsTo changes.now s next → OnOk result (Keeps (state S.Store conn.new) next) }
-    ensures left { HasCleanDisk (state S.Store conn.new) → (s next : Operator) → Keeps (state S.Store conn.old) s → LeadsTo changes.now s next → AllLeft (state S.Store conn.new) (TreesStandForEither s next) }
+    ensures made { HasCleanDisk (state S.Store conn.new) → (s next : Operator)
+        → IsNextBy (state S.Store conn.old) changes.now s next
+        → OnOk result (Keeps (state S.Store conn.new) next) }
+    ensures left { HasCleanDisk (state S.Store conn.new) → (s next : Operator)
+        → IsNextBy (state S.Store conn.old) changes.now s next
+        → AllLeft (state S.Store conn.new) (TreesStandForEither s next) }
 {
     let mut staged = conn.transaction();
     'changes: for change in changes {
@@ -41,8 +47,11 @@ pub fn make_tables<S: Alter>(conn: &mut Connection<S>) -> Result<(), StatementFa
     requires { conn.old.in_transaction ≡ false }
     ensures ended { conn.new.in_transaction ≡ false }
     ensures clean { doubt (state S.Store conn.old).is_clean ≤ doubt (state S.Store conn.new).is_clean }
-    ensures made { HasCleanDisk (state S.Store conn.new) → HasNone (state S.Store conn.old).now.schema → OnOk result (Shows (state S.Store conn.old) (state S.Store conn.new) (state S.Store conn.new).now (state S.Store conn.new).now false × IsFresh (state S.Store conn.new).now) }
-    ensures crash { HasNone (state S.Store conn.old).now.schema → Survives (state S.Store conn.old) (state S.Store conn.new) AreFresh }
+    ensures made { HasCleanDisk (state S.Store conn.new) → HasNone (state S.Store conn.old).now.schema
+        → OnOk result (Shows (state S.Store conn.old) (state S.Store conn.new) (state S.Store conn.new).now (state S.Store conn.new).now false
+        × IsFresh (state S.Store conn.old).now (state S.Store conn.new).now) }
+    ensures crash { HasNone (state S.Store conn.old).now.schema
+        → Survives (state S.Store conn.old) (state S.Store conn.new) (AreFresh (state S.Store conn.old).now) }
 {
     let mut created = conn.transaction();
     create_tables(&mut created)?;

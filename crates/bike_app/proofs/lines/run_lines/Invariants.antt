@@ -2,7 +2,7 @@ use Rattle.std.proofs.Common.{◌≡◌, ◌+◌, ◌*◌, ◌≤◌, false}
 use Rattle.std.specs.Io.KnownBytes.{prepend_known}
 use Rattle.sqlite.specs.State.{HasCleanDisk}
 use Rattle.sqlite_trees.specs.View.{doubt}
-use Rattle.bike_small.specs.Operator.{Operator}
+use Rattle.bike_operator.specs.Operator.{Operator}
 use Rattle.bike_desk.specs.Desk.{shown, IsAt}
 use Rattle.bike_stream.specs.declared.buffer.TheConstants.{READ_LENGTH}
 use Rattle.bike_stream.specs.Reads.{most_ahead}

@@ -1,4 +1,4 @@
-use Rattle.bike_small.specs.Operator.{no_operator}
+use Rattle.bike_operator.specs.Operator.{no_operator}
 use Rattle.bike_app.proofs.ProgramLemmas.{memory_is_clean, memory_begins, in_memory}
 use Rattle.bike_app.proofs.program.serve_in_memory.Goals as goal
 

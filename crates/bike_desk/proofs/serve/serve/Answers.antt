@@ -2,43 +2,49 @@ use Rattle.std.proofs.Common.{◌≡◌, inl, Some, None, refl, ap₂, ◌∙◌
 use Rattle.std.specs.FinMap as map
 use Rattle.sqlite.specs.State.{HasCleanDisk}
 use Rattle.sqlite.specs.Held.{state}
-use Rattle.bike_small.specs.Operator.{key_of}
-use Rattle.bike_small.specs.Runs.{step, key_in}
-use Rattle.bike_tables.specs.Stored.{AllLeft, Keeps}
+use Rattle.bike_operator.specs.Operator.{key_of}
+use Rattle.bike_operator.specs.Runs.{step, key_in}
+use Rattle.bike_schema.specs.Stands.{AllLeft, Keeps}
 use Rattle.bike_desk.specs.Desk.{TreesStandForEither}
-use Rattle.bike_desk.specs.Serving.{KeepsSame}
-use Rattle.bike_desk.proofs.KeepLemmas.{on_err}
+use Rattle.bike_accounts.specs.Accounts.{KeepsSame}
+use Rattle.bike_desk.proofs.KeepLemmas.{on_err, kept_ours, kept_stores, still, still_left}
 use Rattle.bike_desk.proofs.ServeLemmas.{step_kept, none_kept}
 use Rattle.bike_desk.proofs.serve.serve.Goals as goal
 
 pub returns-in_err-kept-clause-failed : goal.returns-in_err-kept-clause-failed
 returns-in_err-kept-clause-failed g c clean s keeps =
-    let left : AllLeft (state g.S.Store c.find_kept.new.conn) (TreesStandForEither s (step s c.args.moment c.args.request.now).1) = λ db h. inl (keeps.left db (c.find_kept.ensures.quiet clean s keeps db h)) in
+    let left : AllLeft (state g.S.Store c.find_kept.new.conn) (TreesStandForEither s (step s c.args.moment c.args.request.now).1) = λ db h. inl (still_left g.S.Store c.args.conn.now c.find_kept.new.conn s keeps clean c.find_kept.ensures.quiet db h) in
     on_err _ left
 
 pub returns-in-Some-clause-ok : goal.returns-in-Some-clause-ok
 returns-in-Some-clause-ok g c clean s keeps =
     let q = c.args.request.now in
-    let key : key_of c.as_str.result.now c.as_str-2.result.now ≡ key_in q = ap₂ key_of (c.as_str.ensures.value ∙ c.text-caller.ensures) c.as_str-2.ensures.text in
-    let read = c.in_ok-kept.ensures.ok clean s keeps in
-    let same : KeepsSame (map.get s.kept (key_in q)) (Some c.in-Some.kept) = subst₂ (λ k o. KeepsSame (map.get s.kept k) o) key c.in-Some.is read.0 in
+    let old = state g.S.Store c.args.conn.now in
+    let ours = kept_ours old s keeps in
+    let key : key_of c.as_str-caller.result.now c.as_str.result.now ≡ key_in q = ap₂ key_of (c.as_str-caller.ensures.value ∙ c.text-caller.ensures) c.as_str.ensures.text in
+    let found = c.in_ok-kept.ensures.found clean ours s (kept_stores old s keeps) in
+    let same : KeepsSame (map.get s.kept (key_in q)) (Some c.in-Some.kept) = subst₂ (λ k o. KeepsSame (map.get s.kept k) o) key c.in-Some.is found in
     let it = step_kept s c.args.moment q (map.get s.kept (key_in q)) c.in-Some.kept c.args.text.now refl same c.requires.text in
-    (c.kept_answer.ensures ∙ it.0, subst (λ o. Keeps (state g.S.Store c.find_kept.new.conn) o) it.1 read.1)
+    (c.kept_answer.ensures ∙ it.0, subst (λ o. Keeps (state g.S.Store c.find_kept.new.conn) o) it.1 (still g.S.Store c.args.conn.now c.find_kept.new.conn s keeps clean (c.in_ok-kept.ensures.same clean ours) c.find_kept.ensures.quiet))
 
 pub returns-in-None-clause-ok : goal.returns-in-None-clause-ok
 returns-in-None-clause-ok g c clean s keeps =
     let q = c.args.request.now in
-    let key : key_of c.as_str.result.now c.as_str-2.result.now ≡ key_in q = ap₂ key_of (c.as_str.ensures.value ∙ c.text-caller.ensures) c.as_str-2.ensures.text in
+    let old = state g.S.Store c.args.conn.now in
+    let ours = kept_ours old s keeps in
+    let key : key_of c.as_str-caller.result.now c.as_str.result.now ≡ key_in q = ap₂ key_of (c.as_str-caller.ensures.value ∙ c.text-caller.ensures) c.as_str.ensures.text in
     let seen : HasCleanDisk (state g.S.Store c.find_kept.new.conn) = omega (arith, clean, c.serve_anew.ensures.clean) in
-    let read = c.in_ok-kept.ensures.ok seen s keeps in
-    let same : KeepsSame (map.get s.kept (key_in q)) None = subst₂ (λ k o. KeepsSame (map.get s.kept k) o) key c.in-None.is read.0 in
-    c.serve_anew.ensures.ok clean s read.1 (none_kept s c.args.moment q (map.get s.kept (key_in q)) refl same)
+    let found = c.in_ok-kept.ensures.found seen ours s (kept_stores old s keeps) in
+    let same : KeepsSame (map.get s.kept (key_in q)) None = subst₂ (λ k o. KeepsSame (map.get s.kept k) o) key c.in-None.is found in
+    c.serve_anew.ensures.ok clean s (still g.S.Store c.args.conn.now c.find_kept.new.conn s keeps seen (c.in_ok-kept.ensures.same seen ours) c.find_kept.ensures.quiet) (none_kept s c.args.moment q (map.get s.kept (key_in q)) refl same)
 
 pub returns-in-None-clause-failed : goal.returns-in-None-clause-failed
 returns-in-None-clause-failed g c clean s keeps =
     let q = c.args.request.now in
-    let key : key_of c.as_str.result.now c.as_str-2.result.now ≡ key_in q = ap₂ key_of (c.as_str.ensures.value ∙ c.text-caller.ensures) c.as_str-2.ensures.text in
+    let old = state g.S.Store c.args.conn.now in
+    let ours = kept_ours old s keeps in
+    let key : key_of c.as_str-caller.result.now c.as_str.result.now ≡ key_in q = ap₂ key_of (c.as_str-caller.ensures.value ∙ c.text-caller.ensures) c.as_str.ensures.text in
     let seen : HasCleanDisk (state g.S.Store c.find_kept.new.conn) = omega (arith, clean, c.serve_anew.ensures.clean) in
-    let read = c.in_ok-kept.ensures.ok seen s keeps in
-    let same : KeepsSame (map.get s.kept (key_in q)) None = subst₂ (λ k o. KeepsSame (map.get s.kept k) o) key c.in-None.is read.0 in
-    c.serve_anew.ensures.failed clean s read.1 (none_kept s c.args.moment q (map.get s.kept (key_in q)) refl same)
+    let found = c.in_ok-kept.ensures.found seen ours s (kept_stores old s keeps) in
+    let same : KeepsSame (map.get s.kept (key_in q)) None = subst₂ (λ k o. KeepsSame (map.get s.kept k) o) key c.in-None.is found in
+    c.serve_anew.ensures.failed clean s (still g.S.Store c.args.conn.now c.find_kept.new.conn s keeps seen (c.in_ok-kept.ensures.same seen ours) c.find_kept.ensures.quiet) (none_kept s c.args.moment q (map.get s.kept (key_in q)) refl same)

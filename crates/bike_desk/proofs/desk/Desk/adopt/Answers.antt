@@ -1,7 +1,7 @@
 use Rattle.std.proofs.Common.{rules, not, inl, refl, ap, ◌∙◌}
 use Rattle.sqlite.specs.Held.{state}
-use Rattle.bike_small.specs.Operator.{no_operator}
-use Rattle.bike_tables.specs.Tables.{HasNone}
+use Rattle.bike_operator.specs.Operator.{no_operator}
+use Rattle.bike_schema.specs.Tables.{HasNone}
 use Rattle.bike_desk.proofs.AdoptLemmas.{nobody_here, fresh_at, in_left, left_after, handed_unmade}
 use Rattle.bike_desk.proofs.desk.Desk.adopt.Goals as goal
 

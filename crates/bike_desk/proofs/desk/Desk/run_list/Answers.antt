@@ -1,6 +1,6 @@
 use Rattle.std.proofs.Common.{length-append, ◌≡◌, ◌∷◌, [], ◌++◌, take, length, sym, ap, ◌∙◌, subst, arith, Some, Err}
 use Rattle.std.proofs.lemmas.List.{take_all}
-use Rattle.bike_small.specs.Runs.{after, replies}
+use Rattle.bike_operator.specs.Runs.{after, replies}
 use Rattle.bike_desk.specs.Desk.{IsAt}
 use Rattle.bike_desk.specs.Runs.{EndsAt}
 use Rattle.bike_desk.proofs.RunLemmas.{after-next, replies-next, front_of, fault_ends}

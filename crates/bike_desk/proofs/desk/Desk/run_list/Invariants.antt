@@ -1,8 +1,8 @@
 use Rattle.std.proofs.Common.{◌≡◌, ◌≤◌, false, take, length, vec_len, vec_capacity}
 use Rattle.sqlite_trees.specs.View.{doubt}
 use Rattle.sqlite.specs.State.{HasCleanDisk}
-use Rattle.bike_small.specs.Operator.{Operator}
-use Rattle.bike_small.specs.Runs.{after, replies}
+use Rattle.bike_operator.specs.Operator.{Operator}
+use Rattle.bike_operator.specs.Runs.{after, replies}
 use Rattle.bike_desk.specs.Desk.{shown, IsAt}
 use Rattle.bike_desk.proofs.desk.Desk.run_list.Given as goal
 
