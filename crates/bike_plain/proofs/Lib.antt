@@ -1,4 +1,0 @@
-pub mod FoundLemmas
-pub mod ChangeLemmas
-pub mod StandsLemmas
-pub mod CountLemmas

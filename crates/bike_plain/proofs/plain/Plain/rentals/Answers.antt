@@ -1,7 +1,0 @@
-use Rattle.std.proofs.Common.{arith}
-use Rattle.std.proofs.lemmas.Grind.{common_steps}
-use Rattle.bike_plain.proofs.FoundLemmas.{rentals_counted}
-use Rattle.bike_plain.proofs.plain.Plain.rentals.Goals as goal
-
-pub returns : goal.returns
-returns c = λ s stands. grind (arith, common_steps, rentals_counted c.args.self.now s stands)

@@ -1,5 +1,0 @@
-mod BalanceLemmas
-mod FactLemmas
-mod KeptLemmas
-mod RoomLemmas
-mod ServingLemmas

@@ -1,7 +1,0 @@
-use Rattle.bike_commands.specs.declared.command.Command.TheVariants as command
-use Rattle.bike_operator.specs.View.{view_of}
-use Rattle.bike_reference.proofs.FactLemmas.{rider_there}
-use Rattle.bike_reference.proofs.refuse_bikes.refuse_set_rider.Goals as goal
-
-pub returns : goal.returns
-returns c = λ blocked s st. c.refused_set_rider.ensures (view_of s (command.SetRider c.args.rider blocked)) c.args.rider blocked (rider_there s c.args.rider _ _ _ (c.rider.ensures s st) c.is_some-has_rider.ensures)

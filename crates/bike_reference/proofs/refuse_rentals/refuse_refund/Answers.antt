@@ -1,7 +1,0 @@
-use Rattle.std.proofs.Common.{sym}
-use Rattle.bike_commands.specs.declared.command.Command.TheVariants as command
-use Rattle.bike_operator.specs.View.{view_of}
-use Rattle.bike_reference.proofs.refuse_rentals.refuse_refund.Goals as goal
-
-pub returns : goal.returns
-returns c = λ s st. c.refused_refund.ensures (view_of s (command.Refund c.args.rental c.args.amount)) c.args.rental (rw c.get.ensures.value at (sym (c.rental-found.ensures s st))) (sym (c.is_ledger_full.ensures s st))

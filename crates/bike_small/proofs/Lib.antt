@@ -1,4 +1,0 @@
-pub mod Decisions
-pub mod RunLemmas
-pub mod OrderLemmas
-pub mod MoneyLemmas
