@@ -1,4 +1,3 @@
-pub mod CountLemmas
 pub mod TextLemmas
 pub mod RowLemmas
 pub mod SegmentLemmas

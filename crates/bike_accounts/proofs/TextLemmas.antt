@@ -14,8 +14,8 @@ use Rattle.bike_book.specs.Found.{rows_open}
 use Rattle.bike_schema.specs.Layouts.{layout_of}
 use Rattle.bike_schema.specs.Tables.{tables_of}
 use Rattle.bike_schema.proofs.AnswerLemmas.{FindsIn, keyed_in}
+use Rattle.bike_schema.proofs.CountLemmas.{counted_passing, counted_in}
 use Rattle.bike_schema.proofs.KeyLemmas.{table_key}
-use Rattle.bike_accounts.proofs.CountLemmas.{counted_passing, counted_in}
 
 -- ---- rows by their keys
 

@@ -1,7 +1,11 @@
 //! The laws: which row changes book each change of the operator.
 
-ghost use Rattle.bike_book.specs.ChangeLaws.{Everywhere, SetSystemLaw, AddPlanLaw, AddTypeLaw, SetPlanLaw, AddStationLaw, SetStationLaw, AddBikeLaw, AddTruckLaw, AddRiderLaw, SetRiderLaw, AddRentalLaw, CloseRentalLaw, AddOrderLaw, DeliverLaw, CloseOrderLaw, NoneInTurn, BothInTurn, ChangesLeaveLedger};
-ghost use Rattle.bike_book.specs.CloseLaws.{AtEachClose, QuietCloseLaw, EntryCloseLaw, RefundCloseLaw, AcceptedIsClosed, AcceptedEntryNumber, ChangesLeaveKept};
+ghost use Rattle.bike_book.specs.ChangeLaws.{Everywhere, NoneInTurn, BothInTurn, ChangesLeaveLedger};
+ghost use Rattle.bike_book.specs.ChangeLaws.{SetSystemLaw, AddPlanLaw, AddTypeLaw, SetPlanLaw, AddStationLaw, SetStationLaw};
+ghost use Rattle.bike_book.specs.ChangeLaws.{AddBikeLaw, AddTruckLaw, AddRiderLaw, SetRiderLaw};
+ghost use Rattle.bike_book.specs.ChangeLaws.{AddRentalLaw, CloseRentalLaw, AddOrderLaw, DeliverLaw, CloseOrderLaw};
+ghost use Rattle.bike_book.specs.CloseLaws.{AtEachClose, QuietCloseLaw, EntryCloseLaw, RefundCloseLaw};
+ghost use Rattle.bike_book.specs.CloseLaws.{AcceptedIsClosed, AcceptedEntryNumber, ChangesLeaveKept};
 ghost use Rattle.bike_book.specs.Found.{WhereListed, FoundByKey, FoundListed, FoundByColumns, FoundNumbers};
 ghost use Rattle.bike_book.specs.NotThere.{WhereSound, NoRefundsYet, NoBalanceYet, NoneDockedYet, NoneBrokenYet};
 

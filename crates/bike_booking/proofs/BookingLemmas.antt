@@ -3,6 +3,7 @@ use Rattle.std.proofs.Common.{◌≡◌, ℕ, List, [], ◌∷◌, ◌++◌, get
 use Rattle.std.specs.Prelude.{Result, is_ok, IfSome}
 use Rattle.std.specs.FinMap as fin
 use Rattle.bike_commands.specs.declared.command.Command.{Command}
+use Rattle.bike_commands.specs.declared.request.Request.{Request}
 use Rattle.bike_operator.specs.declared.records.BikeState.{BikeState}
 use Rattle.bike_operator.specs.declared.records.Place.TheVariants as place
 use Rattle.bike_operator.specs.declared.records.Rental.{Rental}
@@ -10,8 +11,10 @@ use Rattle.bike_operator.specs.declared.change.NewPlace.{NewPlace}
 use Rattle.bike_operator.specs.declared.change.NewPlace.TheVariants as new
 use Rattle.bike_operator.specs.declared.change.Change.{Change}
 use Rattle.bike_operator.specs.declared.change.Change.TheVariants as change
+use Rattle.bike_operator.specs.declared.change.Accepted.{Accepted}
 use Rattle.bike_operator.specs.declared.view.View.{View}
 use Rattle.bike_operator.specs.Operator.{Operator}
+use Rattle.bike_operator.specs.View.{view_of}
 use Rattle.bike_operator.specs.Changes.{changed, all_changed, present, place_of}
 use Rattle.bike_places.proofs.MapLemmas.{there_of}
 use Rattle.bike_counts.specs.Laws.{IsAway}
@@ -22,11 +25,14 @@ use Rattle.bike_book.specs.Between.{Books}
 use Rattle.bike_book.proofs.BooksLemmas.{books_none, books_then}
 use Rattle.bike_moves.proofs.BikeBooks.{turn_away}
 use Rattle.bike_moves.proofs.After.{after_place}
-use Rattle.bike_booking.specs.declared.reading.Reading.{Reading}
+use Rattle.bike_facts.specs.declared.reading.Reading.{Reading}
 use Rattle.bike_booking.specs.declared.stage.Stage.{Stage}
 use Rattle.bike_booking.specs.declared.stage.Stage.TheVariants.{First, Rented, Stored, Moved}
-use Rattle.bike_booking.specs.Moves.{HasBike}
-use Rattle.bike_booking.specs.Stages.{IsRead, IsReading, IsRowBooked, AreRowsBooked, AreMovesBooked, with_rentals, stage_after, IsAt, IsOn, ChangesRentals, BooksStep, after_change}
+use Rattle.bike_facts.specs.Touched.{IsTouched}
+use Rattle.bike_facts.specs.Bikes.{HasBike}
+use Rattle.bike_facts.specs.Reading.{IsRead, IsReading}
+use Rattle.bike_booking.specs.Booking.{IsAccepted}
+use Rattle.bike_booking.specs.Stages.{BooksRow, IsRowBooked, AreRowsBooked, AreMovesBooked, with_rentals, stage_after, IsAt, IsOn, ChangesRentals, BooksStep, after_change}
 
 pub is_none_there : {A : Type 0} (o : Option A) → is_some o ≡ false → o ≡ None
 is_none_there None e = refl
@@ -36,6 +42,16 @@ is_none_there (Some x) e = absurd cc
 pub added : {E : Type 0} {now : List RowChange} {b : Bool} (rows more : List RowChange) (result : Result (Unit {0}) E) → now ≡ cond (is_ok result) (rows ++ more) rows
     → b ≡ true → b ≡ is_ok result → now ≡ rows ++ more
 added rows more result items told is = items ∙ ap (λ (t : Bool). cond t (rows ++ more) rows) (sym is ∙ told)
+
+-- one row was added, which books the change
+pub row_booked : {E : Type 0} {command : Command} {view : View} {now : ℕ} {c d : Change} {before after : List RowChange} {b : Bool} (row : RowChange) (result : Result (Unit {0}) E)
+    → after ≡ cond (is_ok result) (before ++ row ∷ []) before → b ≡ true → b ≡ is_ok result → c ≡ d
+    → ((s : Operator) (m : Listed) → IsRead s m command view → BooksRow s m now d row) → IsRowBooked command view now c before after
+row_booked {now = now} {before = before} row result items is told change_is books = record {
+  row = row;
+  added = added before (row ∷ []) result items is told;
+  books = λ s m read. subst (λ (x : Change). BooksRow s m now x row) (sym change_is) (books s m read);
+}
 
 -- one more step
 pub on_then : (first : Operator) (m : Listed) (s n : Operator) (stage next : Stage) (rows more after : List RowChange) → (on : IsOn first m s stage rows) → (w : Listed)
@@ -116,6 +132,20 @@ begun s m rows listing empty = record { listed = m; books = subst (λ (rs : List
 pub there : {A : Type 0} (o : Option A) (P : A → Type 0) → is_some o ≡ true → IfSome o P → (x : A) × P x
 there None P e h = absurd cc
 there (Some x) P e h = (x, h)
+
+-- what was read for a request that is accepted
+pub accepted_read : (s : Operator) (m : Listed) (now : ℕ) (q : Request) (a : Accepted) (r : Reading) → r.command.now ≡ q.command
+    → IsAccepted s m now q r.view.now r.touched.now r.numbers.now a → IsReading s m r
+accepted_read s m now q a r command_is got = record {
+  read = record { sound = got.sound; listing = got.listing; view_is = got.view_is ∙ ap (view_of s) (sym command_is) };
+  touches = subst (λ (c : Command). IsTouched s c r.touched.now) (sym command_is) got.touches;
+  stored = got.stored;
+}
+
+-- all changes are booked, from no row on
+pub all_booked : (s : Operator) (m : Listed) (r : Reading) (rows after : List RowChange) (step : Operator → Operator) (next : Option Stage) → IsReading s m r → rows ≡ []
+    → BooksStep r First rows step next after → is_some next ≡ true → (t : Stage) × IsOn s m (step s) t after
+all_booked s m r rows after step next read empty books some = there next (λ t. IsOn s m (step s) t after) some (books s s m read (begun s m rows read.read.listing empty))
 
 changes_then : (now : ℕ) (o : Option Change) (os : List (Option Change)) (s : Operator) → all_changed now (present (o ∷ os)) s ≡ all_changed now (present os) (after_change now o s)
 changes_then now None os s = refl

@@ -20,14 +20,16 @@ use Rattle.bike_book.specs.Between.{Books}
 use Rattle.bike_moves.specs.Facts.{DockTotals, HasDockTotals, HasBikeTotals, IsMarkedEmpty, IsMarkedHeld}
 use Rattle.bike_moves.specs.MoveLaws.{with_count, with_dock, mark_change}
 use Rattle.bike_moves.proofs.MarkBooks.{mark_empty, mark_held}
-use Rattle.bike_booking.specs.declared.stored.StoredNumbers.{StoredNumbers}
-use Rattle.bike_booking.specs.declared.touched.Touched.{Touched}
-use Rattle.bike_booking.specs.declared.reading.Reading.{Reading}
-use Rattle.bike_booking.specs.Touched.{AreCounts, type_of_docked, dock_touched, type_touched}
-use Rattle.bike_booking.specs.Moves.{AreShares, dock_written, count_written}
+use Rattle.bike_facts.specs.declared.stored.StoredNumbers.{StoredNumbers}
+use Rattle.bike_facts.specs.declared.touched.Touched.{Touched}
+use Rattle.bike_facts.specs.declared.reading.Reading.{Reading}
+use Rattle.bike_facts.specs.Touched.{AreCounts, type_of_docked, dock_touched, type_touched}
+use Rattle.bike_facts.specs.Shares.{AreShares}
+use Rattle.bike_booking.specs.Moves.{dock_written, count_written}
 use Rattle.bike_booking.specs.Marks.{IsMarkRead, IsEmptyMarkBooked, IsHeldMarkBooked}
-use Rattle.bike_booking.specs.Stages.{IsReading, AreRowsBooked}
-use Rattle.bike_booking.proofs.ShownLemmas.{station_in, number_in, docked_row, found_in, empty_dock}
+use Rattle.bike_facts.specs.Reading.{IsReading}
+use Rattle.bike_booking.specs.Stages.{AreRowsBooked}
+use Rattle.bike_facts.proofs.ShownLemmas.{station_in, number_in, docked_row, found_in, empty_dock}
 use Rattle.bike_booking.proofs.MoveLemmas.{dock_read, docks_in, bikes_in, docks_read, counts_read, bikes_read, type_read, bikes_move, counts_row}
 
 -- ---- what was read of the dock

@@ -3,6 +3,7 @@ use Rattle.std.proofs.Common.{◌≡◌, ℕ, pos, List, [], ◌∷◌, ◌++◌
 use Rattle.std.specs.Prelude.{option_map, IfSome, if◌then◌else◌}
 use Rattle.std.specs.Borrow.{Bor}
 use Rattle.std.specs.FinMap as map
+use Rattle.bike_commands.specs.declared.command.Command.{Command}
 use Rattle.bike_operator.specs.declared.records.BikeState.{BikeState}
 use Rattle.bike_operator.specs.declared.records.Place.{Place}
 use Rattle.bike_operator.specs.declared.records.Place.TheVariants as place
@@ -25,16 +26,19 @@ use Rattle.bike_moves.specs.Facts.{DockTotals, BikeTotals, HasDockTotals, HasBik
 use Rattle.bike_moves.specs.MoveLaws.{with_count}
 use Rattle.bike_moves.proofs.Ends.{stored_docks}
 use Rattle.bike_moves.proofs.BikeBooks.{place_away, place_at, turn_away, turn_at}
-use Rattle.bike_booking.specs.declared.stored.StoredNumbers.{StoredNumbers}
-use Rattle.bike_booking.specs.declared.touched.Touched.{Touched}
-use Rattle.bike_booking.specs.declared.reading.Reading.{Reading}
-use Rattle.bike_booking.specs.declared.bikes.BikeRow.{BikeRow}
-use Rattle.bike_booking.specs.declared.shares.BikeShares.{BikeShares}
-use Rattle.bike_booking.specs.Touched.{IsTouched, AreStored, AreCounts, dock_touched, type_touched}
-use Rattle.bike_booking.specs.Booking.{AreOfTouched}
-use Rattle.bike_booking.specs.Moves.{IsBikeRead, IsPlaceAt, HasStation, AreShares, AreCountsMoved, AreMoved, count_written}
-use Rattle.bike_booking.specs.Stages.{IsReading, with_rentals, AreMovesBooked}
-use Rattle.bike_booking.proofs.ShownLemmas.{mark_shown}
+use Rattle.bike_facts.specs.declared.stored.StoredNumbers.{StoredNumbers}
+use Rattle.bike_facts.specs.declared.touched.Touched.{Touched}
+use Rattle.bike_facts.specs.declared.reading.Reading.{Reading}
+use Rattle.bike_facts.specs.declared.bikes.BikeRow.{BikeRow}
+use Rattle.bike_facts.specs.declared.shares.BikeShares.{BikeShares}
+use Rattle.bike_facts.specs.Touched.{IsTouched, AreStored, AreCounts, AreOfTouched, dock_touched, type_touched}
+use Rattle.bike_facts.specs.Bikes.{IsBikeOf, IsBikeRead}
+use Rattle.bike_facts.specs.Docks.{IsPlaceAt, HasStation}
+use Rattle.bike_facts.specs.Shares.{AreShares, AreCountsMoved, AreMoved}
+use Rattle.bike_booking.specs.Moves.{count_written}
+use Rattle.bike_facts.specs.Reading.{IsReading}
+use Rattle.bike_booking.specs.Stages.{with_rentals, AreMovesBooked}
+use Rattle.bike_facts.proofs.ShownLemmas.{mark_shown}
 
 -- ---- what was read of the dock touched
 
@@ -131,6 +135,40 @@ counts_row has is station type_id n one two =
 pub two_steps : (r0 r1 r2 first rest : List RowChange) → r1 ≡ r0 ++ first → r2 ≡ r1 ++ rest → r2 ≡ r0 ++ (first ++ rest)
 two_steps r0 r1 r2 first rest one two = two ∙ ap (λ (rs : List RowChange). rs ++ rest) one ∙ append_assoc r0 first rest
 
+-- ---- the bicycle, and the counts of its type at the dock's station
+
+-- What was read of the bicycle and of the dock touched, whatever the rentals are by now.
+pub record IsBikeAt (s : Operator) (m : Listed) (rentals : List Rental) (r : Reading) (bike : ℕ) (b : BikeRow) (t : Touched) (type_id : Bor (List ℕ)) : Type 0 where
+  pub bike_is : IsBikeOf s r.command.now bike b
+  pub dock : IsDockRead s m r t
+  pub known : map.contains_key s.stations t.station.now ≡ true
+  pub kind : type_id.now ≡ bike_is.row.type_id
+  pub counts : AreCounts s m t.station.now r.numbers.now type_id.now
+  pub bikes : HasBikeTotals (with_rentals rentals s) t.station.now bike_is.row.type_id (bikes_in r.numbers.now)
+
+pub bike_at : (s : Operator) (m : Listed) (rentals : List Rental) (r : Reading) (bike : ℕ) (b : BikeRow) (t : Touched) (type_id : Bor (List ℕ)) → IsReading s m r
+    → r.touched.now ≡ Some t → t.type_id ≡ Some type_id → IsBikeRead r bike b → HasStation r → IsBikeAt s m rentals r bike b t type_id
+bike_at s m rentals r bike b t type_id read some typed is station =
+    let it = is s read.read.sound read.read.view_is in
+    let d = dock_read s m r t read some in
+    let known = station s t.station.now t.dock read.read.sound read.read.view_is d.dock_is in
+    let kind : type_id.now ≡ it.row.type_id = type_read s m r t type_id it.row.type_id d typed (it.type_is (t.station.now, t.dock) d.dock_is) in
+    let type_known : map.contains_key s.types type_id.now ≡ true = ap (λ (k : List ℕ). map.contains_key s.types k) kind ∙ (read.read.sound.bikes.bikes bike it.row it.found).type_is in
+    let has = bikes_with s rentals t.station.now type_id.now (bikes_in r.numbers.now) (bikes_read s m r t type_id d typed known type_known) in
+    record {
+      bike_is = it;
+      dock = d;
+      known = known;
+      kind = kind;
+      counts = counts_read s m r t type_id d typed;
+      bikes = subst (λ (k : List ℕ). HasBikeTotals (with_rentals rentals s) t.station.now k (bikes_in r.numbers.now)) kind has;
+    }
+
+-- what the bicycle added, as its row tells it
+pub shares_were : (s : Operator) (c : Command) (bike : ℕ) (b : BikeRow) (it : IsBikeOf s c bike b) (broken : Bool) (shares : BikeShares)
+    → AreShares shares (place_shares broken b.state (place_of b.place)) → AreShares shares (place_shares broken it.row.state it.row.place)
+shares_were s c bike b it broken shares are = subst₂ (λ (st : BikeState) (at : Place). AreShares shares (place_shares broken st at)) (sym it.state_is) (sym it.place_is) are
+
 -- ---- another place
 
 pub placed_away : (r : Reading) (now bike : ℕ) (b : BikeRow) (p : NewPlace) (r0 r1 : List RowChange) → IsBikeRead r bike b → IsAway (place_of b.place) → IsAway (place_of p)
@@ -157,34 +195,28 @@ placed_at r now bike b p t type_id less more after r0 r1 r2 some typed is statio
   rows = row.SetBike bike b.state p ∷ row.SetDocks t.station after.free after.broken ∷ count_written t.station type_id after ∷ [];
   added = two_steps r0 r1 r2 (row.SetBike bike b.state p ∷ row.SetDocks t.station after.free after.broken ∷ []) (count_written t.station type_id after ∷ []) one two;
   books = λ s m rentals read.
-      let it = is s read.read.sound read.read.view_is in
-      let d = dock_read s m r t read some in
+      let found = bike_at s m rentals r bike b t type_id read some typed is station in
+      let it = found.bike_is in
       let o = with_rentals rentals s in
       let broken = r.view.now.is_dock_broken in
-      let known = station s t.station.now t.dock read.read.sound read.read.view_is d.dock_is in
-      let kind : type_id.now ≡ it.row.type_id = type_read s m r t type_id it.row.type_id d typed (it.type_is (t.station.now, t.dock) d.dock_is) in
-      let type_known : map.contains_key s.types type_id.now ≡ true = ap (λ (k : List ℕ). map.contains_key s.types k) kind ∙ (read.read.sound.bikes.bikes bike it.row it.found).type_is in
-      let n = counts_read s m r t type_id d typed in
-      let has = bikes_with s rentals t.station.now type_id.now (bikes_in r.numbers.now) (bikes_read s m r t type_id d typed known type_known) in
-      let less_is : AreShares less (place_shares broken it.row.state it.row.place) =
-      subst₂ (λ (st : BikeState) (at : Place). AreShares less (place_shares broken st at)) (sym it.state_is) (sym it.place_is) l in
+      let less_is = shares_were s r.command.now bike b it broken less l in
       let more_is : AreShares more (place_shares broken it.row.state (place_of p)) = subst (λ (st : BikeState). AreShares more (place_shares broken st (place_of p))) (sym it.state_is) k in
       let moves : IsPlacedAt o bike it.row (place_of p) t.station.now (docks_in r.numbers.now) (docks_in after) (bikes_in r.numbers.now) (bikes_in after) = record {
         found = it.found;
         from_broken = broken;
         to_broken = broken;
-        from_is = marked_at s rentals t broken it.row.place d.mark_is (subst (IsPlaceAt t) (sym it.place_is) from_at);
-        to_is = marked_at s rentals t broken (place_of p) d.mark_is to_at;
-        docks = docks_with s rentals t.station.now (docks_in r.numbers.now) (docks_read s m r t read.read.sound d known);
-        bikes = subst (λ (k : List ℕ). HasBikeTotals o t.station.now k (bikes_in r.numbers.now)) kind has;
+        from_is = marked_at s rentals t broken it.row.place found.dock.mark_is (subst (IsPlaceAt t) (sym it.place_is) from_at);
+        to_is = marked_at s rentals t broken (place_of p) found.dock.mark_is to_at;
+        docks = docks_with s rentals t.station.now (docks_in r.numbers.now) (docks_read s m r t read.read.sound found.dock found.known);
+        bikes = found.bikes;
         docks_move = docks_move r.numbers.now after less more (place_shares broken it.row.state it.row.place) (place_shares broken it.row.state (place_of p)) by less_is more_is;
         bikes_move = bikes_move r.numbers.now after less more (place_shares broken it.row.state it.row.place) (place_shares broken it.row.state (place_of p)) by.counts less_is more_is;
       } in
       let w = with_count t.station.now type_id.now m in
-      let count = counts_row (map.contains_key m.counts (key_of t.station.now type_id.now)) r.numbers.now.has_count_row t.station type_id after by.counts.has_count_row n.has_row in (
+      let count = counts_row (map.contains_key m.counts (key_of t.station.now type_id.now)) r.numbers.now.has_count_row t.station type_id after by.counts.has_count_row found.counts.has_row in (
         w,
         subst₂ (λ (state : BikeState) (c : RowChange). Books (row.SetBike bike state p ∷ row.SetDocks t.station after.free after.broken ∷ c ∷ []) o m (changed now (change.PlaceBike bike p) o) w) it.state_is count
-            (place_at o m now (listing_with s rentals m read.read.listing) bike it.row p t.station type_id (docks_in r.numbers.now) (docks_in after) (bikes_in r.numbers.now) (bikes_in after) kind moves),
+            (place_at o m now (listing_with s rentals m read.read.listing) bike it.row p t.station type_id (docks_in r.numbers.now) (docks_in after) (bikes_in r.numbers.now) (bikes_in after) found.kind moves),
       );
 }
 
@@ -209,29 +241,23 @@ turned_at r now bike b state t type_id less more after r0 r1 r2 some typed is st
   rows = row.SetBike bike state b.place ∷ count_written t.station type_id after ∷ [];
   added = two_steps r0 r1 r2 (row.SetBike bike state b.place ∷ []) (count_written t.station type_id after ∷ []) one two;
   books = λ s m rentals read.
-      let it = is s read.read.sound read.read.view_is in
-      let d = dock_read s m r t read some in
+      let found = bike_at s m rentals r bike b t type_id read some typed is station in
+      let it = found.bike_is in
       let o = with_rentals rentals s in
       let broken = r.view.now.is_dock_broken in
-      let known = station s t.station.now t.dock read.read.sound read.read.view_is d.dock_is in
-      let kind : type_id.now ≡ it.row.type_id = type_read s m r t type_id it.row.type_id d typed (it.type_is (t.station.now, t.dock) d.dock_is) in
-      let type_known : map.contains_key s.types type_id.now ≡ true = ap (λ (k : List ℕ). map.contains_key s.types k) kind ∙ (read.read.sound.bikes.bikes bike it.row it.found).type_is in
-      let n = counts_read s m r t type_id d typed in
-      let has = bikes_with s rentals t.station.now type_id.now (bikes_in r.numbers.now) (bikes_read s m r t type_id d typed known type_known) in
-      let less_is : AreShares less (place_shares broken it.row.state it.row.place) =
-      subst₂ (λ (st : BikeState) (at : Place). AreShares less (place_shares broken st at)) (sym it.state_is) (sym it.place_is) l in
+      let less_is = shares_were s r.command.now bike b it broken less l in
       let more_is : AreShares more (place_shares broken state it.row.place) = subst (λ (at : Place). AreShares more (place_shares broken state at)) (sym it.place_is) k in
       let turns : IsTurnedAt o bike it.row state t.station.now (bikes_in r.numbers.now) (bikes_in after) = record {
         found = it.found;
         dock_broken = broken;
-        place_is = marked_at s rentals t broken it.row.place d.mark_is (subst (IsPlaceAt t) (sym it.place_is) at);
-        bikes = subst (λ (k : List ℕ). HasBikeTotals o t.station.now k (bikes_in r.numbers.now)) kind has;
+        place_is = marked_at s rentals t broken it.row.place found.dock.mark_is (subst (IsPlaceAt t) (sym it.place_is) at);
+        bikes = found.bikes;
         bikes_move = bikes_move r.numbers.now after less more (place_shares broken it.row.state it.row.place) (place_shares broken state it.row.place) by less_is more_is;
       } in
       let w = with_count t.station.now type_id.now m in
-      let count = counts_row (map.contains_key m.counts (key_of t.station.now type_id.now)) r.numbers.now.has_count_row t.station type_id after by.has_count_row n.has_row in (
+      let count = counts_row (map.contains_key m.counts (key_of t.station.now type_id.now)) r.numbers.now.has_count_row t.station type_id after by.has_count_row found.counts.has_row in (
         w,
         subst (λ (c : RowChange). Books (row.SetBike bike state b.place ∷ c ∷ []) o m (changed now (change.SetState bike state) o) w) count
-            (turn_at o m now (listing_with s rentals m read.read.listing) bike it.row state b.place t.station type_id (bikes_in r.numbers.now) (bikes_in after) (sym it.place_is) kind turns),
+            (turn_at o m now (listing_with s rentals m read.read.listing) bike it.row state b.place t.station type_id (bikes_in r.numbers.now) (bikes_in after) (sym it.place_is) found.kind turns),
       );
 }

@@ -13,7 +13,7 @@ use Rattle.bike_book.specs.Rows.{segment_row}
 use Rattle.bike_book.specs.Writes.{RowWrite, Add, write_of, writes_of}
 use Rattle.bike_book.specs.ChangeLaws.{segment_writes}
 use Rattle.bike_book.proofs.PlanBooks.{add_plan}
-use Rattle.bike_booking.specs.declared.reading.Reading.{Reading}
+use Rattle.bike_facts.specs.declared.reading.Reading.{Reading}
 use Rattle.bike_booking.specs.Plans.{AreSegmentsBooked}
 use Rattle.bike_booking.specs.Stages.{AreRowsBooked}
 

@@ -1,5 +1,5 @@
 -- The row changes by which an accepted request is booked.
-use Rattle.std.specs.Prelude.{◌≡◌, ℕ, List, Option, Some, None, Ok}
+use Rattle.std.specs.Prelude.{◌≡◌, ℕ, List, Option, Ok}
 use Rattle.bike_fields.specs.Caller.{caller_text}
 use Rattle.bike_ledger.specs.Ledger.{cash_of, revenue_of}
 use Rattle.bike_commands.specs.declared.request.Request.{Request}
@@ -16,16 +16,11 @@ use Rattle.bike_operator.specs.Sound.{IsSound}
 use Rattle.bike_book.specs.declared.row_change.RowChange.{RowChange}
 use Rattle.bike_book.specs.Stored.{Listed, IsListing}
 use Rattle.bike_book.specs.Leads.{LeadsTo}
-use Rattle.bike_booking.specs.declared.stored.StoredNumbers.{StoredNumbers}
+use Rattle.bike_facts.specs.declared.stored.StoredNumbers.{StoredNumbers}
+use Rattle.bike_facts.specs.declared.touched.Touched.{Touched}
+use Rattle.bike_facts.specs.Touched.{IsTouched, AreOfTouched}
 use Rattle.bike_booking.specs.declared.stored.Sums.{Sums}
-use Rattle.bike_booking.specs.declared.touched.Touched.{Touched}
 use Rattle.bike_booking.specs.declared.texts.KeptTexts.{KeptTexts}
-use Rattle.bike_booking.specs.Touched.{IsTouched, AreStored}
-
--- the numbers are those of what the command touches, and anything where it touches nothing
-abbrev pub AreOfTouched : Operator → Listed → Option Touched → StoredNumbers → Type 0
-AreOfTouched s m None n = Unit {0}
-AreOfTouched s m (Some t) n = AreStored s m t n
 
 -- cash and revenue of the operator
 abbrev pub AreSums : Operator → Sums → Type 0

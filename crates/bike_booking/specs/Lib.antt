@@ -1,4 +1,3 @@
-pub mod Touched
 pub mod Moves
 pub mod Marks
 pub mod Stages

@@ -7,10 +7,11 @@ use Rattle.bike_operator.specs.declared.view.StationView.{StationView}
 use Rattle.bike_counts.specs.Laws.{one, IsMoved, dock_shares}
 use Rattle.bike_book.specs.declared.row_change.RowChange.{RowChange}
 use Rattle.bike_book.specs.declared.row_change.RowChange.TheVariants as row
-use Rattle.bike_booking.specs.declared.stored.StoredNumbers.{StoredNumbers}
-use Rattle.bike_booking.specs.declared.reading.Reading.{Reading}
-use Rattle.bike_booking.specs.declared.shares.BikeShares.{BikeShares}
-use Rattle.bike_booking.specs.Moves.{AreShares, AreCountsMoved, count_written, dock_written}
+use Rattle.bike_facts.specs.declared.stored.StoredNumbers.{StoredNumbers}
+use Rattle.bike_facts.specs.declared.reading.Reading.{Reading}
+use Rattle.bike_facts.specs.declared.shares.BikeShares.{BikeShares}
+use Rattle.bike_facts.specs.Shares.{AreShares, AreCountsMoved}
+use Rattle.bike_booking.specs.Moves.{count_written, dock_written}
 
 -- The command marks this dock, and the view shows that its station has it.
 pub record IsMarkRead (r : Reading) (station : List ℕ) (dock : ℕ) : Type 0 where

@@ -9,29 +9,14 @@ use Rattle.bike_operator.specs.declared.records.Rental.{Rental}
 use Rattle.bike_operator.specs.declared.change.Change.{Change}
 use Rattle.bike_operator.specs.declared.view.View.{View}
 use Rattle.bike_operator.specs.Operator.{Operator}
-use Rattle.bike_operator.specs.View.{view_of}
 use Rattle.bike_operator.specs.Changes.{changed}
-use Rattle.bike_operator.specs.Sound.{IsSound}
 use Rattle.bike_book.specs.declared.row_change.RowChange.{RowChange}
-use Rattle.bike_book.specs.Stored.{Listed, IsListing}
+use Rattle.bike_book.specs.Stored.{Listed}
 use Rattle.bike_book.specs.Between.{Books}
-use Rattle.bike_booking.specs.declared.reading.Reading.{Reading}
+use Rattle.bike_facts.specs.declared.reading.Reading.{Reading}
+use Rattle.bike_facts.specs.Reading.{IsRead, IsReading}
 use Rattle.bike_booking.specs.declared.stage.Stage.{Stage}
 use Rattle.bike_booking.specs.declared.stage.Stage.TheVariants.{First, Rented, Stored, Moved, Last}
-use Rattle.bike_booking.specs.Touched.{IsTouched}
-use Rattle.bike_booking.specs.Booking.{AreOfTouched}
-
--- The operator is sound, his rows are listed right, and the view is his.
-pub record IsRead (s : Operator) (m : Listed) (command : Command) (view : View) : Type 0 where
-  pub sound : IsSound s
-  pub listing : IsListing s m
-  pub view_is : view ≡ view_of s command
-
--- So are what the command touches, and the numbers stored of it.
-pub record IsReading (s : Operator) (m : Listed) (r : Reading) : Type 0 where
-  pub read : IsRead s m r.command.now r.view.now
-  pub touches : IsTouched s r.command.now r.touched.now
-  pub stored : AreOfTouched s m r.touched.now r.numbers.now
 
 -- ---- changes of one row
 

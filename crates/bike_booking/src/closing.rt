@@ -4,11 +4,11 @@ ghost use Rattle.std.specs.Prelude.{◌≡◌, ◌++◌, ◌+ℤ◌, true, IfSom
 ghost use Rattle.bike_ledger.specs.Ledger.{credit, cash_in, earned};
 ghost use Rattle.bike_booking.specs.Closing.{close_rows, AreSumsAfter, IsEntryBooked};
 
-use crate::reading::{balance_read, refunds_read};
 use crate::stored::Sums;
 use crate::texts::KeptTexts;
 use bike_book::RowChange;
 use bike_commands::Command;
+use bike_facts::{balance_read, refunds_read};
 use bike_fixed::{Cents, Moment};
 use bike_ledger::{Entry, EntryKind};
 use bike_operator::View;

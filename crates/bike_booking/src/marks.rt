@@ -7,12 +7,9 @@ ghost use Rattle.bike_booking.specs.Marks.{IsMarkRead, IsEmptyMarkBooked, IsHeld
 ghost use Rattle.bike_booking.specs.Stages.{AreRowsBooked, KeepsOrders};
 
 use crate::moves::book_counts;
-use crate::reading::{Reading, is_same};
-use crate::shares::{counts_after, dock_shares, moved, one};
-use crate::stored::StoredNumbers;
-use crate::touched::Touched;
 use bike_book::RowChange;
 use bike_commands::Command;
+use bike_facts::{Reading, StoredNumbers, counts_after, dock_shares, is_same, moved, one};
 use bike_fields::Ident;
 use bike_fixed::Moment;
 use bike_operator::{BikeState, Change};

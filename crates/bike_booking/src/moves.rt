@@ -4,16 +4,15 @@ ghost use Rattle.std.specs.Prelude.{◌≡◌, ◌++◌, ◌∷◌, [], true, So
 ghost use Rattle.bike_operator.specs.declared.change.Change.TheVariants as change;
 ghost use Rattle.bike_operator.specs.Changes.{place_of};
 ghost use Rattle.bike_counts.specs.Laws.{IsAway};
-ghost use Rattle.bike_booking.specs.Moves.{IsBikeRead, HasBike, IsPlaceAt, HasStation, count_written};
+ghost use Rattle.bike_facts.specs.Bikes.{IsBikeRead, HasBike};
+ghost use Rattle.bike_booking.specs.Moves.{count_written};
 ghost use Rattle.bike_booking.specs.Stages.{AreMovesBooked};
 
-use crate::bikes::{BikeRow, bike_read};
-use crate::reading::{Reading, is_same};
-use crate::shares::{counts_after, numbers_after, place_shares};
-use crate::stored::StoredNumbers;
-use crate::touched::Touched;
 use bike_book::RowChange;
-use bike_commands::Command;
+use bike_facts::{
+    BikeRow, Reading, StoredNumbers, Touched, bike_read, counts_after, has_station, is_place_at,
+    numbers_after, place_shares,
+};
 use bike_fields::Ident;
 use bike_fixed::Moment;
 use bike_operator::{BikeState, NewPlace};
@@ -26,27 +25,6 @@ fn is_away(place: &NewPlace) -> bool
     match place {
         NewPlace::Dock { .. } => false,
         NewPlace::Rental { .. } | NewPlace::Truck { .. } | NewPlace::Depot => true,
-    }
-}
-
-/// Whether the place is no dock but the one touched.
-fn is_place_at(place: &NewPlace, at: &Touched) -> bool
-    ensures { result ≡ true → IsPlaceAt at.now (place_of place.now) }
-{
-    match place {
-        NewPlace::Dock { station, dock } => is_same(station, at.station) && *dock == at.dock,
-        NewPlace::Rental { .. } | NewPlace::Truck { .. } | NewPlace::Depot => true,
-    }
-}
-
-/// Whether the station of the dock touched is there. That of a bicycle in a dock is.
-fn has_station(reading: &Reading) -> bool
-    ensures { result ≡ true → HasStation reading.now }
-{
-    match reading.command {
-        Command::MarkBike { .. } => true,
-        Command::Load { .. } => true,
-        _ => reading.view.station.is_some(),
     }
 }
 

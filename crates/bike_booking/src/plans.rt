@@ -5,9 +5,9 @@ ghost use Rattle.bike_operator.specs.declared.change.Change.TheVariants as chang
 ghost use Rattle.bike_booking.specs.Plans.{AreSegmentsBooked};
 ghost use Rattle.bike_booking.specs.Stages.{AreRowsBooked};
 
-use crate::reading::{Reading, lacks_plan};
 use bike_book::RowChange;
 use bike_catalogue::{Plan, Segment};
+use bike_facts::{Reading, lacks_plan};
 use bike_fields::Ident;
 use bike_fixed::Moment;
 use std::alloc::Global;

@@ -3,9 +3,9 @@
 ghost use Rattle.std.specs.Prelude.{◌≡◌, true};
 ghost use Rattle.bike_booking.specs.Stages.{IsRowBooked, ChangesRentals};
 
-use crate::reading::{has_rider, lacks_bike, lacks_station, next_order, next_rental, order_read};
 use bike_book::RowChange;
 use bike_commands::Command;
+use bike_facts::{has_rider, lacks_bike, lacks_station, next_order, next_rental, order_read};
 use bike_fixed::{Cents, Moment};
 use bike_operator::{Change, View};
 use std::alloc::Global;

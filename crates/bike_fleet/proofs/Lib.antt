@@ -1,4 +1,3 @@
-mod AnswerLemmas
 mod StatementLemmas
 mod ColumnLemmas
 mod FoundLemmas

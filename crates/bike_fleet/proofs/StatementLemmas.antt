@@ -1,27 +1,20 @@
 -- What each statement finds.
-use Rattle.std.proofs.Common.{ℕ, List, [], ◌∷◌, codes, length, Option, Some, slice_get, refl, sym, subst}
+use Rattle.std.proofs.Common.{ℕ, List, [], ◌∷◌, codes, length, Option, Some, slice_get, refl, subst}
 use Rattle.sqlite_value.specs.declared.value.Value.TheVariants.{Text}
 use Rattle.sqlite_value.specs.Order.{Row}
 use Rattle.sqlite_sql.specs.Aggregate.{count}
 use Rattle.sqlite_tied.specs.Compute.{everything}
 use Rattle.sqlite.specs.Effect.{Database}
-use Rattle.bike_rows.specs.Stands.{rows_of}
 use Rattle.bike_rows.specs.View.{row_with, rows_where, last_of}
-use Rattle.bike_rows.proofs.ListLemmas.{filter_all}
 use Rattle.bike_rows.proofs.PageLaw.{map_same_list}
 use Rattle.bike_rows.proofs.SelectLaws.{counted_rows, first_with, last_row, every_column}
 use Rattle.bike_rows.proofs.WalkLaw.{Finds}
-use Rattle.bike_book.specs.Tables.{TableName, keys_of, rows_in, Types, Stations, Docks, Bikes, Trucks, Orders, Counts}
+use Rattle.bike_book.specs.Tables.{Types, Stations, Docks, Bikes, Trucks, Orders, Counts}
 use Rattle.bike_book.specs.Rows.{number_value}
-use Rattle.bike_schema.specs.Layouts.{layout_of, name_of}
-use Rattle.bike_schema.specs.Tables.{HasTables}
-use Rattle.bike_schema.proofs.AnswerLemmas.{FindsIn, keyed_in}
+use Rattle.bike_schema.specs.Layouts.{layout_of}
+use Rattle.bike_schema.proofs.AnswerLemmas.{FindsIn, keyed_in, in_table}
+use Rattle.bike_schema.proofs.CountLemmas.{counted_in}
 use Rattle.bike_schema.proofs.KeyLemmas.{table_key}
-use Rattle.bike_schema.proofs.MakesLemmas.{rows_of_table}
-
--- what a text finds in the rows of one table
-in_table : (t : TableName) {text : List ℕ} {params : Row} (found : List Row → Option Row) → ((db : Database) → HasTables db → Finds db text params (found (rows_of (keys_of t) (name_of t) db))) → FindsIn text params (λ tables. found (rows_in tables t))
-in_table t {text} {params} found finds = record { finds = λ db has. subst (λ rows. Finds db text params (found rows)) (sym (rows_of_table db t)) (finds db has) }
 
 -- ---- by the key
 
@@ -84,22 +77,20 @@ unfolding everything
 counts_on_truck_for truck order =
     in_table Bikes (λ rows. count_row_of (rows_where (6 ∷ 7 ∷ []) (number_value truck ∷ number_value order ∷ []) rows)) (λ db has. counted_rows (table_key Bikes) (has Bikes) 0 (6 ∷ 7 ∷ []) (λ tree. refl, refl) refl (λ r. refl))
 
--- a count with no test is that of all rows
-counts_all : (t : TableName) {text : List ℕ} → ((db : Database) → HasTables db → Finds db text [] (count_row_of (rows_where [] [] (rows_of (keys_of t) (name_of t) db)))) → FindsIn text [] (λ tables. count_row_of (rows_in tables t))
-counts_all t {text} finds = in_table t count_row_of (λ db has. subst (λ rows. Finds db text [] (count_row_of rows)) (filter_all _) (finds db has))
+-- of all rows
 
 pub counts_stations : FindsIn (codes "SELECT count(*) FROM stations") [] (λ t. count_row_of t.stations)
 unfolding everything
-counts_stations = counts_all Stations (λ db has. counted_rows (table_key Stations) (has Stations) 0 [] (λ tree. refl, refl) refl (λ r. refl))
+counts_stations = counted_in Stations (λ tree. refl, refl)
 
 pub counts_types : FindsIn (codes "SELECT count(*) FROM types") [] (λ t. count_row_of t.types)
 unfolding everything
-counts_types = counts_all Types (λ db has. counted_rows (table_key Types) (has Types) 0 [] (λ tree. refl, refl) refl (λ r. refl))
+counts_types = counted_in Types (λ tree. refl, refl)
 
 pub counts_bikes : FindsIn (codes "SELECT count(*) FROM bikes") [] (λ t. count_row_of t.bikes)
 unfolding everything
-counts_bikes = counts_all Bikes (λ db has. counted_rows (table_key Bikes) (has Bikes) 0 [] (λ tree. refl, refl) refl (λ r. refl))
+counts_bikes = counted_in Bikes (λ tree. refl, refl)
 
 pub counts_trucks : FindsIn (codes "SELECT count(*) FROM trucks") [] (λ t. count_row_of t.trucks)
 unfolding everything
-counts_trucks = counts_all Trucks (λ db has. counted_rows (table_key Trucks) (has Trucks) 0 [] (λ tree. refl, refl) refl (λ r. refl))
+counts_trucks = counted_in Trucks (λ tree. refl, refl)

@@ -12,8 +12,10 @@ ghost use Rattle.bike_laws.specs.Retries.{is_kept, is_accepted, IsKeptWith, time
 /// The law of what is kept: an accepted request is kept under its caller and key with its command and reply,
 /// and what is kept stays so.
 pub fn kept_law()
-    ensures first { (s : Operator) (t : ℕ) (q : Request) → is_accepted s q ≡ true → IsKeptWith (step s t q).1 q (step s t q).0 }
-    ensures on { (s : Operator) (cs : List Call) (key : Key) (kept : Kept) → get s.kept key ≡ Some kept → get (after s cs).kept key ≡ Some kept }
+    ensures first { (s : Operator) (t : ℕ) (q : Request) → is_accepted s q ≡ true
+        → IsKeptWith (step s t q).1 q (step s t q).0 }
+    ensures on { (s : Operator) (cs : List Call) (key : Key) (kept : Kept) → get s.kept key ≡ Some kept
+        → get (after s cs).kept key ≡ Some kept }
 {}
 
 /// The law of acceptance: of all requests with one caller and key at most one is accepted.
@@ -24,15 +26,18 @@ pub fn once_law()
 /// The law of retries: once a request was accepted, a request with its caller and key changes nothing. With an
 /// equal command it is answered as the first was, and with another it is refused.
 pub fn retry_law()
-    ensures again { (s : Operator) (t u : ℕ) (q p : Request) (cs : List Call) → is_accepted s q ≡ true → key_in p ≡ key_in q → is_same q.command p.command ≡ true
+    ensures again { (s : Operator) (t u : ℕ) (q p : Request) (cs : List Call)
+        → is_accepted s q ≡ true → key_in p ≡ key_in q → is_same q.command p.command ≡ true
         → step (after (step s t q).1 cs) u p ≡ ((step s t q).0, after (step s t q).1 cs) }
-    ensures reused { (s : Operator) (t u : ℕ) (q p : Request) (cs : List Call) → is_accepted s q ≡ true → key_in p ≡ key_in q → is_same q.command p.command ≡ false
+    ensures reused { (s : Operator) (t u : ℕ) (q p : Request) (cs : List Call)
+        → is_accepted s q ≡ true → key_in p ≡ key_in q → is_same q.command p.command ≡ false
         → step (after (step s t q).1 cs) u p ≡ (Refused KeyReused, after (step s t q).1 cs) }
 {}
 
 /// The law of lists without retries: requests whose caller and key are kept when they come can be left out, one
 /// of them or all.
 pub fn without_retries_law()
-    ensures one { (s : Operator) (cs ds : List Call) (c : Call) → is_kept (after s cs) c.1 ≡ true → after s (cs ++ c ∷ ds) ≡ after s (cs ++ ds) }
+    ensures one { (s : Operator) (cs ds : List Call) (c : Call) → is_kept (after s cs) c.1 ≡ true
+        → after s (cs ++ c ∷ ds) ≡ after s (cs ++ ds) }
     ensures all { (s : Operator) (cs : List Call) → after s (without_retries s cs) ≡ after s cs }
 {}

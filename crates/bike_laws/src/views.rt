@@ -4,14 +4,14 @@ ghost use Rattle.std.specs.Prelude.{◌≡◌, ◌≤◌, ◌<◌, ◌+◌, ℕ,
 ghost use Rattle.std.specs.FinMap.{len};
 ghost use Rattle.bike_commands.specs.declared.command.Command.{Command};
 ghost use Rattle.bike_commands.specs.Commands.{IsCommand};
-ghost use Rattle.bike_commands.specs.Replies.{IsReply};
 ghost use Rattle.bike_operator.specs.declared.limits.TheConstants.{MOST_BIKES, MOST_ENTRIES};
 ghost use Rattle.bike_operator.specs.Operator.{Operator};
 ghost use Rattle.bike_operator.specs.Counts.{open_rentals};
 ghost use Rattle.bike_operator.specs.View.{view_of, has_full_ledger};
 ghost use Rattle.bike_operator.specs.Steps.{refused, reply_of};
-ghost use Rattle.bike_operator.specs.Sound.{IsSound, is_refused};
+ghost use Rattle.bike_operator.specs.Sound.{IsSound};
 ghost use Rattle.bike_operator.specs.Bounds.{IsBounded};
+ghost use Rattle.bike_laws.specs.Answers.{IsAcceptance};
 
 /// The law of views: the numbers of a view of a sound operator are bounded.
 pub fn view_law()
@@ -29,5 +29,6 @@ pub fn ledger_room_law()
 /// The law of replies: an accepted command of a sound operator is answered by a reply of the program, which
 /// isn't a refusal.
 pub fn reply_law()
-    ensures { (s : Operator) (now : ℕ) (c : Command) → IsSound s → IsCommand c → refused s c ≡ None → s.now ≤ now → IsReply (reply_of s now c) × (is_refused (reply_of s now c) ≡ false) }
+    ensures { (s : Operator) (now : ℕ) (c : Command) → IsSound s → IsCommand c → refused s c ≡ None → s.now ≤ now
+        → IsAcceptance (reply_of s now c) }
 {}

@@ -1,7 +1,8 @@
 //! The laws: which row changes book each change, what stands after it, and what holds at the ends of a request.
 
 ghost use Rattle.bike_book.specs.ChangeLaws.{Everywhere};
-ghost use Rattle.bike_moves.specs.AfterLaws.{Always, AfterReport, AfterPlace, AfterPlaceAway, AfterPlaceAt, AfterTurn, AfterTurnAway, AfterTurnAt, AfterMarkEmpty, AfterMarkHeld};
+ghost use Rattle.bike_moves.specs.AfterLaws.{Always, AfterReport, AfterPlace, AfterPlaceAway, AfterPlaceAt};
+ghost use Rattle.bike_moves.specs.AfterLaws.{AfterTurn, AfterTurnAway, AfterTurnAt, AfterMarkEmpty, AfterMarkHeld};
 ghost use Rattle.bike_moves.specs.Ends.{StoredDocksLaw, SoundEndsLaw};
 ghost use Rattle.bike_moves.specs.MoveLaws.{ReportLaw, PlaceAwayLaw, PlaceAtLaw, TurnAwayLaw, TurnAtLaw, MarkEmptyLaw, MarkHeldLaw};
 

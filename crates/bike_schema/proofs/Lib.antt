@@ -2,6 +2,7 @@ pub mod TableLemmas
 pub mod KeyLemmas
 pub mod MakesLemmas
 pub mod AnswerLemmas
+pub mod CountLemmas
 pub mod ReadLemmas
 mod RunLemmas
 mod MakeTexts

@@ -1,8 +1,8 @@
 -- What making the tables does to a database.
-use Rattle.std.specs.Prelude.{◌≡◌, ℕ, pos, List, [], ◌∷◌, map, Ok}
+use Rattle.std.specs.Prelude.{◌≡◌, ℕ, pos, List, [], ◌∷◌, map, Result, Ok, IfErr, OnOk, OnErr, IsTrue}
 use Rattle.sqlite.specs.Effect.{Database, IsDatabase}
 use Rattle.sqlite.specs.Held.{Held, state}
-use Rattle.sqlite.specs.State.{State, ExecutesInside}
+use Rattle.sqlite.specs.State.{State, HasCleanDisk, KeepsCommit, ExecutesInside}
 use Rattle.sqlite_trees.specs.declared.store.Store.{Ghosts}
 use Rattle.bike_schema.specs.declared.create.TheConstants.{TABLES, INDEXES}
 use Rattle.bike_operator.specs.Operator.{no_operator}
@@ -11,7 +11,9 @@ use Rattle.bike_book.specs.Tables.{Meta}
 use Rattle.bike_book.specs.Rows.{meta_row}
 use Rattle.bike_book.specs.Writes.{RowWrite, Add}
 use Rattle.bike_book.specs.Stored.{none_listed, tables_for}
-use Rattle.bike_schema.specs.Tables.{tables_of, HasTables}
+use Rattle.bike_schema.specs.declared.fault.StatementFault.{StatementFault}
+use Rattle.bike_schema.specs.Calls.{IsFaultOf}
+use Rattle.bike_schema.specs.Tables.{tables_of, HasTables, HasNone}
 use Rattle.bike_schema.specs.Makes.{OthersStay, Continues}
 
 -- the statement ran within the transaction, with no parameters
@@ -45,3 +47,26 @@ pub record IsFresh (old new : Database) : Type 0 where
 pub record Creates (old new : State) : Type 0 where
   pub continues : Continues old new
   pub fresh : IsFresh old.now new.now
+
+-- ---- what is told of several statements inside a transaction, where the disk is clean afterwards
+
+-- after success all of them ran
+abbrev pub RunsAll : {S X : Type 0} (g : Ghosts S) → List (List ℕ) → Held S → Held S → Result X StatementFault → Type 0
+RunsAll g texts old new result =
+    HasCleanDisk (state g new) → IsTrue old.in_transaction → OnOk result (RanAll g texts old new)
+
+-- after success the tables are made, where no name of theirs was taken
+abbrev pub MakesTables : {S X : Type 0} (g : Ghosts S) → Held S → Held S → Result X StatementFault → Type 0
+MakesTables g old new result =
+    HasCleanDisk (state g new) → IsTrue old.in_transaction → HasNone (state g old).now.schema
+    → OnOk result (Creates (state g old) (state g new))
+
+-- after an error the commit would be what it was
+abbrev pub LeavesCommit : {S X : Type 0} (g : Ghosts S) → Held S → Held S → Result X StatementFault → Type 0
+LeavesCommit g old new result =
+    HasCleanDisk (state g new) → IsTrue old.in_transaction → OnErr result (KeepsCommit (state g old) (state g new))
+
+-- the fault is that of a statement which the engine refused
+abbrev pub TellsFault : {S X : Type 0} (g : Ghosts S) → Held S → Held S → Result X StatementFault → Type 0
+TellsFault g old new result =
+    HasCleanDisk (state g new) → IsTrue old.in_transaction → IfErr result (λ fault. (mid : Held _) × IsFaultOf g mid new fault)

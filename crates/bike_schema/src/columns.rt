@@ -4,7 +4,8 @@ ghost use Rattle.std.specs.Prelude.{◌≡◌, IfOk, Some, None, Err, option_map
 ghost use Rattle.sqlite_value.specs.Order.{column};
 ghost use Rattle.sqlite_sql.specs.Ops.{is_null};
 ghost use Rattle.bike_schema.specs.declared.fault.StatementFault.TheVariants.{StoreFailed};
-ghost use Rattle.bike_schema.specs.Columns.{number_of, moment_of, flag_of, state_of, whole_in, number_in, moment_in, flag_in, state_in, text_in, ident_in, name_in, or_none, read_or_failed};
+ghost use Rattle.bike_schema.specs.Columns.{number_of, moment_of, flag_of, state_of, or_none, read_or_failed};
+ghost use Rattle.bike_schema.specs.Columns.{whole_in, number_in, moment_in, flag_in, state_in, text_in, ident_in, name_in};
 
 use crate::fault::StatementFault;
 use bike_fields::{Ident, Name};

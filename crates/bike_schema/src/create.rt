@@ -1,11 +1,10 @@
 //! The statements that make the tables.
 
-ghost use Rattle.std.specs.Prelude.{◌≡◌, IsTrue, IfErr, OnOk, OnErr, map};
-ghost use Rattle.sqlite.specs.State.{HasCleanDisk, KeepsCommit, Survives};
+ghost use Rattle.std.specs.Prelude.{◌≡◌, map};
+ghost use Rattle.sqlite.specs.State.{Survives};
 ghost use Rattle.sqlite.specs.Held.{state};
-ghost use Rattle.bike_schema.specs.Calls.{IsFaultOf, Writes};
-ghost use Rattle.bike_schema.specs.Creates.{RanAll, table_texts, index_texts, first_write, Creates};
-ghost use Rattle.bike_schema.specs.Tables.{HasNone};
+ghost use Rattle.bike_schema.specs.Calls.{Writes};
+ghost use Rattle.bike_schema.specs.Creates.{RunsAll, LeavesCommit, TellsFault, MakesTables, table_texts, index_texts, first_write};
 
 use crate::fault::StatementFault;
 use bike_book::NEWEST;
@@ -21,21 +20,39 @@ pub const APP: &str = "bikeshare";
 
 /// The statements that make the tables, in the order of the schema.
 const TABLES: [&str; 15] = [
-    "CREATE TABLE meta (one INTEGER PRIMARY KEY, app TEXT NOT NULL, version INTEGER NOT NULL, now INTEGER NOT NULL, cash INTEGER NOT NULL, revenue INTEGER NOT NULL) STRICT",
-    "CREATE TABLE system (one INTEGER PRIMARY KEY, system_id TEXT NOT NULL, language TEXT NOT NULL, name TEXT NOT NULL, hours TEXT NOT NULL, contact TEXT NOT NULL, zone TEXT NOT NULL, currency TEXT NOT NULL, base_url TEXT NOT NULL, ttl INTEGER NOT NULL) STRICT",
-    "CREATE TABLE plans (plan_id TEXT PRIMARY KEY NOT NULL, name TEXT NOT NULL, price INTEGER NOT NULL, taxable INTEGER NOT NULL, description TEXT NOT NULL) STRICT",
-    "CREATE TABLE segments (plan_id TEXT NOT NULL, seq INTEGER NOT NULL, start INTEGER NOT NULL, rate INTEGER NOT NULL, every INTEGER NOT NULL, finish INTEGER, PRIMARY KEY (plan_id, seq)) STRICT",
-    "CREATE TABLE types (type_id TEXT PRIMARY KEY NOT NULL, name TEXT NOT NULL, form TEXT NOT NULL, propulsion TEXT NOT NULL, range_m INTEGER NOT NULL, plan_id TEXT NOT NULL) STRICT",
-    "CREATE TABLE stations (station_id TEXT PRIMARY KEY NOT NULL, name TEXT NOT NULL, lat INTEGER NOT NULL, lon INTEGER NOT NULL, docks INTEGER NOT NULL, installed INTEGER NOT NULL, renting INTEGER NOT NULL, \"returning\" INTEGER NOT NULL, reported INTEGER NOT NULL, free INTEGER NOT NULL, broken INTEGER NOT NULL) STRICT",
-    "CREATE TABLE docks (station_id TEXT NOT NULL, dock INTEGER NOT NULL, broken INTEGER NOT NULL, PRIMARY KEY (station_id, dock)) STRICT",
-    "CREATE TABLE bikes (bike INTEGER PRIMARY KEY, type_id TEXT NOT NULL, state INTEGER NOT NULL, station_id TEXT, dock INTEGER, rental INTEGER, truck INTEGER, ord INTEGER) STRICT",
+    "CREATE TABLE meta (one INTEGER PRIMARY KEY, app TEXT NOT NULL, version INTEGER NOT NULL, \
+     now INTEGER NOT NULL, cash INTEGER NOT NULL, revenue INTEGER NOT NULL) STRICT",
+    "CREATE TABLE system (one INTEGER PRIMARY KEY, system_id TEXT NOT NULL, language TEXT NOT NULL, \
+     name TEXT NOT NULL, hours TEXT NOT NULL, contact TEXT NOT NULL, zone TEXT NOT NULL, \
+     currency TEXT NOT NULL, base_url TEXT NOT NULL, ttl INTEGER NOT NULL) STRICT",
+    "CREATE TABLE plans (plan_id TEXT PRIMARY KEY NOT NULL, name TEXT NOT NULL, price INTEGER NOT NULL, \
+     taxable INTEGER NOT NULL, description TEXT NOT NULL) STRICT",
+    "CREATE TABLE segments (plan_id TEXT NOT NULL, seq INTEGER NOT NULL, start INTEGER NOT NULL, \
+     rate INTEGER NOT NULL, every INTEGER NOT NULL, finish INTEGER, PRIMARY KEY (plan_id, seq)) STRICT",
+    "CREATE TABLE types (type_id TEXT PRIMARY KEY NOT NULL, name TEXT NOT NULL, form TEXT NOT NULL, \
+     propulsion TEXT NOT NULL, range_m INTEGER NOT NULL, plan_id TEXT NOT NULL) STRICT",
+    "CREATE TABLE stations (station_id TEXT PRIMARY KEY NOT NULL, name TEXT NOT NULL, lat INTEGER NOT NULL, \
+     lon INTEGER NOT NULL, docks INTEGER NOT NULL, installed INTEGER NOT NULL, renting INTEGER NOT NULL, \
+     \"returning\" INTEGER NOT NULL, reported INTEGER NOT NULL, free INTEGER NOT NULL, \
+     broken INTEGER NOT NULL) STRICT",
+    "CREATE TABLE docks (station_id TEXT NOT NULL, dock INTEGER NOT NULL, broken INTEGER NOT NULL, \
+     PRIMARY KEY (station_id, dock)) STRICT",
+    "CREATE TABLE bikes (bike INTEGER PRIMARY KEY, type_id TEXT NOT NULL, state INTEGER NOT NULL, \
+     station_id TEXT, dock INTEGER, rental INTEGER, truck INTEGER, ord INTEGER) STRICT",
     "CREATE TABLE trucks (truck INTEGER PRIMARY KEY, capacity INTEGER NOT NULL) STRICT",
     "CREATE TABLE riders (rider INTEGER PRIMARY KEY, blocked INTEGER NOT NULL, balance INTEGER NOT NULL) STRICT",
-    "CREATE TABLE rentals (rental INTEGER PRIMARY KEY, rider INTEGER NOT NULL, bike INTEGER NOT NULL, plan_id TEXT NOT NULL, from_station TEXT NOT NULL, start INTEGER NOT NULL, to_station TEXT, finish INTEGER, fare INTEGER, refunded INTEGER NOT NULL) STRICT",
-    "CREATE TABLE orders (ord INTEGER PRIMARY KEY, truck INTEGER NOT NULL, from_end TEXT NOT NULL, to_end TEXT NOT NULL, type_id TEXT NOT NULL, quantity INTEGER NOT NULL, delivered INTEGER NOT NULL, is_open INTEGER NOT NULL) STRICT",
-    "CREATE TABLE entries (entry INTEGER PRIMARY KEY, kind INTEGER NOT NULL, rider INTEGER NOT NULL, rental INTEGER NOT NULL, amount INTEGER NOT NULL, at INTEGER NOT NULL) STRICT",
-    "CREATE TABLE kept (caller TEXT NOT NULL, req_key TEXT NOT NULL, command TEXT NOT NULL, reply TEXT NOT NULL, PRIMARY KEY (caller, req_key)) STRICT",
-    "CREATE TABLE counts (station_id TEXT NOT NULL, type_id TEXT NOT NULL, available INTEGER NOT NULL, disabled INTEGER NOT NULL, PRIMARY KEY (station_id, type_id)) STRICT",
+    "CREATE TABLE rentals (rental INTEGER PRIMARY KEY, rider INTEGER NOT NULL, bike INTEGER NOT NULL, \
+     plan_id TEXT NOT NULL, from_station TEXT NOT NULL, start INTEGER NOT NULL, to_station TEXT, \
+     finish INTEGER, fare INTEGER, refunded INTEGER NOT NULL) STRICT",
+    "CREATE TABLE orders (ord INTEGER PRIMARY KEY, truck INTEGER NOT NULL, from_end TEXT NOT NULL, \
+     to_end TEXT NOT NULL, type_id TEXT NOT NULL, quantity INTEGER NOT NULL, delivered INTEGER NOT NULL, \
+     is_open INTEGER NOT NULL) STRICT",
+    "CREATE TABLE entries (entry INTEGER PRIMARY KEY, kind INTEGER NOT NULL, rider INTEGER NOT NULL, \
+     rental INTEGER NOT NULL, amount INTEGER NOT NULL, at INTEGER NOT NULL) STRICT",
+    "CREATE TABLE kept (caller TEXT NOT NULL, req_key TEXT NOT NULL, command TEXT NOT NULL, \
+     reply TEXT NOT NULL, PRIMARY KEY (caller, req_key)) STRICT",
+    "CREATE TABLE counts (station_id TEXT NOT NULL, type_id TEXT NOT NULL, available INTEGER NOT NULL, \
+     disabled INTEGER NOT NULL, PRIMARY KEY (station_id, type_id)) STRICT",
 ];
 
 /// The statements that make the indexes beside those of the keys.
@@ -48,9 +65,9 @@ const INDEXES: [&str; 3] = [
 /// Runs the statements one after another, with no parameters, up to the first that fails.
 fn run_all<S: Alter>(staged: &mut Staged<'_, S>, texts: &[&str]) -> Result<(), StatementFault>
     ensures same_reference { staged.new.conn.ghost_name ≡ staged.old.conn.ghost_name }
-    ensures ran { HasCleanDisk (state S.Store staged.new.conn.now) → IsTrue staged.old.conn.now.in_transaction → OnOk result (RanAll S.Store (map (λ text. text.now) texts.now) staged.old.conn.now staged.new.conn.now) }
-    ensures refused { HasCleanDisk (state S.Store staged.new.conn.now) → IsTrue staged.old.conn.now.in_transaction → OnErr result (KeepsCommit (state S.Store staged.old.conn.now) (state S.Store staged.new.conn.now)) }
-    ensures told { HasCleanDisk (state S.Store staged.new.conn.now) → IsTrue staged.old.conn.now.in_transaction → IfErr result (λ fault. (mid : _) × IsFaultOf S.Store mid staged.new.conn.now fault) }
+    ensures ran { RunsAll S.Store (map (λ text. text.now) texts.now) staged.old.conn.now staged.new.conn.now result }
+    ensures refused { LeavesCommit S.Store staged.old.conn.now staged.new.conn.now result }
+    ensures told { TellsFault S.Store staged.old.conn.now staged.new.conn.now result }
     ensures survives { Survives (state S.Store staged.old.conn.now) (state S.Store staged.new.conn.now) (λ _. ⊥) }
 {
     for sql in texts {
@@ -89,9 +106,9 @@ fn add_meta<S: Alter>(staged: &mut Staged<'_, S>) -> Result<(), StatementFault>
 /// these indexes. After an error some may stand in the transaction: let it go, and the tables are as before it.
 pub fn create_tables<S: Alter>(staged: &mut Staged<'_, S>) -> Result<(), StatementFault>
     ensures same_reference { staged.new.conn.ghost_name ≡ staged.old.conn.ghost_name }
-    ensures creates { HasCleanDisk (state S.Store staged.new.conn.now) → IsTrue staged.old.conn.now.in_transaction → HasNone (state S.Store staged.old.conn.now).now.schema → OnOk result (Creates (state S.Store staged.old.conn.now) (state S.Store staged.new.conn.now)) }
-    ensures refused { HasCleanDisk (state S.Store staged.new.conn.now) → IsTrue staged.old.conn.now.in_transaction → OnErr result (KeepsCommit (state S.Store staged.old.conn.now) (state S.Store staged.new.conn.now)) }
-    ensures told { HasCleanDisk (state S.Store staged.new.conn.now) → IsTrue staged.old.conn.now.in_transaction → IfErr result (λ fault. (mid : _) × IsFaultOf S.Store mid staged.new.conn.now fault) }
+    ensures creates { MakesTables S.Store staged.old.conn.now staged.new.conn.now result }
+    ensures refused { LeavesCommit S.Store staged.old.conn.now staged.new.conn.now result }
+    ensures told { TellsFault S.Store staged.old.conn.now staged.new.conn.now result }
     ensures survives { Survives (state S.Store staged.old.conn.now) (state S.Store staged.new.conn.now) (λ _. ⊥) }
 {
     run_all(staged, table_texts())?;

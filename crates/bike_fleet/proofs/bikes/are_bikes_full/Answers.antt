@@ -1,7 +1,7 @@
 use Rattle.std.proofs.Common.{nat_le, ap, ◌∙◌}
 use Rattle.bike_operator.specs.declared.limits.TheConstants.{MOST_BIKES}
 use Rattle.bike_book.proofs.FoundNumbers.{found_numbers}
-use Rattle.bike_fleet.proofs.AnswerLemmas.{answers_made}
+use Rattle.bike_schema.proofs.AnswerLemmas.{answers_made}
 use Rattle.bike_fleet.proofs.bikes.are_bikes_full.Goals as goal
 
 pub returns : goal.returns

@@ -1,4 +1,4 @@
-use Rattle.bike_fleet.proofs.AnswerLemmas.{answers_made}
+use Rattle.bike_schema.proofs.AnswerLemmas.{answers_made}
 use Rattle.bike_fleet.proofs.FoundLemmas.{bike_found}
 use Rattle.bike_fleet.proofs.bikes.find_bike.Goals as goal
 

@@ -1,6 +1,6 @@
 use Rattle.std.proofs.Common.{◌∙◌}
 use Rattle.bike_book.proofs.FoundColumns.{found_by_columns}
-use Rattle.bike_fleet.proofs.AnswerLemmas.{answers_made}
+use Rattle.bike_schema.proofs.AnswerLemmas.{answers_made}
 use Rattle.bike_fleet.proofs.bikes.truck_load.Goals as goal
 
 pub returns : goal.returns

@@ -1,4 +1,4 @@
-use Rattle.bike_fleet.proofs.AnswerLemmas.{answers_made}
+use Rattle.bike_schema.proofs.AnswerLemmas.{answers_made}
 use Rattle.bike_fleet.proofs.orders.load_on.Goals as goal
 
 pub returns : goal.returns

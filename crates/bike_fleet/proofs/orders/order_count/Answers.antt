@@ -1,7 +1,7 @@
 use Rattle.std.proofs.Common.{sym, subst}
 use Rattle.bike_book.specs.Found.{IsLast}
 use Rattle.bike_book.proofs.FoundNumbers.{found_numbers}
-use Rattle.bike_fleet.proofs.AnswerLemmas.{answers_made}
+use Rattle.bike_schema.proofs.AnswerLemmas.{answers_made}
 use Rattle.bike_fleet.proofs.orders.order_count.Goals as goal
 
 pub returns : goal.returns

@@ -1,6 +1,6 @@
 use Rattle.std.proofs.Common.{sym, ◌∙◌}
 use Rattle.bike_rows.proofs.ChainLaws.{reads_as}
-use Rattle.bike_fleet.proofs.AnswerLemmas.{answers_next}
+use Rattle.bike_schema.proofs.AnswerLemmas.{answers_next}
 use Rattle.bike_fleet.proofs.LoadLemmas.{no_load, load_on_truck}
 use Rattle.bike_fleet.proofs.orders.order_load.Goals as goal
 

@@ -1,4 +1,4 @@
-use Rattle.bike_fleet.proofs.AnswerLemmas.{answers_made}
+use Rattle.bike_schema.proofs.AnswerLemmas.{answers_made}
 use Rattle.bike_fleet.proofs.FoundLemmas.{station_found}
 use Rattle.bike_fleet.proofs.stations.find_station.Goals as goal
 

@@ -1,4 +1,4 @@
-use Rattle.bike_fleet.proofs.AnswerLemmas.{answers_made}
+use Rattle.bike_schema.proofs.AnswerLemmas.{answers_made}
 use Rattle.bike_fleet.proofs.FoundLemmas.{plan_found}
 use Rattle.bike_fleet.proofs.types.find_default_plan.Goals as goal
 

@@ -15,22 +15,26 @@ use bike_operator::{Order, View};
 
 /// What was read for a request: its command and the view, the dock that it touches, and the numbers stored there.
 #[derive(Drop)]
-pub(crate) struct Reading<'r, 'a> {
+pub struct Reading<'r, 'a> {
+    /// The command.
     pub command: &'r Command,
+    /// Its view.
     pub view: &'r View,
+    /// The dock that it touches, where it touches one.
     pub touched: &'r Option<Touched<'a>>,
+    /// What the tables store of that dock.
     pub numbers: &'r StoredNumbers,
 }
 
 /// Whether the identifiers are the same.
-pub(crate) fn is_same(one: &Ident, other: &Ident) -> bool
+pub fn is_same(one: &Ident, other: &Ident) -> bool
     ensures { result ≡ bytes_eq one.now other.now }
 {
     one.as_str() == other.as_str()
 }
 
 /// Whether the view shows that the plan isn't there.
-pub(crate) fn lacks_plan(command: &Command, view: &View, plan: &Ident) -> bool
+pub fn lacks_plan(command: &Command, view: &View, plan: &Ident) -> bool
     ensures { (s : Operator) → view.now ≡ view_of s command.now → result ≡ true → map.get s.plans plan.now ≡ None }
 {
     match command {
@@ -40,7 +44,7 @@ pub(crate) fn lacks_plan(command: &Command, view: &View, plan: &Ident) -> bool
 }
 
 /// Whether the view shows that the station isn't there.
-pub(crate) fn lacks_station(command: &Command, view: &View, station: &Ident) -> bool
+pub fn lacks_station(command: &Command, view: &View, station: &Ident) -> bool
     ensures { (s : Operator) → view.now ≡ view_of s command.now → result ≡ true → map.get s.stations station.now ≡ None }
 {
     match command {
@@ -52,7 +56,7 @@ pub(crate) fn lacks_station(command: &Command, view: &View, station: &Ident) -> 
 }
 
 /// Whether the view shows that the bicycle isn't there.
-pub(crate) fn lacks_bike(command: &Command, view: &View, bike: u32) -> bool
+pub fn lacks_bike(command: &Command, view: &View, bike: u32) -> bool
     ensures { (s : Operator) → view.now ≡ view_of s command.now → result ≡ true → map.get s.bikes bike ≡ None }
 {
     match command {
@@ -62,7 +66,7 @@ pub(crate) fn lacks_bike(command: &Command, view: &View, bike: u32) -> bool
 }
 
 /// Whether the rider is there, where the view shows it.
-pub(crate) fn has_rider(command: &Command, view: &View, rider: u32) -> Option<bool>
+pub fn has_rider(command: &Command, view: &View, rider: u32) -> Option<bool>
     ensures { (s : Operator) → view.now ≡ view_of s command.now → IfSome result (λ has. map.contains_key s.riders rider ≡ has) }
 {
     match command {
@@ -78,7 +82,7 @@ pub(crate) fn has_rider(command: &Command, view: &View, rider: u32) -> Option<bo
 }
 
 /// The number of the next rental, where the view shows it.
-pub(crate) fn next_rental(command: &Command, view: &View) -> Option<u32>
+pub fn next_rental(command: &Command, view: &View) -> Option<u32>
     ensures { (s : Operator) → view.now ≡ view_of s command.now → IfSome result (λ n. n ≡ length s.rentals + 1) }
 {
     match command {
@@ -88,7 +92,7 @@ pub(crate) fn next_rental(command: &Command, view: &View) -> Option<u32>
 }
 
 /// The number of the next order, where the view shows it.
-pub(crate) fn next_order(command: &Command, view: &View) -> Option<u32>
+pub fn next_order(command: &Command, view: &View) -> Option<u32>
     ensures { (s : Operator) → view.now ≡ view_of s command.now → IfSome result (λ n. n ≡ length s.orders + 1) }
 {
     match command {
@@ -98,7 +102,7 @@ pub(crate) fn next_order(command: &Command, view: &View) -> Option<u32>
 }
 
 /// The order of that number, where the view shows it.
-pub(crate) fn order_read<'a>(command: &Command, view: &'a View, order: u32) -> Option<&'a Order>
+pub fn order_read<'a>(command: &Command, view: &'a View, order: u32) -> Option<&'a Order>
     ensures { (s : Operator) → view.now ≡ view_of s command.now → IfSome result (λ o. numbered order s.orders ≡ Some o.now) }
 {
     match command {
@@ -114,7 +118,7 @@ pub(crate) fn order_read<'a>(command: &Command, view: &'a View, order: u32) -> O
 }
 
 /// The balance of the rider in hundredths, where the view shows it.
-pub(crate) fn balance_read(command: &Command, view: &View, rider: u32) -> Option<i64>
+pub fn balance_read(command: &Command, view: &View, rider: u32) -> Option<i64>
     ensures { (s : Operator) → view.now ≡ view_of s command.now → IfSome result (λ balance. balance ≡ balance_of rider s.entries) }
 {
     match command {
@@ -138,7 +142,7 @@ pub(crate) fn balance_read(command: &Command, view: &View, rider: u32) -> Option
 }
 
 /// The refunds of the rental in hundredths, where the view shows them.
-pub(crate) fn refunds_read(command: &Command, view: &View, rental: u32) -> Option<i64>
+pub fn refunds_read(command: &Command, view: &View, rental: u32) -> Option<i64>
     ensures { (s : Operator) → view.now ≡ view_of s command.now → IfSome result (λ refunded. refunded ≡ refunded_of rental s.entries) }
 {
     let _ = command;

@@ -4,7 +4,7 @@ ghost use Rattle.std.specs.Prelude.{◌≡◌, option_map};
 ghost use Rattle.bike_operator.specs.Operator.{Operator};
 ghost use Rattle.bike_operator.specs.View.{view_of};
 ghost use Rattle.bike_operator.specs.Sound.{IsSound};
-ghost use Rattle.bike_booking.specs.Touched.{dock_of_bike, dock_of_order, type_of_bike, IsDockWith, IsTouched};
+ghost use Rattle.bike_facts.specs.Touched.{dock_of_bike, dock_of_order, type_of_bike, IsDockWith, IsTouched};
 
 use crate::touched::Touched;
 use bike_commands::Command;

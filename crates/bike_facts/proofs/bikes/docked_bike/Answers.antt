@@ -1,8 +1,8 @@
 use Rattle.std.proofs.Common.{refl, sym, ap₂, ◌∙◌}
 use Rattle.std.proofs.lemmas.Slice.Eq.{bytes_eq-Decides}
 use Rattle.bike_operator.specs.declared.records.Place.TheVariants as place
-use Rattle.bike_booking.proofs.ShownLemmas.{docked_read}
-use Rattle.bike_booking.proofs.bikes.docked_bike.Goals as goal
+use Rattle.bike_facts.proofs.ShownLemmas.{docked_read}
+use Rattle.bike_facts.proofs.bikes.docked_bike.Goals as goal
 
 pub returns : goal.returns
 returns c = λ s rider sound view_is.

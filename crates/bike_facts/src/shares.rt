@@ -4,7 +4,7 @@ ghost use Rattle.std.specs.Prelude.{◌≡◌, IfSome};
 ghost use Rattle.bike_operator.specs.Changes.{place_of};
 ghost use Rattle.bike_operator.specs.Counts.{is_fit};
 ghost use Rattle.bike_counts.specs.Laws.{one, IsMoved, dock_shares, place_shares};
-ghost use Rattle.bike_booking.specs.Moves.{AreShares, AreCountsMoved, AreMoved};
+ghost use Rattle.bike_facts.specs.Shares.{AreShares, AreCountsMoved, AreMoved};
 
 use crate::stored::StoredNumbers;
 use bike_operator::{BikeState, NewPlace};
@@ -12,9 +12,12 @@ use bike_operator::{BikeState, NewPlace};
 /// What one bicycle adds: to the working docks that are taken, to the bicycles of its type that can be rented, and to
 /// those that can't. Each is 0 or 1.
 #[derive(Clone, Copy)]
-pub(crate) struct BikeShares {
+pub struct BikeShares {
+    /// To the working docks that are taken.
     pub occupied: u32,
+    /// To the bicycles of its type that can be rented.
     pub available: u32,
+    /// To those that can't.
     pub disabled: u32,
 }
 
@@ -29,14 +32,14 @@ fn is_fit(state: BikeState) -> bool
 }
 
 /// 1 for what passes.
-pub(crate) fn one(passes: bool) -> u32
+pub fn one(passes: bool) -> u32
     ensures { result ≡ one passes }
 {
     if passes { 1 } else { 0 }
 }
 
 /// What a bicycle adds in a dock.
-pub(crate) fn dock_shares(is_broken: bool, state: BikeState) -> BikeShares
+pub fn dock_shares(is_broken: bool, state: BikeState) -> BikeShares
     ensures { AreShares result (dock_shares is_broken state) }
 {
     let is_available = is_fit(state) && !is_broken;
@@ -48,7 +51,7 @@ pub(crate) fn dock_shares(is_broken: bool, state: BikeState) -> BikeShares
 }
 
 /// What a bicycle adds in a place: where it is a dock, one that is broken, or works.
-pub(crate) fn place_shares(is_broken: bool, state: BikeState, place: &NewPlace) -> BikeShares
+pub fn place_shares(is_broken: bool, state: BikeState, place: &NewPlace) -> BikeShares
     ensures { AreShares result (place_shares is_broken state (place_of place.now)) }
 {
     match place {
@@ -62,7 +65,7 @@ pub(crate) fn place_shares(is_broken: bool, state: BikeState, place: &NewPlace) 
 }
 
 /// The number, less what was added and with what is added now.
-pub(crate) fn moved(number: u32, less: u32, more: u32) -> Option<u32>
+pub fn moved(number: u32, less: u32, more: u32) -> Option<u32>
     ensures { IfSome result (λ after. IsMoved number after less more) }
 {
     let with = number.checked_add(more)?;
@@ -70,7 +73,7 @@ pub(crate) fn moved(number: u32, less: u32, more: u32) -> Option<u32>
 }
 
 /// The numbers when a bicycle that added the one shares to the counts of its type adds the others.
-pub(crate) fn counts_after(
+pub fn counts_after(
     numbers: &StoredNumbers,
     less: &BikeShares,
     more: &BikeShares,
@@ -91,7 +94,7 @@ pub(crate) fn counts_after(
 }
 
 /// The numbers when a bicycle that added the one shares adds the others.
-pub(crate) fn numbers_after(
+pub fn numbers_after(
     numbers: &StoredNumbers,
     less: &BikeShares,
     more: &BikeShares,

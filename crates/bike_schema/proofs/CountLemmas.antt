@@ -24,8 +24,7 @@ use Rattle.bike_rows.proofs.TreeLemmas.{by_key_total}
 use Rattle.bike_rows.proofs.WalkLaw.{Finds, one_answer}
 use Rattle.bike_book.specs.Tables.{TableName, keys_of, rows_in}
 use Rattle.bike_schema.specs.Layouts.{layout_of, name_of}
-use Rattle.bike_schema.proofs.AnswerLemmas.{FindsIn}
-use Rattle.bike_schema.proofs.MakesLemmas.{rows_of_table}
+use Rattle.bike_schema.proofs.AnswerLemmas.{FindsIn, in_table}
 
 -- SELECT count(*) FROM the table WHERE each of the tests. Of a row, as its columns show it, the tests decide `test`.
 pub counted_passing : (keys : ℕ) (layout : Layout) (db : Database) (was : Stands db keys layout) (text : List ℕ) (params : Row) (tests : List Term) (test : Row → Bool) → IsSelect (count_query 0 tests) layout text
@@ -47,7 +46,6 @@ counted_passing keys layout db was text params tests test is decides =
 
 -- SELECT count(*) FROM the table
 pub counted_in : (t : TableName) {text : List ℕ} → IsSelect (count_query 0 []) (layout_of t) text → FindsIn text [] (λ tables. Some (count (length (rows_in tables t)) ∷ []))
-counted_in t {text} is = record {
-  finds = λ db has. subst (λ rows. Finds db text [] (Some (count (length rows) ∷ []))) (filter_all (rows_of (keys_of t) (name_of t) db) ∙ sym (rows_of_table db t))
-      (counted_passing (keys_of t) (layout_of t) db (has t) text [] [] (λ row. true) is (λ r. refl));
-}
+counted_in t {text} is =
+    in_table t (λ rows. Some (count (length rows) ∷ [])) (λ db has. subst (λ rows. Finds db text [] (Some (count (length rows) ∷ []))) (filter_all (rows_of (keys_of t) (name_of t) db))
+    (counted_passing (keys_of t) (layout_of t) db (has t) text [] [] (λ row. true) is (λ r. refl)))

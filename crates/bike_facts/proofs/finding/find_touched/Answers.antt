@@ -1,5 +1,5 @@
-use Rattle.bike_booking.proofs.FindingLemmas.{docked_touched}
-use Rattle.bike_booking.proofs.finding.find_touched.Goals as goal
+use Rattle.bike_facts.proofs.FindingLemmas.{docked_touched}
+use Rattle.bike_facts.proofs.finding.find_touched.Goals as goal
 
 pub returns-in-MarkDock : goal.returns-in-MarkDock
 returns-in-MarkDock c = λ s sound view_is.

@@ -6,7 +6,7 @@ ghost use Rattle.bike_operator.specs.Operator.{Operator};
 ghost use Rattle.bike_operator.specs.View.{view_of};
 ghost use Rattle.bike_operator.specs.Changes.{place_of};
 ghost use Rattle.bike_operator.specs.Sound.{IsSound};
-ghost use Rattle.bike_booking.specs.Moves.{bike_named, IsBikeShown, IsBikeOf, IsBikeRead};
+ghost use Rattle.bike_facts.specs.Bikes.{bike_named, IsBikeShown, IsBikeOf, IsBikeRead};
 
 use crate::reading::{Reading, is_same};
 use crate::touched::Touched;
@@ -16,8 +16,10 @@ use bike_operator::{BikeState, NewPlace, Place, View};
 
 /// What a bicycle is good for and where it is, as a row change tells it.
 #[derive(Clone, Copy)]
-pub(crate) struct BikeRow<'a> {
+pub struct BikeRow<'a> {
+    /// What it is good for.
     pub state: BikeState,
+    /// Where it is.
     pub place: NewPlace<'a>,
 }
 
@@ -114,7 +116,7 @@ fn bike_named(command: &Command) -> Option<u32>
 }
 
 /// The bicycle of that number, where the view shows it in no dock but the one touched.
-pub(crate) fn bike_read<'a>(reading: &Reading<'_, 'a>, bike: u32) -> Option<BikeRow<'a>>
+pub fn bike_read<'a>(reading: &Reading<'_, 'a>, bike: u32) -> Option<BikeRow<'a>>
     ensures { IfSome result (IsBikeRead reading.now bike) }
 {
     let view = reading.view;

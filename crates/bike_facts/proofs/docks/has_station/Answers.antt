@@ -1,6 +1,6 @@
 use Rattle.std.proofs.Common.{sym, ◌∙◌}
-use Rattle.bike_booking.proofs.ShownLemmas.{station_shown, marked_station, loaded_station}
-use Rattle.bike_booking.proofs.moves.has_station.Goals as goal
+use Rattle.bike_facts.proofs.ShownLemmas.{station_shown, marked_station, loaded_station}
+use Rattle.bike_facts.proofs.docks.has_station.Goals as goal
 
 pub returns-in-MarkBike : goal.returns-in-MarkBike
 returns-in-MarkBike c = λ told s station dock sound view_is is.

@@ -15,7 +15,7 @@ use Rattle.bike_operator.specs.View.{typed_bike, docked_view, view_of}
 use Rattle.bike_operator.specs.Sound.{IsSound}
 use Rattle.bike_places.proofs.MapLemmas.{number_order}
 use Rattle.bike_places.proofs.CountLemmas.{found_by}
-use Rattle.bike_booking.specs.Touched.{DockPlace, type_of_docked, dock_touched, type_touched}
+use Rattle.bike_facts.specs.Touched.{DockPlace, type_of_docked, dock_touched, type_touched}
 
 typed : (b : ℕ × Bike) (t : Option TypeRow) → is_some t ≡ true → ◌≡◌ {A = Option (List ℕ)} (Some b.1.type_id) (option_map (λ (d : DockedBike). d.type_id) (typed_bike b t))
 typed b None known = absurd cc

@@ -15,8 +15,8 @@ use Rattle.bike_operator.specs.Counts.{docked_at, available_of, docks_available,
 use Rattle.bike_operator.specs.View.{end_at}
 use Rattle.bike_counts.specs.Numbers.{disabled_of}
 use Rattle.bike_book.specs.Stored.{Listed}
-use Rattle.bike_booking.specs.declared.stored.StoredNumbers.{StoredNumbers}
-use Rattle.bike_booking.specs.declared.touched.Touched.{Touched}
+use Rattle.bike_facts.specs.declared.stored.StoredNumbers.{StoredNumbers}
+use Rattle.bike_facts.specs.declared.touched.Touched.{Touched}
 
 -- a dock by its station and number
 abbrev pub DockPlace : Type 0
@@ -88,3 +88,8 @@ pub record AreStored (s : Operator) (m : Listed) (t : Touched) (n : StoredNumber
   pub broken : (x : Station) → map.get s.stations t.station.now ≡ Some x → n.broken ≡ docks_broken s t.station.now x.row.docks
   pub has_row : n.has_dock_row ≡ map.contains_key m.docks (dock_key t.station.now t.dock)
   pub counts : IfSome t.type_id (λ id. AreCounts s m t.station.now n id.now)
+
+-- the numbers are those of what the command touches, and anything where it touches nothing
+abbrev pub AreOfTouched : Operator → Listed → Option Touched → StoredNumbers → Type 0
+AreOfTouched s m None n = Unit {0}
+AreOfTouched s m (Some t) n = AreStored s m t n

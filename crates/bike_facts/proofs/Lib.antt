@@ -1,0 +1,2 @@
+pub mod FindingLemmas
+pub mod ShownLemmas

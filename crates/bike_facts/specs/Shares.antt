@@ -1,0 +1,23 @@
+-- What a bicycle adds to the numbers of a dock's station, and the numbers when that changes.
+use Rattle.std.specs.Prelude.{◌≡◌}
+use Rattle.bike_counts.specs.Laws.{IsMoved, Shares}
+use Rattle.bike_facts.specs.declared.stored.StoredNumbers.{StoredNumbers}
+use Rattle.bike_facts.specs.declared.shares.BikeShares.{BikeShares}
+
+-- the numbers are these shares
+pub record AreShares (b : BikeShares) (s : Shares) : Type 0 where
+  pub occupied : b.occupied ≡ s.occupied
+  pub available : b.available ≡ s.available
+  pub disabled : b.disabled ≡ s.disabled
+
+-- The bicycle added the one shares and adds the others now: to the counts of its type.
+pub record AreCountsMoved (old : StoredNumbers) (less more : BikeShares) (new : StoredNumbers) : Type 0 where
+  pub available : IsMoved old.available new.available less.available more.available
+  pub disabled : IsMoved old.disabled new.disabled less.disabled more.disabled
+  pub has_count_row : new.has_count_row ≡ old.has_count_row
+
+-- To the numbers of the docks too. A dock that it takes isn't available.
+pub record AreMoved (old : StoredNumbers) (less more : BikeShares) (new : StoredNumbers) : Type 0 where
+  pub free : IsMoved old.free new.free more.occupied less.occupied
+  pub broken : new.broken ≡ old.broken
+  pub counts : AreCountsMoved old less more new
