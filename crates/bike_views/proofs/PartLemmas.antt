@@ -10,8 +10,8 @@ use Rattle.bike_operator.specs.declared.view.RiderView.{RiderView}
 use Rattle.bike_operator.specs.Operator.{Operator, Rider}
 use Rattle.bike_operator.specs.View.{planned_rental, rider_view, typed_bike}
 use Rattle.bike_book.specs.Stored.{Listed}
-use Rattle.bike_booking.specs.declared.stored.StoredNumbers.{StoredNumbers}
-use Rattle.bike_booking.specs.Touched as touched
+use Rattle.bike_facts.specs.declared.stored.StoredNumbers.{StoredNumbers}
+use Rattle.bike_facts.specs.Touched as touched
 use Rattle.bike_accounts.specs.declared.rentals.StoredRental.{StoredRental}
 use Rattle.bike_fleet.specs.declared.counts.TypeCounts.{TypeCounts}
 use Rattle.bike_fleet.specs.Fleet as fleet

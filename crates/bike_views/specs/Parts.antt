@@ -8,7 +8,7 @@ use Rattle.bike_operator.specs.declared.view.View.{View}
 use Rattle.bike_operator.specs.Operator.{Operator, numbered}
 use Rattle.bike_operator.specs.Counts.{is_riding, order_load, truck_load}
 use Rattle.bike_operator.specs.View.{bike_of, has_end, has_full_ledger, planned_rental, rental_at, rental_of, rider_at, side_view, truck_at}
-use Rattle.bike_booking.specs.declared.stored.StoredNumbers.{StoredNumbers}
+use Rattle.bike_facts.specs.declared.stored.StoredNumbers.{StoredNumbers}
 use Rattle.bike_views.specs.declared.ledger.LedgerRoom.{LedgerRoom}
 use Rattle.bike_views.specs.declared.rentals.StartView.{StartView}
 use Rattle.bike_views.specs.declared.rentals.RentalBike.{RentalBike}

@@ -2,13 +2,13 @@
 
 ghost use Rattle.std.specs.Prelude.{◌≡◌, IfSome};
 ghost use Rattle.bike_schema.specs.Answers.{Answers};
-ghost use Rattle.bike_booking.specs.Touched.{AreCounts, AreStored};
-ghost use Rattle.bike_booking.specs.Booking.{AreOfTouched};
+ghost use Rattle.bike_facts.specs.Touched.{AreCounts, AreStored};
+ghost use Rattle.bike_facts.specs.Touched.{AreOfTouched};
 ghost use Rattle.bike_views.specs.Open.{AnswersOpen};
 ghost use Rattle.bike_views.specs.Parts.{no_numbers as none_stored};
 
 use bike_accounts::has_system;
-use bike_booking::{StoredNumbers, Touched};
+use bike_facts::{StoredNumbers, Touched};
 use bike_fields::Ident;
 use bike_fleet::{DockNumbers, find_counts, find_dock_numbers, find_mark};
 use bike_schema::StatementFault;

@@ -1,5 +1,5 @@
 use Rattle.std.proofs.Common.{sym, subst}
-use Rattle.bike_booking.specs.Booking.{AreOfTouched}
+use Rattle.bike_facts.specs.Touched.{AreOfTouched}
 use Rattle.bike_schema.proofs.AnswerLemmas.{reads_weaker}
 use Rattle.bike_views.proofs.numbers.find_numbers.Goals as goal
 

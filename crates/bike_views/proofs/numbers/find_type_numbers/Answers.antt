@@ -1,8 +1,8 @@
 use Rattle.std.proofs.Common.{refl, sym, subst}
 use Rattle.std.specs.Prelude.{true, IfSome}
 use Rattle.bike_rows.proofs.ChainLaws.{reads_as}
-use Rattle.bike_booking.specs.declared.stored.StoredNumbers.{StoredNumbers}
-use Rattle.bike_booking.specs.Touched.{AreCounts}
+use Rattle.bike_facts.specs.declared.stored.StoredNumbers.{StoredNumbers}
+use Rattle.bike_facts.specs.Touched.{AreCounts}
 use Rattle.bike_views.proofs.OpenLaws.{open_of}
 use Rattle.bike_views.proofs.PartLemmas.{counts_none, counts_some}
 use Rattle.bike_views.proofs.numbers.find_type_numbers.Goals as goal
