@@ -8,7 +8,8 @@ use Rattle.bike_fields.specs.declared.fault.FieldFault.{FieldFault}
 use Rattle.bike_fields.specs.declared.fault.FieldFault.TheVariants.{Broken}
 use Rattle.bike_catalogue.specs.declared.vehicle.Propulsion.{Propulsion}
 use Rattle.bike_catalogue.specs.declared.vehicle.Propulsion.TheVariants.{Human, ElectricAssist}
-use Rattle.bike_fields.specs.Fault.{at_field, ident_fault, name_fault, ascii_fault, language_fault, currency_fault}
+use Rattle.bike_fields.specs.declared.numbers.TheConstants.{MOST_DOCKS}
+use Rattle.bike_fields.specs.Fault.{Makes, at_field, ident_fault, name_fault, ascii_fault, language_fault, currency_fault}
 use Rattle.bike_catalogue.specs.Rows.{SegmentRow, PlanRow, TypeRow, StationRow, SystemRow}
 
 -- the first of the fields' faults
@@ -60,7 +61,7 @@ type_fault t = first_fault (
 unfoldable pub station_fault : StationRow → Option (Field × Bound)
 station_fault s = first_fault (
     (Station, ident_fault s.station_id) ∷ (Name, name_fault s.name) ∷ (Lat, signed_fault 90000000 s.lat)
-    ∷ (Lon, signed_fault 180000000 s.lon) ∷ (Docks, range_fault 1 200 s.docks) ∷ [])
+    ∷ (Lon, signed_fault 180000000 s.lon) ∷ (Docks, range_fault 1 MOST_DOCKS s.docks) ∷ [])
 
 unfoldable pub system_fault : SystemRow → Option (Field × Bound)
 system_fault s = first_fault (
@@ -68,3 +69,17 @@ system_fault s = first_fault (
     ∷ (OpeningHours, ascii_fault s.opening_hours) ∷ (FeedContactEmail, ascii_fault s.feed_contact_email)
     ∷ (Timezone, ascii_fault s.timezone) ∷ (Currency, currency_fault s.currency) ∷ (BaseUrl, ascii_fault s.base_url)
     ∷ (Ttl, range_fault 0 86400 s.ttl) ∷ [])
+
+-- a constructor answers the record where no field has a fault, else the first fault
+
+abbrev pub MakesPlan : PlanRow → Result PlanRow FieldFault → Type 0
+MakesPlan row result = Makes row (plan_fault row) result
+
+abbrev pub MakesType : TypeRow → Result TypeRow FieldFault → Type 0
+MakesType row result = Makes row (type_fault row) result
+
+abbrev pub MakesStation : StationRow → Result StationRow FieldFault → Type 0
+MakesStation row result = Makes row (station_fault row) result
+
+abbrev pub MakesSystem : SystemRow → Result SystemRow FieldFault → Type 0
+MakesSystem row result = Makes row (system_fault row) result

@@ -1,9 +1,10 @@
 -- The records of the catalogue, as contracts see them.
-use Rattle.std.specs.Prelude.{◌≡◌, ℕ, ℤ, pos, neg_ℤ, ◌≤◌, ◌<◌, ◌≤ℤ◌, List, length, Bool, true, Option, None, Some, nat_lt, nat_le, int_le, ◌==◌, ◌&&◌}
+use Rattle.std.specs.Prelude.{◌≡◌, ℕ, ℤ, pos, neg_ℤ, ◌≤◌, ◌<◌, ◌≤ℤ◌, List, length, Bool, true, Option, None, Some, nat_lt, nat_le, int_le, ◌==◌, ◌&&◌, if◌then◌else◌}
 use Rattle.bike_fixed.specs.Coordinate.{IsMicro}
 use Rattle.bike_catalogue.specs.declared.vehicle.Form.{Form}
 use Rattle.bike_catalogue.specs.declared.vehicle.Propulsion.{Propulsion}
 use Rattle.bike_catalogue.specs.declared.vehicle.Propulsion.TheVariants.{Human, ElectricAssist}
+use Rattle.bike_fields.specs.declared.numbers.TheConstants.{MOST_DOCKS}
 use Rattle.bike_fields.specs.Bytes.{is_ident, is_name, is_ascii_field, is_language, is_currency}
 
 -- minutes from the start of a rental; the rate in hundredths; no end means that the segment goes on
@@ -74,6 +75,10 @@ pub record IsPlan (p : PlanRow) : Type 0 where
   pub description : is_name p.description ≡ true
   pub segments : length p.segments ≤ 8
 
+-- the plan, where it has at most eight segments
+abbrev pub plan_within : PlanRow → Option PlanRow
+plan_within p = if nat_le (length p.segments) 8 then Some p else None
+
 -- in metres: 0 exactly with human propulsion
 abbrev pub IsRange : Propulsion → ℕ → Type 0
 IsRange Human n = n ≡ 0
@@ -83,6 +88,10 @@ IsRange ElectricAssist n = (1 ≤ n) × (n ≤ 1000000)
 abbrev pub is_range : Propulsion → ℕ → Bool
 is_range Human n = n == 0
 is_range ElectricAssist n = nat_le 1 n && nat_le n 1000000
+
+-- the vehicle type, where its range goes with its propulsion
+abbrev pub type_within : TypeRow → Option TypeRow
+type_within t = if is_range t.propulsion t.max_range then Some t else None
 
 pub record IsType (t : TypeRow) : Type 0 where
   pub type_id : is_ident t.type_id ≡ true
@@ -97,13 +106,17 @@ IsLatitude z = (neg_ℤ (pos 90000000) ≤ℤ z) × (z ≤ℤ pos 90000000)
 abbrev pub is_latitude : ℤ → Bool
 is_latitude z = int_le (neg_ℤ (pos 90000000)) z && int_le z (pos 90000000)
 
+-- the station, where its latitude is one
+abbrev pub station_within : StationRow → Option StationRow
+station_within s = if is_latitude s.lat then Some s else None
+
 pub record IsStation (s : StationRow) : Type 0 where
   pub station_id : is_ident s.station_id ≡ true
   pub name : is_name s.name ≡ true
   pub lat : IsLatitude s.lat
   pub lon : IsMicro s.lon
   pub some_docks : 1 ≤ s.docks
-  pub few_docks : s.docks ≤ 200
+  pub few_docks : s.docks ≤ MOST_DOCKS
 
 pub record IsSystem (s : SystemRow) : Type 0 where
   pub system_id : is_ident s.system_id ≡ true

@@ -1,9 +1,8 @@
 //! Pricing plans.
 
-ghost use Rattle.std.specs.Prelude.{◌≡◌, nat_le, length, Some, None, if◌then◌else◌};
-ghost use Rattle.bike_fields.specs.Fault.{Makes};
-ghost use Rattle.bike_catalogue.specs.RowFaults.{plan_fault};
-ghost use Rattle.bike_catalogue.specs.Rows.{PlanRow, IsPlan};
+ghost use Rattle.std.specs.Prelude.{◌≡◌};
+ghost use Rattle.bike_catalogue.specs.RowFaults.{MakesPlan};
+ghost use Rattle.bike_catalogue.specs.Rows.{IsPlan, plan_within};
 
 use crate::range::in_range;
 use crate::segment::Segment;
@@ -50,7 +49,14 @@ impl Plan {
         description: &str,
         segments: &[Segment],
     ) -> Result<Plan, FieldFault>
-        ensures { let row : PlanRow = record { plan_id = plan_id.now; name = name.now; price = price; taxable = taxable; description = description.now; segments = segments.now } in Makes row (plan_fault row) result }
+        ensures { MakesPlan (record {
+          plan_id = plan_id.now;
+          name = name.now;
+          price = price;
+          taxable = taxable;
+          description = description.now;
+          segments = segments.now;
+        }) result }
     {
         let plan_id = Ident::new(alloc, Field::Plan, plan_id)?;
         let name = Name::new(alloc, Field::Name, name)?;
@@ -82,7 +88,14 @@ impl Plan {
         description: Name,
         segments: Vec<Segment>,
     ) -> Option<Plan>
-        ensures { result ≡ (if nat_le (length segments.items) 8 then Some (record { plan_id = plan_id; name = name; price = price; taxable = taxable; description = description; segments = segments.items }) else None) }
+        ensures { result ≡ plan_within (record {
+          plan_id = plan_id;
+          name = name;
+          price = price;
+          taxable = taxable;
+          description = description;
+          segments = segments.items;
+        }) }
     {
         if segments.len() > MOST_SEGMENTS {
             return None;

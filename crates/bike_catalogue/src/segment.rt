@@ -32,6 +32,25 @@ impl Model for Segment {
     ghost inverse = { λ r. record { start = r.start; rate = r.rate; interval = r.interval; end = r.end } };
 }
 
+impl Default for Segment {
+    ghost use Rattle.std.specs.Prelude.{◌≡◌, pos, None};
+
+    ghost is_default = { λ s. s ≡ record { start = 0; rate = pos 0; interval = 0; end = None } };
+
+    /// The segment that charges nothing.
+    fn default() -> Segment {
+        let (Some(minute), Some(rate)) = (SegmentMinute::new(0), Rate::new(0)) else {
+            unreachable!()
+        };
+        Segment {
+            start: minute,
+            rate,
+            interval: minute,
+            end: None,
+        }
+    }
+}
+
 /// The end of a segment that starts at a minute.
 fn end_after(start: &SegmentMinute, end: Option<u32>) -> Result<Option<SegmentMinute>, FieldFault>
     ensures { result ≡ checked end (at_field Field.End (end_fault start.now end)) }

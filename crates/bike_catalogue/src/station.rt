@@ -1,9 +1,8 @@
 //! Stations.
 
-ghost use Rattle.std.specs.Prelude.{◌≡◌, Some, None, pos, neg_ℤ, int_le, ◌&&◌, if◌then◌else◌};
-ghost use Rattle.bike_fields.specs.Fault.{Makes};
-ghost use Rattle.bike_catalogue.specs.RowFaults.{station_fault};
-ghost use Rattle.bike_catalogue.specs.Rows.{StationRow, IsStation, is_latitude};
+ghost use Rattle.std.specs.Prelude.{◌≡◌};
+ghost use Rattle.bike_catalogue.specs.RowFaults.{MakesStation};
+ghost use Rattle.bike_catalogue.specs.Rows.{IsStation, station_within};
 
 use crate::range::{coordinate, in_range};
 use bike_fields::{DockCount, Field, FieldFault, Ident, Name};
@@ -34,7 +33,7 @@ impl Model for Station {
 impl Station {
     /// The station of these fields, else the first bad field with the first bound that it breaks: an identifier, a
     /// name, a latitude from -90,000,000 to 90,000,000 and a longitude from -180,000,000 to 180,000,000 microdegrees,
-    /// and 1 to 200 docks.
+    /// and 1 to `MOST_DOCKS` docks.
     #[tactic(auto, unfolding(crate::specs::RowFaults::station_fault))]
     pub fn new(
         alloc: Global,
@@ -44,7 +43,13 @@ impl Station {
         lon: i32,
         docks: u32,
     ) -> Result<Station, FieldFault>
-        ensures { let row : StationRow = record { station_id = station_id.now; name = name.now; lat = lat; lon = lon; docks = docks } in Makes row (station_fault row) result }
+        ensures { MakesStation (record {
+          station_id = station_id.now;
+          name = name.now;
+          lat = lat;
+          lon = lon;
+          docks = docks;
+        }) result }
     {
         let station_id = Ident::new(alloc, Field::Station, station_id)?;
         let name = Name::new(alloc, Field::Name, name)?;
@@ -68,7 +73,13 @@ impl Station {
         lon: Micro,
         docks: DockCount,
     ) -> Option<Station>
-        ensures { result ≡ (if is_latitude lat then Some (record { station_id = station_id; name = name; lat = lat; lon = lon; docks = docks }) else None) }
+        ensures { result ≡ station_within (record {
+          station_id = station_id;
+          name = name;
+          lat = lat;
+          lon = lon;
+          docks = docks;
+        }) }
     {
         if lat.microdegrees() < -90_000_000 || lat.microdegrees() > 90_000_000 {
             return None;

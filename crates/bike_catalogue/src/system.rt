@@ -1,9 +1,8 @@
 //! The system.
 
 ghost use Rattle.std.specs.Prelude.{◌≡◌};
-ghost use Rattle.bike_fields.specs.Fault.{Makes};
-ghost use Rattle.bike_catalogue.specs.RowFaults.{system_fault};
-ghost use Rattle.bike_catalogue.specs.Rows.{SystemRow, IsSystem};
+ghost use Rattle.bike_catalogue.specs.RowFaults.{MakesSystem};
+ghost use Rattle.bike_catalogue.specs.Rows.{IsSystem};
 
 use crate::range::in_range;
 use bike_fields::{Ascii, Currency, Field, FieldFault, Ident, Language, Name, TimeToLive};
@@ -30,7 +29,17 @@ impl Model for System {
 
     ghost Value = { SystemRow };
 
-    ghost view = { λ a. record { system_id = a.system_id; language = a.language; name = a.name; opening_hours = a.opening_hours; feed_contact_email = a.feed_contact_email; timezone = a.timezone; currency = a.currency; base_url = a.base_url; ttl = a.ttl } };
+    ghost view = { λ a. record {
+      system_id = a.system_id;
+      language = a.language;
+      name = a.name;
+      opening_hours = a.opening_hours;
+      feed_contact_email = a.feed_contact_email;
+      timezone = a.timezone;
+      currency = a.currency;
+      base_url = a.base_url;
+      ttl = a.ttl;
+    } };
 }
 
 impl System {
@@ -49,7 +58,17 @@ impl System {
         base_url: &str,
         ttl: u32,
     ) -> Result<System, FieldFault>
-        ensures { let row : SystemRow = record { system_id = system_id.now; language = language.now; name = name.now; opening_hours = opening_hours.now; feed_contact_email = feed_contact_email.now; timezone = timezone.now; currency = currency.now; base_url = base_url.now; ttl = ttl } in Makes row (system_fault row) result }
+        ensures { MakesSystem (record {
+          system_id = system_id.now;
+          language = language.now;
+          name = name.now;
+          opening_hours = opening_hours.now;
+          feed_contact_email = feed_contact_email.now;
+          timezone = timezone.now;
+          currency = currency.now;
+          base_url = base_url.now;
+          ttl = ttl;
+        }) result }
     {
         Ok(System {
             system_id: Ident::new(alloc, Field::SystemId, system_id)?,
@@ -76,7 +95,17 @@ impl System {
         base_url: Ascii,
         ttl: TimeToLive,
     ) -> System
-        ensures { result ≡ record { system_id = system_id; language = language; name = name; opening_hours = opening_hours; feed_contact_email = feed_contact_email; timezone = timezone; currency = currency; base_url = base_url; ttl = ttl } }
+        ensures { result ≡ record {
+          system_id = system_id;
+          language = language;
+          name = name;
+          opening_hours = opening_hours;
+          feed_contact_email = feed_contact_email;
+          timezone = timezone;
+          currency = currency;
+          base_url = base_url;
+          ttl = ttl;
+        } }
     {
         System {
             system_id,

@@ -1,9 +1,9 @@
 //! Vehicle types.
 
-ghost use Rattle.std.specs.Prelude.{◌≡◌, Some, None, if◌then◌else◌};
-ghost use Rattle.bike_fields.specs.Fault.{Makes, at_field};
-ghost use Rattle.bike_catalogue.specs.RowFaults.{type_fault, checked, max_range_fault};
-ghost use Rattle.bike_catalogue.specs.Rows.{TypeRow, IsType, is_range};
+ghost use Rattle.std.specs.Prelude.{◌≡◌};
+ghost use Rattle.bike_fields.specs.Fault.{at_field};
+ghost use Rattle.bike_catalogue.specs.RowFaults.{MakesType, checked, max_range_fault};
+ghost use Rattle.bike_catalogue.specs.Rows.{IsType, is_range, type_within};
 
 use crate::range::in_range;
 use crate::vehicle::{Form, Propulsion};
@@ -70,7 +70,14 @@ impl VehicleType {
         max_range: u32,
         plan_id: &str,
     ) -> Result<VehicleType, FieldFault>
-        ensures { let row : TypeRow = record { type_id = type_id.now; name = name.now; form = form; propulsion = propulsion; max_range = max_range; plan_id = plan_id.now } in Makes row (type_fault row) result }
+        ensures { MakesType (record {
+          type_id = type_id.now;
+          name = name.now;
+          form = form;
+          propulsion = propulsion;
+          max_range = max_range;
+          plan_id = plan_id.now;
+        }) result }
     {
         let type_id = Ident::new(alloc, Field::TypeId, type_id)?;
         let name = Name::new(alloc, Field::Name, name)?;
@@ -95,7 +102,14 @@ impl VehicleType {
         max_range: MaxRange,
         plan_id: Ident,
     ) -> Option<VehicleType>
-        ensures { result ≡ (if is_range propulsion max_range then Some (record { type_id = type_id; name = name; form = form; propulsion = propulsion; max_range = max_range; plan_id = plan_id }) else None) }
+        ensures { result ≡ type_within (record {
+          type_id = type_id;
+          name = name;
+          form = form;
+          propulsion = propulsion;
+          max_range = max_range;
+          plan_id = plan_id;
+        }) }
     {
         if !is_range(propulsion, max_range.get()) {
             return None;

@@ -6,6 +6,7 @@ use Rattle.std.proofs.lemmas.Option.{option_and_then_some, same_Some, none-some}
 use Rattle.std.proofs.lemmas.Bool.Decides.{eqb_tells}
 use Rattle.std.proofs.lemmas.Int.{ints}
 use Rattle.std.proofs.lemmas.List.Splits.{join_with_byte-slice_split}
+use Rattle.bike_fixed.specs.declared.cents.TheConstants.{GREATEST_FARE}
 use Rattle.bike_fixed.specs.Whole.{number_of as whole_of}
 use Rattle.bike_texts.specs.Parts.{Parts}
 use Rattle.bike_texts.specs.Fields.{Field, Number, Signed, Fixed, HasNoTab}
@@ -133,8 +134,8 @@ Left = Rest reply_word reply_fields
 balance_reader : IsReader i64_of Any
 balance_reader = signed_reader (neg_ℤ (pos 9223372036854775808)) (pos 9223372036854775807) (omega (arith, ints)) (omega (arith, ints))
 
-fare_reader : IsReader fare_of (Signed (pos 0) (pos 34561800000))
-fare_reader = signed_reader (pos 0) (pos 34561800000) (omega (arith, ints)) (omega (arith, ints))
+fare_reader : IsReader fare_of (Signed (pos 0) GREATEST_FARE)
+fare_reader = signed_reader (pos 0) GREATEST_FARE (omega (arith, ints)) (omega (arith, ints))
 
 serial_reader : IsReader (whole_of 1 100000000) (Number 1 100000000)
 serial_reader = number_reader 1 100000000 (lit< tt)

@@ -1,7 +1,7 @@
 -- How a command is spelled.
 use Rattle.std.specs.Prelude.{ℕ, List, [], ◌∷◌, ◌++◌, codes}
 use Rattle.bike_catalogue.specs.Vehicle.{form_text, propulsion_text}
-use Rattle.bike_texts.specs.Fields.{Field, Number, Fixed, Id, Language, Currency, Name, Ascii, Degrees, Metres, Segments, End, Choice, Flag, Numbered, Dock, Serial, Payment, side_text, AreGood, IsSpelled, IsWritten, fields_text}
+use Rattle.bike_texts.specs.Fields.{Field, Number, Fixed, Id, Language, Currency, Name, Ascii, Degrees, Metres, Segments, End, Choice, Flag, Numbered, Dock, DockOrDepot, Serial, Payment, side_text, AreGood, IsSpelled, IsWritten, fields_text}
 use Rattle.bike_commands.specs.declared.command.Command.{Command}
 use Rattle.bike_commands.specs.declared.command.Command.TheVariants as command
 
@@ -56,7 +56,7 @@ fields_of (command.Recover rental) = Serial rental ∷ []
 fields_of (command.Refund rental amount) = Serial rental ∷ Payment amount ∷ []
 fields_of (command.OpenOrder truck from_end to_end type_id count) = Numbered truck ∷ End from_end ∷ End to_end ∷ Id type_id ∷ Number 1 60 count ∷ []
 fields_of (command.Load truck order bike) = Numbered truck ∷ Serial order ∷ Numbered bike ∷ []
-fields_of (command.Unload truck order bike side dock) = Numbered truck ∷ Serial order ∷ Numbered bike ∷ Fixed (side_text side) ∷ Number 0 200 dock ∷ []
+fields_of (command.Unload truck order bike side dock) = Numbered truck ∷ Serial order ∷ Numbered bike ∷ Fixed (side_text side) ∷ DockOrDepot dock ∷ []
 fields_of (command.CloseOrder order) = Serial order ∷ []
 
 -- the fields keep their bounds, as those of every command of the program do

@@ -1,5 +1,6 @@
 -- How a reply is spelled, which is the answer line without its LF.
 use Rattle.std.specs.Prelude.{ℕ, ℤ, List, [], ◌∷◌, ◌++◌, codes, pos, neg_ℤ}
+use Rattle.bike_fixed.specs.declared.cents.TheConstants.{GREATEST_FARE}
 use Rattle.bike_texts.specs.Fields.{Field, Number, Signed, Fixed, AreGood, fields_text}
 use Rattle.bike_commands.specs.declared.reply.Reply.{Reply}
 use Rattle.bike_commands.specs.declared.reply.Reply.TheVariants.{Done, Balance, Started, Ended, Ordered, Refused}
@@ -23,7 +24,7 @@ abbrev pub reply_fields : Reply → List Field
 reply_fields Done = []
 reply_fields (Balance balance) = Any balance ∷ []
 reply_fields (Started rental bike) = Number 1 100000000 rental ∷ Number 1 999999 bike ∷ []
-reply_fields (Ended fare balance) = Signed (pos 0) (pos 34561800000) fare ∷ Any balance ∷ []
+reply_fields (Ended fare balance) = Signed (pos 0) GREATEST_FARE fare ∷ Any balance ∷ []
 reply_fields (Ordered order) = Number 1 100000000 order ∷ []
 reply_fields (Refused refusal) = Number 1 36 (number_of refusal) ∷ Fixed (name_of refusal) ∷ []
 

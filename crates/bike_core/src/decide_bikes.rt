@@ -1,10 +1,7 @@
 //! Decisions on bicycles, apart from rentals and orders.
 
-ghost use Rattle.std.specs.Prelude.{◌≡◌, ℕ};
 ghost use Rattle.bike_commands.specs.declared.command.Command.TheVariants as command;
-ghost use Rattle.bike_operator.specs.Operator.{Operator};
-ghost use Rattle.bike_operator.specs.View.{view_of};
-ghost use Rattle.bike_operator.specs.Changes.{Decides};
+ghost use Rattle.bike_operator.specs.Changes.{DecidesOn};
 
 use crate::places::{is_depot, is_retired, report_of};
 use bike_commands::{Refusal, Reply};
@@ -17,7 +14,7 @@ pub(crate) fn decide_add_bike<'a>(
     bike: BicycleNumber,
     type_id: &'a Ident,
 ) -> Decision<'a>
-    ensures { (s : Operator) (now : ℕ) → view.now ≡ view_of s (command.AddBike bike type_id.now) → Decides s now (command.AddBike bike type_id.now) result }
+    ensures { DecidesOn view.now (command.AddBike bike type_id.now) result }
 {
     if view.bike.is_some() {
         return Err(Refusal::AlreadyThere);
@@ -40,7 +37,7 @@ pub(crate) fn decide_mark_bike<'a>(
     bike: BicycleNumber,
     is_disabled: bool,
 ) -> Decision<'a>
-    ensures { (s : Operator) (now : ℕ) → view.now ≡ view_of s (command.MarkBike bike is_disabled) → Decides s now (command.MarkBike bike is_disabled) result }
+    ensures { DecidesOn view.now (command.MarkBike bike is_disabled) result }
 {
     let Some(row) = &view.bike else {
         return Err(Refusal::UnknownBike);
@@ -66,7 +63,7 @@ pub(crate) fn decide_mark_bike<'a>(
 
 /// Decides on retiring a bicycle, which has to be in the depot.
 pub(crate) fn decide_retire_bike<'a>(view: &View, bike: BicycleNumber) -> Decision<'a>
-    ensures { (s : Operator) (now : ℕ) → view.now ≡ view_of s (command.RetireBike bike) → Decides s now (command.RetireBike bike) result }
+    ensures { DecidesOn view.now (command.RetireBike bike) result }
 {
     let Some(Bike { state, place, .. }) = &view.bike else {
         return Err(Refusal::UnknownBike);

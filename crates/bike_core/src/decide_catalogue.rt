@@ -1,10 +1,7 @@
 //! Decisions on the catalogue: the system, plans, vehicle types and stations.
 
-ghost use Rattle.std.specs.Prelude.{◌≡◌, ℕ};
 ghost use Rattle.bike_commands.specs.declared.command.Command.TheVariants as command;
-ghost use Rattle.bike_operator.specs.Operator.{Operator};
-ghost use Rattle.bike_operator.specs.View.{view_of};
-ghost use Rattle.bike_operator.specs.Changes.{Decides};
+ghost use Rattle.bike_operator.specs.Changes.{DecidesOn};
 
 use bike_catalogue::{Plan, Station, System, VehicleType};
 use bike_commands::{Refusal, Reply};
@@ -13,7 +10,7 @@ use bike_operator::{Accepted, Change, Decision, View};
 
 /// Decides on setting the system: it is set once.
 pub(crate) fn decide_set_system<'a>(view: &View, system: &'a System) -> Decision<'a>
-    ensures { (s : Operator) (now : ℕ) → view.now ≡ view_of s (command.SetSystem system.now) → Decides s now (command.SetSystem system.now) result }
+    ensures { DecidesOn view.now (command.SetSystem system.now) result }
 {
     if view.has_system {
         return Err(Refusal::AlreadyThere);
@@ -23,7 +20,7 @@ pub(crate) fn decide_set_system<'a>(view: &View, system: &'a System) -> Decision
 
 /// Decides on a new pricing plan.
 pub(crate) fn decide_add_plan<'a>(view: &View, plan: &'a Plan) -> Decision<'a>
-    ensures { (s : Operator) (now : ℕ) → view.now ≡ view_of s (command.AddPlan plan.now) → Decides s now (command.AddPlan plan.now) result }
+    ensures { DecidesOn view.now (command.AddPlan plan.now) result }
 {
     if view.has_plan {
         return Err(Refusal::AlreadyThere);
@@ -36,7 +33,7 @@ pub(crate) fn decide_add_plan<'a>(view: &View, plan: &'a Plan) -> Decision<'a>
 
 /// Decides on a new vehicle type with its default plan.
 pub(crate) fn decide_add_type<'a>(view: &View, vehicle_type: &'a VehicleType) -> Decision<'a>
-    ensures { (s : Operator) (now : ℕ) → view.now ≡ view_of s (command.AddType vehicle_type.now) → Decides s now (command.AddType vehicle_type.now) result }
+    ensures { DecidesOn view.now (command.AddType vehicle_type.now) result }
 {
     if view.has_type {
         return Err(Refusal::AlreadyThere);
@@ -52,7 +49,7 @@ pub(crate) fn decide_add_type<'a>(view: &View, vehicle_type: &'a VehicleType) ->
 
 /// Decides on another default plan of a vehicle type.
 pub(crate) fn decide_set_plan<'a>(view: &View, type_id: &'a Ident, plan: &'a Ident) -> Decision<'a>
-    ensures { (s : Operator) (now : ℕ) → view.now ≡ view_of s (command.SetPlan type_id.now plan.now) → Decides s now (command.SetPlan type_id.now plan.now) result }
+    ensures { DecidesOn view.now (command.SetPlan type_id.now plan.now) result }
 {
     if !view.has_type {
         return Err(Refusal::UnknownType);
@@ -65,7 +62,7 @@ pub(crate) fn decide_set_plan<'a>(view: &View, type_id: &'a Ident, plan: &'a Ide
 
 /// Decides on a new station.
 pub(crate) fn decide_add_station<'a>(view: &View, station: &'a Station) -> Decision<'a>
-    ensures { (s : Operator) (now : ℕ) → view.now ≡ view_of s (command.AddStation station.now) → Decides s now (command.AddStation station.now) result }
+    ensures { DecidesOn view.now (command.AddStation station.now) result }
 {
     if view.station.is_some() {
         return Err(Refusal::AlreadyThere);
@@ -84,7 +81,7 @@ pub(crate) fn decide_set_station<'a>(
     is_renting: bool,
     is_returning: bool,
 ) -> Decision<'a>
-    ensures { (s : Operator) (now : ℕ) → view.now ≡ view_of s (command.SetStation station.now is_installed is_renting is_returning) → Decides s now (command.SetStation station.now is_installed is_renting is_returning) result }
+    ensures { DecidesOn view.now (command.SetStation station.now is_installed is_renting is_returning) result }
 {
     if view.station.is_none() {
         return Err(Refusal::UnknownStation);
@@ -104,7 +101,7 @@ pub(crate) fn decide_mark_dock<'a>(
     dock: DockNumber,
     is_broken: bool,
 ) -> Decision<'a>
-    ensures { (s : Operator) (now : ℕ) → view.now ≡ view_of s (command.MarkDock station.now dock is_broken) → Decides s now (command.MarkDock station.now dock is_broken) result }
+    ensures { DecidesOn view.now (command.MarkDock station.now dock is_broken) result }
 {
     let Some(row) = &view.station else {
         return Err(Refusal::UnknownStation);

@@ -4,9 +4,8 @@ ghost use Rattle.std.specs.Prelude.{◌≡◌, ◌≤◌, ◌+◌, ℕ, List, So
 ghost use Rattle.bike_texts.specs.declared.ends.OrderEnd.{OrderEnd};
 ghost use Rattle.bike_commands.specs.declared.command.Command.TheVariants as command;
 ghost use Rattle.bike_operator.specs.Operator.{Operator};
-ghost use Rattle.bike_operator.specs.View.{view_of};
 ghost use Rattle.bike_operator.specs.Steps.{first, tests, delivered, placed_at_end};
-ghost use Rattle.bike_operator.specs.Changes.{Decides, refusal_in, all_changed, present};
+ghost use Rattle.bike_operator.specs.Changes.{DecidesOn, refusal_in, all_changed, present};
 ghost use Rattle.bike_operator.specs.Bounds.{IsBounded};
 
 use crate::booking::next_number;
@@ -22,7 +21,7 @@ pub(crate) fn decide_add_truck<'a>(
     truck: TruckNumber,
     capacity: TruckCapacity,
 ) -> Decision<'a>
-    ensures { (s : Operator) (now : ℕ) → view.now ≡ view_of s (command.AddTruck truck capacity) → Decides s now (command.AddTruck truck capacity) result }
+    ensures { DecidesOn view.now (command.AddTruck truck capacity) result }
 {
     if view.truck.is_some() {
         return Err(Refusal::AlreadyThere);
@@ -76,7 +75,7 @@ pub(crate) fn decide_open_order<'a>(
     type_id: &'a Ident,
     count: OrderQuantity,
 ) -> Decision<'a>
-    ensures { (s : Operator) (now : ℕ) → view.now ≡ view_of s (command.OpenOrder truck from_end.now to_end.now type_id.now count) → Decides s now (command.OpenOrder truck from_end.now to_end.now type_id.now count) result }
+    ensures { DecidesOn view.now (command.OpenOrder truck from_end.now to_end.now type_id.now count) result }
 {
     let order = match check_open_order(view, from_end, to_end, count) {
         Ok(order) => order,
@@ -144,7 +143,7 @@ pub(crate) fn decide_load<'a>(
     bike: BicycleNumber,
 ) -> Decision<'a>
     requires { IfSome view.now.order (λ o. o.delivered + view.now.on_truck ≤ o.count) }
-    ensures { (s : Operator) (now : ℕ) → view.now ≡ view_of s (command.Load truck order bike) → Decides s now (command.Load truck order bike) result }
+    ensures { DecidesOn view.now (command.Load truck order bike) result }
 {
     let row = match check_load(view, truck) {
         Ok(row) => row,
@@ -248,7 +247,7 @@ pub(crate) fn decide_unload<'a>(
     side: Side,
     dock: UnloadDock,
 ) -> Decision<'a>
-    ensures { (s : Operator) (now : ℕ) → view.now ≡ view_of s (command.Unload truck order bike side dock) → Decides s now (command.Unload truck order bike side dock) result }
+    ensures { DecidesOn view.now (command.Unload truck order bike side dock) result }
 {
     let row = match check_unload(view, truck, order, side, dock) {
         Ok(row) => row,
@@ -264,7 +263,7 @@ pub(crate) fn decide_unload<'a>(
 
 /// Decides on closing an order, which has no bicycle on its truck.
 pub(crate) fn decide_close_order<'a>(view: &View, order: OrderNumber) -> Decision<'a>
-    ensures { (s : Operator) (now : ℕ) → view.now ≡ view_of s (command.CloseOrder order) → Decides s now (command.CloseOrder order) result }
+    ensures { DecidesOn view.now (command.CloseOrder order) result }
 {
     let Some(row) = &view.order else {
         return Err(Refusal::UnknownOrder);

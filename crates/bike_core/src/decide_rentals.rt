@@ -2,10 +2,8 @@
 
 ghost use Rattle.std.specs.Prelude.{◌≡◌, ℕ, List, Some, IfOk, IfSome, IsSome, true, false};
 ghost use Rattle.bike_commands.specs.declared.command.Command.TheVariants as command;
-ghost use Rattle.bike_operator.specs.Operator.{Operator};
-ghost use Rattle.bike_operator.specs.View.{view_of};
 ghost use Rattle.bike_operator.specs.Steps.{first, tests};
-ghost use Rattle.bike_operator.specs.Changes.{Decides, refusal_in};
+ghost use Rattle.bike_operator.specs.Changes.{DecidesAt, refusal_in};
 ghost use Rattle.bike_operator.specs.Counts.{is_open};
 ghost use Rattle.bike_operator.specs.Bounds.{IsRefundable, IsBounded};
 
@@ -72,7 +70,7 @@ pub(crate) fn decide_start<'a>(
     dock: DockNumber,
 ) -> Decision<'a>
     requires { IsBounded view.now now }
-    ensures { (s : Operator) → view.now ≡ view_of s (command.Start rider station.now dock) → Decides s now (command.Start rider station.now dock) result }
+    ensures { DecidesAt now view.now (command.Start rider station.now dock) result }
 {
     let docked = match check_start(view, dock) {
         Ok(docked) => docked,
@@ -143,7 +141,7 @@ pub(crate) fn decide_end<'a>(
     dock: DockNumber,
 ) -> Decision<'a>
     requires { IsBounded view.now now }
-    ensures { (s : Operator) → view.now ≡ view_of s (command.End bike station.now dock) → Decides s now (command.End bike station.now dock) result }
+    ensures { DecidesAt now view.now (command.End bike station.now dock) result }
 {
     let row = match check_end(view, dock) {
         Ok(row) => row,
@@ -188,7 +186,7 @@ fn check_recover(view: &View) -> Result<&RentalView, Refusal>
 /// Decides on closing a rental whose bicycle was brought to the depot.
 pub(crate) fn decide_recover<'a>(view: &View, now: Moment, rental: RentalNumber) -> Decision<'a>
     requires { IsBounded view.now now }
-    ensures { (s : Operator) → view.now ≡ view_of s (command.Recover rental) → Decides s now (command.Recover rental) result }
+    ensures { DecidesAt now view.now (command.Recover rental) result }
 {
     let row = match check_recover(view) {
         Ok(row) => row,
@@ -243,7 +241,7 @@ pub(crate) fn decide_refund<'a>(
     amount: Payment,
 ) -> Decision<'a>
     requires { IsBounded view.now now }
-    ensures { (s : Operator) → view.now ≡ view_of s (command.Refund rental amount) → Decides s now (command.Refund rental amount) result }
+    ensures { DecidesAt now view.now (command.Refund rental amount) result }
 {
     let row = match check_refund(view, amount) {
         Ok(row) => row,

@@ -1,10 +1,7 @@
 //! Decisions on riders and their payments.
 
-ghost use Rattle.std.specs.Prelude.{◌≡◌, ℕ};
 ghost use Rattle.bike_commands.specs.declared.command.Command.TheVariants as command;
-ghost use Rattle.bike_operator.specs.Operator.{Operator};
-ghost use Rattle.bike_operator.specs.View.{view_of};
-ghost use Rattle.bike_operator.specs.Changes.{Decides};
+ghost use Rattle.bike_operator.specs.Changes.{DecidesAt, DecidesOn};
 ghost use Rattle.bike_operator.specs.Bounds.{IsBounded};
 
 use crate::booking::{balance_reply, next_entry};
@@ -16,7 +13,7 @@ use bike_operator::{Accepted, Change, Decision, View};
 
 /// Decides on a new rider.
 pub(crate) fn decide_add_rider<'a>(view: &View, rider: RiderNumber) -> Decision<'a>
-    ensures { (s : Operator) (now : ℕ) → view.now ≡ view_of s (command.AddRider rider) → Decides s now (command.AddRider rider) result }
+    ensures { DecidesOn view.now (command.AddRider rider) result }
 {
     if view.has_rider {
         return Err(Refusal::AlreadyThere);
@@ -36,7 +33,7 @@ pub(crate) fn decide_set_rider<'a>(
     rider: RiderNumber,
     is_blocked: bool,
 ) -> Decision<'a>
-    ensures { (s : Operator) (now : ℕ) → view.now ≡ view_of s (command.SetRider rider is_blocked) → Decides s now (command.SetRider rider is_blocked) result }
+    ensures { DecidesOn view.now (command.SetRider rider is_blocked) result }
 {
     if !view.has_rider {
         return Err(Refusal::UnknownRider);
@@ -55,7 +52,7 @@ pub(crate) fn decide_top_up<'a>(
     amount: Payment,
 ) -> Decision<'a>
     requires { IsBounded view.now now }
-    ensures { (s : Operator) → view.now ≡ view_of s (command.TopUp rider amount) → Decides s now (command.TopUp rider amount) result }
+    ensures { DecidesAt now view.now (command.TopUp rider amount) result }
 {
     let Some(row) = &view.rider else {
         return Err(Refusal::UnknownRider);

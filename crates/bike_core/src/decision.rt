@@ -1,9 +1,6 @@
 //! The decision on a command: refused, or what is answered and changed.
 
-ghost use Rattle.std.specs.Prelude.{◌≡◌};
-ghost use Rattle.bike_operator.specs.Operator.{Operator};
-ghost use Rattle.bike_operator.specs.View.{view_of};
-ghost use Rattle.bike_operator.specs.Changes.{Decides};
+ghost use Rattle.bike_operator.specs.Changes.{DecidesAt};
 ghost use Rattle.bike_operator.specs.Bounds.{IsBounded};
 
 use crate::decide_bikes::{decide_add_bike, decide_mark_bike, decide_retire_bike};
@@ -25,7 +22,7 @@ use bike_operator::{Decision, View};
 /// request's moment and the operator's.
 pub fn decide<'a>(view: &'a View, now: Moment, command: &'a Command) -> Decision<'a>
     requires { IsBounded view.now now }
-    ensures { (s : Operator) → view.now ≡ view_of s command.now → Decides s now command.now result }
+    ensures { DecidesAt now view.now command.now result }
 {
     match command {
         Command::SetSystem(system) => decide_set_system(view, system),

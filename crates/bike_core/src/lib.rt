@@ -2,6 +2,9 @@
 //!
 //! `decide` answers, on the view of an operator, exactly the first refusal that holds, or else the reply
 //! and the changes that make the effect. It takes no memory.
+//!
+//! What a caller names stands here too: commands, requests, replies and refusals, a command's text and its readers, the
+//! view of an operator and the changes of a decision.
 #![tactic(auto)]
 
 mod booking;
@@ -16,3 +19,7 @@ mod places;
 
 pub use bounds::is_bounded;
 pub use decision::decide;
+
+pub use bike_commands::{Command, Refusal, Reply, Request};
+pub use bike_operator::{Accepted, Change, Decision, View};
+pub use bike_requests::{command_text, read_command, read_line};

@@ -1,6 +1,7 @@
 -- What a rental costs, in the words of GBFS's `per_min_pricing`.
 use Rattle.std.specs.Prelude.{◌≡◌, ℕ, ℤ, zero, suc, ◌+◌, ◌-◌, ◌*◌, ◌%◌, ◌<◌, ◌+ℤ◌, pos, min, List, [], ◌∷◌, Bool, true, ◌&&◌, ◌||◌, nat_le, nat_lt, ◌==◌, if◌then◌else◌, ◌⊎◌, Option, Some, None}
 use Rattle.std.specs.Int.{int_max}
+use Rattle.bike_fixed.specs.declared.cents.TheConstants.{GREATEST_FARE}
 use Rattle.bike_catalogue.specs.Rows.{SegmentRow, PlanRow, IsSegment}
 
 -- the seconds that are charged for: from start to end, at most 30 days
@@ -48,7 +49,7 @@ fare_of plan start end = int_max (cost_of plan (elapsed_seconds start end)) (pos
 
 -- the greatest fare: the greatest price, and eight segments of the greatest rate at each of 43,201 minutes
 abbrev pub greatest_fare : ℤ
-greatest_fare = pos 34561800000
+greatest_fare = GREATEST_FARE
 
 -- segments that keep the catalogue's bounds
 abbrev pub AreSegments : List SegmentRow → Type 0

@@ -6,6 +6,8 @@ use Rattle.bike_fixed.specs.Whole.{number_of}
 use Rattle.bike_fields.specs.Bytes.{is_ident, ident_of}
 use Rattle.bike_fields.specs.declared.caller.Caller.{Caller}
 use Rattle.bike_fields.specs.declared.caller.Caller.TheVariants.{Office, Rider, Dock, Crew, Import}
+use Rattle.bike_fields.specs.declared.caller.CallerName.{CallerName}
+use Rattle.bike_fields.specs.declared.caller.CallerName.TheVariants as name
 
 -- a caller whose number or identifier keeps its bounds
 abbrev pub IsCaller : Caller → Type 0
@@ -44,3 +46,27 @@ caller_of text =
     if nat_lt (position_or_len is_colon text) (length text)
     then caller_named (before_first is_colon text) (after_first is_colon text)
     else (if bytes_eq text (codes "office") then Some Office else None)
+
+-- the caller that is named
+abbrev pub caller_meant : CallerName → Caller
+caller_meant name.Office = Office
+caller_meant (name.Rider n) = Rider n
+caller_meant (name.Dock station) = Dock station.now
+caller_meant (name.Crew n) = Crew n
+caller_meant (name.Import source) = Import source.now
+
+-- an identifier in the name keeps its bounds
+abbrev pub HasIdent : CallerName → Type 0
+HasIdent name.Office = Unit {0}
+HasIdent (name.Rider n) = Unit {0}
+HasIdent (name.Dock station) = is_ident station.now ≡ true
+HasIdent (name.Crew n) = Unit {0}
+HasIdent (name.Import source) = is_ident source.now ≡ true
+
+-- the caller has an identifier, for which it needs memory
+abbrev pub HoldsIdent : Caller → Type 0
+HoldsIdent Office = ⊥
+HoldsIdent (Rider n) = ⊥
+HoldsIdent (Dock station) = Unit {0}
+HoldsIdent (Crew n) = ⊥
+HoldsIdent (Import source) = Unit {0}

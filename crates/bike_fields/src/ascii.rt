@@ -1,8 +1,9 @@
 //! ASCII fields.
 
-ghost use Rattle.std.specs.Prelude.{◌≡◌, true, IfOk, List, ℕ, string_bytes};
+ghost use Rattle.std.specs.Prelude.{◌≡◌, true, IfOk, IfSome, List, ℕ, string_bytes};
 ghost use Rattle.bike_fields.specs.Bytes.{is_ascii_field, ascii_of};
 ghost use Rattle.bike_fields.specs.Fault.{Makes, at_field, ascii_fault};
+ghost use Rattle.bike_fields.specs.Reads.{Gives, IsReadAs};
 
 use crate::bytes::{are_printable, has_length};
 use crate::fault::{Bound, Field, FieldFault};
@@ -49,17 +50,36 @@ impl Ascii {
         })
     }
 
-    /// The text, where it is an ASCII field; an error is a want of memory.
+    /// The text, where it is an ASCII field; this needs no memory.
     #[tactic(auto, unfolding(crate::specs::Bytes::ascii_of))]
-    pub fn read(alloc: Global, text: &str) -> Result<Option<Ascii>, AllocError>
-        ensures { IfOk result (λ o. o ≡ ascii_of text.now) }
+    pub fn checked<'a>(text: &'a str) -> Option<&'a str>
+        ensures read { Gives (λ checked. checked.now) result (ascii_of text.now) }
+        ensures good { IfSome result (λ checked. is_ascii_field checked.now ≡ true) }
     {
-        if !has_length(text, 1, 200) || !are_printable(text.as_bytes()) {
-            return Ok(None);
+        if has_length(text, 1, 200) && are_printable(text.as_bytes()) {
+            return Some(text);
         }
-        Ok(Some(Ascii {
+        None
+    }
+
+    /// The ASCII field of a text that the caller knows to be one; an error where memory was refused.
+    pub fn of(alloc: Global, text: &str) -> Result<Ascii, AllocError>
+        requires { is_ascii_field text.now ≡ true }
+        ensures { IfOk result (λ made. made ≡ text.now) }
+    {
+        Ok(Ascii {
             text: String::from_str(alloc, text)?,
-        }))
+        })
+    }
+
+    /// The text, where it is an ASCII field; an error where memory was refused, which only an ASCII field asks for.
+    pub fn read(alloc: Global, text: &str) -> Result<Option<Ascii>, AllocError>
+        ensures { IsReadAs (ascii_of text.now) result }
+    {
+        let Some(checked) = Ascii::checked(text) else {
+            return Ok(None);
+        };
+        Ok(Some(Ascii::of(alloc, checked)?))
     }
 
     /// The text, and its bounds.

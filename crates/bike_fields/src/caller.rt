@@ -1,8 +1,9 @@
 //! Callers.
 
-ghost use Rattle.std.specs.Prelude.{◌≡◌, ◌≤◌, ◌++◌, List, ℕ, IfOk, Some, decimal};
+ghost use Rattle.std.specs.Prelude.{◌≡◌, ◌≤◌, ◌++◌, List, ℕ, IfOk, IfErr, IfSome, Some, decimal};
 ghost use Rattle.arrayvec.specs.ArrayString.{array_string_len};
-ghost use Rattle.bike_fields.specs.Caller.{IsCaller, caller_text, caller_of, caller_named};
+ghost use Rattle.bike_fields.specs.Caller.{IsCaller, HasIdent, HoldsIdent, caller_meant, caller_text, caller_of, caller_named};
+ghost use Rattle.bike_fields.specs.Reads.{Gives, IsReadAs};
 ghost use Rattle.bike_fields.specs.declared.caller.Caller.{Caller};
 
 use crate::ident::Ident;
@@ -26,17 +27,62 @@ pub enum Caller {
     Import(Ident),
 }
 
-impl Caller {
-    /// The caller whose text this is; an error is a want of memory.
+/// A caller as a text names it, before it has memory of its own.
+#[derive(Clone, Copy, Debug)]
+pub enum CallerName<'a> {
+    /// `office`
+    Office,
+    /// `rider:N`
+    Rider(RiderNumber),
+    /// `dock:STATION`
+    Dock(&'a str),
+    /// `crew:TRUCK`
+    Crew(TruckNumber),
+    /// `import:NAME`
+    Import(&'a str),
+}
+
+impl<'a> CallerName<'a> {
+    /// The caller that the text names; this needs no memory.
     #[tactic(auto, unfolding(crate::specs::Caller::caller_of))]
-    pub fn read(alloc: Global, text: &str) -> Result<Option<Caller>, AllocError>
-        ensures { IfOk result (λ o. o ≡ caller_of text.now) }
+    pub fn read(text: &'a str) -> Option<CallerName<'a>>
+        ensures read { Gives caller_meant result (caller_of text.now) }
+        ensures good { IfSome result HasIdent }
     {
         match text.split_once(':') {
-            Some((kind, name)) => named(alloc, kind, name),
-            None if text == "office" => Ok(Some(Caller::Office)),
-            None => Ok(None),
+            Some((kind, name)) => named(kind, name),
+            None if text == "office" => Some(CallerName::Office),
+            None => None,
         }
+    }
+
+    /// The caller, with memory of its own; an error where memory was refused, never of the office, a rider or a crew.
+    pub fn keep(self, alloc: Global) -> Result<Caller, AllocError>
+        requires { HasIdent self }
+        ensures value { IfOk result (λ caller. caller ≡ caller_meant self.entry) }
+        ensures spared { IfErr result (λ _. HoldsIdent (caller_meant self.entry)) }
+    {
+        match self {
+            CallerName::Office => Ok(Caller::Office),
+            CallerName::Rider(number) => Ok(Caller::Rider(number)),
+            CallerName::Dock(station) => Ok(Caller::Dock(Ident::of(alloc, station)?)),
+            CallerName::Crew(truck) => Ok(Caller::Crew(truck)),
+            CallerName::Import(name) => Ok(Caller::Import(Ident::of(alloc, name)?)),
+        }
+    }
+}
+
+impl Caller {
+    /// The caller whose text this is; an error where memory was refused, which only the text of a dock or an import asks
+    /// for.
+    pub fn read(alloc: Global, text: &str) -> Result<Option<Caller>, AllocError>
+        ensures read { IsReadAs (caller_of text.now) result }
+        ensures spared { IfErr result (λ _. (c : Caller) → caller_of text.now ≡ Some c → HoldsIdent c) }
+    {
+        let Some(name) = CallerName::read(text) else {
+            return Ok(None);
+        };
+        Ok(Some(name.keep(alloc)?))
     }
 
     /// The caller's text.
@@ -69,15 +115,16 @@ impl Caller {
 
 /// The caller of that kind.
 #[tactic(auto, unfolding(crate::specs::Caller::caller_named))]
-fn named(alloc: Global, kind: &str, name: &str) -> Result<Option<Caller>, AllocError>
-    ensures { IfOk result (λ o. o ≡ caller_named kind.now name.now) }
+fn named<'a>(kind: &str, name: &'a str) -> Option<CallerName<'a>>
+    ensures read { Gives caller_meant result (caller_named kind.now name.now) }
+    ensures good { IfSome result HasIdent }
 {
     match kind {
-        "rider" => Ok(RiderNumber::read(name).map(Caller::Rider)),
-        "dock" => Ok(Ident::read(alloc, name)?.map(Caller::Dock)),
-        "crew" => Ok(TruckNumber::read(name).map(Caller::Crew)),
-        "import" => Ok(Ident::read(alloc, name)?.map(Caller::Import)),
-        _ => Ok(None),
+        "rider" => Some(CallerName::Rider(RiderNumber::read(name)?)),
+        "dock" => Some(CallerName::Dock(Ident::checked(name)?)),
+        "crew" => Some(CallerName::Crew(TruckNumber::read(name)?)),
+        "import" => Some(CallerName::Import(Ident::checked(name)?)),
+        _ => None,
     }
 }
 

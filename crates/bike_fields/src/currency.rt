@@ -1,8 +1,9 @@
 //! Currencies.
 
-ghost use Rattle.std.specs.Prelude.{◌≡◌, true, IfOk, List, ℕ, string_bytes};
+ghost use Rattle.std.specs.Prelude.{◌≡◌, true, IfOk, IfSome, List, ℕ, string_bytes};
 ghost use Rattle.bike_fields.specs.Bytes.{is_currency, currency_of};
 ghost use Rattle.bike_fields.specs.Fault.{Makes, at_field, currency_fault};
+ghost use Rattle.bike_fields.specs.Reads.{Gives, IsReadAs};
 
 use crate::bytes::{are_uppercase, has_length};
 use crate::fault::{Bound, Field, FieldFault};
@@ -49,17 +50,36 @@ impl Currency {
         })
     }
 
-    /// The text, where it is a currency; an error is a want of memory.
+    /// The text, where it is a currency; this needs no memory.
     #[tactic(auto, unfolding(crate::specs::Bytes::currency_of))]
-    pub fn read(alloc: Global, text: &str) -> Result<Option<Currency>, AllocError>
-        ensures { IfOk result (λ o. o ≡ currency_of text.now) }
+    pub fn checked<'a>(text: &'a str) -> Option<&'a str>
+        ensures read { Gives (λ checked. checked.now) result (currency_of text.now) }
+        ensures good { IfSome result (λ checked. is_currency checked.now ≡ true) }
     {
-        if !has_length(text, 3, 3) || !are_uppercase(text.as_bytes()) {
-            return Ok(None);
+        if has_length(text, 3, 3) && are_uppercase(text.as_bytes()) {
+            return Some(text);
         }
-        Ok(Some(Currency {
+        None
+    }
+
+    /// The currency of a text that the caller knows to be one; an error where memory was refused.
+    pub fn of(alloc: Global, text: &str) -> Result<Currency, AllocError>
+        requires { is_currency text.now ≡ true }
+        ensures { IfOk result (λ made. made ≡ text.now) }
+    {
+        Ok(Currency {
             text: String::from_str(alloc, text)?,
-        }))
+        })
+    }
+
+    /// The text, where it is a currency; an error where memory was refused, which only a currency asks for.
+    pub fn read(alloc: Global, text: &str) -> Result<Option<Currency>, AllocError>
+        ensures { IsReadAs (currency_of text.now) result }
+    {
+        let Some(checked) = Currency::checked(text) else {
+            return Ok(None);
+        };
+        Ok(Some(Currency::of(alloc, checked)?))
     }
 
     /// The text, and its bounds.

@@ -1,8 +1,9 @@
 //! Identifiers.
 
-ghost use Rattle.std.specs.Prelude.{◌≡◌, true, IfOk, List, ℕ, string_bytes};
+ghost use Rattle.std.specs.Prelude.{◌≡◌, true, IfOk, IfSome, List, ℕ, string_bytes};
 ghost use Rattle.bike_fields.specs.Bytes.{is_ident, ident_of};
 ghost use Rattle.bike_fields.specs.Fault.{Makes, at_field, ident_fault};
+ghost use Rattle.bike_fields.specs.Reads.{Gives, IsReadAs};
 
 use crate::bytes::{are_ident_bytes, has_length};
 use crate::fault::{Bound, Field, FieldFault};
@@ -49,17 +50,36 @@ impl Ident {
         })
     }
 
-    /// The text, where it is an identifier; an error is a want of memory.
+    /// The text, where it is an identifier; this needs no memory.
     #[tactic(auto, unfolding(crate::specs::Bytes::ident_of))]
-    pub fn read(alloc: Global, text: &str) -> Result<Option<Ident>, AllocError>
-        ensures { IfOk result (λ o. o ≡ ident_of text.now) }
+    pub fn checked<'a>(text: &'a str) -> Option<&'a str>
+        ensures read { Gives (λ checked. checked.now) result (ident_of text.now) }
+        ensures good { IfSome result (λ checked. is_ident checked.now ≡ true) }
     {
-        if !has_length(text, 1, 36) || !are_ident_bytes(text.as_bytes()) {
-            return Ok(None);
+        if has_length(text, 1, 36) && are_ident_bytes(text.as_bytes()) {
+            return Some(text);
         }
-        Ok(Some(Ident {
+        None
+    }
+
+    /// The identifier of a text that the caller knows to be one; an error where memory was refused.
+    pub fn of(alloc: Global, text: &str) -> Result<Ident, AllocError>
+        requires { is_ident text.now ≡ true }
+        ensures { IfOk result (λ made. made ≡ text.now) }
+    {
+        Ok(Ident {
             text: String::from_str(alloc, text)?,
-        }))
+        })
+    }
+
+    /// The text, where it is an identifier; an error where memory was refused, which only an identifier asks for.
+    pub fn read(alloc: Global, text: &str) -> Result<Option<Ident>, AllocError>
+        ensures { IsReadAs (ident_of text.now) result }
+    {
+        let Some(checked) = Ident::checked(text) else {
+            return Ok(None);
+        };
+        Ok(Some(Ident::of(alloc, checked)?))
     }
 
     /// The text, and its bounds.

@@ -1,8 +1,9 @@
 //! Request keys.
 
-ghost use Rattle.std.specs.Prelude.{◌≡◌, true, IfOk, List, ℕ, string_bytes};
+ghost use Rattle.std.specs.Prelude.{◌≡◌, true, IfOk, IfSome, List, ℕ, string_bytes};
 ghost use Rattle.bike_fields.specs.Bytes.{is_key, key_of};
 ghost use Rattle.bike_fields.specs.Fault.{Makes, at_field, key_fault};
+ghost use Rattle.bike_fields.specs.Reads.{Gives, IsReadAs};
 
 use crate::bytes::{are_key_bytes, has_length};
 use crate::fault::{Bound, Field, FieldFault};
@@ -49,17 +50,36 @@ impl RequestKey {
         })
     }
 
-    /// The text, where it is a request key; an error is a want of memory.
+    /// The text, where it is a request key; this needs no memory.
     #[tactic(auto, unfolding(crate::specs::Bytes::key_of))]
-    pub fn read(alloc: Global, text: &str) -> Result<Option<RequestKey>, AllocError>
-        ensures { IfOk result (λ o. o ≡ key_of text.now) }
+    pub fn checked<'a>(text: &'a str) -> Option<&'a str>
+        ensures read { Gives (λ checked. checked.now) result (key_of text.now) }
+        ensures good { IfSome result (λ checked. is_key checked.now ≡ true) }
     {
-        if !has_length(text, 1, 64) || !are_key_bytes(text.as_bytes()) {
-            return Ok(None);
+        if has_length(text, 1, 64) && are_key_bytes(text.as_bytes()) {
+            return Some(text);
         }
-        Ok(Some(RequestKey {
+        None
+    }
+
+    /// The request key of a text that the caller knows to be one; an error where memory was refused.
+    pub fn of(alloc: Global, text: &str) -> Result<RequestKey, AllocError>
+        requires { is_key text.now ≡ true }
+        ensures { IfOk result (λ made. made ≡ text.now) }
+    {
+        Ok(RequestKey {
             text: String::from_str(alloc, text)?,
-        }))
+        })
+    }
+
+    /// The text, where it is a request key; an error where memory was refused, which only a request key asks for.
+    pub fn read(alloc: Global, text: &str) -> Result<Option<RequestKey>, AllocError>
+        ensures { IsReadAs (key_of text.now) result }
+    {
+        let Some(checked) = RequestKey::checked(text) else {
+            return Ok(None);
+        };
+        Ok(Some(RequestKey::of(alloc, checked)?))
     }
 
     /// The text, and its bounds.

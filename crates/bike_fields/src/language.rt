@@ -1,8 +1,9 @@
 //! Languages.
 
-ghost use Rattle.std.specs.Prelude.{◌≡◌, true, IfOk, List, ℕ, string_bytes};
+ghost use Rattle.std.specs.Prelude.{◌≡◌, true, IfOk, IfSome, List, ℕ, string_bytes};
 ghost use Rattle.bike_fields.specs.Bytes.{is_language, language_of};
 ghost use Rattle.bike_fields.specs.Fault.{Makes, at_field, language_fault};
+ghost use Rattle.bike_fields.specs.Reads.{Gives, IsReadAs};
 
 use crate::bytes::{are_language_bytes, has_length};
 use crate::fault::{Bound, Field, FieldFault};
@@ -49,17 +50,36 @@ impl Language {
         })
     }
 
-    /// The text, where it is a language; an error is a want of memory.
+    /// The text, where it is a language; this needs no memory.
     #[tactic(auto, unfolding(crate::specs::Bytes::language_of))]
-    pub fn read(alloc: Global, text: &str) -> Result<Option<Language>, AllocError>
-        ensures { IfOk result (λ o. o ≡ language_of text.now) }
+    pub fn checked<'a>(text: &'a str) -> Option<&'a str>
+        ensures read { Gives (λ checked. checked.now) result (language_of text.now) }
+        ensures good { IfSome result (λ checked. is_language checked.now ≡ true) }
     {
-        if !has_length(text, 2, 35) || !are_language_bytes(text.as_bytes()) {
-            return Ok(None);
+        if has_length(text, 2, 35) && are_language_bytes(text.as_bytes()) {
+            return Some(text);
         }
-        Ok(Some(Language {
+        None
+    }
+
+    /// The language of a text that the caller knows to be one; an error where memory was refused.
+    pub fn of(alloc: Global, text: &str) -> Result<Language, AllocError>
+        requires { is_language text.now ≡ true }
+        ensures { IfOk result (λ made. made ≡ text.now) }
+    {
+        Ok(Language {
             text: String::from_str(alloc, text)?,
-        }))
+        })
+    }
+
+    /// The text, where it is a language; an error where memory was refused, which only a language asks for.
+    pub fn read(alloc: Global, text: &str) -> Result<Option<Language>, AllocError>
+        ensures { IsReadAs (language_of text.now) result }
+    {
+        let Some(checked) = Language::checked(text) else {
+            return Ok(None);
+        };
+        Ok(Some(Language::of(alloc, checked)?))
     }
 
     /// The text, and its bounds.

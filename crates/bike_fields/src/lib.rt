@@ -16,7 +16,7 @@ mod name;
 mod numbers;
 
 pub use ascii::Ascii;
-pub use caller::{Caller, caller_laws};
+pub use caller::{Caller, CallerName, caller_laws};
 pub use currency::Currency;
 pub use fault::{Bound, Field, FieldFault};
 pub use ident::Ident;
@@ -24,6 +24,7 @@ pub use key::RequestKey;
 pub use language::Language;
 pub use name::Name;
 pub use numbers::{
-    BicycleNumber, DockCount, DockNumber, MaxRange, OrderNumber, OrderQuantity, Payment, Price,
-    RentalNumber, RiderNumber, SegmentMinute, TimeToLive, TruckCapacity, TruckNumber,
+    BicycleNumber, DockCount, DockNumber, MOST_DOCKS, MaxRange, OrderNumber, OrderQuantity,
+    Payment, Price, RentalNumber, RiderNumber, SegmentMinute, TimeToLive, TruckCapacity,
+    TruckNumber,
 };

@@ -1,8 +1,9 @@
 //! Names.
 
-ghost use Rattle.std.specs.Prelude.{◌≡◌, true, IfOk, List, ℕ, string_bytes};
+ghost use Rattle.std.specs.Prelude.{◌≡◌, true, IfOk, IfSome, List, ℕ, string_bytes};
 ghost use Rattle.bike_fields.specs.Bytes.{is_name, name_of};
 ghost use Rattle.bike_fields.specs.Fault.{Makes, at_field, name_fault};
+ghost use Rattle.bike_fields.specs.Reads.{Gives, IsReadAs};
 
 use crate::bytes::{are_name_bytes, has_length};
 use crate::fault::{Bound, Field, FieldFault};
@@ -49,17 +50,36 @@ impl Name {
         })
     }
 
-    /// The text, where it is a name; an error is a want of memory.
+    /// The text, where it is a name; this needs no memory.
     #[tactic(auto, unfolding(crate::specs::Bytes::name_of))]
-    pub fn read(alloc: Global, text: &str) -> Result<Option<Name>, AllocError>
-        ensures { IfOk result (λ o. o ≡ name_of text.now) }
+    pub fn checked<'a>(text: &'a str) -> Option<&'a str>
+        ensures read { Gives (λ checked. checked.now) result (name_of text.now) }
+        ensures good { IfSome result (λ checked. is_name checked.now ≡ true) }
     {
-        if !has_length(text, 1, 120) || !are_name_bytes(text.as_bytes()) {
-            return Ok(None);
+        if has_length(text, 1, 120) && are_name_bytes(text.as_bytes()) {
+            return Some(text);
         }
-        Ok(Some(Name {
+        None
+    }
+
+    /// The name of a text that the caller knows to be one; an error where memory was refused.
+    pub fn of(alloc: Global, text: &str) -> Result<Name, AllocError>
+        requires { is_name text.now ≡ true }
+        ensures { IfOk result (λ made. made ≡ text.now) }
+    {
+        Ok(Name {
             text: String::from_str(alloc, text)?,
-        }))
+        })
+    }
+
+    /// The text, where it is a name; an error where memory was refused, which only a name asks for.
+    pub fn read(alloc: Global, text: &str) -> Result<Option<Name>, AllocError>
+        ensures { IsReadAs (name_of text.now) result }
+    {
+        let Some(checked) = Name::checked(text) else {
+            return Ok(None);
+        };
+        Ok(Some(Name::of(alloc, checked)?))
     }
 
     /// The text, and its bounds.

@@ -11,11 +11,14 @@ pub type BicycleNumber = Within<1, 999_999>;
 /// A truck, 1 to 999,999.
 pub type TruckNumber = Within<1, 999_999>;
 
-/// A dock of a station, 1 to 200.
-pub type DockNumber = Within<1, 200>;
+/// A station has at most this many docks, which are numbered from 1.
+pub const MOST_DOCKS: u32 = 200;
 
-/// How many docks a station has, 1 to 200.
-pub type DockCount = Within<1, 200>;
+/// A dock of a station.
+pub type DockNumber = Within<1, MOST_DOCKS>;
+
+/// How many docks a station has, at least 1.
+pub type DockCount = Within<1, MOST_DOCKS>;
 
 /// How many bicycles a truck holds, 1 to 60.
 pub type TruckCapacity = Within<1, 60>;

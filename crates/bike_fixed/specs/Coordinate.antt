@@ -1,5 +1,5 @@
 -- How coordinates are spelled, and read.
-use Rattle.std.specs.Prelude.{◌≡◌, ℕ, ℤ, ◌+◌, ◌-◌, ◌*◌, ◌^◌, ◌≤◌, List, [], ◌∷◌, ◌++◌, length, Bool, true, false, ◌&&◌, nat_le, nat_lt, ◌==◌, if◌then◌else◌, Option, Some, None, option_and_then, pos, neg_ℤ, ◌≤ℤ◌}
+use Rattle.std.specs.Prelude.{◌≡◌, ℕ, ℤ, ◌+◌, ◌-◌, ◌*◌, ◌^◌, ◌≤◌, List, [], ◌∷◌, ◌++◌, length, Bool, true, false, ◌&&◌, nat_le, nat_lt, ◌==◌, if◌then◌else◌, Option, Some, None, option_and_then, pos, neg_ℤ, ◌≤ℤ◌, int_le}
 use Rattle.std.specs.List.{list_all, position_or_len, before_first, after_first}
 use Rattle.std.specs.Char.{is_ascii_digit}
 use Rattle.std.specs.Str.Parse.{digits_value}
@@ -7,6 +7,10 @@ use Rattle.std.specs.Str.Parse.{digits_value}
 -- from -180 to 180 degrees
 abbrev pub IsMicro : ℤ → Type 0
 IsMicro z = (neg_ℤ (pos 180000000) ≤ℤ z) × (z ≤ℤ pos 180000000)
+
+-- so many microdegrees, where they are from -180 to 180 degrees
+abbrev pub micro_within : ℤ → Option ℤ
+micro_within z = if int_le (neg_ℤ (pos 180000000)) z && int_le z (pos 180000000) then Some z else None
 
 -- a minus sign, if the coordinate has one
 abbrev pub minus_text : Bool → List ℕ

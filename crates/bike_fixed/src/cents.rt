@@ -7,6 +7,10 @@ use crate::digits::{push_decimal, push_sign, push_two};
 use arrayvec::ArrayString;
 use std::marker::Model;
 
+/// The greatest fare in hundredths: the dearest plan's price, and eight segments at the greatest rate for each of the
+/// 43,201 minutes that thirty days reach.
+pub const GREATEST_FARE: i64 = 34_561_800_000;
+
 /// Whole hundredths of a currency's unit (ISO 4217's minor unit where that has two decimals): any `i64`.
 #[derive(Clone, Copy, Debug, PartialEq, Eq)]
 pub struct Cents {

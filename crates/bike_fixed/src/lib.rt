@@ -12,7 +12,7 @@ mod moment;
 mod whole;
 mod within;
 
-pub use cents::Cents;
+pub use cents::{Cents, GREATEST_FARE};
 pub use day::{DayFault, day_bounds};
 pub use micro::{Micro, coordinate_laws};
 pub use moment::Moment;

@@ -1,9 +1,9 @@
 //! Coordinates.
 
-ghost use Rattle.std.specs.Prelude.{◌≡◌, ◌<◌, ◌≤◌, ◌^◌, ◌+◌, ◌-◌, ◌*◌, pos, neg_ℤ, ◌≤ℤ◌, int_le, ◌&&◌, if◌then◌else◌, ℕ, ℤ, List, length, IfSome, Some, None};
+ghost use Rattle.std.specs.Prelude.{◌≡◌, ◌<◌, ◌≤◌, ◌^◌, ℕ, ℤ, List, length, IfSome, Some};
 ghost use Rattle.std.specs.List.{list_all};
 ghost use Rattle.std.specs.Char.{is_ascii_digit};
-ghost use Rattle.bike_fixed.specs.Coordinate.{IsMicro, IsCoordinate, digits_of, are_digits, size_of, within, micro_of};
+ghost use Rattle.bike_fixed.specs.Coordinate.{IsMicro, IsCoordinate, digits_of, are_digits, size_of, within, micro_within, micro_of};
 ghost use Rattle.bike_fixed.specs.Text.{micro_text};
 
 use crate::digits::{push_decimal, push_sign, push_six};
@@ -89,7 +89,7 @@ fn within(minus: bool, text: &str) -> Option<Micro>
 impl Micro {
     /// So many microdegrees, where they lie from -180,000,000 to 180,000,000.
     pub fn new(microdegrees: i32) -> Option<Micro>
-        ensures { result ≡ (if int_le (neg_ℤ (pos 180000000)) microdegrees && int_le microdegrees (pos 180000000) then Some microdegrees else None) }
+        ensures { result ≡ micro_within microdegrees }
     {
         if -180_000_000 <= microdegrees && microdegrees <= 180_000_000 {
             return Some(Micro { microdegrees });

@@ -1,5 +1,5 @@
 -- Sums over entries: balances, refunds and fares, and one more entry.
-use Rattle.std.proofs.Common.{sym, ◌≡◌, ℕ, ℤ, zero, suc, pos, neg_ℤ, ◌*◌, ◌+ℤ◌, ◌≤ℤ◌, List, [], ◌∷◌, ◌++◌, length, map, filter, Bool, true, false, cond, eqb, Some, refl, ap, ◌∙◌, arith, inl, inr}
+use Rattle.std.proofs.Common.{sym, ◌≡◌, ℕ, ℤ, zero, suc, pos, neg_ℤ, ◌*ℤ◌, ◌+ℤ◌, ◌≤ℤ◌, List, [], ◌∷◌, ◌++◌, length, map, filter, Bool, true, false, cond, eqb, Some, refl, ap, ◌∙◌, arith, inl, inr}
 use Rattle.std.specs.Prelude.{◌&&◌}
 use Rattle.std.proofs.lemmas.Bool.Decides.{eqb_tells}
 use Rattle.std.proofs.lemmas.Int.{ints}
@@ -56,8 +56,8 @@ own_share false z is = record { low = omega (arith, ints); high = omega (arith, 
 
 -- the balance is one that so many entries can come to
 pub record IsWithin (entries : ℕ) (balance : ℤ) : Type 0 where
-  pub low : neg_ℤ (pos (34561800000 * entries)) ≤ℤ balance
-  pub high : balance ≤ℤ pos (34561800000 * entries)
+  pub low : neg_ℤ (greatest_amount *ℤ pos entries) ≤ℤ balance
+  pub high : balance ≤ℤ (greatest_amount *ℤ pos entries)
 
 -- a balance lies within what so many entries can come to
 pub balance_within : (es : List Entry) (rider : ℕ) → AreAmounts es → IsWithin (length es) (balance_of rider es)

@@ -1,5 +1,5 @@
 -- Sums over entries of bounded amounts are bounded.
-use Rattle.std.proofs.Common.{ℕ, ℤ, pos, neg_ℤ, ◌*◌, ◌≤◌, ◌≤ℤ◌, List, [], ◌∷◌, length, Bool, true, false, cond, eqb, arith}
+use Rattle.std.proofs.Common.{ℕ, ℤ, pos, neg_ℤ, ◌*ℤ◌, ◌≤◌, ◌≤ℤ◌, List, [], ◌∷◌, length, Bool, true, false, cond, eqb, arith}
 use Rattle.std.proofs.lemmas.Int.{ints}
 use Rattle.bike_ledger.specs.declared.entry.EntryKind.{EntryKind}
 use Rattle.bike_ledger.specs.declared.entry.EntryKind.TheVariants.{TopUp, Fare, Refund}
@@ -13,8 +13,8 @@ record IsFigure (z : ℤ) : Type 0 where
   high : z ≤ℤ greatest_amount
 
 record IsSum (size : ℕ) (z : ℤ) : Type 0 where
-  low : neg_ℤ (pos (34561800000 * size)) ≤ℤ z
-  high : z ≤ℤ pos (34561800000 * size)
+  low : neg_ℤ (greatest_amount *ℤ pos size) ≤ℤ z
+  high : z ≤ℤ (greatest_amount *ℤ pos size)
 
 total-bound : (figure : Entry → ℤ) → ((e : Entry) → IsAmount e.amount → IsFigure (figure e)) → (es : List Entry) → AreAmounts es → IsSum (length es) (total figure es)
 total-bound figure each [] are = record { low = omega (arith, ints); high = omega (arith, ints) }

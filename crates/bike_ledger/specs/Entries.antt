@@ -1,5 +1,6 @@
 -- The entries of the ledger.
 use Rattle.std.specs.Prelude.{◌≡◌, ℕ, ℤ, ◌≤◌, pos, ◌≤ℤ◌}
+use Rattle.bike_fixed.specs.declared.cents.TheConstants.{GREATEST_FARE}
 use Rattle.bike_ledger.specs.declared.entry.EntryKind.{EntryKind}
 use Rattle.bike_ledger.specs.declared.entry.EntryKind.TheVariants.{TopUp, Fare, Refund}
 
@@ -14,7 +15,7 @@ pub record Entry : Type 0 where
 
 -- the greatest amount of an entry, which is the greatest fare
 abbrev pub greatest_amount : ℤ
-greatest_amount = pos 34561800000
+greatest_amount = GREATEST_FARE
 
 -- An entry is of no rental, which is the number 0, exactly where it is a top-up.
 abbrev pub IsOfKind : EntryKind → ℕ → Type 0

@@ -3,7 +3,7 @@
 ghost use Rattle.std.specs.Prelude.{◌≡◌, ◌≤◌, ◌≤ℤ◌, pos};
 ghost use Rattle.bike_ledger.specs.Entries.{IsEntry};
 
-use bike_fixed::{Cents, Moment, Within};
+use bike_fixed::{Cents, GREATEST_FARE, Moment, Within};
 use std::marker::Model;
 
 /// The number of an entry, 1 to 100,000,000.
@@ -21,7 +21,7 @@ pub enum EntryKind {
 }
 
 /// One entry of the ledger. It is of no rental exactly where it is a top-up, and its amount is 0 to
-/// 34,561,800,000 hundredths.
+/// `GREATEST_FARE` hundredths.
 #[derive(Clone, Copy, Debug, PartialEq, Eq)]
 pub struct Entry {
     number: EntryNumber,
@@ -64,7 +64,7 @@ impl Entry {
         }
     }
 
-    /// The entry of a rental's fare, of 0 to 34,561,800,000 hundredths.
+    /// The entry of a rental's fare, of 0 to `GREATEST_FARE` hundredths.
     pub fn fare(
         number: EntryNumber,
         rider: Within<1, 999_999>,
@@ -73,7 +73,7 @@ impl Entry {
         at: Moment,
     ) -> Entry
         requires low { pos 0 ≤ℤ amount }
-        requires high { amount ≤ℤ pos 34561800000 }
+        requires high { amount ≤ℤ GREATEST_FARE }
         ensures { result ≡ record { number = number; kind = EntryKind.Fare; rider = rider; rental = rental; amount = amount; at = at } }
     {
         let rental = some(rental);
@@ -143,11 +143,11 @@ impl Entry {
         self.rental
     }
 
-    /// The amount, 0 to 34,561,800,000 hundredths of the currency.
+    /// The amount, 0 to `GREATEST_FARE` hundredths of the currency.
     pub fn amount(&self) -> Cents
         ensures value { result ≡ self.now.amount }
         ensures low { pos 0 ≤ℤ result }
-        ensures high { result ≤ℤ pos 34561800000 }
+        ensures high { result ≤ℤ GREATEST_FARE }
     {
         self.amount
     }

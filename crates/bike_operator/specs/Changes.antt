@@ -13,7 +13,9 @@ use Rattle.bike_operator.specs.declared.change.NewPlace.TheVariants as new
 use Rattle.bike_operator.specs.declared.change.Change.{Change}
 use Rattle.bike_operator.specs.declared.change.Change.TheVariants as change
 use Rattle.bike_operator.specs.declared.change.Accepted.{Accepted}
+use Rattle.bike_operator.specs.declared.view.View.{View}
 use Rattle.bike_operator.specs.Operator.{Operator}
+use Rattle.bike_operator.specs.View.{view_of}
 use Rattle.bike_operator.specs.Steps.{refused, effect, reply_of, key_changed, reported, new_station, dock_marked, bike_placed, bike_marked, rental_added, rental_closed, order_added, order_changed}
 
 abbrev pub place_of : NewPlace → Place
@@ -79,3 +81,11 @@ refusal_in (Err r) = Some r
 abbrev pub Decides : Operator → ℕ → Command → Result Accepted Refusal → Type 0
 Decides s now c (Err r) = refused s c ≡ Some r
 Decides s now c (Ok a) = (refused s c ≡ None) × (a.reply ≡ reply_of s now c) × (made now a s ≡ effect s now c)
+
+-- what it owes to every operator whose view this is, at the moment
+abbrev pub DecidesAt : ℕ → View → Command → Result Accepted Refusal → Type 0
+DecidesAt now view c result = (s : Operator) → view ≡ view_of s c → Decides s now c result
+
+-- the same of a decision that no moment changes
+abbrev pub DecidesOn : View → Command → Result Accepted Refusal → Type 0
+DecidesOn view c result = (s : Operator) (now : ℕ) → view ≡ view_of s c → Decides s now c result

@@ -1,10 +1,11 @@
 -- Commands are read exactly, both ways, in a whole text.
 use Rattle.std.proofs.Common.{◌≡◌, ℕ, List, [], ◌∷◌, Option, Some, None, Result, Ok, Err, refl, sym, ap, ◌∙◌, subst}
-use Rattle.std.specs.Prelude.{IfSome, IfOk}
+use Rattle.std.specs.Prelude.{IfSome, IfOk, IfErr, IsSome}
 use Rattle.std.specs.declared.alloc.AllocError.{AllocError}
 use Rattle.std.specs.List.{slice_split, join_with_byte}
 use Rattle.std.proofs.lemmas.Option.{option_and_then_some}
 use Rattle.std.proofs.lemmas.List.Splits.{join_with_byte-slice_split}
+use Rattle.bike_fields.specs.Reads.{IsReadAs}
 use Rattle.bike_texts.specs.Parts.{Parts}
 use Rattle.bike_texts.specs.Fields.{Field, HasNoTab}
 use Rattle.bike_texts.specs.Reading.{part_at}
@@ -14,6 +15,7 @@ use Rattle.bike_texts.proofs.Chains.{pick}
 use Rattle.bike_commands.specs.declared.command.Command.{Command}
 use Rattle.bike_commands.specs.declared.command.Command.TheVariants.{SetSystem, AddPlan, AddType, SetPlan, AddStation, SetStation, MarkDock, AddBike, MarkBike, RetireBike, AddTruck, AddRider, SetRider, TopUp, Start, End, Recover, Refund, OpenOrder, Load, Unload, CloseOrder}
 use Rattle.bike_commands.specs.Commands.{word_of, fields_of, IsCommand, IsSpelling}
+use Rattle.bike_requests.specs.Spelling.{SpellsCommand}
 use Rattle.bike_requests.specs.Readers.{command_by, command_at}
 use Rattle.bike_requests.proofs.KindLaws.{Left, set_plan_sound, set_plan_full, set_station_sound, set_station_full, mark_dock_sound, mark_dock_full, add_bike_sound, add_bike_full, mark_bike_sound, mark_bike_full, retire_bike_sound, retire_bike_full, add_truck_sound, add_truck_full, add_rider_sound, add_rider_full, set_rider_sound, set_rider_full, top_up_sound, top_up_full, start_sound, start_full, end_sound, end_full, recover_sound, recover_full, refund_sound, refund_full, open_order_sound, open_order_full, load_sound, load_full, unload_sound, unload_full, close_order_sound, close_order_full}
 use Rattle.bike_requests.proofs.RecordLaws.{set_system_sound, set_system_full, add_plan_sound, add_plan_full, add_type_sound, add_type_full, add_station_sound, add_station_full}
@@ -147,11 +149,18 @@ both_laws text o e = (found o e, λ c good spelled. e ∙ command_full text c (r
   found None e = tt
   found (Some c) e = let s = command_sound text c (sym e) in (s.spelled, s.good)
 
-pub read_found : (text : List ℕ) (r : Result (Option Command) AllocError) → IfOk r (λ o. o ≡ command_at (slice_split is_tab text)) → IfOk r (λ o. IfSome o (λ c. IsSpelling text c × IsCommand c))
+pub read_found : (text : List ℕ) (r : Result (Option Command) AllocError) → IsReadAs (command_at (slice_split is_tab text)) r → IfOk r (λ o. IfSome o (λ c. IsSpelling text c × IsCommand c))
 read_found text (Ok o) e = (both_laws text o e).0
 read_found text (Err x) e = tt
 
-pub read_only : (text : List ℕ) (r : Result (Option Command) AllocError) → IfOk r (λ o. o ≡ command_at (slice_split is_tab text))
+pub read_only : (text : List ℕ) (r : Result (Option Command) AllocError) → IsReadAs (command_at (slice_split is_tab text)) r
     → IfOk r (λ o. (c : Command) → IsCommand c → IsSpelling text c → o ≡ Some c)
 read_only text (Ok o) e = (both_laws text o e).1
 read_only text (Err x) e = tt
+
+pub read_spared : (text : List ℕ) (r : Result (Option Command) AllocError) → IsReadAs (command_at (slice_split is_tab text)) r → IfErr r (λ _. SpellsCommand text)
+read_spared text (Ok o) e = tt
+read_spared text (Err x) e = spells (command_at (slice_split is_tab text)) refl e where
+  spells : (o : Option Command) → command_at (slice_split is_tab text) ≡ o → IsSome o → SpellsCommand text
+  spells None is some = absurd cc
+  spells (Some c) is some = let s = command_sound text c is in record { command = c; spelled = s.spelled; good = s.good }

@@ -1,6 +1,7 @@
 -- Commands are read exactly, kind by kind: what is read is spelled by the parts, and what the parts spell is read.
 use Rattle.std.proofs.Common.{◌≡◌, ℕ, List, [], Bool, Some, refl, lit<, codes}
 use Rattle.bike_fixed.specs.Whole.{number_of}
+use Rattle.bike_fields.specs.declared.numbers.TheConstants.{MOST_DOCKS}
 use Rattle.bike_texts.specs.declared.ends.OrderEnd.{OrderEnd}
 use Rattle.bike_texts.specs.declared.ends.Side.{Side}
 use Rattle.bike_texts.specs.Parts.{Parts}
@@ -11,7 +12,7 @@ use Rattle.bike_texts.proofs.Chains.{IsReader, Rest, number_reader, choice_reade
 use Rattle.bike_commands.specs.declared.command.Command.{Command}
 use Rattle.bike_commands.specs.declared.command.Command.TheVariants.{SetPlan, SetStation, MarkDock, AddBike, MarkBike, RetireBike, AddTruck, AddRider, SetRider, TopUp, Start, End, Recover, Refund, OpenOrder, Load, Unload, CloseOrder}
 use Rattle.bike_commands.specs.Commands.{word_of, fields_of}
-use Rattle.bike_requests.specs.Readers.{numbered_of, dock_of, serial_of, payment_of, few_of, flag_of, set_plan_at, set_station_at, mark_dock_at, add_bike_at, mark_bike_at, retire_bike_at, add_truck_at, add_rider_at, set_rider_at, top_up_at, start_at, end_at, recover_at, refund_at, open_order_at, load_at, unload_at, close_order_at}
+use Rattle.bike_requests.specs.Readers.{numbered_of, dock_of, unload_dock_of, serial_of, payment_of, few_of, flag_of, set_plan_at, set_station_at, mark_dock_at, add_bike_at, mark_bike_at, retire_bike_at, add_truck_at, add_rider_at, set_rider_at, top_up_at, start_at, end_at, recover_at, refund_at, open_order_at, load_at, unload_at, close_order_at}
 
 abbrev pub Left : List ℕ → Command → List Field → Parts → Type 0
 Left = Rest word_of fields_of
@@ -19,11 +20,11 @@ Left = Rest word_of fields_of
 numbered_reader : IsReader numbered_of (Number 1 999999)
 numbered_reader = number_reader 1 999999 (lit< tt)
 
-pub dock_reader : IsReader dock_of (Number 1 200)
-dock_reader = number_reader 1 200 (lit< tt)
+pub dock_reader : IsReader dock_of (Number 1 MOST_DOCKS)
+dock_reader = number_reader 1 MOST_DOCKS (lit< tt)
 
-unload_dock_reader : IsReader (number_of 0 200) (Number 0 200)
-unload_dock_reader = number_reader 0 200 (lit< tt)
+unload_dock_reader : IsReader unload_dock_of (Number 0 MOST_DOCKS)
+unload_dock_reader = number_reader 0 MOST_DOCKS (lit< tt)
 
 serial_reader : IsReader serial_of (Number 1 100000000)
 serial_reader = number_reader 1 100000000 (lit< tt)

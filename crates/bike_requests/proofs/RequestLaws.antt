@@ -1,6 +1,6 @@
 -- A request line is read exactly.
 use Rattle.std.proofs.Common.{◌≡◌, ℕ, ◌≤◌, List, [], ◌∷◌, ◌++◌, true, not, eqb, Option, Some, None, refl, sym, ap, ap₂, ◌∙◌, subst, arith, decimal, codes, length, Result, Ok, Err}
-use Rattle.std.specs.Prelude.{IfSome, IfOk}
+use Rattle.std.specs.Prelude.{IfSome, IfOk, IfErr, IsSome}
 use Rattle.std.specs.declared.alloc.AllocError.{AllocError}
 use Rattle.std.specs.Str.{IsUtf8}
 use Rattle.std.specs.List.{slice_split, join_with_byte, list_all}
@@ -13,12 +13,14 @@ use Rattle.bike_fields.specs.Caller.{IsCaller, caller_text, caller_of}
 use Rattle.bike_fields.specs.declared.caller.Caller.{Caller}
 use Rattle.bike_fields.specs.declared.caller.Caller.TheVariants.{Office, Rider, Dock, Crew, Import}
 use Rattle.bike_fields.proofs.Callers.{caller_sound, caller_full}
+use Rattle.bike_fields.specs.Reads.{IsReadAs}
 use Rattle.bike_texts.specs.Parts.{Parts}
 use Rattle.bike_texts.specs.Fields.{HasNoTab}
 use Rattle.bike_texts.specs.Reading.{◌>>=◌, field_at}
 use Rattle.bike_commands.specs.declared.request.Request.{Request}
 use Rattle.bike_commands.specs.declared.command.Command.{Command}
 use Rattle.bike_commands.specs.Commands.{word_of, fields_of}
+use Rattle.bike_requests.specs.Spelling.{SpellsRequest}
 use Rattle.bike_requests.specs.Readers.{command_at}
 use Rattle.bike_commands.specs.Requests.{IsRequest, IsLine, line_length}
 use Rattle.bike_requests.specs.RequestReaders.{request_at}
@@ -154,12 +156,20 @@ both_laws line o short utf8 e = (found o e, only) where
         key = good.key;
       })
 
-pub line_found : (line : List ℕ) (r : Result (Option (ℕ × Request)) AllocError) → length line ≤ line_length → IsUtf8 line → IfOk r (λ o. o ≡ request_at (slice_split is_tab line))
+pub line_found : (line : List ℕ) (r : Result (Option (ℕ × Request)) AllocError) → length line ≤ line_length → IsUtf8 line → IsReadAs (request_at (slice_split is_tab line)) r
     → IfOk r (λ o. IfSome o (λ r. IsLine line r.0 r.1 × IsRequest r.1 × (r.0 ≤ last_moment)))
 line_found line (Ok o) short utf8 e = (both_laws line o short utf8 e).0
 line_found line (Err x) short utf8 e = tt
 
-pub line_only : (line : List ℕ) (r : Result (Option (ℕ × Request)) AllocError) → length line ≤ line_length → IsUtf8 line → IfOk r (λ o. o ≡ request_at (slice_split is_tab line))
+pub line_only : (line : List ℕ) (r : Result (Option (ℕ × Request)) AllocError) → length line ≤ line_length → IsUtf8 line → IsReadAs (request_at (slice_split is_tab line)) r
     → IfOk r (λ o. (t : ℕ) (q : Request) → t ≤ last_moment → IsRequest q → IsLine line t q → o ≡ Some (t, q))
 line_only line (Ok o) short utf8 e = (both_laws line o short utf8 e).1
 line_only line (Err x) short utf8 e = tt
+
+pub line_spared : (line : List ℕ) (r : Result (Option (ℕ × Request)) AllocError) → length line ≤ line_length → IsUtf8 line → IsReadAs (request_at (slice_split is_tab line)) r
+    → IfErr r (λ _. SpellsRequest line)
+line_spared line (Ok o) short utf8 e = tt
+line_spared line (Err x) short utf8 e = spells (request_at (slice_split is_tab line)) refl e where
+  spells : (o : Option (ℕ × Request)) → request_at (slice_split is_tab line) ≡ o → IsSome o → SpellsRequest line
+  spells None is some = absurd cc
+  spells (Some r) is some = let s = (both_laws line (Some r) short utf8 (sym is)).0 in record { moment = r.0; request = r.1; spelled = s.0; good = s.1; moment_good = s.2 }

@@ -2,3 +2,4 @@ pub mod Writing
 pub mod RecordReaders
 pub mod Readers
 pub mod RequestReaders
+pub mod Spelling

@@ -2,6 +2,7 @@
 use Rattle.std.specs.Prelude.{ℕ, List, Bool, Option, Some, None, if◌then◌else◌, codes}
 use Rattle.std.specs.Str.{bytes_eq}
 use Rattle.bike_fixed.specs.Whole.{number_of}
+use Rattle.bike_fields.specs.declared.numbers.TheConstants.{MOST_DOCKS}
 use Rattle.bike_fields.specs.Bytes.{ident_of}
 use Rattle.bike_texts.specs.Parts.{Parts}
 use Rattle.bike_texts.specs.Reading.{◌>>=◌, part_at, field_at, no_more, choice_of, side_of, end_of}
@@ -9,12 +10,15 @@ use Rattle.bike_commands.specs.declared.command.Command.{Command}
 use Rattle.bike_commands.specs.declared.command.Command.TheVariants.{SetPlan, SetStation, MarkDock, AddBike, MarkBike, RetireBike, AddTruck, AddRider, SetRider, TopUp, Start, End, Recover, Refund, OpenOrder, Load, Unload, CloseOrder}
 use Rattle.bike_requests.specs.RecordReaders.{set_system_at, add_plan_at, add_type_at, add_station_at}
 
--- riders, bicycles and trucks; docks; rentals and orders; payments in hundredths; bicycles on a truck
+-- riders, bicycles and trucks; docks, and 0 at the depot; rentals and orders; payments in hundredths; bicycles on a truck
 abbrev pub numbered_of : List ℕ → Option ℕ
 numbered_of = number_of 1 999999
 
 abbrev pub dock_of : List ℕ → Option ℕ
-dock_of = number_of 1 200
+dock_of = number_of 1 MOST_DOCKS
+
+abbrev pub unload_dock_of : List ℕ → Option ℕ
+unload_dock_of = number_of 0 MOST_DOCKS
 
 abbrev pub serial_of : List ℕ → Option ℕ
 serial_of = number_of 1 100000000
@@ -153,7 +157,7 @@ unload_at ps = do
   order ← field_at serial_of truck.1
   bike ← field_at numbered_of order.1
   side ← field_at side_of bike.1
-  dock ← field_at (number_of 0 200) side.1
+  dock ← field_at unload_dock_of side.1
   end ← no_more dock.1
   Some (Unload truck.0 order.0 bike.0 side.0 dock.0)
 

@@ -1,6 +1,7 @@
 -- What is read of a command with a record of the catalogue, a block for each kind.
 use Rattle.std.specs.Prelude.{Option, Some, None, nat_le, length, if◌then◌else◌, codes}
 use Rattle.bike_fixed.specs.Whole.{number_of}
+use Rattle.bike_fields.specs.declared.numbers.TheConstants.{MOST_DOCKS}
 use Rattle.bike_fields.specs.Bytes.{ident_of, language_of, currency_of}
 use Rattle.bike_catalogue.specs.Rows.{is_range, is_latitude}
 use Rattle.bike_catalogue.specs.Vehicle.{form_of, propulsion_of}
@@ -53,6 +54,6 @@ add_station_at ps = do
   name ← field_at name_at station_id.1
   lat ← field_at (degrees_of 90000000) name.1
   lon ← field_at (degrees_of 180000000) lat.1
-  docks ← field_at (number_of 1 200) lon.1
+  docks ← field_at (number_of 1 MOST_DOCKS) lon.1
   end ← no_more docks.1
   if is_latitude lat.0 then Some (AddStation (record { station_id = station_id.0; name = name.0; lat = lat.0; lon = lon.0; docks = docks.0 })) else None

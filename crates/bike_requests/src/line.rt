@@ -1,13 +1,16 @@
 //! Request lines.
 
-ghost use Rattle.std.specs.Prelude.{◌≡◌, ◌≤◌, ℕ, IfOk, IfSome, Some};
+ghost use Rattle.std.specs.Prelude.{◌≡◌, ◌≤◌, ℕ, IfOk, IfErr, IfSome, Some};
 ghost use Rattle.bike_fixed.specs.Whole.{last_moment};
 ghost use Rattle.bike_commands.specs.declared.request.Request.{Request};
 ghost use Rattle.bike_commands.specs.Requests.{IsRequest, IsLine};
 ghost use Rattle.bike_requests.specs.RequestReaders.{request_at};
+ghost use Rattle.bike_requests.specs.Spelling.{SpellsRequest};
+ghost use Rattle.bike_fields.specs.Reads.{IsReadAs};
 
 use crate::reading::read_rest;
 use bike_commands::Request;
+use bike_fields::RequestKey;
 use bike_fixed::Moment;
 use bike_texts::Fields;
 use std::alloc::{AllocError, Global};
@@ -17,20 +20,22 @@ pub const LINE_LENGTH: usize = 4096;
 
 #[tactic(auto, unfolding(crate::specs::RequestReaders::request_at))]
 fn read_request(alloc: Global, mut fields: Fields) -> Result<Option<(Moment, Request)>, AllocError>
-    ensures { IfOk result (λ o. o ≡ request_at fields.entry) }
+    ensures { IsReadAs (request_at fields.entry) result }
 {
     let Some(moment) = fields.moment() else {
         return Ok(None);
     };
-    let Some(caller) = fields.caller(alloc)? else {
+    let Some(caller) = fields.caller() else {
         return Ok(None);
     };
-    let Some(key) = fields.key(alloc)? else {
+    let Some(key) = fields.key() else {
         return Ok(None);
     };
     let Some(command) = read_rest(alloc, fields)? else {
         return Ok(None);
     };
+    let caller = caller.keep(alloc)?;
+    let key = RequestKey::of(alloc, key)?;
     Ok(Some((
         moment,
         Request {
@@ -43,10 +48,12 @@ fn read_request(alloc: Global, mut fields: Fields) -> Result<Option<(Moment, Req
 
 /// The request that the line spells, and the moment at which it comes: `MOMENT⇥CALLER⇥KEY⇥COMMAND`,
 /// where `⇥` is a TAB and the moment is in seconds. None where the line is longer than 4,096 bytes, isn't
-/// UTF-8 or spells no request; an error where memory was refused. The line stands without its LF.
+/// UTF-8 or spells no request; an error where memory was refused, which only a line that spells a request asks for. The
+/// line stands without its LF.
 pub fn read_line(alloc: Global, line: &[u8]) -> Result<Option<(Moment, Request)>, AllocError>
     ensures found { IfOk result (λ o. IfSome o (λ r. IsLine line.now r.0 r.1 × IsRequest r.1 × (r.0 ≤ last_moment))) }
     ensures only { IfOk result (λ o. (t : ℕ) (q : Request) → t ≤ last_moment → IsRequest q → IsLine line.now t q → o ≡ Some (t, q)) }
+    ensures spared { IfErr result (λ _. SpellsRequest line.now) }
 {
     if line.len() > LINE_LENGTH {
         return Ok(None);

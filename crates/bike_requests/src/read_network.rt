@@ -1,33 +1,37 @@
 //! Reading the commands of the network: plans of types, stations, docks, bicycles and trucks.
 
-ghost use Rattle.std.specs.Prelude.{◌≡◌, IfOk};
+ghost use Rattle.std.specs.Prelude.{◌≡◌};
+ghost use Rattle.bike_fields.specs.Reads.{IsReadAs};
 ghost use Rattle.bike_requests.specs.Readers.{set_plan_at, set_station_at, mark_dock_at, add_bike_at, mark_bike_at, retire_bike_at, add_truck_at};
 
 use bike_commands::Command;
+use bike_fields::Ident;
 use bike_texts::Fields;
 use std::alloc::{AllocError, Global};
 
 #[tactic(auto, unfolding(crate::specs::Readers::set_plan_at))]
 pub fn read_set_plan(alloc: Global, mut fields: Fields) -> Result<Option<Command>, AllocError>
-    ensures { IfOk result (λ o. o ≡ set_plan_at fields.entry) }
+    ensures { IsReadAs (set_plan_at fields.entry) result }
 {
-    let Some(type_id) = fields.ident(alloc)? else {
+    let Some(type_id) = fields.ident() else {
         return Ok(None);
     };
-    let Some(plan) = fields.ident(alloc)? else {
+    let Some(plan) = fields.ident() else {
         return Ok(None);
     };
     let Some(()) = fields.end() else {
         return Ok(None);
     };
+    let type_id = Ident::of(alloc, type_id)?;
+    let plan = Ident::of(alloc, plan)?;
     Ok(Some(Command::SetPlan { type_id, plan }))
 }
 
 #[tactic(auto, unfolding(crate::specs::Readers::set_station_at))]
 pub fn read_set_station(alloc: Global, mut fields: Fields) -> Result<Option<Command>, AllocError>
-    ensures { IfOk result (λ o. o ≡ set_station_at fields.entry) }
+    ensures { IsReadAs (set_station_at fields.entry) result }
 {
-    let Some(station) = fields.ident(alloc)? else {
+    let Some(station) = fields.ident() else {
         return Ok(None);
     };
     let Some(installed) = fields.choice("true", "false") else {
@@ -42,6 +46,7 @@ pub fn read_set_station(alloc: Global, mut fields: Fields) -> Result<Option<Comm
     let Some(()) = fields.end() else {
         return Ok(None);
     };
+    let station = Ident::of(alloc, station)?;
     Ok(Some(Command::SetStation {
         station,
         installed,
@@ -52,9 +57,9 @@ pub fn read_set_station(alloc: Global, mut fields: Fields) -> Result<Option<Comm
 
 #[tactic(auto, unfolding(crate::specs::Readers::mark_dock_at))]
 pub fn read_mark_dock(alloc: Global, mut fields: Fields) -> Result<Option<Command>, AllocError>
-    ensures { IfOk result (λ o. o ≡ mark_dock_at fields.entry) }
+    ensures { IsReadAs (mark_dock_at fields.entry) result }
 {
-    let Some(station) = fields.ident(alloc)? else {
+    let Some(station) = fields.ident() else {
         return Ok(None);
     };
     let Some(dock) = fields.number() else {
@@ -66,6 +71,7 @@ pub fn read_mark_dock(alloc: Global, mut fields: Fields) -> Result<Option<Comman
     let Some(()) = fields.end() else {
         return Ok(None);
     };
+    let station = Ident::of(alloc, station)?;
     Ok(Some(Command::MarkDock {
         station,
         dock,
@@ -75,17 +81,18 @@ pub fn read_mark_dock(alloc: Global, mut fields: Fields) -> Result<Option<Comman
 
 #[tactic(auto, unfolding(crate::specs::Readers::add_bike_at))]
 pub fn read_add_bike(alloc: Global, mut fields: Fields) -> Result<Option<Command>, AllocError>
-    ensures { IfOk result (λ o. o ≡ add_bike_at fields.entry) }
+    ensures { IsReadAs (add_bike_at fields.entry) result }
 {
     let Some(bike) = fields.number() else {
         return Ok(None);
     };
-    let Some(type_id) = fields.ident(alloc)? else {
+    let Some(type_id) = fields.ident() else {
         return Ok(None);
     };
     let Some(()) = fields.end() else {
         return Ok(None);
     };
+    let type_id = Ident::of(alloc, type_id)?;
     Ok(Some(Command::AddBike { bike, type_id }))
 }
 

@@ -1,26 +1,28 @@
 //! Reading the commands of orders.
 
-ghost use Rattle.std.specs.Prelude.{◌≡◌, IfOk};
+ghost use Rattle.std.specs.Prelude.{◌≡◌};
+ghost use Rattle.bike_fields.specs.Reads.{IsReadAs};
 ghost use Rattle.bike_requests.specs.Readers.{open_order_at, load_at, unload_at, close_order_at};
 
 use bike_commands::Command;
+use bike_fields::Ident;
 use bike_texts::Fields;
 use std::alloc::{AllocError, Global};
 
 #[tactic(auto, unfolding(crate::specs::Readers::open_order_at))]
 pub fn read_open_order(alloc: Global, mut fields: Fields) -> Result<Option<Command>, AllocError>
-    ensures { IfOk result (λ o. o ≡ open_order_at fields.entry) }
+    ensures { IsReadAs (open_order_at fields.entry) result }
 {
     let Some(truck) = fields.number() else {
         return Ok(None);
     };
-    let Some(from_end) = fields.order_end(alloc)? else {
+    let Some(from_end) = fields.order_end() else {
         return Ok(None);
     };
-    let Some(to_end) = fields.order_end(alloc)? else {
+    let Some(to_end) = fields.order_end() else {
         return Ok(None);
     };
-    let Some(type_id) = fields.ident(alloc)? else {
+    let Some(type_id) = fields.ident() else {
         return Ok(None);
     };
     let Some(count) = fields.number() else {
@@ -29,6 +31,9 @@ pub fn read_open_order(alloc: Global, mut fields: Fields) -> Result<Option<Comma
     let Some(()) = fields.end() else {
         return Ok(None);
     };
+    let from_end = from_end.keep(alloc)?;
+    let to_end = to_end.keep(alloc)?;
+    let type_id = Ident::of(alloc, type_id)?;
     Ok(Some(Command::OpenOrder {
         truck,
         from_end,

@@ -1,39 +1,40 @@
 //! Reading the commands with a record of the catalogue.
 
-ghost use Rattle.std.specs.Prelude.{◌≡◌, IfOk};
+ghost use Rattle.bike_fields.specs.Reads.{IsReadAs};
 ghost use Rattle.bike_requests.specs.RecordReaders.{set_system_at, add_plan_at, add_type_at, add_station_at};
 
 use bike_catalogue::{Plan, Station, System, VehicleType};
 use bike_commands::Command;
+use bike_fields::{Ascii, Currency, Ident, Language, Name};
 use bike_texts::Fields;
 use std::alloc::{AllocError, Global};
 
 #[tactic(auto, unfolding(crate::specs::RecordReaders::set_system_at))]
 pub fn read_set_system(alloc: Global, mut fields: Fields) -> Result<Option<Command>, AllocError>
-    ensures { IfOk result (λ o. o ≡ set_system_at fields.entry) }
+    ensures { IsReadAs (set_system_at fields.entry) result }
 {
-    let Some(system_id) = fields.ident(alloc)? else {
+    let Some(system_id) = fields.ident() else {
         return Ok(None);
     };
-    let Some(language) = fields.language(alloc)? else {
+    let Some(language) = fields.language() else {
         return Ok(None);
     };
-    let Some(name) = fields.name(alloc)? else {
+    let Some(name) = fields.name() else {
         return Ok(None);
     };
-    let Some(opening_hours) = fields.ascii(alloc)? else {
+    let Some(opening_hours) = fields.ascii() else {
         return Ok(None);
     };
-    let Some(feed_contact_email) = fields.ascii(alloc)? else {
+    let Some(feed_contact_email) = fields.ascii() else {
         return Ok(None);
     };
-    let Some(timezone) = fields.ascii(alloc)? else {
+    let Some(timezone) = fields.ascii() else {
         return Ok(None);
     };
-    let Some(currency) = fields.currency(alloc)? else {
+    let Some(currency) = fields.currency() else {
         return Ok(None);
     };
-    let Some(base_url) = fields.ascii(alloc)? else {
+    let Some(base_url) = fields.ascii() else {
         return Ok(None);
     };
     let Some(ttl) = fields.number() else {
@@ -42,6 +43,14 @@ pub fn read_set_system(alloc: Global, mut fields: Fields) -> Result<Option<Comma
     let Some(()) = fields.end() else {
         return Ok(None);
     };
+    let system_id = Ident::of(alloc, system_id)?;
+    let language = Language::of(alloc, language)?;
+    let name = Name::of(alloc, name.as_str())?;
+    let opening_hours = Ascii::of(alloc, opening_hours.as_str())?;
+    let feed_contact_email = Ascii::of(alloc, feed_contact_email.as_str())?;
+    let timezone = Ascii::of(alloc, timezone.as_str())?;
+    let currency = Currency::of(alloc, currency)?;
+    let base_url = Ascii::of(alloc, base_url.as_str())?;
     Ok(Some(Command::SetSystem(System::from_fields(
         system_id,
         language,
@@ -57,12 +66,12 @@ pub fn read_set_system(alloc: Global, mut fields: Fields) -> Result<Option<Comma
 
 #[tactic(auto, unfolding(crate::specs::RecordReaders::add_plan_at))]
 pub fn read_add_plan(alloc: Global, mut fields: Fields) -> Result<Option<Command>, AllocError>
-    ensures { IfOk result (λ o. o ≡ add_plan_at fields.entry) }
+    ensures { IsReadAs (add_plan_at fields.entry) result }
 {
-    let Some(plan_id) = fields.ident(alloc)? else {
+    let Some(plan_id) = fields.ident() else {
         return Ok(None);
     };
-    let Some(name) = fields.name(alloc)? else {
+    let Some(name) = fields.name() else {
         return Ok(None);
     };
     let Some(price) = fields.number() else {
@@ -71,27 +80,32 @@ pub fn read_add_plan(alloc: Global, mut fields: Fields) -> Result<Option<Command
     let Some(taxable) = fields.choice("true", "false") else {
         return Ok(None);
     };
-    let Some(description) = fields.name(alloc)? else {
+    let Some(description) = fields.name() else {
         return Ok(None);
     };
-    let Some(segments) = fields.segments(alloc)? else {
+    let Some(segments) = fields.segments() else {
         return Ok(None);
     };
     let Some(()) = fields.end() else {
         return Ok(None);
     };
+    let segments = segments.as_slice();
+    let plan_id = Ident::of(alloc, plan_id)?;
+    let name = Name::of(alloc, name.as_str())?;
+    let description = Name::of(alloc, description.as_str())?;
+    let segments = Vec::from_slice(alloc, segments)?;
     let made = Plan::from_fields(plan_id, name, price, taxable, description, segments);
     Ok(made.map(Command::AddPlan))
 }
 
 #[tactic(auto, unfolding(crate::specs::RecordReaders::add_type_at))]
 pub fn read_add_type(alloc: Global, mut fields: Fields) -> Result<Option<Command>, AllocError>
-    ensures { IfOk result (λ o. o ≡ add_type_at fields.entry) }
+    ensures { IsReadAs (add_type_at fields.entry) result }
 {
-    let Some(type_id) = fields.ident(alloc)? else {
+    let Some(type_id) = fields.ident() else {
         return Ok(None);
     };
-    let Some(name) = fields.name(alloc)? else {
+    let Some(name) = fields.name() else {
         return Ok(None);
     };
     let Some(form) = fields.form() else {
@@ -103,24 +117,27 @@ pub fn read_add_type(alloc: Global, mut fields: Fields) -> Result<Option<Command
     let Some(max_range) = fields.metres(propulsion) else {
         return Ok(None);
     };
-    let Some(plan_id) = fields.ident(alloc)? else {
+    let Some(plan_id) = fields.ident() else {
         return Ok(None);
     };
     let Some(()) = fields.end() else {
         return Ok(None);
     };
+    let type_id = Ident::of(alloc, type_id)?;
+    let name = Name::of(alloc, name.as_str())?;
+    let plan_id = Ident::of(alloc, plan_id)?;
     let made = VehicleType::from_fields(type_id, name, form, propulsion, max_range, plan_id);
     Ok(made.map(Command::AddType))
 }
 
 #[tactic(auto, unfolding(crate::specs::RecordReaders::add_station_at))]
 pub fn read_add_station(alloc: Global, mut fields: Fields) -> Result<Option<Command>, AllocError>
-    ensures { IfOk result (λ o. o ≡ add_station_at fields.entry) }
+    ensures { IsReadAs (add_station_at fields.entry) result }
 {
-    let Some(station_id) = fields.ident(alloc)? else {
+    let Some(station_id) = fields.ident() else {
         return Ok(None);
     };
-    let Some(name) = fields.name(alloc)? else {
+    let Some(name) = fields.name() else {
         return Ok(None);
     };
     let Some(lat) = fields.degrees(90_000_000) else {
@@ -135,6 +152,8 @@ pub fn read_add_station(alloc: Global, mut fields: Fields) -> Result<Option<Comm
     let Some(()) = fields.end() else {
         return Ok(None);
     };
+    let station_id = Ident::of(alloc, station_id)?;
+    let name = Name::of(alloc, name.as_str())?;
     let made = Station::from_fields(station_id, name, lat, lon, docks);
     Ok(made.map(Command::AddStation))
 }

@@ -1,9 +1,11 @@
 //! Reading the commands of riders, their rentals and their money.
 
-ghost use Rattle.std.specs.Prelude.{◌≡◌, IfOk};
+ghost use Rattle.std.specs.Prelude.{◌≡◌};
+ghost use Rattle.bike_fields.specs.Reads.{IsReadAs};
 ghost use Rattle.bike_requests.specs.Readers.{add_rider_at, set_rider_at, top_up_at, start_at, end_at, recover_at, refund_at};
 
 use bike_commands::Command;
+use bike_fields::Ident;
 use bike_texts::Fields;
 use std::alloc::{AllocError, Global};
 
@@ -38,12 +40,12 @@ pub fn read_top_up(mut fields: Fields) -> Option<Command>
 
 #[tactic(auto, unfolding(crate::specs::Readers::start_at))]
 pub fn read_start(alloc: Global, mut fields: Fields) -> Result<Option<Command>, AllocError>
-    ensures { IfOk result (λ o. o ≡ start_at fields.entry) }
+    ensures { IsReadAs (start_at fields.entry) result }
 {
     let Some(rider) = fields.number() else {
         return Ok(None);
     };
-    let Some(station) = fields.ident(alloc)? else {
+    let Some(station) = fields.ident() else {
         return Ok(None);
     };
     let Some(dock) = fields.number() else {
@@ -52,6 +54,7 @@ pub fn read_start(alloc: Global, mut fields: Fields) -> Result<Option<Command>, 
     let Some(()) = fields.end() else {
         return Ok(None);
     };
+    let station = Ident::of(alloc, station)?;
     Ok(Some(Command::Start {
         rider,
         station,
@@ -61,12 +64,12 @@ pub fn read_start(alloc: Global, mut fields: Fields) -> Result<Option<Command>, 
 
 #[tactic(auto, unfolding(crate::specs::Readers::end_at))]
 pub fn read_end(alloc: Global, mut fields: Fields) -> Result<Option<Command>, AllocError>
-    ensures { IfOk result (λ o. o ≡ end_at fields.entry) }
+    ensures { IsReadAs (end_at fields.entry) result }
 {
     let Some(bike) = fields.number() else {
         return Ok(None);
     };
-    let Some(station) = fields.ident(alloc)? else {
+    let Some(station) = fields.ident() else {
         return Ok(None);
     };
     let Some(dock) = fields.number() else {
@@ -75,6 +78,7 @@ pub fn read_end(alloc: Global, mut fields: Fields) -> Result<Option<Command>, Al
     let Some(()) = fields.end() else {
         return Ok(None);
     };
+    let station = Ident::of(alloc, station)?;
     Ok(Some(Command::End {
         bike,
         station,

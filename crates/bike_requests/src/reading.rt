@@ -1,9 +1,11 @@
 //! Reading the text of a command.
 
-ghost use Rattle.std.specs.Prelude.{◌≡◌, IfOk, IfSome, Some};
+ghost use Rattle.std.specs.Prelude.{◌≡◌, IfOk, IfErr, IfSome, Some};
 ghost use Rattle.bike_commands.specs.declared.command.Command.{Command};
 ghost use Rattle.bike_commands.specs.Commands.{IsSpelling, IsCommand};
 ghost use Rattle.bike_requests.specs.Readers.{command_by, command_at};
+ghost use Rattle.bike_requests.specs.Spelling.{SpellsCommand};
+ghost use Rattle.bike_fields.specs.Reads.{IsReadAs};
 
 use crate::read_network::{
     read_add_bike, read_add_truck, read_mark_bike, read_mark_dock, read_retire_bike, read_set_plan,
@@ -20,7 +22,7 @@ use std::alloc::{AllocError, Global};
 
 #[tactic(auto, unfolding(crate::specs::Readers::command_by))]
 fn read_kind(alloc: Global, word: &str, fields: Fields) -> Result<Option<Command>, AllocError>
-    ensures { IfOk result (λ o. o ≡ command_by word.now fields.entry) }
+    ensures { IsReadAs (command_by word.now fields.entry) result }
 {
     match word {
         "set-system" => read_set_system(alloc, fields),
@@ -49,10 +51,11 @@ fn read_kind(alloc: Global, word: &str, fields: Fields) -> Result<Option<Command
     }
 }
 
-/// The command whose word and fields are all that is left; an error where memory was refused.
+/// The command whose word and fields are all that is left; an error where memory was refused, which only a command asks
+/// for.
 #[tactic(auto, unfolding(crate::specs::Readers::command_at))]
 pub fn read_rest(alloc: Global, mut fields: Fields) -> Result<Option<Command>, AllocError>
-    ensures { IfOk result (λ o. o ≡ command_at fields.entry) }
+    ensures { IsReadAs (command_at fields.entry) result }
 {
     let Some(word) = fields.part() else {
         return Ok(None);
@@ -60,11 +63,12 @@ pub fn read_rest(alloc: Global, mut fields: Fields) -> Result<Option<Command>, A
     read_kind(alloc, word, fields)
 }
 
-/// The command that the text spells: its word and its fields, joined by single TABs. None where it
-/// spells none; an error where memory was refused.
+/// The command that the text spells: its word and its fields, joined by single TABs. None where it spells none; an error
+/// where memory was refused, which only a text that spells a command asks for.
 pub fn read_command(alloc: Global, text: &str) -> Result<Option<Command>, AllocError>
     ensures found { IfOk result (λ o. IfSome o (λ c. IsSpelling text.now c × IsCommand c)) }
     ensures only { IfOk result (λ o. (c : Command) → IsCommand c → IsSpelling text.now c → o ≡ Some c) }
+    ensures spared { IfErr result (λ _. SpellsCommand text.now) }
 {
     read_rest(alloc, Fields::of(text))
 }

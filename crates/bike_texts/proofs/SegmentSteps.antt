@@ -1,6 +1,7 @@
 -- Reading segments, one after the other.
-use Rattle.std.proofs.Common.{◌≡◌, ℕ, ◌+◌, List, [], ◌∷◌, ◌++◌, length, Option, Some, None, refl, sym, ap, ◌∙◌, arith, append_assoc}
-use Rattle.std.proofs.lemmas.List.{append-nil}
+use Rattle.std.proofs.Common.{◌≡◌, ℕ, ◌+◌, List, [], ◌∷◌, ◌++◌, length, Option, Some, None, refl, sym, ap, ◌∙◌, ◌≤◌, false, eqb, arith, append_assoc}
+use Rattle.std.proofs.lemmas.Bool.{eqb-false}
+use Rattle.std.proofs.lemmas.List.{append-nil, length-append}
 use Rattle.std.proofs.lemmas.Option.{some_pair_parts}
 use Rattle.bike_catalogue.specs.Rows.{SegmentRow}
 use Rattle.bike_texts.specs.Parts.{Parts}
@@ -42,3 +43,6 @@ is_done front (q ∷ qs) all h i = absurd cc
 pub fewer : (p : List ℕ) (old new : Parts) → part_at old ≡ Some (p, new) → length old ≡ length new + 1
 fewer p [] new h = absurd cc
 fewer p (q ∷ qs) new h = let t = some_pair_parts q p qs new h in let b : qs ≡ new = t.1 in omega (arith, ap length b)
+
+pub one_fits : {A : Type 0} → (most : ℕ) (front : List A) (a : A) → false ≡ eqb (length front) most → length front ≤ most → length (front ++ a ∷ []) ≤ most
+one_fits most front a room few = let n = length-append front (a ∷ []) in let e = eqb-false (length front) most (sym room) in omega (arith, n, e, few)

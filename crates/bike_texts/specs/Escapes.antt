@@ -1,5 +1,5 @@
 -- Escapes undone, in names and ASCII fields.
-use Rattle.std.specs.Prelude.{◌≡◌, ℕ, List, [], ◌∷◌, Bool, true, false, ◌||◌, ◌==◌, Option, Some, None, if◌then◌else◌}
+use Rattle.std.specs.Prelude.{ℕ, List, [], ◌∷◌, Bool, true, false, ◌||◌, ◌==◌, Option, Some, None, if◌then◌else◌}
 use Rattle.bike_fields.specs.Bytes.{name_of, ascii_of}
 use Rattle.bike_texts.specs.Reading.{◌>>=◌}
 
@@ -36,8 +36,3 @@ name_at text = unescape text >>= name_of
 
 unfoldable pub ascii_at : List ℕ → Option (List ℕ)
 ascii_at text = unescape text >>= ascii_of
-
--- the outcome, seen as a value, is what reading gives
-abbrev pub Gives : {A B : Type 0} → (A → B) → Option A → Option B → Type 0
-Gives view (Some x) read = read ≡ Some (view x)
-Gives view None read = read ≡ None

@@ -4,6 +4,7 @@ use Rattle.std.specs.Fmt.{signed_decimal}
 use Rattle.std.specs.List.{list_all, join_with_byte}
 use Rattle.bike_fixed.specs.Coordinate.{IsCoordinate}
 use Rattle.bike_fixed.specs.Text.{micro_text}
+use Rattle.bike_fields.specs.declared.numbers.TheConstants.{MOST_DOCKS}
 use Rattle.bike_fields.specs.Bytes.{is_ident, is_language, is_currency, is_name, is_ascii_field}
 use Rattle.bike_catalogue.specs.declared.vehicle.Propulsion.{Propulsion}
 use Rattle.bike_catalogue.specs.Rows.{SegmentRow, IsSegment, IsRange}
@@ -48,10 +49,14 @@ abbrev pub Numbered : ℕ → Field
 Numbered = Number 1 999999
 
 abbrev pub Dock : ℕ → Field
-Dock = Number 1 200
+Dock = Number 1 MOST_DOCKS
 
 abbrev pub Serial : ℕ → Field
 Serial = Number 1 100000000
+
+-- a dock, or 0 at the depot
+abbrev pub DockOrDepot : ℕ → Field
+DockOrDepot = Number 0 MOST_DOCKS
 
 abbrev pub Payment : ℕ → Field
 Payment = Number 1 1000000

@@ -1,11 +1,11 @@
 -- Reading the segments of a plan.
-use Rattle.std.specs.Prelude.{ℕ, ℤ, pos, neg_ℤ, List, [], ◌∷◌, length, nat_le, ◌==◌, Option, Some, None, if◌then◌else◌, codes}
+use Rattle.std.specs.Prelude.{ℕ, ℤ, pos, neg_ℤ, List, [], ◌∷◌, ◌==◌, Option, Some, None, if◌then◌else◌, codes}
 use Rattle.std.specs.List.{slice_split}
 use Rattle.std.specs.Str.{bytes_eq}
 use Rattle.bike_fixed.specs.Whole.{number_of, signed_of}
 use Rattle.bike_catalogue.specs.Rows.{SegmentRow, is_after}
 use Rattle.bike_texts.specs.Parts.{Parts}
-use Rattle.bike_texts.specs.Reading.{◌>>=◌, field_at, no_more}
+use Rattle.bike_texts.specs.Reading.{◌>>=◌, field_at, at_most, no_more}
 
 -- a minute of a rental
 abbrev pub minute_of : List ℕ → Option ℕ
@@ -40,4 +40,4 @@ all_of (p ∷ ps) = do
 unfoldable pub segments_of : List ℕ → Option (List SegmentRow)
 segments_of text =
     if bytes_eq text (codes "-") then Some [] else (
-    all_of (slice_split (λ b. b == 59) text) >>= λ ss. if nat_le (length ss) 8 then Some ss else None)
+    at_most 8 (all_of (slice_split (λ b. b == 59) text)))

@@ -1,10 +1,22 @@
 //! Names and ASCII fields, in which a backslash, a TAB, an LF and a CR are written `\\`, `\t`, `\n` and `\r`.
 
-ghost use Rattle.std.specs.Prelude.{◌≡◌, IfOk};
-ghost use Rattle.bike_texts.specs.Escapes.{Gives, meant_by, is_break, unescape, name_at, ascii_at};
+ghost use Rattle.std.specs.Prelude.{◌≡◌, true, IfSome, IfNone, Some, None};
+ghost use Rattle.bike_fields.specs.Bytes.{is_name, is_ascii_field};
+ghost use Rattle.bike_fields.specs.Reads.{Gives};
+ghost use Rattle.bike_texts.specs.Reading.{at_most};
+ghost use Rattle.bike_texts.specs.Escapes.{meant_by, is_break, unescape, name_at, ascii_at};
 
+use arrayvec::{ArrayString, ArrayVec};
 use bike_fields::{Ascii, Name};
-use std::alloc::{AllocError, Global};
+
+/// A name has at most 120 bytes, and an ASCII field 200.
+const MOST_BYTES: usize = 200;
+
+/// A name or a description, before it has memory of its own.
+pub type NameText = ArrayString<120>;
+
+/// An ASCII field, before it has memory of its own.
+pub type AsciiText = ArrayString<200>;
 
 /// The byte for which a letter behind a backslash stands.
 fn meant_by(letter: u8) -> Option<u8>
@@ -26,58 +38,82 @@ fn is_break(b: u8) -> bool
     b == b'\t' || b == b'\n' || b == b'\r'
 }
 
-/// The bytes that are escaped in the text.
-fn unescape(alloc: Global, text: &[u8]) -> Result<Option<Vec<u8>>, AllocError>
-    ensures { IfOk result (λ o. Gives (λ v. v.items) o (unescape text.now)) }
+/// The bytes that are escaped in the text. None where it has none, or more than any name or ASCII field.
+fn unescape(text: &[u8]) -> Option<ArrayVec<u8, MOST_BYTES>>
+    ensures read { IfSome result (λ bytes. unescape text.now ≡ Some bytes.items) }
+    ensures none { IfNone result (at_most MOST_BYTES (unescape text.now) ≡ None) }
 {
-    let mut out = Vec::new(alloc);
+    let mut out: ArrayVec<u8, MOST_BYTES> = ArrayVec::new();
     let mut behind = false;
     for b in text {
         let b = *b;
         if behind {
-            let Some(meant) = meant_by(b) else {
-                return Ok(None);
-            };
-            out.push(meant)?;
+            let meant = meant_by(b)?;
+            if out.is_full() {
+                return None;
+            }
+            out.push(meant);
             behind = false;
         } else if b == b'\\' {
             behind = true;
         } else if is_break(b) {
-            return Ok(None);
+            return None;
+        } else if out.is_full() {
+            return None;
         } else {
-            out.push(b)?;
+            out.push(b);
         }
     }
     if behind {
-        return Ok(None);
+        return None;
     }
-    Ok(Some(out))
+    Some(out)
 }
 
-/// The name that is escaped in the text; an error where memory was refused.
+/// A copy of the name that needs no memory.
+#[tactic(auto, using(crate::proofs::Unescaping::name_length))]
+fn copy_name(name: &str) -> NameText
+    requires { is_name name.now ≡ true }
+    ensures { result.bytes ≡ name.now }
+{
+    let mut copy = ArrayString::new();
+    copy.push_str(name);
+    copy
+}
+
+/// A copy of the ASCII field that needs no memory.
+#[tactic(auto, using(crate::proofs::Unescaping::ascii_length))]
+fn copy_ascii(field: &str) -> AsciiText
+    requires { is_ascii_field field.now ≡ true }
+    ensures { result.bytes ≡ field.now }
+{
+    let mut copy = ArrayString::new();
+    copy.push_str(field);
+    copy
+}
+
+/// The name that is escaped in the text.
 #[tactic(auto, unfolding(crate::specs::Escapes::name_at))]
-pub fn read_name(alloc: Global, text: &str) -> Result<Option<Name>, AllocError>
-    ensures { IfOk result (λ o. o ≡ name_at text.now) }
+pub fn read_name(text: &str) -> Option<NameText>
+    ensures read { Gives (λ name. name.bytes) result (name_at text.now) }
+    ensures good { IfSome result (λ name. is_name name.bytes ≡ true) }
 {
-    let Some(bytes) = unescape(alloc, text.as_bytes())? else {
-        return Ok(None);
-    };
+    let bytes = unescape(text.as_bytes())?;
     let Ok(name) = str::from_utf8(bytes.as_slice()) else {
-        return Ok(None);
+        return None;
     };
-    Name::read(alloc, name)
+    Some(copy_name(Name::checked(name)?))
 }
 
-/// The ASCII field that is escaped in the text; an error where memory was refused.
+/// The ASCII field that is escaped in the text.
 #[tactic(auto, unfolding(crate::specs::Escapes::ascii_at))]
-pub fn read_ascii(alloc: Global, text: &str) -> Result<Option<Ascii>, AllocError>
-    ensures { IfOk result (λ o. o ≡ ascii_at text.now) }
+pub fn read_ascii(text: &str) -> Option<AsciiText>
+    ensures read { Gives (λ ascii. ascii.bytes) result (ascii_at text.now) }
+    ensures good { IfSome result (λ ascii. is_ascii_field ascii.bytes ≡ true) }
 {
-    let Some(bytes) = unescape(alloc, text.as_bytes())? else {
-        return Ok(None);
-    };
+    let bytes = unescape(text.as_bytes())?;
     let Ok(field) = str::from_utf8(bytes.as_slice()) else {
-        return Ok(None);
+        return None;
     };
-    Ascii::read(alloc, field)
+    Some(copy_ascii(Ascii::checked(field)?))
 }

@@ -2,12 +2,10 @@
 
 ghost use Rattle.std.specs.Prelude.{◌≡◌, ◌≤ℤ◌, ◌&&◌, pos, int_le, if◌then◌else◌, Some, None};
 
+use bike_fixed::GREATEST_FARE;
 use std::marker::Model;
 
-/// The greatest fare in hundredths: 30 days under the dearest plan.
-const GREATEST: i64 = 34_561_800_000;
-
-/// What a rental costs, 0 to 34,561,800,000 hundredths.
+/// What a rental costs, 0 to `GREATEST_FARE` hundredths.
 #[derive(Clone, Copy, Debug, PartialEq, Eq)]
 pub struct Fare {
     hundredths: i64,
@@ -15,31 +13,32 @@ pub struct Fare {
 
 impl Model for Fare {
     ghost use Rattle.std.specs.Prelude.{ℤ, pos, ◌≤ℤ◌};
+    ghost use Rattle.bike_fixed.specs.declared.cents.TheConstants.{GREATEST_FARE};
 
     ghost Value = { ℤ };
 
     ghost view = { λ a. a.hundredths };
 
-    ghost invariant = { λ a. (pos 0 ≤ℤ a.hundredths) × (a.hundredths ≤ℤ pos 34561800000) };
+    ghost invariant = { λ a. (pos 0 ≤ℤ a.hundredths) × (a.hundredths ≤ℤ GREATEST_FARE) };
 
     ghost inverse = { λ z. record { hundredths = z } };
 }
 
 impl Fare {
-    /// The fare of so many hundredths, where they are 0 to 34,561,800,000.
+    /// The fare of so many hundredths, where they are 0 to `GREATEST_FARE`.
     pub fn new(hundredths: i64) -> Option<Fare>
-        ensures { result ≡ (if int_le (pos 0) hundredths && int_le hundredths (pos 34561800000) then Some hundredths else None) }
+        ensures { result ≡ (if int_le (pos 0) hundredths && int_le hundredths GREATEST_FARE then Some hundredths else None) }
     {
-        if hundredths < 0 || hundredths > GREATEST {
+        if hundredths < 0 || hundredths > GREATEST_FARE {
             return None;
         }
         Some(Fare { hundredths })
     }
 
-    /// The fare of hundredths that the caller knows to be 0 to 34,561,800,000.
+    /// The fare of hundredths that the caller knows to be 0 to `GREATEST_FARE`.
     pub fn of(hundredths: i64) -> Fare
         requires low { pos 0 ≤ℤ hundredths }
-        requires high { hundredths ≤ℤ pos 34561800000 }
+        requires high { hundredths ≤ℤ GREATEST_FARE }
         ensures { result ≡ hundredths }
     {
         Fare { hundredths }
@@ -49,7 +48,7 @@ impl Fare {
     pub fn hundredths(&self) -> i64
         ensures value { result ≡ self.now }
         ensures low { pos 0 ≤ℤ result }
-        ensures high { result ≤ℤ pos 34561800000 }
+        ensures high { result ≤ℤ GREATEST_FARE }
     {
         self.hundredths
     }

@@ -1,24 +1,27 @@
 //! The parts of a text between its separators, from left to right.
 
-ghost use Rattle.std.specs.Prelude.{◌≡◌, ◌<◌, ◌==◌, IfOk};
+ghost use Rattle.std.specs.Prelude.{◌≡◌, ◌<◌, ◌==◌, true, IfSome};
 ghost use Rattle.std.specs.List.{slice_split};
 ghost use Rattle.bike_fixed.specs.Whole.{number_of, last_moment};
-ghost use Rattle.bike_fields.specs.Caller.{caller_of};
+ghost use Rattle.bike_fields.specs.Caller as callers;
+ghost use Rattle.bike_fields.specs.Caller.{caller_of, caller_meant};
+ghost use Rattle.bike_fields.specs.Bytes.{is_key, is_ident, is_language, is_currency, is_name, is_ascii_field};
 ghost use Rattle.bike_fields.specs.Bytes.{key_of, ident_of, language_of, currency_of};
+ghost use Rattle.bike_catalogue.specs.Rows.{is_range};
 ghost use Rattle.bike_catalogue.specs.Vehicle.{form_of, propulsion_of};
 ghost use Rattle.bike_texts.specs.Escapes.{name_at, ascii_at};
 ghost use Rattle.bike_texts.specs.SegmentReading.{segments_of};
-ghost use Rattle.bike_texts.specs.Reading.{Takes, part_at, field_at, no_more, exactly, i64_of, fare_of, degrees_of, metres_of, choice_of, side_of, end_of};
+ghost use Rattle.bike_texts.specs.Reading.{Takes, HasIdent, part_at, field_at, no_more, exactly, i64_of, fare_of};
+ghost use Rattle.bike_texts.specs.Reading.{degrees_of, is_of_size, metres_of, choice_of, side_of, end_of, end_meant};
 
-use crate::ends::{OrderEnd, Side};
-use crate::escapes::{read_ascii, read_name};
+use crate::ends::{EndName, Side};
+use crate::escapes::{AsciiText, NameText, read_ascii, read_name};
 use crate::fare::Fare;
-use crate::segments::read_segments;
+use crate::segments::{SegmentList, read_segments};
 use crate::values::{read_choice, read_degrees, read_metres, read_order_end, read_side};
-use bike_catalogue::{Form, Propulsion, Segment};
-use bike_fields::{Ascii, Caller, Currency, Ident, Language, MaxRange, Name, RequestKey};
-use bike_fixed::{Micro, Moment, Within, read_signed};
-use std::alloc::{AllocError, Global};
+use bike_catalogue::{Form, Propulsion};
+use bike_fields::{CallerName, Currency, Ident, Language, MaxRange, RequestKey};
+use bike_fixed::{GREATEST_FARE, Micro, Moment, Within, read_signed};
 use std::marker::Model;
 
 /// What is left of a text, seen as the list of its parts.
@@ -91,13 +94,13 @@ impl<'a> Fields<'a> {
         read_signed(text, i64::MIN, i64::MAX)
     }
 
-    /// The next part as the fare of a rental, 0 to 34,561,800,000 hundredths.
+    /// The next part as the fare of a rental, 0 to `GREATEST_FARE` hundredths.
     #[tactic(auto, unfolding(bike_fixed::specs::Whole::signed_of))]
     pub fn fare(&mut self) -> Option<Fare>
         ensures { Takes (λ z. z) result (field_at fare_of self.old) self.new }
     {
         let text = self.part()?;
-        let hundredths = read_signed(text, 0, 34_561_800_000)?;
+        let hundredths = read_signed(text, 0, GREATEST_FARE)?;
         Fare::new(hundredths)
     }
 
@@ -109,79 +112,73 @@ impl<'a> Fields<'a> {
         Moment::read(text)
     }
 
-    /// The next part as a caller; an error where memory was refused.
-    pub fn caller(&mut self, alloc: Global) -> Result<Option<Caller>, AllocError>
-        ensures { IfOk result (λ o. Takes (λ c. c) o (field_at caller_of self.old) self.new) }
+    /// The next part as a caller.
+    pub fn caller(&mut self) -> Option<CallerName<'a>>
+        ensures read { Takes caller_meant result (field_at caller_of self.old) self.new }
+        ensures good { IfSome result callers.HasIdent }
     {
-        let Some(text) = self.part() else {
-            return Ok(None);
-        };
-        Caller::read(alloc, text)
+        let text = self.part()?;
+        CallerName::read(text)
     }
 
-    /// The next part as a request key; an error where memory was refused.
-    pub fn key(&mut self, alloc: Global) -> Result<Option<RequestKey>, AllocError>
-        ensures { IfOk result (λ o. Takes (λ k. k) o (field_at key_of self.old) self.new) }
+    /// The next part as a request key.
+    pub fn key(&mut self) -> Option<&'a str>
+        ensures read { Takes (λ text. text.now) result (field_at key_of self.old) self.new }
+        ensures good { IfSome result (λ text. is_key text.now ≡ true) }
     {
-        let Some(text) = self.part() else {
-            return Ok(None);
-        };
-        RequestKey::read(alloc, text)
+        let text = self.part()?;
+        RequestKey::checked(text)
     }
 
-    /// The next part as an identifier; an error where memory was refused.
-    pub fn ident(&mut self, alloc: Global) -> Result<Option<Ident>, AllocError>
-        ensures { IfOk result (λ o. Takes (λ i. i) o (field_at ident_of self.old) self.new) }
+    /// The next part as an identifier.
+    pub fn ident(&mut self) -> Option<&'a str>
+        ensures read { Takes (λ text. text.now) result (field_at ident_of self.old) self.new }
+        ensures good { IfSome result (λ text. is_ident text.now ≡ true) }
     {
-        let Some(text) = self.part() else {
-            return Ok(None);
-        };
-        Ident::read(alloc, text)
+        let text = self.part()?;
+        Ident::checked(text)
     }
 
-    /// The next part as a language; an error where memory was refused.
-    pub fn language(&mut self, alloc: Global) -> Result<Option<Language>, AllocError>
-        ensures { IfOk result (λ o. Takes (λ l. l) o (field_at language_of self.old) self.new) }
+    /// The next part as a language.
+    pub fn language(&mut self) -> Option<&'a str>
+        ensures read { Takes (λ text. text.now) result (field_at language_of self.old) self.new }
+        ensures good { IfSome result (λ text. is_language text.now ≡ true) }
     {
-        let Some(text) = self.part() else {
-            return Ok(None);
-        };
-        Language::read(alloc, text)
+        let text = self.part()?;
+        Language::checked(text)
     }
 
-    /// The next part as a currency; an error where memory was refused.
-    pub fn currency(&mut self, alloc: Global) -> Result<Option<Currency>, AllocError>
-        ensures { IfOk result (λ o. Takes (λ c. c) o (field_at currency_of self.old) self.new) }
+    /// The next part as a currency.
+    pub fn currency(&mut self) -> Option<&'a str>
+        ensures read { Takes (λ text. text.now) result (field_at currency_of self.old) self.new }
+        ensures good { IfSome result (λ text. is_currency text.now ≡ true) }
     {
-        let Some(text) = self.part() else {
-            return Ok(None);
-        };
-        Currency::read(alloc, text)
+        let text = self.part()?;
+        Currency::checked(text)
     }
 
-    /// The next part as a name, with escapes; an error where memory was refused.
-    pub fn name(&mut self, alloc: Global) -> Result<Option<Name>, AllocError>
-        ensures { IfOk result (λ o. Takes (λ n. n) o (field_at name_at self.old) self.new) }
+    /// The next part as a name, with escapes.
+    pub fn name(&mut self) -> Option<NameText>
+        ensures read { Takes (λ name. name.bytes) result (field_at name_at self.old) self.new }
+        ensures good { IfSome result (λ name. is_name name.bytes ≡ true) }
     {
-        let Some(text) = self.part() else {
-            return Ok(None);
-        };
-        read_name(alloc, text)
+        let text = self.part()?;
+        read_name(text)
     }
 
-    /// The next part as an ASCII field, with escapes; an error where memory was refused.
-    pub fn ascii(&mut self, alloc: Global) -> Result<Option<Ascii>, AllocError>
-        ensures { IfOk result (λ o. Takes (λ a. a) o (field_at ascii_at self.old) self.new) }
+    /// The next part as an ASCII field, with escapes.
+    pub fn ascii(&mut self) -> Option<AsciiText>
+        ensures read { Takes (λ ascii. ascii.bytes) result (field_at ascii_at self.old) self.new }
+        ensures good { IfSome result (λ ascii. is_ascii_field ascii.bytes ≡ true) }
     {
-        let Some(text) = self.part() else {
-            return Ok(None);
-        };
-        read_ascii(alloc, text)
+        let text = self.part()?;
+        read_ascii(text)
     }
 
     /// The next part as a coordinate, spelled in degrees, whose size is at most `greatest` microdegrees.
     pub fn degrees(&mut self, greatest: u32) -> Option<Micro>
-        ensures { Takes (λ z. z) result (field_at (degrees_of greatest) self.old) self.new }
+        ensures read { Takes (λ z. z) result (field_at (degrees_of greatest) self.old) self.new }
+        ensures good { IfSome result (λ z. is_of_size greatest z ≡ true) }
     {
         let text = self.part()?;
         read_degrees(text, greatest)
@@ -189,7 +186,8 @@ impl<'a> Fields<'a> {
 
     /// The next part as the greatest range, in metres, of a vehicle with that propulsion.
     pub fn metres(&mut self, propulsion: Propulsion) -> Option<MaxRange>
-        ensures { Takes (λ n. n) result (field_at (metres_of propulsion) self.old) self.new }
+        ensures read { Takes (λ n. n) result (field_at (metres_of propulsion) self.old) self.new }
+        ensures good { IfSome result (λ n. is_range propulsion n ≡ true) }
     {
         let text = self.part()?;
         read_metres(text, propulsion)
@@ -227,24 +225,21 @@ impl<'a> Fields<'a> {
         read_side(text)
     }
 
-    /// The next part as an end of an order, `*` or a station; an error where memory was refused.
-    pub fn order_end(&mut self, alloc: Global) -> Result<Option<OrderEnd>, AllocError>
-        ensures { IfOk result (λ o. Takes (λ e. e) o (field_at end_of self.old) self.new) }
+    /// The next part as an end of an order, `*` or a station.
+    pub fn order_end(&mut self) -> Option<EndName<'a>>
+        ensures read { Takes end_meant result (field_at end_of self.old) self.new }
+        ensures good { IfSome result HasIdent }
     {
-        let Some(text) = self.part() else {
-            return Ok(None);
-        };
-        read_order_end(alloc, text)
+        let text = self.part()?;
+        read_order_end(text)
     }
 
-    /// The next part as the segments of a plan, at most eight; an error where memory was refused.
-    pub fn segments(&mut self, alloc: Global) -> Result<Option<Vec<Segment>>, AllocError>
-        ensures { IfOk result (λ o. Takes (λ v. v.items) o (field_at segments_of self.old) self.new) }
+    /// The next part as the segments of a plan, at most eight.
+    pub fn segments(&mut self) -> Option<SegmentList>
+        ensures { Takes (λ list. list.items) result (field_at segments_of self.old) self.new }
     {
-        let Some(text) = self.part() else {
-            return Ok(None);
-        };
-        read_segments(alloc, text)
+        let text = self.part()?;
+        read_segments(text)
     }
 
     /// The next part, which has to be the word.

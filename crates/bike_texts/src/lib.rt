@@ -15,6 +15,8 @@ mod segments;
 mod values;
 
 pub use bounds::{tell_end, tell_segments};
-pub use ends::{OrderEnd, Side, UnloadDock};
+pub use ends::{EndName, OrderEnd, Side, UnloadDock};
+pub use escapes::{AsciiText, NameText};
 pub use fare::Fare;
 pub use fields::Fields;
+pub use segments::SegmentList;

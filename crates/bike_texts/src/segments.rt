@@ -1,16 +1,17 @@
 //! The segments of a plan, `START:RATE:INTERVAL:END` with `;` between them.
 
-ghost use Rattle.std.specs.Prelude.{◌≡◌, IfOk};
-ghost use Rattle.bike_texts.specs.Escapes.{Gives};
+ghost use Rattle.std.specs.Prelude.{◌≡◌};
+ghost use Rattle.bike_fields.specs.Reads.{Gives};
+ghost use Rattle.bike_texts.specs.Reading.{at_most};
 ghost use Rattle.bike_texts.specs.SegmentReading.{segment_end_of, segment_of, all_of, segments_of};
 
 use crate::fields::Fields;
+use arrayvec::ArrayVec;
 use bike_catalogue::{Rate, Segment};
 use bike_fields::SegmentMinute;
-use std::alloc::{AllocError, Global};
 
-/// The most segments that a plan has.
-const MOST: usize = 8;
+/// The segments of a plan, at most eight, before they have memory of their own.
+pub type SegmentList = ArrayVec<Segment, 8>;
 
 /// The minute before which a segment ends, or none for `-`.
 #[tactic(auto, unfolding(crate::specs::SegmentReading::segment_end_of))]
@@ -38,33 +39,28 @@ fn read_segment(text: &str) -> Option<Segment>
     Segment::from_fields(start, rate, interval, end)
 }
 
-/// The segments that the parts spell, one each; an error where memory was refused.
-fn read_all(alloc: Global, mut parts: Fields) -> Result<Option<Vec<Segment>>, AllocError>
-    ensures { IfOk result (λ o. Gives (λ v. v.items) o (all_of parts.entry)) }
+/// The segments that the parts spell, one each and at most eight.
+fn read_all(mut parts: Fields) -> Option<SegmentList>
+    ensures { Gives (λ list. list.items) result (at_most 8 (all_of parts.entry)) }
 {
-    let mut segments = Vec::new(alloc);
+    let mut segments: SegmentList = ArrayVec::new();
     while let Some(text) = parts.part() {
-        let Some(segment) = read_segment(text) else {
-            return Ok(None);
-        };
-        segments.push(segment)?;
+        let segment = read_segment(text)?;
+        if segments.is_full() {
+            return None;
+        }
+        segments.push(segment);
     }
-    Ok(Some(segments))
+    Some(segments)
 }
 
-/// The segments that the text spells, at most eight, or none for `-`; an error where memory was refused.
+/// The segments that the text spells, at most eight, or none for `-`.
 #[tactic(auto, unfolding(crate::specs::SegmentReading::segments_of))]
-pub fn read_segments(alloc: Global, text: &str) -> Result<Option<Vec<Segment>>, AllocError>
-    ensures { IfOk result (λ o. Gives (λ v. v.items) o (segments_of text.now)) }
+pub fn read_segments(text: &str) -> Option<SegmentList>
+    ensures { Gives (λ list. list.items) result (segments_of text.now) }
 {
     if text == "-" {
-        return Ok(Some(Vec::new(alloc)));
+        return Some(ArrayVec::new());
     }
-    let Some(segments) = read_all(alloc, Fields::cut(text, ';'))? else {
-        return Ok(None);
-    };
-    if segments.len() > MOST {
-        return Ok(None);
-    }
-    Ok(Some(segments))
+    read_all(Fields::cut(text, ';'))
 }

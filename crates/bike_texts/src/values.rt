@@ -1,19 +1,20 @@
 //! The values that one part of a text spells.
 
-ghost use Rattle.std.specs.Prelude.{◌≡◌, IfOk};
+ghost use Rattle.std.specs.Prelude.{◌≡◌, true, IfSome};
 ghost use Rattle.bike_catalogue.specs.Rows.{is_range};
-ghost use Rattle.bike_texts.specs.Reading.{degrees_of, metres_of, choice_of, side_of, end_of};
+ghost use Rattle.bike_texts.specs.Reading.{HasIdent, degrees_of, is_of_size, metres_of, choice_of, side_of, end_of, end_meant};
+ghost use Rattle.bike_fields.specs.Reads.{Gives};
 
-use crate::ends::{OrderEnd, Side};
+use crate::ends::{EndName, Side};
 use bike_catalogue::Propulsion;
 use bike_fields::{Ident, MaxRange};
 use bike_fixed::Micro;
-use std::alloc::{AllocError, Global};
 
 /// The coordinate that the text spells, where its size is at most `greatest` microdegrees.
 #[tactic(auto, unfolding(crate::specs::Reading::degrees_of))]
 pub fn read_degrees(text: &str, greatest: u32) -> Option<Micro>
-    ensures { result ≡ degrees_of greatest text.now }
+    ensures read { result ≡ degrees_of greatest text.now }
+    ensures good { IfSome result (λ z. is_of_size greatest z ≡ true) }
 {
     let micro = Micro::read(text)?;
     if micro.microdegrees().unsigned_abs() <= greatest {
@@ -35,7 +36,8 @@ fn is_range(propulsion: Propulsion, metres: u32) -> bool
 /// The greatest range in metres that the text spells, where it goes with the propulsion.
 #[tactic(auto, unfolding(crate::specs::Reading::metres_of))]
 pub fn read_metres(text: &str, propulsion: Propulsion) -> Option<MaxRange>
-    ensures { result ≡ metres_of propulsion text.now }
+    ensures read { result ≡ metres_of propulsion text.now }
+    ensures good { IfSome result (λ n. is_range propulsion n ≡ true) }
 {
     let metres = MaxRange::read(text)?;
     if is_range(propulsion, metres.get()) {
@@ -70,13 +72,14 @@ pub fn read_side(text: &str) -> Option<Side>
     }
 }
 
-/// The depot, written `*`, or the station of that identifier; an error where memory was refused.
+/// The depot, written `*`, or the station of that identifier.
 #[tactic(auto, unfolding(crate::specs::Reading::end_of))]
-pub fn read_order_end(alloc: Global, text: &str) -> Result<Option<OrderEnd>, AllocError>
-    ensures { IfOk result (λ o. o ≡ end_of text.now) }
+pub fn read_order_end<'a>(text: &'a str) -> Option<EndName<'a>>
+    ensures read { Gives end_meant result (end_of text.now) }
+    ensures good { IfSome result HasIdent }
 {
     if text == "*" {
-        return Ok(Some(OrderEnd::Depot));
+        return Some(EndName::Depot);
     }
-    Ok(Ident::read(alloc, text)?.map(OrderEnd::Station))
+    Some(EndName::Station(Ident::checked(text)?))
 }

@@ -1,7 +1,7 @@
 //! Each kind of field at its bounds and past them.
 
 use bike_catalogue::Propulsion;
-use bike_texts::{Fields, OrderEnd, Side};
+use bike_texts::{EndName, Fields, Side};
 use std::alloc::{AllocError, Global};
 use std::test::Fail;
 
@@ -353,15 +353,7 @@ const TEXTS: &[(Word, &str, &[Text])] = &[
     (Word::Ascii, "ascii", ASCIIS),
 ];
 
-/// How many segments the text spells.
-fn count_segments(alloc: Global, text: &str) -> Result<Option<i64>, AllocError> {
-    match Fields::of(text).segments(alloc)? {
-        Some(segments) => Ok(i64::try_from(segments.len()).ok()),
-        None => Ok(None),
-    }
-}
-
-/// The number as which the text is read, of the kinds that need no memory.
+/// The number as which the text is read; of a plan, how many segments it has.
 fn number_of(kind: &Numeral, text: &str) -> Option<i64> {
     let mut fields = Fields::of(text);
     match kind {
@@ -373,7 +365,7 @@ fn number_of(kind: &Numeral, text: &str) -> Option<i64> {
         Numeral::Longitude => Some(i64::from(fields.degrees(180_000_000)?.microdegrees())),
         Numeral::HumanRange => Some(i64::from(fields.metres(Propulsion::Human)?.get())),
         Numeral::ElectricRange => Some(i64::from(fields.metres(Propulsion::ElectricAssist)?.get())),
-        Numeral::Plan => None,
+        Numeral::Plan => i64::try_from(fields.segments()?.len()).ok(),
     }
 }
 
@@ -381,11 +373,7 @@ fn number_of(kind: &Numeral, text: &str) -> Option<i64> {
 fn misread_number(alloc: Global) -> Result<String, AllocError> {
     for (kind, name, rows) in NUMBERS {
         for row in *rows {
-            let found = match kind {
-                Numeral::Plan => count_segments(alloc, row.0)?,
-                _ => number_of(kind, row.0),
-            };
-            if found != row.1 {
+            if number_of(kind, row.0) != row.1 {
                 return format!(in alloc; "{name} {}", row.0);
             }
         }
@@ -415,41 +403,41 @@ fn word_of(kind: &Word, text: &str) -> Option<&'static str> {
     }
 }
 
-fn is_end(alloc: Global, text: &str, want: Option<&str>) -> Result<bool, AllocError> {
-    match Fields::of(text).order_end(alloc)? {
-        Some(OrderEnd::Depot) => Ok(want == Some("*")),
-        Some(OrderEnd::Station(station)) => Ok(want == Some(station.as_str())),
-        None => Ok(want.is_none()),
+fn is_end(text: &str, want: Option<&str>) -> bool {
+    match Fields::of(text).order_end() {
+        Some(EndName::Depot) => want == Some("*"),
+        Some(EndName::Station(station)) => want == Some(station),
+        None => want.is_none(),
     }
 }
 
-fn is_name(alloc: Global, text: &str, want: Option<&str>) -> Result<bool, AllocError> {
-    match Fields::of(text).name(alloc)? {
-        Some(name) => Ok(want == Some(name.as_str())),
-        None => Ok(want.is_none()),
+fn is_name(text: &str, want: Option<&str>) -> bool {
+    match Fields::of(text).name() {
+        Some(name) => want == Some(name.as_str()),
+        None => want.is_none(),
     }
 }
 
-fn is_ascii(alloc: Global, text: &str, want: Option<&str>) -> Result<bool, AllocError> {
-    match Fields::of(text).ascii(alloc)? {
-        Some(ascii) => Ok(want == Some(ascii.as_str())),
-        None => Ok(want.is_none()),
+fn is_ascii(text: &str, want: Option<&str>) -> bool {
+    match Fields::of(text).ascii() {
+        Some(ascii) => want == Some(ascii.as_str()),
+        None => want.is_none(),
     }
 }
 
 /// Whether the text of the row is read as the other.
-fn is_read(alloc: Global, kind: &Word, text: &str, want: Option<&str>) -> Result<bool, AllocError> {
+fn is_read(kind: &Word, text: &str, want: Option<&str>) -> bool {
     let mut fields = Fields::of(text);
     match kind {
-        Word::Ident => Ok(fields.ident(alloc)?.is_some() == want.is_some()),
-        Word::Key => Ok(fields.key(alloc)?.is_some() == want.is_some()),
-        Word::Language => Ok(fields.language(alloc)?.is_some() == want.is_some()),
-        Word::Currency => Ok(fields.currency(alloc)?.is_some() == want.is_some()),
-        Word::Caller => Ok(fields.caller(alloc)?.is_some() == want.is_some()),
-        Word::End => is_end(alloc, text, want),
-        Word::Name => is_name(alloc, text, want),
-        Word::Ascii => is_ascii(alloc, text, want),
-        _ => Ok(word_of(kind, text) == want),
+        Word::Ident => fields.ident() == want,
+        Word::Key => fields.key() == want,
+        Word::Language => fields.language() == want,
+        Word::Currency => fields.currency() == want,
+        Word::Caller => fields.caller().is_some() == want.is_some(),
+        Word::End => is_end(text, want),
+        Word::Name => is_name(text, want),
+        Word::Ascii => is_ascii(text, want),
+        _ => word_of(kind, text) == want,
     }
 }
 
@@ -457,7 +445,7 @@ fn is_read(alloc: Global, kind: &Word, text: &str, want: Option<&str>) -> Result
 fn misread_text(alloc: Global) -> Result<String, AllocError> {
     for (kind, name, rows) in TEXTS {
         for row in *rows {
-            if !is_read(alloc, kind, row.0, row.1)? {
+            if !is_read(kind, row.0, row.1) {
                 return format!(in alloc; "{name} {}", row.0);
             }
         }

@@ -1,4 +1,4 @@
-use Rattle.bike_requests.proofs.RequestLaws.{line_found, line_only}
+use Rattle.bike_requests.proofs.RequestLaws.{line_found, line_only, line_spared}
 use Rattle.bike_requests.proofs.line.read_line.Goals as goal
 
 pub returns-clause-found : goal.returns-clause-found
@@ -8,3 +8,7 @@ returns-clause-found c =
 pub returns-clause-only : goal.returns-clause-only
 returns-clause-only c =
     line_only c.args.line.now c.read_request.result c.if-line-gt-LINE_LENGTH.false c.in-Ok.ensures.cases.1 (rw (c.of.ensures, c.in-Ok.ensures.cases.0) at c.read_request.ensures)
+
+pub returns-clause-spared : goal.returns-clause-spared
+returns-clause-spared c =
+    line_spared c.args.line.now c.read_request.result c.if-line-gt-LINE_LENGTH.false c.in-Ok.ensures.cases.1 (rw (c.of.ensures, c.in-Ok.ensures.cases.0) at c.read_request.ensures)

@@ -1,4 +1,4 @@
-use Rattle.bike_requests.proofs.CommandLaws.{read_found, read_only}
+use Rattle.bike_requests.proofs.CommandLaws.{read_found, read_only, read_spared}
 use Rattle.bike_requests.proofs.reading.read_command.Goals as goal
 
 pub returns-clause-found : goal.returns-clause-found
@@ -6,3 +6,6 @@ returns-clause-found c = read_found c.args.text.now c.read_rest.result (rw c.of.
 
 pub returns-clause-only : goal.returns-clause-only
 returns-clause-only c = read_only c.args.text.now c.read_rest.result (rw c.of.ensures at c.read_rest.ensures)
+
+pub returns-clause-spared : goal.returns-clause-spared
+returns-clause-spared c = read_spared c.args.text.now c.read_rest.result (rw c.of.ensures at c.read_rest.ensures)
