@@ -1,6 +1,4 @@
-pub mod Escaping
-pub mod Levels
-pub mod OneText
-pub mod Reading
-pub mod Rows
-pub mod Series
+pub mod Objects
+pub mod Arrays
+mod Names
+pub mod Frames

@@ -1,7 +1,4 @@
-pub mod Escapes
-pub mod Front
-pub mod Strings
-pub mod Tree
-pub mod State
-pub mod Rows
-pub mod Buffered
+pub mod Feeds
+pub mod Elements
+pub mod Trees
+pub mod Writing

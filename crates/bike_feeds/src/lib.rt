@@ -1,19 +1,32 @@
-//! JSON as the public feeds carry it: written a token at a time, without memory.
+//! The feeds (GBFS v3.0): their trees over the operator, and their texts written part by part.
 //!
-//! What is written is a front of one value's text (RFC 8259) at every moment, and the whole text once the
-//! value is ended. A function that writes a value takes the state and a writer beside it, and its contract
-//! names the value; over a writer that only counts, the same function gives the text's length.
+//! A feed's text depends on the operator, the feed and the moment that is asked for. `write_gbfs` and
+//! `write_system_information` write whole feeds. Of each other feed `open_list` writes what stands before the
+//! elements of its list, `write_type`, `write_station`, `write_status` or `write_plan` an element, and `close_list`
+//! what stands behind them; `list_text_laws` says that these together are the feed's text. So a caller needs no more than
+//! one element at a time. Nothing here takes memory.
+//!
+//! Each function takes the state of the text and the writer beside it, and fails as the calls of `JsonState` do: after a failed
+//! write nothing more is written, so what was written is a front of the text.
 #![tactic(auto)]
 
-mod buffer;
-mod escape;
+mod feed;
+mod frame;
+mod gbfs;
 mod laws;
-mod level;
-mod state;
-mod writer;
+mod members;
+mod plan;
+mod station;
+mod status;
+mod system;
+mod vehicle_type;
 
-pub use buffer::TokenBuffer;
-pub use laws::{string_laws, text_laws};
-pub use level::Level;
-pub use state::JsonState;
-pub use writer::JsonWriter;
+pub use feed::Feed;
+pub use frame::{close_list, open_list};
+pub use gbfs::write_gbfs;
+pub use laws::{feed_name_laws, list_text_laws};
+pub use plan::write_plan;
+pub use station::write_station;
+pub use status::{Counts, StationReport, TypeCount, write_status};
+pub use system::write_system_information;
+pub use vehicle_type::write_type;

@@ -1,6 +1,6 @@
 -- The rows that the tests write.
 use Rattle.std.specs.Prelude.{ℤ, codes}
-use Rattle.bike_feeds.specs.Tree.{Tree, object, whole, no_members, member}
+use Rattle.bike_json.specs.Tree.{Tree, object, whole, no_members, member}
 
 -- a row with its number
 abbrev pub numbered : ℤ → Tree

@@ -3,11 +3,11 @@ ghost use Rattle.std.specs.Prelude.{◌≡◌, ◌<◌, ◌++◌, ◌∷◌, [],
 ghost use Rattle.std.specs.Io.KnownBytes.{Appends};
 ghost use Rattle.bike_stream.specs.Writing.{AppendsFront};
 ghost use Rattle.bike_stream_examples.specs.Numbered.{numbered};
-ghost use Rattle.bike_feeds.specs.Rows.{items, WroteFront};
-ghost use Rattle.bike_feeds.specs.State.{Wrote, IsAt, takes_value, takes_array_end, has_more, after_value};
-ghost use Rattle.bike_feeds.specs.Tree.{comma, text_of, items_text, array};
+ghost use Rattle.bike_json.specs.Rows.{items, WroteFront};
+ghost use Rattle.bike_json.specs.State.{Wrote, IsAt, takes_value, takes_array_end, has_more, after_value};
+ghost use Rattle.bike_json.specs.Tree.{comma, text_of, items_text, array};
 
-use bike_feeds::{JsonState, Level};
+use bike_json::{JsonState, Level};
 use std::io;
 use std::io::Write;
 

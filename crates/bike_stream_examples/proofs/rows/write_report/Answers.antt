@@ -1,6 +1,6 @@
 use Rattle.std.proofs.Common.{◌∷◌, [], refl, arith}
-use Rattle.bike_feeds.proofs.Series.{Wrote_then, Wrote_err}
-use Rattle.bike_feeds.proofs.Rows.{cut_short}
+use Rattle.bike_json.proofs.Series.{Wrote_then, Wrote_err}
+use Rattle.bike_json.proofs.Rows.{cut_short}
 use Rattle.bike_stream_examples.proofs.rows.write_report.Goals as goal
 
 pub returns-in-Err-outcome-clause-err : goal.returns-in-Err-outcome-clause-err

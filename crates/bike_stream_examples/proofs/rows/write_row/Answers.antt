@@ -1,6 +1,6 @@
 use Rattle.std.proofs.Common.{append_assoc, append-nil, w64}
 use Rattle.std.proofs.lemmas.Int.{to_z-of_z}
-use Rattle.bike_feeds.proofs.Series.{Wrote_then, Wrote_as}
+use Rattle.bike_json.proofs.Series.{Wrote_then, Wrote_as}
 use Rattle.bike_stream_examples.proofs.rows.write_row.Goals as goal
 
 pub returns-clause-wrote : goal.returns-clause-wrote

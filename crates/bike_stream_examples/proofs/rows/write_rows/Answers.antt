@@ -1,7 +1,7 @@
 use Rattle.std.proofs.Common.{rules, w64, FitsSigned}
 use Rattle.std.proofs.lemmas.Int.{to_z-of_z}
 use Rattle.bike_stream_examples.specs.Numbered.{numbered}
-use Rattle.bike_feeds.proofs.Rows.{rows_next}
+use Rattle.bike_json.proofs.Rows.{rows_next}
 use Rattle.bike_stream_examples.proofs.rows.write_rows.Goals as goal
 
 pub loop-row-preserved : goal.loop-row-preserved

@@ -1,6 +1,6 @@
 use Rattle.std.proofs.Common.{length}
 use Rattle.bike_stream_examples.specs.Numbered.{numbered}
-use Rattle.bike_feeds.proofs.Rows.{SoFar}
+use Rattle.bike_json.proofs.Rows.{SoFar}
 use Rattle.bike_stream_examples.proofs.rows.write_rows.Given as goal
 
 abbrev pub invariant-loop-row : goal.invariant-loop-row

@@ -1,5 +1,0 @@
-use Rattle.bike_feeds.proofs.Reading.{string_back}
-use Rattle.bike_feeds.proofs.laws.string_laws.Goals as goal
-
-pub returns : goal.returns
-returns c = string_back

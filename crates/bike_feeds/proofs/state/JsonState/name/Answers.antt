@@ -1,9 +1,0 @@
-use Rattle.std.proofs.Common.{ap}
-use Rattle.bike_feeds.proofs.Series.{Wrote_then, Wrote_settled}
-use Rattle.bike_feeds.specs.State.{Place}
-use Rattle.bike_feeds.proofs.state.JsonState.name.Goals as goal
-
-pub returns-clause-wrote : goal.returns-clause-wrote
-returns-clause-wrote g c =
-    Wrote_settled (Wrote_then (Wrote_then c.separate.ensures.wrote c.quoted.ensures.wrote) c.emit.ensures.wrote) (ap (λ (p : Place). p.failed) c.self-2.view_is) (ap (λ (p : Place). p.count) c.self-2.view_is) c.settle.ensures.failed
-    (ap (λ (p : Place). p.count) c.self.view_is) c.settle.ensures.count

@@ -1,0 +1,9 @@
+use Rattle.std.proofs.Common.{ap}
+use Rattle.bike_json.proofs.Series.{Wrote_then, Wrote_settled}
+use Rattle.bike_json.specs.State.{Place}
+use Rattle.bike_json.proofs.state.JsonState.text.Goals as goal
+
+pub returns-clause-wrote : goal.returns-clause-wrote
+returns-clause-wrote g c =
+    Wrote_settled (Wrote_then c.separate.ensures.wrote c.quoted.ensures.wrote) (c.end_value.ensures.failed) (c.end_value.ensures.count) c.settle.ensures.failed
+    (ap (λ (p : Place). p.count) c.self.view_is) c.settle.ensures.count

@@ -1,0 +1,7 @@
+pub mod Escapes
+pub mod Front
+pub mod Strings
+pub mod Tree
+pub mod State
+pub mod Rows
+pub mod Buffered

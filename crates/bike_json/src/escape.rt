@@ -1,0 +1,47 @@
+//! The escapes of a JSON string (RFC 8259, section 7).
+
+ghost use Rattle.std.specs.Prelude.{◌≡◌, ◌<◌, ◌≤◌, ◌∷◌, [], take};
+ghost use Rattle.bike_json.specs.Escapes.{escaped_byte, hex_digit as hex_digit_of};
+
+/// Puts the escape of a byte at the front of `buf` and gives its length; 0 for a byte that stands for itself.
+#[tactic(auto, unfolding(crate::specs::Escapes::escaped_byte))]
+pub(crate) fn escape(byte: u8, buf: &mut [u8; 6]) -> usize
+    ensures within { result ≤ 6 }
+    ensures escape { 0 < result → take result buf.new ≡ escaped_byte byte }
+    ensures plain { result ≡ 0 → escaped_byte byte ≡ byte ∷ [] }
+{
+    let letter = match byte {
+        b'"' => b'"',
+        b'\\' => b'\\',
+        0x08 => b'b',
+        0x09 => b't',
+        0x0a => b'n',
+        0x0c => b'f',
+        0x0d => b'r',
+        0..=31 => {
+            *buf = [
+                b'\\',
+                b'u',
+                b'0',
+                b'0',
+                hex_digit(byte / 16),
+                hex_digit(byte % 16),
+            ];
+            return 6;
+        }
+        _ => return 0,
+    };
+    *buf = [b'\\', letter, 0, 0, 0, 0];
+    2
+}
+
+fn hex_digit(digit: u8) -> u8
+    requires { digit < 16 }
+    ensures { result ≡ hex_digit_of digit }
+{
+    if digit < 10 {
+        b'0' + digit
+    } else {
+        b'a' - 10 + digit
+    }
+}
