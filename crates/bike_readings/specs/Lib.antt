@@ -1,0 +1,3 @@
+pub mod ColumnReaders
+pub mod Readings
+pub mod Bounds
