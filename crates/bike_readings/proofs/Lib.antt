@@ -1,0 +1,6 @@
+pub mod ColumnLaws
+pub mod ChainLaws
+pub mod CatalogueRows
+pub mod FleetRows
+pub mod LedgerRows
+pub mod SoundBounds
