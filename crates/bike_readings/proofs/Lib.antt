@@ -4,3 +4,5 @@ pub mod CatalogueRows
 pub mod FleetRows
 pub mod LedgerRows
 pub mod SoundBounds
+pub mod TextUtf8
+pub mod KeptRows

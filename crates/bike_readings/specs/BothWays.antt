@@ -2,13 +2,16 @@
 use Rattle.std.specs.Prelude.{◌≡◌, ℕ, ℤ, List, [], Bool, Option, Some}
 use Rattle.sqlite_value.specs.Order.{Row}
 use Rattle.bike_catalogue.specs.Rows.{SegmentRow, PlanRow, TypeRow, SystemRow, IsSystem}
+use Rattle.bike_commands.specs.Commands.{text_of}
+use Rattle.bike_commands.specs.Replies.{reply_text}
 use Rattle.bike_ledger.specs.Entries.{Entry}
 use Rattle.bike_operator.specs.declared.records.Bike.{Bike}
 use Rattle.bike_operator.specs.declared.records.Rental.{Rental}
 use Rattle.bike_operator.specs.declared.records.Order.{Order}
-use Rattle.bike_operator.specs.Operator.{Station, Truck, Rider}
-use Rattle.bike_book.specs.Rows.{meta_row, system_row, plan_row, segment_row, type_row, station_row, dock_row, bike_row, truck_row, rider_row, rental_row, order_row, entry_row, count_row}
-use Rattle.bike_readings.specs.Readings.{meta_read, system_read, plan_read, segment_read, type_read, station_read, dock_read, bike_read, truck_read, rider_read, rental_read, order_read, entry_read, count_read}
+use Rattle.bike_operator.specs.Operator.{Station, Truck, Rider, Key, Kept}
+use Rattle.bike_operator.specs.Sound.{IsKept}
+use Rattle.bike_book.specs.Rows.{meta_row, system_row, plan_row, segment_row, type_row, station_row, dock_row, bike_row, truck_row, rider_row, rental_row, order_row, entry_row, kept_row, count_row, first_text, second_text}
+use Rattle.bike_readings.specs.Readings.{meta_read, system_read, plan_read, segment_read, type_read, station_read, dock_read, bike_read, truck_read, rider_read, rental_read, order_read, entry_read, kept_read, count_read}
 use Rattle.bike_readings.specs.Bounds.{IsNumbered, IsStoredMeta, IsStoredPlan, IsStoredSegment, IsStoredType, IsStoredStation, IsStoredDock, IsStoredBike, IsStoredTruck, IsStoredRental, IsStoredOrder, IsStoredEntry, IsStoredCount}
 
 -- The reader gives exactly the values within their bounds of which rows are made.
@@ -58,3 +61,8 @@ EntryReading = IsReading entry_read (λ (e : Entry). entry_row e.number e) IsSto
 
 abbrev pub CountReading : Type 0
 CountReading = IsReading count_read (λ (x : List ℕ × List ℕ × ℕ × ℕ). count_row x.0 x.1 x.2 x.3) (λ x. IsStoredCount x.0 x.1 x.2 x.3)
+
+-- a kept request under the texts of its caller and key
+abbrev pub KeptReading : Type 0
+KeptReading =
+    IsReading kept_read (λ (x : Key × Kept). kept_row (first_text x.0) (second_text x.0) (text_of x.1.command) (reply_text x.1.reply)) (λ x. IsKept x.0 x.1)
