@@ -1,0 +1,141 @@
+-- The bounds that the records of stored rows keep, each of which the row alone tells.
+use Rattle.std.specs.Prelude.{◌≡◌, ℕ, ℤ, pos, ◌≤◌, ◌≤ℤ◌, List, true, Option, Some, None}
+use Rattle.bike_fixed.specs.Whole.{last_moment}
+use Rattle.bike_fields.specs.Bytes.{is_ident}
+use Rattle.bike_catalogue.specs.Rows.{SegmentRow, PlanRow, TypeRow, IsSegment, IsPlan, IsType, IsStation}
+use Rattle.bike_ledger.specs.Entries.{Entry, greatest_amount}
+use Rattle.bike_ledger.specs.declared.entry.EntryKind.{EntryKind}
+use Rattle.bike_ledger.specs.declared.entry.EntryKind.TheVariants.{TopUp, Fare, Refund}
+use Rattle.bike_texts.specs.Fields.{IsEnd}
+use Rattle.bike_operator.specs.declared.records.Place.{Place}
+use Rattle.bike_operator.specs.declared.records.Place.TheVariants as place
+use Rattle.bike_operator.specs.declared.records.Bike.{Bike}
+use Rattle.bike_operator.specs.declared.records.Rental.{Rental}
+use Rattle.bike_operator.specs.declared.records.Closing.{Closing}
+use Rattle.bike_operator.specs.declared.records.Order.{Order}
+use Rattle.bike_operator.specs.Operator.{Station, Truck}
+use Rattle.bike_operator.specs.Sound.{IsPayment}
+use Rattle.bike_readings.specs.ColumnReaders.{greatest_count}
+
+-- ---- numbers
+
+abbrev pub IsWithin : ℕ → ℕ → ℕ → Type 0
+IsWithin lo hi n = (lo ≤ n) × (n ≤ hi)
+
+-- riders, bicycles and trucks; docks; rentals, orders and entries
+abbrev pub IsNumbered : ℕ → Type 0
+IsNumbered = IsWithin 1 999999
+
+abbrev pub IsDockNumber : ℕ → Type 0
+IsDockNumber = IsWithin 1 200
+
+abbrev pub IsSerial : ℕ → Type 0
+IsSerial = IsWithin 1 100000000
+
+abbrev pub IsCount : ℕ → Type 0
+IsCount n = n ≤ greatest_count
+
+abbrev pub IsMoment : ℕ → Type 0
+IsMoment n = n ≤ last_moment
+
+abbrev pub IsFare : ℤ → Type 0
+IsFare z = (pos 0 ≤ℤ z) × (z ≤ℤ greatest_amount)
+
+-- ---- records
+
+pub record IsStoredMeta (version now : ℕ) : Type 0 where
+  pub good_version : IsWithin 1 greatest_count version
+  pub good_now : IsMoment now
+
+pub record IsStoredPlan (id : List ℕ) (p : PlanRow) : Type 0 where
+  pub id_is : id ≡ p.plan_id
+  pub good : IsPlan p
+
+pub record IsStoredSegment (plan : List ℕ) (seq : ℕ) (g : SegmentRow) : Type 0 where
+  pub good_plan : is_ident plan ≡ true
+  pub good_seq : IsWithin 1 8 seq
+  pub good : IsSegment g
+
+pub record IsStoredType (id : List ℕ) (t : TypeRow) : Type 0 where
+  pub id_is : id ≡ t.type_id
+  pub good : IsType t
+
+pub record IsStoredStation (id : List ℕ) (x : Station) (broken : ℕ) : Type 0 where
+  pub id_is : id ≡ x.row.station_id
+  pub good : IsStation x.row
+  pub reported : IsMoment x.reported
+  pub good_broken : IsCount broken
+
+pub record IsStoredDock (station : List ℕ) (dock : ℕ) : Type 0 where
+  pub good_station : is_ident station ≡ true
+  pub good_dock : IsDockNumber dock
+
+abbrev pub IsStoredPlace : Place → Type 0
+IsStoredPlace (place.Dock station dock) = IsStoredDock station dock
+IsStoredPlace (place.Rental rental) = IsSerial rental
+IsStoredPlace (place.Truck truck order) = IsNumbered truck × IsSerial order
+IsStoredPlace place.Depot = Unit {0}
+
+pub record IsStoredBike (number : ℕ) (b : Bike) : Type 0 where
+  pub good_number : IsNumbered number
+  pub type_id : is_ident b.type_id ≡ true
+  pub place : IsStoredPlace b.place
+
+pub record IsStoredTruck (number : ℕ) (t : Truck) : Type 0 where
+  pub good_number : IsNumbered number
+  pub capacity : IsWithin 1 60 t.capacity
+
+abbrev pub IsStop : Option (List ℕ) → Type 0
+IsStop None = Unit {0}
+IsStop (Some station) = is_ident station ≡ true
+
+pub record IsStoredClosing (c : Closing) : Type 0 where
+  pub to_station : IsStop c.to_station
+  pub finish : IsMoment c.finish
+  pub fare : IsFare c.fare
+
+abbrev pub IsOpenOrStored : Option Closing → Type 0
+IsOpenOrStored None = Unit {0}
+IsOpenOrStored (Some c) = IsStoredClosing c
+
+pub record IsStoredRental (number : ℕ) (r : Rental) : Type 0 where
+  pub good_number : IsSerial number
+  pub rider : IsNumbered r.rider
+  pub bike : IsNumbered r.bike
+  pub plan : is_ident r.plan ≡ true
+  pub from_station : is_ident r.from_station ≡ true
+  pub start : IsMoment r.start
+  pub closing : IsOpenOrStored r.closing
+
+pub record IsStoredOrder (number : ℕ) (o : Order) : Type 0 where
+  pub good_number : IsSerial number
+  pub truck : IsNumbered o.truck
+  pub from_end : IsEnd o.from_end
+  pub to_end : IsEnd o.to_end
+  pub type_id : is_ident o.type_id ≡ true
+  pub count : IsWithin 1 60 o.count
+  pub delivered : o.delivered ≤ 60
+
+-- the rental of an entry of the kind, and its amount
+abbrev pub IsStoredRentalOf : EntryKind → ℕ → Type 0
+IsStoredRentalOf TopUp rental = rental ≡ 0
+IsStoredRentalOf Fare rental = IsSerial rental
+IsStoredRentalOf Refund rental = IsSerial rental
+
+abbrev pub IsStoredAmount : EntryKind → ℤ → Type 0
+IsStoredAmount TopUp amount = IsPayment amount
+IsStoredAmount Fare amount = IsFare amount
+IsStoredAmount Refund amount = IsPayment amount
+
+pub record IsStoredEntry (e : Entry) : Type 0 where
+  pub number : IsSerial e.number
+  pub rider : IsNumbered e.rider
+  pub rental : IsStoredRentalOf e.kind e.rental
+  pub amount : IsStoredAmount e.kind e.amount
+  pub at : IsMoment e.at
+
+pub record IsStoredCount (station type_id : List ℕ) (available disabled : ℕ) : Type 0 where
+  pub good_station : is_ident station ≡ true
+  pub good_type : is_ident type_id ≡ true
+  pub good_available : IsCount available
+  pub good_disabled : IsCount disabled

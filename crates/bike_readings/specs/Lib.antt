@@ -1,0 +1,4 @@
+pub mod ColumnReaders
+pub mod Readings
+pub mod Bounds
+pub mod BothWays
