@@ -1,2 +1,5 @@
 pub mod ReadLists
 pub mod Places
+pub mod ReadingLaws
+pub mod ReadBack
+pub mod Segments
