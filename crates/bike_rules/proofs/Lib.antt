@@ -5,3 +5,5 @@ pub mod ReadBack
 pub mod Segments
 pub mod SoundBounds
 pub mod Broken
+pub mod RowRules
+pub mod ReadOffBack
