@@ -7,3 +7,5 @@ pub mod SoundBounds
 pub mod Broken
 pub mod RowRules
 pub mod ReadOffBack
+pub mod Fares
+pub mod GoodRows

@@ -31,7 +31,7 @@ use Rattle.bike_rules.proofs.Segments.{segments_back}
 use Rattle.bike_rules.proofs.Broken.{broken_back}
 use Rattle.bike_rules.proofs.SoundBounds.{meta_bounds, ident_of_plan, dock_bounds, type_bounds, station_bounds, bike_bounds, truck_bounds, rider_bounds, rental_bounds, order_bounds, entry_bounds, count_bounds}
 
-segment_good : (gs : List SegmentRow) → AreSegments gs → (i : ℕ) (g : SegmentRow) → item_at i gs ≡ Some g → IsSegment g
+pub segment_good : (gs : List SegmentRow) → AreSegments gs → (i : ℕ) (g : SegmentRow) → item_at i gs ≡ Some g → IsSegment g
 segment_good [] good i g found = absurd cc
 segment_good (x ∷ gs) good zero g found = let same : x ≡ g = cc in subst IsSegment same good.0
 segment_good (x ∷ gs) good (suc i) g found = segment_good gs good.1 i g found
