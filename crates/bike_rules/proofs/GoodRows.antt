@@ -98,13 +98,9 @@ module _ (laws : AreReadings) (s : Operator) (m : Listed) (sound : IsSound s) (l
 
   -- ---- rentals and entries
 
-  fare_booked : (number : ℕ) (c : Option Closing) → fares_of number s.entries ≡ fares_in c → HasFare s 0 number c
+  fare_booked : (number : ℕ) (c : Option Closing) → fares_of number s.entries ≡ fares_in c → HasFare s number c
   fare_booked number None booked = tt
   fare_booked number (Some c) booked = let one : length (fares_of number s.entries) ≡ 1 = ap (λ (zs : List ℤ). length zs) booked in omega (arith, one)
-
-  same_fare : (below number : ℕ) (c : Option Closing) → HasFare s 0 number c → HasFare s below number c
-  same_fare below number None h = tt
-  same_fare below number (Some c) h = h
 
   rental_good : (n : ℕ) (r : Rental) (below : ℕ) → numbered n s.rentals ≡ Some r → n ≡ below + 1 → IsSomeAnd (rental_read (stored_rental s.entries (n, r))) (IsGoodRental s below)
   rental_good n r below found place =
@@ -117,7 +113,7 @@ module _ (laws : AreReadings) (s : Operator) (m : Listed) (sound : IsSound s) (l
         from_is = it.from_is;
         by_now = it.by_now;
         closing = it.closing;
-        booked = same_fare below n r.closing (fare_booked n r.closing it.booked);
+        booked = fare_booked n r.closing it.booked;
         refunded_is = refl;
         refunded = it.refunded;
       })
@@ -128,7 +124,7 @@ module _ (laws : AreReadings) (s : Operator) (m : Listed) (sound : IsSound s) (l
     go (inl same) = same
     go (inr none) = elim none [ ]
 
-  fare_good : (n : ℕ) (e : Entry) (below : ℕ) → numbered n s.entries ≡ Some e → e.number ≡ n → (k : EntryKind) → e.kind ≡ k → IsBooking s e k → IsOneFare s below e k
+  fare_good : (n : ℕ) (e : Entry) (below : ℕ) → numbered n s.entries ≡ Some e → e.number ≡ n → (k : EntryKind) → e.kind ≡ k → IsBooking s e k → IsOneFare s e k
   fare_good n e below found number TopUp kind b = tt
   fare_good n e below found number Refund kind b = tt
   fare_good n e below found number Fare kind b =

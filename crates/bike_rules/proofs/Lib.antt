@@ -9,3 +9,5 @@ pub mod RowRules
 pub mod ReadOffBack
 pub mod Fares
 pub mod GoodRows
+pub mod ReadRows
+pub mod TablesRead

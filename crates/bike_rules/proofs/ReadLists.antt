@@ -107,6 +107,7 @@ module _ {K X : Type 0} {R : K → K → Ordering} {keys : ℕ} {key_row : K →
     -- The rows are those of a map, each under its key.
     pub record AreRowsOf (read : Row → Option (K × X)) (rows : List Row) (m : FinMap R X) : Type 0 where
       pub rows_are : rows ≡ map row (fin.entries m)
+      pub entries_are : fin.entries m ≡ filter_map read rows
       pub found : (k : K) (v : X) → fin.get m k ≡ Some v → IsRead read rows (k, v)
 
     -- rows in the order of their keys, each of which spells an entry that is stored as it, are those of the map of these entries
@@ -120,6 +121,7 @@ module _ {K X : Type 0} {R : K → K → Ordering} {keys : ℕ} {key_row : K →
         let listed : fin.entries (fin.from_sorted {R = R} es) ≡ es = fin.entries-from_sorted R es sorted in
         record {
           rows_are = sym same ∙ ap (map row) (sym listed);
+          entries_are = listed;
           found = λ k v is. read_of read rows (k, v) (find_has k v es (sym (fin.get-from_sorted R es k sorted) ∙ is));
         }
 

@@ -35,6 +35,42 @@ use Rattle.bike_operator.specs.Sound.{IsTypeAt, IsStationAt, HasDock, IsBikeAt, 
 use Rattle.bike_counts.specs.Numbers.{disabled_of}
 use Rattle.bike_book.specs.declared.version.TheConstants.{NEWEST}
 
+module _ (s : Operator) where
+  -- no bicycle of a lesser number is in this one's dock
+  abbrev pub IsAloneInDock : ℕ → Bike → Type 0
+  IsAloneInDock number b =
+      (other : ℕ) (x : Bike) (station : List ℕ) (dock : ℕ) → other < number → fin.get s.bikes other ≡ Some x → x.place ≡ place.Dock station dock → b.place ≡ place.Dock station dock → ⊥
+
+  -- an open rental of the rider, with its number
+  pub record IsRiding (rider number : ℕ) : Type 0 where
+    pub row : Rental
+    pub found : numbered number s.rentals ≡ Some row
+    pub not_closed : is_open row ≡ true
+    pub rider_is : row.rider ≡ rider
+
+  -- a closed rental has a Fare entry
+  abbrev pub HasFare : ℕ → Option Closing → Type 0
+  HasFare number None = Unit {0}
+  HasFare number (Some c) = 1 ≤ length (fares_of number s.entries)
+
+  -- the rental was closed at this fare
+  pub record IsFareOf (rental : ℕ) (amount : ℤ) : Type 0 where
+    pub row : Rental
+    pub closing : Closing
+    pub found : numbered rental s.rentals ≡ Some row
+    pub closed : row.closing ≡ Some closing
+    pub fare_is : amount ≡ closing.fare
+
+  -- no entry of a lesser number is a fare of the rental
+  abbrev pub IsFirstFare : ℕ → ℕ → Type 0
+  IsFirstFare number rental = (other : ℕ) (x : Entry) → other < number → numbered other s.entries ≡ Some x → x.kind ≡ Fare → x.rental ≡ rental → ⊥
+
+  -- a fare is its rental's, and the first of it
+  abbrev pub IsOneFare : Entry → EntryKind → Type 0
+  IsOneFare e TopUp = Unit {0}
+  IsOneFare e Fare = IsFareOf e.rental e.amount × IsFirstFare e.number e.rental
+  IsOneFare e Refund = Unit {0}
+
 module _ (s : Operator) (below : ℕ) where
   -- ---- the system and the catalogue
 
@@ -68,39 +104,22 @@ module _ (s : Operator) (below : ℕ) where
 
   -- ---- bicycles, trucks and riders
 
-  -- no bicycle of a lesser number is in this one's dock
-  abbrev pub IsAloneInDock : ℕ → Bike → Type 0
-  IsAloneInDock number b =
-      (other : ℕ) (x : Bike) (station : List ℕ) (dock : ℕ) → other < number → fin.get s.bikes other ≡ Some x → x.place ≡ place.Dock station dock → b.place ≡ place.Dock station dock → ⊥
-
   pub record IsGoodBike (e : ℕ × Bike) : Type 0 where
     pub room : below < MOST_BIKES
     pub good : IsBikeAt s e.0 e.1
-    pub alone : IsAloneInDock e.0 e.1
+    pub alone : IsAloneInDock s e.0 e.1
 
   pub record IsGoodTruck (e : ℕ × Truck) : Type 0 where
     pub room : below < MOST_TRUCKS
     pub good : IsTruckAt s e.0 e.1
 
-  -- an open rental of the rider, with its number
-  pub record IsRiding (rider number : ℕ) : Type 0 where
-    pub row : Rental
-    pub found : numbered number s.rentals ≡ Some row
-    pub not_closed : is_open row ≡ true
-    pub rider_is : row.rider ≡ rider
-
   pub record IsGoodRider (e : ℕ × Rider × ℤ) : Type 0 where
     pub room : below < MOST_RIDERS
     pub good : IsRiderNumber e.0
     pub balance_is : e.2 ≡ balance_of e.0 s.entries
-    pub riding_once : (a b : ℕ) → IsRiding e.0 a → IsRiding e.0 b → a ≡ b
+    pub riding_once : (a b : ℕ) → IsRiding s e.0 a → IsRiding s e.0 b → a ≡ b
 
   -- ---- rentals and orders
-
-  -- a closed rental has a Fare entry
-  abbrev pub HasFare : ℕ → Option Closing → Type 0
-  HasFare number None = Unit {0}
-  HasFare number (Some c) = 1 ≤ length (fares_of number s.entries)
 
   pub record IsGoodRental (e : ℕ × Rental × ℤ) : Type 0 where
     pub number_is : e.0 ≡ below + 1
@@ -110,7 +129,7 @@ module _ (s : Operator) (below : ℕ) where
     pub from_is : fin.contains_key s.stations e.1.from_station ≡ true
     pub by_now : e.1.start ≤ s.now
     pub closing : IsOpenOrClosed s e.0 e.1 e.1.closing
-    pub booked : HasFare e.0 e.1.closing
+    pub booked : HasFare s e.0 e.1.closing
     pub refunded_is : e.2 ≡ refunded_of e.0 s.entries
     pub refunded : refunded_of e.0 s.entries ≤ℤ most_refunded e.1.closing
 
@@ -121,29 +140,11 @@ module _ (s : Operator) (below : ℕ) where
 
   -- ---- entries, kept requests and counts
 
-  -- the rental was closed at this fare
-  pub record IsFareOf (rental : ℕ) (amount : ℤ) : Type 0 where
-    pub row : Rental
-    pub closing : Closing
-    pub found : numbered rental s.rentals ≡ Some row
-    pub closed : row.closing ≡ Some closing
-    pub fare_is : amount ≡ closing.fare
-
-  -- no entry of a lesser number is a fare of the rental
-  abbrev pub IsFirstFare : ℕ → ℕ → Type 0
-  IsFirstFare number rental = (other : ℕ) (x : Entry) → other < number → numbered other s.entries ≡ Some x → x.kind ≡ Fare → x.rental ≡ rental → ⊥
-
-  -- a fare is its rental's, and the first of it
-  abbrev pub IsOneFare : Entry → EntryKind → Type 0
-  IsOneFare e TopUp = Unit {0}
-  IsOneFare e Fare = IsFareOf e.rental e.amount × IsFirstFare e.number e.rental
-  IsOneFare e Refund = Unit {0}
-
   pub record IsGoodEntry (e : Entry) : Type 0 where
     pub number_is : e.number ≡ below + 1
     pub room : below + open_rentals s < MOST_ENTRIES
     pub good : IsEntryAt s e.number e
-    pub fare : IsOneFare e e.kind
+    pub fare : IsOneFare s e e.kind
 
   abbrev pub IsGoodKept : Key × Kept → Type 0
   IsGoodKept e = IsKept e.0 e.1
