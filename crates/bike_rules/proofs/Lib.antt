@@ -1,0 +1,13 @@
+pub mod ReadLists
+pub mod Places
+pub mod ReadingLaws
+pub mod ReadBack
+pub mod Segments
+pub mod SoundBounds
+pub mod Broken
+pub mod RowRules
+pub mod ReadOffBack
+pub mod Fares
+pub mod GoodRows
+pub mod ReadRows
+pub mod TablesRead

@@ -1,0 +1,4 @@
+pub mod ReadOff
+pub mod Demands
+pub mod Rules
+pub mod Laws

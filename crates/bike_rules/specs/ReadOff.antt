@@ -1,0 +1,106 @@
+-- The operator that is read off tables, and which docks and counts have a row there: what the rows spell. A row that spells nothing is absent.
+-- No sum and no count is read: they are figures of the records.
+use Rattle.std.specs.Prelude.{◌≡◌, ℕ, zero, suc, List, [], ◌∷◌, map, if◌then◌else◌, Option, Some, None, option_map, option_and_then, unwrap_or}
+use Rattle.std.specs.List.{filter_map, cons_option}
+use Rattle.std.specs.FinMap as fin
+use Rattle.std.specs.FinSet as set
+use Rattle.sqlite_value.specs.declared.value.Value.TheVariants.{Text}
+use Rattle.sqlite_value.specs.Order.{Row}
+use Rattle.bike_catalogue.specs.Rows.{SegmentRow, PlanRow}
+use Rattle.bike_ledger.specs.Entries.{Entry}
+use Rattle.bike_operator.specs.declared.records.Rental.{Rental}
+use Rattle.bike_operator.specs.Operator.{Operator, Station, Rider, Key, DockKey, key_of, dock_key}
+use Rattle.bike_rows.specs.View.{row_with}
+use Rattle.bike_book.specs.Tables.{Tables}
+use Rattle.bike_book.specs.Rows.{number_value}
+use Rattle.bike_book.specs.Stored.{Listed}
+use Rattle.bike_readings.specs.Readings.{meta_read, system_read, plan_read, segment_read, type_read, station_read, dock_read, bike_read, truck_read, rider_read, rental_read, order_read, entry_read, kept_read, count_read}
+
+abbrev pub first : {A : Type 0} → List A → Option A
+first [] = None
+first (x ∷ xs) = Some x
+
+-- ---- plans with their segments
+
+-- a plan has at most so many segments
+abbrev pub most_segments : ℕ
+most_segments = 8
+
+-- the segment with this number of a plan, by its row
+abbrev pub segment_at : List Row → List ℕ → ℕ → Option SegmentRow
+segment_at rows plan seq = option_map (λ g. g.2) (option_and_then segment_read (row_with 2 (Text plan ∷ number_value seq ∷ []) rows))
+
+-- a segment and those after it, and none where it is missing
+abbrev pub and_after : Option SegmentRow → List SegmentRow → List SegmentRow
+and_after None after = []
+and_after (Some g) after = g ∷ after
+
+-- the segments of a plan from a number on, at most so many: up to the first number that is missing
+unfoldable pub segments_from : List Row → List ℕ → ℕ → ℕ → List SegmentRow
+segments_from rows plan seq zero = []
+segments_from rows plan seq (suc most) = and_after (segment_at rows plan seq) (segments_from rows plan (suc seq) most)
+
+abbrev pub segments_of : List Row → List ℕ → List SegmentRow
+segments_of rows plan = segments_from rows plan 1 most_segments
+
+abbrev pub with_segments : List Row → List ℕ × PlanRow → List ℕ × PlanRow
+with_segments segments e = (e.0, record e.1 { segments = segments_of segments e.0 })
+
+-- ---- records, without the stored numbers beside them
+
+abbrev pub plan_in : List Row → Row → Option (List ℕ × PlanRow)
+plan_in segments row = option_map (with_segments segments) (plan_read row)
+
+abbrev pub station_in : Row → Option (List ℕ × Station)
+station_in row = option_map (λ e. (e.0, e.1)) (station_read row)
+
+abbrev pub rider_in : Row → Option (ℕ × Rider)
+rider_in row = option_map (λ e. (e.0, e.1)) (rider_read row)
+
+abbrev pub rental_in : Row → Option (ℕ × Rental)
+rental_in row = option_map (λ e. (e.0, e.1)) (rental_read row)
+
+abbrev pub entry_in : Row → Option (ℕ × Entry)
+entry_in row = option_map (λ e. (e.number, e)) (entry_read row)
+
+-- ---- docks and counts
+
+-- the dock that has the row
+abbrev pub dock_in : Row → Option (DockKey × Unit {0})
+dock_in row = option_map (λ e. (dock_key e.0 e.1, tt)) (dock_read row)
+
+-- .. where it is broken
+abbrev pub broken_in : Row → Option DockKey
+broken_in row = option_and_then (λ e. if e.2 then Some (dock_key e.0 e.1) else None) (dock_read row)
+
+-- the station and the type that have the row
+abbrev pub count_in : Row → Option (Key × Unit {0})
+count_in row = option_map (λ e. (key_of e.0 e.1, tt)) (count_read row)
+
+-- ---- the operator
+
+-- the moment of the one row of meta, and 0 where there is none
+abbrev pub moment_of : List Row → ℕ
+moment_of rows = unwrap_or (option_map (λ e. e.1) (first (filter_map meta_read rows))) 0
+
+-- THE OPERATOR THAT IS READ OFF TABLES
+abbrev pub operator_of : Tables → Operator
+operator_of t = record {
+  system = first (filter_map system_read t.system);
+  plans = fin.from_sorted (filter_map (plan_in t.segments) t.plans);
+  types = fin.from_sorted (filter_map type_read t.types);
+  stations = fin.from_sorted (filter_map station_in t.stations);
+  broken = set.from_list (filter_map broken_in t.docks);
+  bikes = fin.from_sorted (filter_map bike_read t.bikes);
+  trucks = fin.from_sorted (filter_map truck_read t.trucks);
+  riders = fin.from_sorted (filter_map rider_in t.riders);
+  rentals = map (λ e. e.1) (filter_map rental_in t.rentals);
+  orders = map (λ e. e.1) (filter_map order_read t.orders);
+  entries = map (λ e. e.1) (filter_map entry_in t.entries);
+  kept = fin.from_sorted (filter_map kept_read t.kept);
+  now = moment_of t.meta;
+}
+
+-- which docks and which counts have a row
+abbrev pub listed_of : Tables → Listed
+listed_of t = record { docks = fin.from_sorted (filter_map dock_in t.docks); counts = fin.from_sorted (filter_map count_in t.counts) }

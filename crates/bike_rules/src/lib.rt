@@ -1,0 +1,2 @@
+//! The rules by which tables stand for an operator.
+#![tactic(auto)]
