@@ -1,0 +1,4 @@
+mod SumLaw
+mod TextLemmas
+mod InfoLemmas
+mod TypeLemmas

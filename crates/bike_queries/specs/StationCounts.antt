@@ -1,0 +1,56 @@
+-- The counts of a station, as GBFS's `station_status` has them.
+use Rattle.std.specs.Prelude.{◌≡◌, ◌+◌, ◌++◌, [], ◌∷◌, ℕ, List, map, Option, Some, None}
+use Rattle.std.specs.List.{sum_by}
+use Rattle.std.specs.FinMap as fin
+use Rattle.sqlite_value.specs.Order.{Row}
+use Rattle.bike_catalogue.specs.Rows.{TypeRow}
+use Rattle.bike_operator.specs.Operator.{Operator, Station}
+use Rattle.bike_operator.specs.Counts.{available, available_of, disabled, docks_available, docks_broken}
+use Rattle.bike_counts.specs.Numbers.{disabled_of}
+use Rattle.bike_book.specs.Stored.{stored_type}
+use Rattle.bike_fleet.specs.declared.counts.TypeCounts.{TypeCounts}
+use Rattle.bike_queries.specs.declared.counts.TypeCount.{TypeCount}
+use Rattle.bike_queries.specs.declared.counts.Counts.{Counts}
+use Rattle.bike_queries.specs.declared.counts.Tally.{Tally}
+
+-- a vehicle type, with its bicycles that are available at a station
+abbrev pub type_count : Operator → List ℕ → List ℕ × TypeRow → TypeCount
+type_count s station e = record { type_id = e.0; available = available_of s station e.0 }
+
+-- a station's bicycles of some types
+pub record IsTally (s : Operator) (station : List ℕ) (types : List (List ℕ × TypeRow)) (t : Tally) : Type 0 where
+  pub available : t.available ≡ sum_by (λ e. available_of s station e.0) types
+  pub disabled : t.disabled ≡ sum_by (λ e. disabled_of s station e.0) types
+  pub by_type : t.by_type.items ≡ map (type_count s station) types
+
+-- The first of the operator's types are counted, and these are the rows of the others.
+pub record IsSoFar (s : Operator) (station : List ℕ) (left : List Row) (t : Tally) : Type 0 where
+  pub front : List (List ℕ × TypeRow)
+  pub rest : List (List ℕ × TypeRow)
+  pub split : fin.entries s.types ≡ front ++ rest
+  pub rows : left ≡ map stored_type rest
+  pub tally : IsTally s station front t
+
+-- one more type is counted
+pub record Adds (old : Tally) (type_id : List ℕ) (counts : TypeCounts) (new : Tally) : Type 0 where
+  pub available : new.available ≡ old.available + counts.available
+  pub disabled : new.disabled ≡ old.disabled + counts.disabled
+  pub by_type : new.by_type.items ≡ old.by_type.items ++ record { type_id = type_id; available = counts.available } ∷ []
+
+-- The counts of a station that is there, each type's in the order of the types' identifiers.
+pub record AreCountsOf (s : Operator) (station : List ℕ) (x : Station) (c : Counts) : Type 0 where
+  pub available : c.available ≡ available s station
+  pub by_type : c.by_type.items ≡ map (type_count s station) (fin.entries s.types)
+  pub disabled : c.disabled ≡ disabled s station
+  pub docks_available : c.docks_available ≡ docks_available s station x.row.docks
+  pub docks_disabled : c.docks_disabled ≡ docks_broken s station x.row.docks
+
+-- there where the station is
+abbrev pub AreCountsFor : Operator → List ℕ → Option Station → Option Counts → Type 0
+AreCountsFor s station None None = Unit {0}
+AreCountsFor s station (Some x) (Some c) = AreCountsOf s station x c
+AreCountsFor s station None (Some c) = ⊥
+AreCountsFor s station (Some x) None = ⊥
+
+abbrev pub AreCountsAt : Operator → List ℕ → Option Counts → Type 0
+AreCountsAt s station = AreCountsFor s station (fin.get s.stations station)

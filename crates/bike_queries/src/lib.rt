@@ -1,0 +1,19 @@
+//! Reads for the queries of a desk. Each answers what the operator holds of a name whose tables stand in the database,
+//! as a value that owns what it shows, and changes nothing.
+//!
+//! Stored numbers are used as they stand (a rider's balance, a rental's refunds, the numbers of a station): no bicycle
+//! and no entry is counted. A row that holds what the product never writes is `StoreFailed`; memory that is refused is
+//! `NoMemory`.
+#![tactic(auto)]
+
+mod bikes;
+mod counts;
+mod rentals;
+mod riders;
+mod system;
+
+pub use bikes::find_place;
+pub use counts::{Counts, TypeCount, find_station_counts};
+pub use rentals::{ClosingInfo, RentalInfo, find_rental_info};
+pub use riders::{RiderInfo, find_balance, find_rider_info};
+pub use system::find_system;
