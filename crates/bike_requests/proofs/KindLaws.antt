@@ -1,6 +1,5 @@
 -- Commands are read exactly, kind by kind: what is read is spelled by the parts, and what the parts spell is read.
 use Rattle.std.proofs.Common.{◌≡◌, ℕ, List, [], Bool, Some, refl, lit<, codes}
-use Rattle.bike_fixed.specs.Whole.{number_of}
 use Rattle.bike_fields.specs.declared.numbers.TheConstants.{MOST_DOCKS}
 use Rattle.bike_texts.specs.declared.ends.OrderEnd.{OrderEnd}
 use Rattle.bike_texts.specs.declared.ends.Side.{Side}
