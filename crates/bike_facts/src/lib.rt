@@ -1,8 +1,9 @@
-//! What a request has read, and the facts that its changes ask of it: the one dock that its command touches with the numbers stored
-//! there, what its view shows of the records that change, and what a bicycle adds to the numbers of its dock's station.
+//! What a request has read, and the facts that its changes ask of it: the one dock that its command touches, with the
+//! numbers stored there, what its view shows of the records that change, and what a bicycle adds to the numbers of its
+//! dock's station.
 //!
-//! Each function answers what is so of every sound operator whose view was read. It promises no more than the view shows: where a
-//! fact isn't shown, the answer is `None` or `false`.
+//! Each function answers what is so of every sound operator whose view was read. It promises no more than the view
+//! shows: where a fact isn't shown, the answer is `None` or `false`.
 #![tactic(auto)]
 
 mod bikes;
