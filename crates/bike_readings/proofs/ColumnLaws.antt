@@ -1,5 +1,5 @@
 -- Columns are read both ways: what is read of a value is what the value was made of, and what was written is read.
-use Rattle.std.proofs.Common.{◌≡◌, ℕ, ℤ, pos, negsuc, neg_ℤ, ◌≤◌, ◌<◌, ◌≤ℤ◌, List, [], ◌∷◌, zero, suc, Bool, true, false, ◌&&◌, ◌||◌, cond, leb, eqb, Option, Some, None, refl, sym, ap, ◌∙◌, subst, arith, rules, codes}
+use Rattle.std.proofs.Common.{◌≡◌, ℕ, ℤ, pos, negsuc, ◌≤◌, ◌<◌, ◌≤ℤ◌, List, [], ◌∷◌, zero, suc, Bool, true, false, ◌&&◌, ◌||◌, cond, leb, eqb, Option, Some, None, refl, sym, ap, ◌∙◌, subst, arith, rules, codes}
 use Rattle.std.specs.Prelude.{option_map, option_and_then, int_le}
 use Rattle.std.specs.Ordering.{int_eq}
 use Rattle.std.specs.List.{list_all}
@@ -15,7 +15,6 @@ use Rattle.sqlite_value.specs.declared.value.Value.TheVariants.{Null, Int, Real,
 use Rattle.sqlite.specs.Values.{or_null}
 use Rattle.sqlite_sql.specs.Ops.{is_null}
 use Rattle.bike_fields.specs.Bytes.{is_lower, is_upper, is_digit, is_ident_byte, is_key_byte, is_language_byte, is_printable, is_name_byte, has_length, is_ident, is_key, is_language, is_currency, is_ascii_field, is_name, key_of, ascii_of, name_of}
-use Rattle.bike_fields.specs.Caller.{◌>>=◌}
 use Rattle.bike_fields.proofs.Lengths.{both_hold}
 use Rattle.bike_fields.proofs.Callers.{ident_sound, ident_full}
 use Rattle.bike_catalogue.specs.declared.vehicle.Form.{Form}
@@ -94,8 +93,8 @@ le_tested a b h = grind (arith, ints)
 pub signed_column : (lo hi : ℤ) → IsColumn (signed_in lo hi) Int (IsBetween lo hi)
 signed_column lo hi = of_whole (λ z. cond (int_le lo z && int_le z hi) (Some z) None) (λ z. z) (IsBetween lo hi)
     (λ z a e. let t = cond_some (int_le lo z && int_le z hi) z a e in
-        let b = both_hold (int_le lo z) (int_le z hi) t.0 in
-        (t.1, subst (IsBetween lo hi) t.1 (le_test lo z b.0, le_test z hi b.1)))
+    let b = both_hold (int_le lo z) (int_le z hi) t.0 in
+    (t.1, subst (IsBetween lo hi) t.1 (le_test lo z b.0, le_test z hi b.1)))
     (λ z g. rw (le_tested lo z g.0, le_tested z hi g.1) refl)
 
 -- one arm of a choice by a number
@@ -328,11 +327,13 @@ or_none_column {A} {read} {write} {Good} column there = record { sound = sound; 
     some : (v : Value) (o : Option A) (a : Option A) → read v ≡ o → option_map Some o ≡ Some a → (v ≡ or_null write a) × IfAny Good a
     some v None a r e = absurd cc
     some v (Some x) a r e = subst (λ a. (v ≡ or_null write a) × IfAny Good a) (same_Some (Some x) a e) (column.sound v x r)
+
     sound : (v : Value) (a : Option A) → or_none read v ≡ Some a → (v ≡ or_null write a) × IfAny Good a
     sound v a e = go (is_null v) refl where
       go : (b : Bool) → is_null v ≡ b → (v ≡ or_null write a) × IfAny Good a
       go true i = subst (λ a. (v ≡ or_null write a) × IfAny Good a) (same_Some None a (sym (ap (λ b. cond b (Some None) (option_map Some (read v))) i) ∙ e)) (null_is v i, tt)
       go false i = some v (read v) a refl (sym (ap (λ b. cond b (Some None) (option_map Some (read v))) i) ∙ e)
+
     full : (a : Option A) → IfAny Good a → or_none read (or_null write a) ≡ Some a
     full None g = refl
     full (Some a) g = rw (there a, column.full a g) refl

@@ -1,7 +1,7 @@
 -- The rows of kept requests are read exactly: caller and key, and the one texts of a command and of a reply that is no refusal.
-use Rattle.std.proofs.Common.{◌≡◌, ℕ, List, [], ◌∷◌, Bool, true, false, cond, Option, Some, None, refl, sym, ap, ◌∙◌, subst}
+use Rattle.std.proofs.Common.{◌≡◌, ℕ, List, Bool, true, false, cond, Some, None, refl, sym, subst}
 use Rattle.std.specs.List.{slice_split}
-use Rattle.std.specs.Str.{is_utf8, bytes_eq}
+use Rattle.std.specs.Str.{bytes_eq}
 use Rattle.std.proofs.lemmas.Option.{option_and_then_some, cond_some, same_Some}
 use Rattle.std.proofs.lemmas.Slice.Eq.{bytes_eq-Decides}
 use Rattle.sqlite_value.specs.declared.value.Value.TheVariants.{Text}
@@ -88,15 +88,15 @@ spelled_full caller name k g caller_good name_good =
 pub kept_reading : KeptReading
 kept_reading = record {
   sound = λ row x e.
-    wide 4 row e (λ width e.
-    takes _ caller_column e (λ caller caller_is caller_good e.
-    takes _ key_column e (λ key key_is key_good e.
-    takes _ command_column e (λ command command_is command_good e.
-    takes _ reply_column e (λ reply reply_is reply_good e.
-    ends (λ (x : Key × Kept). kept_row (first_text x.0) (second_text x.0) (text_of x.1.command) (reply_text x.1.reply)) (λ x. IsKept x.0 x.1) x e width
+      wide 4 row e (λ width e.
+      takes _ caller_column e (λ caller caller_is caller_good e.
+      takes _ key_column e (λ key key_is key_good e.
+      takes _ command_column e (λ command command_is command_good e.
+      takes _ reply_column e (λ reply reply_is reply_good e.
+      ends (λ (x : Key × Kept). kept_row (first_text x.0) (second_text x.0) (text_of x.1.command) (reply_text x.1.reply)) (λ x. IsKept x.0 x.1) x e width
       (caller_is, (key_is, (command_is, (reply_is, tt))))
       (record { caller = caller; name = key; key_is = refl; good_caller = caller_good; good_name = key_good; command = command_good; reply = reply_good.0; accepted = reply_good.1 }))))));
   full = λ x g.
-    subst (λ (q : Key). kept_read (kept_row (first_text q) (second_text q) (text_of x.1.command) (reply_text x.1.reply)) ≡ Some (q, x.1)) (sym g.key_is)
+      subst (λ (q : Key). kept_read (kept_row (first_text q) (second_text q) (text_of x.1.command) (reply_text x.1.reply)) ≡ Some (q, x.1)) (sym g.key_is)
       (spelled_full g.caller g.name x.1 (subst (λ (q : Key). IsKept q x.1) g.key_is g) g.good_caller g.good_name);
 }

@@ -1,5 +1,5 @@
 -- The rows of riders, rentals, entries and counts are read exactly.
-use Rattle.std.proofs.Common.{◌≡◌, ℕ, ℤ, pos, negsuc, List, [], ◌∷◌, ◌++◌, length, Bool, true, Option, Some, None, refl, sym, ap, subst, arith}
+use Rattle.std.proofs.Common.{◌≡◌, ℕ, ℤ, pos, negsuc, List, [], ◌∷◌, ◌++◌, length, true, Option, Some, None, refl, sym, subst, arith}
 use Rattle.std.specs.Prelude.{option_and_then}
 use Rattle.std.proofs.lemmas.Int.{ints}
 use Rattle.std.proofs.lemmas.Option.{option_and_then_some, same_Some}
@@ -28,14 +28,14 @@ use Rattle.bike_readings.proofs.ChainLaws.{HasColumns, wide, takes, ends, gives,
 pub rider_reading : RiderReading
 rider_reading = record {
   sound = λ row x e.
-    wide 3 row e (λ width e.
-    takes _ (number_column 1 999999) e (λ number number_is number_good e.
-    takes _ flag_column e (λ blocked blocked_is _ e.
-    takes _ whole_column e (λ balance balance_is _ e.
-    ends (λ (x : ℕ × Rider × ℤ). rider_row x.0 x.1.is_blocked x.2) (λ x. IsNumbered x.0) x e width (number_is, (blocked_is, (balance_is, tt))) number_good))));
+      wide 3 row e (λ width e.
+      takes _ (number_column 1 999999) e (λ number number_is number_good e.
+      takes _ flag_column e (λ blocked blocked_is _ e.
+      takes _ whole_column e (λ balance balance_is _ e.
+      ends (λ (x : ℕ × Rider × ℤ). rider_row x.0 x.1.is_blocked x.2) (λ x. IsNumbered x.0) x e width (number_is, (blocked_is, (balance_is, tt))) number_good))));
   full = λ x g.
-    gives _ x.0 (number_column 1 999999) g (
-    gives _ x.1.is_blocked flag_column tt refl);
+      gives _ x.0 (number_column 1 999999) g (
+      gives _ x.1.is_blocked flag_column tt refl);
 }
 
 -- ---- rentals
@@ -45,9 +45,11 @@ stop_column = record { sound = λ v to e. let s = any.sound v to e in (s.0, stop
   where
     any : IsColumn (or_none ident_in) (or_null Text) (IfAny (λ bs. is_ident bs ≡ true))
     any = or_none_column ident_column (λ bs. refl)
+
     stop : (to : Option (List ℕ)) → IfAny (λ bs. is_ident bs ≡ true) to → IsStop to
     stop None g = tt
     stop (Some station) g = g
+
     stopped : (to : Option (List ℕ)) → IsStop to → IfAny (λ bs. is_ident bs ≡ true) to
     stopped None g = tt
     stopped (Some station) g = g
@@ -63,7 +65,7 @@ closing_sound row o refunded e refunded_is =
     takes _ moment_column e (λ finish finish_is finish_good e.
     takes _ (signed_column (pos 0) greatest_amount) e (λ fare fare_is fare_good e.
     subst (Closed row refunded) (same_Some (Some (record { to_station = to; finish = finish; fare = fare })) o e)
-      ((to_is, (finish_is, (fare_is, (refunded_is, tt)))), record { to_station = to_good; finish = finish_good; fare = fare_good })))))
+    ((to_is, (finish_is, (fare_is, (refunded_is, tt)))), record { to_station = to_good; finish = finish_good; fare = fare_good })))))
 
 abbrev closed : Option (List ℕ) → ℕ → ℤ → Option Closing
 closed to finish fare = Some (record { to_station = to; finish = finish; fare = fare })
@@ -93,30 +95,30 @@ closing_width (Some c) refunded = refl
 pub rental_reading : RentalReading
 rental_reading = record {
   sound = λ row x e.
-    wide 10 row e (λ width e.
-    takes _ (number_column 1 100000000) e (λ number number_is number_good e.
-    takes _ (number_column 1 999999) e (λ rider rider_is rider_good e.
-    takes _ (number_column 1 999999) e (λ bike bike_is bike_good e.
-    takes _ ident_column e (λ plan plan_is plan_good e.
-    takes _ ident_column e (λ from from_is from_good e.
-    takes _ moment_column e (λ start start_is start_good e.
-    option_and_then_some _ (closing_in (column row 6) (column row 7) (column row 8)) x e (λ closing read e.
-    takes _ whole_column e (λ refunded refunded_is _ e.
-    let closed = closing_sound row closing refunded read refunded_is in
-    let columns = closing_width closing refunded in
-    ends (λ (x : ℕ × Rental × ℤ). rental_row x.0 x.1 x.2) (λ x. IsStoredRental x.0 x.1) x e (omega (arith, width, columns)) (number_is, (rider_is, (bike_is, (plan_is, (from_is, (start_is, closed.0))))))
+      wide 10 row e (λ width e.
+      takes _ (number_column 1 100000000) e (λ number number_is number_good e.
+      takes _ (number_column 1 999999) e (λ rider rider_is rider_good e.
+      takes _ (number_column 1 999999) e (λ bike bike_is bike_good e.
+      takes _ ident_column e (λ plan plan_is plan_good e.
+      takes _ ident_column e (λ from from_is from_good e.
+      takes _ moment_column e (λ start start_is start_good e.
+      option_and_then_some _ (closing_in (column row 6) (column row 7) (column row 8)) x e (λ closing read e.
+      takes _ whole_column e (λ refunded refunded_is _ e.
+      let closed = closing_sound row closing refunded read refunded_is in
+      let columns = closing_width closing refunded in
+      ends (λ (x : ℕ × Rental × ℤ). rental_row x.0 x.1 x.2) (λ x. IsStoredRental x.0 x.1) x e (omega (arith, width, columns)) (number_is, (rider_is, (bike_is, (plan_is, (from_is, (start_is, closed.0))))))
       (record { good_number = number_good; rider = rider_good; bike = bike_good; plan = plan_good; from_station = from_good; start = start_good; closing = closed.1 }))))))))));
   full = λ x g.
-    let columns = closing_width x.1.closing x.2 in
-    gives_wide 10 (rental_row x.0 x.1 x.2) (omega (arith, columns)) (
-    gives _ x.0 (number_column 1 100000000) g.good_number (
-    gives _ x.1.rider (number_column 1 999999) g.rider (
-    gives _ x.1.bike (number_column 1 999999) g.bike (
-    gives _ x.1.plan ident_column g.plan (
-    gives _ x.1.from_station ident_column g.from_station (
-    gives _ x.1.start moment_column g.start (
-    given _ x.1.closing (closing_full x.1.closing x.2 g.closing) (
-    given _ x.2 (refunded_full x.1.closing x.2) refl))))))));
+      let columns = closing_width x.1.closing x.2 in
+      gives_wide 10 (rental_row x.0 x.1 x.2) (omega (arith, columns)) (
+      gives _ x.0 (number_column 1 100000000) g.good_number (
+      gives _ x.1.rider (number_column 1 999999) g.rider (
+      gives _ x.1.bike (number_column 1 999999) g.bike (
+      gives _ x.1.plan ident_column g.plan (
+      gives _ x.1.from_station ident_column g.from_station (
+      gives _ x.1.start moment_column g.start (
+      given _ x.1.closing (closing_full x.1.closing x.2 g.closing) (
+      given _ x.2 (refunded_full x.1.closing x.2) refl))))))));
 }
 
 -- ---- entries
@@ -144,22 +146,22 @@ amount_column Refund = payment_column
 pub entry_reading : EntryReading
 entry_reading = record {
   sound = λ row x e.
-    wide 6 row e (λ width e.
-    takes _ (number_column 1 100000000) e (λ number number_is number_good e.
-    takes _ kind_column e (λ kind kind_is _ e.
-    takes _ (number_column 1 999999) e (λ rider rider_is rider_good e.
-    takes _ (rental_column kind) e (λ rental rental_is rental_good e.
-    takes _ (amount_column kind) e (λ amount amount_is amount_good e.
-    takes _ moment_column e (λ at at_is at_good e.
-    ends (λ (e : Entry). entry_row e.number e) IsStoredEntry x e width (number_is, (kind_is, (rider_is, (rental_is, (amount_is, (at_is, tt))))))
+      wide 6 row e (λ width e.
+      takes _ (number_column 1 100000000) e (λ number number_is number_good e.
+      takes _ kind_column e (λ kind kind_is _ e.
+      takes _ (number_column 1 999999) e (λ rider rider_is rider_good e.
+      takes _ (rental_column kind) e (λ rental rental_is rental_good e.
+      takes _ (amount_column kind) e (λ amount amount_is amount_good e.
+      takes _ moment_column e (λ at at_is at_good e.
+      ends (λ (e : Entry). entry_row e.number e) IsStoredEntry x e width (number_is, (kind_is, (rider_is, (rental_is, (amount_is, (at_is, tt))))))
       (record { number = number_good; rider = rider_good; rental = rental_good; amount = amount_good; at = at_good }))))))));
   full = λ x g.
-    gives _ x.number (number_column 1 100000000) g.number (
-    gives _ x.kind kind_column tt (
-    gives _ x.rider (number_column 1 999999) g.rider (
-    gives _ x.rental (rental_column x.kind) g.rental (
-    gives _ x.amount (amount_column x.kind) g.amount (
-    gives _ x.at moment_column g.at refl)))));
+      gives _ x.number (number_column 1 100000000) g.number (
+      gives _ x.kind kind_column tt (
+      gives _ x.rider (number_column 1 999999) g.rider (
+      gives _ x.rental (rental_column x.kind) g.rental (
+      gives _ x.amount (amount_column x.kind) g.amount (
+      gives _ x.at moment_column g.at refl)))));
 }
 
 -- ---- counts
@@ -167,16 +169,16 @@ entry_reading = record {
 pub count_reading : CountReading
 count_reading = record {
   sound = λ row x e.
-    wide 4 row e (λ width e.
-    takes _ ident_column e (λ station station_is station_good e.
-    takes _ ident_column e (λ type_id type_is type_good e.
-    takes _ (number_column 0 _) e (λ available available_is available_good e.
-    takes _ (number_column 0 _) e (λ disabled disabled_is disabled_good e.
-    ends (λ (x : List ℕ × List ℕ × ℕ × ℕ). count_row x.0 x.1 x.2 x.3) (λ x. IsStoredCount x.0 x.1 x.2 x.3) x e width (station_is, (type_is, (available_is, (disabled_is, tt))))
+      wide 4 row e (λ width e.
+      takes _ ident_column e (λ station station_is station_good e.
+      takes _ ident_column e (λ type_id type_is type_good e.
+      takes _ (number_column 0 _) e (λ available available_is available_good e.
+      takes _ (number_column 0 _) e (λ disabled disabled_is disabled_good e.
+      ends (λ (x : List ℕ × List ℕ × ℕ × ℕ). count_row x.0 x.1 x.2 x.3) (λ x. IsStoredCount x.0 x.1 x.2 x.3) x e width (station_is, (type_is, (available_is, (disabled_is, tt))))
       (record { good_station = station_good; good_type = type_good; good_available = available_good.1; good_disabled = disabled_good.1 }))))));
   full = λ x g.
-    gives _ x.0 ident_column g.good_station (
-    gives _ x.1 ident_column g.good_type (
-    gives _ x.2 (number_column 0 _) (omega arith, g.good_available) (
-    gives _ x.3 (number_column 0 _) (omega arith, g.good_disabled) refl)));
+      gives _ x.0 ident_column g.good_station (
+      gives _ x.1 ident_column g.good_type (
+      gives _ x.2 (number_column 0 _) (omega arith, g.good_available) (
+      gives _ x.3 (number_column 0 _) (omega arith, g.good_disabled) refl)));
 }

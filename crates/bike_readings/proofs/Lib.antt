@@ -6,3 +6,4 @@ pub mod LedgerRows
 pub mod SoundBounds
 pub mod TextUtf8
 pub mod KeptRows
+mod ReadLemmas

@@ -1,5 +1,5 @@
 -- The records of a sound operator keep the bounds of stored rows.
-use Rattle.std.proofs.Common.{◌≡◌, ℕ, ℤ, zero, suc, ◌+◌, ◌≤◌, ◌≤ℤ◌, List, [], ◌∷◌, ◌++◌, length, filter, Bool, true, false, cond, Option, Some, None, is_some, refl, sym, ap, ◌∙◌, subst, arith}
+use Rattle.std.proofs.Common.{◌≡◌, ℕ, zero, suc, ◌+◌, ◌≤◌, List, [], ◌∷◌, length, filter, Bool, true, false, cond, Option, Some, None, is_some, refl, sym, ap, ◌∙◌, subst, arith}
 use Rattle.std.specs.FinMap as fin
 use Rattle.std.proofs.lemmas.List.{length-append}
 use Rattle.bike_fields.specs.Bytes.{is_ident}
@@ -16,14 +16,15 @@ use Rattle.bike_operator.specs.declared.records.Bike.{Bike}
 use Rattle.bike_operator.specs.declared.records.Rental.{Rental}
 use Rattle.bike_operator.specs.declared.records.Closing.{Closing}
 use Rattle.bike_operator.specs.declared.records.Order.{Order}
-use Rattle.bike_operator.specs.Operator.{Operator, Station, Truck, Rider, DockKey, Key, key_of, dock_key, item_at, numbered}
+use Rattle.bike_operator.specs.Operator.{Operator, Station, Truck, Rider, item_at, numbered}
 use Rattle.bike_operator.specs.Counts.{count, docks_up_to, docks_broken, available_of, is_broken}
 use Rattle.bike_operator.specs.View.{has_end}
-use Rattle.bike_operator.specs.Sound.{IsSetSystem, HasDock, IsPlace, IsStop as IsStopOf, IsClosing, IsOpenOrClosed, IsBooking, IsSound}
+use Rattle.bike_operator.specs.Sound.{IsSetSystem, HasDock, IsPlace, IsStop as IsStopOf, IsOpenOrClosed, IsBooking, IsSound}
 use Rattle.bike_counts.specs.Numbers.{disabled_of}
 use Rattle.bike_places.proofs.ItemLemmas.{number_within}
 use Rattle.bike_book.specs.declared.version.TheConstants.{NEWEST}
-use Rattle.bike_readings.specs.Bounds.{IsNumbered, IsDockNumber, IsSerial, IsCount, IsMoment, IsStop, IsStoredMeta, IsStoredPlan, IsStoredSegment, IsStoredType, IsStoredStation, IsStoredDock, IsStoredPlace, IsStoredBike, IsStoredTruck, IsOpenOrStored, IsStoredRental, IsStoredOrder, IsStoredRentalOf, IsStoredAmount, IsStoredEntry, IsStoredCount}
+use Rattle.bike_readings.specs.SoundRows.{HasBounds}
+use Rattle.bike_readings.specs.Bounds.{IsNumbered, IsSerial, IsCount, IsMoment, IsStop, IsStoredMeta, IsStoredPlan, IsStoredSegment, IsStoredType, IsStoredStation, IsStoredDock, IsStoredPlace, IsStoredBike, IsStoredTruck, IsOpenOrStored, IsStoredRental, IsStoredOrder, IsStoredRentalOf, IsStoredAmount, IsStoredEntry, IsStoredCount}
 
 -- ---- what is there
 
@@ -237,3 +238,21 @@ module _ (s : Operator) (sound : IsSound s) where
       → IsStoredCount station type_id (available_of s station type_id) (disabled_of s station type_id)
   count_stored station type_id there typed =
       record { good_station = station_ident station there; good_type = type_ident type_id typed; good_available = few_bikes _; good_disabled = few_bikes _ }
+
+pub has_bounds : (s : Operator) → IsSound s → HasBounds s
+has_bounds s sound = record {
+  meta = meta_stored s sound;
+  system = system_stored s sound;
+  plans = plan_stored s sound;
+  segments = segment_stored s sound;
+  types = type_stored s sound;
+  stations = station_stored s sound;
+  docks = dock_stored s sound;
+  bikes = bike_stored s sound;
+  trucks = truck_stored s sound;
+  riders = rider_stored s sound;
+  rentals = rental_stored s sound;
+  orders = order_stored s sound;
+  entries = entry_stored s sound;
+  counts = count_stored s sound;
+}

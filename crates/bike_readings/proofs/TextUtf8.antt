@@ -1,11 +1,10 @@
 -- The texts of commands and of replies are UTF-8.
-use Rattle.std.proofs.Common.{◌≡◌, ◌≢◌, ℕ, ℤ, suc, pos, negsuc, neg_ℤ, ◌≤◌, ◌<◌, ◌^◌, ◌≤ℤ◌, List, [], ◌∷◌, ◌++◌, map, Bool, true, false, ◌&&◌, cond, leb, Option, Some, None, refl, sym, ap, ◌∙◌, subst, inl, inr, arith, codes, lit<, decimal}
+use Rattle.std.proofs.Common.{◌≡◌, ℕ, ℤ, suc, pos, negsuc, neg_ℤ, ◌≤◌, ◌<◌, ◌^◌, ◌≤ℤ◌, List, [], ◌∷◌, ◌++◌, map, Bool, true, false, cond, leb, Option, Some, None, refl, sym, subst, inl, inr, arith, codes, decimal}
 use Rattle.std.specs.Fmt.{signed_decimal}
 use Rattle.std.specs.List.{list_all, join_with_byte}
 use Rattle.std.specs.Char.{IsScalar, is_ascii_digit}
 use Rattle.std.specs.Str.{IsUtf8, is_utf8, chars, all_scalars}
 use Rattle.std.proofs.Math.Utf8.{encode, encodes}
-use Rattle.std.proofs.lemmas.Bool.{le-leb}
 use Rattle.std.proofs.lemmas.Bool.Decides.{nat_tests, eqb_tells}
 use Rattle.std.proofs.lemmas.Fmt.{IsAscii-decimal}
 use Rattle.std.proofs.lemmas.Int.{ints}
@@ -13,7 +12,7 @@ use Rattle.std.proofs.lemmas.Str.{IsUtf8-nil, IsUtf8-append, IsUtf8-encode, IsUt
 use Rattle.bike_fixed.specs.Coordinate.{IsCoordinate, minus_text, fraction}
 use Rattle.bike_fixed.specs.Text.{micro_text}
 use Rattle.bike_fixed.proofs.Spellings.{micro_text_spelled}
-use Rattle.bike_fields.specs.Bytes.{is_digit, is_printable}
+use Rattle.bike_fields.specs.Bytes.{is_printable}
 use Rattle.bike_fields.specs.Caller.{IsCaller, caller_text}
 use Rattle.bike_fields.specs.declared.caller.Caller.{Caller}
 use Rattle.bike_fields.specs.declared.caller.Caller.TheVariants.{Office, Rider, Dock, Crew, Import}
@@ -24,7 +23,6 @@ use Rattle.bike_catalogue.specs.declared.vehicle.Form.TheVariants.{Bicycle, Carg
 use Rattle.bike_catalogue.specs.declared.vehicle.Propulsion.{Propulsion}
 use Rattle.bike_catalogue.specs.declared.vehicle.Propulsion.TheVariants.{Human, ElectricAssist}
 use Rattle.bike_catalogue.specs.Vehicle.{form_text, propulsion_text}
-use Rattle.bike_texts.specs.declared.ends.OrderEnd.{OrderEnd}
 use Rattle.bike_texts.specs.declared.ends.OrderEnd.TheVariants as end
 use Rattle.bike_texts.specs.declared.ends.Side.{Side}
 use Rattle.bike_texts.specs.declared.ends.Side.TheVariants.{From, To}
@@ -32,7 +30,6 @@ use Rattle.bike_texts.specs.Fields.{Field, Number, Signed, Fixed, Id, Language, 
 use Rattle.bike_commands.specs.declared.command.Command.{Command}
 use Rattle.bike_commands.specs.declared.command.Command.TheVariants as command
 use Rattle.bike_commands.specs.Commands.{word_of, fields_of, IsCommand, text_of}
-use Rattle.bike_commands.specs.declared.refusal.Refusal.{Refusal}
 use Rattle.bike_commands.specs.declared.reply.Reply.{Reply}
 use Rattle.bike_commands.specs.declared.reply.Reply.TheVariants.{Done, Balance, Started, Ended, Ordered, Refused}
 use Rattle.bike_commands.specs.Replies.{reply_word, reply_fields, IsReply, reply_text}
@@ -69,7 +66,7 @@ fraction_utf8 (d ∷ ds) h = IsUtf8-append (codes ".") (d ∷ ds) (printed (code
 coordinate_utf8 : (text : List ℕ) (z : ℤ) → IsCoordinate text z → IsUtf8 text
 coordinate_utf8 text z c =
     subst IsUtf8 (sym c.spelled) (IsUtf8-append (minus_text c.minus) (c.whole ++ fraction c.part) (minus_utf8 c.minus)
-      (IsUtf8-append c.whole (fraction c.part) (digits_utf8 c.whole c.whole_digits) (fraction_utf8 c.part (digits_utf8 c.part c.part_digits))))
+    (IsUtf8-append c.whole (fraction c.part) (digits_utf8 c.whole c.whole_digits) (fraction_utf8 c.part (digits_utf8 c.part c.part_digits))))
 
 -- ---- joined texts
 
@@ -94,7 +91,7 @@ segment_utf8 s g =
     let low : neg_ℤ (pos 9223372036854775808) ≤ℤ s.rate = omega (arith, ints, g.rate.0) in
     let high : s.rate ≤ℤ pos 9223372036854775807 = omega (arith, ints, g.rate.1) in
     joined_utf8 58 (printed (codes ":") refl) (decimal s.start ∷ signed_decimal s.rate ∷ decimal s.interval ∷ segment_end_text s.end ∷ [])
-      (decimal_utf8 s.start (omega (arith, g.start)), (signed_utf8 s.rate low high, (decimal_utf8 s.interval (omega (arith, g.interval)), (segment_end_utf8 s.start s.end g.end, tt))))
+    (decimal_utf8 s.start (omega (arith, g.start)), (signed_utf8 s.rate low high, (decimal_utf8 s.interval (omega (arith, g.interval)), (segment_end_utf8 s.start s.end g.end, tt))))
 
 each_segment_utf8 : (ss : List SegmentRow) → AreSegments ss → AllUtf8 (map segment_text ss)
 each_segment_utf8 [] g = tt

@@ -1,2 +1,26 @@
-//! What a stored row spells: the record of which it was made, or nothing.
+//! What a stored row spells, both ways.
+//!
+//! `specs/Readings` gives for each table the record that any row spells, or nothing; `specs/BothWays` says that this is
+//! exact. The functions answer just that of a row that the database lends. They take no memory: texts stay in the row.
 #![tactic(auto)]
+
+mod catalogue;
+mod columns;
+mod fleet;
+mod laws;
+mod ledger;
+mod network;
+mod texts;
+
+pub use catalogue::{
+    StoredMeta, StoredPlan, StoredSegment, StoredSystem, StoredType, read_meta, read_plan,
+    read_segment, read_system, read_type,
+};
+pub use fleet::{
+    StoredBike, StoredEnd, StoredOrder, StoredPlace, StoredTruck, read_bike, read_order, read_truck,
+};
+pub use laws::{keeps_bounds, reads_both_ways};
+pub use ledger::{
+    StoredClosing, StoredEntry, StoredRental, StoredRider, read_entry, read_rental, read_rider,
+};
+pub use network::{StoredCounts, StoredDock, StoredStation, read_counts, read_dock, read_station};

@@ -1,0 +1,232 @@
+//! The rows of the system, the plans with their segments, and the vehicle types.
+
+ghost use Rattle.std.specs.Prelude.{◌≡◌, option_map, codes};
+ghost use Rattle.sqlite_value.specs.Order.{column};
+ghost use Rattle.bike_catalogue.specs.Rows.{is_range};
+ghost use Rattle.bike_schema.specs.Columns.{number_in, or_none};
+ghost use Rattle.bike_readings.specs.Readings.{meta_read, system_read, plan_read, segment_read, type_read};
+ghost use Rattle.bike_readings.specs.Views.{meta_of, system_of, plan_of, segment_of, type_of};
+
+use crate::columns::{
+    app_in, ascii_in, cents_in, currency_in, flag_in, form_in, ident_in, is_null_at, language_in,
+    moment_in, name_in, number_in, propulsion_in, signed_in,
+};
+use bike_catalogue::{Form, Propulsion};
+use bike_fields::{MaxRange, Price, SegmentMinute, TimeToLive};
+use bike_fixed::{Cents, Moment, Within};
+use sqlite::Row;
+
+/// The row of `meta`.
+#[derive(Clone, Copy, Debug)]
+pub struct StoredMeta {
+    /// The version of the schema.
+    pub version: Within<1, 4_294_967_295>,
+    /// The greatest moment of an accepted request.
+    pub now: Moment,
+    /// All top-ups, in hundredths.
+    pub cash: Cents,
+    /// All fares less all refunds, in hundredths.
+    pub revenue: Cents,
+}
+
+/// The row of `system`.
+#[derive(Clone, Copy, Debug)]
+pub struct StoredSystem<'a> {
+    pub system_id: &'a str,
+    pub language: &'a str,
+    pub name: &'a str,
+    pub opening_hours: &'a str,
+    pub feed_contact_email: &'a str,
+    pub timezone: &'a str,
+    pub currency: &'a str,
+    pub base_url: &'a str,
+    /// How long a feed stays fresh.
+    pub ttl: TimeToLive,
+}
+
+/// A row of `plans`.
+#[derive(Clone, Copy, Debug)]
+pub struct StoredPlan<'a> {
+    pub plan_id: &'a str,
+    pub name: &'a str,
+    pub price: Price,
+    pub taxable: bool,
+    pub description: &'a str,
+}
+
+/// A row of `segments`.
+#[derive(Clone, Copy, Debug)]
+pub struct StoredSegment<'a> {
+    /// Its plan.
+    pub plan_id: &'a str,
+    /// Its number in the plan.
+    pub seq: Within<1, 8>,
+    /// When it starts.
+    pub start: SegmentMinute,
+    /// What it costs, in hundredths.
+    pub rate: i64,
+    /// After how many minutes it is charged again.
+    pub interval: SegmentMinute,
+    /// When it ends, if it does.
+    pub end: Option<SegmentMinute>,
+}
+
+/// A row of `types`.
+#[derive(Clone, Copy, Debug)]
+pub struct StoredType<'a> {
+    pub type_id: &'a str,
+    pub name: &'a str,
+    pub form: Form,
+    pub propulsion: Propulsion,
+    /// The greatest range, in metres.
+    pub max_range: MaxRange,
+    /// The default pricing plan.
+    pub plan_id: &'a str,
+}
+
+/// What a row of `meta` spells.
+pub fn read_meta(row: &Row) -> Option<StoredMeta>
+    ensures { option_map meta_of result ≡ meta_read row.now }
+{
+    if row.column_count() != 6 {
+        return None;
+    }
+    let _one: Within<1, 1> = number_in(row, 0)?;
+    let _app = app_in(row, 1)?;
+    let version = number_in(row, 2)?;
+    let now = moment_in(row, 3)?;
+    let cash = cents_in(row, 4)?;
+    let revenue = cents_in(row, 5)?;
+    Some(StoredMeta {
+        version,
+        now,
+        cash,
+        revenue,
+    })
+}
+
+/// What a row of `system` spells.
+pub fn read_system(row: &Row) -> Option<StoredSystem<'_>>
+    ensures { option_map system_of result ≡ system_read row.now }
+{
+    if row.column_count() != 10 {
+        return None;
+    }
+    let _one: Within<1, 1> = number_in(row, 0)?;
+    let system_id = ident_in(row, 1)?;
+    let language = language_in(row, 2)?;
+    let name = name_in(row, 3)?;
+    let opening_hours = ascii_in(row, 4)?;
+    let feed_contact_email = ascii_in(row, 5)?;
+    let timezone = ascii_in(row, 6)?;
+    let currency = currency_in(row, 7)?;
+    let base_url = ascii_in(row, 8)?;
+    let ttl = number_in(row, 9)?;
+    Some(StoredSystem {
+        system_id,
+        language,
+        name,
+        opening_hours,
+        feed_contact_email,
+        timezone,
+        currency,
+        base_url,
+        ttl,
+    })
+}
+
+/// What a row of `plans` spells.
+pub fn read_plan(row: &Row) -> Option<StoredPlan<'_>>
+    ensures { option_map plan_of result ≡ plan_read row.now }
+{
+    if row.column_count() != 5 {
+        return None;
+    }
+    let plan_id = ident_in(row, 0)?;
+    let name = name_in(row, 1)?;
+    let price = number_in(row, 2)?;
+    let taxable = flag_in(row, 3)?;
+    let description = name_in(row, 4)?;
+    Some(StoredPlan {
+        plan_id,
+        name,
+        price,
+        taxable,
+        description,
+    })
+}
+
+/// The end of a segment, or `Some(None)` where it goes on.
+fn end_in(row: &Row, at: usize) -> Option<Option<SegmentMinute>>
+    ensures { result ≡ or_none (number_in 0 100000) (column row.now at) }
+{
+    if is_null_at(row, at) {
+        return Some(None);
+    }
+    let end = number_in(row, at)?;
+    Some(Some(end))
+}
+
+/// What a row of `segments` spells: an end is after the start.
+pub fn read_segment(row: &Row) -> Option<StoredSegment<'_>>
+    ensures { option_map segment_of result ≡ segment_read row.now }
+{
+    if row.column_count() != 6 {
+        return None;
+    }
+    let plan_id = ident_in(row, 0)?;
+    let seq = number_in(row, 1)?;
+    let start: SegmentMinute = number_in(row, 2)?;
+    let rate = signed_in(row, 3, -100_000, 100_000)?;
+    let interval = number_in(row, 4)?;
+    let end: Option<SegmentMinute> = end_in(row, 5)?;
+    if let Some(end) = end {
+        if end.get() <= start.get() {
+            return None;
+        }
+    }
+    Some(StoredSegment {
+        plan_id,
+        seq,
+        start,
+        rate,
+        interval,
+        end,
+    })
+}
+
+/// Whether so many metres suit the propulsion: 0 exactly where a human propels.
+fn suits(propulsion: Propulsion, range: MaxRange) -> bool
+    ensures { result ≡ is_range propulsion range }
+{
+    match propulsion {
+        Propulsion::Human => range.get() == 0,
+        Propulsion::ElectricAssist => 1 <= range.get() && range.get() <= 1_000_000,
+    }
+}
+
+/// What a row of `types` spells.
+pub fn read_type(row: &Row) -> Option<StoredType<'_>>
+    ensures { option_map type_of result ≡ type_read row.now }
+{
+    if row.column_count() != 6 {
+        return None;
+    }
+    let type_id = ident_in(row, 0)?;
+    let name = name_in(row, 1)?;
+    let form = form_in(row, 2)?;
+    let propulsion = propulsion_in(row, 3)?;
+    let max_range = number_in(row, 4)?;
+    let plan_id = ident_in(row, 5)?;
+    if !suits(propulsion, max_range) {
+        return None;
+    }
+    Some(StoredType {
+        type_id,
+        name,
+        form,
+        propulsion,
+        max_range,
+        plan_id,
+    })
+}

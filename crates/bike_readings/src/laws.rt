@@ -1,0 +1,31 @@
+//! The laws of readings.
+
+ghost use Rattle.bike_operator.specs.Operator.{Operator};
+ghost use Rattle.bike_operator.specs.Sound.{IsSound};
+ghost use Rattle.bike_readings.specs.BothWays.{MetaReading, SystemReading, PlanReading, SegmentReading, TypeReading, StationReading, DockReading, BikeReading, TruckReading, RiderReading, RentalReading, OrderReading, EntryReading, KeptReading, CountReading};
+ghost use Rattle.bike_readings.specs.SoundRows.{HasBounds};
+
+/// The law of readings: what a row spells is that of which it is made, and each record within its bounds is spelled by
+/// its row.
+pub fn reads_both_ways()
+    ensures meta { MetaReading }
+    ensures system { SystemReading }
+    ensures plans { PlanReading }
+    ensures segments { SegmentReading }
+    ensures types { TypeReading }
+    ensures stations { StationReading }
+    ensures docks { DockReading }
+    ensures bikes { BikeReading }
+    ensures trucks { TruckReading }
+    ensures riders { RiderReading }
+    ensures rentals { RentalReading }
+    ensures orders { OrderReading }
+    ensures entries { EntryReading }
+    ensures kept { KeptReading }
+    ensures counts { CountReading }
+{}
+
+/// The law of bounds: the records of a sound operator keep the bounds of rows.
+pub fn keeps_bounds()
+    ensures { (s : Operator) → IsSound s → HasBounds s }
+{}

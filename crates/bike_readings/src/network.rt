@@ -1,0 +1,122 @@
+//! The rows of stations, docks and counts.
+
+ghost use Rattle.std.specs.Prelude.{◌≡◌, option_map};
+ghost use Rattle.bike_readings.specs.Readings.{station_read, dock_read, count_read};
+ghost use Rattle.bike_readings.specs.Views.{station_of, dock_of, counts_of};
+
+use crate::columns::{cents_in, flag_in, ident_in, moment_in, name_in, number_in, signed_in};
+use bike_fields::{DockCount, DockNumber};
+use bike_fixed::{Moment, Within};
+use sqlite::Row;
+
+/// A row of `stations`.
+#[derive(Clone, Copy, Debug)]
+pub struct StoredStation<'a> {
+    pub station_id: &'a str,
+    pub name: &'a str,
+    /// Its latitude, in microdegrees.
+    pub lat: i64,
+    /// Its longitude, in microdegrees.
+    pub lon: i64,
+    /// How many docks it has.
+    pub docks: DockCount,
+    pub is_installed: bool,
+    pub is_renting: bool,
+    pub is_returning: bool,
+    /// When it last reported.
+    pub reported: Moment,
+    /// How many docks are available, as the row has it.
+    pub free: i64,
+    /// How many docks are broken, as the row has it.
+    pub broken: Within<0, 4_294_967_295>,
+}
+
+/// A row of `docks`.
+#[derive(Clone, Copy, Debug)]
+pub struct StoredDock<'a> {
+    /// Its station.
+    pub station: &'a str,
+    /// Its number there.
+    pub dock: DockNumber,
+    pub is_broken: bool,
+}
+
+/// A row of `counts`.
+#[derive(Clone, Copy, Debug)]
+pub struct StoredCounts<'a> {
+    pub station: &'a str,
+    pub type_id: &'a str,
+    /// How many of the type's bicycles at the station can be rented, as the row has it.
+    pub available: Within<0, 4_294_967_295>,
+    /// How many of them can't.
+    pub disabled: Within<0, 4_294_967_295>,
+}
+
+/// What a row of `stations` spells.
+pub fn read_station(row: &Row) -> Option<StoredStation<'_>>
+    ensures { option_map station_of result ≡ station_read row.now }
+{
+    if row.column_count() != 11 {
+        return None;
+    }
+    let station_id = ident_in(row, 0)?;
+    let name = name_in(row, 1)?;
+    let lat = signed_in(row, 2, -90_000_000, 90_000_000)?;
+    let lon = signed_in(row, 3, -180_000_000, 180_000_000)?;
+    let docks = number_in(row, 4)?;
+    let is_installed = flag_in(row, 5)?;
+    let is_renting = flag_in(row, 6)?;
+    let is_returning = flag_in(row, 7)?;
+    let reported = moment_in(row, 8)?;
+    let free = cents_in(row, 9)?;
+    let broken = number_in(row, 10)?;
+    Some(StoredStation {
+        station_id,
+        name,
+        lat,
+        lon,
+        docks,
+        is_installed,
+        is_renting,
+        is_returning,
+        reported,
+        free: free.hundredths(),
+        broken,
+    })
+}
+
+/// What a row of `docks` spells.
+pub fn read_dock(row: &Row) -> Option<StoredDock<'_>>
+    ensures { option_map dock_of result ≡ dock_read row.now }
+{
+    if row.column_count() != 3 {
+        return None;
+    }
+    let station = ident_in(row, 0)?;
+    let dock = number_in(row, 1)?;
+    let is_broken = flag_in(row, 2)?;
+    Some(StoredDock {
+        station,
+        dock,
+        is_broken,
+    })
+}
+
+/// What a row of `counts` spells.
+pub fn read_counts(row: &Row) -> Option<StoredCounts<'_>>
+    ensures { option_map counts_of result ≡ count_read row.now }
+{
+    if row.column_count() != 4 {
+        return None;
+    }
+    let station = ident_in(row, 0)?;
+    let type_id = ident_in(row, 1)?;
+    let available = number_in(row, 2)?;
+    let disabled = number_in(row, 3)?;
+    Some(StoredCounts {
+        station,
+        type_id,
+        available,
+        disabled,
+    })
+}
