@@ -11,3 +11,5 @@ pub mod Fares
 pub mod GoodRows
 pub mod ReadRows
 pub mod TablesRead
+pub mod ReadSound
+pub mod RulesLaws
