@@ -1,3 +1,4 @@
 pub mod ColumnReaders
 pub mod Readings
 pub mod Bounds
+pub mod BothWays

@@ -1,0 +1,68 @@
+-- Readings are exact: what is read of a row is that of which the row is made, within its bounds, and each record within its bounds is read of its row.
+use Rattle.std.specs.Prelude.{◌≡◌, ℕ, ℤ, List, [], Bool, Option, Some}
+use Rattle.sqlite_value.specs.Order.{Row}
+use Rattle.bike_catalogue.specs.Rows.{SegmentRow, PlanRow, TypeRow, SystemRow, IsSystem}
+use Rattle.bike_commands.specs.Commands.{text_of}
+use Rattle.bike_commands.specs.Replies.{reply_text}
+use Rattle.bike_ledger.specs.Entries.{Entry}
+use Rattle.bike_operator.specs.declared.records.Bike.{Bike}
+use Rattle.bike_operator.specs.declared.records.Rental.{Rental}
+use Rattle.bike_operator.specs.declared.records.Order.{Order}
+use Rattle.bike_operator.specs.Operator.{Station, Truck, Rider, Key, Kept}
+use Rattle.bike_operator.specs.Sound.{IsKept}
+use Rattle.bike_book.specs.Rows.{meta_row, system_row, plan_row, segment_row, type_row, station_row, dock_row, bike_row, truck_row, rider_row, rental_row, order_row, entry_row, kept_row, count_row, first_text, second_text}
+use Rattle.bike_readings.specs.Readings.{meta_read, system_read, plan_read, segment_read, type_read, station_read, dock_read, bike_read, truck_read, rider_read, rental_read, order_read, entry_read, kept_read, count_read}
+use Rattle.bike_readings.specs.Bounds.{IsNumbered, IsStoredMeta, IsStoredPlan, IsStoredSegment, IsStoredType, IsStoredStation, IsStoredDock, IsStoredBike, IsStoredTruck, IsStoredRental, IsStoredOrder, IsStoredEntry, IsStoredCount}
+
+-- The reader gives exactly the values within their bounds of which rows are made.
+pub record IsReading {X : Type 0} (read : Row → Option X) (row_of : X → Row) (Good : X → Type 0) : Type 0 where
+  pub sound : (row : Row) (x : X) → read row ≡ Some x → (row ≡ row_of x) × Good x
+  pub full : (x : X) → Good x → read (row_of x) ≡ Some x
+
+abbrev pub MetaReading : Type 0
+MetaReading = IsReading meta_read (λ (x : ℕ × ℕ × ℤ × ℤ). meta_row x.0 x.1 x.2 x.3) (λ x. IsStoredMeta x.0 x.1)
+
+abbrev pub SystemReading : Type 0
+SystemReading = IsReading system_read system_row IsSystem
+
+-- a plan without its segments, which are rows of their own
+abbrev pub PlanReading : Type 0
+PlanReading = IsReading plan_read (λ (x : List ℕ × PlanRow). plan_row x.0 x.1) (λ x. IsStoredPlan x.0 x.1 × (x.1.segments ≡ []))
+
+abbrev pub SegmentReading : Type 0
+SegmentReading = IsReading segment_read (λ (x : List ℕ × ℕ × SegmentRow). segment_row x.0 x.1 x.2) (λ x. IsStoredSegment x.0 x.1 x.2)
+
+abbrev pub TypeReading : Type 0
+TypeReading = IsReading type_read (λ (x : List ℕ × TypeRow). type_row x.0 x.1) (λ x. IsStoredType x.0 x.1)
+
+abbrev pub StationReading : Type 0
+StationReading = IsReading station_read (λ (x : List ℕ × Station × ℤ × ℕ). station_row x.0 x.1 x.2 x.3) (λ x. IsStoredStation x.0 x.1 x.3)
+
+abbrev pub DockReading : Type 0
+DockReading = IsReading dock_read (λ (x : List ℕ × ℕ × Bool). dock_row x.0 x.1 x.2) (λ x. IsStoredDock x.0 x.1)
+
+abbrev pub BikeReading : Type 0
+BikeReading = IsReading bike_read (λ (x : ℕ × Bike). bike_row x.0 x.1) (λ x. IsStoredBike x.0 x.1)
+
+abbrev pub TruckReading : Type 0
+TruckReading = IsReading truck_read (λ (x : ℕ × Truck). truck_row x.0 x.1.capacity) (λ x. IsStoredTruck x.0 x.1)
+
+abbrev pub RiderReading : Type 0
+RiderReading = IsReading rider_read (λ (x : ℕ × Rider × ℤ). rider_row x.0 x.1.is_blocked x.2) (λ x. IsNumbered x.0)
+
+abbrev pub RentalReading : Type 0
+RentalReading = IsReading rental_read (λ (x : ℕ × Rental × ℤ). rental_row x.0 x.1 x.2) (λ x. IsStoredRental x.0 x.1)
+
+abbrev pub OrderReading : Type 0
+OrderReading = IsReading order_read (λ (x : ℕ × Order). order_row x.0 x.1) (λ x. IsStoredOrder x.0 x.1)
+
+abbrev pub EntryReading : Type 0
+EntryReading = IsReading entry_read (λ (e : Entry). entry_row e.number e) IsStoredEntry
+
+abbrev pub CountReading : Type 0
+CountReading = IsReading count_read (λ (x : List ℕ × List ℕ × ℕ × ℕ). count_row x.0 x.1 x.2 x.3) (λ x. IsStoredCount x.0 x.1 x.2 x.3)
+
+-- a kept request under the texts of its caller and key
+abbrev pub KeptReading : Type 0
+KeptReading =
+    IsReading kept_read (λ (x : Key × Kept). kept_row (first_text x.0) (second_text x.0) (text_of x.1.command) (reply_text x.1.reply)) (λ x. IsKept x.0 x.1)
