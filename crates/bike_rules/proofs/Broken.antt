@@ -22,11 +22,11 @@ use Rattle.bike_book.proofs.MapRows.{has_get}
 use Rattle.bike_book.proofs.Keys.{docks}
 use Rattle.bike_readings.specs.Readings.{dock_read}
 use Rattle.bike_readings.specs.Bounds.{IsStoredDock}
+use Rattle.bike_readings.proofs.CatalogueRows.{dock_reading}
 use Rattle.bike_rules.specs.ReadOff.{broken_in}
 use Rattle.bike_rules.proofs.ReadLists.{read_of, has_read}
 use Rattle.bike_rules.proofs.Places.{same_key}
 use Rattle.bike_rules.proofs.ReadBack.{get_has}
-use Rattle.bike_rules.proofs.ReadingLaws.{IsReading, dock_stored}
 
 -- ---- members of a list
 
@@ -118,7 +118,7 @@ module _ (broken : FinSet texts_cmp) (listed : FinMap texts_cmp (Unit {0})) (all
 
 -- ---- read, and written as it stood
 
-module _ (law : IsReading dock_read dock_stored (λ e. IsStoredDock e.0 e.1)) (rows : List Row) (up : Rises (by_key_total 2) rows) where
+module _ (rows : List Row) (up : Rises (by_key_total 2) rows) where
   -- the dock is broken exactly where its row says so
   pub broken_as : (row : Row) (station : List ℕ) (dock : ℕ) (b : Bool) → Has rows row → dock_read row ≡ Some (station, dock, b) → set.contains (broken_docks rows) (dock_key station dock) ≡ b
   broken_as row station dock true has is = marked rows (dock_key station dock) (has_read broken_in rows row (dock_key station dock) has (says row station dock true is))
@@ -128,8 +128,8 @@ module _ (law : IsReading dock_read dock_stored (λ e. IsStoredDock e.0 e.1)) (r
     go true e =
         let it = read_of broken_in rows (dock_key station dock) (has_marked rows (dock_key station dock) e) in
         let other = broken_row it.item (dock_key station dock) it.read_is in
-        let row_is : row ≡ dock_row station dock false = (law.sound row (station, dock, false) is).0 in
-        let item_is : it.item ≡ dock_row other.station other.dock true = (law.sound it.item (other.station, other.dock, true) other.read_is).0 in
+        let row_is : row ≡ dock_row station dock false = (dock_reading.sound row (station, dock, false) is).0 in
+        let item_is : it.item ≡ dock_row other.station other.dock true = (dock_reading.sound it.item (other.station, other.dock, true) other.read_is).0 in
         let a : other.station ≡ station = (let k = other.key_is in cc) in
         let n : other.dock ≡ dock = (let k = other.key_is in cc) in
         let keys : take 2 it.item ≡ take 2 row = ap (take 2) item_is ∙ (λ i. take 2 (dock_row (a i) (n i) true)) ∙ ap (take 2) (sym row_is) in

@@ -17,6 +17,15 @@ use Rattle.bike_places.proofs.CountLemmas.{count-cons, one}
 abbrev pub is_fare_of : ℕ → Entry → Bool
 is_fare_of rental e = is_fare e.kind && (e.rental == rental)
 
+-- ---- how many pass a test
+
+pub counted : {A : Type 0} (test : A → Bool) (xs : List A) → count test xs ≤ length xs
+counted test [] = omega arith
+counted test (x ∷ xs) = go (test x) (count-cons test x xs) (counted test xs) where
+  go : (b : Bool) → count test (x ∷ xs) ≡ one b + count test xs → count test xs ≤ length xs → count test (x ∷ xs) ≤ suc (length xs)
+  go true c rest = omega (arith, c, rest)
+  go false c rest = omega (arith, c, rest)
+
 -- ---- what the test says
 
 pub fare_kind : (k : EntryKind) (b : Bool) → (is_fare k && b) ≡ true → (k ≡ Fare) × (b ≡ true)

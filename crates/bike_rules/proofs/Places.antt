@@ -20,6 +20,7 @@ use Rattle.bike_book.specs.Rows.{number_value}
 use Rattle.bike_book.specs.Stored.{numbers_from, with_numbers}
 use Rattle.bike_book.proofs.MapRows.{BeginsWithKey}
 use Rattle.bike_book.proofs.Keys.{number_key, numbers}
+use Rattle.bike_rules.proofs.Fares.{counted}
 
 module _ (keys : ℕ) where
   abbrev Up : List Row → Type 0
@@ -65,20 +66,13 @@ module _ (keys : ℕ) where
 
   -- ---- how many have a lesser key
 
-  passes_one : (test : Row → Bool) (rows : List Row) → count test rows ≤ length rows
-  passes_one test [] = omega arith
-  passes_one test (r ∷ rows) = let rest = passes_one test rows in let c = count-cons test r rows in go (test r) c rest where
-    go : (b : Bool) → count test (r ∷ rows) ≡ one b + count test rows → count test rows ≤ length rows → count test (r ∷ rows) ≤ suc (length rows)
-    go true c rest = omega (arith, c, rest)
-    go false c rest = omega (arith, c, rest)
-
   -- a row that fails a test isn't counted
   fewer : (test : Row → Bool) (rows : List Row) (r : Row) → Has rows r → test r ≡ false → count test rows < length rows
   fewer test [] r has fails = elim has [ ]
   fewer test (x ∷ rows) r (inl is) fails =
       let out : one (test x) ≡ 0 = ap one (ap test (sym is) ∙ fails) in
       let c = count-cons test x rows in
-      let rest = passes_one test rows in
+      let rest = counted test rows in
       omega (arith, out, c, rest)
   fewer test (x ∷ rows) r (inr later) fails = let rest = fewer test rows r later fails in let c = count-cons test x rows in go (test x) c rest where
     go : (b : Bool) → count test (x ∷ rows) ≡ one b + count test rows → count test rows < length rows → count test (x ∷ rows) < suc (length rows)

@@ -33,21 +33,21 @@ use Rattle.bike_book.specs.Stored.{IsListing, IsDockKey, IsCountKey, tables_for,
 use Rattle.bike_book.proofs.MapRows.{found_entries, has_get}
 use Rattle.bike_book.proofs.Keys.{numbers, texts, pairs, docks, IsPair}
 use Rattle.bike_readings.specs.Readings.{meta_read, type_read, station_read, dock_read, bike_read, truck_read, rider_read, rental_read, order_read, entry_read, kept_read, count_read}
+use Rattle.bike_readings.proofs.CatalogueRows.{dock_reading, meta_reading}
+use Rattle.bike_readings.proofs.LedgerRows.{rental_reading}
 use Rattle.bike_rules.specs.ReadOff.{plan_in, station_in, rider_in, entry_in, dock_in, count_in, operator_of, listed_of}
 use Rattle.bike_rules.specs.Demands.{IsGoodMeta, IsGoodPlan, IsGoodType, IsGoodStation, IsGoodDock, IsGoodBike, IsGoodTruck, IsGoodRider, IsGoodRental, IsGoodOrder, IsGoodEntry, IsGoodKept, IsGoodCount, IsRiding, HasFare, IsFareOf, IsFirstFare, IsOneFare}
 use Rattle.bike_rules.specs.Rules.{AreInOrder, rows_below, HasNone, AreOf}
 use Rattle.bike_rules.proofs.ReadLists.{IsRead, AreRowsOf, has_read}
 use Rattle.bike_rules.proofs.Places.{within}
 use Rattle.bike_rules.proofs.ReadBack.{has_numbered}
-use Rattle.bike_rules.proofs.ReadingLaws.{AreReadings}
-use Rattle.bike_rules.proofs.SoundBounds.{counted}
 use Rattle.bike_rules.proofs.Broken.{broken_has}
-use Rattle.bike_rules.proofs.Fares.{is_fare_of, fare_parts, no_fares, one_fare, rentals_few}
+use Rattle.bike_rules.proofs.Fares.{counted, is_fare_of, fare_parts, no_fares, one_fare, rentals_few}
 use Rattle.bike_rules.proofs.RowRules.{some_with, some_is, AreGoodRows, LacksNone}
 use Rattle.bike_rules.proofs.ReadRows.{mapped, few_in, IsMeta, meta_are}
 use Rattle.bike_rules.proofs.TablesRead.{system_table, plans_table, plan_read_off, segments_table, types_table, stations_table, docks_table, counts_table, bikes_table, trucks_table, riders_table, kept_table, rentals_table, orders_table, entries_table}
 
-module _ (laws : AreReadings) (t : Tables) (up : AreInOrder t) (rows : AreGoodRows (operator_of t) t) where
+module _ (t : Tables) (up : AreInOrder t) (rows : AreGoodRows (operator_of t) t) where
   abbrev s : Operator
   s = operator_of t
 
@@ -58,12 +58,12 @@ module _ (laws : AreReadings) (t : Tables) (up : AreInOrder t) (rows : AreGoodRo
 
   type_fact : (id : List ℕ) (x : TypeRow) → fin.get s.types id ≡ Some x → IsTypeAt s id x
   type_fact id x found =
-      let at = (types_table laws t up rows).found id x found in
+      let at = (types_table t up rows).found id x found in
       (some_is (IsGoodType s (below_of Types at.item)) (type_read at.item) (id, x) (rows Types at.item at.has) at.read_is).good
 
   station_fact : (id : List ℕ) (x : Station) → fin.get s.stations id ≡ Some x → IsStationAt s id x
   station_fact id x found =
-      let at = (stations_table laws t up rows).found id x found in
+      let at = (stations_table t up rows).found id x found in
       let it = mapped (λ (e : List ℕ × Station × ℤ × ℕ). (e.0, e.1)) (station_read at.item) (id, x) at.read_is in
       let fact = some_is (IsGoodStation s (below_of Stations at.item)) (station_read at.item) it.value (rows Stations at.item at.has) it.value_is in
       subst (λ (e : List ℕ × Station). IsStationAt s e.0 e.1) it.part_is fact.good
@@ -73,12 +73,12 @@ module _ (laws : AreReadings) (t : Tables) (up : AreInOrder t) (rows : AreGoodRo
 
   bike_fact : (n : ℕ) (b : Bike) → fin.get s.bikes n ≡ Some b → (below : ℕ) × IsGoodBike s below (n, b)
   bike_fact n b found =
-      let at = (bikes_table laws t up rows).found n b found in
+      let at = (bikes_table t up rows).found n b found in
       (below_of Bikes at.item, some_is (IsGoodBike s (below_of Bikes at.item)) (bike_read at.item) (n, b) (rows Bikes at.item at.has) at.read_is)
 
   truck_fact : (n : ℕ) (x : Truck) → fin.get s.trucks n ≡ Some x → IsTruckAt s n x
   truck_fact n x found =
-      let at = (trucks_table laws t up rows).found n x found in
+      let at = (trucks_table t up rows).found n x found in
       (some_is (IsGoodTruck s (below_of Trucks at.item)) (truck_read at.item) (n, x) (rows Trucks at.item at.has) at.read_is).good
 
   -- a rider's number, and that at most one rental of him is open
@@ -88,7 +88,7 @@ module _ (laws : AreReadings) (t : Tables) (up : AreInOrder t) (rows : AreGoodRo
 
   rider_fact : (n : ℕ) (r : Rider) → fin.get s.riders n ≡ Some r → IsRider n
   rider_fact n r found =
-      let at = (riders_table laws t up rows).found n r found in
+      let at = (riders_table t up rows).found n r found in
       let it = mapped (λ (e : ℕ × Rider × ℤ). (e.0, e.1)) (rider_read at.item) (n, r) at.read_is in
       let fact = some_is (IsGoodRider s (below_of Riders at.item)) (rider_read at.item) it.value (rows Riders at.item at.has) it.value_is in
       let here : IsRider it.value.0 = record { good = fact.good; riding_once = fact.riding_once } in
@@ -100,14 +100,14 @@ module _ (laws : AreReadings) (t : Tables) (up : AreInOrder t) (rows : AreGoodRo
 
   rental_fact : (n : ℕ) (r : Rental) → numbered n s.rentals ≡ Some r → IsRentalFact (n, r)
   rental_fact n r found =
-      let at = (rentals_table laws t up rows).found n r found in
+      let at = (rentals_table t up rows).found n r found in
       let it = mapped (λ (e : ℕ × Rental × ℤ). (e.0, e.1)) (rental_read at.item) (n, r) at.read_is in
       let fact = some_is (IsGoodRental s (below_of Rentals at.item)) (rental_read at.item) it.value (rows Rentals at.item at.has) it.value_is in
       subst IsRentalFact it.part_is (below_of Rentals at.item, it.value.2, fact)
 
   order_fact : (n : ℕ) (o : Order) → numbered n s.orders ≡ Some o → IsOrderAt s n o
   order_fact n o found =
-      let at = (orders_table laws t up rows).found n o found in
+      let at = (orders_table t up rows).found n o found in
       (some_is (IsGoodOrder s (below_of Orders at.item)) (order_read at.item) (n, o) (rows Orders at.item at.has) at.read_is).good
 
   abbrev IsEntryFact : ℕ × Entry → Type 0
@@ -115,34 +115,34 @@ module _ (laws : AreReadings) (t : Tables) (up : AreInOrder t) (rows : AreGoodRo
 
   entry_fact : (n : ℕ) (e : Entry) → numbered n s.entries ≡ Some e → IsEntryFact (n, e)
   entry_fact n e found =
-      let at = (entries_table laws t up rows).found n e found in
+      let at = (entries_table t up rows).found n e found in
       let it = mapped (λ (x : Entry). (x.number, x)) (entry_read at.item) (n, e) at.read_is in
       let fact = some_is (IsGoodEntry s (below_of Entries at.item)) (entry_read at.item) it.value (rows Entries at.item at.has) it.value_is in
       subst IsEntryFact it.part_is (fact.good, fact.fare)
 
   kept_fact : (key : Key) (k : Kept) → fin.get s.kept key ≡ Some k → IsKeptAt key k
   kept_fact key k found =
-      let at = (kept_table laws t up rows).found key k found in
+      let at = (kept_table t up rows).found key k found in
       some_is (IsGoodKept s (below_of KeptTable at.item)) (kept_read at.item) (key, k) (rows KeptTable at.item at.has) at.read_is
 
   -- ---- the catalogue and the fleet
 
   broken_fact : (key : DockKey) → set.contains s.broken key ≡ true → IsBrokenDock s key
   broken_fact key marked =
-      let at = broken_has laws.docks t.docks (up Docks) key marked in
+      let at = broken_has t.docks (up Docks) key marked in
       record { station = at.1; dock = at.2; key_is = at.5; has = dock_fact at.0 at.1 at.2 true at.3 at.4 }
 
   pub catalogue_sound : IsCatalogueSound s
   catalogue_sound =
-      let plans = few_in texts stored_plan (λ e. refl) (plan_in t.segments) t.plans s.plans (plans_table laws t up rows) in
-      let types = few_in texts stored_type (λ e. refl) type_read t.types s.types (types_table laws t up rows) in
-      let stations = few_in texts (stored_station s) (λ e. refl) station_in t.stations s.stations (stations_table laws t up rows) in
+      let plans = few_in texts stored_plan (λ e. refl) (plan_in t.segments) t.plans s.plans (plans_table t up rows) in
+      let types = few_in texts stored_type (λ e. refl) type_read t.types s.types (types_table t up rows) in
+      let stations = few_in texts (stored_station s) (λ e. refl) station_in t.stations s.stations (stations_table t up rows) in
       let most_plans = within 1 t.plans MOST_PLANS (up Plans) (λ r has. (some_with (IsGoodPlan s (below_of Plans r)) (Rattle.bike_readings.specs.Readings.plan_read r) (rows Plans r has)).fact.room) in
       let most_types = within 1 t.types MOST_TYPES (up Types) (λ r has. (some_with (IsGoodType s (below_of Types r)) (type_read r) (rows Types r has)).fact.room) in
       let most_stations = within 1 t.stations MOST_STATIONS (up Stations) (λ r has. (some_with (IsGoodStation s (below_of Stations r)) (station_read r) (rows Stations r has)).fact.room) in
       record {
-        system = (system_table laws t up rows).good;
-        plans = λ id p found. (plan_read_off laws t up rows id p found).0;
+        system = (system_table t up rows).good;
+        plans = λ id p found. (plan_read_off t up rows id p found).0;
         types = type_fact;
         stations = station_fact;
         broken = broken_fact;
@@ -161,15 +161,15 @@ module _ (laws : AreReadings) (t : Tables) (up : AreInOrder t) (rows : AreGoodRo
 
   pub bikes_sound : AreBikesSound s
   bikes_sound =
-      let bikes = few_in numbers stored_bike (λ e. refl) bike_read t.bikes s.bikes (bikes_table laws t up rows) in
+      let bikes = few_in numbers stored_bike (λ e. refl) bike_read t.bikes s.bikes (bikes_table t up rows) in
       let most = within 1 t.bikes MOST_BIKES (up Bikes) (λ r has. (some_with (IsGoodBike s (below_of Bikes r)) (bike_read r) (rows Bikes r has)).fact.room) in
       record { bikes = λ n b found. (bike_fact n b found).1.good; apart = one_bike; few = omega (arith, bikes, most) }
 
   pub orders_sound : AreOrdersSound s
   orders_sound =
-      let trucks = few_in numbers stored_truck (λ e. refl) truck_read t.trucks s.trucks (trucks_table laws t up rows) in
+      let trucks = few_in numbers stored_truck (λ e. refl) truck_read t.trucks s.trucks (trucks_table t up rows) in
       let most_trucks = within 1 t.trucks MOST_TRUCKS (up Trucks) (λ r has. (some_with (IsGoodTruck s (below_of Trucks r)) (truck_read r) (rows Trucks r has)).fact.room) in
-      let orders = (orders_table laws t up rows).length_is in
+      let orders = (orders_table t up rows).length_is in
       let most_orders = within 1 t.orders MOST_ORDERS (up Orders) (λ r has. (some_with (IsGoodOrder s (below_of Orders r)) (order_read r) (rows Orders r has)).fact.room) in
       record { trucks = truck_fact; orders = order_fact; few_trucks = omega (arith, trucks, most_trucks); few_orders = omega (arith, orders, most_orders) }
 
@@ -238,18 +238,18 @@ module _ (laws : AreReadings) (t : Tables) (up : AreInOrder t) (rows : AreGoodRo
   -- there are no more rentals than numbers for them
   rentals_within : length s.rentals ≤ MOST_ENTRIES
   rentals_within =
-      let all = (rentals_table laws t up rows).length_is in
+      let all = (rentals_table t up rows).length_is in
       let most =
       within 1 t.rentals MOST_ENTRIES (up Rentals) (λ r has.
         let it = some_with (IsGoodRental s (below_of Rentals r)) (rental_read r) (rows Rentals r has) in
         let number = it.fact.number_is in
-        let serial = (laws.rentals.sound r it.value it.value_is).1.good_number.1 in
+        let serial = (rental_reading.sound r it.value it.value_is).1.good_number.1 in
         omega (arith, number, serial)) in
       omega (arith, all, most)
 
   entries_within : (rs : List Row) → t.entries ≡ rs → length s.entries + open_rentals s ≤ MOST_ENTRIES
   entries_within [] none =
-      let all = (entries_table laws t up rows).length_is in
+      let all = (entries_table t up rows).length_is in
       let empty : length t.entries ≡ 0 = ap (λ (xs : List Row). length xs) none in
       let some = counted is_open s.rentals in
       let most = rentals_within in
@@ -258,12 +258,12 @@ module _ (laws : AreReadings) (t : Tables) (up : AreInOrder t) (rows : AreGoodRo
       let room : (x : Row) → Has t.entries x → below_of Entries x + open_rentals s < MOST_ENTRIES = λ x has. (some_with (IsGoodEntry s (below_of Entries x)) (entry_read x) (rows Entries x has)).fact.room in
       let first = room r (subst (λ (xs : List Row). Has xs r) (sym is) (inl refl)) in
       let most = within 1 t.entries (MOST_ENTRIES - open_rentals s) (up Entries) (λ x has. let low = room x has in omega (arith, low)) in
-      let all = (entries_table laws t up rows).length_is in
+      let all = (entries_table t up rows).length_is in
       omega (arith, first, most, all)
 
   pub ledger_sound : IsLedgerSound s
   ledger_sound =
-      let riders = few_in numbers (stored_rider s.entries) (λ e. refl) rider_in t.riders s.riders (riders_table laws t up rows) in
+      let riders = few_in numbers (stored_rider s.entries) (λ e. refl) rider_in t.riders s.riders (riders_table t up rows) in
       let most = within 1 t.riders MOST_RIDERS (up Riders) (λ r has. (some_with (IsGoodRider s (below_of Riders r)) (rider_read r) (rows Riders r has)).fact.room) in
       record {
         riders = λ n r found. (rider_fact n r found).good;
@@ -277,7 +277,7 @@ module _ (laws : AreReadings) (t : Tables) (up : AreInOrder t) (rows : AreGoodRo
   dock_listed : (key : DockKey) → fin.contains_key (listed_of t).docks key ≡ true → IsDockKey s key
   dock_listed key known =
       let there = there_of (fin.get (listed_of t).docks key) known in
-      let at = (docks_table laws t up rows).found key there.0 there.1 in
+      let at = (docks_table t up rows).found key there.0 there.1 in
       let it = mapped (λ (x : List ℕ × ℕ × Bool). (dock_key x.0 x.1, tt)) (dock_read at.item) (key, there.0) at.read_is in
       record {
         station = it.value.0;
@@ -288,16 +288,16 @@ module _ (laws : AreReadings) (t : Tables) (up : AreInOrder t) (rows : AreGoodRo
 
   broken_listed : (key : DockKey) → set.contains s.broken key ≡ true → fin.contains_key (listed_of t).docks key ≡ true
   broken_listed key marked =
-      let at = broken_has laws.docks t.docks (up Docks) key marked in
+      let at = broken_has t.docks (up Docks) key marked in
       let read : dock_in at.0 ≡ Some (key, tt) = ap (option_map (λ (x : List ℕ × ℕ × Bool). (dock_key x.0 x.1, tt))) at.4 ∙ ap (λ (k : DockKey). Some (k, tt)) (sym at.5) in
       let has = has_read dock_in t.docks at.0 (key, tt) at.3 read in
-      let listed = (docks_table laws t up rows).entries_are in
+      let listed = (docks_table t up rows).entries_are in
       ap is_some (has_get docks.total (listed_of t).docks (key, tt) (subst (λ (es : List (DockKey × Unit {0})). Has es (key, tt)) (sym listed) has))
 
   count_listed : (key : Key) → fin.contains_key (listed_of t).counts key ≡ true → IsCountKey s key
   count_listed key known =
       let there = there_of (fin.get (listed_of t).counts key) known in
-      let at = (counts_table laws t up rows).found key there.0 there.1 in
+      let at = (counts_table t up rows).found key there.0 there.1 in
       let it = mapped (λ (x : List ℕ × List ℕ × ℕ × ℕ). (key_of x.0 x.1, tt)) (count_read at.item) (key, there.0) at.read_is in
       let fact = some_is (IsGoodCount s (below_of Counts at.item)) (count_read at.item) it.value (rows Counts at.item at.has) it.value_is in
       record { station = it.value.0; type_id = it.value.1; key_is = ap (λ (x : Key × Unit {0}). x.0) (sym it.part_is); has_station = fact.has_station; has_type = fact.has_type }
@@ -311,15 +311,15 @@ module _ (laws : AreReadings) (t : Tables) (up : AreInOrder t) (rows : AreGoodRo
       under : (o : Option (Unit {0})) → fin.get (listed_of t).counts (key_of station type_id) ≡ o → is_some o ≡ false → row_with 2 (Text station ∷ Text type_id ∷ []) t.counts ≡ None
       under (Some v) e is = absurd cc
       under None e is =
-          ap (row_with 2 (Text station ∷ Text type_id ∷ [])) (counts_table laws t up rows).rows_are
+          ap (row_with 2 (Text station ∷ Text type_id ∷ [])) (counts_table t up rows).rows_are
           ∙ found_entries pairs (stored_count s) (λ e. refl) (key_of station type_id) (record { first = station; second = type_id; is = refl }) (listed_of t).counts count_pair
           ∙ ap (option_map (λ (v : Unit {0}). stored_count s (key_of station type_id, v))) e
 
     listing : IsListing s (listed_of t)
     listing = record { docks = dock_listed; marked = broken_listed; counts = count_listed; counted = not_listed }
 
-    meta : IsMeta laws.meta s t.meta
-    meta = meta_are laws.meta s t.meta (up Meta) (λ r has. (below_of Meta r, rows Meta r has)) (λ none. lacks Meta (number_value 1 ∷ []) none refl)
+    meta : IsMeta s t.meta
+    meta = meta_are s t.meta (up Meta) (λ r has. (below_of Meta r, rows Meta r has)) (λ none. lacks Meta (number_value 1 ∷ []) none refl)
 
     sound : IsSound s
     sound = record { catalogue = catalogue_sound; bikes = bikes_sound; orders = orders_sound; rentals = rentals_sound; ledger = ledger_sound; kept = kept_fact; now = meta.by_last }
@@ -327,20 +327,20 @@ module _ (laws : AreReadings) (t : Tables) (up : AreInOrder t) (rows : AreGoodRo
     tables : t ≡ tables_for s (listed_of t)
     tables =
         let meta_rows = meta.rows_are in
-        let system = (system_table laws t up rows).rows_are in
-        let plans = (plans_table laws t up rows).rows_are in
-        let segments = segments_table laws t up rows in
-        let types = (types_table laws t up rows).rows_are in
-        let stations = (stations_table laws t up rows).rows_are in
-        let dock_rows = (docks_table laws t up rows).rows_are in
-        let bikes = (bikes_table laws t up rows).rows_are in
-        let trucks = (trucks_table laws t up rows).rows_are in
-        let riders = (riders_table laws t up rows).rows_are in
-        let rentals = (rentals_table laws t up rows).rows_are in
-        let orders = (orders_table laws t up rows).rows_are in
-        let entries = (entries_table laws t up rows).rows_are in
-        let kept = (kept_table laws t up rows).rows_are in
-        let counts = (counts_table laws t up rows).rows_are in
+        let system = (system_table t up rows).rows_are in
+        let plans = (plans_table t up rows).rows_are in
+        let segments = segments_table t up rows in
+        let types = (types_table t up rows).rows_are in
+        let stations = (stations_table t up rows).rows_are in
+        let dock_rows = (docks_table t up rows).rows_are in
+        let bikes = (bikes_table t up rows).rows_are in
+        let trucks = (trucks_table t up rows).rows_are in
+        let riders = (riders_table t up rows).rows_are in
+        let rentals = (rentals_table t up rows).rows_are in
+        let orders = (orders_table t up rows).rows_are in
+        let entries = (entries_table t up rows).rows_are in
+        let kept = (kept_table t up rows).rows_are in
+        let counts = (counts_table t up rows).rows_are in
         λ i. record {
           meta = meta_rows i;
           system = system i;
