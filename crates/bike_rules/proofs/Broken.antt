@@ -9,7 +9,7 @@ use Rattle.std.specs.FinMap.{FinMap}
 use Rattle.std.specs.FinSet as set
 use Rattle.std.specs.FinSet.{FinSet}
 use Rattle.std.proofs.lemmas.Cmp.{tied_itself}
-use Rattle.sqlite_value.specs.Order.{Row}
+use Rattle.sqlite_value.specs.Order.{Row, row_cmp}
 use Rattle.sqlite_rules.specs.Lists.{Has}
 use Rattle.bike_rows.proofs.OrderLemmas.{Rises}
 use Rattle.bike_rows.proofs.TreeLemmas.{by_key_total}
@@ -133,7 +133,7 @@ module _ (rows : List Row) (up : Rises (by_key_total 2) rows) where
         let a : other.station ≡ station = (let k = other.key_is in cc) in
         let n : other.dock ≡ dock = (let k = other.key_is in cc) in
         let keys : take 2 it.item ≡ take 2 row = ap (take 2) item_is ∙ (λ i. take 2 (dock_row (a i) (n i) true)) ∙ ap (take 2) (sym row_is) in
-        let tie = ap (λ (k : Row). Rattle.sqlite_value.specs.Order.row_cmp k (take 2 row)) keys ∙ tied_itself (by_key_total 2) row in
+        let tie = ap (λ (k : Row). row_cmp k (take 2 row)) keys ∙ tied_itself (by_key_total 2) row in
         let same : it.item ≡ row = same_key 2 rows it.item row up it.has has tie in
         let both : ◌≡◌ {A = Option (List ℕ × ℕ × Bool)} (Some (other.station, other.dock, true)) (Some (station, dock, false)) = sym other.read_is ∙ ap dock_read same ∙ is in
         absurd cc

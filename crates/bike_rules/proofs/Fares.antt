@@ -107,7 +107,7 @@ one_item rental amount (e ∷ es) some each once = go (is_fare_of rental e) refl
 
   go : (b : Bool) → is_fare_of rental e ≡ b
       → (1 ≤ length (fares_of rental es) → ((i : ℕ) (x : Entry) → item_at i es ≡ Some x → is_fare_of rental x ≡ true → x.amount ≡ amount)
-        → ((i j : ℕ) (x y : Entry) → i < j → item_at i es ≡ Some x → item_at j es ≡ Some y → is_fare_of rental x ≡ true → is_fare_of rental y ≡ true → ⊥) → fares_of rental es ≡ amount ∷ [])
+      → ((i j : ℕ) (x y : Entry) → i < j → item_at i es ≡ Some x → item_at j es ≡ Some y → is_fare_of rental x ≡ true → is_fare_of rental y ≡ true → ⊥) → fares_of rental es ≡ amount ∷ [])
       → fares_of rental (e ∷ es) ≡ amount ∷ []
   go true is rest =
       further rental e es true is ∙ ap₂ (λ (z : ℤ) (zs : List ℤ). z ∷ zs) (each zero e refl is) (no_item rental es (λ i x found. other is i x found (is_fare_of rental x) refl))

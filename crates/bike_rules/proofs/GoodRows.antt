@@ -28,7 +28,7 @@ use Rattle.bike_counts.specs.Numbers.{disabled_of}
 use Rattle.bike_places.proofs.ItemLemmas.{number_within}
 use Rattle.bike_book.specs.declared.version.TheConstants.{NEWEST}
 use Rattle.bike_book.specs.Tables.{TableName, Tables, rows_in, keys_of, Meta, System, Plans, Segments, Types, Stations, Docks, Bikes, Trucks, Riders, Rentals, Orders, Entries, Kept as KeptTable, Counts}
-use Rattle.bike_book.specs.Rows.{number_value}
+use Rattle.bike_book.specs.Rows.{number_value, meta_row}
 use Rattle.bike_book.specs.Stored.{Listed, IsListing, tables_for, meta_rows, system_rows, with_numbers, plans_segments, stored_plan, stored_type, stored_station, stored_dock, stored_bike, stored_truck, stored_rider, stored_rental, stored_order, stored_entry, stored_kept, stored_count}
 use Rattle.bike_book.proofs.MapRows.{StoresKeys, BeginsWithKey, has_get}
 use Rattle.bike_book.proofs.Keys.{numbers, texts, pairs, docks}
@@ -129,8 +129,7 @@ module _ (s : Operator) (m : Listed) (sound : IsSound s) (listing : IsListing s 
   fare_good n e below found number Fare kind b =
       let of = b.0 in
       let booked : fares_of e.rental s.entries ≡ of.closing.fare ∷ [] = (sound.rentals.rentals e.rental of.row of.found).booked ∙ ap fares_in of.closed in
-      let passes = fare_passes e.rental e kind refl in
-      (
+      let passes = fare_passes e.rental e kind refl in (
         record {
           row = of.row;
           closing = of.closing;
@@ -180,46 +179,46 @@ module _ (s : Operator) (m : Listed) (sound : IsSound s) (listing : IsListing s 
   all_rows_good Segments row has = segment_good row _ has
   all_rows_good Plans row has =
       map_good texts stored_plan plan_read (IsGoodPlan s) s.plans (λ k v below found low.
-        let few = sound.catalogue.few_plans in
-        some_and (IsGoodPlan s below) (plan_read (stored_plan (k, v))) (k, record v { segments = [] }) (plan_is s m sound listing k v found) (record { room = omega (arith, low, few) })) row has
+      let few = sound.catalogue.few_plans in
+      some_and (IsGoodPlan s below) (plan_read (stored_plan (k, v))) (k, record v { segments = [] }) (plan_is s m sound listing k v found) (record { room = omega (arith, low, few) })) row has
   all_rows_good Types row has =
       map_good texts stored_type type_read (IsGoodType s) s.types (λ k v below found low.
-        let few = sound.catalogue.few_types in
-        some_and (IsGoodType s below) (type_read (stored_type (k, v))) (k, v) (type_is s m sound listing k v found) (record { room = omega (arith, low, few); good = sound.catalogue.types k v found })) row has
+      let few = sound.catalogue.few_types in
+      some_and (IsGoodType s below) (type_read (stored_type (k, v))) (k, v) (type_is s m sound listing k v found) (record { room = omega (arith, low, few); good = sound.catalogue.types k v found })) row has
   all_rows_good Stations row has =
       map_good texts (stored_station s) station_read (IsGoodStation s) s.stations (λ k v below found low.
-        let few = sound.catalogue.few_stations in
-        some_and (IsGoodStation s below) (station_read (stored_station s (k, v))) (k, v, pos (docks_available s k v.row.docks), docks_broken s k v.row.docks) (station_is s m sound listing k v found)
-        (record { room = omega (arith, low, few); good = sound.catalogue.stations k v found; free_is = refl; broken_is = refl })) row has
+      let few = sound.catalogue.few_stations in
+      some_and (IsGoodStation s below) (station_read (stored_station s (k, v))) (k, v, pos (docks_available s k v.row.docks), docks_broken s k v.row.docks) (station_is s m sound listing k v found)
+      (record { room = omega (arith, low, few); good = sound.catalogue.stations k v found; free_is = refl; broken_is = refl })) row has
   all_rows_good Docks row has = map_good docks (stored_dock s.broken) dock_read (IsGoodDock s) m.docks (λ k v below found low. dock_good k v below found) row has
   all_rows_good Bikes row has =
       map_good numbers stored_bike bike_read (IsGoodBike s) s.bikes (λ k v below found low.
-        let few = sound.bikes.few in
-        some_and (IsGoodBike s below) (bike_read (stored_bike (k, v))) (k, v) (bike_is s m sound listing k v found) (record {
-          room = omega (arith, low, few);
-          good = sound.bikes.bikes k v found;
-          alone = λ other x station dock less there p q. let same = sound.bikes.apart other k x v station dock there found p q in omega (arith, less, same);
-        })) row has
+      let few = sound.bikes.few in
+      some_and (IsGoodBike s below) (bike_read (stored_bike (k, v))) (k, v) (bike_is s m sound listing k v found) (record {
+        room = omega (arith, low, few);
+        good = sound.bikes.bikes k v found;
+        alone = λ other x station dock less there p q. let same = sound.bikes.apart other k x v station dock there found p q in omega (arith, less, same);
+      })) row has
   all_rows_good Trucks row has =
       map_good numbers stored_truck truck_read (IsGoodTruck s) s.trucks (λ k v below found low.
-        let few = sound.orders.few_trucks in
-        some_and (IsGoodTruck s below) (truck_read (stored_truck (k, v))) (k, v) (truck_is s m sound listing k v found) (record { room = omega (arith, low, few); good = sound.orders.trucks k v found })) row has
+      let few = sound.orders.few_trucks in
+      some_and (IsGoodTruck s below) (truck_read (stored_truck (k, v))) (k, v) (truck_is s m sound listing k v found) (record { room = omega (arith, low, few); good = sound.orders.trucks k v found })) row has
   all_rows_good Riders row has =
       map_good numbers (stored_rider s.entries) rider_read (IsGoodRider s) s.riders (λ k v below found low.
-        let few = sound.ledger.few_riders in
-        some_and (IsGoodRider s below) (rider_read (stored_rider s.entries (k, v))) (k, v, balance_of k s.entries) (rider_is s m sound listing k v found) (record {
-          room = omega (arith, low, few);
-          good = sound.ledger.riders k v found;
-          balance_is = refl;
-          riding_once = λ a b x y. sound.rentals.riding a b x.row y.row x.found y.found x.not_closed y.not_closed (x.rider_is ∙ sym y.rider_is);
-        })) row has
+      let few = sound.ledger.few_riders in
+      some_and (IsGoodRider s below) (rider_read (stored_rider s.entries (k, v))) (k, v, balance_of k s.entries) (rider_is s m sound listing k v found) (record {
+        room = omega (arith, low, few);
+        good = sound.ledger.riders k v found;
+        balance_is = refl;
+        riding_once = λ a b x y. sound.rentals.riding a b x.row y.row x.found y.found x.not_closed y.not_closed (x.rider_is ∙ sym y.rider_is);
+      })) row has
   all_rows_good Rentals row has = numbered_good (stored_rental s.entries) (λ e. refl) rental_read (IsGoodRental s) s.rentals rental_good row has
   all_rows_good Orders row has =
       numbered_good stored_order (λ e. refl) order_read (IsGoodOrder s) s.orders (λ n o below found place.
-        let few = sound.orders.few_orders in
-        let high = number_within n s.orders o found in
-        some_and (IsGoodOrder s below) (order_read (stored_order (n, o))) (n, o) (order_is s m sound listing n o found)
-        (record { number_is = place; room = omega (arith, few, high, place); good = sound.orders.orders n o found })) row has
+      let few = sound.orders.few_orders in
+      let high = number_within n s.orders o found in
+      some_and (IsGoodOrder s below) (order_read (stored_order (n, o))) (n, o) (order_is s m sound listing n o found)
+      (record { number_is = place; room = omega (arith, few, high, place); good = sound.orders.orders n o found })) row has
   all_rows_good Entries row has = numbered_good stored_entry (λ e. refl) entry_read (IsGoodEntry s) s.entries entry_good row has
   all_rows_good KeptTable row has =
       map_good pairs stored_kept kept_read (IsGoodKept s) s.kept (λ k v below found low. some_and (IsGoodKept s below) (kept_read (stored_kept (k, v))) (k, v) (kept_is s m sound listing k v found) (sound.kept k v found)) row has
@@ -229,9 +228,9 @@ module _ (s : Operator) (m : Listed) (sound : IsSound s) (listing : IsListing s 
 
   meta_there : (key : Row) → row_with 1 key (meta_rows s) ≡ None → key ≡ number_value 1 ∷ [] → ⊥
   meta_there key none is =
-      let there : row_with 1 (number_value 1 ∷ []) (meta_rows s) ≡ Some (Rattle.bike_book.specs.Rows.meta_row NEWEST s.now (cash_of s.entries) (revenue_of s.entries)) =
-      has_under 1 (meta_rows s) (Rattle.bike_book.specs.Rows.meta_row NEWEST s.now (cash_of s.entries) (revenue_of s.entries)) (tt, tt) (inl refl) in
-      let both : ◌≡◌ {A = Option Row} None (Some (Rattle.bike_book.specs.Rows.meta_row NEWEST s.now (cash_of s.entries) (revenue_of s.entries))) = sym none ∙ ap (λ (k : Row). row_with 1 k (meta_rows s)) is ∙ there in
+      let there : row_with 1 (number_value 1 ∷ []) (meta_rows s) ≡ Some (meta_row NEWEST s.now (cash_of s.entries) (revenue_of s.entries)) =
+      has_under 1 (meta_rows s) (meta_row NEWEST s.now (cash_of s.entries) (revenue_of s.entries)) (tt, tt) (inl refl) in
+      let both : ◌≡◌ {A = Option Row} None (Some (meta_row NEWEST s.now (cash_of s.entries) (revenue_of s.entries))) = sym none ∙ ap (λ (k : Row). row_with 1 k (meta_rows s)) is ∙ there in
       absurd cc
 
   counts_lacking : (key : Row) → row_with 2 key (map (stored_count s) (fin.entries m.counts)) ≡ None → (station type_id : List ℕ) → key ≡ Text station ∷ Text type_id ∷ [] → HasNone s station type_id

@@ -1,5 +1,5 @@
 -- The operator is what is read off his tables.
-use Rattle.std.proofs.Common.{◌≡◌, ℕ, zero, suc, ◌+◌, ◌≤◌, pos, List, [], ◌∷◌, length, true, Option, Some, None, is_some, refl, sym, ap, ◌∙◌, subst, arith}
+use Rattle.std.proofs.Common.{◌≡◌, ℕ, zero, suc, ◌+◌, ◌≤◌, pos, List, [], ◌∷◌, length, true, Option, Some, None, is_some, refl, sym, ap, ◌∙◌, subst, arith, Bool}
 use Rattle.std.specs.Prelude.{option_map, unwrap_or}
 use Rattle.std.specs.List.{filter_map, cons_option}
 use Rattle.std.specs.FinMap as fin
@@ -13,9 +13,9 @@ use Rattle.bike_texts.specs.Fields.{AreSegments}
 use Rattle.bike_operator.specs.declared.records.Bike.{Bike}
 use Rattle.bike_operator.specs.declared.records.Rental.{Rental}
 use Rattle.bike_operator.specs.declared.records.Order.{Order}
-use Rattle.bike_operator.specs.Operator.{Operator, Station, Truck, Rider, Kept, Key, DockKey, dock_key, key_of, item_at}
+use Rattle.bike_operator.specs.Operator.{Operator, Station, Truck, Rider, Kept, Key, DockKey, dock_key, key_of, item_at, numbered}
 use Rattle.bike_operator.specs.Counts.{docks_available, docks_broken, available_of}
-use Rattle.bike_operator.specs.Sound.{IsSound, IsSetSystem}
+use Rattle.bike_operator.specs.Sound.{IsSound, IsSetSystem, HasDock}
 use Rattle.bike_places.proofs.ItemLemmas.{number_within}
 use Rattle.bike_counts.specs.Numbers.{disabled_of}
 use Rattle.bike_book.specs.declared.version.TheConstants.{NEWEST}
@@ -33,11 +33,12 @@ use Rattle.bike_rules.proofs.ReadBack.{map_back, numbered_back}
 use Rattle.bike_rules.proofs.Segments.{segments_back}
 use Rattle.bike_rules.proofs.Broken.{broken_back}
 use Rattle.bike_readings.proofs.SoundBounds.{meta_stored, segment_stored, dock_stored, type_stored, station_stored, bike_stored, truck_stored, rider_stored, rental_stored, order_stored, entry_stored, count_stored}
+use Rattle.bike_book.specs.Rows.{meta_row}
 
 module _ (s : Operator) (m : Listed) (sound : IsSound s) (listing : IsListing s m) where
   -- ---- what the rows of each table spell
 
-  pub meta_is : meta_read (Rattle.bike_book.specs.Rows.meta_row NEWEST s.now (cash_of s.entries) (revenue_of s.entries)) ≡ Some (NEWEST, s.now, cash_of s.entries, revenue_of s.entries)
+  pub meta_is : meta_read (meta_row NEWEST s.now (cash_of s.entries) (revenue_of s.entries)) ≡ Some (NEWEST, s.now, cash_of s.entries, revenue_of s.entries)
   meta_is = meta_reading.full (NEWEST, s.now, cash_of s.entries, revenue_of s.entries) (meta_stored s sound)
 
   abbrev bare : PlanRow → PlanRow
@@ -67,7 +68,7 @@ module _ (s : Operator) (m : Listed) (sound : IsSound s) (listing : IsListing s 
       → station_read (stored_station s (id, x)) ≡ Some (id, x, pos (docks_available s id x.row.docks), docks_broken s id x.row.docks)
   station_is id x found = station_reading.full (id, x, pos (docks_available s id x.row.docks), docks_broken s id x.row.docks) (station_stored s sound id x found)
 
-  pub dock_is : (station : List ℕ) (dock : ℕ) (key : DockKey) → fin.contains_key m.docks key ≡ true → key ≡ dock_key station dock → Rattle.bike_operator.specs.Sound.HasDock s station dock
+  pub dock_is : (station : List ℕ) (dock : ℕ) (key : DockKey) → fin.contains_key m.docks key ≡ true → key ≡ dock_key station dock → HasDock s station dock
       → dock_read (stored_dock s.broken (key, tt)) ≡ Some (station, dock, set.contains s.broken key)
   dock_is station dock key known is has =
       subst (λ (q : DockKey). dock_read (stored_dock s.broken (q, tt)) ≡ Some (station, dock, set.contains s.broken q)) (sym is)
@@ -82,13 +83,13 @@ module _ (s : Operator) (m : Listed) (sound : IsSound s) (listing : IsListing s 
   pub rider_is : (n : ℕ) (r : Rider) → fin.get s.riders n ≡ Some r → rider_read (stored_rider s.entries (n, r)) ≡ Some (n, r, balance_of n s.entries)
   rider_is n r found = rider_reading.full (n, r, balance_of n s.entries) (rider_stored s sound n r found)
 
-  pub rental_is : (n : ℕ) (r : Rental) → Rattle.bike_operator.specs.Operator.numbered n s.rentals ≡ Some r → rental_read (stored_rental s.entries (n, r)) ≡ Some (n, r, refunded_of n s.entries)
+  pub rental_is : (n : ℕ) (r : Rental) → numbered n s.rentals ≡ Some r → rental_read (stored_rental s.entries (n, r)) ≡ Some (n, r, refunded_of n s.entries)
   rental_is n r found = rental_reading.full (n, r, refunded_of n s.entries) (rental_stored s sound n r found)
 
-  pub order_is : (n : ℕ) (o : Order) → Rattle.bike_operator.specs.Operator.numbered n s.orders ≡ Some o → order_read (stored_order (n, o)) ≡ Some (n, o)
+  pub order_is : (n : ℕ) (o : Order) → numbered n s.orders ≡ Some o → order_read (stored_order (n, o)) ≡ Some (n, o)
   order_is n o found = order_reading.full (n, o) (order_stored s sound n o found)
 
-  pub entry_is : (n : ℕ) (e : Entry) → Rattle.bike_operator.specs.Operator.numbered n s.entries ≡ Some e → entry_read (stored_entry (n, e)) ≡ Some e
+  pub entry_is : (n : ℕ) (e : Entry) → numbered n s.entries ≡ Some e → entry_read (stored_entry (n, e)) ≡ Some e
   entry_is n e found =
       let number = (sound.ledger.entries n e found).number_is in
       ap (λ (k : ℕ). entry_read (stored_entry (k, e))) (sym number) ∙ entry_reading.full e (entry_stored s sound n e found)
@@ -122,7 +123,7 @@ module _ (s : Operator) (m : Listed) (sound : IsSound s) (listing : IsListing s 
   listed_dock_back : (key : DockKey) (v : Unit {0}) → fin.get m.docks key ≡ Some v → dock_in (stored_dock s.broken (key, v)) ≡ Some (key, v)
   listed_dock_back key v found =
       let k = dock_back key (ap is_some found) in
-      ap (option_map (λ (e : List ℕ × ℕ × Rattle.std.proofs.Common.Bool). (dock_key e.0 e.1, tt))) k.3 ∙ ap (λ (q : DockKey). Some (q, tt)) (sym k.2)
+      ap (option_map (λ (e : List ℕ × ℕ × Bool). (dock_key e.0 e.1, tt))) k.3 ∙ ap (λ (q : DockKey). Some (q, tt)) (sym k.2)
 
   pub operator_back : operator_of (tables_for s m) ≡ s
   operator_back =

@@ -1,6 +1,6 @@
 -- What good rows spell: the rows of a map, of a numbered list, and the one row of meta and of system.
 use Rattle.std.proofs.Common.{◌≡◌, ◌⊎◌, inl, inr, ℕ, ℤ, suc, ◌+◌, ◌<◌, ◌≤◌, List, [], ◌∷◌, length, map, Option, Some, None, refl, sym, ap, ap₂, ◌∙◌, subst, arith}
-use Rattle.std.specs.Prelude.{option_map, take}
+use Rattle.std.specs.Prelude.{option_map, take, unwrap_or}
 use Rattle.std.specs.Option.{IsSomeAnd}
 use Rattle.std.specs.List.{filter_map, cons_option}
 use Rattle.std.specs.declared.cmp.Ordering.{Ordering}
@@ -110,7 +110,7 @@ module _ (s : Operator) where
       let good = each r (inl refl) in
       let it = some_with (IsGoodMeta s good.0) (meta_read r) good.1 in
       let law_is = meta_reading.sound r it.value it.value_is in
-      let now : moment_of (r ∷ []) ≡ it.value.1 = ap (λ (o : Option (ℕ × ℕ × ℤ × ℤ)). Rattle.std.specs.Prelude.unwrap_or (option_map (λ (e : ℕ × ℕ × ℤ × ℤ). e.1) (first (cons_option o []))) 0) it.value_is in
+      let now : moment_of (r ∷ []) ≡ it.value.1 = ap (λ (o : Option (ℕ × ℕ × ℤ × ℤ)). unwrap_or (option_map (λ (e : ℕ × ℕ × ℤ × ℤ). e.1) (first (cons_option o []))) 0) it.value_is in
       let version = it.fact.version_is in
       let cash = it.fact.cash_is in
       let revenue = it.fact.revenue_is in

@@ -32,7 +32,7 @@ use Rattle.bike_book.specs.Rows.{number_value}
 use Rattle.bike_book.specs.Stored.{IsListing, IsDockKey, IsCountKey, tables_for, stored_plan, stored_type, stored_station, stored_dock, stored_bike, stored_truck, stored_rider, stored_count}
 use Rattle.bike_book.proofs.MapRows.{found_entries, has_get}
 use Rattle.bike_book.proofs.Keys.{numbers, texts, pairs, docks, IsPair}
-use Rattle.bike_readings.specs.Readings.{meta_read, type_read, station_read, dock_read, bike_read, truck_read, rider_read, rental_read, order_read, entry_read, kept_read, count_read}
+use Rattle.bike_readings.specs.Readings.{meta_read, type_read, station_read, dock_read, bike_read, truck_read, rider_read, rental_read, order_read, entry_read, kept_read, count_read, plan_read}
 use Rattle.bike_readings.proofs.CatalogueRows.{dock_reading, meta_reading}
 use Rattle.bike_readings.proofs.LedgerRows.{rental_reading}
 use Rattle.bike_rules.specs.ReadOff.{plan_in, station_in, rider_in, entry_in, dock_in, count_in, operator_of, listed_of}
@@ -137,7 +137,7 @@ module _ (t : Tables) (up : AreInOrder t) (rows : AreGoodRows (operator_of t) t)
       let plans = few_in texts stored_plan (λ e. refl) (plan_in t.segments) t.plans s.plans (plans_table t up rows) in
       let types = few_in texts stored_type (λ e. refl) type_read t.types s.types (types_table t up rows) in
       let stations = few_in texts (stored_station s) (λ e. refl) station_in t.stations s.stations (stations_table t up rows) in
-      let most_plans = within 1 t.plans MOST_PLANS (up Plans) (λ r has. (some_with (IsGoodPlan s (below_of Plans r)) (Rattle.bike_readings.specs.Readings.plan_read r) (rows Plans r has)).fact.room) in
+      let most_plans = within 1 t.plans MOST_PLANS (up Plans) (λ r has. (some_with (IsGoodPlan s (below_of Plans r)) (plan_read r) (rows Plans r has)).fact.room) in
       let most_types = within 1 t.types MOST_TYPES (up Types) (λ r has. (some_with (IsGoodType s (below_of Types r)) (type_read r) (rows Types r has)).fact.room) in
       let most_stations = within 1 t.stations MOST_STATIONS (up Stations) (λ r has. (some_with (IsGoodStation s (below_of Stations r)) (station_read r) (rows Stations r has)).fact.room) in
       record {
@@ -241,10 +241,10 @@ module _ (t : Tables) (up : AreInOrder t) (rows : AreGoodRows (operator_of t) t)
       let all = (rentals_table t up rows).length_is in
       let most =
       within 1 t.rentals MOST_ENTRIES (up Rentals) (λ r has.
-        let it = some_with (IsGoodRental s (below_of Rentals r)) (rental_read r) (rows Rentals r has) in
-        let number = it.fact.number_is in
-        let serial = (rental_reading.sound r it.value it.value_is).1.good_number.1 in
-        omega (arith, number, serial)) in
+      let it = some_with (IsGoodRental s (below_of Rentals r)) (rental_read r) (rows Rentals r has) in
+      let number = it.fact.number_is in
+      let serial = (rental_reading.sound r it.value it.value_is).1.good_number.1 in
+      omega (arith, number, serial)) in
       omega (arith, all, most)
 
   entries_within : (rs : List Row) → t.entries ≡ rs → length s.entries + open_rentals s ≤ MOST_ENTRIES

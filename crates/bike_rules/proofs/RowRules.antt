@@ -1,5 +1,5 @@
 -- All keys are good exactly where all rows are and none is missing.
-use Rattle.std.proofs.Common.{◌≡◌, ℕ, ◌+◌, List, [], ◌∷◌, length, Bool, true, false, cond, filter, Option, Some, None, refl, sym, ap, ◌∙◌, subst}
+use Rattle.std.proofs.Common.{◌≡◌, ℕ, ◌+◌, List, [], ◌∷◌, length, Bool, true, false, cond, filter, Option, Some, None, refl, sym, ap, ◌∙◌, subst, suc}
 use Rattle.std.specs.Prelude.{take}
 use Rattle.std.specs.Option.{IsSomeAnd}
 use Rattle.std.specs.Ordering.{is_lt, ordering_reverse}
@@ -27,7 +27,7 @@ below_tied keys key other tie (r ∷ rows) =
     go : (b : Bool) → lesser keys key rows ≡ lesser keys other rows
         → length (cond b (r ∷ filter (λ row. is_lt (row_cmp (take keys row) key)) rows) (filter (λ row. is_lt (row_cmp (take keys row) key)) rows))
         ≡ length (cond b (r ∷ filter (λ row. is_lt (row_cmp (take keys row) other)) rows) (filter (λ row. is_lt (row_cmp (take keys row) other)) rows))
-    go true rest = ap (λ (n : ℕ). Rattle.std.proofs.Common.suc n) rest
+    go true rest = ap (λ (n : ℕ). suc n) rest
     go false rest = rest
 
 -- what is demanded of a row that spells this

@@ -99,13 +99,12 @@ module _ (t : Tables) (a b : TableName) (k l : Row) (first : IsFirstBad t a k) (
       absurd (other.bad (subst (λ (n : TableName). IsGoodKey t n l) same (first.before l back)))
 
 pub one_verdict : OneVerdict
-one_verdict t a k first =
-    (
-      λ all. first.bad (all a k),
-      λ b l other.
-          let table = same_table t a b k l first other (nat_cmp (table_place a) (table_place b)) refl in
-          (table, same_key t a b k l first other table (row_cmp k l) refl),
-    )
+one_verdict t a k first = (
+  λ all. first.bad (all a k),
+  λ b l other.
+      let table = same_table t a b k l first other (nat_cmp (table_place a) (table_place b)) refl in
+      (table, same_key t a b k l first other table (row_cmp k l) refl),
+)
 
 -- ---- of the tables in a database
 

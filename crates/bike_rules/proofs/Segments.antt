@@ -29,6 +29,7 @@ use Rattle.bike_readings.proofs.CatalogueRows.{segment_reading}
 use Rattle.bike_rules.specs.ReadOff.{segment_at, and_after, segments_from, segments_of, most_segments}
 use Rattle.bike_rules.proofs.Places.{has_under, under_has}
 use Rattle.bike_rules.proofs.ReadBack.{get_has}
+use Rattle.std.proofs.lemmas.Cmp.{tied_itself}
 
 -- ---- the order of segments
 
@@ -201,7 +202,7 @@ module _ (plans : FinMap text_cmp PlanRow) where
   segments_back id p found few good =
       all_found (plans_segments (fin.entries plans)) id 1 most_segments p.segments few
       (λ i g is. found_segment (plans_segments (fin.entries plans)) id (1 + i) g up
-        (has_among (fin.entries plans) (id, p) (segment_row id (1 + i) g) (get_has texts plans id p found) (has_row id 1 p.segments i (1 + i) g refl is)) (good i g is))
+      (has_among (fin.entries plans) (id, p) (segment_row id (1 + i) g) (get_has texts plans id p found) (has_row id 1 p.segments i (1 + i) g refl is)) (good i g is))
       (go (segment_at (plans_segments (fin.entries plans)) id (1 + length p.segments)) refl)
     where
       up : Rises (by_key_total 2) (plans_segments (fin.entries plans))
@@ -221,7 +222,7 @@ module _ (plans : FinMap text_cmp PlanRow) where
           absurd (item_none p.segments among.of.segment last)
         where
           itself : row_cmp (Text id ∷ number_value (1 + length p.segments) ∷ []) (Text id ∷ number_value (1 + length p.segments) ∷ []) ≡ Equal
-          itself = Rattle.std.proofs.lemmas.Cmp.tied_itself (by_key_total 2) (segment_row id (1 + length p.segments) g)
+          itself = tied_itself (by_key_total 2) (segment_row id (1 + length p.segments) g)
 
 -- ---- rows that are read are those of the plans
 
