@@ -1,5 +1,5 @@
 -- The broken docks are those whose rows say so.
-use Rattle.std.proofs.Common.{◌≡◌, ◌⊎◌, inl, inr, ℕ, List, [], ◌∷◌, map, Bool, true, false, cond, ◌||◌, Option, Some, None, is_some, refl, sym, ap, ap₂, ◌∙◌, subst}
+use Rattle.std.proofs.Common.{◌≡◌, inl, inr, ℕ, List, [], ◌∷◌, map, Bool, true, false, cond, ◌||◌, Option, Some, None, is_some, refl, sym, ap, ◌∙◌}
 use Rattle.std.specs.Prelude.{option_and_then, take}
 use Rattle.std.specs.List.{filter_map, list_any}
 use Rattle.std.specs.Ordering.{eq_by_cmp}
@@ -21,7 +21,6 @@ use Rattle.bike_book.specs.Stored.{stored_dock}
 use Rattle.bike_book.proofs.MapRows.{has_get}
 use Rattle.bike_book.proofs.Keys.{docks}
 use Rattle.bike_readings.specs.Readings.{dock_read}
-use Rattle.bike_readings.specs.Bounds.{IsStoredDock}
 use Rattle.bike_readings.proofs.CatalogueRows.{dock_reading}
 use Rattle.bike_rules.specs.ReadOff.{broken_in}
 use Rattle.bike_rules.proofs.ReadLists.{read_of, has_read}

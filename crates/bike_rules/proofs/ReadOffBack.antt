@@ -1,30 +1,25 @@
 -- The operator is what is read off his tables.
-use Rattle.std.proofs.Common.{◌≡◌, ℕ, zero, suc, ◌+◌, ◌≤◌, pos, List, [], ◌∷◌, length, true, Option, Some, None, is_some, refl, sym, ap, ◌∙◌, subst, arith, Bool}
+use Rattle.std.proofs.Common.{◌≡◌, ℕ, ◌+◌, pos, List, [], true, Option, Some, None, is_some, refl, sym, ap, ◌∙◌, subst, arith, Bool}
 use Rattle.std.specs.Prelude.{option_map, unwrap_or}
 use Rattle.std.specs.List.{filter_map, cons_option}
 use Rattle.std.specs.FinMap as fin
 use Rattle.std.specs.FinSet as set
-use Rattle.sqlite_value.specs.Order.{Row}
-use Rattle.bike_fields.specs.Bytes.{is_ident}
-use Rattle.bike_catalogue.specs.Rows.{SegmentRow, PlanRow, TypeRow, SystemRow, IsSegment, IsPlan}
+use Rattle.bike_catalogue.specs.Rows.{SegmentRow, PlanRow, TypeRow, SystemRow, IsPlan}
 use Rattle.bike_ledger.specs.Entries.{Entry}
 use Rattle.bike_ledger.specs.Ledger.{balance_of, cash_of, revenue_of, refunded_of}
-use Rattle.bike_texts.specs.Fields.{AreSegments}
 use Rattle.bike_operator.specs.declared.records.Bike.{Bike}
 use Rattle.bike_operator.specs.declared.records.Rental.{Rental}
 use Rattle.bike_operator.specs.declared.records.Order.{Order}
-use Rattle.bike_operator.specs.Operator.{Operator, Station, Truck, Rider, Kept, Key, DockKey, dock_key, key_of, item_at, numbered}
+use Rattle.bike_operator.specs.Operator.{Operator, Station, Truck, Rider, Kept, Key, DockKey, dock_key, key_of, numbered}
 use Rattle.bike_operator.specs.Counts.{docks_available, docks_broken, available_of}
 use Rattle.bike_operator.specs.Sound.{IsSound, IsSetSystem, HasDock}
-use Rattle.bike_places.proofs.ItemLemmas.{number_within}
 use Rattle.bike_counts.specs.Numbers.{disabled_of}
 use Rattle.bike_book.specs.declared.version.TheConstants.{NEWEST}
-use Rattle.bike_book.specs.Tables.{Tables}
 use Rattle.bike_book.specs.Stored.{Listed, IsListing, tables_for, meta_rows, system_rows, plans_segments, stored_plan, stored_type, stored_station, stored_dock, stored_bike, stored_truck, stored_rider, stored_rental, stored_order, stored_entry, stored_kept, stored_count}
 use Rattle.bike_book.proofs.Keys.{numbers, texts, pairs, docks}
 use Rattle.bike_readings.specs.Readings.{meta_read, system_read, plan_read, type_read, station_read, dock_read, bike_read, truck_read, rider_read, rental_read, order_read, entry_read, kept_read, count_read}
 use Rattle.bike_readings.specs.Bounds.{IsStoredSegment}
-use Rattle.bike_readings.proofs.CatalogueRows.{meta_reading, plan_reading, segment_reading, type_reading, station_reading, dock_reading, system_reading}
+use Rattle.bike_readings.proofs.CatalogueRows.{meta_reading, plan_reading, type_reading, station_reading, dock_reading, system_reading}
 use Rattle.bike_readings.proofs.FleetRows.{bike_reading, truck_reading, order_reading}
 use Rattle.bike_readings.proofs.LedgerRows.{rider_reading, rental_reading, entry_reading, count_reading}
 use Rattle.bike_readings.proofs.KeptRows.{kept_reading}

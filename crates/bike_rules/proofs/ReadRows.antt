@@ -1,5 +1,5 @@
 -- What good rows spell: the rows of a map, of a numbered list, and the one row of meta and of system.
-use Rattle.std.proofs.Common.{◌≡◌, ◌⊎◌, inl, inr, ℕ, ℤ, suc, ◌+◌, ◌<◌, ◌≤◌, List, [], ◌∷◌, length, map, Option, Some, None, refl, sym, ap, ap₂, ◌∙◌, subst, arith}
+use Rattle.std.proofs.Common.{◌≡◌, inl, inr, ℕ, ℤ, suc, ◌+◌, ◌≤◌, List, [], ◌∷◌, length, map, Option, Some, None, refl, sym, ap, ◌∙◌, subst, arith}
 use Rattle.std.specs.Prelude.{option_map, take, unwrap_or}
 use Rattle.std.specs.Option.{IsSomeAnd}
 use Rattle.std.specs.List.{filter_map, cons_option}
@@ -14,17 +14,16 @@ use Rattle.bike_rows.specs.View.{by_key, row_with}
 use Rattle.bike_rows.proofs.OrderLemmas.{Rises}
 use Rattle.bike_rows.proofs.TreeLemmas.{by_key_total}
 use Rattle.bike_fixed.specs.Whole.{last_moment}
-use Rattle.bike_catalogue.specs.Rows.{SystemRow, IsSystem}
+use Rattle.bike_catalogue.specs.Rows.{SystemRow}
 use Rattle.bike_operator.specs.Operator.{Operator, numbered}
 use Rattle.bike_operator.specs.Sound.{IsSetSystem}
 use Rattle.bike_ledger.specs.Ledger.{cash_of, revenue_of}
 use Rattle.bike_book.specs.declared.version.TheConstants.{NEWEST}
-use Rattle.bike_book.specs.Rows.{number_value, meta_row, system_row}
+use Rattle.bike_book.specs.Rows.{number_value, meta_row}
 use Rattle.bike_book.specs.Stored.{system_rows, with_numbers}
 use Rattle.bike_book.proofs.MapRows.{StoresKeys, BeginsWithKey}
 use Rattle.bike_book.proofs.FoundNumbers.{same_length}
 use Rattle.bike_readings.specs.Readings.{meta_read, system_read}
-use Rattle.bike_readings.specs.Bounds.{IsStoredMeta}
 use Rattle.bike_readings.proofs.CatalogueRows.{meta_reading, system_reading}
 use Rattle.bike_rules.specs.ReadOff.{first, moment_of}
 use Rattle.bike_rules.specs.Demands.{IsGoodMeta}
@@ -32,7 +31,7 @@ use Rattle.bike_rules.proofs.ReadLists.{IsRead, IsStored, AreRowsOf, read_of, re
 use Rattle.bike_rules.proofs.Places.{lesser, read_numbered}
 use Rattle.bike_rules.proofs.ReadBack.{numbered_has}
 use Rattle.bike_readings.specs.BothWays.{IsReading}
-use Rattle.bike_rules.proofs.RowRules.{IsSomeWith, some_with}
+use Rattle.bike_rules.proofs.RowRules.{some_with}
 
 -- ---- a part of what a row spells
 

@@ -1,19 +1,17 @@
 -- The operator that is read off tables whose keys are all good is sound, and its docks and counts are listed right.
-use Rattle.std.proofs.Common.{◌≡◌, ◌⊎◌, inl, inr, ℕ, ℤ, zero, suc, ◌+◌, ◌-◌, ◌<◌, ◌≤◌, ◌==◌, pos, List, [], ◌∷◌, length, map, Bool, true, false, Option, Some, None, is_some, refl, sym, ap, ap₂, ◌∙◌, subst, arith}
+use Rattle.std.proofs.Common.{◌≡◌, inl, ℕ, ℤ, ◌+◌, ◌-◌, ◌<◌, ◌≤◌, List, [], ◌∷◌, length, Bool, true, false, Option, Some, None, is_some, refl, sym, ap, ◌∙◌, subst, arith}
 use Rattle.std.specs.Prelude.{option_map, take}
-use Rattle.std.specs.Option.{IsSomeAnd}
 use Rattle.std.specs.Ordering.{nat_cmp}
 use Rattle.std.specs.declared.cmp.Ordering.{Ordering}
 use Rattle.std.specs.declared.cmp.Ordering.TheVariants.{Less, Equal, Greater}
 use Rattle.std.specs.Cmp.{ranked}
 use Rattle.std.specs.FinMap as fin
-use Rattle.std.specs.FinMap.{FinMap}
 use Rattle.std.specs.FinSet as set
 use Rattle.sqlite_value.specs.declared.value.Value.TheVariants.{Text}
 use Rattle.sqlite_value.specs.Order.{Row}
 use Rattle.sqlite_rules.specs.Lists.{Has}
 use Rattle.bike_rows.specs.View.{row_with}
-use Rattle.bike_catalogue.specs.Rows.{PlanRow, TypeRow}
+use Rattle.bike_catalogue.specs.Rows.{TypeRow}
 use Rattle.bike_ledger.specs.Entries.{Entry}
 use Rattle.bike_ledger.specs.declared.entry.EntryKind.{EntryKind}
 use Rattle.bike_ledger.specs.declared.entry.EntryKind.TheVariants.{TopUp, Fare, Refund}
@@ -25,22 +23,20 @@ use Rattle.bike_operator.specs.declared.records.Closing.{Closing}
 use Rattle.bike_operator.specs.declared.records.Order.{Order}
 use Rattle.bike_operator.specs.Operator.{Operator, Station, Truck, Rider, Kept, Key, DockKey, dock_key, key_of, numbered}
 use Rattle.bike_operator.specs.Counts.{is_open, open_rentals}
-use Rattle.bike_operator.specs.Sound.{IsSound, IsCatalogueSound, AreBikesSound, AreOrdersSound, AreRentalsSound, IsLedgerSound, IsTypeAt, IsStationAt, HasDock, IsBrokenDock, IsBikeAt, IsTruckAt, IsOrderAt, IsRentalAt, IsBooking, IsOfRental, IsRiderNumber, IsEntryAt, IsKept as IsKeptAt, fares_of, fares_in}
+use Rattle.bike_operator.specs.Sound.{IsSound, IsCatalogueSound, AreBikesSound, AreOrdersSound, AreRentalsSound, IsLedgerSound, IsTypeAt, IsStationAt, HasDock, IsBrokenDock, IsTruckAt, IsOrderAt, IsRentalAt, IsRiderNumber, IsEntryAt, IsKept as IsKeptAt, fares_of, fares_in}
 use Rattle.bike_places.proofs.MapLemmas.{there_of}
-use Rattle.bike_book.specs.Tables.{TableName, Tables, rows_in, keys_of, Meta, System, Plans, Segments, Types, Stations, Docks, Bikes, Trucks, Riders, Rentals, Orders, Entries, Kept as KeptTable, Counts}
+use Rattle.bike_book.specs.Tables.{TableName, Tables, keys_of, Meta, Plans, Types, Stations, Docks, Bikes, Trucks, Riders, Rentals, Orders, Entries, Kept as KeptTable, Counts}
 use Rattle.bike_book.specs.Rows.{number_value}
-use Rattle.bike_book.specs.Stored.{IsListing, IsDockKey, IsCountKey, tables_for, stored_plan, stored_type, stored_station, stored_dock, stored_bike, stored_truck, stored_rider, stored_count}
+use Rattle.bike_book.specs.Stored.{IsListing, IsDockKey, IsCountKey, tables_for, stored_plan, stored_type, stored_station, stored_bike, stored_truck, stored_rider, stored_count}
 use Rattle.bike_book.proofs.MapRows.{found_entries, has_get}
 use Rattle.bike_book.proofs.Keys.{numbers, texts, pairs, docks, IsPair}
-use Rattle.bike_readings.specs.Readings.{meta_read, type_read, station_read, dock_read, bike_read, truck_read, rider_read, rental_read, order_read, entry_read, kept_read, count_read, plan_read}
-use Rattle.bike_readings.proofs.CatalogueRows.{dock_reading, meta_reading}
+use Rattle.bike_readings.specs.Readings.{type_read, station_read, dock_read, bike_read, truck_read, rider_read, rental_read, order_read, entry_read, kept_read, count_read, plan_read}
 use Rattle.bike_readings.proofs.LedgerRows.{rental_reading}
-use Rattle.bike_rules.specs.ReadOff.{plan_in, station_in, rider_in, entry_in, dock_in, count_in, operator_of, listed_of}
-use Rattle.bike_rules.specs.Demands.{IsGoodMeta, IsGoodPlan, IsGoodType, IsGoodStation, IsGoodDock, IsGoodBike, IsGoodTruck, IsGoodRider, IsGoodRental, IsGoodOrder, IsGoodEntry, IsGoodKept, IsGoodCount, IsRiding, HasFare, IsFareOf, IsFirstFare, IsOneFare}
+use Rattle.bike_rules.specs.ReadOff.{plan_in, station_in, rider_in, dock_in, operator_of, listed_of}
+use Rattle.bike_rules.specs.Demands.{IsGoodPlan, IsGoodType, IsGoodStation, IsGoodDock, IsGoodBike, IsGoodTruck, IsGoodRider, IsGoodRental, IsGoodOrder, IsGoodEntry, IsGoodKept, IsGoodCount, IsRiding, HasFare, IsFareOf, IsFirstFare, IsOneFare}
 use Rattle.bike_rules.specs.Rules.{AreInOrder, rows_below, HasNone, AreOf}
-use Rattle.bike_rules.proofs.ReadLists.{IsRead, AreRowsOf, has_read}
+use Rattle.bike_rules.proofs.ReadLists.{has_read}
 use Rattle.bike_rules.proofs.Places.{within}
-use Rattle.bike_rules.proofs.ReadBack.{has_numbered}
 use Rattle.bike_rules.proofs.Broken.{broken_has}
 use Rattle.bike_rules.proofs.Fares.{counted, is_fare_of, fare_parts, no_fares, one_fare, rentals_few}
 use Rattle.bike_rules.proofs.RowRules.{some_with, some_is, AreGoodRows, LacksNone}

@@ -1,5 +1,5 @@
 -- The laws of the rules, from rows to tables and to the tables in a database.
-use Rattle.std.proofs.Common.{◌≡◌, ◌⊎◌, inl, inr, ℕ, zero, suc, ◌<◌, List, [], ◌∷◌, map, Option, Some, None, refl, sym, ap, ◌∙◌, subst, arith}
+use Rattle.std.proofs.Common.{◌≡◌, ℕ, zero, suc, List, [], map, Option, Some, None, refl, sym, ap, ◌∙◌, subst}
 use Rattle.std.specs.Prelude.{unwrap_or, option_map, option_and_then, slice_get}
 use Rattle.std.specs.Ordering.{nat_cmp, ordering_reverse}
 use Rattle.std.specs.declared.cmp.Ordering.{Ordering}
@@ -11,11 +11,12 @@ use Rattle.sqlite_schema.specs.declared.schema.Table.{Table}
 use Rattle.sqlite_schema.specs.Names.{table_named}
 use Rattle.sqlite.specs.Effect.{Database}
 use Rattle.bike_rows.specs.View.{rows_in, columns_of}
+use Rattle.bike_rows.specs.Stands.{rows_of}
 use Rattle.bike_rows.proofs.OrderLemmas.{Rises, rises}
 use Rattle.bike_rows.proofs.TreeLemmas.{by_key_total}
 use Rattle.bike_operator.specs.Operator.{Operator}
-use Rattle.bike_book.specs.Tables.{TableName, Tables, keys_of, table_place, Meta, System, Plans, Segments, Types, Stations, Docks, Bikes, Trucks, Riders, Rentals, Orders, Entries, Kept, Counts}
-use Rattle.bike_book.specs.Stored.{Listed, tables_for}
+use Rattle.bike_book.specs.Tables.{TableName, Tables, rows_in as rows_in_tables, tables_by, keys_of, table_place, Meta, System, Plans, Segments, Types, Stations, Docks, Bikes, Trucks, Riders, Rentals, Orders, Entries, Kept, Counts}
+use Rattle.bike_book.specs.Stored.{tables_for}
 use Rattle.sqlite_trees.specs.Tree.{Trees}
 use Rattle.bike_schema.specs.Layouts.{name_of}
 use Rattle.bike_schema.specs.Tables.{tables_of}
@@ -113,22 +114,28 @@ rows_rise : (keys : ℕ) (trees : Trees) (o : Option Table) → Rises (by_key_to
 rows_rise keys trees None = tt
 rows_rise keys trees (Some table) = rises (by_key_total keys) (map (columns_of table) (trees table.tree))
 
+-- a table is what the function gives of its name
+rows_by : (rows : TableName → List Row) (name : TableName) → rows_in_tables (tables_by rows) name ≡ rows name
+rows_by rows Meta = refl
+rows_by rows System = refl
+rows_by rows Plans = refl
+rows_by rows Segments = refl
+rows_by rows Types = refl
+rows_by rows Stations = refl
+rows_by rows Docks = refl
+rows_by rows Bikes = refl
+rows_by rows Trucks = refl
+rows_by rows Riders = refl
+rows_by rows Rentals = refl
+rows_by rows Orders = refl
+rows_by rows Entries = refl
+rows_by rows Kept = refl
+rows_by rows Counts = refl
+
 pub stored_in_order : StoredInOrder
-stored_in_order db Meta = rows_rise (keys_of Meta) db.trees (option_and_then (slice_get db.schema.tables) (table_named db.schema (name_of Meta)))
-stored_in_order db System = rows_rise (keys_of System) db.trees (option_and_then (slice_get db.schema.tables) (table_named db.schema (name_of System)))
-stored_in_order db Plans = rows_rise (keys_of Plans) db.trees (option_and_then (slice_get db.schema.tables) (table_named db.schema (name_of Plans)))
-stored_in_order db Segments = rows_rise (keys_of Segments) db.trees (option_and_then (slice_get db.schema.tables) (table_named db.schema (name_of Segments)))
-stored_in_order db Types = rows_rise (keys_of Types) db.trees (option_and_then (slice_get db.schema.tables) (table_named db.schema (name_of Types)))
-stored_in_order db Stations = rows_rise (keys_of Stations) db.trees (option_and_then (slice_get db.schema.tables) (table_named db.schema (name_of Stations)))
-stored_in_order db Docks = rows_rise (keys_of Docks) db.trees (option_and_then (slice_get db.schema.tables) (table_named db.schema (name_of Docks)))
-stored_in_order db Bikes = rows_rise (keys_of Bikes) db.trees (option_and_then (slice_get db.schema.tables) (table_named db.schema (name_of Bikes)))
-stored_in_order db Trucks = rows_rise (keys_of Trucks) db.trees (option_and_then (slice_get db.schema.tables) (table_named db.schema (name_of Trucks)))
-stored_in_order db Riders = rows_rise (keys_of Riders) db.trees (option_and_then (slice_get db.schema.tables) (table_named db.schema (name_of Riders)))
-stored_in_order db Rentals = rows_rise (keys_of Rentals) db.trees (option_and_then (slice_get db.schema.tables) (table_named db.schema (name_of Rentals)))
-stored_in_order db Orders = rows_rise (keys_of Orders) db.trees (option_and_then (slice_get db.schema.tables) (table_named db.schema (name_of Orders)))
-stored_in_order db Entries = rows_rise (keys_of Entries) db.trees (option_and_then (slice_get db.schema.tables) (table_named db.schema (name_of Entries)))
-stored_in_order db Kept = rows_rise (keys_of Kept) db.trees (option_and_then (slice_get db.schema.tables) (table_named db.schema (name_of Kept)))
-stored_in_order db Counts = rows_rise (keys_of Counts) db.trees (option_and_then (slice_get db.schema.tables) (table_named db.schema (name_of Counts)))
+stored_in_order db name =
+    subst (Rises (by_key_total (keys_of name))) (sym (rows_by (λ n. rows_of (keys_of n) (name_of n) db) name))
+    (rows_rise (keys_of name) db.trees (option_and_then (slice_get db.schema.tables) (table_named db.schema (name_of name))))
 
 pub stored_good : StoredGood
 stored_good db has good =

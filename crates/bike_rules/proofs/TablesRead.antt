@@ -1,37 +1,31 @@
 -- Tables whose rows are all good are those of the operator that is read off them: table by table.
-use Rattle.std.proofs.Common.{◌≡◌, ◌⊎◌, inl, inr, ℕ, ℤ, zero, suc, ◌+◌, ◌<◌, ◌≤◌, pos, List, [], ◌∷◌, length, map, Bool, true, false, Option, Some, None, is_some, refl, sym, ap, ap₂, ◌∙◌, subst, arith}
+use Rattle.std.proofs.Common.{◌≡◌, ℕ, ℤ, zero, suc, ◌+◌, List, [], ◌∷◌, Bool, Some, refl, sym, ap, ◌∙◌, subst}
 use Rattle.std.specs.Prelude.{option_map, take}
-use Rattle.std.specs.Option.{IsSomeAnd}
-use Rattle.std.specs.List.{filter_map}
 use Rattle.std.specs.FinMap as fin
-use Rattle.std.specs.FinSet as set
 use Rattle.sqlite_value.specs.Order.{Row}
 use Rattle.sqlite_rules.specs.Lists.{Has}
 use Rattle.bike_catalogue.specs.Rows.{SegmentRow, PlanRow, IsSegment, IsPlan}
 use Rattle.bike_ledger.specs.Entries.{Entry}
 use Rattle.bike_texts.specs.Fields.{AreSegments}
-use Rattle.bike_operator.specs.declared.records.Bike.{Bike}
 use Rattle.bike_operator.specs.declared.records.Rental.{Rental}
-use Rattle.bike_operator.specs.declared.records.Order.{Order}
-use Rattle.bike_operator.specs.Operator.{Operator, Station, Rider, Key, DockKey, dock_key, key_of, item_at}
+use Rattle.bike_operator.specs.Operator.{Operator, Key, DockKey, dock_key, key_of, item_at}
 use Rattle.bike_operator.specs.Sound.{IsPlanAt}
-use Rattle.bike_book.specs.Tables.{Tables, rows_in, Meta, System, Plans, Segments, Types, Stations, Docks, Bikes, Trucks, Riders, Rentals, Orders, Entries, Kept, Counts, TableName, keys_of}
+use Rattle.bike_book.specs.Tables.{Tables, System, Plans, Segments, Types, Stations, Docks, Bikes, Trucks, Riders, Rentals, Orders, Entries, Kept, Counts, TableName, keys_of}
 use Rattle.bike_book.specs.Stored.{plans_segments, stored_plan, stored_type, stored_station, stored_dock, stored_bike, stored_truck, stored_rider, stored_rental, stored_order, stored_entry, stored_kept, stored_count}
 use Rattle.bike_book.proofs.Keys.{numbers, texts, pairs, docks, IsPair, IsDockPair}
-use Rattle.bike_readings.specs.Readings.{meta_read, system_read, plan_read, segment_read, type_read, station_read, dock_read, bike_read, truck_read, rider_read, rental_read, order_read, entry_read, kept_read, count_read}
-use Rattle.bike_readings.proofs.CatalogueRows.{system_reading, plan_reading, segment_reading, type_reading, station_reading, dock_reading}
+use Rattle.bike_readings.specs.Readings.{plan_read, segment_read, type_read, dock_read, bike_read, truck_read, rental_read, order_read, entry_read, kept_read, count_read}
+use Rattle.bike_readings.proofs.CatalogueRows.{plan_reading, segment_reading, type_reading, station_reading, dock_reading}
 use Rattle.bike_readings.proofs.LedgerRows.{count_reading, rider_reading, rental_reading, entry_reading}
 use Rattle.bike_readings.proofs.FleetRows.{bike_reading, truck_reading, order_reading}
 use Rattle.bike_readings.proofs.KeptRows.{kept_reading}
 use Rattle.bike_rules.specs.ReadOff.{with_segments, plan_in, station_in, rider_in, rental_in, entry_in, dock_in, count_in, segments_of, most_segments, operator_of, listed_of}
-use Rattle.bike_rules.specs.Demands.{IsGoodMeta, IsGoodPlan, IsGoodSegment, IsGoodType, IsGoodStation, IsGoodDock, IsGoodBike, IsGoodTruck, IsGoodRider, IsGoodRental, IsGoodOrder, IsGoodEntry, IsGoodKept, IsGoodCount}
+use Rattle.bike_rules.specs.Demands.{IsGoodPlan, IsGoodSegment, IsGoodType, IsGoodStation, IsGoodDock, IsGoodBike, IsGoodTruck, IsGoodRider, IsGoodRental, IsGoodOrder, IsGoodEntry, IsGoodKept, IsGoodCount}
 use Rattle.bike_rules.specs.Rules.{AreInOrder, rows_below}
-use Rattle.bike_rules.proofs.ReadLists.{IsRead, IsStored, AreRowsOf, read_map}
-use Rattle.bike_rules.proofs.Places.{lesser}
+use Rattle.bike_rules.proofs.ReadLists.{AreRowsOf, read_map}
 use Rattle.bike_rules.proofs.Segments.{IsOfPlan, segments_are, item_found, segment_found, few_found}
 use Rattle.bike_rules.proofs.Broken.{broken_as}
-use Rattle.bike_rules.proofs.RowRules.{some_with, some_is, AreGoodRows}
-use Rattle.bike_rules.proofs.ReadRows.{IsMapped, mapped, stored_plain, stored_part, AreRowsOfList, read_list, IsMeta, IsSystemOf, system_are}
+use Rattle.bike_rules.proofs.RowRules.{some_with, AreGoodRows}
+use Rattle.bike_rules.proofs.ReadRows.{mapped, stored_plain, stored_part, AreRowsOfList, read_list, IsSystemOf, system_are}
 use Rattle.bike_book.specs.Rows.{count_row, dock_row, rental_row, rider_row, station_row}
 use Rattle.bike_fields.specs.Caller.{caller_text}
 

@@ -1,5 +1,5 @@
 -- The laws of the rules.
-use Rattle.std.specs.Prelude.{◌≡◌, Option, Some, None}
+use Rattle.std.specs.Prelude.{◌≡◌, Some, None}
 use Rattle.std.specs.declared.cmp.Ordering.TheVariants.{Equal}
 use Rattle.sqlite_value.specs.Order.{Row, row_cmp}
 use Rattle.sqlite.specs.Effect.{Database}
@@ -9,7 +9,7 @@ use Rattle.bike_book.specs.Stored.{Listed}
 use Rattle.bike_schema.specs.Tables.{tables_of, HasTables}
 use Rattle.bike_schema.specs.Stands.{Stores}
 use Rattle.bike_rules.specs.ReadOff.{operator_of, listed_of}
-use Rattle.bike_rules.specs.Rules.{AreInOrder, AllGood, IsFirstBad, IsVerdict, AreOf}
+use Rattle.bike_rules.specs.Rules.{AreInOrder, IsFirstBad, IsVerdict, AreOf}
 
 -- ---- of tables
 
