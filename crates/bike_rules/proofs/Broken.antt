@@ -1,5 +1,5 @@
 -- The broken docks are those whose rows say so.
-use Rattle.std.proofs.Common.{◌≡◌, ◌⊎◌, inl, inr, ℕ, List, [], ◌∷◌, map, Bool, true, false, cond, ◌||◌, Option, Some, None, is_some, refl, sym, ap, ap₂, ◌∙◌, subst}
+use Rattle.std.proofs.Common.{◌≡◌, inl, inr, ℕ, List, [], ◌∷◌, map, Bool, true, false, cond, ◌||◌, Option, Some, None, is_some, refl, sym, ap, ◌∙◌}
 use Rattle.std.specs.Prelude.{option_and_then, take}
 use Rattle.std.specs.List.{filter_map, list_any}
 use Rattle.std.specs.Ordering.{eq_by_cmp}
@@ -9,7 +9,7 @@ use Rattle.std.specs.FinMap.{FinMap}
 use Rattle.std.specs.FinSet as set
 use Rattle.std.specs.FinSet.{FinSet}
 use Rattle.std.proofs.lemmas.Cmp.{tied_itself}
-use Rattle.sqlite_value.specs.Order.{Row}
+use Rattle.sqlite_value.specs.Order.{Row, row_cmp}
 use Rattle.sqlite_rules.specs.Lists.{Has}
 use Rattle.bike_rows.proofs.OrderLemmas.{Rises}
 use Rattle.bike_rows.proofs.TreeLemmas.{by_key_total}
@@ -21,12 +21,11 @@ use Rattle.bike_book.specs.Stored.{stored_dock}
 use Rattle.bike_book.proofs.MapRows.{has_get}
 use Rattle.bike_book.proofs.Keys.{docks}
 use Rattle.bike_readings.specs.Readings.{dock_read}
-use Rattle.bike_readings.specs.Bounds.{IsStoredDock}
+use Rattle.bike_readings.proofs.CatalogueRows.{dock_reading}
 use Rattle.bike_rules.specs.ReadOff.{broken_in}
 use Rattle.bike_rules.proofs.ReadLists.{read_of, has_read}
 use Rattle.bike_rules.proofs.Places.{same_key}
 use Rattle.bike_rules.proofs.ReadBack.{get_has}
-use Rattle.bike_rules.proofs.ReadingLaws.{IsReading, dock_stored}
 
 -- ---- members of a list
 
@@ -118,7 +117,7 @@ module _ (broken : FinSet texts_cmp) (listed : FinMap texts_cmp (Unit {0})) (all
 
 -- ---- read, and written as it stood
 
-module _ (law : IsReading dock_read dock_stored (λ e. IsStoredDock e.0 e.1)) (rows : List Row) (up : Rises (by_key_total 2) rows) where
+module _ (rows : List Row) (up : Rises (by_key_total 2) rows) where
   -- the dock is broken exactly where its row says so
   pub broken_as : (row : Row) (station : List ℕ) (dock : ℕ) (b : Bool) → Has rows row → dock_read row ≡ Some (station, dock, b) → set.contains (broken_docks rows) (dock_key station dock) ≡ b
   broken_as row station dock true has is = marked rows (dock_key station dock) (has_read broken_in rows row (dock_key station dock) has (says row station dock true is))
@@ -128,12 +127,12 @@ module _ (law : IsReading dock_read dock_stored (λ e. IsStoredDock e.0 e.1)) (r
     go true e =
         let it = read_of broken_in rows (dock_key station dock) (has_marked rows (dock_key station dock) e) in
         let other = broken_row it.item (dock_key station dock) it.read_is in
-        let row_is : row ≡ dock_row station dock false = (law.sound row (station, dock, false) is).0 in
-        let item_is : it.item ≡ dock_row other.station other.dock true = (law.sound it.item (other.station, other.dock, true) other.read_is).0 in
+        let row_is : row ≡ dock_row station dock false = (dock_reading.sound row (station, dock, false) is).0 in
+        let item_is : it.item ≡ dock_row other.station other.dock true = (dock_reading.sound it.item (other.station, other.dock, true) other.read_is).0 in
         let a : other.station ≡ station = (let k = other.key_is in cc) in
         let n : other.dock ≡ dock = (let k = other.key_is in cc) in
         let keys : take 2 it.item ≡ take 2 row = ap (take 2) item_is ∙ (λ i. take 2 (dock_row (a i) (n i) true)) ∙ ap (take 2) (sym row_is) in
-        let tie = ap (λ (k : Row). Rattle.sqlite_value.specs.Order.row_cmp k (take 2 row)) keys ∙ tied_itself (by_key_total 2) row in
+        let tie = ap (λ (k : Row). row_cmp k (take 2 row)) keys ∙ tied_itself (by_key_total 2) row in
         let same : it.item ≡ row = same_key 2 rows it.item row up it.has has tie in
         let both : ◌≡◌ {A = Option (List ℕ × ℕ × Bool)} (Some (other.station, other.dock, true)) (Some (station, dock, false)) = sym other.read_is ∙ ap dock_read same ∙ is in
         absurd cc

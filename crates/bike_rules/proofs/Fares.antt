@@ -1,7 +1,6 @@
 -- The Fare entries of rentals: each closed rental has one of its fare, so there are no more closed rentals than entries.
-use Rattle.std.proofs.Common.{◌≡◌, ◌⊎◌, inl, inr, ℕ, ℤ, zero, suc, ◌+◌, ◌<◌, ◌≤◌, List, [], ◌∷◌, length, map, filter, Bool, true, false, cond, not, ◌&&◌, ◌==◌, Option, Some, None, refl, sym, ap, ap₂, ◌∙◌, subst, arith}
+use Rattle.std.proofs.Common.{◌≡◌, inl, inr, ℕ, ℤ, zero, suc, ◌+◌, ◌<◌, ◌≤◌, List, [], ◌∷◌, length, map, filter, Bool, true, false, cond, not, ◌&&◌, ◌==◌, Option, Some, None, refl, sym, ap, ap₂, ◌∙◌, subst, arith}
 use Rattle.std.proofs.lemmas.Bool.{eq-eqb}
-use Rattle.std.proofs.lemmas.Bool.Decides.{eqb_tells}
 use Rattle.sqlite_rules.specs.Lists.{Has}
 use Rattle.bike_ledger.specs.Entries.{Entry}
 use Rattle.bike_ledger.specs.declared.entry.EntryKind.{EntryKind}
@@ -16,6 +15,15 @@ use Rattle.bike_places.proofs.CountLemmas.{count-cons, one}
 
 abbrev pub is_fare_of : ℕ → Entry → Bool
 is_fare_of rental e = is_fare e.kind && (e.rental == rental)
+
+-- ---- how many pass a test
+
+pub counted : {A : Type 0} (test : A → Bool) (xs : List A) → count test xs ≤ length xs
+counted test [] = omega arith
+counted test (x ∷ xs) = go (test x) (count-cons test x xs) (counted test xs) where
+  go : (b : Bool) → count test (x ∷ xs) ≡ one b + count test xs → count test xs ≤ length xs → count test (x ∷ xs) ≤ suc (length xs)
+  go true c rest = omega (arith, c, rest)
+  go false c rest = omega (arith, c, rest)
 
 -- ---- what the test says
 
@@ -98,7 +106,7 @@ one_item rental amount (e ∷ es) some each once = go (is_fare_of rental e) refl
 
   go : (b : Bool) → is_fare_of rental e ≡ b
       → (1 ≤ length (fares_of rental es) → ((i : ℕ) (x : Entry) → item_at i es ≡ Some x → is_fare_of rental x ≡ true → x.amount ≡ amount)
-        → ((i j : ℕ) (x y : Entry) → i < j → item_at i es ≡ Some x → item_at j es ≡ Some y → is_fare_of rental x ≡ true → is_fare_of rental y ≡ true → ⊥) → fares_of rental es ≡ amount ∷ [])
+      → ((i j : ℕ) (x y : Entry) → i < j → item_at i es ≡ Some x → item_at j es ≡ Some y → is_fare_of rental x ≡ true → is_fare_of rental y ≡ true → ⊥) → fares_of rental es ≡ amount ∷ [])
       → fares_of rental (e ∷ es) ≡ amount ∷ []
   go true is rest =
       further rental e es true is ∙ ap₂ (λ (z : ℤ) (zs : List ℤ). z ∷ zs) (each zero e refl is) (no_item rental es (λ i x found. other is i x found (is_fare_of rental x) refl))

@@ -1,9 +1,7 @@
 pub mod ReadLists
 pub mod Places
-pub mod ReadingLaws
 pub mod ReadBack
 pub mod Segments
-pub mod SoundBounds
 pub mod Broken
 pub mod RowRules
 pub mod ReadOffBack
@@ -11,3 +9,5 @@ pub mod Fares
 pub mod GoodRows
 pub mod ReadRows
 pub mod TablesRead
+pub mod ReadSound
+pub mod RulesLaws

@@ -1,14 +1,13 @@
 -- The row under a key, and how many rows have a lesser key, in rows that stand in the order of their keys.
-use Rattle.std.proofs.Common.{◌≡◌, ◌⊎◌, inl, inr, ℕ, zero, suc, ◌+◌, ◌-◌, ◌<◌, ◌≤◌, List, [], ◌∷◌, ◌++◌, append_assoc, length, length-append, map, Bool, true, false, cond, Option, Some, None, refl, sym, ap, ap₂, subst, ◌∙◌, arith}
+use Rattle.std.proofs.Common.{◌≡◌, inl, inr, ℕ, suc, ◌+◌, ◌<◌, ◌≤◌, List, [], ◌∷◌, ◌++◌, append_assoc, length, length-append, map, Bool, true, false, cond, Option, Some, refl, sym, ap, subst, ◌∙◌, arith}
 use Rattle.std.specs.Prelude.{take}
-use Rattle.std.specs.List.{AllByRecursion, filter_map, cons_option}
+use Rattle.std.specs.List.{AllByRecursion, filter_map}
 use Rattle.std.specs.Ordering.{is_eq, is_lt, nat_cmp, ordering_reverse}
 use Rattle.std.specs.declared.cmp.Ordering.{Ordering}
 use Rattle.std.specs.declared.cmp.Ordering.TheVariants.{Less, Equal, Greater}
 use Rattle.std.specs.Cmp.{Equal-is, nat_cmp_is, ranked}
 use Rattle.std.proofs.lemmas.Cmp.{tied_itself}
 use Rattle.sqlite_value.specs.Order.{Row, row_cmp}
-use Rattle.sqlite_value.proofs.OrderLemmas.{row_cmp_total}
 use Rattle.sqlite_rules.specs.Lists.{Has}
 use Rattle.bike_rows.specs.View.{by_key, row_with}
 use Rattle.bike_rows.proofs.OrderLemmas.{Rises, all_has}
@@ -16,10 +15,10 @@ use Rattle.bike_rows.proofs.TreeLemmas.{by_key_total}
 use Rattle.bike_rows.proofs.ListLemmas.{find_only}
 use Rattle.bike_operator.specs.Counts.{count}
 use Rattle.bike_places.proofs.CountLemmas.{count-cons, one}
-use Rattle.bike_book.specs.Rows.{number_value}
 use Rattle.bike_book.specs.Stored.{numbers_from, with_numbers}
 use Rattle.bike_book.proofs.MapRows.{BeginsWithKey}
 use Rattle.bike_book.proofs.Keys.{number_key, numbers}
+use Rattle.bike_rules.proofs.Fares.{counted}
 
 module _ (keys : ℕ) where
   abbrev Up : List Row → Type 0
@@ -65,20 +64,13 @@ module _ (keys : ℕ) where
 
   -- ---- how many have a lesser key
 
-  passes_one : (test : Row → Bool) (rows : List Row) → count test rows ≤ length rows
-  passes_one test [] = omega arith
-  passes_one test (r ∷ rows) = let rest = passes_one test rows in let c = count-cons test r rows in go (test r) c rest where
-    go : (b : Bool) → count test (r ∷ rows) ≡ one b + count test rows → count test rows ≤ length rows → count test (r ∷ rows) ≤ suc (length rows)
-    go true c rest = omega (arith, c, rest)
-    go false c rest = omega (arith, c, rest)
-
   -- a row that fails a test isn't counted
   fewer : (test : Row → Bool) (rows : List Row) (r : Row) → Has rows r → test r ≡ false → count test rows < length rows
   fewer test [] r has fails = elim has [ ]
   fewer test (x ∷ rows) r (inl is) fails =
       let out : one (test x) ≡ 0 = ap one (ap test (sym is) ∙ fails) in
       let c = count-cons test x rows in
-      let rest = passes_one test rows in
+      let rest = counted test rows in
       omega (arith, out, c, rest)
   fewer test (x ∷ rows) r (inr later) fails = let rest = fewer test rows r later fails in let c = count-cons test x rows in go (test x) c rest where
     go : (b : Bool) → count test (x ∷ rows) ≡ one b + count test rows → count test rows < length rows → count test (x ∷ rows) < suc (length rows)

@@ -1,6 +1,6 @@
 -- What good rows spell: the rows of a map, of a numbered list, and the one row of meta and of system.
-use Rattle.std.proofs.Common.{◌≡◌, ◌⊎◌, inl, inr, ℕ, ℤ, suc, ◌+◌, ◌<◌, ◌≤◌, List, [], ◌∷◌, length, map, Option, Some, None, refl, sym, ap, ap₂, ◌∙◌, subst, arith}
-use Rattle.std.specs.Prelude.{option_map, take}
+use Rattle.std.proofs.Common.{◌≡◌, inl, inr, ℕ, ℤ, suc, ◌+◌, ◌≤◌, List, [], ◌∷◌, length, map, Option, Some, None, refl, sym, ap, ◌∙◌, subst, arith}
+use Rattle.std.specs.Prelude.{option_map, take, unwrap_or}
 use Rattle.std.specs.Option.{IsSomeAnd}
 use Rattle.std.specs.List.{filter_map, cons_option}
 use Rattle.std.specs.declared.cmp.Ordering.{Ordering}
@@ -14,24 +14,24 @@ use Rattle.bike_rows.specs.View.{by_key, row_with}
 use Rattle.bike_rows.proofs.OrderLemmas.{Rises}
 use Rattle.bike_rows.proofs.TreeLemmas.{by_key_total}
 use Rattle.bike_fixed.specs.Whole.{last_moment}
-use Rattle.bike_catalogue.specs.Rows.{SystemRow, IsSystem}
+use Rattle.bike_catalogue.specs.Rows.{SystemRow}
 use Rattle.bike_operator.specs.Operator.{Operator, numbered}
 use Rattle.bike_operator.specs.Sound.{IsSetSystem}
 use Rattle.bike_ledger.specs.Ledger.{cash_of, revenue_of}
 use Rattle.bike_book.specs.declared.version.TheConstants.{NEWEST}
-use Rattle.bike_book.specs.Rows.{number_value, meta_row, system_row}
+use Rattle.bike_book.specs.Rows.{number_value, meta_row}
 use Rattle.bike_book.specs.Stored.{system_rows, with_numbers}
 use Rattle.bike_book.proofs.MapRows.{StoresKeys, BeginsWithKey}
 use Rattle.bike_book.proofs.FoundNumbers.{same_length}
 use Rattle.bike_readings.specs.Readings.{meta_read, system_read}
-use Rattle.bike_readings.specs.Bounds.{IsStoredMeta}
+use Rattle.bike_readings.proofs.CatalogueRows.{meta_reading, system_reading}
 use Rattle.bike_rules.specs.ReadOff.{first, moment_of}
 use Rattle.bike_rules.specs.Demands.{IsGoodMeta}
 use Rattle.bike_rules.proofs.ReadLists.{IsRead, IsStored, AreRowsOf, read_of, read_stored}
 use Rattle.bike_rules.proofs.Places.{lesser, read_numbered}
 use Rattle.bike_rules.proofs.ReadBack.{numbered_has}
-use Rattle.bike_rules.proofs.ReadingLaws.{IsReading, meta_stored}
-use Rattle.bike_rules.proofs.RowRules.{IsSomeWith, some_with}
+use Rattle.bike_readings.specs.BothWays.{IsReading}
+use Rattle.bike_rules.proofs.RowRules.{some_with}
 
 -- ---- a part of what a row spells
 
@@ -94,22 +94,22 @@ never_two a b p q less =
     let both : ◌≡◌ {A = Ordering} Less Equal = sym less ∙ tie in
     absurd cc
 
-module _ (law : IsReading meta_read meta_stored (λ e. IsStoredMeta e.0 e.1)) (s : Operator) where
+module _ (s : Operator) where
   -- The rows are the one of these sums.
   pub record IsMeta (rows : List Row) : Type 0 where
     pub rows_are : rows ≡ meta_row NEWEST (moment_of rows) (cash_of s.entries) (revenue_of s.entries) ∷ []
     pub by_last : moment_of rows ≤ last_moment
 
   meta_key : (n : ℕ) (r : Row) → IsSomeAnd (meta_read r) (IsGoodMeta s n) → take 1 r ≡ number_value 1 ∷ []
-  meta_key n r good = let it = some_with (IsGoodMeta s n) (meta_read r) good in ap (take 1) (law.sound r it.value it.value_is).0
+  meta_key n r good = let it = some_with (IsGoodMeta s n) (meta_read r) good in ap (take 1) (meta_reading.sound r it.value it.value_is).0
 
   pub meta_are : (rows : List Row) → Rises (by_key_total 1) rows → ((r : Row) → Has rows r → (n : ℕ) × IsSomeAnd (meta_read r) (IsGoodMeta s n)) → (row_with 1 (number_value 1 ∷ []) rows ≡ None → ⊥) → IsMeta rows
   meta_are [] up each there = absurd (there refl)
   meta_are (r ∷ []) up each there =
       let good = each r (inl refl) in
       let it = some_with (IsGoodMeta s good.0) (meta_read r) good.1 in
-      let law_is = law.sound r it.value it.value_is in
-      let now : moment_of (r ∷ []) ≡ it.value.1 = ap (λ (o : Option (ℕ × ℕ × ℤ × ℤ)). Rattle.std.specs.Prelude.unwrap_or (option_map (λ (e : ℕ × ℕ × ℤ × ℤ). e.1) (first (cons_option o []))) 0) it.value_is in
+      let law_is = meta_reading.sound r it.value it.value_is in
+      let now : moment_of (r ∷ []) ≡ it.value.1 = ap (λ (o : Option (ℕ × ℕ × ℤ × ℤ)). unwrap_or (option_map (λ (e : ℕ × ℕ × ℤ × ℤ). e.1) (first (cons_option o []))) 0) it.value_is in
       let version = it.fact.version_is in
       let cash = it.fact.cash_is in
       let revenue = it.fact.revenue_is in
@@ -123,19 +123,18 @@ module _ (law : IsReading meta_read meta_stored (λ e. IsStoredMeta e.0 e.1)) (s
       let b = each x (inr (inl refl)) in
       absurd (never_two r x (meta_key a.0 r a.1) (meta_key b.0 x b.1) up.0.0)
 
-module _ (law : IsReading system_read system_row IsSystem) where
-  pub record IsSystemOf (rows : List Row) : Type 0 where
-    pub rows_are : rows ≡ system_rows (first (filter_map system_read rows))
-    pub good : IsSetSystem (first (filter_map system_read rows))
+pub record IsSystemOf (rows : List Row) : Type 0 where
+  pub rows_are : rows ≡ system_rows (first (filter_map system_read rows))
+  pub good : IsSetSystem (first (filter_map system_read rows))
 
-  system_key : (r : Row) → IsSomeAnd (system_read r) (λ x. Unit {0}) → take 1 r ≡ number_value 1 ∷ []
-  system_key r good = let it = some_with (λ x. Unit {0}) (system_read r) good in ap (take 1) (law.sound r it.value it.value_is).0
+system_key : (r : Row) → IsSomeAnd (system_read r) (λ x. Unit {0}) → take 1 r ≡ number_value 1 ∷ []
+system_key r good = let it = some_with (λ x. Unit {0}) (system_read r) good in ap (take 1) (system_reading.sound r it.value it.value_is).0
 
-  pub system_are : (rows : List Row) → Rises (by_key_total 1) rows → ((r : Row) → Has rows r → IsSomeAnd (system_read r) (λ x. Unit {0})) → IsSystemOf rows
-  system_are [] up each = record { rows_are = refl; good = tt }
-  system_are (r ∷ []) up each =
-      let it = some_with (λ x. Unit {0}) (system_read r) (each r (inl refl)) in
-      let law_is = law.sound r it.value it.value_is in
-      let set : first (filter_map system_read (r ∷ [])) ≡ Some it.value = ap (λ (o : Option SystemRow). first (cons_option o [])) it.value_is in
-      record { rows_are = ap (λ (x : Row). x ∷ []) law_is.0 ∙ ap system_rows (sym set); good = subst IsSetSystem (sym set) law_is.1 }
-  system_are (r ∷ x ∷ rows) up each = absurd (never_two r x (system_key r (each r (inl refl))) (system_key x (each x (inr (inl refl)))) up.0.0)
+pub system_are : (rows : List Row) → Rises (by_key_total 1) rows → ((r : Row) → Has rows r → IsSomeAnd (system_read r) (λ x. Unit {0})) → IsSystemOf rows
+system_are [] up each = record { rows_are = refl; good = tt }
+system_are (r ∷ []) up each =
+    let it = some_with (λ x. Unit {0}) (system_read r) (each r (inl refl)) in
+    let law_is = system_reading.sound r it.value it.value_is in
+    let set : first (filter_map system_read (r ∷ [])) ≡ Some it.value = ap (λ (o : Option SystemRow). first (cons_option o [])) it.value_is in
+    record { rows_are = ap (λ (x : Row). x ∷ []) law_is.0 ∙ ap system_rows (sym set); good = subst IsSetSystem (sym set) law_is.1 }
+system_are (r ∷ x ∷ rows) up each = absurd (never_two r x (system_key r (each r (inl refl))) (system_key x (each x (inr (inl refl)))) up.0.0)

@@ -1,15 +1,13 @@
 -- All keys are good exactly where all rows are and none is missing.
-use Rattle.std.proofs.Common.{◌≡◌, ℕ, ◌+◌, List, [], ◌∷◌, length, Bool, true, false, cond, filter, Option, Some, None, refl, sym, ap, ◌∙◌, subst}
+use Rattle.std.proofs.Common.{◌≡◌, ℕ, List, [], ◌∷◌, length, Bool, true, false, cond, filter, Option, Some, None, refl, sym, ap, ◌∙◌, subst, suc}
 use Rattle.std.specs.Prelude.{take}
 use Rattle.std.specs.Option.{IsSomeAnd}
 use Rattle.std.specs.Ordering.{is_lt, ordering_reverse}
-use Rattle.std.specs.declared.cmp.Ordering.{Ordering}
 use Rattle.std.specs.declared.cmp.Ordering.TheVariants.{Equal}
 use Rattle.sqlite_value.specs.Order.{Row, row_cmp}
 use Rattle.sqlite_value.proofs.OrderLemmas.{row_cmp_total}
 use Rattle.sqlite_rules.specs.Lists.{Has}
 use Rattle.bike_operator.specs.Operator.{Operator}
-use Rattle.bike_operator.specs.Counts.{count}
 use Rattle.bike_book.specs.Tables.{TableName, Tables, rows_in, keys_of}
 use Rattle.bike_rules.specs.Rules.{AreInOrder, row_under, rows_below, IsGoodRow, MayLack, IsGoodAt}
 use Rattle.bike_rules.proofs.Places.{has_under, under_has, lesser}
@@ -27,7 +25,7 @@ below_tied keys key other tie (r ∷ rows) =
     go : (b : Bool) → lesser keys key rows ≡ lesser keys other rows
         → length (cond b (r ∷ filter (λ row. is_lt (row_cmp (take keys row) key)) rows) (filter (λ row. is_lt (row_cmp (take keys row) key)) rows))
         ≡ length (cond b (r ∷ filter (λ row. is_lt (row_cmp (take keys row) other)) rows) (filter (λ row. is_lt (row_cmp (take keys row) other)) rows))
-    go true rest = ap (λ (n : ℕ). Rattle.std.proofs.Common.suc n) rest
+    go true rest = ap (λ (n : ℕ). suc n) rest
     go false rest = rest
 
 -- what is demanded of a row that spells this

@@ -1,10 +1,9 @@
 -- The segments of plans: their rows rise by plan and number, and those of a plan are found one after the other.
-use Rattle.std.proofs.Common.{◌≡◌, ◌⊎◌, inl, inr, ℕ, zero, suc, ◌+◌, ◌<◌, ◌≤◌, List, [], ◌∷◌, ◌++◌, length, Bool, true, false, T, Option, Some, None, refl, sym, ap, ap₂, subst, ◌∙◌, arith}
+use Rattle.std.proofs.Common.{◌≡◌, ◌⊎◌, inl, inr, ℕ, zero, suc, ◌+◌, ◌≤◌, List, [], ◌∷◌, ◌++◌, length, T, Option, Some, None, refl, sym, ap, ap₂, subst, ◌∙◌, arith}
 use Rattle.std.specs.Prelude.{option_map, option_and_then, take}
-use Rattle.std.specs.Ordering.{nat_cmp, ordering_then, is_lt}
-use Rattle.std.specs.List.{AllByRecursion}
+use Rattle.std.specs.Ordering.{nat_cmp, ordering_then}
 use Rattle.std.specs.declared.cmp.Ordering.{Ordering}
-use Rattle.std.specs.declared.cmp.Ordering.TheVariants.{Less, Equal, Greater}
+use Rattle.std.specs.declared.cmp.Ordering.TheVariants.{Less, Equal}
 use Rattle.std.specs.Cmp.{eq_by_cmp_equiv, nat_cmp_is, Equal-is}
 use Rattle.std.specs.FinMap as fin
 use Rattle.std.specs.FinMap.{FinMap}
@@ -25,10 +24,11 @@ use Rattle.bike_book.proofs.MapRows.{both, below_has, has_get}
 use Rattle.bike_book.proofs.Keys.{texts, docks, value_cmp-number_value, IsDockPair}
 use Rattle.bike_readings.specs.Readings.{segment_read}
 use Rattle.bike_readings.specs.Bounds.{IsStoredSegment}
+use Rattle.bike_readings.proofs.CatalogueRows.{segment_reading}
 use Rattle.bike_rules.specs.ReadOff.{segment_at, and_after, segments_from, segments_of, most_segments}
 use Rattle.bike_rules.proofs.Places.{has_under, under_has}
 use Rattle.bike_rules.proofs.ReadBack.{get_has}
-use Rattle.bike_rules.proofs.ReadingLaws.{IsReading, segment_stored}
+use Rattle.std.proofs.lemmas.Cmp.{tied_itself}
 
 -- ---- the order of segments
 
@@ -123,33 +123,32 @@ same_pair t u q r tie =
 
 -- ---- found one after the other
 
-module _ (law : IsReading segment_read segment_stored (λ e. IsStoredSegment e.0 e.1 e.2)) where
-  -- the segment is in the row of its key
-  pub record IsSegmentRow (rows : List Row) (id : List ℕ) (seq : ℕ) (g : SegmentRow) : Type 0 where
-    pub has : Has rows (segment_row id seq g)
-    pub good : IsStoredSegment id seq g
+-- the segment is in the row of its key
+pub record IsSegmentRow (rows : List Row) (id : List ℕ) (seq : ℕ) (g : SegmentRow) : Type 0 where
+  pub has : Has rows (segment_row id seq g)
+  pub good : IsStoredSegment id seq g
 
-  pub segment_found : (rows : List Row) (id : List ℕ) (seq : ℕ) (g : SegmentRow) → segment_at rows id seq ≡ Some g → IsSegmentRow rows id seq g
-  segment_found rows id seq g found = go (row_with 2 (Text id ∷ number_value seq ∷ []) rows) refl found where
-    go : (o : Option Row) → row_with 2 (Text id ∷ number_value seq ∷ []) rows ≡ o → option_map (λ (e : List ℕ × ℕ × SegmentRow). e.2) (option_and_then segment_read o) ≡ Some g → IsSegmentRow rows id seq g
-    go None e is = absurd cc
-    go (Some r) e is = by (segment_read r) refl is where
-      by : (o : Option (List ℕ × ℕ × SegmentRow)) → segment_read r ≡ o → option_map (λ (e : List ℕ × ℕ × SegmentRow). e.2) o ≡ Some g → IsSegmentRow rows id seq g
-      by None q is = absurd cc
-      by (Some x) q is =
-          let spelled = law.sound r x q in
-          let there = under_has 2 (Text id ∷ number_value seq ∷ []) rows r e in
-          let tie : row_cmp (Text x.0 ∷ number_value x.1 ∷ []) (Text id ∷ number_value seq ∷ []) ≡ Equal = ap (λ (z : Row). row_cmp (take 2 z) (Text id ∷ number_value seq ∷ [])) (sym spelled.0) ∙ there.1 in
-          let keys = same_pair x.0 id x.1 seq tie in
-          let segment : x.2 ≡ g = cc in
-          let row_is : r ≡ segment_row id seq g = spelled.0 ∙ (λ i. segment_row (keys.0 i) (keys.1 i) (segment i)) in
-          record { has = subst (Has rows) row_is there.0; good = subst (λ (z : List ℕ × ℕ × SegmentRow). IsStoredSegment z.0 z.1 z.2) (λ i. (keys.0 i, keys.1 i, segment i)) spelled.1 }
+pub segment_found : (rows : List Row) (id : List ℕ) (seq : ℕ) (g : SegmentRow) → segment_at rows id seq ≡ Some g → IsSegmentRow rows id seq g
+segment_found rows id seq g found = go (row_with 2 (Text id ∷ number_value seq ∷ []) rows) refl found where
+  go : (o : Option Row) → row_with 2 (Text id ∷ number_value seq ∷ []) rows ≡ o → option_map (λ (e : List ℕ × ℕ × SegmentRow). e.2) (option_and_then segment_read o) ≡ Some g → IsSegmentRow rows id seq g
+  go None e is = absurd cc
+  go (Some r) e is = by (segment_read r) refl is where
+    by : (o : Option (List ℕ × ℕ × SegmentRow)) → segment_read r ≡ o → option_map (λ (e : List ℕ × ℕ × SegmentRow). e.2) o ≡ Some g → IsSegmentRow rows id seq g
+    by None q is = absurd cc
+    by (Some x) q is =
+        let spelled = segment_reading.sound r x q in
+        let there = under_has 2 (Text id ∷ number_value seq ∷ []) rows r e in
+        let tie : row_cmp (Text x.0 ∷ number_value x.1 ∷ []) (Text id ∷ number_value seq ∷ []) ≡ Equal = ap (λ (z : Row). row_cmp (take 2 z) (Text id ∷ number_value seq ∷ [])) (sym spelled.0) ∙ there.1 in
+        let keys = same_pair x.0 id x.1 seq tie in
+        let segment : x.2 ≡ g = cc in
+        let row_is : r ≡ segment_row id seq g = spelled.0 ∙ (λ i. segment_row (keys.0 i) (keys.1 i) (segment i)) in
+        record { has = subst (Has rows) row_is there.0; good = subst (λ (z : List ℕ × ℕ × SegmentRow). IsStoredSegment z.0 z.1 z.2) (λ i. (keys.0 i, keys.1 i, segment i)) spelled.1 }
 
-  pub found_segment : (rows : List Row) (id : List ℕ) (seq : ℕ) (g : SegmentRow) → Rises (by_key_total 2) rows → Has rows (segment_row id seq g) → IsStoredSegment id seq g → segment_at rows id seq ≡ Some g
-  found_segment rows id seq g up has good =
-      let under : row_with 2 (Text id ∷ number_value seq ∷ []) rows ≡ Some (segment_row id seq g) = has_under 2 rows (segment_row id seq g) up has in
-      ap (λ (o : Option Row). option_map (λ (e : List ℕ × ℕ × SegmentRow). e.2) (option_and_then segment_read o)) under
-      ∙ ap (option_map (λ (e : List ℕ × ℕ × SegmentRow). e.2)) (law.full (id, seq, g) good)
+pub found_segment : (rows : List Row) (id : List ℕ) (seq : ℕ) (g : SegmentRow) → Rises (by_key_total 2) rows → Has rows (segment_row id seq g) → IsStoredSegment id seq g → segment_at rows id seq ≡ Some g
+found_segment rows id seq g up has good =
+    let under : row_with 2 (Text id ∷ number_value seq ∷ []) rows ≡ Some (segment_row id seq g) = has_under 2 rows (segment_row id seq g) up has in
+    ap (λ (o : Option Row). option_map (λ (e : List ℕ × ℕ × SegmentRow). e.2) (option_and_then segment_read o)) under
+    ∙ ap (option_map (λ (e : List ℕ × ℕ × SegmentRow). e.2)) (segment_reading.full (id, seq, g) good)
 
 -- an item of the segments found from a number on is the segment of its number
 pub item_found : (rows : List Row) (id : List ℕ) (seq most i : ℕ) (g : SegmentRow) → item_at i (segments_from rows id seq most) ≡ Some g → segment_at rows id (seq + i) ≡ Some g
@@ -192,7 +191,7 @@ item_none : {A : Type 0} (xs : List A) (x : A) → item_at (length xs) xs ≡ So
 item_none [] x found = absurd cc
 item_none (y ∷ xs) x found = item_none xs x found
 
-module _ (law : IsReading segment_read segment_stored (λ e. IsStoredSegment e.0 e.1 e.2)) (plans : FinMap text_cmp PlanRow) where
+module _ (plans : FinMap text_cmp PlanRow) where
   rows : List Row
   rows = plans_segments (fin.entries plans)
 
@@ -201,8 +200,8 @@ module _ (law : IsReading segment_read segment_stored (λ e. IsStoredSegment e.0
       → ((i : ℕ) (g : SegmentRow) → item_at i p.segments ≡ Some g → IsStoredSegment id (1 + i) g) → segments_of (plans_segments (fin.entries plans)) id ≡ p.segments
   segments_back id p found few good =
       all_found (plans_segments (fin.entries plans)) id 1 most_segments p.segments few
-      (λ i g is. found_segment law (plans_segments (fin.entries plans)) id (1 + i) g up
-        (has_among (fin.entries plans) (id, p) (segment_row id (1 + i) g) (get_has texts plans id p found) (has_row id 1 p.segments i (1 + i) g refl is)) (good i g is))
+      (λ i g is. found_segment (plans_segments (fin.entries plans)) id (1 + i) g up
+      (has_among (fin.entries plans) (id, p) (segment_row id (1 + i) g) (get_has texts plans id p found) (has_row id 1 p.segments i (1 + i) g refl is)) (good i g is))
       (go (segment_at (plans_segments (fin.entries plans)) id (1 + length p.segments)) refl)
     where
       up : Rises (by_key_total 2) (plans_segments (fin.entries plans))
@@ -211,7 +210,7 @@ module _ (law : IsReading segment_read segment_stored (λ e. IsStoredSegment e.0
       go : (o : Option SegmentRow) → segment_at (plans_segments (fin.entries plans)) id (1 + length p.segments) ≡ o → segment_at (plans_segments (fin.entries plans)) id (1 + length p.segments) ≡ None
       go None e = e
       go (Some g) e =
-          let it = segment_found law (plans_segments (fin.entries plans)) id (1 + length p.segments) g e in
+          let it = segment_found (plans_segments (fin.entries plans)) id (1 + length p.segments) g e in
           let among = row_among (fin.entries plans) (segment_row id (1 + length p.segments) g) it.has in
           let same : segment_row id (1 + length p.segments) g ≡ segment_row among.entry.0 (1 + among.of.at) among.of.segment = among.of.row_is in
           let keys = same_pair id among.entry.0 (1 + length p.segments) (1 + among.of.at) (ap (λ (z : Row). row_cmp (Text id ∷ number_value (1 + length p.segments) ∷ []) (take 2 z)) (sym same) ∙ itself) in
@@ -222,11 +221,11 @@ module _ (law : IsReading segment_read segment_stored (λ e. IsStoredSegment e.0
           absurd (item_none p.segments among.of.segment last)
         where
           itself : row_cmp (Text id ∷ number_value (1 + length p.segments) ∷ []) (Text id ∷ number_value (1 + length p.segments) ∷ []) ≡ Equal
-          itself = Rattle.std.proofs.lemmas.Cmp.tied_itself (by_key_total 2) (segment_row id (1 + length p.segments) g)
+          itself = tied_itself (by_key_total 2) (segment_row id (1 + length p.segments) g)
 
 -- ---- rows that are read are those of the plans
 
-module _ (law : IsReading segment_read segment_stored (λ e. IsStoredSegment e.0 e.1 e.2)) (plans : FinMap text_cmp PlanRow) (rows : List Row) (up : Rises (by_key_total 2) rows) where
+module _ (plans : FinMap text_cmp PlanRow) (rows : List Row) (up : Rises (by_key_total 2) rows) where
   -- the row is that of a segment of a plan that is there
   pub record IsOfPlan (r : Row) : Type 0 where
     pub id : List ℕ
@@ -254,5 +253,5 @@ module _ (law : IsReading segment_read segment_stored (λ e. IsStoredSegment e.0
         let among = row_among (fin.entries plans) r has in
         let found = has_get texts.total plans among.entry among.has in
         let of : item_at among.of.at (segments_of rows among.entry.0) ≡ Some among.of.segment = ap (item_at among.of.at) (sym (gathered among.entry.0 among.entry.1 found)) ∙ among.of.found in
-        let it = segment_found law rows among.entry.0 (1 + among.of.at) among.of.segment (item_found rows among.entry.0 1 most_segments among.of.at among.of.segment of) in
+        let it = segment_found rows among.entry.0 (1 + among.of.at) among.of.segment (item_found rows among.entry.0 1 most_segments among.of.at among.of.segment of) in
         subst (Has rows) (sym among.of.row_is) it.has

@@ -18,7 +18,7 @@
 --   a number stored beside a record that isn't the figure       the row that has it
 use Rattle.std.specs.Prelude.{◌≡◌, ℕ, ℤ, ◌+◌, ◌<◌, ◌≤◌, ◌≤ℤ◌, pos, List, Bool, true, length, Option, Some, None}
 use Rattle.std.specs.FinMap as fin
-use Rattle.bike_catalogue.specs.Rows.{SegmentRow, PlanRow, TypeRow, SystemRow}
+use Rattle.bike_catalogue.specs.Rows.{SegmentRow, PlanRow, TypeRow}
 use Rattle.bike_ledger.specs.Entries.{Entry}
 use Rattle.bike_ledger.specs.declared.entry.EntryKind.{EntryKind}
 use Rattle.bike_ledger.specs.declared.entry.EntryKind.TheVariants.{TopUp, Fare, Refund}
@@ -39,7 +39,8 @@ module _ (s : Operator) where
   -- no bicycle of a lesser number is in this one's dock
   abbrev pub IsAloneInDock : ℕ → Bike → Type 0
   IsAloneInDock number b =
-      (other : ℕ) (x : Bike) (station : List ℕ) (dock : ℕ) → other < number → fin.get s.bikes other ≡ Some x → x.place ≡ place.Dock station dock → b.place ≡ place.Dock station dock → ⊥
+      (other : ℕ) (x : Bike) (station : List ℕ) (dock : ℕ) → other < number → fin.get s.bikes other ≡ Some x
+      → x.place ≡ place.Dock station dock → b.place ≡ place.Dock station dock → ⊥
 
   -- an open rental of the rider, with its number
   pub record IsRiding (rider number : ℕ) : Type 0 where
@@ -63,7 +64,8 @@ module _ (s : Operator) where
 
   -- no entry of a lesser number is a fare of the rental
   abbrev pub IsFirstFare : ℕ → ℕ → Type 0
-  IsFirstFare number rental = (other : ℕ) (x : Entry) → other < number → numbered other s.entries ≡ Some x → x.kind ≡ Fare → x.rental ≡ rental → ⊥
+  IsFirstFare number rental =
+      (other : ℕ) (x : Entry) → other < number → numbered other s.entries ≡ Some x → x.kind ≡ Fare → x.rental ≡ rental → ⊥
 
   -- a fare is its rental's, and the first of it
   abbrev pub IsOneFare : Entry → EntryKind → Type 0
