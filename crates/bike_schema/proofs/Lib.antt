@@ -4,8 +4,8 @@ pub mod MakesLemmas
 pub mod AnswerLemmas
 pub mod ReadLemmas
 mod RunLemmas
-mod MakeTexts
-mod MakeFacts
+pub mod MakeTexts
+pub mod MakeFacts
 mod MakeLemmas
 mod GrowthLemmas
 mod FreshLemmas

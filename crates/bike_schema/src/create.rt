@@ -20,7 +20,7 @@ pub type Staged<'conn, S> = Transaction<'conn, S>;
 pub const APP: &str = "bikeshare";
 
 /// The statements that make the tables, in the order of the schema.
-const TABLES: [&str; 15] = [
+pub const TABLES: [&str; 15] = [
     "CREATE TABLE meta (one INTEGER PRIMARY KEY, app TEXT NOT NULL, version INTEGER NOT NULL, now INTEGER NOT NULL, cash INTEGER NOT NULL, revenue INTEGER NOT NULL) STRICT",
     "CREATE TABLE system (one INTEGER PRIMARY KEY, system_id TEXT NOT NULL, language TEXT NOT NULL, name TEXT NOT NULL, hours TEXT NOT NULL, contact TEXT NOT NULL, zone TEXT NOT NULL, currency TEXT NOT NULL, base_url TEXT NOT NULL, ttl INTEGER NOT NULL) STRICT",
     "CREATE TABLE plans (plan_id TEXT PRIMARY KEY NOT NULL, name TEXT NOT NULL, price INTEGER NOT NULL, taxable INTEGER NOT NULL, description TEXT NOT NULL) STRICT",
