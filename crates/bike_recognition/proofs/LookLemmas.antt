@@ -1,12 +1,12 @@
 -- Reads of a database of which nothing is known.
-use Rattle.std.proofs.Common.{◌≡◌, ℕ, List, [], false, inl, inr, Result, Ok, Err, IfOk, OnOk, OnErr, IsErr, IsTrue, sym, subst, arith}
+use Rattle.std.proofs.Common.{◌≡◌, ℕ, List, [], false, inl, inr, Result, Ok, Err, IsErr, IsTrue, sym, subst, arith}
 use Rattle.std.proofs.lemmas.Result.{IfOk-weaker}
 use Rattle.sqlite_value.specs.Order.{Row}
 use Rattle.sqlite_trees.specs.declared.store.Store.{Ghosts}
 use Rattle.sqlite.specs.declared.error.Error.{Error}
 use Rattle.sqlite.specs.Effect.{Database}
 use Rattle.sqlite.specs.Held.{Held, state}
-use Rattle.sqlite.specs.State.{State, HasCleanDisk, IsUnchanged, IsNotRun, Survives}
+use Rattle.sqlite.specs.State.{State, HasCleanDisk, IsNotRun, Survives}
 use Rattle.sqlite.proofs.StateLemmas.{survives_weaker}
 use Rattle.bike_rows.specs.Calls.{IsQuiet, ReadsWhere}
 use Rattle.bike_rows.specs.Outcome.{IsLeft}

@@ -8,7 +8,7 @@ use Rattle.bike_names.specs.Found.{IsPlainTable, StandsAt, with_tree}
 use Rattle.bike_names.specs.Has.{HasTable}
 use Rattle.bike_rows.specs.Stands.{is_referred_to}
 use Rattle.bike_rows.proofs.ListLemmas.{same_some}
-use Rattle.bike_recognition.specs.Wanted.{HasUnreferred, HasWanted}
+use Rattle.bike_recognition.specs.Wanted.{HasWanted}
 
 some_none : {X : Type 0} {x : X} {o : Option X} → o ≡ Some x → o ≡ None → ⊥
 some_none some none = cc

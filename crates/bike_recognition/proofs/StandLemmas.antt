@@ -1,6 +1,6 @@
 -- A table of the schema stands where it is found and its rowids are apart.
-use Rattle.std.proofs.Common.{◌≡◌, ◌&&◌, ℕ, List, [], ◌∷◌, Bool, true, false, Option, Some, None, Result, Ok, IsTrue, refl, sym, ap, subst, inl, inr}
-use Rattle.std.specs.Prelude.{◌↔◌, map}
+use Rattle.std.proofs.Common.{◌≡◌, ℕ, List, [], ◌∷◌, Bool, true, false, Some, None, Result, Ok, IsTrue, refl, sym, inl, inr}
+use Rattle.std.specs.Prelude.{◌↔◌}
 use Rattle.std.specs.List.{AllByRecursion, list_all}
 use Rattle.std.proofs.lemmas.Bool.{and_parts, true≢false}
 use Rattle.sqlite_value.specs.declared.value.Value.{Value}
@@ -12,8 +12,7 @@ use Rattle.sqlite_trees.specs.declared.store.Store.{Ghosts}
 use Rattle.sqlite.specs.Effect.{Database, IsDatabase}
 use Rattle.sqlite.specs.Held.{Held, state}
 use Rattle.sqlite.specs.State.{IsLive}
-use Rattle.bike_names.specs.Found.{IsPlainTable, HasNoDefaults, with_tree}
-use Rattle.bike_names.specs.Has.{HasTable}
+use Rattle.bike_names.specs.Found.{IsPlainTable, HasNoDefaults}
 use Rattle.bike_rows.specs.Calls.{ReadsWhere}
 use Rattle.bike_rows.specs.Layout.{table_of}
 use Rattle.bike_rows.proofs.ChainLaws.{reads_both}

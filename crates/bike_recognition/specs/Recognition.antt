@@ -1,5 +1,5 @@
 -- What a database is to this product, of which nothing is known before.
-use Rattle.std.specs.Prelude.{◌≡◌, ◌⊎◌, ◌==◌, ℕ, ℤ, pos, if◌then◌else◌, Bool, false, List, [], ◌∷◌, Option, Some, None, Result}
+use Rattle.std.specs.Prelude.{◌≡◌, ◌⊎◌, ◌==◌, ℤ, pos, if◌then◌else◌, Bool, false, List, [], ◌∷◌, Option, Some, None, Result}
 use Rattle.std.specs.Str.{bytes_eq}
 use Rattle.std.specs.Ordering.{nat_cmp, match_ordering}
 use Rattle.sqlite_value.specs.declared.value.Value.{Value}

@@ -1,4 +1,4 @@
-use Rattle.std.proofs.Common.{rules, ◌≡◌, None, Some, slice_get, refl, sym}
+use Rattle.std.proofs.Common.{rules, ◌≡◌, None, Some, slice_get, sym}
 use Rattle.bike_recognition.proofs.SchemaLemmas.{nowhere, not_empty, is_wanted}
 use Rattle.bike_recognition.proofs.schema.has_wanted.Goals as goal
 
