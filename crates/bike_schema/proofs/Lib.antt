@@ -5,8 +5,8 @@ pub mod AnswerLemmas
 pub mod CountLemmas
 pub mod ReadLemmas
 mod RunLemmas
-mod MakeTexts
-mod MakeFacts
+pub mod MakeTexts
+pub mod MakeFacts
 mod MakeLemmas
 mod GrowthLemmas
 mod FreshLemmas

@@ -19,7 +19,7 @@ pub type Staged<'conn, S> = Transaction<'conn, S>;
 pub const APP: &str = "bikeshare";
 
 /// The statements that make the tables, in the order of the schema.
-const TABLES: [&str; 15] = [
+pub const TABLES: [&str; 15] = [
     "CREATE TABLE meta (one INTEGER PRIMARY KEY, app TEXT NOT NULL, version INTEGER NOT NULL, \
      now INTEGER NOT NULL, cash INTEGER NOT NULL, revenue INTEGER NOT NULL) STRICT",
     "CREATE TABLE system (one INTEGER PRIMARY KEY, system_id TEXT NOT NULL, language TEXT NOT NULL, \

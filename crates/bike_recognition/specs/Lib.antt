@@ -1,0 +1,4 @@
+pub mod Names
+pub mod Recognition
+pub mod Rowids
+pub mod Wanted

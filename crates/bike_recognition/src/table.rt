@@ -1,0 +1,115 @@
+//! The tables of the schema by name.
+
+ghost use Rattle.std.specs.Prelude.{◌≡◌, IfOk, IfErr};
+ghost use Rattle.bike_rows.specs.Layout.{table_of};
+ghost use Rattle.bike_schema.specs.Layouts.{layout_of, name_of};
+ghost use Rattle.bike_schema.specs.declared.fault.StatementFault.TheVariants.{NoMemory};
+ghost use Rattle.bike_recognition.specs.Names.{table_named};
+ghost use Rattle.bike_recognition.specs.Wanted.{Defines, AsksRowidsOf};
+
+use bike_schema::{StatementFault, TABLES};
+use sqlite_resolve::define_table;
+use sqlite_schema::schema::Table;
+use std::alloc::Global;
+
+/// A table of the schema.
+#[derive(Clone, Copy, Debug, PartialEq, Eq)]
+pub enum TableName {
+    Meta,
+    System,
+    Plans,
+    Segments,
+    Types,
+    Stations,
+    Docks,
+    Bikes,
+    Trucks,
+    Riders,
+    Rentals,
+    Orders,
+    Entries,
+    Kept,
+    Counts,
+}
+
+impl TableName {
+    /// The name of the table in a database.
+    pub fn name(self) -> &'static str
+        ensures { result.now ≡ name_of (table_named self) }
+    {
+        match self {
+            TableName::Meta => "meta",
+            TableName::System => "system",
+            TableName::Plans => "plans",
+            TableName::Segments => "segments",
+            TableName::Types => "types",
+            TableName::Stations => "stations",
+            TableName::Docks => "docks",
+            TableName::Bikes => "bikes",
+            TableName::Trucks => "trucks",
+            TableName::Riders => "riders",
+            TableName::Rentals => "rentals",
+            TableName::Orders => "orders",
+            TableName::Entries => "entries",
+            TableName::Kept => "kept",
+            TableName::Counts => "counts",
+        }
+    }
+
+    /// The statement that makes the table.
+    fn definition(self) -> &'static str
+        ensures { Defines result.now (layout_of (table_named self)) }
+    {
+        match self {
+            TableName::Meta => TABLES[0],
+            TableName::System => TABLES[1],
+            TableName::Plans => TABLES[2],
+            TableName::Segments => TABLES[3],
+            TableName::Types => TABLES[4],
+            TableName::Stations => TABLES[5],
+            TableName::Docks => TABLES[6],
+            TableName::Bikes => TABLES[7],
+            TableName::Trucks => TABLES[8],
+            TableName::Riders => TABLES[9],
+            TableName::Rentals => TABLES[10],
+            TableName::Orders => TABLES[11],
+            TableName::Entries => TABLES[12],
+            TableName::Kept => TABLES[13],
+            TableName::Counts => TABLES[14],
+        }
+    }
+
+    /// The query that answers all rowids of the table, in order. Where the key is one number, that is the rowid.
+    pub(crate) fn rowids_query(self) -> &'static str
+        ensures { AsksRowidsOf (layout_of (table_named self)) result.now }
+    {
+        match self {
+            TableName::Meta => "SELECT one FROM meta ORDER BY one",
+            TableName::System => "SELECT one FROM system ORDER BY one",
+            TableName::Plans => "SELECT rowid FROM plans ORDER BY rowid",
+            TableName::Segments => "SELECT rowid FROM segments ORDER BY rowid",
+            TableName::Types => "SELECT rowid FROM types ORDER BY rowid",
+            TableName::Stations => "SELECT rowid FROM stations ORDER BY rowid",
+            TableName::Docks => "SELECT rowid FROM docks ORDER BY rowid",
+            TableName::Bikes => "SELECT bike FROM bikes ORDER BY bike",
+            TableName::Trucks => "SELECT truck FROM trucks ORDER BY truck",
+            TableName::Riders => "SELECT rider FROM riders ORDER BY rider",
+            TableName::Rentals => "SELECT rental FROM rentals ORDER BY rental",
+            TableName::Orders => "SELECT ord FROM orders ORDER BY ord",
+            TableName::Entries => "SELECT entry FROM entries ORDER BY entry",
+            TableName::Kept => "SELECT rowid FROM kept ORDER BY rowid",
+            TableName::Counts => "SELECT rowid FROM counts ORDER BY rowid",
+        }
+    }
+
+    /// The table as the product makes it, in tree 0. Only memory can be refused.
+    pub(crate) fn defined(self, alloc: Global) -> Result<Table, StatementFault>
+        ensures table { IfOk result (λ table. table ≡ table_of (layout_of (table_named self)) 0) }
+        ensures memory { IfErr result (λ fault. fault ≡ NoMemory) }
+    {
+        match define_table(alloc, self.definition().as_bytes()) {
+            Ok(table) => Ok(table),
+            Err(_) => Err(StatementFault::NoMemory),
+        }
+    }
+}
