@@ -25,9 +25,11 @@ pub fn list_text_laws()
     ensures vehicle_types { (s : Operator) (x : SystemRow) (seconds : ℕ) → text_of (feed_tree s x Feed.VehicleTypes seconds)
         ≡ list_head_text x seconds (codes "vehicle_types") ++ (items_text false (items (type_tree x) (values s.types)) ++ list_end_text) }
     ensures station_information { (s : Operator) (x : SystemRow) (seconds : ℕ) → text_of (feed_tree s x Feed.StationInformation seconds)
-        ≡ list_head_text x seconds (codes "stations") ++ (items_text false (items (λ station. station_tree x station.row) (values s.stations)) ++ list_end_text) }
+        ≡ list_head_text x seconds (codes "stations")
+        ++ (items_text false (items (λ station. station_tree x station.row) (values s.stations)) ++ list_end_text) }
     ensures station_status { (s : Operator) (x : SystemRow) (seconds : ℕ) → text_of (feed_tree s x Feed.StationStatus seconds)
-        ≡ list_head_text x seconds (codes "stations") ++ (items_text false (items (λ station. status_tree (report_of station) (counts_of s station)) (values s.stations)) ++ list_end_text) }
+        ≡ list_head_text x seconds (codes "stations")
+        ++ (items_text false (items (λ station. status_tree (report_of station) (counts_of s station)) (values s.stations)) ++ list_end_text) }
     ensures system_pricing_plans { (s : Operator) (x : SystemRow) (seconds : ℕ) → text_of (feed_tree s x Feed.SystemPricingPlans seconds)
         ≡ list_head_text x seconds (codes "plans") ++ (items_text false (items (plan_tree x) (values s.plans)) ++ list_end_text) }
 {}

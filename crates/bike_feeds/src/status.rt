@@ -140,7 +140,8 @@ pub fn write_status<W: Write>(
 ) -> Result<(), WriteFault>
     requires value { IsTrue (takes_value json.old.top) }
     requires room { length json.old.round < 14 }
-    ensures wrote { WroteValue json.old json.new (W.contents out.old) (W.contents out.new) (status_tree (report_row station.now) (counts_row counts.now)) }
+    ensures wrote { WroteValue json.old json.new (W.contents out.old) (W.contents out.new)
+        (status_tree (report_row station.now) (counts_row counts.now)) }
     ensures place { IsAt json.new (after_value json.old.top) json.old.round }
     ensures outcome { is_ok result ≡ not json.new.failed }
 {

@@ -58,7 +58,8 @@ pub fn write_system_information<W: Write>(
     moment: Moment,
 ) -> Result<(), WriteFault>
     requires { IsAt json.old Level.Start [] }
-    ensures wrote { (s : Operator) → WroteValue json.old json.new (W.contents out.old) (W.contents out.new) (feed_tree s system.now Feed.SystemInformation moment) }
+    ensures wrote { (s : Operator) → WroteValue json.old json.new (W.contents out.old) (W.contents out.new)
+        (feed_tree s system.now Feed.SystemInformation moment) }
     ensures place { IsAt json.new Level.Done [] }
     ensures outcome { is_ok result ≡ not json.new.failed }
 {
