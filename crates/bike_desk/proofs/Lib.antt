@@ -3,4 +3,5 @@ pub mod KeepLemmas
 pub mod ChangeLemmas
 pub mod AdoptLemmas
 pub mod RunLemmas
-pub mod BalanceLemmas
+pub mod ReadLemmas
+pub mod QueryLemmas

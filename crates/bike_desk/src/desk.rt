@@ -1,10 +1,8 @@
 //! The desk, and the one call that changes what it keeps.
 
-ghost use Rattle.std.specs.Prelude.{◌≡◌, ◌≤◌, false, IsTrue, IfOk, OnOk, Err, option_map, Option, Some, None};
-ghost use Rattle.std.specs.FinMap as map;
+ghost use Rattle.std.specs.Prelude.{◌≡◌, ◌≤◌, false, IsTrue, IfOk, OnOk, Err};
 ghost use Rattle.sqlite.specs.State.{HasCleanDisk};
 ghost use Rattle.sqlite_trees.specs.View.{doubt};
-ghost use Rattle.bike_ledger.specs.Ledger.{balance_of};
 ghost use Rattle.bike_operator.specs.Operator.{Operator};
 ghost use Rattle.bike_operator.specs.Runs.{step};
 ghost use Rattle.bike_schema.specs.Stands.{AllLeft};
@@ -12,10 +10,8 @@ ghost use Rattle.bike_desk.specs.Desk.{shown, IsAt, TreesStandForEither};
 
 use crate::fault::DeskFault;
 use crate::serve::serve;
-use bike_accounts::find_rider;
 use bike_commands::{Reply, Request};
-use bike_fields::RiderNumber;
-use bike_fixed::{Cents, Moment};
+use bike_fixed::Moment;
 use bike_requests::command_text;
 use sqlite::{Alter, Connection};
 use std::alloc::Global;
@@ -27,8 +23,8 @@ const MOST_ROWS: usize = 16;
 /// A connection whose tables stand for an operator.
 #[derive(Drop)]
 pub struct Desk<S: Alter> {
-    conn: Connection<S>,
-    stopped: bool,
+    pub(crate) conn: Connection<S>,
+    pub(crate) stopped: bool,
 }
 
 impl<S: Alter> Model for Desk<S> {
@@ -105,33 +101,6 @@ impl<S: Alter> Desk<S> {
         let text = text.as_str();
         match serve(alloc, &mut self.conn, moment, request, text, room) {
             Ok(reply) => Ok(reply),
-            Err(_) => {
-                self.stopped = true;
-                Err(DeskFault::StoreFailed)
-            }
-        }
-    }
-
-    /// The rider's balance, the sum of what the ledger books for the rider; None where there is no such
-    /// rider. Nothing that is kept changes; `StoreFailed` stops the desk; a stopped desk answers
-    /// `Stopped`.
-    pub fn balance(&mut self, rider: RiderNumber) -> Result<Option<Cents>, DeskFault>
-        ensures clean { doubt (shown S.Store self.old).is_clean ≤ doubt (shown S.Store self.new).is_clean }
-        ensures ok { HasCleanDisk (shown S.Store self.new) → (s : Operator) → IsAt S.Store self.old s → IfOk result (λ balance.
-            (balance ≡ option_map (λ _. balance_of rider s.entries) (map.get s.riders rider)) × IsAt S.Store self.new s) }
-        ensures no_memory { result ≡ Err DeskFault.NoMemory → ⊥ }
-        ensures left { HasCleanDisk (shown S.Store self.new) → (s : Operator) → IsAt S.Store self.old s
-            → AllLeft (shown S.Store self.new) (shown S.Store self.old).may_leave }
-        ensures stops { result ≡ Err DeskFault.StoreFailed → IsTrue self.new.is_stopped }
-        ensures stopped { result ≡ Err DeskFault.Stopped → IsTrue self.old.is_stopped }
-        ensures stays { IsTrue self.old.is_stopped → (result ≡ Err DeskFault.Stopped) × (self.new ≡ self.old) }
-    {
-        if self.stopped() {
-            return Err(DeskFault::Stopped);
-        }
-        match find_rider(&mut self.conn, rider) {
-            Ok(Some(row)) => Ok(Some(Cents::new(row.balance))),
-            Ok(None) => Ok(None),
             Err(_) => {
                 self.stopped = true;
                 Err(DeskFault::StoreFailed)

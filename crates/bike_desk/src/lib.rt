@@ -7,6 +7,7 @@
 mod adopt;
 mod desk;
 mod fault;
+mod queries;
 mod run;
 mod serve;
 mod transaction;

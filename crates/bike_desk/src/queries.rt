@@ -1,0 +1,148 @@
+//! What a desk holds of a name, without a change of what is kept.
+
+ghost use Rattle.std.specs.Prelude.{◌≡◌, ◌≢◌, Err};
+ghost use Rattle.std.specs.FinMap as map;
+ghost use Rattle.bike_operator.specs.Operator.{numbered};
+ghost use Rattle.bike_queries.specs.Infos.{balance_at, place_at, rental_info_at, rider_info_at};
+ghost use Rattle.bike_queries.specs.StationCounts.{AreCountsAt};
+ghost use Rattle.bike_desk.specs.Queries.{Queries, TellsOf};
+
+use crate::desk::Desk;
+use crate::fault::DeskFault;
+use bike_catalogue::System;
+use bike_fields::{BicycleNumber, Ident, OrderNumber, RentalNumber, RiderNumber};
+use bike_fixed::Cents;
+use bike_fleet::{find_bike, find_order};
+use bike_operator::{Bike, MOST_TYPES, Order, Place};
+use bike_queries::{
+    Counts, RentalInfo, RiderInfo, find_balance, find_place, find_rental_info, find_rider_info,
+    find_station_counts, find_system,
+};
+use bike_schema::StatementFault;
+use sqlite::Alter;
+use std::alloc::Global;
+
+/// Each query answers what the operator holds of a name, and None exactly where the name isn't there. Nothing that is
+/// kept changes. `StoreFailed` stops the desk, also where memory is refused while a row is copied out; a stopped desk
+/// answers `Stopped` and stays as it is; no other desk answers that.
+impl<S: Alter> Desk<S> {
+    /// What a read answered; one that failed stops the desk.
+    fn answer<A>(&mut self, read: Result<A, StatementFault>) -> Result<A, DeskFault>
+        ensures { TellsOf read self.old self.new result }
+    {
+        match read {
+            Ok(answer) => Ok(answer),
+            Err(_) => {
+                self.stopped = true;
+                Err(DeskFault::StoreFailed)
+            }
+        }
+    }
+
+    /// The rider's balance, the sum of what the ledger books for the rider.
+    pub fn balance(&mut self, rider: RiderNumber) -> Result<Option<Cents>, DeskFault>
+        ensures query { Queries S.Store self.old self.new result (λ s x. x ≡ balance_at s rider) }
+        ensures takes_none { result ≢ Err DeskFault.NoMemory }
+    {
+        if self.stopped() {
+            return Err(DeskFault::Stopped);
+        }
+        let read = find_balance(&mut self.conn, rider);
+        self.answer(read)
+    }
+
+    /// The rider: whether blocked, the balance, and the number of the open rental.
+    pub fn rider(&mut self, rider: RiderNumber) -> Result<Option<RiderInfo>, DeskFault>
+        ensures query { Queries S.Store self.old self.new result (λ s x. x ≡ rider_info_at s rider) }
+        ensures takes_none { result ≢ Err DeskFault.NoMemory }
+    {
+        if self.stopped() {
+            return Err(DeskFault::Stopped);
+        }
+        let read = find_rider_info(&mut self.conn, rider);
+        self.answer(read)
+    }
+
+    /// Where the bicycle is.
+    pub fn place(&mut self, alloc: Global, bike: BicycleNumber) -> Result<Option<Place>, DeskFault>
+        ensures query { Queries S.Store self.old self.new result (λ s x. x ≡ place_at s bike) }
+        ensures takes_none { result ≢ Err DeskFault.NoMemory }
+    {
+        if self.stopped() {
+            return Err(DeskFault::Stopped);
+        }
+        let read = find_place(alloc, &mut self.conn, bike);
+        self.answer(read)
+    }
+
+    /// The bicycle: its vehicle type, its state, and where it is.
+    pub fn bike(&mut self, alloc: Global, bike: BicycleNumber) -> Result<Option<Bike>, DeskFault>
+        ensures query { Queries S.Store self.old self.new result (λ s x. x ≡ map.get s.bikes bike) }
+        ensures takes_none { result ≢ Err DeskFault.NoMemory }
+    {
+        if self.stopped() {
+            return Err(DeskFault::Stopped);
+        }
+        let read = find_bike(alloc, &mut self.conn, bike);
+        self.answer(read)
+    }
+
+    /// The rental, and how it was closed with the sum of its refunds.
+    pub fn rental(
+        &mut self,
+        alloc: Global,
+        rental: RentalNumber,
+    ) -> Result<Option<RentalInfo>, DeskFault>
+        ensures query { Queries S.Store self.old self.new result (λ s x. x ≡ rental_info_at s rental) }
+        ensures takes_none { result ≢ Err DeskFault.NoMemory }
+    {
+        if self.stopped() {
+            return Err(DeskFault::Stopped);
+        }
+        let read = find_rental_info(alloc, &mut self.conn, rental);
+        self.answer(read)
+    }
+
+    /// The order of a truck.
+    pub fn order(&mut self, alloc: Global, order: OrderNumber) -> Result<Option<Order>, DeskFault>
+        ensures query { Queries S.Store self.old self.new result (λ s x. x ≡ numbered order s.orders) }
+        ensures takes_none { result ≢ Err DeskFault.NoMemory }
+    {
+        if self.stopped() {
+            return Err(DeskFault::Stopped);
+        }
+        let read = find_order(alloc, &mut self.conn, order);
+        self.answer(read)
+    }
+
+    /// The system, where it is set.
+    pub fn system(&mut self, alloc: Global) -> Result<Option<System>, DeskFault>
+        ensures query { Queries S.Store self.old self.new result (λ s x. x ≡ s.system) }
+        ensures takes_none { result ≢ Err DeskFault.NoMemory }
+    {
+        if self.stopped() {
+            return Err(DeskFault::Stopped);
+        }
+        let read = find_system(alloc, &mut self.conn);
+        self.answer(read)
+    }
+
+    /// The counts of the station, as GBFS's `station_status` shows them: the stored numbers, and no bicycle counted.
+    /// Room for the list of types is taken before the database is reached; where that is refused, `NoMemory` comes.
+    pub fn station_counts(
+        &mut self,
+        alloc: Global,
+        station: &Ident,
+    ) -> Result<Option<Counts>, DeskFault>
+        ensures query { Queries S.Store self.old self.new result (λ s x. AreCountsAt s station.now x) }
+    {
+        if self.stopped() {
+            return Err(DeskFault::Stopped);
+        }
+        let Ok(room) = Vec::with_capacity(alloc, MOST_TYPES as usize) else {
+            return Err(DeskFault::NoMemory);
+        };
+        let read = find_station_counts(alloc, &mut self.conn, station, room);
+        self.answer(read)
+    }
+}
