@@ -1,0 +1,64 @@
+-- An object whose members are those of a list, written one after the other.
+use Rattle.std.proofs.Common.{◌≡◌, ℕ, zero, suc, ◌+◌, ◌<◌, ◌≤◌, List, [], ◌∷◌, ◌++◌, Bool, true, false, IsTrue, Option, length, drop, get_or, refl, sym, ap, ◌∙◌, arith, append_assoc, append-nil}
+use Rattle.bike_feeds.specs.Escapes.{quoted}
+use Rattle.bike_feeds.specs.Tree.{Tree, Members, object, comma, text_of, members_text}
+use Rattle.bike_feeds.specs.State.{Place, Wrote, IsAt, takes_name, has_more}
+use Rattle.bike_feeds.specs.declared.level.Level.{Level}
+use Rattle.bike_feeds.specs.declared.level.Level.TheVariants.{EmptyObject, FilledObject}
+use Rattle.bike_feeds.proofs.Series.{Wrote_then, Wrote_as}
+use Rattle.bike_feeds.proofs.Rows.{wrote_nothing}
+use Rattle.bike_answers.specs.Bodies.{members, member_text}
+
+-- what was written, with the text of the members that are left, is the text of all
+pub record SoFar (from to : Place) (old new : Option (List ℕ)) (all left : List (List ℕ × Tree)) : Type 0 where
+  pub front : List ℕ
+  pub wrote : Wrote from to old new front
+  pub split : members_text false (members all) ≡ front ++ members_text (has_more to.top) (members left)
+  pub inside : IsTrue (takes_name to.top)
+  pub round : to.round ≡ from.round
+
+pub members_start : (p : Place) (a : Option (List ℕ)) (all : List (List ℕ × Tree)) → p.top ≡ EmptyObject → SoFar p p a a all all
+members_start p a all at = record { front = []; wrote = wrote_nothing p a; split = rw at refl; inside = rw at refl; round = refl }
+
+one_more : (front name text : List ℕ) (more : Bool) (rest : List ℕ)
+    → front ++ (comma more ++ (quoted name ++ 58 ∷ (text ++ rest))) ≡ (front ++ (comma more ++ (quoted name ++ 58 ∷ text))) ++ rest
+one_more front name text more rest = simp append_assoc
+
+pub members_next : {p q r : Place} {a b c : Option (List ℕ)} {all left rest : List (List ℕ × Tree)} {m : List ℕ × Tree}
+    → SoFar p q a b all left → left ≡ m ∷ rest → Wrote q r b c (member_text (has_more q.top) m.0 m.1) → IsAt r FilledObject q.round
+    → SoFar p r a c all rest
+members_next {p} {q} {r} {a} {b} {c} {all} {left} {rest} {m} s e w at = record {
+  front = s.front ++ member_text (has_more q.top) m.0 m.1;
+  wrote = Wrote_then s.wrote w;
+  split = s.split ∙ (ap (λ l. s.front ++ members_text (has_more q.top) (members l)) e
+      ∙ (one_more s.front m.0 (text_of m.1) (has_more q.top) (members_text true (members rest))
+      ∙ ap (λ (l : Level). (s.front ++ member_text (has_more q.top) m.0 m.1) ++ members_text (has_more l) (members rest)) (sym at.0)));
+  inside = rw at.0 refl;
+  round = at.1 ∙ s.round;
+}
+
+pub members_end : {p q : Place} {a b : Option (List ℕ)} {all left : List (List ℕ × Tree)} → SoFar p q a b all left → left ≡ []
+    → Wrote p q a b (members_text false (members all))
+members_end {p} {q} {a} {b} {all} {left} s e =
+    Wrote_as (sym (s.split ∙ (ap (λ l. s.front ++ members_text (has_more q.top) (members l)) e ∙ append-nil s.front))) s.wrote
+
+-- the element at a place comes first of those from there on
+pub drop_get : {X : Type 0} (xs : List X) (i : ℕ) (d : X) → i < length xs → drop i xs ≡ get_or xs i d ∷ drop (i + 1) xs
+drop_get [] i d lt = absurd (omega arith)
+drop_get (x ∷ xs) zero d lt = refl
+drop_get (x ∷ xs) (suc i) d lt = let e : suc i + 1 ≡ suc (i + 1) = omega arith in rw e (drop_get xs i d (omega arith))
+
+-- the parts of an object are its text
+pub object_text : (more : List ℕ) (ms : Members) → ((more ++ 123 ∷ []) ++ members_text false ms) ++ 125 ∷ [] ≡ more ++ text_of (object ms)
+object_text more ms = append_assoc (more ++ 123 ∷ []) (members_text false ms) (125 ∷ []) ∙ append_assoc more (123 ∷ []) (members_text false ms ++ 125 ∷ [])
+
+-- a member's name and its value
+pub member_parts : (more : Bool) (name text : List ℕ) → (comma more ++ quoted name ++ 58 ∷ []) ++ text ≡ comma more ++ (quoted name ++ 58 ∷ text)
+member_parts more name text =
+    append_assoc (comma more ++ quoted name) (58 ∷ []) text ∙ append_assoc (comma more) (quoted name) (58 ∷ text)
+
+pub drop_none : {X : Type 0} (xs : List X) (i : ℕ) → length xs ≤ i → drop i xs ≡ []
+drop_none [] zero le = refl
+drop_none [] (suc i) le = refl
+drop_none (x ∷ xs) zero le = absurd (omega arith)
+drop_none (x ∷ xs) (suc i) le = drop_none xs i (omega arith)

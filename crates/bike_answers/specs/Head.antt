@@ -1,0 +1,36 @@
+-- The head of an answer (RFC 9112, section 4).
+use Rattle.std.specs.Prelude.{ℕ, List, [], ◌∷◌, ◌++◌, ◌==◌, if◌then◌else◌, codes, decimal, Option, Some, None}
+use Rattle.bike_heads.specs.declared.aim.Allow.{Allow}
+use Rattle.bike_heads.specs.declared.aim.Allow.TheVariants.{Get, Post}
+
+-- the reason that stands behind a status
+abbrev pub reason_of : ℕ → List ℕ
+reason_of status =
+    if status == 200 then codes "OK"
+    else if status == 400 then codes "Bad Request"
+    else if status == 404 then codes "Not Found"
+    else if status == 405 then codes "Method Not Allowed"
+    else if status == 409 then codes "Conflict"
+    else if status == 413 then codes "Payload Too Large"
+    else if status == 503 then codes "Service Unavailable"
+    else []
+
+abbrev pub crlf : List ℕ
+crlf = 13 ∷ 10 ∷ []
+
+abbrev pub allow_line : Option Allow → List ℕ
+allow_line None = []
+allow_line (Some Get) = codes "Allow: GET" ++ crlf
+allow_line (Some Post) = codes "Allow: POST" ++ crlf
+
+-- the lines up to the length, and those behind it
+abbrev pub type_lines : List ℕ
+type_lines = crlf ++ codes "Content-Type: application/json" ++ crlf ++ codes "Content-Length: "
+
+abbrev pub close_lines : List ℕ
+close_lines = crlf ++ codes "Connection: close" ++ crlf
+
+-- the status line, the fields and the empty line of an answer whose body has that length
+unfoldable pub head_text : ℕ → Option Allow → ℕ → List ℕ
+head_text status allow length =
+    codes "HTTP/1.1 " ++ decimal status ++ codes " " ++ reason_of status ++ type_lines ++ decimal length ++ close_lines ++ allow_line allow ++ crlf

@@ -1,0 +1,4 @@
+pub mod Status
+pub mod Head
+pub mod Bodies
+pub mod Sent

@@ -1,0 +1,80 @@
+//! JSON objects of named scalars.
+
+ghost use Rattle.std.specs.Prelude.{◌≡◌, ◌<◌, ◌++◌, IsTrue, length, map, pos, false};
+ghost use Rattle.bike_feeds.specs.State.{Wrote, IsAt, takes_value, takes_name, has_more, after_value};
+ghost use Rattle.bike_feeds.specs.Tree.{comma, text_of, members_text, object};
+ghost use Rattle.bike_answers.specs.Bodies.{scalar_tree, member_text, members};
+
+use bike_feeds::{JsonState, Level};
+use bike_fixed::Within;
+use std::io::Write;
+
+/// The value of a member.
+#[derive(Clone, Copy, Debug)]
+pub(crate) enum Scalar<'a> {
+    /// A string.
+    Text(&'a str),
+    /// A whole number.
+    Whole(i64),
+    /// `true` or `false`.
+    Flag(bool),
+}
+
+/// A number of a range, as a value.
+pub(crate) fn whole<const LO: u32, const HI: u32>(number: Within<LO, HI>) -> Scalar<'static>
+    ensures { result ≡ Scalar.Whole (pos number.entry) }
+{
+    Scalar::Whole(i64::from(number.get()))
+}
+
+/// A number with a sign, as a value.
+pub(crate) fn signed(number: i64) -> Scalar<'static>
+    ensures { result ≡ Scalar.Whole number }
+{
+    Scalar::Whole(number)
+}
+
+fn write_scalar<W: Write>(json: &mut JsonState, out: &mut W, scalar: Scalar)
+    requires { IsTrue (takes_value json.old.top) }
+    ensures wrote { Wrote json.old json.new (W.contents out.old) (W.contents out.new) (comma (has_more json.old.top) ++ text_of (scalar_tree scalar.entry)) }
+    ensures place { IsAt json.new (after_value json.old.top) json.old.round }
+{
+    let _ = match scalar {
+        Scalar::Text(text) => json.text(out, text),
+        Scalar::Whole(number) => json.whole(out, number),
+        Scalar::Flag(flag) => json.flag(out, flag),
+    };
+}
+
+fn write_member<W: Write>(json: &mut JsonState, out: &mut W, name: &str, value: Scalar)
+    requires { IsTrue (takes_name json.old.top) }
+    ensures wrote { Wrote json.old json.new (W.contents out.old) (W.contents out.new) (member_text (has_more json.old.top) name.now (scalar_tree value.entry)) }
+    ensures place { IsAt json.new Level.FilledObject json.old.round }
+{
+    let _ = json.name(out, name);
+    write_scalar(json, out, value);
+}
+
+fn write_members<W: Write>(json: &mut JsonState, out: &mut W, fields: &[(&str, Scalar)])
+    requires { json.old.top ≡ Level.EmptyObject }
+    ensures wrote { Wrote json.old json.new (W.contents out.old) (W.contents out.new) (members_text false (members (map (λ m. (m.0.now, scalar_tree m.1)) fields.now))) }
+    ensures name { IsTrue (takes_name json.new.top) }
+    ensures round { json.new.round ≡ json.old.round }
+{
+    for field in fields {
+        write_member(json, out, field.0, field.1);
+    }
+}
+
+/// Writes an object of these members, in this order.
+pub(crate) fn write_object<W: Write>(json: &mut JsonState, out: &mut W, fields: &[(&str, Scalar)])
+    requires value { IsTrue (takes_value json.old.top) }
+    requires room { length json.old.round < 16 }
+    ensures wrote { Wrote json.old json.new (W.contents out.old) (W.contents out.new)
+        (comma (has_more json.old.top) ++ text_of (object (members (map (λ m. (m.0.now, scalar_tree m.1)) fields.now)))) }
+    ensures place { IsAt json.new (after_value json.old.top) json.old.round }
+{
+    let _ = json.begin_object(out);
+    write_members(json, out, fields);
+    let _ = json.end_object(out);
+}

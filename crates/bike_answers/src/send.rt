@@ -1,0 +1,60 @@
+//! Writing an answer.
+
+ghost use Rattle.std.specs.Prelude.{◌≡◌, length, IfSome, IfOk, OnErr};
+ghost use Rattle.std.specs.Io.KnownBytes.{Appends};
+ghost use Rattle.bike_stream.specs.Writing.{AppendsFront};
+ghost use Rattle.bike_feeds.specs.Tree.{text_of};
+ghost use Rattle.bike_answers.specs.Bodies.{body_of};
+ghost use Rattle.bike_answers.specs.Status.{status_of};
+ghost use Rattle.bike_answers.specs.Sent.{answer_text, Sends, SendsFront};
+
+use crate::answer::Answer;
+use crate::body::write_body;
+use crate::head::head_text;
+use bike_feeds::JsonState;
+use bike_stream::{WriteFault, write_whole};
+use std::io;
+use std::io::Write;
+
+/// The length of the body that says that there is no answer now.
+const UNAVAILABLE_LENGTH: u64 = 39;
+
+/// The length of an answer's body in bytes; none where it can't be counted.
+pub fn body_length(answer: &Answer) -> Option<u64>
+    ensures { IfSome result (λ n. n ≡ length (text_of (body_of answer.now))) }
+{
+    let mut json = JsonState::new();
+    write_body(&mut json, &mut io::sink(), answer);
+    match json.outcome() {
+        Ok(()) => Some(json.count()),
+        Err(_) => None,
+    }
+}
+
+/// Writes an answer, the length of whose body is known.
+fn send<W: Write>(out: &mut W, answer: &Answer, size: u64) -> Result<u16, WriteFault>
+    requires { size ≡ length (text_of (body_of answer.now)) }
+    ensures ok { IfOk result (λ status. (status ≡ status_of answer.now) × Appends (W.contents out.old) (W.contents out.new) (answer_text answer.now)) }
+    ensures err { OnErr result (AppendsFront (W.contents out.old) (W.contents out.new) (answer_text answer.now)) }
+{
+    let head = head_text(answer.status(), answer.allow(), size);
+    write_whole(out, head.as_str().as_bytes())?;
+    let mut json = JsonState::new();
+    write_body(&mut json, out, answer);
+    match json.outcome() {
+        Ok(()) => Ok(answer.status()),
+        Err(fault) => Err(fault),
+    }
+}
+
+/// Writes an answer, and gives its status; where the length of its body can't be counted, that there is none now. Fails
+/// where a write fails; then a front of what was to be sent is written.
+pub fn write_answer<W: Write>(out: &mut W, answer: &Answer) -> Result<u16, WriteFault>
+    ensures ok { IfOk result (λ status. Sends (W.contents out.old) (W.contents out.new) answer.now status) }
+    ensures err { OnErr result (SendsFront (W.contents out.old) (W.contents out.new) answer.now) }
+{
+    match body_length(answer) {
+        Some(length) => send(out, answer, length),
+        None => send(out, &Answer::Unavailable, UNAVAILABLE_LENGTH),
+    }
+}

@@ -1,0 +1,4 @@
+pub mod Length
+pub mod Head
+pub mod Table
+pub mod Aim

@@ -1,0 +1,106 @@
+-- The routes of the product, and what a path that takes one names.
+use Rattle.std.specs.Prelude.{ℕ, List, [], ◌∷◌, Bool, ◌==◌, map, fold, codes, Option, Some, option_map, Result, Ok, Err}
+use Rattle.std.specs.List.{before_first, slice_split}
+use Rattle.matchit.specs.Rows.{RowsOf}
+use Rattle.matchit.specs.Order.{placed}
+use Rattle.matchit.specs.Route.{Scan, parse_route}
+use Rattle.matchit.specs.Router.{RouteOf, route_from}
+use Rattle.matchit.specs.Seek.{first}
+use Rattle.bike_fixed.specs.Whole.{number_of}
+use Rattle.bike_fields.specs.Bytes.{ident_of}
+use Rattle.bike_texts.specs.Reading.{◌>>=◌, part_at}
+use Rattle.bike_heads.specs.declared.feed.Feed.TheVariants.{Gbfs, SystemInformation, VehicleTypes, StationInformation, StationStatus, SystemPricingPlans}
+use Rattle.bike_heads.specs.declared.resource.Action.TheVariants as action
+use Rattle.bike_heads.specs.declared.resource.Shown.TheVariants as shown
+use Rattle.bike_heads.specs.declared.resource.Resource.{Resource}
+use Rattle.bike_heads.specs.declared.resource.Resource.TheVariants.{Act, Show, Publish}
+use Rattle.bike_heads.specs.declared.routes.Route.{Route}
+use Rattle.bike_heads.specs.declared.routes.Route.TheVariants as route
+
+-- THE TABLE
+unfoldable pub routes : List (List ℕ × Route)
+routes =
+    (codes "/riders/{rider}/start", route.Start)
+    ∷ (codes "/docks/{station}/end", route.End)
+    ∷ (codes "/docks/{station}/mark-dock", route.MarkDock)
+    ∷ (codes "/docks/{station}/mark-bike", route.MarkStationBike)
+    ∷ (codes "/crews/{truck}/load", route.Load)
+    ∷ (codes "/crews/{truck}/unload", route.Unload)
+    ∷ (codes "/crews/{truck}/mark-bike", route.MarkTruckBike)
+    ∷ (codes "/office", route.Office)
+    ∷ (codes "/riders/{rider}", route.Rider)
+    ∷ (codes "/bikes/{bike}", route.Bike)
+    ∷ (codes "/rentals/{rental}", route.Rental)
+    ∷ (codes "/orders/{order}", route.Order)
+    ∷ (codes "/gbfs/3.0/gbfs.json", route.Publish Gbfs)
+    ∷ (codes "/gbfs/3.0/system_information.json", route.Publish SystemInformation)
+    ∷ (codes "/gbfs/3.0/vehicle_types.json", route.Publish VehicleTypes)
+    ∷ (codes "/gbfs/3.0/station_information.json", route.Publish StationInformation)
+    ∷ (codes "/gbfs/3.0/station_status.json", route.Publish StationStatus)
+    ∷ (codes "/gbfs/3.0/system_pricing_plans.json", route.Publish SystemPricingPlans)
+    ∷ []
+
+-- .. as rows of a router
+abbrev pub Rows : Type 0
+Rows = RowsOf (RouteOf Route)
+
+abbrev pub with_scan : {E : Type 0} → Result Scan E → Route → Rows → Rows
+with_scan (Ok s) value rows = placed (s.pattern, route_from s value) rows
+with_scan (Err e) value rows = rows
+
+-- the rows with one route more
+unfoldable pub added : Rows → List ℕ → Route → Rows
+added rows text value = with_scan (parse_route text) value rows
+
+abbrev pub added_all : Rows → List (List ℕ × Route) → Rows
+added_all rows routes = fold (λ (t : Rows) (r : List ℕ × Route). added t r.0 r.1) rows routes
+
+unfoldable pub table : Rows
+table = added_all [] routes
+
+-- the route that a path takes
+abbrev pub route_at : List ℕ → Option Route
+route_at path = option_map (λ r. r.value) (first table path)
+
+-- the target up to the first question mark
+abbrev pub path_of : List ℕ → List ℕ
+path_of target = before_first (λ b. b == 63) target
+
+-- what stands behind the second slash of a path, up to the third or the end
+unfoldable pub part_in : List ℕ → Option (List ℕ)
+part_in path = do
+  front ← part_at (slice_split (λ b. b == 47) path)
+  kind ← part_at front.1
+  part ← part_at kind.1
+  Some part.0
+
+-- what this part spells
+unfoldable pub named_in : {A : Type 0} → (List ℕ → Option A) → List ℕ → Option A
+named_in read path = part_in path >>= read
+
+-- the number of a rider, a bicycle or a truck; of a rental or an order
+abbrev pub number_in : List ℕ → Option ℕ
+number_in = named_in (number_of 1 999999)
+
+abbrev pub serial_in : List ℕ → Option ℕ
+serial_in = named_in (number_of 1 100000000)
+
+-- the identifier of a station
+abbrev pub ident_in : List ℕ → Option (List ℕ)
+ident_in = named_in ident_of
+
+-- what a path names that takes the route
+abbrev pub resource_at : Route → List ℕ → Option Resource
+resource_at route.Start path = option_map Act (option_map action.Start (number_in path))
+resource_at route.End path = option_map Act (option_map action.End (ident_in path))
+resource_at route.MarkDock path = option_map Act (option_map action.MarkDock (ident_in path))
+resource_at route.MarkStationBike path = option_map Act (option_map action.MarkStationBike (ident_in path))
+resource_at route.Load path = option_map Act (option_map action.Load (number_in path))
+resource_at route.Unload path = option_map Act (option_map action.Unload (number_in path))
+resource_at route.MarkTruckBike path = option_map Act (option_map action.MarkTruckBike (number_in path))
+resource_at route.Office path = Some (Act action.Office)
+resource_at route.Rider path = option_map Show (option_map shown.Rider (number_in path))
+resource_at route.Bike path = option_map Show (option_map shown.Bike (number_in path))
+resource_at route.Rental path = option_map Show (option_map shown.Rental (serial_in path))
+resource_at route.Order path = option_map Show (option_map shown.Order (serial_in path))
+resource_at (route.Publish feed) path = Some (Publish feed)

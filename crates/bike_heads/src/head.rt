@@ -1,0 +1,76 @@
+//! The head of a request.
+
+ghost use Rattle.httparse.specs.Spans.{IsRequestAt, IsRequestWithin};
+ghost use Rattle.httparse.specs.Grammar.{RequestHead};
+ghost use Rattle.bike_heads.specs.Head.{IsRead, IsWhole};
+
+use crate::length::{BodyLength, body_length};
+use httparse::Status;
+use httparse::spans::{EMPTY_HEADER_SPAN, HeaderSpan, RequestSpans, parse_request};
+use std::str;
+
+/// The greatest length of a head in bytes: empty lines in front and the last line end count too.
+pub const HEAD_LENGTH: usize = 8192;
+
+/// How many fields a head has at most.
+pub const MOST_FIELDS: usize = 32;
+
+/// What the head of a request says.
+#[derive(Clone, Copy, Debug)]
+pub struct Head<'b> {
+    /// The method, as it stands.
+    pub method: &'b [u8],
+    /// The request target, as it stands.
+    pub target: &'b str,
+    /// How many bytes the head has; the body comes next.
+    pub length: usize,
+    /// How long the fields say that the body is.
+    pub body: BodyLength,
+}
+
+/// What the first bytes of an input hold.
+#[derive(Clone, Copy, Debug)]
+pub enum HeadReading<'b> {
+    /// The front of a head.
+    Incomplete,
+    /// No head, whatever bytes follow.
+    Unreadable,
+    /// A whole head.
+    Whole(Head<'b>),
+}
+
+/// What the spans of a head say.
+fn head_of<'b>(bytes: &'b [u8], fields: &[HeaderSpan], spans: RequestSpans) -> HeadReading<'b>
+    requires { IsRequestWithin bytes.now fields.now spans }
+    ensures { (head : RequestHead) → IsRequestAt bytes.now fields.now spans head → IsWhole head result }
+{
+    let Ok(target) = str::from_utf8(spans.path.of(bytes)) else {
+        return HeadReading::Unreadable;
+    };
+    HeadReading::Whole(Head {
+        method: spans.method.of(bytes),
+        target,
+        length: spans.len,
+        body: body_length(bytes, &fields[..spans.headers]),
+    })
+}
+
+/// Reads the head at the front of the bytes. It is unreadable where no head of at most 8,192 bytes and 32 fields
+/// can stand there (RFC 9112, sections 2 to 5, as `httparse` reads it), and incomplete where one may still come.
+pub fn read_head(bytes: &[u8]) -> HeadReading<'_>
+    ensures { IsRead bytes.now result }
+{
+    let mut fields = [EMPTY_HEADER_SPAN; MOST_FIELDS];
+    let front = &bytes[..bytes.len().min(HEAD_LENGTH)];
+    match parse_request(front, &mut fields) {
+        Ok(Status::Complete(spans)) => head_of(front, &fields, spans),
+        Ok(Status::Partial) => {
+            if bytes.len() < HEAD_LENGTH {
+                HeadReading::Incomplete
+            } else {
+                HeadReading::Unreadable
+            }
+        }
+        Err(_) => HeadReading::Unreadable,
+    }
+}

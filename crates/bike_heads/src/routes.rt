@@ -1,0 +1,132 @@
+//! The routes.
+
+ghost use Rattle.std.specs.Prelude.{◌≡◌, OnOk, Some, None, map, codes};
+ghost use Rattle.bike_heads.specs.Table.{table, added, added_all, route_at};
+
+use crate::feed::Feed;
+use matchit::{InsertError, Router};
+use std::alloc::Global;
+
+/// A route: what a path of its form names.
+#[derive(Clone, Copy, Debug, PartialEq, Eq)]
+pub enum Route {
+    /// `/riders/{rider}/start`
+    Start,
+    /// `/docks/{station}/end`
+    End,
+    /// `/docks/{station}/mark-dock`
+    MarkDock,
+    /// `/docks/{station}/mark-bike`
+    MarkStationBike,
+    /// `/crews/{truck}/load`
+    Load,
+    /// `/crews/{truck}/unload`
+    Unload,
+    /// `/crews/{truck}/mark-bike`
+    MarkTruckBike,
+    /// `/office`
+    Office,
+    /// `/riders/{rider}`
+    Rider,
+    /// `/bikes/{bike}`
+    Bike,
+    /// `/rentals/{rental}`
+    Rental,
+    /// `/orders/{order}`
+    Order,
+    /// `/gbfs/3.0/NAME.json`
+    Publish(Feed),
+}
+
+const ROUTES: [(&str, Route); 18] = [
+    ("/riders/{rider}/start", Route::Start),
+    ("/docks/{station}/end", Route::End),
+    ("/docks/{station}/mark-dock", Route::MarkDock),
+    ("/docks/{station}/mark-bike", Route::MarkStationBike),
+    ("/crews/{truck}/load", Route::Load),
+    ("/crews/{truck}/unload", Route::Unload),
+    ("/crews/{truck}/mark-bike", Route::MarkTruckBike),
+    ("/office", Route::Office),
+    ("/riders/{rider}", Route::Rider),
+    ("/bikes/{bike}", Route::Bike),
+    ("/rentals/{rental}", Route::Rental),
+    ("/orders/{order}", Route::Order),
+    ("/gbfs/3.0/gbfs.json", Route::Publish(Feed::Gbfs)),
+    (
+        "/gbfs/3.0/system_information.json",
+        Route::Publish(Feed::SystemInformation),
+    ),
+    (
+        "/gbfs/3.0/vehicle_types.json",
+        Route::Publish(Feed::VehicleTypes),
+    ),
+    (
+        "/gbfs/3.0/station_information.json",
+        Route::Publish(Feed::StationInformation),
+    ),
+    (
+        "/gbfs/3.0/station_status.json",
+        Route::Publish(Feed::StationStatus),
+    ),
+    (
+        "/gbfs/3.0/system_pricing_plans.json",
+        Route::Publish(Feed::SystemPricingPlans),
+    ),
+];
+
+/// The routes of the product, all of them.
+#[derive(Drop)]
+pub struct Routes {
+    router: Router<Route>,
+    ghost holds: { router ≡ table },
+}
+
+fn add(router: &mut Router<Route>, text: &str, route: Route) -> Result<(), InsertError>
+    ensures { OnOk result (router.new ≡ added router.old text.now route) }
+{
+    router.insert(text, route)
+}
+
+fn add_all(router: &mut Router<Route>, routes: &[(&str, Route)]) -> Result<(), InsertError>
+    ensures { OnOk result (router.new ≡ added_all router.old (map (λ r. (r.0.now, r.1)) routes.now)) }
+{
+    for (text, route) in routes {
+        add(router, text, *route)?;
+    }
+    Ok(())
+}
+
+impl Routes {
+    /// The routes of the product; an error is a want of memory.
+    pub fn new(alloc: Global) -> Result<Routes, InsertError> {
+        let mut router = Router::new(alloc);
+        add_all(&mut router, &ROUTES)?;
+        Ok(Routes { router })
+    }
+
+    /// The route that the path takes, as it stands: nothing in it is decoded.
+    pub fn route(&self, path: &str) -> Option<Route>
+        ensures { result ≡ route_at path.now }
+    {
+        match self.router.at(path) {
+            Ok(found) => Some(*found.value),
+            Err(_) => None,
+        }
+    }
+}
+
+/// Which routes some paths take: a part that is empty, a slash too many and an escape take none.
+pub fn route_laws(_example: Route)
+    ensures start { route_at (codes "/riders/17/start") ≡ Some Route.Start }
+    ensures rider { route_at (codes "/riders/17") ≡ Some Route.Rider }
+    ensures office { route_at (codes "/office") ≡ Some Route.Office }
+    ensures feed { route_at (codes "/gbfs/3.0/station_status.json") ≡ Some (Route.Publish Feed.StationStatus) }
+    ensures any_part { route_at (codes "/bikes/x%2f") ≡ Some Route.Bike }
+    ensures trailing { route_at (codes "/riders/17/start/") ≡ None }
+    ensures empty { route_at (codes "/riders//start") ≡ None }
+    ensures no_rider { route_at (codes "/riders/") ≡ None }
+    ensures doubled { route_at (codes "//office") ≡ None }
+    ensures longer { route_at (codes "/office/") ≡ None }
+    ensures other_feed { route_at (codes "/gbfs/3.0/x.json") ≡ None }
+    ensures absolute { route_at (codes "http://h/office") ≡ None }
+{}
