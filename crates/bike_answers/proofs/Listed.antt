@@ -1,12 +1,12 @@
 -- An object whose members are those of a list, written one after the other.
 use Rattle.std.proofs.Common.{◌≡◌, ℕ, zero, suc, ◌+◌, ◌<◌, ◌≤◌, List, [], ◌∷◌, ◌++◌, Bool, true, false, IsTrue, Option, length, drop, get_or, refl, sym, ap, ◌∙◌, arith, append_assoc, append-nil}
-use Rattle.bike_feeds.specs.Escapes.{quoted}
-use Rattle.bike_feeds.specs.Tree.{Tree, Members, object, comma, text_of, members_text}
-use Rattle.bike_feeds.specs.State.{Place, Wrote, IsAt, takes_name, has_more}
-use Rattle.bike_feeds.specs.declared.level.Level.{Level}
-use Rattle.bike_feeds.specs.declared.level.Level.TheVariants.{EmptyObject, FilledObject}
-use Rattle.bike_feeds.proofs.Series.{Wrote_then, Wrote_as}
-use Rattle.bike_feeds.proofs.Rows.{wrote_nothing}
+use Rattle.bike_json.specs.Escapes.{quoted}
+use Rattle.bike_json.specs.Tree.{Tree, Members, object, comma, text_of, members_text}
+use Rattle.bike_json.specs.State.{Place, Wrote, IsAt, takes_name, has_more}
+use Rattle.bike_json.specs.declared.level.Level.{Level}
+use Rattle.bike_json.specs.declared.level.Level.TheVariants.{EmptyObject, FilledObject}
+use Rattle.bike_json.proofs.Series.{Wrote_then, Wrote_as}
+use Rattle.bike_json.proofs.Rows.{wrote_nothing}
 use Rattle.bike_answers.specs.Bodies.{members, member_text}
 
 -- what was written, with the text of the members that are left, is the text of all

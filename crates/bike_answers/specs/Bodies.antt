@@ -1,8 +1,8 @@
 -- The JSON bodies of answers.
 use Rattle.std.specs.Prelude.{ℕ, ℤ, pos, List, [], ◌∷◌, ◌++◌, Bool, true, false, codes, Option, Some, None}
 use Rattle.bike_fixed.specs.Text.{moment_text}
-use Rattle.bike_feeds.specs.Escapes.{quoted}
-use Rattle.bike_feeds.specs.Tree.{Tree, object, text, whole, flag, Members, no_members, member, comma, text_of}
+use Rattle.bike_json.specs.Escapes.{quoted}
+use Rattle.bike_json.specs.Tree.{Tree, object, text, whole, flag, Members, no_members, member, comma, text_of}
 use Rattle.bike_texts.specs.declared.ends.OrderEnd.{OrderEnd}
 use Rattle.bike_texts.specs.declared.ends.OrderEnd.TheVariants.{Depot, Station}
 use Rattle.bike_commands.specs.declared.refusal.Refusal.{Refusal}

@@ -2,7 +2,7 @@
 use Rattle.std.specs.Prelude.{◌≡◌, ◌⊎◌, ℕ, List, ◌++◌, length, Option}
 use Rattle.std.specs.Io.KnownBytes.{Appends}
 use Rattle.bike_stream.specs.Writing.{AppendsFront}
-use Rattle.bike_feeds.specs.Tree.{text_of}
+use Rattle.bike_json.specs.Tree.{text_of}
 use Rattle.bike_answers.specs.Head.{head_text}
 use Rattle.bike_answers.specs.Status.{status_of, allow_of}
 use Rattle.bike_answers.specs.Bodies.{body_of}

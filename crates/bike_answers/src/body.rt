@@ -1,15 +1,15 @@
 //! The JSON bodies of answers.
 
 ghost use Rattle.std.specs.Prelude.{◌≡◌, ◌<◌, ◌++◌, IsTrue, length};
-ghost use Rattle.bike_feeds.specs.State.{Wrote, IsAt, takes_value, has_more, after_value};
-ghost use Rattle.bike_feeds.specs.Tree.{comma, text_of};
+ghost use Rattle.bike_json.specs.State.{Wrote, IsAt, takes_value, has_more, after_value};
+ghost use Rattle.bike_json.specs.Tree.{comma, text_of};
 ghost use Rattle.bike_answers.specs.Bodies.{error_tree, refused_tree, rejected_tree, replied_tree, body_of};
 
 use crate::answer::Answer;
 use crate::members::{Scalar, signed, whole, write_object};
 use crate::rows::{write_bike, write_order, write_rental, write_rider};
 use bike_commands::{Refusal, Reply};
-use bike_feeds::JsonState;
+use bike_json::JsonState;
 use bike_heads::Rejection;
 use std::io::Write;
 

@@ -1,11 +1,11 @@
 //! JSON objects of named scalars.
 
 ghost use Rattle.std.specs.Prelude.{◌≡◌, ◌<◌, ◌++◌, IsTrue, length, map, pos, false};
-ghost use Rattle.bike_feeds.specs.State.{Wrote, IsAt, takes_value, takes_name, has_more, after_value};
-ghost use Rattle.bike_feeds.specs.Tree.{comma, text_of, members_text, object};
+ghost use Rattle.bike_json.specs.State.{Wrote, IsAt, takes_value, takes_name, has_more, after_value};
+ghost use Rattle.bike_json.specs.Tree.{comma, text_of, members_text, object};
 ghost use Rattle.bike_answers.specs.Bodies.{scalar_tree, member_text, members};
 
-use bike_feeds::{JsonState, Level};
+use bike_json::{JsonState, Level};
 use bike_fixed::Within;
 use std::io::Write;
 

@@ -1,13 +1,13 @@
 //! Riders, bicycles, rentals and orders as JSON.
 
 ghost use Rattle.std.specs.Prelude.{◌≡◌, ◌<◌, ◌++◌, IsTrue, length, pos};
-ghost use Rattle.bike_feeds.specs.State.{Wrote, IsAt, takes_value, has_more, after_value};
-ghost use Rattle.bike_feeds.specs.Tree.{comma, text_of};
+ghost use Rattle.bike_json.specs.State.{Wrote, IsAt, takes_value, has_more, after_value};
+ghost use Rattle.bike_json.specs.Tree.{comma, text_of};
 ghost use Rattle.bike_answers.specs.Bodies.{rider_state, open_rental, rider_tree, state_name, bike_tree, ended_at, rental_object, open_members, closed_members, rental_tree, end_name, order_tree};
 
 use crate::answer::RiderRow;
 use crate::members::{Scalar, signed, whole, write_object};
-use bike_feeds::JsonState;
+use bike_json::JsonState;
 use bike_fields::{BicycleNumber, Ident, OrderNumber, RentalNumber};
 use bike_operator::{Bike, BikeState, Order, Place, Rental};
 use bike_texts::OrderEnd;

@@ -3,7 +3,7 @@
 ghost use Rattle.std.specs.Prelude.{◌≡◌, length, IfSome, IfOk, OnErr};
 ghost use Rattle.std.specs.Io.KnownBytes.{Appends};
 ghost use Rattle.bike_stream.specs.Writing.{AppendsFront};
-ghost use Rattle.bike_feeds.specs.Tree.{text_of};
+ghost use Rattle.bike_json.specs.Tree.{text_of};
 ghost use Rattle.bike_answers.specs.Bodies.{body_of};
 ghost use Rattle.bike_answers.specs.Status.{status_of};
 ghost use Rattle.bike_answers.specs.Sent.{answer_text, Sends, SendsFront};
@@ -11,7 +11,7 @@ ghost use Rattle.bike_answers.specs.Sent.{answer_text, Sends, SendsFront};
 use crate::answer::Answer;
 use crate::body::write_body;
 use crate::head::head_text;
-use bike_feeds::JsonState;
+use bike_json::JsonState;
 use bike_stream::{WriteFault, write_whole};
 use std::io;
 use std::io::Write;

@@ -1,8 +1,8 @@
 use Rattle.std.proofs.Common.{◌++◌, ap, sym, rules, w64, FitsSigned}
 use Rattle.std.proofs.lemmas.Int.{to_z-of_z}
-use Rattle.bike_feeds.specs.Tree.{comma, text_of}
-use Rattle.bike_feeds.specs.State.{has_more}
-use Rattle.bike_feeds.proofs.Series.{Wrote_as}
+use Rattle.bike_json.specs.Tree.{comma, text_of}
+use Rattle.bike_json.specs.State.{has_more}
+use Rattle.bike_json.proofs.Series.{Wrote_as}
 use Rattle.bike_commands.specs.declared.reply.Reply.{Reply}
 use Rattle.bike_answers.specs.Bodies.{replied_tree}
 use Rattle.bike_answers.proofs.body.write_replied.Goals as goal

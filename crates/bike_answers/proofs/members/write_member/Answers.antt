@@ -1,8 +1,8 @@
 use Rattle.std.proofs.Common.{◌++◌, ap}
-use Rattle.bike_feeds.specs.Tree.{comma, text_of}
-use Rattle.bike_feeds.specs.State.{has_more}
-use Rattle.bike_feeds.specs.declared.level.Level.{Level}
-use Rattle.bike_feeds.proofs.Series.{Wrote_then, Wrote_as}
+use Rattle.bike_json.specs.Tree.{comma, text_of}
+use Rattle.bike_json.specs.State.{has_more}
+use Rattle.bike_json.specs.declared.level.Level.{Level}
+use Rattle.bike_json.proofs.Series.{Wrote_then, Wrote_as}
 use Rattle.bike_answers.specs.Bodies.{scalar_tree}
 use Rattle.bike_answers.proofs.Listed.{member_parts}
 use Rattle.bike_answers.proofs.members.write_member.Goals as goal

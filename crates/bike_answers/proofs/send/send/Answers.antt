@@ -1,5 +1,5 @@
 use Rattle.std.proofs.Common.{refl}
-use Rattle.bike_feeds.proofs.Series.{Wrote_err}
+use Rattle.bike_json.proofs.Series.{Wrote_err}
 use Rattle.bike_answers.proofs.Sending.{front_then}
 use Rattle.bike_answers.proofs.send.send.Goals as goal
 

@@ -1,5 +1,5 @@
 use Rattle.std.proofs.Common.{refl, inr}
-use Rattle.bike_feeds.specs.Escapes.{quoted, escaped_byte}
+use Rattle.bike_json.specs.Escapes.{quoted, escaped_byte}
 use Rattle.bike_answers.proofs.Sending.{sends_ok, sends_err}
 use Rattle.bike_answers.proofs.send.write_answer.Goals as goal
 
