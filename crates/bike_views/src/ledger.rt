@@ -11,7 +11,7 @@ use bike_schema::StatementFault;
 use sqlite::{Alter, Connection};
 
 /// How many entries there are, and whether they and the open rentals are as many as there may be.
-#[derive(Clone, Copy, Debug)]
+#[derive(Clone, Copy)]
 pub(crate) struct LedgerRoom {
     pub(crate) entries: u32,
     pub(crate) is_full: bool,

@@ -22,7 +22,7 @@ use sqlite::{Alter, Connection};
 use std::alloc::Global;
 
 /// Whether what an order names is there.
-#[derive(Clone, Copy, Debug)]
+#[derive(Clone, Copy)]
 pub(crate) struct OrderNames {
     pub(crate) has_type: bool,
     pub(crate) has_from: bool,
@@ -30,7 +30,7 @@ pub(crate) struct OrderNames {
 }
 
 /// A truck, and how many bicycles are on it: over all orders, and for one.
-#[derive(Clone, Copy, Debug)]
+#[derive(Clone, Copy)]
 pub(crate) struct Loads {
     pub(crate) truck: Option<TruckView>,
     pub(crate) loaded: u32,

@@ -21,7 +21,7 @@ use sqlite::{Alter, Connection};
 use std::alloc::Global;
 
 /// What a start asks of its rider and of the ledger.
-#[derive(Clone, Copy, Debug)]
+#[derive(Clone, Copy)]
 pub(crate) struct StartView {
     pub(crate) rider: Option<RiderView>,
     pub(crate) is_riding: bool,
@@ -30,7 +30,7 @@ pub(crate) struct StartView {
 }
 
 /// A bicycle, and the rental in which it is.
-#[derive(Debug, Drop)]
+#[derive(Drop)]
 pub(crate) struct RentalBike {
     pub(crate) bike: Option<Bike>,
     pub(crate) rental: Option<RentalView>,
