@@ -1,5 +1,5 @@
 -- From an empty database to a desk.
-use Rattle.std.proofs.Common.{◌≡◌, inl, inr, ℕ, ◌+◌, pos, true, false, IsTrue, List, [], ◌∷◌, length, Ok, Some, None, Result, codes, refl, sym, ap, ◌∙◌, subst, arith, Bool, filter}
+use Rattle.std.proofs.Common.{◌≡◌, inl, inr, ℕ, ◌+◌, pos, true, false, IsTrue, List, [], ◌∷◌, Ok, Some, None, Result, codes, refl, sym, ap, ◌∙◌, subst, arith, Bool}
 use Rattle.std.specs.List.{AllZip}
 use Rattle.std.specs.declared.cmp.Ordering.{Ordering}
 use Rattle.std.specs.FinMap as map
@@ -20,10 +20,9 @@ use Rattle.sqlite.specs.Held.{Held, state}
 use Rattle.sqlite.proofs.StateLemmas.{survives_then}
 use Rattle.sqlite.proofs.Callers.{survives_begin}
 use Rattle.bike_rows.proofs.ListLemmas.{no_list}
-use Rattle.bike_operator.specs.Operator.{Operator, Key, DockKey, key_of, no_operator, texts_cmp}
+use Rattle.bike_operator.specs.Operator.{Operator, Key, DockKey, no_operator, texts_cmp}
 use Rattle.bike_operator.specs.declared.records.Bike.{Bike}
-use Rattle.bike_operator.specs.Counts.{count, available_of}
-use Rattle.bike_counts.specs.Numbers.{disabled_of}
+use Rattle.bike_operator.specs.Counts.{count}
 use Rattle.bike_laws.proofs.NoOperatorLemmas.{none_sound}
 use Rattle.bike_book.specs.Tables.{Meta}
 use Rattle.bike_book.specs.Stored.{none_listed, IsListing}

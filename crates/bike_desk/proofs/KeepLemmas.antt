@@ -1,7 +1,6 @@
 -- What stays kept over calls, and what a transaction leaves.
-use Rattle.std.proofs.Common.{Bool, ◌||◌, ◌&&◌, not, ◌≡◌, inl, inr, ℕ, ◌≤◌, true, false, IsTrue, List, take, length, codes, Result, Ok, Err, IfOk, refl, sym, ap, ◌∙◌, subst, arith, Option, Some, None}
+use Rattle.std.proofs.Common.{Bool, ◌||◌, not, ◌≡◌, inl, inr, ℕ, ◌≤◌, true, false, IsTrue, List, take, length, codes, Result, Ok, Err, refl, sym, ap, ◌∙◌, subst, arith, Option, Some, None}
 use Rattle.std.specs.Prelude.{OnErr, is_none}
-use Rattle.std.specs.List.{list_all}
 use Rattle.std.proofs.lemmas.Bool.{and_parts}
 use Rattle.std.proofs.lemmas.List.{take_all}
 use Rattle.sqlite_trees.specs.Tree.{Trees}
@@ -13,12 +12,12 @@ use Rattle.sqlite.specs.State.{State, HasCleanDisk, Survives, IsUnchanged, Shows
 use Rattle.sqlite.specs.Held.{Held, state}
 use Rattle.sqlite.proofs.StateLemmas.{survives_then}
 use Rattle.sqlite.proofs.Callers.{survives_begin}
-use Rattle.bike_rows.specs.Calls.{IsQuiet, ReadsWhere}
+use Rattle.bike_rows.specs.Calls.{IsQuiet}
 use Rattle.bike_operator.specs.Operator.{Operator}
 use Rattle.bike_book.specs.declared.row_change.RowChange.{RowChange}
 use Rattle.bike_book.specs.Tables.{Meta}
 use Rattle.bike_book.specs.Writes.{writes_of, tables_after_all}
-use Rattle.bike_schema.specs.Tables.{tables_of, is_parent, is_unused, product_names, HasTables, HasNone, IsOurs}
+use Rattle.bike_schema.specs.Tables.{is_parent, is_unused, HasTables, HasNone, IsOurs}
 use Rattle.bike_schema.specs.Makes.{Makes, Puts}
 use Rattle.bike_schema.specs.Stands.{Stores, IsOf, StandsFor, TreesStandFor, AllLeft, Keeps}
 use Rattle.bike_desk.specs.Desk.{TreesStandForEither}

@@ -1,5 +1,5 @@
 -- What a query owes, from what its one read tells.
-use Rattle.std.proofs.Common.{◌≡◌, Bool, ◌||◌, true, false, IsTrue, Result, Ok, Err, refl, sym, ap, subst, ◌∙◌, arith}
+use Rattle.std.proofs.Common.{◌≡◌, Bool, ◌||◌, true, false, IsTrue, Result, Ok, Err, refl, sym, subst, ◌∙◌, arith}
 use Rattle.sqlite_trees.specs.declared.store.Store.{Ghosts}
 use Rattle.sqlite.specs.Held.{Held, state}
 use Rattle.bike_operator.specs.Operator.{Operator}

@@ -1,5 +1,5 @@
 -- One step, as serving takes it.
-use Rattle.std.proofs.Common.{◌≡◌, ℕ, ◌≤◌, List, [], ◌∷◌, true, cond, Option, Some, None, Ok, Err, refl, sym, ap, ap₂, ◌∙◌, subst, arith}
+use Rattle.std.proofs.Common.{◌≡◌, ℕ, ◌≤◌, List, cond, Option, Some, None, Ok, Err, sym, ap, ap₂, ◌∙◌, subst}
 use Rattle.std.specs.Prelude.{max, string_bytes}
 use Rattle.std.specs.Str.{bytes_eq}
 use Rattle.std.specs.FinMap as map
@@ -29,9 +29,14 @@ use Rattle.bike_schema.specs.Stands.{Stores, Keeps}
 use Rattle.bike_accounts.specs.declared.kept.KeptRow.{KeptRow}
 use Rattle.bike_accounts.specs.declared.meta.MetaRow.{MetaRow}
 use Rattle.bike_accounts.specs.Accounts.{KeepsSame, meta_of}
+<<<<<<< HEAD
 use Rattle.bike_facts.specs.declared.stored.StoredNumbers.{StoredNumbers}
 use Rattle.bike_booking.specs.declared.stored.Sums.{Sums}
 use Rattle.bike_facts.specs.declared.touched.Touched.{Touched}
+=======
+use Rattle.bike_booking.specs.declared.stored.StoredNumbers.{StoredNumbers}
+use Rattle.bike_booking.specs.declared.touched.Touched.{Touched}
+>>>>>>> queries/main
 use Rattle.bike_booking.specs.declared.texts.KeptTexts.{KeptTexts}
 use Rattle.bike_booking.specs.Booking.{AreSums, IsAccepted, AreTexts, Books}
 use Rattle.bike_facts.specs.Touched.{IsTouched, AreOfTouched}

@@ -1,12 +1,11 @@
-use Rattle.std.proofs.Common.{◌≡◌, inl, sym, ap, ◌∙◌, subst, arith, refl}
+use Rattle.std.proofs.Common.{arith, refl}
 use Rattle.sqlite.specs.State.{HasCleanDisk}
 use Rattle.sqlite.specs.Held.{state}
 use Rattle.bike_operator.specs.Operator.{Operator}
 use Rattle.bike_operator.specs.Runs.{accepted}
-use Rattle.bike_schema.specs.Stands.{AllLeft, Keeps}
-use Rattle.bike_desk.specs.Desk.{TreesStandForEither}
+use Rattle.bike_schema.specs.Stands.{Keeps}
 use Rattle.bike_desk.specs.Serving.{IsNextBy, Accepts}
-use Rattle.bike_desk.proofs.KeepLemmas.{on_err, kept_ours, kept_stores, still, still_left}
+use Rattle.bike_desk.proofs.KeepLemmas.{kept_ours, kept_stores, still}
 use Rattle.bike_desk.proofs.ServeLemmas.{sums_are, booked_next, accepts_reads}
 use Rattle.bike_desk.proofs.serve.store_accepted.Given.{Over}
 use Rattle.bike_desk.proofs.serve.store_accepted.Goals as goal

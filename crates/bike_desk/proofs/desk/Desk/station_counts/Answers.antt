@@ -1,4 +1,4 @@
-use Rattle.std.proofs.Common.{◌≡◌, sym, ap, ◌∙◌, subst}
+use Rattle.std.proofs.Common.{sym, ap, ◌∙◌, subst}
 use Rattle.bike_queries.specs.StationCounts.{AreCountsAt}
 use Rattle.bike_desk.specs.Desk.{DeskValue}
 use Rattle.bike_desk.specs.Queries.{Queries}
