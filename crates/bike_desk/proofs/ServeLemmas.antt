@@ -29,14 +29,8 @@ use Rattle.bike_schema.specs.Stands.{Stores, Keeps}
 use Rattle.bike_accounts.specs.declared.kept.KeptRow.{KeptRow}
 use Rattle.bike_accounts.specs.declared.meta.MetaRow.{MetaRow}
 use Rattle.bike_accounts.specs.Accounts.{KeepsSame, meta_of}
-<<<<<<< HEAD
 use Rattle.bike_facts.specs.declared.stored.StoredNumbers.{StoredNumbers}
-use Rattle.bike_booking.specs.declared.stored.Sums.{Sums}
 use Rattle.bike_facts.specs.declared.touched.Touched.{Touched}
-=======
-use Rattle.bike_booking.specs.declared.stored.StoredNumbers.{StoredNumbers}
-use Rattle.bike_booking.specs.declared.touched.Touched.{Touched}
->>>>>>> queries/main
 use Rattle.bike_booking.specs.declared.texts.KeptTexts.{KeptTexts}
 use Rattle.bike_booking.specs.Booking.{AreSums, IsAccepted, AreTexts, Books}
 use Rattle.bike_facts.specs.Touched.{IsTouched, AreOfTouched}
