@@ -1,4 +1,3 @@
-use Rattle.std.proofs.Common.{◌≡◌, rules}
 use Rattle.bike_http.proofs.Receiving.{received_whole}
 use Rattle.bike_http.proofs.incoming.receive.Goals as goal
 

@@ -1,7 +1,6 @@
-use Rattle.std.proofs.Common.{◌≡◌, ◌≤◌, ◌++◌, false, true, Ok, ap, sym, subst, rules, arith}
+use Rattle.std.proofs.Common.{◌≡◌, ◌++◌, false, true, Ok, ap, sym, arith}
 use Rattle.bike_heads.specs.declared.length.BodyLength.{BodyLength}
 use Rattle.bike_http.specs.Asked.{asked_behind}
-use Rattle.bike_http.specs.Received.{Fills}
 use Rattle.bike_http.proofs.Receiving.{opened_within, asks_known, cut_body, whole_body}
 use Rattle.bike_http.proofs.incoming.receive_body.Goals as goal
 

@@ -1,4 +1,4 @@
-use Rattle.std.proofs.Common.{◌≡◌, ◌<◌, ap, sym, subst, length, rules, arith}
+use Rattle.std.proofs.Common.{ap, sym, subst, length, arith}
 use Rattle.httparse.specs.Grammar.{HasNoRequest}
 use Rattle.bike_http.proofs.Receiving.{grew_nothing, nothing_none}
 use Rattle.bike_http.proofs.incoming.receive_head.Goals as goal

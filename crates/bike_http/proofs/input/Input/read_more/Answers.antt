@@ -1,4 +1,4 @@
-use Rattle.std.proofs.Common.{◌≡◌, ◌<◌, ◌≤◌, ◌-◌, ℕ, length, take, ap, rules, arith, length-take, length-drop}
+use Rattle.std.proofs.Common.{◌≡◌, ℕ, length, take, ap, arith, length-take, length-drop}
 use Rattle.bike_http.proofs.Receiving.{reads_more}
 use Rattle.bike_http.proofs.input.Input.read_more.Goals as goal
 
