@@ -65,13 +65,6 @@ module _ {S : Type 0} (g : Ghosts S) (text : List ℕ) where
       quiets (Ok rows) mode survives = quiet_of conn.now rows.conn.now mode survives
       quiets (Err e) mode survives = tt
 
-  pub none_passed : (old new : Held S) → IsQuiet g Asks old new → (HasCleanDisk (state g new) → Asks (state g old).now → BeginsPass g text old new) → IsPassing g text old new None
-  none_passed old new quiet begun = record {
-    quiet = quiet;
-    same = λ clean asks. (begun clean asks).same;
-    climbing = λ clean asks. record { ids = []; climb = tt; reach = refl; gave = (begun clean asks).gave };
-  }
-
   -- ---- a step
 
   module _ (old mid new : Held S) (last : Option Rowid) (was : IsPassing g text old mid last) where
@@ -94,10 +87,6 @@ module _ {S : Type 0} (g : Ghosts S) (text : List ℕ) where
           let more = climb_more last id so_far.ids so_far.climb so_far.reach above in
           record { ids = so_far.ids ++ id.number ∷ []; climb = more.0; reach = more.1; gave = subst (HasGiven g text [] new) (sym (map-append rowid_row so_far.ids (id.number ∷ []))) (it.next clean text (map rowid_row so_far.ids) so_far.gave) };
     }
-
-    -- what else came tells nothing
-    pub pass_breaks : {E F : Type 0} (next : NextRowid) → Steps g mid new {E = E} (Ok next) → ReadsWhere g Asks old new {E = F} (Ok false) (λ db apart. IsTrue apart → (it : Asks db) → AreApart (db.trees it.tree))
-    pass_breaks next it = record { found = λ clean asks never. absurd (let e = never in cc); same = same_after it; failed = λ clean asks. tt; quiet = quiet_after it }
 
     -- the end
     pub pass_ends : {E F : Type 0} → Steps g mid new {E = E} (Ok End) → ReadsWhere g Asks old new {E = F} (Ok true) (λ db apart. IsTrue apart → (it : Asks db) → AreApart (db.trees it.tree))
