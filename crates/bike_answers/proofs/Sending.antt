@@ -1,5 +1,5 @@
 -- What a head and a body that were written make together.
-use Rattle.std.proofs.Common.{◌≡◌, ◌⊎◌, ℕ, ◌+◌, ◌<◌, List, ◌++◌, Option, Result, Ok, Err, OnErr, IfOk, length, take, arith, length-append}
+use Rattle.std.proofs.Common.{◌≡◌, ℕ, ◌+◌, List, ◌++◌, Option, Result, Ok, Err, OnErr, IfOk, length, take, arith, length-append}
 use Rattle.std.proofs.Math.Seq.{take-append-add}
 use Rattle.std.proofs.KnownBytes.{Appends-trans}
 use Rattle.std.specs.Io.KnownBytes.{Appends}

@@ -1,5 +1,4 @@
-use Rattle.std.proofs.Common.{◌≡◌, ◌∷◌, ◌+◌, ap, map, drop, List, ℕ, rules, arith}
-use Rattle.bike_json.specs.Tree.{Tree}
+use Rattle.std.proofs.Common.{ap, map}
 use Rattle.bike_answers.specs.Bodies.{scalar_tree}
 use Rattle.bike_answers.proofs.Listed.{members_start, members_next, members_end, drop_get, drop_none}
 use Rattle.bike_answers.proofs.members.write_members.Goals as goal

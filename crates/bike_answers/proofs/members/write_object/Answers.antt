@@ -1,4 +1,3 @@
-use Rattle.std.proofs.Common.{◌++◌, ◌∷◌, [], ◌∙◌, ap, append_assoc, List, ℕ}
 use Rattle.bike_json.proofs.Series.{Wrote_then, Wrote_as}
 use Rattle.bike_answers.proofs.Listed.{object_text}
 use Rattle.bike_answers.proofs.members.write_object.Goals as goal
