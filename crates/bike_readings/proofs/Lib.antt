@@ -7,3 +7,4 @@ pub mod SoundBounds
 pub mod TextUtf8
 pub mod KeptRows
 mod ReadLemmas
+mod KeptLemmas

@@ -1,5 +1,6 @@
 -- What the functions answer, as the records that rows spell.
 use Rattle.std.specs.Prelude.{ℕ, ℤ, List, [], Bool, option_map}
+use Rattle.bike_fields.specs.Caller.{caller_text}
 use Rattle.bike_catalogue.specs.Rows.{SegmentRow, PlanRow, TypeRow, SystemRow}
 use Rattle.bike_ledger.specs.Entries.{Entry}
 use Rattle.bike_texts.specs.declared.ends.OrderEnd.{OrderEnd}
@@ -10,7 +11,7 @@ use Rattle.bike_operator.specs.declared.records.Bike.{Bike}
 use Rattle.bike_operator.specs.declared.records.Rental.{Rental}
 use Rattle.bike_operator.specs.declared.records.Closing.{Closing}
 use Rattle.bike_operator.specs.declared.records.Order.{Order}
-use Rattle.bike_operator.specs.Operator.{Station, Truck, Rider}
+use Rattle.bike_operator.specs.Operator.{Station, Truck, Rider, Kept, Key, key_of}
 use Rattle.bike_readings.specs.declared.catalogue.StoredMeta.{StoredMeta}
 use Rattle.bike_readings.specs.declared.catalogue.StoredSystem.{StoredSystem}
 use Rattle.bike_readings.specs.declared.catalogue.StoredPlan.{StoredPlan}
@@ -26,6 +27,7 @@ use Rattle.bike_readings.specs.declared.fleet.StoredTruck.{StoredTruck}
 use Rattle.bike_readings.specs.declared.fleet.StoredEnd.{StoredEnd}
 use Rattle.bike_readings.specs.declared.fleet.StoredEnd.TheVariants as stored_end
 use Rattle.bike_readings.specs.declared.fleet.StoredOrder.{StoredOrder}
+use Rattle.bike_readings.specs.declared.kept.StoredKept.{StoredKept}
 use Rattle.bike_readings.specs.declared.ledger.StoredRider.{StoredRider}
 use Rattle.bike_readings.specs.declared.ledger.StoredClosing.{StoredClosing}
 use Rattle.bike_readings.specs.declared.ledger.StoredRental.{StoredRental}
@@ -107,3 +109,7 @@ rental_of x = (x.rental, record { rider = x.rider; bike = x.bike; plan = x.plan.
 
 abbrev pub entry_of : StoredEntry → Entry
 entry_of x = record { number = x.number; kind = x.kind; rider = x.rider; rental = x.rental; amount = x.amount; at = x.at }
+
+-- under the texts of its caller and key
+abbrev pub kept_of : StoredKept → Key × Kept
+kept_of x = (key_of (caller_text x.caller) x.key, record { command = x.command; reply = x.reply })

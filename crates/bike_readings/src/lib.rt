@@ -1,12 +1,14 @@
 //! What a stored row spells, both ways.
 //!
 //! `specs/Readings` gives for each table the record that any row spells, or nothing; `specs/BothWays` says that this is
-//! exact. The functions answer just that of a row that the database lends. They take no memory: texts stay in the row.
+//! exact. The functions answer just that of a row that the database lends. Texts stay in the
+//! row, and no memory is taken, but for a kept request.
 #![tactic(auto)]
 
 mod catalogue;
 mod columns;
 mod fleet;
+mod kept;
 mod laws;
 mod ledger;
 mod network;
@@ -19,6 +21,7 @@ pub use catalogue::{
 pub use fleet::{
     StoredBike, StoredEnd, StoredOrder, StoredPlace, StoredTruck, read_bike, read_order, read_truck,
 };
+pub use kept::{StoredKept, read_kept};
 pub use laws::{keeps_bounds, reads_both_ways};
 pub use ledger::{
     StoredClosing, StoredEntry, StoredRental, StoredRider, read_entry, read_rental, read_rider,

@@ -1,0 +1,134 @@
+//! The rows of kept requests.
+
+ghost use Rattle.std.specs.Prelude.{◌≡◌, IfOk, IfErr, option_map};
+ghost use Rattle.sqlite_value.specs.Order.{column};
+ghost use Rattle.bike_operator.specs.Sound.{is_refused};
+ghost use Rattle.bike_schema.specs.declared.fault.StatementFault.TheVariants.{NoMemory};
+ghost use Rattle.bike_readings.specs.ColumnReaders.{one_command_of, accepted_of, caller_in, key_in, command_in, reply_in};
+ghost use Rattle.bike_readings.specs.Readings.{kept_read};
+ghost use Rattle.bike_readings.specs.Views.{kept_of};
+
+use crate::columns::text_in;
+use bike_commands::{Command, Reply};
+use bike_fields::{Caller, RequestKey};
+use bike_requests::{command_text, read_command};
+use bike_schema::StatementFault;
+use sqlite::Row;
+use std::alloc::{AllocError, Global};
+
+/// A row of `kept`.
+#[derive(Debug, Drop)]
+pub struct StoredKept {
+    pub caller: Caller,
+    pub key: RequestKey,
+    pub command: Command,
+    pub reply: Reply,
+}
+
+/// The command whose one text this is; an error is a want of memory.
+#[tactic(auto, using(crate::proofs::KeptLemmas::no_command, crate::proofs::KeptLemmas::this_command))]
+fn one_command_of(alloc: Global, text: &str) -> Result<Option<Command>, AllocError>
+    ensures { IfOk result (λ o. o ≡ one_command_of text.now) }
+{
+    let Some(command) = read_command(alloc, text)? else {
+        return Ok(None);
+    };
+    let written = command_text(alloc, &command)?;
+    let is_same = text == written.as_str();
+    if is_same {
+        return Ok(Some(command));
+    }
+    Ok(None)
+}
+
+/// Whether the reply is a refusal.
+fn is_refused(reply: &Reply) -> bool
+    ensures { result ≡ is_refused reply.now }
+{
+    matches!(reply, Reply::Refused(_))
+}
+
+/// The reply that the text spells, where it is no refusal.
+#[tactic(auto, using(crate::proofs::KeptLemmas::no_reply, crate::proofs::KeptLemmas::this_reply))]
+fn accepted_of(text: &str) -> Option<Reply>
+    ensures { result ≡ accepted_of text.now }
+{
+    match Reply::read(text) {
+        Some(reply) => {
+            let is_refused = is_refused(&reply);
+            if is_refused {
+                return None;
+            }
+            Some(reply)
+        }
+        None => None,
+    }
+}
+
+/// The caller; an error is a want of memory.
+fn caller_in(alloc: Global, row: &Row) -> Result<Option<Caller>, AllocError>
+    ensures { IfOk result (λ o. o ≡ caller_in (column row.now 0)) }
+{
+    match text_in(row, 0) {
+        Some(text) => Caller::read(alloc, text),
+        None => Ok(None),
+    }
+}
+
+/// The key of the request; an error is a want of memory.
+fn key_in(alloc: Global, row: &Row) -> Result<Option<RequestKey>, AllocError>
+    ensures { IfOk result (λ o. o ≡ key_in (column row.now 1)) }
+{
+    match text_in(row, 1) {
+        Some(text) => RequestKey::read(alloc, text),
+        None => Ok(None),
+    }
+}
+
+/// The command; an error is a want of memory.
+fn command_in(alloc: Global, row: &Row) -> Result<Option<Command>, AllocError>
+    ensures { IfOk result (λ o. o ≡ command_in (column row.now 2)) }
+{
+    match text_in(row, 2) {
+        Some(text) => one_command_of(alloc, text),
+        None => Ok(None),
+    }
+}
+
+/// The reply.
+fn reply_in(row: &Row) -> Option<Reply>
+    ensures { result ≡ reply_in (column row.now 3) }
+{
+    match text_in(row, 3) {
+        Some(text) => accepted_of(text),
+        None => None,
+    }
+}
+
+/// What a row of `kept` spells. The one fault is `NoMemory`, where the command or the caller found no room.
+pub fn read_kept(alloc: Global, row: &Row) -> Result<Option<StoredKept>, StatementFault>
+    ensures spelled { IfOk result (λ x. option_map kept_of x ≡ kept_read row.now) }
+    ensures fault { IfErr result (λ e. e ≡ NoMemory) }
+{
+    if row.column_count() != 4 {
+        return Ok(None);
+    }
+    let Some(caller) = caller_in(alloc, row)? else {
+        return Ok(None);
+    };
+    let Some(key) = key_in(alloc, row)? else {
+        return Ok(None);
+    };
+    let Some(command) = command_in(alloc, row)? else {
+        return Ok(None);
+    };
+    let Some(reply) = reply_in(row) else {
+        return Ok(None);
+    };
+    Ok(Some(StoredKept {
+        caller,
+        key,
+        command,
+        reply,
+    }))
+}
