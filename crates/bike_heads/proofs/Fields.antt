@@ -1,9 +1,9 @@
 -- What the fields tell that are left, with what those before them told.
-use Rattle.std.proofs.Common.{◌≡◌, ℕ, zero, suc, ◌<◌, ◌+◌, List, [], ◌∷◌, Bool, true, false, ◌||◌, if◌then◌else◌, cond, Option, Some, None, length, drop, get_or, refl, sym, ap, ◌∙◌, arith}
+use Rattle.std.proofs.Common.{◌≡◌, ℕ, zero, suc, ◌<◌, ◌+◌, List, [], ◌∷◌, Bool, true, false, if◌then◌else◌, cond, Option, Some, None, length, drop, get_or, refl, sym, ap, ◌∙◌, arith}
 use Rattle.std.specs.List.{list_any, filter}
 use Rattle.bike_heads.specs.Length.{Field, is_transfer_encoding, is_content_length, size_of, sizes_tell, told_after, body_length}
 use Rattle.bike_heads.specs.declared.length.BodyLength.{BodyLength}
-use Rattle.bike_heads.specs.declared.length.BodyLength.TheVariants.{Malformed, Of}
+use Rattle.bike_heads.specs.declared.length.BodyLength.TheVariants.{Malformed}
 
 abbrev pub sizes_left : Option BodyLength → List Field → BodyLength
 sizes_left None fields = sizes_tell fields

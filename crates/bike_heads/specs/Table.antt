@@ -1,5 +1,5 @@
 -- The routes of the product, and what a path that takes one names.
-use Rattle.std.specs.Prelude.{ℕ, List, [], ◌∷◌, Bool, ◌==◌, map, fold, codes, Option, Some, option_map, Result, Ok, Err}
+use Rattle.std.specs.Prelude.{ℕ, List, [], ◌∷◌, ◌==◌, fold, codes, Option, Some, option_map, Result, Ok, Err}
 use Rattle.std.specs.List.{before_first, slice_split}
 use Rattle.matchit.specs.Rows.{RowsOf}
 use Rattle.matchit.specs.Order.{placed}

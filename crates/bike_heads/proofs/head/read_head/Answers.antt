@@ -1,4 +1,3 @@
-use Rattle.std.proofs.Common.{◌≡◌, length, refl, rules, arith}
 use Rattle.bike_heads.proofs.Fronts.{whole_is_read, none_full, none_many}
 use Rattle.bike_heads.proofs.head.read_head.Goals as goal
 

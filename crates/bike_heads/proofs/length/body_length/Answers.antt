@@ -1,4 +1,4 @@
-use Rattle.std.proofs.Common.{◌≡◌, ◌∙◌, ◌+◌, ◌<◌, ap, sym, rules, arith, length, drop, map, List, Option}
+use Rattle.std.proofs.Common.{◌∙◌, ◌+◌, ap, sym, arith, drop, map, List, Option}
 use Rattle.std.proofs.lemmas.List.{length-map}
 use Rattle.httparse.specs.Spans.{header_bytes}
 use Rattle.bike_heads.specs.Length.{Field}

@@ -1,4 +1,4 @@
-use Rattle.std.proofs.Common.{◌≡◌, ◌+◌, ◌*◌, ◌∙◌, ℕ, min, ap, rules, arith}
+use Rattle.std.proofs.Common.{◌+◌, ◌*◌, ◌∙◌, ℕ, min, ap}
 use Rattle.bike_heads.proofs.Digits.{digits_more, value_more}
 use Rattle.bike_heads.proofs.length.size_of.Goals as goal
 

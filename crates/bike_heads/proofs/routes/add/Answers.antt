@@ -1,4 +1,4 @@
-use Rattle.std.proofs.Common.{◌≡◌, ℕ, List, Result, Ok, Err, OnOk}
+use Rattle.std.proofs.Common.{◌≡◌, Result, Ok, Err, OnOk}
 use Rattle.matchit.specs.Route.{Scan}
 use Rattle.matchit.specs.Router.{InsertsRead}
 use Rattle.matchit.specs.declared.error.InsertError.{InsertError}
