@@ -23,7 +23,7 @@ use Rattle.bike_readings.proofs.CatalogueRows.{meta_reading, plan_reading, type_
 use Rattle.bike_readings.proofs.FleetRows.{bike_reading, truck_reading, order_reading}
 use Rattle.bike_readings.proofs.LedgerRows.{rider_reading, rental_reading, entry_reading, count_reading}
 use Rattle.bike_readings.proofs.KeptRows.{kept_reading}
-use Rattle.bike_rules.specs.ReadOff.{first, moment_of, with_segments, plan_in, station_in, rider_in, rental_in, entry_in, dock_in, count_in, segments_of, operator_of, listed_of}
+use Rattle.bike_rules.specs.ReadOff.{first, moment_of, with_segments, plan_in, station_in, rider_in, rental_in, entry_in, dock_in, count_in, segments_of, operator_of, listed_of, first_of, misplaced_bike, bike_in}
 use Rattle.bike_rules.proofs.ReadBack.{map_back, numbered_back}
 use Rattle.bike_rules.proofs.Segments.{segments_back}
 use Rattle.bike_rules.proofs.Broken.{broken_back}
@@ -71,6 +71,9 @@ module _ (s : Operator) (m : Listed) (sound : IsSound s) (listing : IsListing s 
 
   pub bike_is : (n : ℕ) (b : Bike) → fin.get s.bikes n ≡ Some b → bike_read (stored_bike (n, b)) ≡ Some (n, b)
   bike_is n b found = bike_reading.full (n, b) (bike_stored s sound n b found)
+
+  bike_back : (n : ℕ) (b : Bike) → fin.get s.bikes n ≡ Some b → bike_in (stored_bike (n, b)) ≡ Some (n, b)
+  bike_back n b found = ap (λ (o : Option (ℕ × Bike)). first_of o (misplaced_bike (stored_bike (n, b)))) (bike_is n b found)
 
   pub truck_is : (n : ℕ) (x : Truck) → fin.get s.trucks n ≡ Some x → truck_read (stored_truck (n, x)) ≡ Some (n, x)
   truck_is n x found = truck_reading.full (n, x) (truck_stored s sound n x found)
@@ -127,7 +130,7 @@ module _ (s : Operator) (m : Listed) (sound : IsSound s) (listing : IsListing s 
       let types = map_back texts type_read stored_type s.types type_is in
       let stations = map_back texts station_in (stored_station s) s.stations (λ id x found. ap (option_map (λ (e : _). (e.0, e.1))) (station_is id x found)) in
       let broken = broken_back s.broken m.docks listing.marked dock_back in
-      let bikes = map_back numbers bike_read stored_bike s.bikes bike_is in
+      let bikes = map_back numbers bike_in stored_bike s.bikes bike_back in
       let trucks = map_back numbers truck_read stored_truck s.trucks truck_is in
       let riders = map_back numbers rider_in (stored_rider s.entries) s.riders (λ n r found. ap (option_map (λ (e : _). (e.0, e.1))) (rider_is n r found)) in
       let rentals = numbered_back rental_in (stored_rental s.entries) s.rentals (λ n r found. ap (option_map (λ (e : _). (e.0, e.1))) (rental_is n r found)) in

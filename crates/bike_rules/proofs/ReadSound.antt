@@ -5,6 +5,7 @@ use Rattle.std.specs.Ordering.{nat_cmp}
 use Rattle.std.specs.declared.cmp.Ordering.{Ordering}
 use Rattle.std.specs.declared.cmp.Ordering.TheVariants.{Less, Equal, Greater}
 use Rattle.std.specs.Cmp.{ranked}
+use Rattle.std.proofs.lemmas.Option.{same_Some}
 use Rattle.std.specs.FinMap as fin
 use Rattle.std.specs.FinSet as set
 use Rattle.sqlite_value.specs.declared.value.Value.TheVariants.{Text}
@@ -32,7 +33,7 @@ use Rattle.bike_book.proofs.MapRows.{found_entries, has_get}
 use Rattle.bike_book.proofs.Keys.{numbers, texts, pairs, docks, IsPair}
 use Rattle.bike_readings.specs.Readings.{type_read, station_read, dock_read, bike_read, truck_read, rider_read, rental_read, order_read, entry_read, kept_read, count_read, plan_read}
 use Rattle.bike_readings.proofs.LedgerRows.{rental_reading}
-use Rattle.bike_rules.specs.ReadOff.{plan_in, station_in, rider_in, dock_in, operator_of, listed_of}
+use Rattle.bike_rules.specs.ReadOff.{plan_in, station_in, rider_in, dock_in, operator_of, listed_of, first_of, misplaced_bike, bike_in}
 use Rattle.bike_rules.specs.Demands.{IsGoodPlan, IsGoodType, IsGoodStation, IsGoodDock, IsGoodBike, IsGoodTruck, IsGoodRider, IsGoodRental, IsGoodOrder, IsGoodEntry, IsGoodKept, IsGoodCount, IsRiding, HasFare, IsFareOf, IsFirstFare, IsOneFare}
 use Rattle.bike_rules.specs.Rules.{AreInOrder, rows_below, HasNone, AreOf}
 use Rattle.bike_rules.proofs.ReadLists.{has_read}
@@ -70,7 +71,10 @@ module _ (t : Tables) (up : AreInOrder t) (rows : AreGoodRows (operator_of t) t)
   bike_fact : (n : ℕ) (b : Bike) → fin.get s.bikes n ≡ Some b → (below : ℕ) × IsGoodBike s below (n, b)
   bike_fact n b found =
       let at = (bikes_table t up rows).found n b found in
-      (below_of Bikes at.item, some_is (IsGoodBike s (below_of Bikes at.item)) (bike_read at.item) (n, b) (rows Bikes at.item at.has) at.read_is)
+      let below = below_of Bikes at.item in
+      let it = some_with (IsGoodBike s below) (bike_read at.item) (rows Bikes at.item at.has) in
+      let read : bike_in at.item ≡ Some it.value = ap (λ (o : Option (ℕ × Bike)). first_of o (misplaced_bike at.item)) it.value_is in
+      (below, subst (IsGoodBike s below) (same_Some it.value (n, b) (sym read ∙ at.read_is)) it.fact)
 
   truck_fact : (n : ℕ) (x : Truck) → fin.get s.trucks n ≡ Some x → IsTruckAt s n x
   truck_fact n x found =
@@ -157,7 +161,7 @@ module _ (t : Tables) (up : AreInOrder t) (rows : AreGoodRows (operator_of t) t)
 
   pub bikes_sound : AreBikesSound s
   bikes_sound =
-      let bikes = few_in numbers stored_bike (λ e. refl) bike_read t.bikes s.bikes (bikes_table t up rows) in
+      let bikes = few_in numbers stored_bike (λ e. refl) bike_in t.bikes s.bikes (bikes_table t up rows) in
       let most = within 1 t.bikes MOST_BIKES (up Bikes) (λ r has. (some_with (IsGoodBike s (below_of Bikes r)) (bike_read r) (rows Bikes r has)).fact.room) in
       record { bikes = λ n b found. (bike_fact n b found).1.good; apart = one_bike; few = omega (arith, bikes, most) }
 

@@ -1,5 +1,5 @@
 -- Tables whose rows are all good are those of the operator that is read off them: table by table.
-use Rattle.std.proofs.Common.{◌≡◌, ℕ, ℤ, zero, suc, ◌+◌, List, [], ◌∷◌, Bool, Some, refl, sym, ap, ◌∙◌, subst}
+use Rattle.std.proofs.Common.{◌≡◌, ℕ, ℤ, zero, suc, ◌+◌, List, [], ◌∷◌, Bool, Option, Some, refl, sym, ap, ◌∙◌, subst}
 use Rattle.std.specs.Prelude.{option_map, take}
 use Rattle.std.specs.FinMap as fin
 use Rattle.sqlite_value.specs.Order.{Row}
@@ -7,21 +7,22 @@ use Rattle.sqlite_rules.specs.Lists.{Has}
 use Rattle.bike_catalogue.specs.Rows.{SegmentRow, PlanRow, IsSegment, IsPlan}
 use Rattle.bike_ledger.specs.Entries.{Entry}
 use Rattle.bike_texts.specs.Fields.{AreSegments}
+use Rattle.bike_operator.specs.declared.records.Bike.{Bike}
 use Rattle.bike_operator.specs.declared.records.Rental.{Rental}
 use Rattle.bike_operator.specs.Operator.{Operator, Key, DockKey, dock_key, key_of, item_at}
 use Rattle.bike_operator.specs.Sound.{IsPlanAt}
 use Rattle.bike_book.specs.Tables.{Tables, System, Plans, Segments, Types, Stations, Docks, Bikes, Trucks, Riders, Rentals, Orders, Entries, Kept, Counts, TableName, keys_of}
 use Rattle.bike_book.specs.Stored.{plans_segments, stored_plan, stored_type, stored_station, stored_dock, stored_bike, stored_truck, stored_rider, stored_rental, stored_order, stored_entry, stored_kept, stored_count}
 use Rattle.bike_book.proofs.Keys.{numbers, texts, pairs, docks, IsPair, IsDockPair}
-use Rattle.bike_readings.specs.Readings.{plan_read, segment_read, type_read, dock_read, bike_read, truck_read, rental_read, order_read, entry_read, kept_read, count_read}
+use Rattle.bike_readings.specs.Readings.{plan_read, segment_read, type_read, dock_read, truck_read, rental_read, order_read, entry_read, kept_read, count_read}
 use Rattle.bike_readings.proofs.CatalogueRows.{plan_reading, segment_reading, type_reading, station_reading, dock_reading}
 use Rattle.bike_readings.proofs.LedgerRows.{count_reading, rider_reading, rental_reading, entry_reading}
 use Rattle.bike_readings.proofs.FleetRows.{bike_reading, truck_reading, order_reading}
 use Rattle.bike_readings.proofs.KeptRows.{kept_reading}
-use Rattle.bike_rules.specs.ReadOff.{with_segments, plan_in, station_in, rider_in, rental_in, entry_in, dock_in, count_in, segments_of, most_segments, operator_of, listed_of}
+use Rattle.bike_rules.specs.ReadOff.{with_segments, plan_in, station_in, rider_in, rental_in, entry_in, dock_in, count_in, segments_of, most_segments, operator_of, listed_of, first_of, misplaced_bike, bike_in}
 use Rattle.bike_rules.specs.Demands.{IsGoodPlan, IsGoodSegment, IsGoodType, IsGoodStation, IsGoodDock, IsGoodBike, IsGoodTruck, IsGoodRider, IsGoodRental, IsGoodOrder, IsGoodEntry, IsGoodKept, IsGoodCount}
 use Rattle.bike_rules.specs.Rules.{AreInOrder, rows_below}
-use Rattle.bike_rules.proofs.ReadLists.{AreRowsOf, read_map}
+use Rattle.bike_rules.proofs.ReadLists.{IsStored, AreRowsOf, read_map}
 use Rattle.bike_rules.proofs.Segments.{IsOfPlan, segments_are, item_found, segment_found, few_found}
 use Rattle.bike_rules.proofs.Broken.{broken_as}
 use Rattle.bike_rules.proofs.RowRules.{some_with, AreGoodRows}
@@ -122,9 +123,14 @@ module _ (t : Tables) (up : AreInOrder t) (rows : AreGoodRows (operator_of t) t)
 
   -- ---- bicycles, trucks, riders, kept requests
 
-  pub bikes_table : AreRowsOf numbers stored_bike (λ e. refl) bike_read t.bikes s.bikes
-  bikes_table =
-      read_map numbers stored_bike (λ e. refl) bike_read t.bikes (up Bikes) (λ r has. stored_plain bike_reading (IsGoodBike s (below_of Bikes r)) r (rows Bikes r has)) (λ r e has is. tt)
+  -- the bicycle of a good row is the one that it spells
+  good_bike : (r : Row) → Has t.bikes r → IsStored bike_in stored_bike r
+  good_bike r has =
+      let it = stored_plain bike_reading (IsGoodBike s (below_of Bikes r)) r (rows Bikes r has) in
+      record { value = it.value; read_is = ap (λ (o : Option (ℕ × Bike)). first_of o (misplaced_bike r)) it.read_is; store_is = it.store_is }
+
+  pub bikes_table : AreRowsOf numbers stored_bike (λ e. refl) bike_in t.bikes s.bikes
+  bikes_table = read_map numbers stored_bike (λ e. refl) bike_in t.bikes (up Bikes) good_bike (λ r e has is. tt)
 
   pub trucks_table : AreRowsOf numbers stored_truck (λ e. refl) truck_read t.trucks s.trucks
   trucks_table =

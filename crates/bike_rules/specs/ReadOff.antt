@@ -5,15 +5,21 @@ use Rattle.std.specs.List.{filter_map}
 use Rattle.std.specs.FinMap as fin
 use Rattle.std.specs.FinSet as set
 use Rattle.sqlite_value.specs.declared.value.Value.TheVariants.{Text}
-use Rattle.sqlite_value.specs.Order.{Row}
+use Rattle.sqlite_value.specs.Order.{Row, column}
+use Rattle.bike_fields.specs.Caller.{◌>>=◌}
 use Rattle.bike_catalogue.specs.Rows.{SegmentRow, PlanRow}
 use Rattle.bike_ledger.specs.Entries.{Entry}
+use Rattle.bike_operator.specs.declared.records.Place.{Place}
+use Rattle.bike_operator.specs.declared.records.Place.TheVariants as place
+use Rattle.bike_operator.specs.declared.records.Bike.{Bike}
 use Rattle.bike_operator.specs.declared.records.Rental.{Rental}
 use Rattle.bike_operator.specs.Operator.{Operator, Station, Rider, Key, DockKey, key_of, dock_key}
 use Rattle.bike_rows.specs.View.{row_with}
 use Rattle.bike_book.specs.Tables.{Tables}
 use Rattle.bike_book.specs.Rows.{number_value}
 use Rattle.bike_book.specs.Stored.{Listed}
+use Rattle.bike_schema.specs.Columns.{ident_in, state_in}
+use Rattle.bike_readings.specs.ColumnReaders.{where_wide, numbered_in, in_dock, in_rental, on_truck}
 use Rattle.bike_readings.specs.Readings.{meta_read, system_read, plan_read, segment_read, type_read, station_read, dock_read, bike_read, truck_read, rider_read, rental_read, order_read, entry_read, kept_read, count_read}
 
 abbrev pub first : {A : Type 0} → List A → Option A
@@ -63,6 +69,30 @@ rental_in row = option_map (λ e. (e.0, e.1)) (rental_read row)
 abbrev pub entry_in : Row → Option (ℕ × Entry)
 entry_in row = option_map (λ e. (e.number, e)) (entry_read row)
 
+-- ---- bicycles
+
+-- the first where there is one, and else the second
+abbrev pub first_of : {A : Type 0} → Option A → Option A → Option A
+first_of (Some x) other = Some x
+first_of None other = other
+
+-- the first whole place that the columns name: a dock, a rental, a truck with its order; the depot where they name none
+abbrev pub first_place : Row → Place
+first_place row =
+    unwrap_or (first_of (in_dock (column row 3) (column row 4)) (first_of (in_rental (column row 5)) (on_truck (column row 6) (column row 7)))) place.Depot
+
+-- the bicycle of a row, at the first place that it names
+abbrev pub misplaced_bike : Row → Option (ℕ × Bike)
+misplaced_bike row = where_wide 8 row (do
+  bike ← numbered_in (column row 0)
+  type_id ← ident_in (column row 1)
+  state ← state_in (column row 2)
+  Some (bike, record { type_id = type_id; state = state; place = first_place row }))
+
+-- A row that names several places is bad, yet its bicycle is there, at the first of them: no other row that counts it is to blame.
+abbrev pub bike_in : Row → Option (ℕ × Bike)
+bike_in row = first_of (bike_read row) (misplaced_bike row)
+
 -- ---- docks and counts
 
 -- the dock that has the row
@@ -91,7 +121,7 @@ operator_of t = record {
   types = fin.from_sorted (filter_map type_read t.types);
   stations = fin.from_sorted (filter_map station_in t.stations);
   broken = set.from_list (filter_map broken_in t.docks);
-  bikes = fin.from_sorted (filter_map bike_read t.bikes);
+  bikes = fin.from_sorted (filter_map bike_in t.bikes);
   trucks = fin.from_sorted (filter_map truck_read t.trucks);
   riders = fin.from_sorted (filter_map rider_in t.riders);
   rentals = map (λ e. e.1) (filter_map rental_in t.rentals);
