@@ -9,8 +9,8 @@ use crate::answer::Answer;
 use crate::members::{Scalar, signed, whole, write_object};
 use crate::rows::{write_bike, write_order, write_rental, write_rider};
 use bike_commands::{Refusal, Reply};
-use bike_json::JsonState;
 use bike_heads::Rejection;
+use bike_json::JsonState;
 use std::io::Write;
 
 fn write_error<W: Write>(json: &mut JsonState, out: &mut W, name: &str)

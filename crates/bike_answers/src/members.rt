@@ -5,8 +5,8 @@ ghost use Rattle.bike_json.specs.State.{Wrote, IsAt, takes_value, takes_name, ha
 ghost use Rattle.bike_json.specs.Tree.{comma, text_of, members_text, object};
 ghost use Rattle.bike_answers.specs.Bodies.{scalar_tree, member_text, members};
 
-use bike_json::{JsonState, Level};
 use bike_fixed::Within;
+use bike_json::{JsonState, Level};
 use std::io::Write;
 
 /// The value of a member.

@@ -7,8 +7,8 @@ ghost use Rattle.bike_answers.specs.Bodies.{rider_state, open_rental, rider_tree
 
 use crate::answer::RiderRow;
 use crate::members::{Scalar, signed, whole, write_object};
-use bike_json::JsonState;
 use bike_fields::{BicycleNumber, Ident, OrderNumber, RentalNumber};
+use bike_json::JsonState;
 use bike_operator::{Bike, BikeState, Order, Place, Rental};
 use bike_texts::OrderEnd;
 use std::io::Write;

@@ -17,9 +17,8 @@ mod decide_riders;
 mod decision;
 mod places;
 
-pub use bounds::is_bounded;
-pub use decision::decide;
-
 pub use bike_commands::{Command, Refusal, Reply, Request};
 pub use bike_operator::{Accepted, Change, Decision, View};
 pub use bike_requests::{command_text, read_command, read_line};
+pub use bounds::is_bounded;
+pub use decision::decide;

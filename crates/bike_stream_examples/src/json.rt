@@ -1,8 +1,8 @@
 //! Texts that are written to writers that take few bytes, and fail.
 
 use crate::rows::{ReportFault, RowFault, RowSource, report_length, write_report};
-use bike_json::{JsonWriter, TokenBuffer};
 use bike_fixed::{Cents, Micro};
+use bike_json::{JsonWriter, TokenBuffer};
 use bike_stream::WriteFault;
 use serde_json::Value;
 use std::io;
