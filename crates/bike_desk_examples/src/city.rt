@@ -1,6 +1,8 @@
 //! The city's request lines with their answers, and a desk that serves them.
 
+use bike_commands::Request;
 use bike_desk::{Desk, DeskFault};
+use bike_fixed::Moment;
 use bike_requests::read_line;
 use sqlite::{Alter, Connection, MemStore};
 use std::alloc::Global;
@@ -75,6 +77,18 @@ fn open_desk(alloc: Global) -> Result<Desk<MemStore>, Fail> {
     }
 }
 
+// The `?` stands in a function of its own, so that the proof of `answers` doesn't follow the owned request twice.
+fn is_reply<S: Alter>(
+    alloc: Global,
+    desk: &mut Desk<S>,
+    moment: Moment,
+    request: &Request,
+    wanted: &str,
+) -> Result<bool, DeskFault> {
+    let reply = desk.apply(alloc, moment, request)?;
+    Ok(reply.text().as_str() == wanted)
+}
+
 /// Whether the desk answers the line so.
 fn answers<S: Alter>(
     alloc: Global,
@@ -85,8 +99,7 @@ fn answers<S: Alter>(
     let Ok(Some((moment, request))) = read_line(alloc, line.as_bytes()) else {
         return Ok(false);
     };
-    let reply = desk.apply(alloc, moment, &request)?;
-    Ok(reply.text().as_str() == wanted)
+    is_reply(alloc, desk, moment, &request, wanted)
 }
 
 /// Whether the desk answers all lines as they are answered here.

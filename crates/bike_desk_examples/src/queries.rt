@@ -86,6 +86,15 @@ fn bike<S: Alter>(
     Ok(Some((spot_of(&found.place), found.state)))
 }
 
+/// What both queries of a bicycle answer.
+fn place_and_bike<S: Alter>(
+    alloc: Global,
+    desk: &mut Desk<S>,
+    number: u32,
+) -> Result<(Option<Spot>, Option<(Spot, BikeState)>), DeskFault> {
+    Ok((place(alloc, desk, number)?, bike(alloc, desk, number)?))
+}
+
 fn counts<S: Alter>(
     alloc: Global,
     desk: &mut Desk<S>,
@@ -125,6 +134,14 @@ fn rider<S: Alter>(desk: &mut Desk<S>, number: u32) -> Result<Option<(i64, u32)>
     };
     let rental = info.rental.map_or(0, |rental| rental.get());
     Ok(Some((info.balance.hundredths(), rental)))
+}
+
+/// What both queries of a rider answer.
+fn balance_and_rider<S: Alter>(
+    desk: &mut Desk<S>,
+    number: u32,
+) -> Result<(Option<i64>, Option<(i64, u32)>), DeskFault> {
+    Ok((balance(desk, number)?, rider(desk, number)?))
 }
 
 fn rental<S: Alter>(
@@ -174,21 +191,12 @@ fn currency_is<S: Alter>(
 }
 
 #[test]
-fn tells_where_a_bicycle_is(rt: HostRuntime) -> Result<(), Fail> {
-    for (served, spot, _) in SPOTS {
-        let mut desk = desk_after(rt.alloc(), served)?;
-        assert_eq!(rt; place(rt.alloc(), &mut desk, 7)?, Some(spot));
-        assert_eq!(rt; place(rt.alloc(), &mut desk, 8)?, None);
-    }
-    Ok(())
-}
-
-#[test]
 fn tells_of_a_bicycle(rt: HostRuntime) -> Result<(), Fail> {
     for (served, spot, state) in SPOTS {
         let mut desk = desk_after(rt.alloc(), served)?;
-        assert_eq!(rt; bike(rt.alloc(), &mut desk, 7)?, Some((spot, state)));
-        assert_eq!(rt; bike(rt.alloc(), &mut desk, 8)?, None);
+        let wanted = (Some(spot), Some((spot, state)));
+        assert_eq!(rt; place_and_bike(rt.alloc(), &mut desk, 7)?, wanted);
+        assert_eq!(rt; place_and_bike(rt.alloc(), &mut desk, 8)?, (None, None));
     }
     Ok(())
 }
@@ -207,18 +215,9 @@ fn counts_a_station(rt: HostRuntime) -> Result<(), Fail> {
 fn tells_of_a_rider(rt: HostRuntime) -> Result<(), Fail> {
     for (served, wanted) in RIDERS {
         let mut desk = desk_after(rt.alloc(), served)?;
-        assert_eq!(rt; rider(&mut desk, 17)?, Some(wanted));
-        assert_eq!(rt; rider(&mut desk, 18)?, None);
-    }
-    Ok(())
-}
-
-#[test]
-fn tells_a_balance(rt: HostRuntime) -> Result<(), Fail> {
-    for (served, (wanted, _)) in RIDERS {
-        let mut desk = desk_after(rt.alloc(), served)?;
-        assert_eq!(rt; balance(&mut desk, 17)?, Some(wanted));
-        assert_eq!(rt; balance(&mut desk, 18)?, None);
+        let wanted = (Some(wanted.0), Some(wanted));
+        assert_eq!(rt; balance_and_rider(&mut desk, 17)?, wanted);
+        assert_eq!(rt; balance_and_rider(&mut desk, 18)?, (None, None));
     }
     Ok(())
 }
