@@ -487,8 +487,8 @@ fn are_read(alloc: Global, escapes: usize) -> Result<(bool, bool), AllocError> {
     for _ in 0..escapes {
         text.push_str("\\\\")?;
     }
-    let name = Fields::of(text.as_str()).name(alloc)?.is_some();
-    let ascii = Fields::of(text.as_str()).ascii(alloc)?.is_some();
+    let name = Fields::of(text.as_str()).name().is_some();
+    let ascii = Fields::of(text.as_str()).ascii().is_some();
     Ok((name, ascii))
 }
 
@@ -503,16 +503,16 @@ fn misread_escapes(alloc: Global) -> Result<usize, AllocError> {
 }
 
 /// Whether the text is read as these segments.
-fn has_segments(alloc: Global, text: &str, rows: &[SegmentRow]) -> Result<bool, AllocError> {
-    let Some(segments) = Fields::of(text).segments(alloc)? else {
-        return Ok(false);
+fn has_segments(text: &str, rows: &[SegmentRow]) -> bool {
+    let Some(segments) = Fields::of(text).segments() else {
+        return false;
     };
     for (it, row) in segments.iter().zip(rows) {
         if (it.start(), it.rate(), it.interval(), it.end()) != *row {
-            return Ok(false);
+            return false;
         }
     }
-    Ok(segments.len() == rows.len())
+    segments.len() == rows.len()
 }
 
 #[test]
@@ -526,6 +526,6 @@ fn fields_are_read(rt: HostRuntime) -> Result<(), Fail> {
 fn parts_and_lengths(rt: HostRuntime) -> Result<(), Fail> {
     assert_eq!(rt; miscut(), "");
     assert_eq!(rt; misread_escapes(rt.alloc())?, 0);
-    assert!(rt; has_segments(rt.alloc(), "5:-25:10:60;7:0:0:-", SEGMENTS)?);
+    assert!(rt; has_segments("5:-25:10:60;7:0:0:-", SEGMENTS));
     Ok(())
 }
