@@ -11,10 +11,10 @@ use crate::columns::{
     app_in, ascii_in, cents_in, currency_in, flag_in, form_in, ident_in, is_null_at, language_in,
     moment_in, name_in, number_in, propulsion_in, signed_in,
 };
+use crate::part::Part;
 use bike_catalogue::{Form, Propulsion};
 use bike_fields::{MaxRange, Price, SegmentMinute, TimeToLive};
 use bike_fixed::{Cents, Moment, Within};
-use sqlite::Row;
 
 /// The row of `meta`.
 #[derive(Clone, Copy, Debug)]
@@ -85,18 +85,18 @@ pub struct StoredType<'a> {
 }
 
 /// What a row of `meta` spells.
-pub fn read_meta(row: &Row) -> Option<StoredMeta>
-    ensures { option_map meta_of result ≡ meta_read row.now }
+pub fn read_meta(part: Part<'_>) -> Option<StoredMeta>
+    ensures { option_map meta_of result ≡ meta_read part.entry }
 {
-    if row.column_count() != 6 {
+    if part.column_count() != 6 {
         return None;
     }
-    let _one: Within<1, 1> = number_in(row, 0)?;
-    let _app = app_in(row, 1)?;
-    let version = number_in(row, 2)?;
-    let now = moment_in(row, 3)?;
-    let cash = cents_in(row, 4)?;
-    let revenue = cents_in(row, 5)?;
+    let _one: Within<1, 1> = number_in(&part, 0)?;
+    let _app = app_in(&part, 1)?;
+    let version = number_in(&part, 2)?;
+    let now = moment_in(&part, 3)?;
+    let cash = cents_in(&part, 4)?;
+    let revenue = cents_in(&part, 5)?;
     Some(StoredMeta {
         version,
         now,
@@ -106,22 +106,22 @@ pub fn read_meta(row: &Row) -> Option<StoredMeta>
 }
 
 /// What a row of `system` spells.
-pub fn read_system(row: &Row) -> Option<StoredSystem<'_>>
-    ensures { option_map system_of result ≡ system_read row.now }
+pub fn read_system(part: Part<'_>) -> Option<StoredSystem<'_>>
+    ensures { option_map system_of result ≡ system_read part.entry }
 {
-    if row.column_count() != 10 {
+    if part.column_count() != 10 {
         return None;
     }
-    let _one: Within<1, 1> = number_in(row, 0)?;
-    let system_id = ident_in(row, 1)?;
-    let language = language_in(row, 2)?;
-    let name = name_in(row, 3)?;
-    let opening_hours = ascii_in(row, 4)?;
-    let feed_contact_email = ascii_in(row, 5)?;
-    let timezone = ascii_in(row, 6)?;
-    let currency = currency_in(row, 7)?;
-    let base_url = ascii_in(row, 8)?;
-    let ttl = number_in(row, 9)?;
+    let _one: Within<1, 1> = number_in(&part, 0)?;
+    let system_id = ident_in(&part, 1)?;
+    let language = language_in(&part, 2)?;
+    let name = name_in(&part, 3)?;
+    let opening_hours = ascii_in(&part, 4)?;
+    let feed_contact_email = ascii_in(&part, 5)?;
+    let timezone = ascii_in(&part, 6)?;
+    let currency = currency_in(&part, 7)?;
+    let base_url = ascii_in(&part, 8)?;
+    let ttl = number_in(&part, 9)?;
     Some(StoredSystem {
         system_id,
         language,
@@ -136,17 +136,17 @@ pub fn read_system(row: &Row) -> Option<StoredSystem<'_>>
 }
 
 /// What a row of `plans` spells.
-pub fn read_plan(row: &Row) -> Option<StoredPlan<'_>>
-    ensures { option_map plan_of result ≡ plan_read row.now }
+pub fn read_plan(part: Part<'_>) -> Option<StoredPlan<'_>>
+    ensures { option_map plan_of result ≡ plan_read part.entry }
 {
-    if row.column_count() != 5 {
+    if part.column_count() != 5 {
         return None;
     }
-    let plan_id = ident_in(row, 0)?;
-    let name = name_in(row, 1)?;
-    let price = number_in(row, 2)?;
-    let taxable = flag_in(row, 3)?;
-    let description = name_in(row, 4)?;
+    let plan_id = ident_in(&part, 0)?;
+    let name = name_in(&part, 1)?;
+    let price = number_in(&part, 2)?;
+    let taxable = flag_in(&part, 3)?;
+    let description = name_in(&part, 4)?;
     Some(StoredPlan {
         plan_id,
         name,
@@ -157,29 +157,29 @@ pub fn read_plan(row: &Row) -> Option<StoredPlan<'_>>
 }
 
 /// The end of a segment, or `Some(None)` where it goes on.
-fn end_in(row: &Row, at: usize) -> Option<Option<SegmentMinute>>
-    ensures { result ≡ or_none (number_in 0 100000) (column row.now at) }
+fn end_in(part: &Part<'_>, at: usize) -> Option<Option<SegmentMinute>>
+    ensures { result ≡ or_none (number_in 0 100000) (column part.now at) }
 {
-    if is_null_at(row, at) {
+    if is_null_at(part, at) {
         return Some(None);
     }
-    let end = number_in(row, at)?;
+    let end = number_in(part, at)?;
     Some(Some(end))
 }
 
 /// What a row of `segments` spells: an end is after the start.
-pub fn read_segment(row: &Row) -> Option<StoredSegment<'_>>
-    ensures { option_map segment_of result ≡ segment_read row.now }
+pub fn read_segment(part: Part<'_>) -> Option<StoredSegment<'_>>
+    ensures { option_map segment_of result ≡ segment_read part.entry }
 {
-    if row.column_count() != 6 {
+    if part.column_count() != 6 {
         return None;
     }
-    let plan_id = ident_in(row, 0)?;
-    let seq = number_in(row, 1)?;
-    let start: SegmentMinute = number_in(row, 2)?;
-    let rate = signed_in(row, 3, -100_000, 100_000)?;
-    let interval = number_in(row, 4)?;
-    let end: Option<SegmentMinute> = end_in(row, 5)?;
+    let plan_id = ident_in(&part, 0)?;
+    let seq = number_in(&part, 1)?;
+    let start: SegmentMinute = number_in(&part, 2)?;
+    let rate = signed_in(&part, 3, -100_000, 100_000)?;
+    let interval = number_in(&part, 4)?;
+    let end: Option<SegmentMinute> = end_in(&part, 5)?;
     if let Some(end) = end {
         if end.get() <= start.get() {
             return None;
@@ -206,18 +206,18 @@ fn suits(propulsion: Propulsion, range: MaxRange) -> bool
 }
 
 /// What a row of `types` spells.
-pub fn read_type(row: &Row) -> Option<StoredType<'_>>
-    ensures { option_map type_of result ≡ type_read row.now }
+pub fn read_type(part: Part<'_>) -> Option<StoredType<'_>>
+    ensures { option_map type_of result ≡ type_read part.entry }
 {
-    if row.column_count() != 6 {
+    if part.column_count() != 6 {
         return None;
     }
-    let type_id = ident_in(row, 0)?;
-    let name = name_in(row, 1)?;
-    let form = form_in(row, 2)?;
-    let propulsion = propulsion_in(row, 3)?;
-    let max_range = number_in(row, 4)?;
-    let plan_id = ident_in(row, 5)?;
+    let type_id = ident_in(&part, 0)?;
+    let name = name_in(&part, 1)?;
+    let form = form_in(&part, 2)?;
+    let propulsion = propulsion_in(&part, 3)?;
+    let max_range = number_in(&part, 4)?;
+    let plan_id = ident_in(&part, 5)?;
     if !suits(propulsion, max_range) {
         return None;
     }

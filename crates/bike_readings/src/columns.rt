@@ -7,30 +7,32 @@ ghost use Rattle.bike_ledger.specs.Entries.{greatest_amount};
 ghost use Rattle.bike_schema.specs.Columns.{whole_in, text_in, number_in, moment_in, flag_in, state_in, ident_in, name_in, or_none};
 ghost use Rattle.bike_readings.specs.ColumnReaders.{ascii_in, language_in, currency_in, form_in, propulsion_in, word_in, signed_in, kind_in};
 
+use crate::part::Part;
 use crate::texts::{is_ascii_field, is_currency, is_ident, is_language, is_name};
 use bike_catalogue::{Form, Propulsion};
 use bike_fixed::{Cents, Moment, Within};
 use bike_ledger::EntryKind;
 use bike_operator::BikeState;
 use bike_schema::{cents_at, flag_at, moment_at, number_at, state_at};
-use sqlite::Row;
 use sqlite::types::ValueRef;
 
 /// Whether the column is NULL.
-pub(crate) fn is_null_at(row: &Row, at: usize) -> bool
-    ensures { result ≡ is_null (column row.now at) }
+pub(crate) fn is_null_at(part: &Part<'_>, at: usize) -> bool
+    ensures { result ≡ is_null (column part.now at) }
 {
+    let (row, at) = part.column(at);
     matches!(row.get_ref(at), Ok(ValueRef::Null) | Err(_))
 }
 
 /// The number, where it lies from `LO` to `HI`.
 #[tactic(auto, using(crate::proofs::ReadLemmas::read_some, crate::proofs::ReadLemmas::read_none))]
 pub(crate) fn number_in<const LO: u32, const HI: u32>(
-    row: &Row,
+    part: &Part<'_>,
     at: usize,
 ) -> Option<Within<LO, HI>>
-    ensures { result ≡ number_in LO HI (column row.now at) }
+    ensures { result ≡ number_in LO HI (column part.now at) }
 {
+    let (row, at) = part.column(at);
     match number_at(row, at) {
         Ok(number) => Some(number),
         Err(_) => None,
@@ -38,9 +40,10 @@ pub(crate) fn number_in<const LO: u32, const HI: u32>(
 }
 
 /// The moment, in seconds after 1970-01-01T00:00:00Z.
-pub(crate) fn moment_in(row: &Row, at: usize) -> Option<Moment>
-    ensures { result ≡ moment_in (column row.now at) }
+pub(crate) fn moment_in(part: &Part<'_>, at: usize) -> Option<Moment>
+    ensures { result ≡ moment_in (column part.now at) }
 {
+    let (row, at) = part.column(at);
     match moment_at(row, at) {
         Ok(moment) => Some(moment),
         Err(_) => None,
@@ -48,9 +51,10 @@ pub(crate) fn moment_in(row: &Row, at: usize) -> Option<Moment>
 }
 
 /// The amount, in hundredths.
-pub(crate) fn cents_in(row: &Row, at: usize) -> Option<Cents>
-    ensures { result ≡ whole_in (column row.now at) }
+pub(crate) fn cents_in(part: &Part<'_>, at: usize) -> Option<Cents>
+    ensures { result ≡ whole_in (column part.now at) }
 {
+    let (row, at) = part.column(at);
     match cents_at(row, at) {
         Ok(amount) => Some(amount),
         Err(_) => None,
@@ -58,9 +62,10 @@ pub(crate) fn cents_in(row: &Row, at: usize) -> Option<Cents>
 }
 
 /// The flag, stored as 0 or 1.
-pub(crate) fn flag_in(row: &Row, at: usize) -> Option<bool>
-    ensures { result ≡ flag_in (column row.now at) }
+pub(crate) fn flag_in(part: &Part<'_>, at: usize) -> Option<bool>
+    ensures { result ≡ flag_in (column part.now at) }
 {
+    let (row, at) = part.column(at);
     match flag_at(row, at) {
         Ok(flag) => Some(flag),
         Err(_) => None,
@@ -68,9 +73,10 @@ pub(crate) fn flag_in(row: &Row, at: usize) -> Option<bool>
 }
 
 /// The state of a bicycle, stored as 0, 1 or 2.
-pub(crate) fn state_in(row: &Row, at: usize) -> Option<BikeState>
-    ensures { result ≡ state_in (column row.now at) }
+pub(crate) fn state_in(part: &Part<'_>, at: usize) -> Option<BikeState>
+    ensures { result ≡ state_in (column part.now at) }
 {
+    let (row, at) = part.column(at);
     match state_at(row, at) {
         Ok(state) => Some(state),
         Err(_) => None,
@@ -78,10 +84,10 @@ pub(crate) fn state_in(row: &Row, at: usize) -> Option<BikeState>
 }
 
 /// The whole number, where it lies from `lo` to `hi`.
-pub(crate) fn signed_in(row: &Row, at: usize, lo: i64, hi: i64) -> Option<i64>
-    ensures { result ≡ signed_in lo hi (column row.now at) }
+pub(crate) fn signed_in(part: &Part<'_>, at: usize, lo: i64, hi: i64) -> Option<i64>
+    ensures { result ≡ signed_in lo hi (column part.now at) }
 {
-    let number = cents_in(row, at)?.hundredths();
+    let number = cents_in(part, at)?.hundredths();
     if lo <= number && number <= hi {
         return Some(number);
     }
@@ -89,10 +95,10 @@ pub(crate) fn signed_in(row: &Row, at: usize, lo: i64, hi: i64) -> Option<i64>
 }
 
 /// The kind of an entry, stored as 1, 2 or 3.
-pub(crate) fn kind_in(row: &Row, at: usize) -> Option<EntryKind>
-    ensures { result ≡ kind_in (column row.now at) }
+pub(crate) fn kind_in(part: &Part<'_>, at: usize) -> Option<EntryKind>
+    ensures { result ≡ kind_in (column part.now at) }
 {
-    match cents_in(row, at)?.hundredths() {
+    match cents_in(part, at)?.hundredths() {
         1 => Some(EntryKind::TopUp),
         2 => Some(EntryKind::Fare),
         3 => Some(EntryKind::Refund),
@@ -101,9 +107,10 @@ pub(crate) fn kind_in(row: &Row, at: usize) -> Option<EntryKind>
 }
 
 /// The text, where it is UTF-8.
-pub(crate) fn text_in(row: &Row, at: usize) -> Option<&str>
-    ensures { option_map (λ text. text.now) result ≡ text_in (column row.now at) }
+pub(crate) fn text_in<'a>(part: &Part<'a>, at: usize) -> Option<&'a str>
+    ensures { option_map (λ text. text.now) result ≡ text_in (column part.now at) }
 {
+    let (row, at) = part.column(at);
     let Ok(ValueRef::Text(bytes)) = row.get_ref(at) else {
         return None;
     };
@@ -115,10 +122,10 @@ pub(crate) fn text_in(row: &Row, at: usize) -> Option<&str>
 
 /// The identifier.
 #[tactic(auto, unfolding(bike_fields::specs::Bytes::ident_of))]
-pub(crate) fn ident_in(row: &Row, at: usize) -> Option<&str>
-    ensures { option_map (λ text. text.now) result ≡ ident_in (column row.now at) }
+pub(crate) fn ident_in<'a>(part: &Part<'a>, at: usize) -> Option<&'a str>
+    ensures { option_map (λ text. text.now) result ≡ ident_in (column part.now at) }
 {
-    let text = text_in(row, at)?;
+    let text = text_in(part, at)?;
     if is_ident(text) {
         return Some(text);
     }
@@ -127,10 +134,10 @@ pub(crate) fn ident_in(row: &Row, at: usize) -> Option<&str>
 
 /// The name.
 #[tactic(auto, unfolding(bike_fields::specs::Bytes::name_of))]
-pub(crate) fn name_in(row: &Row, at: usize) -> Option<&str>
-    ensures { option_map (λ text. text.now) result ≡ name_in (column row.now at) }
+pub(crate) fn name_in<'a>(part: &Part<'a>, at: usize) -> Option<&'a str>
+    ensures { option_map (λ text. text.now) result ≡ name_in (column part.now at) }
 {
-    let text = text_in(row, at)?;
+    let text = text_in(part, at)?;
     if is_name(text) {
         return Some(text);
     }
@@ -139,10 +146,10 @@ pub(crate) fn name_in(row: &Row, at: usize) -> Option<&str>
 
 /// The ASCII field.
 #[tactic(auto, unfolding(bike_fields::specs::Bytes::ascii_of))]
-pub(crate) fn ascii_in(row: &Row, at: usize) -> Option<&str>
-    ensures { option_map (λ text. text.now) result ≡ ascii_in (column row.now at) }
+pub(crate) fn ascii_in<'a>(part: &Part<'a>, at: usize) -> Option<&'a str>
+    ensures { option_map (λ text. text.now) result ≡ ascii_in (column part.now at) }
 {
-    let text = text_in(row, at)?;
+    let text = text_in(part, at)?;
     if is_ascii_field(text) {
         return Some(text);
     }
@@ -151,10 +158,10 @@ pub(crate) fn ascii_in(row: &Row, at: usize) -> Option<&str>
 
 /// The language.
 #[tactic(auto, unfolding(bike_fields::specs::Bytes::language_of))]
-pub(crate) fn language_in(row: &Row, at: usize) -> Option<&str>
-    ensures { option_map (λ text. text.now) result ≡ language_in (column row.now at) }
+pub(crate) fn language_in<'a>(part: &Part<'a>, at: usize) -> Option<&'a str>
+    ensures { option_map (λ text. text.now) result ≡ language_in (column part.now at) }
 {
-    let text = text_in(row, at)?;
+    let text = text_in(part, at)?;
     if is_language(text) {
         return Some(text);
     }
@@ -163,10 +170,10 @@ pub(crate) fn language_in(row: &Row, at: usize) -> Option<&str>
 
 /// The currency.
 #[tactic(auto, unfolding(bike_fields::specs::Bytes::currency_of))]
-pub(crate) fn currency_in(row: &Row, at: usize) -> Option<&str>
-    ensures { option_map (λ text. text.now) result ≡ currency_in (column row.now at) }
+pub(crate) fn currency_in<'a>(part: &Part<'a>, at: usize) -> Option<&'a str>
+    ensures { option_map (λ text. text.now) result ≡ currency_in (column part.now at) }
 {
-    let text = text_in(row, at)?;
+    let text = text_in(part, at)?;
     if is_currency(text) {
         return Some(text);
     }
@@ -174,10 +181,10 @@ pub(crate) fn currency_in(row: &Row, at: usize) -> Option<&str>
 }
 
 /// The name of the product that made the file.
-pub(crate) fn app_in(row: &Row, at: usize) -> Option<&str>
-    ensures { option_map (λ text. text.now) result ≡ word_in (codes "bikeshare") (column row.now at) }
+pub(crate) fn app_in<'a>(part: &Part<'a>, at: usize) -> Option<&'a str>
+    ensures { option_map (λ text. text.now) result ≡ word_in (codes "bikeshare") (column part.now at) }
 {
-    let text = text_in(row, at)?;
+    let text = text_in(part, at)?;
     if text == "bikeshare" {
         return Some(text);
     }
@@ -185,17 +192,17 @@ pub(crate) fn app_in(row: &Row, at: usize) -> Option<&str>
 }
 
 /// The form of a vehicle.
-pub(crate) fn form_in(row: &Row, at: usize) -> Option<Form>
-    ensures { result ≡ form_in (column row.now at) }
+pub(crate) fn form_in(part: &Part<'_>, at: usize) -> Option<Form>
+    ensures { result ≡ form_in (column part.now at) }
 {
-    let text = text_in(row, at)?;
+    let text = text_in(part, at)?;
     Form::read(text)
 }
 
 /// The propulsion of a vehicle.
-pub(crate) fn propulsion_in(row: &Row, at: usize) -> Option<Propulsion>
-    ensures { result ≡ propulsion_in (column row.now at) }
+pub(crate) fn propulsion_in(part: &Part<'_>, at: usize) -> Option<Propulsion>
+    ensures { result ≡ propulsion_in (column part.now at) }
 {
-    let text = text_in(row, at)?;
+    let text = text_in(part, at)?;
     Propulsion::read(text)
 }

@@ -7,13 +7,13 @@ ghost use Rattle.bike_readings.specs.Readings.{bike_read, truck_read, order_read
 ghost use Rattle.bike_readings.specs.Views.{place_of, bike_of, truck_of, end_of, order_of};
 
 use crate::columns::{flag_in, ident_in, is_null_at, number_in, state_in, text_in};
+use crate::part::Part;
 use crate::texts::is_ident;
 use bike_fields::{
     BicycleNumber, DockNumber, OrderNumber, OrderQuantity, RentalNumber, TruckCapacity, TruckNumber,
 };
 use bike_fixed::Within;
 use bike_operator::BikeState;
-use sqlite::Row;
 
 /// Where a bicycle is, as its row has it.
 #[derive(Clone, Copy, Debug)]
@@ -76,59 +76,59 @@ pub struct StoredOrder<'a> {
 }
 
 /// The place in a dock.
-fn in_dock(row: &Row) -> Option<StoredPlace<'_>>
-    ensures { option_map place_of result ≡ in_dock (column row.now 3) (column row.now 4) }
+fn in_dock<'a>(part: &Part<'a>) -> Option<StoredPlace<'a>>
+    ensures { option_map place_of result ≡ in_dock (column part.now 3) (column part.now 4) }
 {
-    let station = ident_in(row, 3)?;
-    let dock = number_in(row, 4)?;
+    let station = ident_in(part, 3)?;
+    let dock = number_in(part, 4)?;
     Some(StoredPlace::Dock { station, dock })
 }
 
 /// The place in a rental.
-fn in_rental(row: &Row) -> Option<StoredPlace<'_>>
-    ensures { option_map place_of result ≡ in_rental (column row.now 5) }
+fn in_rental<'a>(part: &Part<'a>) -> Option<StoredPlace<'a>>
+    ensures { option_map place_of result ≡ in_rental (column part.now 5) }
 {
-    let rental = number_in(row, 5)?;
+    let rental = number_in(part, 5)?;
     Some(StoredPlace::Rental { rental })
 }
 
 /// The place on a truck.
-fn on_truck(row: &Row) -> Option<StoredPlace<'_>>
-    ensures { option_map place_of result ≡ on_truck (column row.now 6) (column row.now 7) }
+fn on_truck<'a>(part: &Part<'a>) -> Option<StoredPlace<'a>>
+    ensures { option_map place_of result ≡ on_truck (column part.now 6) (column part.now 7) }
 {
-    let truck = number_in(row, 6)?;
-    let order = number_in(row, 7)?;
+    let truck = number_in(part, 6)?;
+    let order = number_in(part, 7)?;
     Some(StoredPlace::Truck { truck, order })
 }
 
 /// The one place that the columns tell: in a dock, in a rental, on a truck for an order, or in the depot.
-fn place_in(row: &Row) -> Option<StoredPlace<'_>>
-    ensures { option_map place_of result ≡ place_in (column row.now 3) (column row.now 4) (column row.now 5)
-        (column row.now 6) (column row.now 7) }
+fn place_in<'a>(part: &Part<'a>) -> Option<StoredPlace<'a>>
+    ensures { option_map place_of result ≡ place_in (column part.now 3) (column part.now 4) (column part.now 5)
+        (column part.now 6) (column part.now 7) }
 {
-    let no_dock = is_null_at(row, 3) && is_null_at(row, 4);
-    let no_rental = is_null_at(row, 5);
-    let no_truck = is_null_at(row, 6) && is_null_at(row, 7);
+    let no_dock = is_null_at(part, 3) && is_null_at(part, 4);
+    let no_rental = is_null_at(part, 5);
+    let no_truck = is_null_at(part, 6) && is_null_at(part, 7);
     match (no_dock, no_rental, no_truck) {
         (true, true, true) => Some(StoredPlace::Depot),
-        (false, true, true) => in_dock(row),
-        (true, false, true) => in_rental(row),
-        (true, true, false) => on_truck(row),
+        (false, true, true) => in_dock(part),
+        (true, false, true) => in_rental(part),
+        (true, true, false) => on_truck(part),
         _ => None,
     }
 }
 
 /// What a row of `bikes` spells.
-pub fn read_bike(row: &Row) -> Option<StoredBike<'_>>
-    ensures { option_map bike_of result ≡ bike_read row.now }
+pub fn read_bike(part: Part<'_>) -> Option<StoredBike<'_>>
+    ensures { option_map bike_of result ≡ bike_read part.entry }
 {
-    if row.column_count() != 8 {
+    if part.column_count() != 8 {
         return None;
     }
-    let bike = number_in(row, 0)?;
-    let type_id = ident_in(row, 1)?;
-    let state = state_in(row, 2)?;
-    match place_in(row) {
+    let bike = number_in(&part, 0)?;
+    let type_id = ident_in(&part, 1)?;
+    let state = state_in(&part, 2)?;
+    match place_in(&part) {
         Some(place) => Some(StoredBike {
             bike,
             type_id,
@@ -140,23 +140,23 @@ pub fn read_bike(row: &Row) -> Option<StoredBike<'_>>
 }
 
 /// What a row of `trucks` spells.
-pub fn read_truck(row: &Row) -> Option<StoredTruck>
-    ensures { option_map truck_of result ≡ truck_read row.now }
+pub fn read_truck(part: Part<'_>) -> Option<StoredTruck>
+    ensures { option_map truck_of result ≡ truck_read part.entry }
 {
-    if row.column_count() != 2 {
+    if part.column_count() != 2 {
         return None;
     }
-    let truck = number_in(row, 0)?;
-    let capacity = number_in(row, 1)?;
+    let truck = number_in(&part, 0)?;
+    let capacity = number_in(&part, 1)?;
     Some(StoredTruck { truck, capacity })
 }
 
 /// The end of an order: `*` for the depot, or a station's identifier.
 #[tactic(auto, unfolding(bike_texts::specs::Reading::end_of, bike_fields::specs::Bytes::ident_of))]
-fn end_in(row: &Row, at: usize) -> Option<StoredEnd<'_>>
-    ensures { option_map end_of result ≡ end_in (column row.now at) }
+fn end_in<'a>(part: &Part<'a>, at: usize) -> Option<StoredEnd<'a>>
+    ensures { option_map end_of result ≡ end_in (column part.now at) }
 {
-    let text = text_in(row, at)?;
+    let text = text_in(part, at)?;
     if text == "*" {
         return Some(StoredEnd::Depot);
     }
@@ -167,20 +167,20 @@ fn end_in(row: &Row, at: usize) -> Option<StoredEnd<'_>>
 }
 
 /// What a row of `orders` spells.
-pub fn read_order(row: &Row) -> Option<StoredOrder<'_>>
-    ensures { option_map order_of result ≡ order_read row.now }
+pub fn read_order(part: Part<'_>) -> Option<StoredOrder<'_>>
+    ensures { option_map order_of result ≡ order_read part.entry }
 {
-    if row.column_count() != 8 {
+    if part.column_count() != 8 {
         return None;
     }
-    let order = number_in(row, 0)?;
-    let truck = number_in(row, 1)?;
-    let from_end = end_in(row, 2)?;
-    let to_end = end_in(row, 3)?;
-    let type_id = ident_in(row, 4)?;
-    let count = number_in(row, 5)?;
-    let delivered = number_in(row, 6)?;
-    let is_open = flag_in(row, 7)?;
+    let order = number_in(&part, 0)?;
+    let truck = number_in(&part, 1)?;
+    let from_end = end_in(&part, 2)?;
+    let to_end = end_in(&part, 3)?;
+    let type_id = ident_in(&part, 4)?;
+    let count = number_in(&part, 5)?;
+    let delivered = number_in(&part, 6)?;
+    let is_open = flag_in(&part, 7)?;
     Some(StoredOrder {
         order,
         truck,

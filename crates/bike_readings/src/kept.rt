@@ -9,11 +9,11 @@ ghost use Rattle.bike_readings.specs.Readings.{kept_read};
 ghost use Rattle.bike_readings.specs.Views.{kept_of};
 
 use crate::columns::text_in;
+use crate::part::Part;
 use bike_commands::{Command, Reply};
 use bike_fields::{Caller, RequestKey};
 use bike_requests::{command_text, read_command};
 use bike_schema::StatementFault;
-use sqlite::Row;
 use std::alloc::{AllocError, Global};
 
 /// A row of `kept`.
@@ -66,63 +66,63 @@ fn accepted_of(text: &str) -> Option<Reply>
 }
 
 /// The caller; an error is a want of memory.
-fn caller_in(alloc: Global, row: &Row) -> Result<Option<Caller>, AllocError>
-    ensures { IfOk result (λ o. o ≡ caller_in (column row.now 0)) }
+fn caller_in(alloc: Global, part: &Part<'_>) -> Result<Option<Caller>, AllocError>
+    ensures { IfOk result (λ o. o ≡ caller_in (column part.now 0)) }
 {
-    match text_in(row, 0) {
+    match text_in(part, 0) {
         Some(text) => Caller::read(alloc, text),
         None => Ok(None),
     }
 }
 
 /// The key of the request; an error is a want of memory.
-fn key_in(alloc: Global, row: &Row) -> Result<Option<RequestKey>, AllocError>
-    ensures { IfOk result (λ o. o ≡ key_in (column row.now 1)) }
+fn key_in(alloc: Global, part: &Part<'_>) -> Result<Option<RequestKey>, AllocError>
+    ensures { IfOk result (λ o. o ≡ key_in (column part.now 1)) }
 {
-    match text_in(row, 1) {
+    match text_in(part, 1) {
         Some(text) => RequestKey::read(alloc, text),
         None => Ok(None),
     }
 }
 
 /// The command; an error is a want of memory.
-fn command_in(alloc: Global, row: &Row) -> Result<Option<Command>, AllocError>
-    ensures { IfOk result (λ o. o ≡ command_in (column row.now 2)) }
+fn command_in(alloc: Global, part: &Part<'_>) -> Result<Option<Command>, AllocError>
+    ensures { IfOk result (λ o. o ≡ command_in (column part.now 2)) }
 {
-    match text_in(row, 2) {
+    match text_in(part, 2) {
         Some(text) => one_command_of(alloc, text),
         None => Ok(None),
     }
 }
 
 /// The reply.
-fn reply_in(row: &Row) -> Option<Reply>
-    ensures { result ≡ reply_in (column row.now 3) }
+fn reply_in(part: &Part<'_>) -> Option<Reply>
+    ensures { result ≡ reply_in (column part.now 3) }
 {
-    match text_in(row, 3) {
+    match text_in(part, 3) {
         Some(text) => accepted_of(text),
         None => None,
     }
 }
 
 /// What a row of `kept` spells. The one fault is `NoMemory`, where the command or the caller found no room.
-pub fn read_kept(alloc: Global, row: &Row) -> Result<Option<StoredKept>, StatementFault>
-    ensures spelled { IfOk result (λ x. option_map kept_of x ≡ kept_read row.now) }
+pub fn read_kept(alloc: Global, part: Part<'_>) -> Result<Option<StoredKept>, StatementFault>
+    ensures spelled { IfOk result (λ x. option_map kept_of x ≡ kept_read part.entry) }
     ensures fault { IfErr result (λ e. e ≡ NoMemory) }
 {
-    if row.column_count() != 4 {
+    if part.column_count() != 4 {
         return Ok(None);
     }
-    let Some(caller) = caller_in(alloc, row)? else {
+    let Some(caller) = caller_in(alloc, &part)? else {
         return Ok(None);
     };
-    let Some(key) = key_in(alloc, row)? else {
+    let Some(key) = key_in(alloc, &part)? else {
         return Ok(None);
     };
-    let Some(command) = command_in(alloc, row)? else {
+    let Some(command) = command_in(alloc, &part)? else {
         return Ok(None);
     };
-    let Some(reply) = reply_in(row) else {
+    let Some(reply) = reply_in(&part) else {
         return Ok(None);
     };
     Ok(Some(StoredKept {

@@ -10,10 +10,10 @@ ghost use Rattle.bike_readings.specs.Views.{rider_of, closing_of, rental_of, ent
 use crate::columns::{
     cents_in, flag_in, ident_in, is_null_at, kind_in, moment_in, number_in, signed_in,
 };
+use crate::part::Part;
 use bike_fields::{BicycleNumber, RentalNumber, RiderNumber};
 use bike_fixed::{Cents, Moment, Within};
 use bike_ledger::{EntryKind, EntryNumber};
-use sqlite::Row;
 
 /// A row of `riders`.
 #[derive(Clone, Copy, Debug)]
@@ -63,15 +63,15 @@ pub struct StoredEntry {
 }
 
 /// What a row of `riders` spells.
-pub fn read_rider(row: &Row) -> Option<StoredRider>
-    ensures { option_map rider_of result ≡ rider_read row.now }
+pub fn read_rider(part: Part<'_>) -> Option<StoredRider>
+    ensures { option_map rider_of result ≡ rider_read part.entry }
 {
-    if row.column_count() != 3 {
+    if part.column_count() != 3 {
         return None;
     }
-    let rider = number_in(row, 0)?;
-    let is_blocked = flag_in(row, 1)?;
-    let balance = cents_in(row, 2)?;
+    let rider = number_in(&part, 0)?;
+    let is_blocked = flag_in(&part, 1)?;
+    let balance = cents_in(&part, 2)?;
     Some(StoredRider {
         rider,
         is_blocked,
@@ -80,24 +80,24 @@ pub fn read_rider(row: &Row) -> Option<StoredRider>
 }
 
 /// The station at which a rental ended, or `Some(None)` where there is none.
-fn stop_in(row: &Row) -> Option<Option<&str>>
-    ensures { option_map (option_map (λ text. text.now)) result ≡ or_none ident_in (column row.now 6) }
+fn stop_in<'a>(part: &Part<'a>) -> Option<Option<&'a str>>
+    ensures { option_map (option_map (λ text. text.now)) result ≡ or_none ident_in (column part.now 6) }
 {
-    if is_null_at(row, 6) {
+    if is_null_at(part, 6) {
         return Some(None);
     }
-    let station = ident_in(row, 6)?;
+    let station = ident_in(part, 6)?;
     Some(Some(station))
 }
 
 /// How a closed rental was closed.
-fn closed_in(row: &Row) -> Option<Option<StoredClosing<'_>>>
+fn closed_in<'a>(part: &Part<'a>) -> Option<Option<StoredClosing<'a>>>
     ensures { option_map (option_map closing_of) result
-        ≡ closed_in (column row.now 6) (column row.now 7) (column row.now 8) }
+        ≡ closed_in (column part.now 6) (column part.now 7) (column part.now 8) }
 {
-    let to_station = stop_in(row)?;
-    let finish = moment_in(row, 7)?;
-    let fare = signed_in(row, 8, 0, 34_561_800_000)?;
+    let to_station = stop_in(part)?;
+    let finish = moment_in(part, 7)?;
+    let fare = signed_in(part, 8, 0, 34_561_800_000)?;
     Some(Some(StoredClosing {
         to_station,
         finish,
@@ -106,32 +106,32 @@ fn closed_in(row: &Row) -> Option<Option<StoredClosing<'_>>>
 }
 
 /// How a rental was closed, or `Some(None)` where it is open.
-fn closing_in(row: &Row) -> Option<Option<StoredClosing<'_>>>
+fn closing_in<'a>(part: &Part<'a>) -> Option<Option<StoredClosing<'a>>>
     ensures { option_map (option_map closing_of) result
-        ≡ closing_in (column row.now 6) (column row.now 7) (column row.now 8) }
+        ≡ closing_in (column part.now 6) (column part.now 7) (column part.now 8) }
 {
-    if is_null_at(row, 6) && is_null_at(row, 7) && is_null_at(row, 8) {
+    if is_null_at(part, 6) && is_null_at(part, 7) && is_null_at(part, 8) {
         return Some(None);
     }
-    closed_in(row)
+    closed_in(part)
 }
 
 /// What a row of `rentals` spells.
-pub fn read_rental(row: &Row) -> Option<StoredRental<'_>>
-    ensures { option_map rental_of result ≡ rental_read row.now }
+pub fn read_rental(part: Part<'_>) -> Option<StoredRental<'_>>
+    ensures { option_map rental_of result ≡ rental_read part.entry }
 {
-    if row.column_count() != 10 {
+    if part.column_count() != 10 {
         return None;
     }
-    let rental = number_in(row, 0)?;
-    let rider = number_in(row, 1)?;
-    let bike = number_in(row, 2)?;
-    let plan = ident_in(row, 3)?;
-    let from_station = ident_in(row, 4)?;
-    let start = moment_in(row, 5)?;
-    match closing_in(row) {
+    let rental = number_in(&part, 0)?;
+    let rider = number_in(&part, 1)?;
+    let bike = number_in(&part, 2)?;
+    let plan = ident_in(&part, 3)?;
+    let from_station = ident_in(&part, 4)?;
+    let start = moment_in(&part, 5)?;
+    match closing_in(&part) {
         Some(closing) => {
-            let refunded = cents_in(row, 9)?;
+            let refunded = cents_in(&part, 9)?;
             Some(StoredRental {
                 rental,
                 rider,
@@ -148,44 +148,44 @@ pub fn read_rental(row: &Row) -> Option<StoredRental<'_>>
 }
 
 /// The rental of an entry of the kind: 0 for a top-up.
-fn rental_in(kind: EntryKind, row: &Row) -> Option<u32>
-    ensures { result ≡ rental_in kind (column row.now 3) }
+fn rental_in(kind: EntryKind, part: &Part<'_>) -> Option<u32>
+    ensures { result ≡ rental_in kind (column part.now 3) }
 {
     match kind {
         EntryKind::TopUp => {
-            let none: Within<0, 0> = number_in(row, 3)?;
+            let none: Within<0, 0> = number_in(part, 3)?;
             Some(none.get())
         }
         EntryKind::Fare | EntryKind::Refund => {
-            let rental: RentalNumber = number_in(row, 3)?;
+            let rental: RentalNumber = number_in(part, 3)?;
             Some(rental.get())
         }
     }
 }
 
 /// The amount of an entry of the kind, in hundredths.
-fn amount_in(kind: EntryKind, row: &Row) -> Option<i64>
-    ensures { result ≡ amount_in kind (column row.now 4) }
+fn amount_in(kind: EntryKind, part: &Part<'_>) -> Option<i64>
+    ensures { result ≡ amount_in kind (column part.now 4) }
 {
     match kind {
-        EntryKind::TopUp | EntryKind::Refund => signed_in(row, 4, 1, 1_000_000),
-        EntryKind::Fare => signed_in(row, 4, 0, 34_561_800_000),
+        EntryKind::TopUp | EntryKind::Refund => signed_in(part, 4, 1, 1_000_000),
+        EntryKind::Fare => signed_in(part, 4, 0, 34_561_800_000),
     }
 }
 
 /// What a row of `entries` spells.
-pub fn read_entry(row: &Row) -> Option<StoredEntry>
-    ensures { option_map entry_of result ≡ entry_read row.now }
+pub fn read_entry(part: Part<'_>) -> Option<StoredEntry>
+    ensures { option_map entry_of result ≡ entry_read part.entry }
 {
-    if row.column_count() != 6 {
+    if part.column_count() != 6 {
         return None;
     }
-    let number = number_in(row, 0)?;
-    let kind = kind_in(row, 1)?;
-    let rider = number_in(row, 2)?;
-    let rental = rental_in(kind, row)?;
-    let amount = amount_in(kind, row)?;
-    let at = moment_in(row, 5)?;
+    let number = number_in(&part, 0)?;
+    let kind = kind_in(&part, 1)?;
+    let rider = number_in(&part, 2)?;
+    let rental = rental_in(kind, &part)?;
+    let amount = amount_in(kind, &part)?;
+    let at = moment_in(&part, 5)?;
     Some(StoredEntry {
         number,
         kind,

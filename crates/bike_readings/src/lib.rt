@@ -1,7 +1,7 @@
 //! What a stored row spells, both ways.
 //!
 //! `specs/Readings` gives for each table the record that any row spells, or nothing; `specs/BothWays` says that this is
-//! exact. The functions answer just that of a row that the database lends. Texts stay in the
+//! exact. The functions answer just that of a `Part` of a row that the database lends. Texts stay in the
 //! row, and no memory is taken, but for a kept request.
 #![tactic(auto)]
 
@@ -12,6 +12,7 @@ mod kept;
 mod laws;
 mod ledger;
 mod network;
+mod part;
 mod texts;
 
 pub use catalogue::{
@@ -27,3 +28,4 @@ pub use ledger::{
     StoredClosing, StoredEntry, StoredRental, StoredRider, read_entry, read_rental, read_rider,
 };
 pub use network::{StoredCounts, StoredDock, StoredStation, read_counts, read_dock, read_station};
+pub use part::Part;

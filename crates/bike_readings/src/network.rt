@@ -5,9 +5,9 @@ ghost use Rattle.bike_readings.specs.Readings.{station_read, dock_read, count_re
 ghost use Rattle.bike_readings.specs.Views.{station_of, dock_of, counts_of};
 
 use crate::columns::{cents_in, flag_in, ident_in, moment_in, name_in, number_in, signed_in};
+use crate::part::Part;
 use bike_fields::{DockCount, DockNumber};
 use bike_fixed::{Moment, Within};
-use sqlite::Row;
 
 /// A row of `stations`.
 #[derive(Clone, Copy, Debug)]
@@ -53,23 +53,23 @@ pub struct StoredCounts<'a> {
 }
 
 /// What a row of `stations` spells.
-pub fn read_station(row: &Row) -> Option<StoredStation<'_>>
-    ensures { option_map station_of result ≡ station_read row.now }
+pub fn read_station(part: Part<'_>) -> Option<StoredStation<'_>>
+    ensures { option_map station_of result ≡ station_read part.entry }
 {
-    if row.column_count() != 11 {
+    if part.column_count() != 11 {
         return None;
     }
-    let station_id = ident_in(row, 0)?;
-    let name = name_in(row, 1)?;
-    let lat = signed_in(row, 2, -90_000_000, 90_000_000)?;
-    let lon = signed_in(row, 3, -180_000_000, 180_000_000)?;
-    let docks = number_in(row, 4)?;
-    let is_installed = flag_in(row, 5)?;
-    let is_renting = flag_in(row, 6)?;
-    let is_returning = flag_in(row, 7)?;
-    let reported = moment_in(row, 8)?;
-    let free = cents_in(row, 9)?;
-    let broken = number_in(row, 10)?;
+    let station_id = ident_in(&part, 0)?;
+    let name = name_in(&part, 1)?;
+    let lat = signed_in(&part, 2, -90_000_000, 90_000_000)?;
+    let lon = signed_in(&part, 3, -180_000_000, 180_000_000)?;
+    let docks = number_in(&part, 4)?;
+    let is_installed = flag_in(&part, 5)?;
+    let is_renting = flag_in(&part, 6)?;
+    let is_returning = flag_in(&part, 7)?;
+    let reported = moment_in(&part, 8)?;
+    let free = cents_in(&part, 9)?;
+    let broken = number_in(&part, 10)?;
     Some(StoredStation {
         station_id,
         name,
@@ -86,15 +86,15 @@ pub fn read_station(row: &Row) -> Option<StoredStation<'_>>
 }
 
 /// What a row of `docks` spells.
-pub fn read_dock(row: &Row) -> Option<StoredDock<'_>>
-    ensures { option_map dock_of result ≡ dock_read row.now }
+pub fn read_dock(part: Part<'_>) -> Option<StoredDock<'_>>
+    ensures { option_map dock_of result ≡ dock_read part.entry }
 {
-    if row.column_count() != 3 {
+    if part.column_count() != 3 {
         return None;
     }
-    let station = ident_in(row, 0)?;
-    let dock = number_in(row, 1)?;
-    let is_broken = flag_in(row, 2)?;
+    let station = ident_in(&part, 0)?;
+    let dock = number_in(&part, 1)?;
+    let is_broken = flag_in(&part, 2)?;
     Some(StoredDock {
         station,
         dock,
@@ -103,16 +103,16 @@ pub fn read_dock(row: &Row) -> Option<StoredDock<'_>>
 }
 
 /// What a row of `counts` spells.
-pub fn read_counts(row: &Row) -> Option<StoredCounts<'_>>
-    ensures { option_map counts_of result ≡ count_read row.now }
+pub fn read_counts(part: Part<'_>) -> Option<StoredCounts<'_>>
+    ensures { option_map counts_of result ≡ count_read part.entry }
 {
-    if row.column_count() != 4 {
+    if part.column_count() != 4 {
         return None;
     }
-    let station = ident_in(row, 0)?;
-    let type_id = ident_in(row, 1)?;
-    let available = number_in(row, 2)?;
-    let disabled = number_in(row, 3)?;
+    let station = ident_in(&part, 0)?;
+    let type_id = ident_in(&part, 1)?;
+    let available = number_in(&part, 2)?;
+    let disabled = number_in(&part, 3)?;
     Some(StoredCounts {
         station,
         type_id,

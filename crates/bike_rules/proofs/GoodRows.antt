@@ -1,6 +1,6 @@
 -- All rows of the tables of an operator are good, and none is missing.
 use Rattle.std.proofs.Common.{◌≡◌, inl, inr, ℕ, ℤ, suc, ◌+◌, ◌<◌, pos, List, [], ◌∷◌, length, map, Option, Some, None, is_some, refl, sym, ap, ◌∙◌, subst, arith}
-use Rattle.std.specs.Prelude.{take}
+use Rattle.std.specs.Prelude.{take, option_map}
 use Rattle.std.specs.Option.{IsSomeAnd}
 use Rattle.std.specs.declared.cmp.Ordering.{Ordering}
 use Rattle.std.specs.FinMap as fin
@@ -16,11 +16,13 @@ use Rattle.bike_ledger.specs.Entries.{Entry}
 use Rattle.bike_ledger.specs.declared.entry.EntryKind.{EntryKind}
 use Rattle.bike_ledger.specs.declared.entry.EntryKind.TheVariants.{TopUp, Fare, Refund}
 use Rattle.bike_ledger.specs.Ledger.{balance_of, cash_of, revenue_of, refunded_of}
+use Rattle.bike_operator.specs.declared.records.Place.{Place}
+use Rattle.bike_operator.specs.declared.records.Place.TheVariants as place
 use Rattle.bike_operator.specs.declared.records.Rental.{Rental}
 use Rattle.bike_operator.specs.declared.records.Closing.{Closing}
 use Rattle.bike_operator.specs.Operator.{Operator, Key, DockKey, numbered}
 use Rattle.bike_operator.specs.Counts.{docks_available, docks_broken, available_of}
-use Rattle.bike_operator.specs.Sound.{IsSound, IsBooking, IsSetSystem, fares_of, fares_in}
+use Rattle.bike_operator.specs.Sound.{IsSound, IsPlace, IsBooking, IsSetSystem, fares_of, fares_in}
 use Rattle.bike_counts.specs.Numbers.{disabled_of}
 use Rattle.bike_places.proofs.ItemLemmas.{number_within}
 use Rattle.bike_book.specs.declared.version.TheConstants.{NEWEST}
@@ -35,8 +37,10 @@ use Rattle.bike_readings.specs.Readings.{meta_read, system_read, plan_read, segm
 use Rattle.bike_readings.proofs.CatalogueRows.{system_reading, segment_reading}
 use Rattle.bike_readings.specs.Bounds.{IsStoredSegment}
 use Rattle.bike_readings.proofs.SoundBounds.{segment_stored}
-use Rattle.bike_rules.specs.Demands.{IsGoodMeta, IsGoodPlan, IsGoodSegment, IsGoodType, IsGoodStation, IsGoodDock, IsGoodBike, IsGoodTruck, IsGoodRider, IsGoodRental, IsGoodOrder, IsGoodEntry, IsGoodKept, IsGoodCount, HasFare, IsOneFare}
+use Rattle.bike_rules.specs.Demands.{IsGoodMeta, IsGoodPlan, IsGoodSegment, IsGoodType, IsGoodStation, IsGoodDock, IsGoodPlace, IsGoodBike, IsGoodTruck, IsGoodRider, IsGoodRental, IsGoodOrder, IsGoodEntry, IsGoodKept, IsGoodCount, HasFare, IsOneFare}
+use Rattle.bike_rules.specs.ReadOff.{rental_in}
 use Rattle.bike_rules.specs.Rules.{HasNone}
+use Rattle.bike_rules.proofs.ByNumber.{at_number}
 use Rattle.bike_rules.proofs.Places.{lesser, lesser_fewer, lesser_numbered, has_under}
 use Rattle.bike_rules.proofs.ReadBack.{has_numbered}
 use Rattle.bike_rules.proofs.Segments.{row_among}
@@ -153,6 +157,20 @@ module _ (s : Operator) (m : Listed) (sound : IsSound s) (listing : IsListing s 
         fare = fare_good n e below found number e.kind refl it.booking;
       })
 
+  -- ---- bicycles
+
+  -- where a bicycle is, by the rows of rentals and orders
+  place_good : (bike : ℕ) (type_id : List ℕ) (p : Place) → IsPlace s bike type_id p → IsGoodPlace (tables_for s m) s bike type_id p
+  place_good bike type_id (place.Dock station dock) it = it
+  place_good bike type_id (place.Rental rental) it =
+      let back = λ (n : ℕ) (r : Rental) (is : numbered n s.rentals ≡ Some r). ap (option_map (λ (e : ℕ × Rental × ℤ). (e.0, e.1))) (rental_is s m sound listing n r is) in
+      let same = at_number (stored_rental s.entries) (λ e. refl) rental_in (tables_for s m).rentals s.rentals refl back rental in
+      record { row = it.row; found = same ∙ it.found; not_closed = it.not_closed; bike_is = it.bike_is }
+  place_good bike type_id (place.Truck truck order) it =
+      let same = at_number stored_order (λ e. refl) order_read (tables_for s m).orders s.orders refl (order_is s m sound listing) order in
+      record { row = it.row; found = same ∙ it.found; not_closed = it.not_closed; truck_is = it.truck_is; type_is = it.type_is }
+  place_good bike type_id place.Depot it = tt
+
   -- ---- docks and counts
 
   dock_good : (key : DockKey) (v : Unit {0}) (below : ℕ) → fin.get m.docks key ≡ Some v → IsSomeAnd (dock_read (stored_dock s.broken (key, v))) (IsGoodDock s below)
@@ -189,11 +207,16 @@ module _ (s : Operator) (m : Listed) (sound : IsSound s) (listing : IsListing s 
       (record { room = omega (arith, low, few); good = sound.catalogue.stations k v found; free_is = refl; broken_is = refl })) row has
   all_rows_good Docks row has = map_good docks (stored_dock s.broken) dock_read (IsGoodDock s) m.docks (λ k v below found low. dock_good k v below found) row has
   all_rows_good Bikes row has =
-      map_good numbers stored_bike bike_read (IsGoodBike s) s.bikes (λ k v below found low.
+      map_good numbers stored_bike bike_read (IsGoodBike (tables_for s m) s) s.bikes (λ k v below found low.
       let few = sound.bikes.few in
-      some_and (IsGoodBike s below) (bike_read (stored_bike (k, v))) (k, v) (bike_is s m sound listing k v found) (record {
+      let it = sound.bikes.bikes k v found in
+      some_and (IsGoodBike (tables_for s m) s below) (bike_read (stored_bike (k, v))) (k, v) (bike_is s m sound listing k v found) (record {
         room = omega (arith, low, few);
-        good = sound.bikes.bikes k v found;
+        low = it.low;
+        high = it.high;
+        type_is = it.type_is;
+        placed = place_good k v.type_id v.place it.placed;
+        retired = it.retired;
         alone = λ other x station dock less there p q. let same = sound.bikes.apart other k x v station dock there found p q in omega (arith, less, same);
       })) row has
   all_rows_good Trucks row has =

@@ -1,4 +1,5 @@
 pub mod ReadLists
+pub mod ByNumber
 pub mod Places
 pub mod ReadBack
 pub mod Segments

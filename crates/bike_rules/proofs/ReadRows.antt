@@ -1,6 +1,7 @@
 -- What good rows spell: the rows of a map, of a numbered list, and the one row of meta and of system.
 use Rattle.std.proofs.Common.{◌≡◌, inl, inr, ℕ, ℤ, suc, ◌+◌, ◌≤◌, List, [], ◌∷◌, length, map, Option, Some, None, refl, sym, ap, ◌∙◌, subst, arith}
 use Rattle.std.specs.Prelude.{option_map, take, unwrap_or}
+use Rattle.std.proofs.lemmas.Option.{same_Some}
 use Rattle.std.specs.Option.{IsSomeAnd}
 use Rattle.std.specs.List.{filter_map, cons_option}
 use Rattle.std.specs.declared.cmp.Ordering.{Ordering}
@@ -70,6 +71,7 @@ module _ {A : Type 0} (row : ℕ × A → Row) (read : Row → Option (ℕ × A)
     pub rows_are : rows ≡ map row (with_numbers xs)
     pub found : (n : ℕ) (x : A) → numbered n xs ≡ Some x → IsRead read rows (n, x)
     pub length_is : length xs ≡ length rows
+    pub back : (n : ℕ) (x : A) → numbered n xs ≡ Some x → read (row (n, x)) ≡ Some (n, x)
 
   pub read_list : Rises (by_key_total 1) rows → ((r : Row) → Has rows r → IsStored read row r) → ((r : Row) → Has rows r → (x : A) × (read r ≡ Some (lesser 1 (take 1 r) rows + 1, x)))
       → AreRowsOfList (map (λ e. e.1) (filter_map read rows))
@@ -80,6 +82,11 @@ module _ {A : Type 0} (row : ℕ × A → Row) (read : Row → Option (ℕ × A)
         rows_are = sym same ∙ ap (map row) listed;
         found = λ n x is. read_of read rows (n, x) (subst (λ (es : List (ℕ × A)). Has es (n, x)) (sym listed) (numbered_has (map (λ e. e.1) (filter_map read rows)) n x is));
         length_is = mapped_length (filter_map read rows) ∙ sym (same_length row (filter_map read rows)) ∙ ap (λ (rs : List Row). length rs) same;
+        back = λ n x is.
+            let at = read_of read rows (n, x) (subst (λ (es : List (ℕ × A)). Has es (n, x)) (sym listed) (numbered_has (map (λ e. e.1) (filter_map read rows)) n x is)) in
+            let it = stored at.item at.has in
+            let value = same_Some it.value (n, x) (sym it.read_is ∙ at.read_is) in
+            ap read (ap row (sym value) ∙ sym it.store_is) ∙ at.read_is;
       }
     where
       mapped_length : (es : List (ℕ × A)) → length (map (λ e. e.1) es) ≡ length es

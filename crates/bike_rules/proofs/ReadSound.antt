@@ -17,6 +17,7 @@ use Rattle.bike_ledger.specs.Entries.{Entry}
 use Rattle.bike_ledger.specs.declared.entry.EntryKind.{EntryKind}
 use Rattle.bike_ledger.specs.declared.entry.EntryKind.TheVariants.{TopUp, Fare, Refund}
 use Rattle.bike_operator.specs.declared.limits.TheConstants.{MOST_PLANS, MOST_TYPES, MOST_STATIONS, MOST_BIKES, MOST_TRUCKS, MOST_RIDERS, MOST_ORDERS, MOST_ENTRIES}
+use Rattle.bike_operator.specs.declared.records.Place.{Place}
 use Rattle.bike_operator.specs.declared.records.Place.TheVariants as place
 use Rattle.bike_operator.specs.declared.records.Bike.{Bike}
 use Rattle.bike_operator.specs.declared.records.Rental.{Rental}
@@ -24,19 +25,20 @@ use Rattle.bike_operator.specs.declared.records.Closing.{Closing}
 use Rattle.bike_operator.specs.declared.records.Order.{Order}
 use Rattle.bike_operator.specs.Operator.{Operator, Station, Truck, Rider, Kept, Key, DockKey, dock_key, key_of, numbered}
 use Rattle.bike_operator.specs.Counts.{is_open, open_rentals}
-use Rattle.bike_operator.specs.Sound.{IsSound, IsCatalogueSound, AreBikesSound, AreOrdersSound, AreRentalsSound, IsLedgerSound, IsTypeAt, IsStationAt, HasDock, IsBrokenDock, IsTruckAt, IsOrderAt, IsRentalAt, IsRiderNumber, IsEntryAt, IsKept as IsKeptAt, fares_of, fares_in}
+use Rattle.bike_operator.specs.Sound.{IsSound, IsCatalogueSound, AreBikesSound, AreOrdersSound, AreRentalsSound, IsLedgerSound, IsTypeAt, IsStationAt, HasDock, IsBrokenDock, IsBikeAt, IsPlace, IsTruckAt, IsOrderAt, IsRentalAt, IsRiderNumber, IsEntryAt, IsKept as IsKeptAt, fares_of, fares_in}
 use Rattle.bike_places.proofs.MapLemmas.{there_of}
 use Rattle.bike_book.specs.Tables.{TableName, Tables, keys_of, Meta, Plans, Types, Stations, Docks, Bikes, Trucks, Riders, Rentals, Orders, Entries, Kept as KeptTable, Counts}
 use Rattle.bike_book.specs.Rows.{number_value}
-use Rattle.bike_book.specs.Stored.{IsListing, IsDockKey, IsCountKey, tables_for, stored_plan, stored_type, stored_station, stored_bike, stored_truck, stored_rider, stored_count}
+use Rattle.bike_book.specs.Stored.{IsListing, IsDockKey, IsCountKey, tables_for, stored_plan, stored_type, stored_station, stored_bike, stored_truck, stored_rider, stored_rental, stored_order, stored_count}
 use Rattle.bike_book.proofs.MapRows.{found_entries, has_get}
 use Rattle.bike_book.proofs.Keys.{numbers, texts, pairs, docks, IsPair}
 use Rattle.bike_readings.specs.Readings.{type_read, station_read, dock_read, bike_read, truck_read, rider_read, rental_read, order_read, entry_read, kept_read, count_read, plan_read}
 use Rattle.bike_readings.proofs.LedgerRows.{rental_reading}
-use Rattle.bike_rules.specs.ReadOff.{plan_in, station_in, rider_in, dock_in, operator_of, listed_of, first_of, misplaced_bike, bike_in}
-use Rattle.bike_rules.specs.Demands.{IsGoodPlan, IsGoodType, IsGoodStation, IsGoodDock, IsGoodBike, IsGoodTruck, IsGoodRider, IsGoodRental, IsGoodOrder, IsGoodEntry, IsGoodKept, IsGoodCount, IsRiding, HasFare, IsFareOf, IsFirstFare, IsOneFare}
+use Rattle.bike_rules.specs.ReadOff.{plan_in, station_in, rider_in, rental_in, dock_in, operator_of, listed_of, first_of, misplaced_bike, bike_in}
+use Rattle.bike_rules.specs.Demands.{IsGoodPlan, IsGoodType, IsGoodStation, IsGoodDock, IsGoodPlace, IsGoodBike, IsGoodTruck, IsGoodRider, IsGoodRental, IsGoodOrder, IsGoodEntry, IsGoodKept, IsGoodCount, IsRiding, HasFare, IsFareOf, IsFirstFare, IsOneFare}
 use Rattle.bike_rules.specs.Rules.{AreInOrder, rows_below, HasNone, AreOf}
 use Rattle.bike_rules.proofs.ReadLists.{has_read}
+use Rattle.bike_rules.proofs.ByNumber.{at_number}
 use Rattle.bike_rules.proofs.Places.{within}
 use Rattle.bike_rules.proofs.Broken.{broken_has}
 use Rattle.bike_rules.proofs.Fares.{counted, is_fare_of, fare_parts, no_fares, one_fare, rentals_few}
@@ -68,13 +70,13 @@ module _ (t : Tables) (up : AreInOrder t) (rows : AreGoodRows (operator_of t) t)
   dock_fact : (r : Row) (station : List ℕ) (dock : ℕ) (b : Bool) → Has t.docks r → dock_read r ≡ Some (station, dock, b) → HasDock s station dock
   dock_fact r station dock b has is = some_is (IsGoodDock s (below_of Docks r)) (dock_read r) (station, dock, b) (rows Docks r has) is
 
-  bike_fact : (n : ℕ) (b : Bike) → fin.get s.bikes n ≡ Some b → (below : ℕ) × IsGoodBike s below (n, b)
+  bike_fact : (n : ℕ) (b : Bike) → fin.get s.bikes n ≡ Some b → (below : ℕ) × IsGoodBike t s below (n, b)
   bike_fact n b found =
       let at = (bikes_table t up rows).found n b found in
       let below = below_of Bikes at.item in
-      let it = some_with (IsGoodBike s below) (bike_read at.item) (rows Bikes at.item at.has) in
+      let it = some_with (IsGoodBike t s below) (bike_read at.item) (rows Bikes at.item at.has) in
       let read : bike_in at.item ≡ Some it.value = ap (λ (o : Option (ℕ × Bike)). first_of o (misplaced_bike at.item)) it.value_is in
-      (below, subst (IsGoodBike s below) (same_Some it.value (n, b) (sym read ∙ at.read_is)) it.fact)
+      (below, subst (IsGoodBike t s below) (same_Some it.value (n, b) (sym read ∙ at.read_is)) it.fact)
 
   truck_fact : (n : ℕ) (x : Truck) → fin.get s.trucks n ≡ Some x → IsTruckAt s n x
   truck_fact n x found =
@@ -159,11 +161,29 @@ module _ (t : Tables) (up : AreInOrder t) (rows : AreGoodRows (operator_of t) t)
     go Equal e = ranked a b Equal e
     go Greater e = absurd ((bike_fact a x fx).1.alone b y station dock (ranked a b Greater e) fy py px)
 
+  -- where a bicycle is, by the lists of rentals and orders
+  placed_at : (bike : ℕ) (type_id : List ℕ) (p : Place) → IsGoodPlace t s bike type_id p → IsPlace s bike type_id p
+  placed_at bike type_id (place.Dock station dock) it = it
+  placed_at bike type_id (place.Rental rental) it =
+      let rentals = rentals_table t up rows in
+      let same = at_number (stored_rental s.entries) (λ e. refl) rental_in t.rentals s.rentals rentals.rows_are rentals.back rental in
+      record { row = it.row; found = sym same ∙ it.found; not_closed = it.not_closed; bike_is = it.bike_is }
+  placed_at bike type_id (place.Truck truck order) it =
+      let orders = orders_table t up rows in
+      let same = at_number stored_order (λ e. refl) order_read t.orders s.orders orders.rows_are orders.back order in
+      record { row = it.row; found = sym same ∙ it.found; not_closed = it.not_closed; truck_is = it.truck_is; type_is = it.type_is }
+  placed_at bike type_id place.Depot it = tt
+
+  bike_at : (n : ℕ) (b : Bike) → fin.get s.bikes n ≡ Some b → IsBikeAt s n b
+  bike_at n b found =
+      let it = (bike_fact n b found).1 in
+      record { low = it.low; high = it.high; type_is = it.type_is; placed = placed_at n b.type_id b.place it.placed; retired = it.retired }
+
   pub bikes_sound : AreBikesSound s
   bikes_sound =
       let bikes = few_in numbers stored_bike (λ e. refl) bike_in t.bikes s.bikes (bikes_table t up rows) in
-      let most = within 1 t.bikes MOST_BIKES (up Bikes) (λ r has. (some_with (IsGoodBike s (below_of Bikes r)) (bike_read r) (rows Bikes r has)).fact.room) in
-      record { bikes = λ n b found. (bike_fact n b found).1.good; apart = one_bike; few = omega (arith, bikes, most) }
+      let most = within 1 t.bikes MOST_BIKES (up Bikes) (λ r has. (some_with (IsGoodBike t s (below_of Bikes r)) (bike_read r) (rows Bikes r has)).fact.room) in
+      record { bikes = bike_at; apart = one_bike; few = omega (arith, bikes, most) }
 
   pub orders_sound : AreOrdersSound s
   orders_sound =

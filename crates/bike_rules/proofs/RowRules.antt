@@ -47,25 +47,25 @@ some_is {A} Fact o x h is = subst (λ (q : Option A). IsSomeAnd q Fact) is h
 
 module _ (s : Operator) (t : Tables) where
   abbrev pub AreGoodRows : Type 0
-  AreGoodRows = (name : TableName) (row : Row) → Has (rows_in t name) row → IsGoodRow s (rows_below t name (take (keys_of name) row)) name row
+  AreGoodRows = (name : TableName) (row : Row) → Has (rows_in t name) row → IsGoodRow t s (rows_below t name (take (keys_of name) row)) name row
 
   abbrev pub LacksNone : Type 0
   LacksNone = (name : TableName) (key : Row) → row_under t name key ≡ None → MayLack s name key
 
   abbrev pub AreGoodKeys : Type 0
-  AreGoodKeys = (name : TableName) (key : Row) → IsGoodAt s name key (rows_below t name key) (row_under t name key)
+  AreGoodKeys = (name : TableName) (key : Row) → IsGoodAt t s name key (rows_below t name key) (row_under t name key)
 
   pub keys_good : AreGoodRows → LacksNone → AreGoodKeys
   keys_good rows lacks name key = go (row_under t name key) refl where
-    go : (o : Option Row) → row_under t name key ≡ o → IsGoodAt s name key (rows_below t name key) o
+    go : (o : Option Row) → row_under t name key ≡ o → IsGoodAt t s name key (rows_below t name key) o
     go None e = lacks name key e
     go (Some r) e =
         let there = under_has (keys_of name) key (rows_in t name) r e in
-        subst (λ (n : ℕ). IsGoodRow s n name r) (below_tied (keys_of name) (take (keys_of name) r) key there.1 (rows_in t name)) (rows name r there.0)
+        subst (λ (n : ℕ). IsGoodRow t s n name r) (below_tied (keys_of name) (take (keys_of name) r) key there.1 (rows_in t name)) (rows name r there.0)
 
   pub rows_good : AreInOrder t → AreGoodKeys → AreGoodRows
   rows_good up all name row has =
-      subst (IsGoodAt s name (take (keys_of name) row) (rows_below t name (take (keys_of name) row))) (has_under (keys_of name) (rows_in t name) row (up name) has) (all name (take (keys_of name) row))
+      subst (IsGoodAt t s name (take (keys_of name) row) (rows_below t name (take (keys_of name) row))) (has_under (keys_of name) (rows_in t name) row (up name) has) (all name (take (keys_of name) row))
 
   pub lacks_none : AreGoodKeys → LacksNone
-  lacks_none all name key none = subst (IsGoodAt s name key (rows_below t name key)) none (all name key)
+  lacks_none all name key none = subst (IsGoodAt t s name key (rows_below t name key)) none (all name key)

@@ -126,7 +126,7 @@ module _ (t : Tables) (up : AreInOrder t) (rows : AreGoodRows (operator_of t) t)
   -- the bicycle of a good row is the one that it spells
   good_bike : (r : Row) → Has t.bikes r → IsStored bike_in stored_bike r
   good_bike r has =
-      let it = stored_plain bike_reading (IsGoodBike s (below_of Bikes r)) r (rows Bikes r has) in
+      let it = stored_plain bike_reading (IsGoodBike t s (below_of Bikes r)) r (rows Bikes r has) in
       record { value = it.value; read_is = ap (λ (o : Option (ℕ × Bike)). first_of o (misplaced_bike r)) it.read_is; store_is = it.store_is }
 
   pub bikes_table : AreRowsOf numbers stored_bike (λ e. refl) bike_in t.bikes s.bikes

@@ -24,16 +24,19 @@ use Rattle.bike_ledger.specs.declared.entry.EntryKind.{EntryKind}
 use Rattle.bike_ledger.specs.declared.entry.EntryKind.TheVariants.{TopUp, Fare, Refund}
 use Rattle.bike_ledger.specs.Ledger.{balance_of, cash_of, revenue_of, refunded_of}
 use Rattle.bike_operator.specs.declared.limits.TheConstants.{MOST_PLANS, MOST_TYPES, MOST_STATIONS, MOST_BIKES, MOST_TRUCKS, MOST_RIDERS, MOST_ORDERS, MOST_ENTRIES}
+use Rattle.bike_operator.specs.declared.records.Place.{Place}
 use Rattle.bike_operator.specs.declared.records.Place.TheVariants as place
 use Rattle.bike_operator.specs.declared.records.Bike.{Bike}
 use Rattle.bike_operator.specs.declared.records.Rental.{Rental}
 use Rattle.bike_operator.specs.declared.records.Closing.{Closing}
 use Rattle.bike_operator.specs.declared.records.Order.{Order}
 use Rattle.bike_operator.specs.Operator.{Operator, Station, Truck, Rider, Kept, Key, numbered}
-use Rattle.bike_operator.specs.Counts.{is_open, open_rentals, docks_available, docks_broken, available_of}
-use Rattle.bike_operator.specs.Sound.{IsTypeAt, IsStationAt, HasDock, IsBikeAt, IsTruckAt, IsOrderAt, IsOpenOrClosed, most_refunded, fares_of, IsRiderNumber, IsEntryAt, IsKept}
+use Rattle.bike_operator.specs.Counts.{is_open, is_retired, open_rentals, docks_available, docks_broken, available_of}
+use Rattle.bike_operator.specs.Sound.{IsTypeAt, IsStationAt, HasDock, IsTruckAt, IsOrderAt, IsOpenOrClosed, most_refunded, fares_of, IsRiderNumber, IsEntryAt, IsKept}
 use Rattle.bike_counts.specs.Numbers.{disabled_of}
 use Rattle.bike_book.specs.declared.version.TheConstants.{NEWEST}
+use Rattle.bike_book.specs.Tables.{Tables}
+use Rattle.bike_rules.specs.ReadOff.{rental_at, order_at}
 
 module _ (s : Operator) where
   -- no bicycle of a lesser number is in this one's dock
@@ -73,6 +76,38 @@ module _ (s : Operator) where
   IsOneFare e Fare = IsFareOf e.rental e.amount × IsFirstFare e.number e.rental
   IsOneFare e Refund = Unit {0}
 
+-- Where a bicycle says that it is, by the rows with those numbers: numbering without gaps is demanded of rentals and orders themselves.
+module _ (t : Tables) (s : Operator) where
+  -- the open rental of this bicycle
+  pub record IsInRental (bike rental : ℕ) : Type 0 where
+    pub row : Rental
+    pub found : rental_at t rental ≡ Some row
+    pub not_closed : is_open row ≡ true
+    pub bike_is : row.bike ≡ bike
+
+  -- an open order of this truck, and of the bicycle's type
+  pub record IsForOrder (type_id : List ℕ) (truck order : ℕ) : Type 0 where
+    pub row : Order
+    pub found : order_at t order ≡ Some row
+    pub not_closed : row.is_open ≡ true
+    pub truck_is : row.truck ≡ truck
+    pub type_is : row.type_id ≡ type_id
+
+  abbrev pub IsGoodPlace : ℕ → List ℕ → Place → Type 0
+  IsGoodPlace bike type_id (place.Dock station dock) = HasDock s station dock
+  IsGoodPlace bike type_id (place.Rental rental) = IsInRental bike rental
+  IsGoodPlace bike type_id (place.Truck truck order) = IsForOrder type_id truck order
+  IsGoodPlace bike type_id place.Depot = Unit {0}
+
+  pub record IsGoodBike (below : ℕ) (e : ℕ × Bike) : Type 0 where
+    pub room : below < MOST_BIKES
+    pub low : 1 ≤ e.0
+    pub high : e.0 ≤ 999999
+    pub type_is : fin.contains_key s.types e.1.type_id ≡ true
+    pub placed : IsGoodPlace e.0 e.1.type_id e.1.place
+    pub retired : is_retired e.1.state ≡ true → e.1.place ≡ place.Depot
+    pub alone : IsAloneInDock s e.0 e.1
+
 module _ (s : Operator) (below : ℕ) where
   -- ---- the system and the catalogue
 
@@ -104,12 +139,7 @@ module _ (s : Operator) (below : ℕ) where
   abbrev pub IsGoodDock : List ℕ × ℕ × Bool → Type 0
   IsGoodDock e = HasDock s e.0 e.1
 
-  -- ---- bicycles, trucks and riders
-
-  pub record IsGoodBike (e : ℕ × Bike) : Type 0 where
-    pub room : below < MOST_BIKES
-    pub good : IsBikeAt s e.0 e.1
-    pub alone : IsAloneInDock s e.0 e.1
+  -- ---- trucks and riders
 
   pub record IsGoodTruck (e : ℕ × Truck) : Type 0 where
     pub room : below < MOST_TRUCKS

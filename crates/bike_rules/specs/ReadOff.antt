@@ -13,6 +13,7 @@ use Rattle.bike_operator.specs.declared.records.Place.{Place}
 use Rattle.bike_operator.specs.declared.records.Place.TheVariants as place
 use Rattle.bike_operator.specs.declared.records.Bike.{Bike}
 use Rattle.bike_operator.specs.declared.records.Rental.{Rental}
+use Rattle.bike_operator.specs.declared.records.Order.{Order}
 use Rattle.bike_operator.specs.Operator.{Operator, Station, Rider, Key, DockKey, key_of, dock_key}
 use Rattle.bike_rows.specs.View.{row_with}
 use Rattle.bike_book.specs.Tables.{Tables}
@@ -92,6 +93,15 @@ misplaced_bike row = where_wide 8 row (do
 -- A row that names several places is bad, yet its bicycle is there, at the first of them: no other row that counts it is to blame.
 abbrev pub bike_in : Row → Option (ℕ × Bike)
 bike_in row = first_of (bike_read row) (misplaced_bike row)
+
+-- ---- rentals and orders by their keys
+
+-- the rental, and the order, that the row with this number spells, whatever rows stand before it
+abbrev pub rental_at : Tables → ℕ → Option Rental
+rental_at t n = option_map (λ e. e.1) (option_and_then rental_in (row_with 1 (number_value n ∷ []) t.rentals))
+
+abbrev pub order_at : Tables → ℕ → Option Order
+order_at t n = option_map (λ e. e.1) (option_and_then order_read (row_with 1 (number_value n ∷ []) t.orders))
 
 -- ---- docks and counts
 

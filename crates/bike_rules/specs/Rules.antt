@@ -33,22 +33,22 @@ rows_below t name key = count (λ row. is_lt (row_cmp (take (keys_of name) row) 
 -- ---- good keys
 
 -- The row spells a record of which the demands of its table hold. A row of system is good where it spells one.
-abbrev pub IsGoodRow : Operator → ℕ → TableName → Row → Type 0
-IsGoodRow s below Meta row = IsSomeAnd (meta_read row) (IsGoodMeta s below)
-IsGoodRow s below System row = IsSomeAnd (system_read row) (λ x. Unit {0})
-IsGoodRow s below Plans row = IsSomeAnd (plan_read row) (IsGoodPlan s below)
-IsGoodRow s below Segments row = IsSomeAnd (segment_read row) (IsGoodSegment s below)
-IsGoodRow s below Types row = IsSomeAnd (type_read row) (IsGoodType s below)
-IsGoodRow s below Stations row = IsSomeAnd (station_read row) (IsGoodStation s below)
-IsGoodRow s below Docks row = IsSomeAnd (dock_read row) (IsGoodDock s below)
-IsGoodRow s below Bikes row = IsSomeAnd (bike_read row) (IsGoodBike s below)
-IsGoodRow s below Trucks row = IsSomeAnd (truck_read row) (IsGoodTruck s below)
-IsGoodRow s below Riders row = IsSomeAnd (rider_read row) (IsGoodRider s below)
-IsGoodRow s below Rentals row = IsSomeAnd (rental_read row) (IsGoodRental s below)
-IsGoodRow s below Orders row = IsSomeAnd (order_read row) (IsGoodOrder s below)
-IsGoodRow s below Entries row = IsSomeAnd (entry_read row) (IsGoodEntry s below)
-IsGoodRow s below Kept row = IsSomeAnd (kept_read row) (IsGoodKept s below)
-IsGoodRow s below Counts row = IsSomeAnd (count_read row) (IsGoodCount s below)
+abbrev pub IsGoodRow : Tables → Operator → ℕ → TableName → Row → Type 0
+IsGoodRow t s below Meta row = IsSomeAnd (meta_read row) (IsGoodMeta s below)
+IsGoodRow t s below System row = IsSomeAnd (system_read row) (λ x. Unit {0})
+IsGoodRow t s below Plans row = IsSomeAnd (plan_read row) (IsGoodPlan s below)
+IsGoodRow t s below Segments row = IsSomeAnd (segment_read row) (IsGoodSegment s below)
+IsGoodRow t s below Types row = IsSomeAnd (type_read row) (IsGoodType s below)
+IsGoodRow t s below Stations row = IsSomeAnd (station_read row) (IsGoodStation s below)
+IsGoodRow t s below Docks row = IsSomeAnd (dock_read row) (IsGoodDock s below)
+IsGoodRow t s below Bikes row = IsSomeAnd (bike_read row) (IsGoodBike t s below)
+IsGoodRow t s below Trucks row = IsSomeAnd (truck_read row) (IsGoodTruck s below)
+IsGoodRow t s below Riders row = IsSomeAnd (rider_read row) (IsGoodRider s below)
+IsGoodRow t s below Rentals row = IsSomeAnd (rental_read row) (IsGoodRental s below)
+IsGoodRow t s below Orders row = IsSomeAnd (order_read row) (IsGoodOrder s below)
+IsGoodRow t s below Entries row = IsSomeAnd (entry_read row) (IsGoodEntry s below)
+IsGoodRow t s below Kept row = IsSomeAnd (kept_read row) (IsGoodKept s below)
+IsGoodRow t s below Counts row = IsSomeAnd (count_read row) (IsGoodCount s below)
 
 -- the station has no bicycle of the type
 abbrev pub HasNone : Operator → List ℕ → List ℕ → Type 0
@@ -60,13 +60,13 @@ MayLack s Meta key = key ≡ number_value 1 ∷ [] → ⊥
 MayLack s Counts key = (station type_id : List ℕ) → key ≡ Text station ∷ Text type_id ∷ [] → HasNone s station type_id
 MayLack s _ key = Unit {0}
 
-abbrev pub IsGoodAt : Operator → TableName → Row → ℕ → Option Row → Type 0
-IsGoodAt s name key below None = MayLack s name key
-IsGoodAt s name key below (Some row) = IsGoodRow s below name row
+abbrev pub IsGoodAt : Tables → Operator → TableName → Row → ℕ → Option Row → Type 0
+IsGoodAt t s name key below None = MayLack s name key
+IsGoodAt t s name key below (Some row) = IsGoodRow t s below name row
 
 -- A KEY OF A TABLE IS GOOD.
 abbrev pub IsGoodKey : Tables → TableName → Row → Type 0
-IsGoodKey t name key = IsGoodAt (operator_of t) name key (rows_below t name key) (row_under t name key)
+IsGoodKey t name key = IsGoodAt t (operator_of t) name key (rows_below t name key) (row_under t name key)
 
 abbrev pub AllGood : Tables → Type 0
 AllGood t = (name : TableName) (key : Row) → IsGoodKey t name key

@@ -1,14 +1,15 @@
 use Rattle.std.proofs.Common.{Some, ap, sym, ◌∙◌}
 use Rattle.sqlite_value.specs.Value.{owned}
+use Rattle.bike_schema.specs.Columns.{text_in}
 use Rattle.bike_readings.proofs.ReadLemmas.{text_there, text_missing}
 use Rattle.bike_readings.proofs.columns.text_in.Goals as goal
 
 pub returns-in-Ok : goal.returns-in-Ok
 returns-in-Ok c =
     let there = ap owned (sym c.in-Ok-Text.field-0-is) ∙ c.in-Ok-Text.ensures.ok.1 in
-    ap Some c.in-Ok.ensures.cases.0 ∙ sym (text_there _ c.in-Ok-Text.bytes.now there c.in-Ok.ensures.cases.1)
+    ap Some c.in-Ok.ensures.cases.0 ∙ sym (text_there _ c.in-Ok-Text.bytes.now there c.in-Ok.ensures.cases.1) ∙ ap text_in c.column-at.ensures
 
 pub returns-in-Err : goal.returns-in-Err
 returns-in-Err c =
     let there = ap owned (sym c.in-Ok-Text.field-0-is) ∙ c.in-Ok-Text.ensures.ok.1 in
-    sym (text_missing _ c.in-Ok-Text.bytes.now there c.in-Err.ensures.cases.0)
+    sym (text_missing _ c.in-Ok-Text.bytes.now there c.in-Err.ensures.cases.0) ∙ ap text_in c.column-at.ensures
