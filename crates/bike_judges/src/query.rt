@@ -1,0 +1,58 @@
+//! The queries of the audit by name.
+
+/// A query of the audit; `lines_of` in `specs/Lines` gives its lines, in their order.
+#[derive(Clone, Copy, Debug, PartialEq, Eq)]
+pub enum Query {
+    /// The rows of `meta`.
+    Meta,
+    /// The rows of `system`.
+    System,
+    /// The rows of `plans`.
+    Plans,
+    /// Segments, each with its plan.
+    Segments,
+    /// Vehicle types, each with its default plan.
+    Types,
+    /// The rows of `stations`.
+    StationRows,
+    /// Stations with their docks and the bicycles there.
+    Stations,
+    /// Docks, each with its station.
+    Docks,
+    /// Bicycles, each with its type and its station.
+    BikeNames,
+    /// Bicycles, each with its rental and its order.
+    BikeUses,
+    /// Docks with the bicycles in them.
+    BikeDocks,
+    /// Trucks with the bicycles on them.
+    Trucks,
+    /// Riders with their rentals and entries.
+    Riders,
+    /// The rows of `rentals`.
+    Rentals,
+    /// Rentals, each with its rider and its bicycle.
+    RentalNames,
+    /// Rentals, each with its plan and the station at which it began.
+    RentalStarts,
+    /// Rentals, each with the station at which it ended.
+    RentalEnds,
+    /// Rentals with their entries.
+    RentalEntries,
+    /// Orders, each with its truck and its vehicle type.
+    OrderNames,
+    /// Orders, each with the stations at its ends.
+    OrderEnds,
+    /// Orders with the bicycles on trucks for them.
+    OrderBikes,
+    /// The rows of `entries`.
+    Entries,
+    /// Entries, each with its rider and its rental.
+    EntryNames,
+    /// The rows of `kept`.
+    Kept,
+    /// Counts, each with its station and its type.
+    CountNames,
+    /// The docks of stations, and by types the stations' counts with the bicycles there.
+    Counts,
+}

@@ -1,0 +1,9 @@
+mod ShowLemmas
+mod Forms
+mod TieLemmas
+mod SelfJoinLaw
+mod RowTexts
+mod JoinTexts
+mod TwoJoinTexts
+mod UnionTexts
+mod UnionOfThreeTexts

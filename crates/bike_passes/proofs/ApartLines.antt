@@ -1,0 +1,154 @@
+-- No two lines of the tables that mix tie: those of one table have keys apart, and those of two tables have two places.
+use Rattle.std.proofs.Common.{◌≡◌, inl, inr, ℕ, ◌<◌, ◌≤◌, List, [], ◌∷◌, ◌++◌, length, map, pos, false, refl, sym, ap, ap₂, subst, ◌∙◌, arith}
+use Rattle.std.specs.Prelude.{take}
+use Rattle.std.specs.Cmp.{ranked}
+use Rattle.std.specs.List.{IsDistinct}
+use Rattle.std.specs.Ordering.{eq_by_cmp, is_eq, ordering_then}
+use Rattle.std.specs.declared.cmp.Ordering.{Ordering}
+use Rattle.std.specs.declared.cmp.Ordering.TheVariants.{Less, Equal, Greater}
+use Rattle.sqlite_value.specs.declared.value.Value.{Value}
+use Rattle.sqlite_value.specs.declared.value.Value.TheVariants.{Int}
+use Rattle.sqlite_value.specs.Order.{Row, column, value_cmp, row_cmp}
+use Rattle.sqlite_value.proofs.KeyLemmas.{then_tied}
+use Rattle.sqlite_rules.specs.Lists.{Has}
+use Rattle.bike_rows.specs.View.{by_key}
+use Rattle.bike_rows.proofs.LineLemmas.{apart_append, has_append}
+use Rattle.bike_rows.proofs.ListLemmas.{map_has}
+use Rattle.bike_rows.proofs.OrderLemmas.{Rises, all_has, all_from}
+use Rattle.bike_rows.proofs.SortLemmas.{AreApartAll}
+use Rattle.bike_rows.proofs.TreeLemmas.{by_key_total}
+use Rattle.bike_book.proofs.Keys.{value_cmp-number_value}
+use Rattle.bike_book.specs.Tables.{TableName, Tables, rows_in, keys_of, Stations, Docks, Bikes, Trucks, Riders, Rentals, Orders, Entries}
+use Rattle.bike_rules.specs.Rules.{AreInOrder}
+use Rattle.bike_judges.specs.Lines.{line, station_line, station_dock_line, station_bike_line, truck_line, truck_bike_line, rider_line, rider_rental_line, rider_entry_line, rental_line, rental_entry_line, order_line, order_bike_line}
+
+-- Each row has the columns of its key.
+abbrev pub AreWhole : Tables → Type 0
+AreWhole t = (name : TableName) (row : Row) → Has (rows_in t name) row → keys_of name ≤ length row
+
+pub first_column : (row : Row) → 1 ≤ length row → take 1 row ≡ column row 0 ∷ []
+first_column [] wide = absurd (omega (arith, wide))
+first_column (x ∷ row) wide = refl
+
+first_columns : (row : Row) → 2 ≤ length row → take 2 row ≡ column row 0 ∷ column row 1 ∷ []
+first_columns [] wide = absurd (omega (arith, wide))
+first_columns (x ∷ []) wide = absurd (omega (arith, wide))
+first_columns (x ∷ y ∷ row) wide = refl
+
+-- ---- one table
+
+-- the lines of rows that rise, where two lines tie only if their rows do
+shown_apart : (show : Row → Row) (keys : ℕ) (rows : List Row) → Rises (by_key_total keys) rows → ((r s : Row) → Has rows r → Has rows s → by_key 3 (show r) (show s) ≡ Equal → by_key keys r s ≡ Equal)
+    → AreApartAll (by_key_total 3) (map show rows)
+unfolding IsDistinct
+shown_apart show keys [] up ties = tt
+shown_apart show keys (r ∷ rows) up ties = (
+  all_from (λ y. eq_by_cmp (by_key 3) (show r) y ≡ false) (map show rows) (λ y h.
+      let s = map_has show rows y h in
+      let low : by_key keys r s.0 ≡ Less = all_has (λ z. by_key keys r z ≡ Less) rows s.0 up.0 s.1 in
+      unequal (by_key 3 (show r) y) (λ tie. let same : by_key keys r s.0 ≡ Equal = ties r s.0 (inl refl) (inr s.1) (ap (by_key 3 (show r)) (sym s.2) ∙ tie) in cc)),
+  shown_apart show keys rows up.1 (λ a b h k. ties a b (inr h) (inr k)),
+)
+  where
+    unequal : (c : Ordering) → (c ≡ Equal → ⊥) → is_eq c ≡ false
+    unequal Less f = refl
+    unequal Equal f = absurd (f refl)
+    unequal Greater f = refl
+
+-- what ties in lines that tie: their owners, their places, and their own keys
+module _ (o p k l : Value) (m n : ℕ) (tie : row_cmp (o ∷ Int (pos m) ∷ k ∷ []) (p ∷ Int (pos n) ∷ l ∷ []) ≡ Equal) where
+  owners : value_cmp o p ≡ Equal
+  owners = (then_tied (value_cmp o p) _ tie).0
+
+  places : m ≡ n
+  places = ranked m n Equal (sym (then_tied (value_cmp (Int (pos m)) (Int (pos n))) _ (then_tied (value_cmp o p) _ tie).1).0 ∙ value_cmp-number_value m n)
+
+  own_keys : value_cmp k l ≡ Equal
+  own_keys = (then_tied (value_cmp k l) _ (then_tied (value_cmp (Int (pos m)) (Int (pos n))) _ (then_tied (value_cmp o p) _ tie).1).1).0
+
+abbrev tied : Ordering → Ordering → Ordering
+tied a b = ordering_then a (ordering_then b Equal)
+
+one_tied : (r s : Row) → 1 ≤ length r → 1 ≤ length s → value_cmp (column r 0) (column s 0) ≡ Equal → by_key 1 r s ≡ Equal
+one_tied r s a b tie = ap₂ row_cmp (first_column r a) (first_column s b) ∙ ap (λ (c : Ordering). ordering_then c Equal) tie
+
+two_tied : (r s : Row) → 2 ≤ length r → 2 ≤ length s → value_cmp (column r 0) (column s 0) ≡ Equal → value_cmp (column r 1) (column s 1) ≡ Equal → by_key 2 r s ≡ Equal
+two_tied r s a b tie also = ap₂ row_cmp (first_columns r a) (first_columns s b) ∙ ap₂ (λ (c d : Ordering). tied c d) tie also
+
+-- ---- the tables
+
+module _ (t : Tables) (up : AreInOrder t) (whole : AreWhole t) where
+  -- heads, by their owner
+  heads : (name : TableName) → keys_of name ≡ 1 → (spare : ℕ) → AreApartAll (by_key_total 3) (map (λ row. line (column row 0) (pos 0) (Int (pos 0)) spare row) (rows_in t name))
+  heads name one spare =
+      shown_apart (λ row. line (column row 0) (pos 0) (Int (pos 0)) spare row) 1 (rows_in t name) (subst (λ (n : ℕ). Rises (by_key_total n) (rows_in t name)) one (up name))
+      (λ r s h k tie. one_tied r s (wide r h) (wide s k) (owners _ _ _ _ _ _ tie))
+    where
+      wide : (row : Row) → Has (rows_in t name) row → 1 ≤ length row
+      wide row h = let it = whole name row h in omega (arith, it, one)
+
+  -- the rows of a table with one key, by that
+  numbered : (name : TableName) → keys_of name ≡ 1 → (owner : Row → Value) (place spare : ℕ) → AreApartAll (by_key_total 3) (map (λ row. line (owner row) (pos place) (column row 0) spare row) (rows_in t name))
+  numbered name one owner place spare =
+      shown_apart (λ row. line (owner row) (pos place) (column row 0) spare row) 1 (rows_in t name) (subst (λ (n : ℕ). Rises (by_key_total n) (rows_in t name)) one (up name))
+      (λ r s h k tie. one_tied r s (wide r h) (wide s k) (own_keys _ _ _ _ _ _ tie))
+    where
+      wide : (row : Row) → Has (rows_in t name) row → 1 ≤ length row
+      wide row h = let it = whole name row h in omega (arith, it, one)
+
+  docks : AreApartAll (by_key_total 3) (map station_dock_line t.docks)
+  docks =
+      shown_apart station_dock_line 2 t.docks (up Docks)
+      (λ r s h k tie. two_tied r s (whole Docks r h) (whole Docks s k) (owners _ _ _ _ _ _ tie) (own_keys _ _ _ _ _ _ tie))
+
+  -- the lines of two tables, at two places
+  at_two : (o p : Row → Value) (k l : Row → Value) (m n : ℕ) (left right : ℕ) (xs ys : List Row) → m < n → (x y : Row)
+      → Has (map (λ row. line (o row) (pos m) (k row) left row) xs) x → Has (map (λ row. line (p row) (pos n) (l row) right row) ys) y → by_key 3 x y ≡ Equal → ⊥
+  at_two o p k l m n left right xs ys low x y h g tie =
+      let r = map_has (λ row. line (o row) (pos m) (k row) left row) xs x h in
+      let s = map_has (λ row. line (p row) (pos n) (l row) right row) ys y g in
+      let both : by_key 3 (line (o r.0) (pos m) (k r.0) left r.0) (line (p s.0) (pos n) (l s.0) right s.0) ≡ Equal = sym (ap₂ (by_key 3) r.2 s.2) ∙ tie in
+      let same : m ≡ n = places _ _ _ _ m n both in
+      absurd (omega (arith, same, low))
+
+  abbrev zero_value : Row → Value
+  zero_value row = Int (pos 0)
+
+  abbrev at : ℕ → Row → Value
+  at n row = column row n
+
+  pub trucks_apart : AreApartAll (by_key_total 3) (map truck_line t.trucks ++ map truck_bike_line t.bikes)
+  trucks_apart =
+      apart_append (by_key_total 3) (map truck_line t.trucks) (map truck_bike_line t.bikes) (heads Trucks refl 6) (numbered Bikes refl (at 6) 1 0)
+      (at_two (at 0) (at 6) zero_value (at 0) 0 1 6 0 t.trucks t.bikes (omega arith))
+
+  pub rental_entries_apart : AreApartAll (by_key_total 3) (map rental_line t.rentals ++ map rental_entry_line t.entries)
+  rental_entries_apart =
+      apart_append (by_key_total 3) (map rental_line t.rentals) (map rental_entry_line t.entries) (heads Rentals refl 0) (numbered Entries refl (at 3) 1 4)
+      (at_two (at 0) (at 3) zero_value (at 0) 0 1 0 4 t.rentals t.entries (omega arith))
+
+  pub order_bikes_apart : AreApartAll (by_key_total 3) (map order_line t.orders ++ map order_bike_line t.bikes)
+  order_bikes_apart =
+      apart_append (by_key_total 3) (map order_line t.orders) (map order_bike_line t.bikes) (heads Orders refl 0) (numbered Bikes refl (at 7) 1 0)
+      (at_two (at 0) (at 7) zero_value (at 0) 0 1 0 0 t.orders t.bikes (omega arith))
+
+  pub stations_apart : AreApartAll (by_key_total 3) ((map station_line t.stations ++ map station_dock_line t.docks) ++ map station_bike_line t.bikes)
+  stations_apart =
+      apart_append (by_key_total 3) (map station_line t.stations ++ map station_dock_line t.docks) (map station_bike_line t.bikes)
+      (apart_append (by_key_total 3) (map station_line t.stations) (map station_dock_line t.docks) (heads Stations refl 0) docks (at_two (at 0) (at 0) zero_value (at 1) 0 1 0 8 t.stations t.docks (omega arith)))
+      (numbered Bikes refl (at 3) 2 3)
+      (λ x y h g. elim (has_append (map station_line t.stations) (map station_dock_line t.docks) x h) [
+        | inl first ↦ at_two (at 0) (at 3) zero_value (at 0) 0 2 0 3 t.stations t.bikes (omega arith) x y first g
+        | inr second ↦ at_two (at 0) (at 3) (at 1) (at 0) 1 2 8 3 t.docks t.bikes (omega arith) x y second g
+      ])
+
+  pub riders_apart : AreApartAll (by_key_total 3) ((map rider_line t.riders ++ map rider_rental_line t.rentals) ++ map rider_entry_line t.entries)
+  riders_apart =
+      apart_append (by_key_total 3) (map rider_line t.riders ++ map rider_rental_line t.rentals) (map rider_entry_line t.entries)
+      (apart_append (by_key_total 3) (map rider_line t.riders) (map rider_rental_line t.rentals) (heads Riders refl 7) (numbered Rentals refl (at 1) 1 0)
+      (at_two (at 0) (at 1) zero_value (at 0) 0 1 7 0 t.riders t.rentals (omega arith)))
+      (numbered Entries refl (at 2) 2 4)
+      (λ x y h g. elim (has_append (map rider_line t.riders) (map rider_rental_line t.rentals) x h) [
+        | inl first ↦ at_two (at 0) (at 2) zero_value (at 0) 0 2 7 4 t.riders t.entries (omega arith) x y first g
+        | inr second ↦ at_two (at 1) (at 2) (at 0) (at 0) 1 2 0 4 t.rentals t.entries (omega arith) x y second g
+      ])

@@ -1,0 +1,10 @@
+mod RowSteps
+mod StepLemmas
+mod FoldOrder
+pub mod LineLaw
+pub mod StretchLaw
+pub mod LeastLaw
+pub mod ApartLines
+pub mod QueryLaws
+pub mod ReadsLaw
+pub mod OwnAccounts
