@@ -1,0 +1,11 @@
+pub mod Widths
+pub mod Lookups
+pub mod RowVerdicts
+pub mod PlanLines
+pub mod CatalogueTests
+pub mod SegmentOrder
+pub mod SegmentRules
+pub mod Judged
+pub mod EntrySums
+pub mod MetaRules
+pub mod MetaJudged

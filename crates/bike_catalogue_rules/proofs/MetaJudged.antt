@@ -1,0 +1,68 @@
+-- What a judge of meta finds is the verdict on meta.
+use Rattle.std.proofs.Common.{◌≡◌, ℤ, pos, ◌+ℤ◌, List, [], ◌∷◌, Bool, true, false, cond, Option, Some, None, option_map, refl, sym, ap, ◌∙◌, subst, arith}
+use Rattle.std.specs.Prelude.{take, fold}
+use Rattle.std.specs.Ordering.{is_lt}
+use Rattle.std.proofs.lemmas.Int.{ints}
+use Rattle.sqlite_value.specs.Order.{Row, row_cmp}
+use Rattle.sqlite.specs.Effect.{Database}
+use Rattle.bike_ledger.specs.Ledger.{cash_of, revenue_of}
+use Rattle.bike_book.specs.Tables.{Meta}
+use Rattle.bike_schema.specs.Tables.{tables_of}
+use Rattle.bike_rules.proofs.RulesLaws.{stored_in_order}
+use Rattle.bike_judges.specs.declared.key.BadKey.{BadKey}
+use Rattle.bike_judges.specs.Judging.{key_row, Continues}
+use Rattle.bike_judges.specs.Verdicts.{IsTableVerdict, JudgesTable}
+use Rattle.bike_passes.specs.Least.{least_key}
+use Rattle.bike_catalogue_rules.specs.declared.meta.Sums.{Sums}
+use Rattle.bike_catalogue_rules.specs.Sums.{after_entry, is_meta, one_key, first_meta}
+use Rattle.bike_catalogue_rules.proofs.EntrySums.{entries_of, cash_sum, revenue_sum}
+use Rattle.bike_catalogue_rules.proofs.Judged.{Finds}
+use Rattle.bike_catalogue_rules.proofs.MetaRules.{meta_verdict}
+
+-- nothing is added up yet
+abbrev pub no_sums : Sums
+no_sums = record { cash = pos 0; revenue = pos 0 }
+
+from_none : (z : ℤ) → pos 0 +ℤ z ≡ z
+from_none z = omega (arith, ints)
+
+pub meta_judged : (db : Database) (sums : Sums) → sums ≡ fold after_entry no_sums (tables_of db).entries → (found : Option BadKey) → Finds (first_meta (is_meta sums) false (tables_of db).meta) found → JudgesTable Meta db found
+meta_judged db sums total found finds earlier =
+    let cash : sums.cash ≡ cash_of (entries_of (tables_of db).entries) = ap (λ (s : Sums). s.cash) total ∙ cash_sum no_sums (tables_of db).entries ∙ from_none _ in
+    let revenue : sums.revenue ≡ revenue_of (entries_of (tables_of db).entries) = ap (λ (s : Sums). s.revenue) total ∙ revenue_sum no_sums (tables_of db).entries ∙ from_none _ in
+    subst (IsTableVerdict (tables_of db) Meta) (sym (finds (first_meta (is_meta sums) false (tables_of db).meta) refl)) (meta_verdict (tables_of db) (stored_in_order db) sums cash revenue)
+
+-- ---- one more row
+
+module _ (test : Row → Bool) (seen : Bool) where
+  module _ (x : Row) (left : List Row) (verdict : Option Row) (is : first_meta test seen (x ∷ left) ≡ verdict) where
+    pub row_behind : seen ≡ true → verdict ≡ Some (take 1 x)
+    unfolding first_meta
+    row_behind e = sym is ∙ ap (λ (b : Bool). first_meta test b (x ∷ left)) e
+
+    pub good_first : seen ≡ false → test x ≡ true → first_meta test true left ≡ verdict
+    unfolding first_meta
+    good_first e good =
+        ap (λ (b : Bool). cond b (first_meta test true left) (least_key (Some (take 1 x)) (Some one_key))) (sym good) ∙ ap (λ (b : Bool). first_meta test b (x ∷ left)) (sym e) ∙ is
+
+    pub bad_first : seen ≡ false → test x ≡ false → verdict ≡ least_key (Some (take 1 x)) (Some one_key)
+    unfolding first_meta
+    bad_first e bad =
+        sym is ∙ ap (λ (b : Bool). first_meta test b (x ∷ left)) e ∙ ap (λ (b : Bool). cond b (first_meta test true left) (least_key (Some (take 1 x)) (Some one_key))) bad
+
+  pub end_behind : seen ≡ true → first_meta test seen [] ≡ None
+  unfolding first_meta
+  end_behind e = ap (λ (b : Bool). first_meta test b []) e
+
+  pub end_missing : seen ≡ false → first_meta test seen [] ≡ Some one_key
+  unfolding first_meta
+  end_missing e = ap (λ (b : Bool). first_meta test b []) e
+
+-- of two keys one is found
+pub found_least : {J : Type 0} (says : J → List Row → Option Row → Type 0) (judge : J) (left : List Row) (verdict : Option Row) (found : Option BadKey) (a b : Row)
+    → option_map key_row found ≡ least_key (Some a) (Some b) → verdict ≡ least_key (Some a) (Some b) → Continues says judge left verdict found
+found_least says judge left verdict (Some key) a b e is = is ∙ sym e
+found_least says judge left verdict None a b e is = go (is_lt (row_cmp b a)) e where
+  go : (c : Bool) → ◌≡◌ {A = Option Row} None (cond c (Some b) (Some a)) → Continues says judge left verdict None
+  go true e = absurd cc
+  go false e = absurd cc

@@ -1,0 +1,17 @@
+-- How many columns the rows of plans, of segments and of vehicle types have.
+use Rattle.std.proofs.Common.{◌≡◌, length}
+use Rattle.sqlite_value.specs.Order.{Row}
+use Rattle.sqlite_rules.specs.Lists.{Has}
+use Rattle.sqlite.specs.Effect.{Database}
+use Rattle.bike_book.specs.Tables.{Tables, Plans, Segments, Types}
+use Rattle.bike_schema.specs.Tables.{HasTables, tables_of}
+use Rattle.bike_passes.proofs.QueryLaws.{stored_width}
+
+-- The rows have all columns of their tables.
+pub record AreWide (t : Tables) : Type 0 where
+  pub plans : (r : Row) → Has t.plans r → length r ≡ 5
+  pub segments : (r : Row) → Has t.segments r → length r ≡ 6
+  pub types : (r : Row) → Has t.types r → length r ≡ 6
+
+pub are_wide : (db : Database) → HasTables db → AreWide (tables_of db)
+are_wide db has = record { plans = stored_width db has Plans; segments = stored_width db has Segments; types = stored_width db has Types }

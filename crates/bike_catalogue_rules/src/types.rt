@@ -1,0 +1,54 @@
+//! Vehicle types, each with its default plan.
+
+ghost use Rattle.std.specs.Prelude.{◌≡◌, take};
+ghost use Rattle.bike_rows.specs.Calls.{ReadsWhere};
+ghost use Rattle.bike_book.specs.Tables.{Types};
+ghost use Rattle.bike_schema.specs.Tables.{IsOurs};
+ghost use Rattle.bike_judges.specs.Verdicts.{JudgesTable};
+ghost use Rattle.bike_catalogue_rules.specs.Tests.{has_plan, is_type};
+
+use crate::key::columns_key;
+use bike_judges::{BadKey, LineTest, Query};
+use bike_lines::judge_lines;
+use bike_operator::MOST_TYPES;
+use bike_passes::LineJudge;
+use bike_readings::{Part, read_plan, read_type};
+use bike_schema::StatementFault;
+use sqlite::{Alter, Connection, Row};
+
+/// Whether the plan is there that a segment or a vehicle type names.
+pub(crate) fn has_plan(line: &Row) -> bool
+    ensures { result ≡ has_plan line.now }
+{
+    read_plan(Part::of(line, 6, 5)).is_some()
+}
+
+/// A row of `types` spells a vehicle type, its default plan is there, and there is room for it.
+#[derive(Drop)]
+struct TypeTest;
+
+impl LineTest for TypeTest {
+    ghost test = { λ this before line. is_type before line };
+
+    ghost key = { λ this line. take 1 line };
+
+    fn is_good(&self, before: u64, line: &Row) -> Result<bool, StatementFault> {
+        Ok(
+            before < u64::from(MOST_TYPES)
+                && has_plan(line)
+                && read_type(Part::of(line, 0, 6)).is_some(),
+        )
+    }
+
+    fn bad_key(&self, line: &Row) -> Result<BadKey, StatementFault> {
+        columns_key(line, 1)
+    }
+}
+
+/// The first bad key of `types`, where all tables before it are good. The database stays as it is. `StoreFailed` where
+/// the store fails or was shut, `NoMemory` where memory is refused.
+pub fn judge_types<S: Alter>(conn: &mut Connection<S>) -> Result<Option<BadKey>, StatementFault>
+    ensures { ReadsWhere S.Store IsOurs conn.old conn.new result (JudgesTable Types) }
+{
+    judge_lines(conn, Query::Types, LineJudge::new(TypeTest))
+}

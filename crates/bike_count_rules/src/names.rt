@@ -1,0 +1,31 @@
+//! The test of counts by themselves.
+
+ghost use Rattle.std.specs.Prelude.{take};
+ghost use Rattle.bike_count_rules.specs.Names.{is_named};
+
+use bike_judges::{BadKey, LineTest};
+use bike_readings::{Part, read_counts, read_station, read_type};
+use bike_schema::StatementFault;
+use sqlite::Row;
+
+/// Counts are of a station and of a type that are there. A line has the row of counts with those of its station and type.
+#[derive(Drop)]
+pub(crate) struct CountTest;
+
+impl LineTest for CountTest {
+    ghost test = { λ test before line. is_named line };
+
+    ghost key = { λ test line. take 2 line };
+
+    fn is_good(&self, _before: u64, line: &Row) -> Result<bool, StatementFault> {
+        Ok(
+            read_counts(Part::of(line, 0, 4)).is_some()
+                && read_station(Part::of(line, 4, 11)).is_some()
+                && read_type(Part::of(line, 15, 6)).is_some(),
+        )
+    }
+
+    fn bad_key(&self, line: &Row) -> Result<BadKey, StatementFault> {
+        Ok(BadKey::Columns(line.copy()?, 2))
+    }
+}

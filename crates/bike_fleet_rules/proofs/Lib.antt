@@ -1,0 +1,16 @@
+mod Lookups
+mod Parts
+mod OfRows
+mod TruckLaw
+mod BikesLaw
+mod DockSteps
+mod DockLaw
+mod DockOrder
+mod BikeLaw
+mod OrderLaw
+mod LoadLaw
+mod Told
+mod Apart
+mod CountedRows
+mod ColumnLemmas
+mod LoadLemmas

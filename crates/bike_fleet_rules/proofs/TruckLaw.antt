@@ -1,0 +1,148 @@
+-- The verdict on trucks, by their lines.
+use Rattle.std.proofs.Common.{◌≡◌, ℕ, ◌+◌, ◌&&◌, List, [], ◌∷◌, ◌++◌, map, Bool, true, false, cond, Option, Some, None, refl, sym, ap, ◌∙◌, arith}
+use Rattle.std.specs.Prelude.{take, nat_lt, nat_le}
+use Rattle.std.specs.Option.{IsSomeAnd}
+use Rattle.std.specs.declared.cmp.Ordering.TheVariants.{Equal}
+use Rattle.std.proofs.lemmas.Bool.Decides.{nat_tests}
+use Rattle.sqlite_value.specs.declared.value.Value.{Value}
+use Rattle.sqlite_value.specs.Order.{Row, column, value_cmp}
+use Rattle.sqlite_rules.specs.Lists.{Has}
+use Rattle.bike_operator.specs.declared.limits.TheConstants.{MOST_TRUCKS}
+use Rattle.bike_operator.specs.Operator.{Operator, Truck}
+use Rattle.bike_operator.specs.Counts.{is_on_truck, truck_load, count}
+use Rattle.bike_book.specs.Tables.{Tables, Trucks, Bikes}
+use Rattle.bike_book.specs.Rows.{number_value}
+use Rattle.bike_readings.specs.Readings.{truck_read}
+use Rattle.bike_readings.proofs.FleetRows.{truck_reading}
+use Rattle.bike_rules.specs.ReadOff.{operator_of}
+use Rattle.bike_rules.specs.Rules.{AreInOrder, IsGoodKey}
+use Rattle.bike_rules.specs.Demands.{IsGoodTruck}
+use Rattle.bike_judges.specs.declared.query.Query.TheVariants as query
+use Rattle.bike_judges.specs.declared.pass.Opening.TheVariants.{Head, Item}
+use Rattle.bike_judges.specs.Lines.{lines_of, head, nulls, truck_line, truck_bike_line}
+use Rattle.bike_judges.specs.Passes.{pass, is_good_with, Demands}
+use Rattle.bike_judges.specs.Verdicts.{IsTableVerdict}
+use Rattle.bike_passes.proofs.StretchLaw.{HasOneKey, AreAccounts, AreItems, merged_verdict}
+use Rattle.bike_fleet_rules.specs.Loads.{loads, truck_opened, truck_begins, truck_more, truck_good, truck_key}
+use Rattle.bike_fleet_rules.specs.declared.trucks.TruckAccount.{TruckAccount}
+use Rattle.bike_fleet_rules.proofs.Parts.{AreWide, begins_with_one, own_part}
+use Rattle.bike_fleet_rules.proofs.Apart.{lines_apart}
+use Rattle.bike_fleet_rules.proofs.OfRows.{both_true, first_true, second_true, demanded, demands_of, SaysGood, good_key, of_good_key, same_verdict}
+use Rattle.bike_fleet_rules.proofs.LoadLemmas.{loads_own, truck_fold, truck_loaded}
+
+abbrev owner : TruckAccount → Value
+owner a = number_value a.truck
+
+-- ---- accounts
+
+opened_head : (o : Option (ℕ × Truck)) → truck_opened o ≡ Item → ⊥
+opened_head None e = absurd cc
+opened_head (Some x) e = absurd cc
+
+opened_owner : (o : Option (ℕ × Truck)) (a : TruckAccount) (v : Value) → ((x : ℕ × Truck) → o ≡ Some x → number_value x.0 ≡ v) → truck_opened o ≡ Head a → owner a ≡ v
+opened_owner None a v its e = absurd cc
+opened_owner (Some x) a v its e = let same : x.0 ≡ a.truck = cc in ap number_value (sym same) ∙ its x refl
+
+owner_is : (row : Row) (a : TruckAccount) → truck_begins (head 6 row) ≡ Head a → owner a ≡ column row 0
+owner_is [] a e = absurd cc
+owner_is (v ∷ row) a e =
+    opened_owner (truck_read (take 2 ((v ∷ row) ++ nulls 6))) a v
+    (λ x is. ap (λ (r : Row). column r 0) (sym (truck_reading.sound (take 2 ((v ∷ row) ++ nulls 6)) x is).0)) e
+
+others : (a : TruckAccount) (x : Row) → (value_cmp (column x 0) (owner a) ≡ Equal → ⊥) → truck_more a x ≡ a
+others a x apart = ap (λ (b : Bool). cond b (record a { load = a.load + 1 }) a) (loads_own (is_on_truck a.truck) a.truck x apart)
+
+keeps : (a : TruckAccount) (x : Row) → owner (truck_more a x) ≡ owner a
+keeps a x = go (loads (is_on_truck a.truck) a.truck x) where
+  go : (b : Bool) → owner (cond b (record a { load = a.load + 1 }) a) ≡ owner a
+  go true = refl
+  go false = refl
+
+commutes : (a : TruckAccount) (x y : Row) → truck_more (truck_more a x) y ≡ truck_more (truck_more a y) x
+commutes a x y = go (loads (is_on_truck a.truck) a.truck x) refl (loads (is_on_truck a.truck) a.truck y) refl where
+  go : (b : Bool) → loads (is_on_truck a.truck) a.truck x ≡ b → (c : Bool) → loads (is_on_truck a.truck) a.truck y ≡ c
+      → truck_more (cond b (record a { load = a.load + 1 }) a) y ≡ truck_more (cond c (record a { load = a.load + 1 }) a) x
+  go true e true f = ap (λ (d : Bool). cond d (record a { load = a.load + 1 + 1 }) (record a { load = a.load + 1 })) (f ∙ sym e)
+  go true e false f = ap (λ (d : Bool). cond d (record a { load = a.load + 1 + 1 }) (record a { load = a.load + 1 })) f ∙ sym (ap (λ (d : Bool). cond d (record a { load = a.load + 1 }) a) e)
+  go false e true f = ap (λ (d : Bool). cond d (record a { load = a.load + 1 }) a) f ∙ sym (ap (λ (d : Bool). cond d (record a { load = a.load + 1 + 1 }) (record a { load = a.load + 1 })) e)
+  go false e false f = ap (λ (d : Bool). cond d (record a { load = a.load + 1 }) a) (f ∙ sym e)
+
+accounts : AreAccounts truck_begins truck_more truck_good truck_key owner 6
+accounts = record {
+  heads = λ row e. opened_head (truck_read (take 2 (row ++ nulls 6))) e;
+  owner_is = owner_is;
+  key_is = λ a. refl;
+  keeps = keeps;
+  others = others;
+  commutes = commutes;
+}
+
+items : AreItems truck_begins truck_more truck_good truck_key owner truck_bike_line
+items = record { item = λ row. refl; place = λ row. (0, refl) }
+
+-- ---- what is demanded
+
+module _ (t : Tables) (up : AreInOrder t) (wide : AreWide t) where
+  abbrev s : Operator
+  s = operator_of t
+
+  abbrev own : List Row
+  own = map truck_bike_line t.bikes
+
+  abbrev test : ℕ → Row → Bool
+  test n row = is_good_with truck_begins truck_more truck_good truck_key (take 1) own n (truck_begins (truck_line row))
+
+  abbrev OfSpelled : ℕ → Option (ℕ × Truck) → Bool
+  OfSpelled n o = is_good_with truck_begins truck_more truck_good truck_key (take 1) own n (truck_opened o)
+
+  spelled : (n : ℕ) (row : Row) → Has t.trucks row → test n row ≡ OfSpelled n (truck_read row)
+  spelled n row has = ap (λ (r : Row). OfSpelled n (truck_read r)) (own_part 2 row (nulls 6) (wide Trucks row has))
+
+  loaded : (n : ℕ) (x : ℕ × Truck) → OfSpelled n (Some x) ≡ nat_lt n MOST_TRUCKS && nat_le (truck_load s x.0) x.1.capacity
+  loaded n x =
+      let load : 0 + count (loads (is_on_truck x.0) x.0) own ≡ truck_load s x.0 = let is = truck_loaded t up (wide Bikes) x.0 in omega (arith, is) in
+      ap (truck_good n) (truck_fold own (record { truck = x.0; capacity = x.1.capacity; load = 0 })) ∙ ap (λ (k : ℕ). nat_lt n MOST_TRUCKS && nat_le k x.1.capacity) load
+
+  says : SaysGood t Trucks (λ n row. test n row ≡ true)
+  says = record {
+    good = λ n row has passes. go_good n row (truck_read row) refl (sym (spelled n row has) ∙ passes);
+    says = λ n row has good. spelled n row has ∙ go_says n (truck_read row) good;
+  }
+    where
+      go_good : (n : ℕ) (row : Row) (o : Option (ℕ × Truck)) → truck_read row ≡ o → OfSpelled n o ≡ true → IsSomeAnd o (IsGoodTruck s n)
+      go_good n row None e passes = absurd cc
+      go_good n row (Some x) e passes =
+          let both = sym (loaded n x) ∙ passes in
+          let room = first_true (nat_lt n MOST_TRUCKS) (nat_le (truck_load s x.0) x.1.capacity) both in
+          let holds = second_true (nat_lt n MOST_TRUCKS) (nat_le (truck_load s x.0) x.1.capacity) both in
+          let bounds = (truck_reading.sound row x e).1 in
+          record {
+            room = grind (arith, nat_tests, room);
+            good = record {
+              low = bounds.good_number.0;
+              high = bounds.good_number.1;
+              some = bounds.capacity.0;
+              most = bounds.capacity.1;
+              holds = grind (arith, nat_tests, holds);
+            };
+          }
+
+      go_says : (n : ℕ) (o : Option (ℕ × Truck)) → IsSomeAnd o (IsGoodTruck s n) → OfSpelled n o ≡ true
+      go_says n None good = absurd good
+      go_says n (Some x) good =
+          let room = good.room in
+          let holds = good.good.holds in
+          loaded n x ∙ both_true (nat_lt n MOST_TRUCKS) (nat_le (truck_load s x.0) x.1.capacity) (grind (arith, nat_tests, room)) (grind (arith, nat_tests, holds))
+
+  -- THE VERDICT on trucks
+  pub trucks_verdict : (verdict : Option Row) → pass truck_begins truck_more truck_good truck_key (take 1) None 0 (lines_of query.Trucks t) ≡ verdict → IsTableVerdict t Trucks verdict
+  trucks_verdict verdict is =
+      same_verdict t Trucks (Demands t Trucks test) (IsGoodKey t Trucks)
+      (λ key demands. good_key t Trucks (λ n row. test n row ≡ true) says (λ k. tt) key (demanded t Trucks test key demands))
+      (λ key good. demands_of t Trucks test key (of_good_key t Trucks (λ n row. test n row ≡ true) says (λ k. tt) key good)) verdict
+      (merged_verdict truck_begins truck_more truck_good truck_key owner t Trucks up one 6 accounts truck_bike_line t.bikes items
+      (lines_apart 0 0 (λ row. column row 6) 6 t.trucks t.bikes (up Trucks) (up Bikes) (λ row has. begins_with_one row 1 (wide Trucks row has)) (λ row has. begins_with_one row 7 (wide Bikes row has)))
+      verdict is)
+    where
+      one : HasOneKey t Trucks
+      one = record { one = refl; first = λ row has. begins_with_one row 1 (wide Trucks row has) }

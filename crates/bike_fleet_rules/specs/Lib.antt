@@ -1,0 +1,4 @@
+pub mod Counted
+pub mod Loads
+pub mod Tests
+pub mod Docks

@@ -1,0 +1,114 @@
+-- Tables that are judged before: all their rows are good, so partners are read as the operator has them.
+use Rattle.std.proofs.Common.{◌≡◌, ℕ, ℤ, ◌<◌, List, take, Option, Some, None, refl, sym, ap, subst, ◌∙◌}
+use Rattle.std.specs.Prelude.{option_map, is_some}
+use Rattle.std.specs.FinMap as fin
+use Rattle.sqlite_value.specs.Order.{Row}
+use Rattle.sqlite_rules.specs.Lists.{Has}
+use Rattle.bike_rows.specs.View.{row_with}
+use Rattle.bike_operator.specs.declared.records.Bike.{Bike}
+use Rattle.bike_operator.specs.Operator.{Operator}
+use Rattle.bike_book.specs.Tables.{TableName, Tables, rows_in, keys_of, table_place, Plans, Stations, Bikes, Riders}
+use Rattle.bike_book.specs.Rows.{rider_row, station_row}
+use Rattle.bike_book.specs.Stored.{stored_plan, stored_station, stored_bike, stored_rider}
+use Rattle.bike_book.proofs.Keys.{numbers, texts, number_key, text_key}
+use Rattle.bike_readings.specs.Readings.{plan_read, station_read, bike_read, rider_read}
+use Rattle.bike_readings.proofs.CatalogueRows.{plan_reading, station_reading}
+use Rattle.bike_readings.proofs.FleetRows.{bike_reading}
+use Rattle.bike_readings.proofs.LedgerRows.{rider_reading}
+use Rattle.bike_rules.specs.ReadOff.{operator_of, plan_in, station_in, bike_in, rider_in, with_segments, first_of, misplaced_bike}
+use Rattle.bike_rules.specs.Demands.{IsGoodPlan, IsGoodStation, IsGoodBike, IsGoodRider}
+use Rattle.bike_rules.specs.Rules.{AreInOrder, IsGoodRow, IsGoodAt, rows_below}
+use Rattle.bike_rules.proofs.Places.{has_under}
+use Rattle.bike_rules.proofs.ReadLists.{IsStored, AreRowsOf, read_map}
+use Rattle.bike_rules.proofs.ReadRows.{stored_plain, stored_part}
+use Rattle.bike_rules.proofs.RowRules.{some_with}
+use Rattle.bike_judges.specs.Lines.{or_nulls}
+use Rattle.bike_judges.specs.Verdicts.{EarlierGood}
+use Rattle.bike_ledger_rules.proofs.Lookups.{reads_partner}
+
+pub mapped_some : {A B : Type 0} (f : A → B) (o : Option A) → is_some (option_map f o) ≡ is_some o
+mapped_some f None = refl
+mapped_some f (Some x) = refl
+
+module _ (t : Tables) (up : AreInOrder t) where
+  abbrev s : Operator
+  s = operator_of t
+
+  abbrev pub AreGood : TableName → Type 0
+  AreGood name = (r : Row) → Has (rows_in t name) r → IsGoodRow t s (rows_below t name (take (keys_of name) r)) name r
+
+  pub earlier_good : (judged : TableName) → EarlierGood t judged → (name : TableName) → table_place name < table_place judged → AreGood name
+  earlier_good judged earlier name low r has =
+      subst (IsGoodAt t s name (take (keys_of name) r) (rows_below t name (take (keys_of name) r))) (has_under (keys_of name) (rows_in t name) r (up name) has)
+      (earlier name (take (keys_of name) r) low)
+
+  abbrev below_of : TableName → Row → ℕ
+  below_of name r = rows_below t name (take (keys_of name) r)
+
+  -- ---- riders
+
+  module _ (good : AreGood Riders) where
+    stored_riders : (r : Row) → Has t.riders r → IsStored rider_in (stored_rider s.entries) r
+    stored_riders r has =
+        stored_part rider_reading (λ e. (e.0, e.1)) (stored_rider s.entries) (IsGoodRider s (below_of Riders r)) r (good r has)
+        (λ a is fact. ap (λ (z : ℤ). rider_row a.0 a.1.is_blocked z) fact.balance_is)
+
+    riders_are : AreRowsOf numbers (stored_rider s.entries) (λ e. refl) rider_in t.riders s.riders
+    riders_are = read_map numbers (stored_rider s.entries) (λ e. refl) rider_in t.riders (up Riders) stored_riders (λ r e has is. tt)
+
+    pub rider_partner : (k : ℕ) → is_some (rider_read (or_nulls 3 (row_with 1 (number_key k) t.riders))) ≡ fin.contains_key s.riders k
+    rider_partner k =
+        sym (mapped_some (λ e. (e.0, e.1)) (rider_read (or_nulls 3 (row_with 1 (number_key k) t.riders))))
+        ∙ ap (λ (o : Option _). is_some o) (reads_partner numbers (λ q. tt) (stored_rider s.entries) (λ e. refl) rider_in t.riders s.riders riders_are stored_riders 3 rider_in refl (λ r has. refl) k)
+        ∙ mapped_some (λ v. (k, v)) (fin.get s.riders k)
+
+  -- ---- bicycles
+
+  module _ (good : AreGood Bikes) where
+    one_bike : (r : Row) → Has t.bikes r → bike_read r ≡ bike_in r
+    one_bike r has =
+        let it = some_with (IsGoodBike t s (below_of Bikes r)) (bike_read r) (good r has) in
+        it.value_is ∙ sym (ap (λ (o : Option (ℕ × Bike)). first_of o (misplaced_bike r)) it.value_is)
+
+    stored_bikes : (r : Row) → Has t.bikes r → IsStored bike_in stored_bike r
+    stored_bikes r has =
+        let it = stored_plain bike_reading (IsGoodBike t s (below_of Bikes r)) r (good r has) in
+        record { value = it.value; read_is = ap (λ (o : Option (ℕ × Bike)). first_of o (misplaced_bike r)) it.read_is; store_is = it.store_is }
+
+    bikes_are : AreRowsOf numbers stored_bike (λ e. refl) bike_in t.bikes s.bikes
+    bikes_are = read_map numbers stored_bike (λ e. refl) bike_in t.bikes (up Bikes) stored_bikes (λ r e has is. tt)
+
+    pub bike_partner : (k : ℕ) → bike_read (or_nulls 8 (row_with 1 (number_key k) t.bikes)) ≡ option_map (λ v. (k, v)) (fin.get s.bikes k)
+    bike_partner k = reads_partner numbers (λ q. tt) stored_bike (λ e. refl) bike_in t.bikes s.bikes bikes_are stored_bikes 8 bike_read refl one_bike k
+
+  -- ---- plans
+
+  module _ (good : AreGood Plans) where
+    stored_plans : (r : Row) → Has t.plans r → IsStored (plan_in t.segments) stored_plan r
+    stored_plans r has = stored_part plan_reading (with_segments t.segments) stored_plan (IsGoodPlan s (below_of Plans r)) r (good r has) (λ a is fact. refl)
+
+    plans_are : AreRowsOf texts stored_plan (λ e. refl) (plan_in t.segments) t.plans s.plans
+    plans_are = read_map texts stored_plan (λ e. refl) (plan_in t.segments) t.plans (up Plans) stored_plans (λ r e has is. tt)
+
+    pub plan_partner : (id : List ℕ) → is_some (plan_read (or_nulls 5 (row_with 1 (text_key id) t.plans))) ≡ fin.contains_key s.plans id
+    plan_partner id =
+        sym (mapped_some (with_segments t.segments) (plan_read (or_nulls 5 (row_with 1 (text_key id) t.plans))))
+        ∙ ap (λ (o : Option _). is_some o) (reads_partner texts (λ q. tt) stored_plan (λ e. refl) (plan_in t.segments) t.plans s.plans plans_are stored_plans 5 (plan_in t.segments) refl (λ r has. refl) id)
+        ∙ mapped_some (λ v. (id, v)) (fin.get s.plans id)
+
+  -- ---- stations
+
+  module _ (good : AreGood Stations) where
+    stored_stations : (r : Row) → Has t.stations r → IsStored station_in (stored_station s) r
+    stored_stations r has =
+        stored_part station_reading (λ e. (e.0, e.1)) (stored_station s) (IsGoodStation s (below_of Stations r)) r (good r has)
+        (λ a is fact. let free = fact.free_is in let broken = fact.broken_is in λ i. station_row a.0 a.1 (free i) (broken i))
+
+    stations_are : AreRowsOf texts (stored_station s) (λ e. refl) station_in t.stations s.stations
+    stations_are = read_map texts (stored_station s) (λ e. refl) station_in t.stations (up Stations) stored_stations (λ r e has is. tt)
+
+    pub station_partner : (id : List ℕ) → is_some (station_read (or_nulls 11 (row_with 1 (text_key id) t.stations))) ≡ fin.contains_key s.stations id
+    station_partner id =
+        sym (mapped_some (λ e. (e.0, e.1)) (station_read (or_nulls 11 (row_with 1 (text_key id) t.stations))))
+        ∙ ap (λ (o : Option _). is_some o) (reads_partner texts (λ q. tt) (stored_station s) (λ e. refl) station_in t.stations s.stations stations_are stored_stations 11 station_in refl (λ r has. refl) id)
+        ∙ mapped_some (λ v. (id, v)) (fin.get s.stations id)

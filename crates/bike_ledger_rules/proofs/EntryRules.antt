@@ -1,0 +1,192 @@
+-- The line of an entry passes exactly where what it is asked holds of the entry.
+use Rattle.std.proofs.Common.{◌≡◌, ℕ, ℤ, ◌+◌, ◌<◌, ◌≤◌, ◌==◌, ◌&&◌, List, [], ◌∷◌, length, take, Bool, true, false, Option, Some, None, refl, sym, ap, subst, ◌∙◌, arith}
+use Rattle.std.specs.Prelude.{option_map, option_and_then, is_some, nat_lt, nat_le}
+use Rattle.std.specs.Bool.{Decides}
+use Rattle.std.specs.FinMap as fin
+use Rattle.std.specs.List.{fold, filter_map}
+use Rattle.std.specs.Option.{IsSomeAnd}
+use Rattle.std.proofs.lemmas.Bool.{le-leb, leb-true, and_right}
+use Rattle.std.proofs.lemmas.Bool.Decides.{Decides-eqb, Decides-int_eq, Decides-ltb, Decides-and, Decides-like}
+use Rattle.std.proofs.lemmas.Option.{same_Some}
+use Rattle.sqlite_value.specs.Order.{Row, column}
+use Rattle.bike_rows.specs.View.{partner, row_with}
+use Rattle.bike_ledger.specs.Entries.{Entry}
+use Rattle.bike_ledger.specs.declared.entry.EntryKind.{EntryKind}
+use Rattle.bike_ledger.specs.declared.entry.EntryKind.TheVariants.{TopUp, Fare, Refund}
+use Rattle.bike_operator.specs.declared.limits.TheConstants.{MOST_ENTRIES}
+use Rattle.bike_operator.specs.declared.records.Rental.{Rental}
+use Rattle.bike_operator.specs.declared.records.Closing.{Closing}
+use Rattle.bike_operator.specs.Operator.{Operator, numbered}
+use Rattle.bike_operator.specs.Counts.{count, is_open, open_rentals}
+use Rattle.bike_places.proofs.CountLemmas.{weight}
+use Rattle.bike_book.specs.Tables.{Tables, Riders, Rentals}
+use Rattle.bike_book.specs.Rows.{rental_row}
+use Rattle.bike_book.specs.Stored.{stored_rental}
+use Rattle.bike_book.proofs.Keys.{number_key}
+use Rattle.bike_readings.specs.Readings.{rider_read, rental_read, entry_read}
+use Rattle.bike_readings.proofs.LedgerRows.{rental_reading, entry_reading}
+use Rattle.bike_rules.specs.ReadOff.{operator_of, rental_in}
+use Rattle.bike_rules.specs.Demands.{IsGoodRental}
+use Rattle.bike_rules.specs.Rules.{AreInOrder, rows_below}
+use Rattle.bike_rules.proofs.ByNumber.{at_number}
+use Rattle.bike_rules.proofs.ReadRows.{stored_part, AreRowsOfList, read_list}
+use Rattle.bike_rules.proofs.RowRules.{some_with}
+use Rattle.bike_judges.specs.Lines.{part, or_nulls}
+use Rattle.bike_ledger_rules.specs.declared.open_rentals.OpenRentals.{OpenRentals}
+use Rattle.bike_ledger_rules.specs.Entries.{with_open, is_paid, is_closed_for, is_of, is_booked, entry_holds, entry_names, entry_line}
+use Rattle.bike_ledger_rules.specs.Riders.{one_open}
+use Rattle.bike_ledger_rules.proofs.Earlier.{AreGood, rider_partner}
+use Rattle.bike_ledger_rules.proofs.Folds.{rental_of_row, rentals_read}
+use Rattle.bike_ledger_rules.proofs.Parts.{partner_wide, own_of_two, first_of_two, second_of_two}
+use Rattle.bike_ledger_rules.proofs.RiderFolds.{AreWide, count_option}
+
+-- ---- how many rentals are open
+
+open_fold : (rows : List Row) (a : OpenRentals) → (fold with_open a rows).count ≡ a.count + count is_open (filter_map rental_of_row rows)
+open_fold [] a = omega arith
+open_fold (r ∷ rows) a =
+    let rest = open_fold rows (with_open a r) in
+    let c = count_option is_open (rental_of_row r) (filter_map rental_of_row rows) in
+    let here = same (rental_read r) in
+    rest ∙ (omega (arith, c, here))
+  where
+    same : (o : Option (ℕ × Rental × ℤ)) → one_open o ≡ weight is_open (option_map (λ (e : ℕ × Rental × ℤ). e.1) o)
+    same None = refl
+    same (Some e) = refl
+
+pub open_counted : (t : Tables) (a : OpenRentals) → a.count ≡ 0 → (fold with_open a t.rentals).count ≡ open_rentals (operator_of t)
+open_counted t a none =
+    let it = open_fold t.rentals a in
+    let same : count is_open (filter_map rental_of_row t.rentals) ≡ open_rentals (operator_of t) = ap (count is_open) (sym (rentals_read t.rentals)) in
+    it ∙ (omega (arith, none)) ∙ same
+
+-- ---- the rental of an entry
+
+abbrev pub Paid : EntryKind → ℤ → Closing → Type 0
+Paid TopUp amount c = Unit {0}
+Paid Fare amount c = amount ≡ c.fare
+Paid Refund amount c = Unit {0}
+
+paid_decides : (k : EntryKind) (amount : ℤ) (c : Closing) → Decides (is_paid k amount c) (Paid k amount c)
+paid_decides TopUp amount c = (λ e. tt, λ h. refl)
+paid_decides Fare amount c = Decides-int_eq amount c.fare
+paid_decides Refund amount c = (λ e. tt, λ h. refl)
+
+-- a closed rental of the entry's rider, at the amount of a fare
+pub record OfRental (s : Operator) (k : EntryKind) (e : Entry) : Type 0 where
+  pub row : Rental
+  pub closing : Closing
+  pub found : numbered e.rental s.rentals ≡ Some row
+  pub closed : row.closing ≡ Some closing
+  pub rider_is : row.rider ≡ e.rider
+  pub paid : Paid k e.amount closing
+
+of_decides : (s : Operator) (k : EntryKind) (e : Entry) → Decides (is_of k e (numbered e.rental s.rentals)) (OfRental s k e)
+of_decides s k e = go (numbered e.rental s.rentals) refl where
+  closes : (r : Rental) → numbered e.rental s.rentals ≡ Some r → (o : Option Closing) → r.closing ≡ o → Decides ((r.rider == e.rider) && is_closed_for k e.amount o) (OfRental s k e)
+  closes r is None still = (
+    λ h. absurd (let f = and_right (r.rider == e.rider) false refl in let g = sym h ∙ f in cc),
+    λ h. absurd (let same = same_Some r h.row (sym is ∙ h.found) in let c = sym still ∙ ap (λ (x : Rental). x.closing) same ∙ h.closed in cc),
+  )
+  closes r is (Some c) closed =
+      Decides-like ((r.rider == e.rider) && is_paid k e.amount c)
+      (λ h. record { row = r; closing = c; found = is; closed = closed; rider_is = h.0; paid = h.1 })
+      (λ (h : OfRental s k e).
+      let same = same_Some r h.row (sym is ∙ h.found) in
+      let closing = same_Some h.closing c (sym h.closed ∙ ap (λ (x : Rental). x.closing) (sym same) ∙ closed) in
+      (ap (λ (x : Rental). x.rider) same ∙ h.rider_is, subst (Paid k e.amount) closing h.paid))
+      (Decides-and (r.rider == e.rider) (is_paid k e.amount c) (Decides-eqb r.rider e.rider) (paid_decides k e.amount c))
+
+  go : (o : Option Rental) → numbered e.rental s.rentals ≡ o → Decides (is_of k e o) (OfRental s k e)
+  go None is = (λ h. absurd cc, λ h. absurd (let f = sym is ∙ h.found in cc))
+  go (Some r) is = closes r is r.closing refl
+
+abbrev pub Booked : Operator → EntryKind → Entry → Type 0
+Booked s TopUp e = Unit {0}
+Booked s Fare e = OfRental s Fare e
+Booked s Refund e = OfRental s Refund e
+
+booked_decides : (s : Operator) (k : EntryKind) (e : Entry) → Decides (is_booked k e (numbered e.rental s.rentals)) (Booked s k e)
+booked_decides s TopUp e = (λ h. tt, λ h. refl)
+booked_decides s Fare e = of_decides s Fare e
+booked_decides s Refund e = of_decides s Refund e
+
+-- ---- what the line is asked
+
+pub record NamesGood (s : Operator) (before : ℕ) (e : Entry) : Type 0 where
+  pub number_is : e.number ≡ before + 1
+  pub room : before + open_rentals s < MOST_ENTRIES
+  pub rider_is : fin.contains_key s.riders e.rider ≡ true
+  pub by_now : e.at ≤ s.now
+  pub booked : Booked s e.kind e
+
+at_most : (a b : ℕ) → Decides (nat_le a b) (a ≤ b)
+at_most a b = (λ e. leb-true a b e, λ h. le-leb a b h)
+
+is_true : (b c : Bool) → b ≡ c → Decides b (c ≡ true)
+is_true b c e = (λ h. sym e ∙ h, λ h. e ∙ h)
+
+module _ (t : Tables) (up : AreInOrder t) (good_riders : AreGood t up Riders) (good_rentals : AreGood t up Rentals) (riders : AreWide 3 t.riders) (rentals : AreWide 10 t.rentals) where
+  abbrev s : Operator
+  s = operator_of t
+
+  rentals_are : AreRowsOfList (stored_rental s.entries) rental_in t.rentals s.rentals
+  rentals_are =
+      read_list (stored_rental s.entries) rental_in t.rentals (up Rentals)
+      (λ r has. stored_part rental_reading (λ e. (e.0, e.1)) (stored_rental s.entries) (IsGoodRental s (rows_below t Rentals (take 1 r))) r (good_rentals r has)
+      (λ a is fact. ap (λ (z : ℤ). rental_row a.0 a.1 z) fact.refunded_is))
+      (λ r has.
+      let it = some_with (IsGoodRental s (rows_below t Rentals (take 1 r))) (rental_read r) (good_rentals r has) in
+      (it.value.1, ap (option_map (λ (e : ℕ × Rental × ℤ). (e.0, e.1))) it.value_is ∙ ap (λ (n : ℕ). Some (n, it.value.1)) it.fact.number_is))
+
+  -- the rental under a number is that of its place
+  rental_partner : (k : ℕ) → option_map (λ r. r.1) (rental_read (or_nulls 10 (row_with 1 (number_key k) t.rentals))) ≡ numbered k s.rentals
+  rental_partner k =
+      read (row_with 1 (number_key k) t.rentals)
+      ∙ at_number (stored_rental s.entries) (λ e. refl) rental_in t.rentals s.rentals rentals_are.rows_are rentals_are.back k
+    where
+      parts : (o : Option (ℕ × Rental × ℤ)) → option_map (λ (r : ℕ × Rental × ℤ). r.1) o ≡ option_map (λ (e : ℕ × Rental). e.1) (option_map (λ (e : ℕ × Rental × ℤ). (e.0, e.1)) o)
+      parts None = refl
+      parts (Some e) = refl
+
+      read : (o : Option Row) → option_map (λ (r : ℕ × Rental × ℤ). r.1) (rental_read (or_nulls 10 o)) ≡ option_map (λ (e : ℕ × Rental). e.1) (option_and_then rental_in o)
+      read None = refl
+      read (Some r) = parts (rental_read r)
+
+  module _ (r : Row) (wide : length r ≡ 6) where
+    p_wide : length (or_nulls 3 (partner 1 (column r 2 ∷ []) t.riders)) ≡ 3
+    p_wide = partner_wide 3 1 (column r 2 ∷ []) t.riders riders
+
+    q_wide : length (or_nulls 10 (partner 1 (column r 3 ∷ []) t.rentals)) ≡ 10
+    q_wide = partner_wide 10 1 (column r 3 ∷ []) t.rentals rentals
+
+    rider_there : (e : Entry) → entry_read r ≡ Some e → is_some (rider_read (part 6 3 (entry_line t r))) ≡ fin.contains_key s.riders e.rider
+    rider_there e is =
+        ap (λ (x : Row). is_some (rider_read x)) (first_of_two r 6 3 (partner 1 (column r 2 ∷ []) t.riders) wide p_wide 10 (partner 1 (column r 3 ∷ []) t.rentals) q_wide)
+        ∙ ap (λ (x : Row). is_some (rider_read (or_nulls 3 (partner 1 (column x 2 ∷ []) t.riders)))) (entry_reading.sound r e is).0
+        ∙ rider_partner t up good_riders e.rider
+
+    rental_there : (e : Entry) → entry_read r ≡ Some e → option_map (λ r. r.1) (rental_read (part 9 10 (entry_line t r))) ≡ numbered e.rental s.rentals
+    rental_there e is =
+        ap (λ (x : Row). option_map (λ (r : ℕ × Rental × ℤ). r.1) (rental_read x)) (second_of_two r 6 3 (partner 1 (column r 2 ∷ []) t.riders) wide p_wide 10 (partner 1 (column r 3 ∷ []) t.rentals) q_wide 9 refl)
+        ∙ ap (λ (x : Row). option_map (λ (r : ℕ × Rental × ℤ). r.1) (rental_read (or_nulls 10 (partner 1 (column x 3 ∷ []) t.rentals)))) (entry_reading.sound r e is).0
+        ∙ rental_partner e.rental
+
+    pub names_decide : (n : ℕ) → Decides (entry_names s.now (open_rentals s) n (entry_line t r)) (IsSomeAnd (entry_read r) (NamesGood s n))
+    names_decide n =
+        subst (λ (x : Row). Decides (entry_holds s.now (open_rentals s) n (entry_line t r) (entry_read x)) (IsSomeAnd (entry_read r) (NamesGood s n)))
+        (sym (own_of_two r 6 3 (partner 1 (column r 2 ∷ []) t.riders) wide p_wide 10 (partner 1 (column r 3 ∷ []) t.rentals) q_wide)) (go (entry_read r) refl)
+      where
+        go : (o : Option Entry) → entry_read r ≡ o → Decides (entry_holds s.now (open_rentals s) n (entry_line t r) o) (IsSomeAnd o (NamesGood s n))
+        go None is = (λ e. absurd cc, λ h. absurd h)
+        go (Some e) is =
+            let rider = is_some (rider_read (part 6 3 (entry_line t r))) in
+            let book = is_booked e.kind e (option_map (λ (r : ℕ × Rental × ℤ). r.1) (rental_read (part 9 10 (entry_line t r)))) in
+            Decides-like ((e.number == n + 1) && (nat_lt (n + open_rentals s) MOST_ENTRIES && (rider && (nat_le e.at s.now && book))))
+            (λ h. record { number_is = h.0; room = h.1.0; rider_is = h.1.1.0; by_now = h.1.1.1.0; booked = h.1.1.1.1 })
+            (λ (g : NamesGood s n e). (g.number_is, (g.room, (g.rider_is, (g.by_now, g.booked)))))
+            (Decides-and (e.number == n + 1) (nat_lt (n + open_rentals s) MOST_ENTRIES && (rider && (nat_le e.at s.now && book))) (Decides-eqb e.number (n + 1))
+            (Decides-and (nat_lt (n + open_rentals s) MOST_ENTRIES) (rider && (nat_le e.at s.now && book)) (Decides-ltb (n + open_rentals s) MOST_ENTRIES)
+            (Decides-and rider (nat_le e.at s.now && book) (is_true rider (fin.contains_key s.riders e.rider) (rider_there e is))
+            (Decides-and (nat_le e.at s.now) book (at_most e.at s.now)
+            (subst (λ (o : Option Rental). Decides (is_booked e.kind e o) (Booked s e.kind e)) (sym (rental_there e is)) (booked_decides s e.kind e))))))

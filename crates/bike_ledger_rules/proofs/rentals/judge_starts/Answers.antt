@@ -1,0 +1,14 @@
+use Rattle.std.proofs.Common.{◌∙◌, map}
+use Rattle.bike_book.specs.Tables.{Rentals}
+use Rattle.bike_schema.specs.Tables.{tables_of}
+use Rattle.bike_judges.specs.Passes.{first_failing}
+use Rattle.bike_ledger_rules.specs.Rentals.{rental_starts, first_column, starts_line}
+use Rattle.bike_ledger_rules.proofs.ReadLaws.{reads_ours}
+use Rattle.bike_ledger_rules.proofs.RentalVerdict.{lines_failing, starts_begin}
+use Rattle.bike_ledger_rules.proofs.Widths.{rentals_wide}
+use Rattle.bike_ledger_rules.proofs.rentals.judge_starts.Goals as goal
+
+pub returns : goal.returns
+returns g c = reads_ours c.judge_lines.ensures (λ db ours found says. lines_failing Rentals starts_line rental_starts 10 starts_begin db (rentals_wide db ours.has) found (λ v is.
+    let zero = c.new.ensures.before in
+    says v ((λ i. first_failing rental_starts first_column (zero i) (map (starts_line (tables_of db)) (tables_of db).rentals)) ∙ is)))

@@ -1,0 +1,4 @@
+pub mod Lines
+pub mod Riders
+pub mod Rentals
+pub mod Entries

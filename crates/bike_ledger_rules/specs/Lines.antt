@@ -1,0 +1,29 @@
+-- What the columns before the row of a line say, and what a judge finds in the lines of a query.
+use Rattle.std.specs.Prelude.{ℕ, ℤ, Bool, false, Option, option_map}
+use Rattle.std.specs.Ordering.{int_eq}
+use Rattle.sqlite_value.specs.declared.value.Value.{Value}
+use Rattle.sqlite_value.specs.declared.value.Value.TheVariants.{Int}
+use Rattle.sqlite_value.specs.Order.{Row}
+use Rattle.sqlite.specs.Effect.{Database}
+use Rattle.bike_book.specs.Tables.{TableName, Tables, Meta}
+use Rattle.bike_schema.specs.Tables.{tables_of}
+use Rattle.bike_rules.specs.Rules.{IsGoodKey}
+use Rattle.bike_judges.specs.declared.key.BadKey.{BadKey}
+use Rattle.bike_judges.specs.Judging.{key_row}
+use Rattle.bike_judges.specs.Passes.{Demands}
+use Rattle.bike_judges.specs.Verdicts.{IsFirstFailing}
+
+-- the column holds this whole number
+abbrev pub holds : ℤ → Value → Bool
+holds n (Int z) = int_eq z n
+holds n _ = false
+
+-- ---- what is judged
+
+-- all keys of meta are good
+abbrev pub MetaGood : Tables → Type 0
+MetaGood t = (key : Row) → IsGoodKey t Meta key
+
+-- what was found is the first key of the table whose row fails the test
+abbrev pub FindsFailing : TableName → (Tables → ℕ → Row → Bool) → Database → Option BadKey → Type 0
+FindsFailing name test db found = IsFirstFailing (tables_of db) name (Demands (tables_of db) name (test (tables_of db))) (option_map key_row found)

@@ -1,0 +1,18 @@
+//! The rules of riders, rentals and entries in code: for each table the first bad key.
+//!
+//! `specs/Riders`, `specs/Rentals` and `specs/Entries` say what is asked of the lines of the audit's queries; each function answers
+//! by `JudgesTable` of bike_judges.
+#![tactic(auto)]
+
+mod columns;
+mod entries;
+mod fares;
+mod moment;
+mod open_rentals;
+mod rental_entries;
+mod rentals;
+mod riders;
+
+pub use entries::judge_entries;
+pub use rentals::judge_rentals;
+pub use riders::judge_riders;

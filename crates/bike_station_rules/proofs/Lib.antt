@@ -1,0 +1,13 @@
+pub mod Lookups
+pub mod Widths
+pub mod OfRows
+pub mod DockTest
+pub mod CountSteps
+mod TextLemmas
+pub mod DockedRows
+pub mod Bits
+pub mod Folds
+pub mod Judged
+pub mod StationTest
+mod MetaText
+pub mod StationVerdict

@@ -1,0 +1,6 @@
+use Rattle.bike_passes.proofs.ReadsLaw.{reads_told}
+use Rattle.bike_station_rules.proofs.Judged.{numbers_judged}
+use Rattle.bike_station_rules.proofs.judge.judge_numbers.Goals as goal
+
+pub returns : goal.returns
+returns g c = reads_told c.judge_lines.ensures (λ db ours found told. numbers_judged db ours found c.new.result.account c.new.ensures.account c.new.result.closed c.new.ensures.closed told)

@@ -1,0 +1,6 @@
+pub mod Docks
+pub mod Docked
+pub mod DockSets
+pub mod Stations
+pub mod StationRows
+pub mod StationVerdicts

@@ -1,0 +1,35 @@
+-- What the two passes over stations find.
+use Rattle.std.specs.Prelude.{ℕ, [], ◌∷◌, ◌++◌, map, take, Bool, Option, option_map, option_and_then}
+use Rattle.sqlite_value.specs.Order.{Row}
+use Rattle.sqlite.specs.Effect.{Database}
+use Rattle.bike_rows.specs.View.{row_with}
+use Rattle.bike_book.specs.Tables.{Tables, Stations}
+use Rattle.bike_book.specs.Rows.{number_value}
+use Rattle.bike_schema.specs.Tables.{tables_of}
+use Rattle.bike_readings.specs.Readings.{meta_read}
+use Rattle.bike_judges.specs.Judging.{key_row}
+use Rattle.bike_judges.specs.Lines.{station_line, station_dock_line, station_bike_line}
+use Rattle.bike_judges.specs.Passes.{Demands, is_good_with}
+use Rattle.bike_judges.specs.Verdicts.{IsFirstFailing}
+use Rattle.bike_judges.specs.declared.key.BadKey.{BadKey}
+use Rattle.bike_station_rules.specs.StationRows.{is_good_station}
+use Rattle.bike_station_rules.specs.Stations.{begins, more, good, key}
+
+-- row 1 of meta, and the moment that it tells
+abbrev pub meta_in : Tables → Option Row
+meta_in t = row_with 1 (number_value 1 ∷ []) t.meta
+
+abbrev pub now_in : Option Row → Option ℕ
+now_in row = option_map (λ e. e.1) (option_and_then meta_read row)
+
+-- the first station that isn't good by itself, where it is now that moment
+abbrev pub FindsByRow : Option ℕ → Database → Option BadKey → Type 0
+FindsByRow now db found = IsFirstFailing (tables_of db) Stations (Demands (tables_of db) Stations (is_good_station now)) (option_map key_row found)
+
+-- the station's account with the lines of all docks and bicycles is good, where so many stations have lesser keys
+abbrev pub is_accounted : Tables → ℕ → Row → Bool
+is_accounted t n row = is_good_with begins more good key (take 1) (map station_dock_line t.docks ++ map station_bike_line t.bikes) n (begins (station_line row))
+
+-- the first station whose numbers aren't those of its docks and bicycles
+abbrev pub FindsByNumber : Database → Option BadKey → Type 0
+FindsByNumber db found = IsFirstFailing (tables_of db) Stations (Demands (tables_of db) Stations (is_accounted (tables_of db))) (option_map key_row found)

@@ -1,0 +1,68 @@
+-- The account of a station: which of its docks are broken, and which hold a bicycle.
+use Rattle.std.specs.Prelude.{ℕ, ℤ, pos, List, [], ◌∷◌, Bool, false, ◌&&◌, ◌==◌, if◌then◌else◌, replicate, Option, Some, None}
+use Rattle.std.specs.Ordering.{int_eq}
+use Rattle.std.specs.Str.{bytes_eq}
+use Rattle.sqlite_value.specs.declared.value.Value.{Value}
+use Rattle.sqlite_value.specs.declared.value.Value.TheVariants.{Int, Text}
+use Rattle.sqlite_value.specs.Order.{Row, column}
+use Rattle.bike_operator.specs.Operator.{Station}
+use Rattle.bike_readings.specs.Readings.{dock_read, station_read}
+use Rattle.bike_judges.specs.Lines.{part}
+use Rattle.bike_judges.specs.declared.pass.Opening.{Opening}
+use Rattle.bike_judges.specs.declared.pass.Opening.TheVariants.{Head, Unread, Item}
+use Rattle.bike_station_rules.specs.DockSets.{with_bit, many_in, many_in_neither}
+use Rattle.bike_station_rules.specs.Docked.{docked_in}
+use Rattle.bike_station_rules.specs.declared.account.StationAccount.{StationAccount}
+
+-- ---- lines
+
+-- the two are one text
+abbrev pub is_same_text : Value → Value → Bool
+is_same_text (Text a) (Text b) = bytes_eq a b
+is_same_text _ _ = false
+
+-- the place of a table
+abbrev pub is_place : ℕ → Value → Bool
+is_place place (Int n) = int_eq n (pos place)
+is_place place _ = false
+
+abbrev pub broken_dock : Option (List ℕ × ℕ × Bool) → Option ℕ
+broken_dock None = None
+broken_dock (Some d) = if d.2 then Some d.1 else None
+
+-- the dock that a line says is broken, and the dock that it says holds a bicycle
+abbrev pub broken_at : Row → Option ℕ
+broken_at line = if is_place 1 (column line 1) then broken_dock (dock_read (part 3 3 line)) else None
+
+abbrev pub taken_at : Row → Option ℕ
+taken_at line = if is_place 2 (column line 1) then docked_in (part 3 8 line) else None
+
+-- ---- accounts
+
+abbrev pub opened : Row → Option (List ℕ × Station × ℤ × ℕ) → Opening StationAccount
+opened line None = Unread
+opened line (Some e) =
+    Head (record { head = line; docks = e.1.row.docks; free = e.2; broken = e.3; is_broken = replicate 201 false; is_taken = replicate 201 false })
+
+abbrev pub begins : Row → Opening StationAccount
+begins line = if is_place 0 (column line 1) then opened line (station_read (part 3 11 line)) else Item
+
+abbrev pub owner : StationAccount → Value
+owner a = column a.head 0
+
+-- what a line says, where it is of this owner
+abbrev pub of_owner : Value → Row → Option ℕ → Option ℕ
+of_owner station line said = if is_same_text (column line 0) station then said else None
+
+abbrev pub more : StationAccount → Row → StationAccount
+more a line = record a {
+  is_broken = with_bit (of_owner (owner a) line (broken_at line)) a.is_broken;
+  is_taken = with_bit (of_owner (owner a) line (taken_at line)) a.is_taken;
+}
+
+-- the numbers that are stored are those of its docks
+abbrev pub good : ℕ → StationAccount → Bool
+good before a = int_eq a.free (pos (many_in_neither a.is_taken a.is_broken a.docks)) && (a.broken == many_in a.is_broken a.docks)
+
+abbrev pub key : StationAccount → Row
+key a = owner a ∷ []

@@ -1,0 +1,120 @@
+//! Lines of tables that mix.
+
+ghost use Rattle.std.specs.Prelude.{◌≡◌, ◌≤◌, [], ◌∷◌, IfOk, pos, is_some, option_map};
+ghost use Rattle.sqlite_value.specs.Order.{column};
+ghost use Rattle.bike_judges.specs.Judging.{key_row};
+ghost use Rattle.bike_judges.specs.Lines.{part};
+ghost use Rattle.bike_station_rules.specs.Stations.{is_same_text, is_place};
+ghost use Rattle.bike_schema.specs.Columns.{text_in, ident_in};
+ghost use Rattle.bike_station_rules.specs.Docked.{docked_in, docked_columns};
+
+use bike_fields::{BicycleNumber, DockNumber, Ident};
+use bike_judges::BadKey;
+use bike_schema::{StatementFault, number_at, state_at};
+use sqlite::Row;
+use sqlite::types::ValueRef;
+use std::marker::Model;
+
+/// Whether the line is of the table of that place.
+pub(crate) fn is_of(line: &Row, place: u32) -> bool
+    ensures { result ≡ is_place place (column line.now 1) }
+{
+    match line.get_ref(1) {
+        Ok(ValueRef::Int(n)) => n == i64::from(place),
+        _ => false,
+    }
+}
+
+/// The line that a stretch begins with, which has a first column.
+#[derive(Drop)]
+pub(crate) struct HeadLine {
+    line: Row,
+}
+
+impl Model for HeadLine {
+    ghost use Rattle.std.specs.Prelude.{length, ◌≤◌};
+    ghost use Rattle.sqlite_value.specs.Order.{Row};
+
+    ghost Value = { Row };
+
+    ghost view = { λ a. a.line };
+
+    ghost invariant = { λ a. 1 ≤ length a.line };
+}
+
+impl HeadLine {
+    /// A copy of the line. It is an error where memory is refused, or the line has no column.
+    pub(crate) fn of(line: &Row) -> Result<HeadLine, StatementFault>
+        ensures { IfOk result (λ head. head ≡ line.now) }
+    {
+        if line.column_count() == 0 {
+            return Err(StatementFault::StoreFailed);
+        }
+        Ok(HeadLine { line: line.copy()? })
+    }
+
+    /// Whether the other line is of the same owner.
+    pub(crate) fn owns(&self, line: &Row) -> bool
+        ensures { result ≡ is_same_text (column line.now 0) (column self.now 0) }
+    {
+        match (line.get_ref(0), self.line.get_ref(0)) {
+            (Ok(ValueRef::Text(other)), Ok(ValueRef::Text(owner))) => other == owner,
+            _ => false,
+        }
+    }
+
+    /// The key of its row.
+    pub(crate) fn into_key(self) -> BadKey
+        ensures { key_row result ≡ column self 0 ∷ [] }
+    {
+        BadKey::Columns(self.line, 1)
+    }
+}
+
+/// The text, where it is UTF-8.
+fn text_in(line: &Row, at: usize) -> Option<&str>
+    ensures { option_map (λ text. text.now) result ≡ text_in (column line.now at) }
+{
+    let Ok(ValueRef::Text(bytes)) = line.get_ref(at) else {
+        return None;
+    };
+    match str::from_utf8(bytes) {
+        Ok(text) => Some(text),
+        Err(_) => None,
+    }
+}
+
+/// Whether the column holds an identifier.
+fn has_ident(line: &Row, at: usize) -> bool
+    ensures { result ≡ is_some (ident_in (column line.now at)) }
+{
+    match text_in(line, at) {
+        Some(text) => Ident::checked(text).is_some(),
+        None => false,
+    }
+}
+
+/// The dock in the columns of a bicycle from the fourth on, where the line has them all and they name it.
+fn dock_in_columns(line: &Row) -> Option<DockNumber>
+    ensures { result ≡ docked_columns line.now }
+{
+    if line.column_count() < 11 {
+        return None;
+    }
+    let bike: Result<BicycleNumber, StatementFault> = number_at(line, 3);
+    if bike.is_err() || !has_ident(line, 4) || state_at(line, 5).is_err() || !has_ident(line, 6) {
+        return None;
+    }
+    match number_at(line, 7) {
+        Ok(dock) => Some(dock),
+        Err(_) => None,
+    }
+}
+
+/// The dock that the bicycle of the line is in: its row stands from the fourth column on.
+#[tactic(auto, using(crate::proofs::DockedRows::docked_is))]
+pub(crate) fn docked_at(line: &Row) -> Option<DockNumber>
+    ensures { result ≡ docked_in (part 3 8 line.now) }
+{
+    dock_in_columns(line)
+}
