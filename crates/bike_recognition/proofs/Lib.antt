@@ -2,6 +2,6 @@ mod ClimbLemmas
 mod PassLemmas
 mod SchemaLemmas
 mod RowidTexts
-mod LookLemmas
+pub mod LookLemmas
 mod StandLemmas
 mod MetaTexts

@@ -13,7 +13,7 @@ use sqlite::{Alter, Connection};
 use std::alloc::Global;
 
 /// The tables in the order of the schema.
-const EVERY_TABLE: [TableName; 15] = [
+pub const EVERY_TABLE: [TableName; 15] = [
     TableName::Meta,
     TableName::System,
     TableName::Plans,
@@ -32,8 +32,8 @@ const EVERY_TABLE: [TableName; 15] = [
 ];
 
 /// Finds out whether the connection is open, by a statement that names no table. One that was shut by a fault of the
-/// store is `StoreFailed`.
-pub(crate) fn check_open<S: Alter>(conn: &mut Connection<S>) -> Result<(), StatementFault>
+/// store is `StoreFailed`. The database stays as it is.
+pub fn check_open<S: Alter>(conn: &mut Connection<S>) -> Result<(), StatementFault>
     ensures { ReadsAny S.Store conn.old conn.new result (λ db _. AnyDatabase db) }
 {
     conn.prepare("SELECT 1")?;

@@ -1,0 +1,58 @@
+//! What a database is, and whether its tables stand for an operator.
+
+ghost use Rattle.bike_rows.specs.Calls.{ReadsWhere};
+ghost use Rattle.bike_schema.specs.Tables.{HasTables};
+ghost use Rattle.bike_recognition.specs.Recognition.{ReadsAny};
+ghost use Rattle.bike_audit.specs.Audit.{IsAudited, IsByRules};
+
+use crate::tables::{BadRow, first_bad_row};
+use bike_recognition::{Recognition, check_open, recognise};
+use bike_schema::StatementFault;
+use sqlite::{Alter, Connection};
+use std::alloc::Global;
+
+/// What the audit finds a database to be.
+#[derive(Debug, Drop)]
+pub enum Finding {
+    /// It has no table of the product's names.
+    Empty,
+    /// All tables stand, in the newest version, and stand for an operator.
+    Sound,
+    /// It has some of the names, and isn't the product's.
+    Foreign,
+    /// All tables stand, in the newest version; this is the first row that is not an operator's.
+    Unsound(BadRow),
+    /// It is of this earlier version of the schema.
+    Older(u64),
+    /// It is of this later version of the schema.
+    Newer(u64),
+}
+
+/// What the rules find in a database in which all tables stand.
+fn audit_tables<S: Alter>(
+    alloc: Global,
+    conn: &mut Connection<S>,
+) -> Result<Finding, StatementFault>
+    ensures { ReadsWhere S.Store HasTables conn.old conn.new result (λ db found. HasTables db × IsByRules db found) }
+{
+    check_open(conn)?;
+    // This tells the prover that the database obeys its schema.
+    let _ = conn.schema();
+    match first_bad_row(alloc, conn)? {
+        Some(bad) => Ok(Finding::Unsound(bad)),
+        None => Ok(Finding::Sound),
+    }
+}
+
+/// What the database is; it stays as it is. `NoMemory` where memory is refused, `StoreFailed` where the store fails.
+pub fn audit<S: Alter>(alloc: Global, conn: &mut Connection<S>) -> Result<Finding, StatementFault>
+    ensures { ReadsAny S.Store conn.old conn.new result IsAudited }
+{
+    match recognise(alloc, conn)? {
+        Recognition::Empty => Ok(Finding::Empty),
+        Recognition::Foreign => Ok(Finding::Foreign),
+        Recognition::Older(version) => Ok(Finding::Older(version)),
+        Recognition::Newer(version) => Ok(Finding::Newer(version)),
+        Recognition::Ours => audit_tables(alloc, conn),
+    }
+}

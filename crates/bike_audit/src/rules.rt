@@ -1,0 +1,46 @@
+//! The rules of each table.
+
+ghost use Rattle.bike_rows.specs.Calls.{ReadsWhere};
+ghost use Rattle.bike_schema.specs.Tables.{IsOurs};
+ghost use Rattle.bike_judges.specs.Verdicts.{JudgesTable};
+ghost use Rattle.bike_recognition.specs.Names.{table_named};
+
+use bike_catalogue_rules::{
+    judge_kept, judge_meta, judge_plans, judge_segments, judge_system, judge_types,
+};
+use bike_count_rules::judge_counts;
+use bike_fleet_rules::{judge_bikes, judge_orders, judge_trucks};
+use bike_judges::BadKey;
+use bike_ledger_rules::{judge_entries, judge_rentals, judge_riders};
+use bike_recognition::TableName;
+use bike_schema::StatementFault;
+use bike_station_rules::{judge_docks, judge_stations};
+use sqlite::{Alter, Connection};
+use std::alloc::Global;
+
+/// The first bad key of the table, where all tables before it are good.
+pub(crate) fn judge_table<S: Alter>(
+    alloc: Global,
+    conn: &mut Connection<S>,
+    table: TableName,
+) -> Result<Option<BadKey>, StatementFault>
+    ensures { ReadsWhere S.Store IsOurs conn.old conn.new result (JudgesTable (table_named table)) }
+{
+    match table {
+        TableName::Meta => judge_meta(conn),
+        TableName::System => judge_system(conn),
+        TableName::Plans => judge_plans(conn),
+        TableName::Segments => judge_segments(conn),
+        TableName::Types => judge_types(conn),
+        TableName::Stations => judge_stations(conn),
+        TableName::Docks => judge_docks(conn),
+        TableName::Bikes => judge_bikes(conn),
+        TableName::Trucks => judge_trucks(conn),
+        TableName::Riders => judge_riders(conn),
+        TableName::Rentals => judge_rentals(conn),
+        TableName::Orders => judge_orders(conn),
+        TableName::Entries => judge_entries(conn),
+        TableName::Kept => judge_kept(alloc, conn),
+        TableName::Counts => judge_counts(alloc, conn),
+    }
+}

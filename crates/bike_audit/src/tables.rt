@@ -1,0 +1,53 @@
+//! The verdict on the tables, one after the other.
+
+ghost use Rattle.std.specs.Prelude.{map, option_map};
+ghost use Rattle.bike_rows.specs.Calls.{ReadsWhere};
+ghost use Rattle.bike_schema.specs.Tables.{IsOurs};
+ghost use Rattle.bike_recognition.specs.Names.{table_named};
+ghost use Rattle.bike_audit.specs.Audit.{IsFoundIn, IsVerdictOn, named};
+
+use crate::rules::judge_table;
+use bike_judges::BadKey;
+use bike_recognition::{EVERY_TABLE, TableName, check_open};
+use bike_schema::StatementFault;
+use sqlite::{Alter, Connection};
+use std::alloc::Global;
+
+/// A row that is not an operator's, or one that is missing.
+#[derive(Debug, Drop)]
+pub struct BadRow {
+    pub table: TableName,
+    pub key: BadKey,
+}
+
+/// The first bad row of these tables, in their order.
+fn first_bad_of<S: Alter>(
+    alloc: Global,
+    conn: &mut Connection<S>,
+    tables: &[TableName],
+) -> Result<Option<BadRow>, StatementFault>
+    ensures { ReadsWhere S.Store IsOurs conn.old conn.new result
+        (λ db bad. IsFoundIn (map table_named tables.now) db (option_map named bad)) }
+{
+    match tables {
+        [] => {
+            check_open(conn)?;
+            Ok(None)
+        }
+        [table, more @ ..] => match judge_table(alloc, conn, *table)? {
+            Some(key) => Ok(Some(BadRow { table: *table, key })),
+            None => first_bad_of(alloc, conn, more),
+        },
+    }
+}
+
+/// The first row of the tables that is not an operator's, by the order of the tables and of their keys, and `None`
+/// where the tables stand for an operator.
+pub fn first_bad_row<S: Alter>(
+    alloc: Global,
+    conn: &mut Connection<S>,
+) -> Result<Option<BadRow>, StatementFault>
+    ensures { ReadsWhere S.Store IsOurs conn.old conn.new result IsVerdictOn }
+{
+    first_bad_of(alloc, conn, &EVERY_TABLE)
+}
