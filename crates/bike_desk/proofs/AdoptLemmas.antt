@@ -31,8 +31,8 @@ use Rattle.bike_schema.specs.Stands.{IsOf, StandsFor, TreesStandFor, AllLeft}
 use Rattle.bike_schema.specs.Creates.{IsFresh, Creates}
 use Rattle.bike_schema.specs.declared.fault.StatementFault.{StatementFault}
 use Rattle.bike_schema.specs.declared.fault.StatementFault.TheVariants.{NoMemory, StoreFailed}
-use Rattle.bike_desk.specs.Adoption.{AreFresh, handed, unmade}
-use Rattle.bike_desk.specs.Desk.{IsAt}
+use Rattle.bike_desk.specs.Adoption.{AreFresh, handed, failed, IsWant}
+use Rattle.bike_desk.specs.Desk.{DeskValue, IsAt}
 use Rattle.bike_desk.proofs.KeepLemmas.{Settles, no_meta, stands_in, settled_keeps}
 
 -- ---- trees list one set of tables
@@ -64,7 +64,7 @@ same_listed (r ∷ rows) (a ∷ ts) (b ∷ us) p q = ap (λ x. x ∷ ts) (same_t
 pub same_tables : (a b : Schema) (trees : Trees) → IsSchemaOf a trees → IsSchemaOf b trees → a.tables ≡ b.tables
 same_tables a b trees p q = same_listed _ a.tables b.tables p.lists.listed.tables q.lists.listed.tables
 
-same_place : (a b : Schema) (name : List ℕ) (at : ℕ) → a.tables ≡ b.tables → table_named a name ≡ Some at → table_named b name ≡ None → ⊥
+pub same_place : (a b : Schema) (name : List ℕ) (at : ℕ) → a.tables ≡ b.tables → table_named a name ≡ Some at → table_named b name ≡ None → ⊥
 same_place a b name at same there none =
     let here : table_named b name ≡ Some at = subst (λ ts. table_named (record { tables = ts; indexes = []; views = [] }) name ≡ Some at) same there in absurd (cc)
 
@@ -131,12 +131,16 @@ module _ {S : Type 0} (g : Ghosts S) (settles : Settles g) (old : Held S) (settl
     | inr made ↦ subst (λ o. TreesStandFor o db) (sym (nobody_else (state g old).now s (sound live).0 none stands)) (stands_in made.0 db no_operator (fresh_stands (state g old).now made.0 made.1) made.2)
   ]
 
--- an adopted connection is at whomever its trees stood for
-pub nobody_here : {S : Type 0} (g : Ghosts S) (old end : Held S) (s : Operator) → IsLive (state g old) → IsTrue (state g old).is_open → HasNone (state g old).now.schema → TreesStandFor s (state g old).now.trees
-    → IsAt g (record { conn = end; is_stopped = end.in_transaction }) no_operator → IsAt g (record { conn = end; is_stopped = end.in_transaction }) s
-nobody_here g old end s sound live none stands at = subst (IsAt g (record { conn = end; is_stopped = end.in_transaction })) (sym (nobody_else (state g old).now s (sound live).0 none stands)) at
+-- a desk at the empty operator is at whomever the trees stood for that had none of the tables
+pub nobody_at : {S : Type 0} (g : Ghosts S) (old : Held S) (d : DeskValue S) (s : Operator) → IsLive (state g old) → IsTrue (state g old).is_open → HasNone (state g old).now.schema → TreesStandFor s (state g old).now.trees → IsAt g d no_operator → IsAt g d s
+nobody_at g old d s sound live none stands at = subst (IsAt g d) (sym (nobody_else (state g old).now s (sound live).0 none stands)) at
 
 -- whatever the fault, the connection comes back
-pub handed_unmade : {S : Type 0} (fault : StatementFault) (conn : Held S) → handed (unmade fault conn) ≡ conn
-handed_unmade NoMemory conn = refl
-handed_unmade StoreFailed conn = refl
+pub handed_failed : {S : Type 0} (fault : StatementFault) (conn : Held S) → handed (failed fault conn) ≡ conn
+handed_failed NoMemory conn = refl
+handed_failed StoreFailed conn = refl
+
+-- a statement that failed tells nothing of the database
+pub want_of : {S : Type 0} (fault : StatementFault) (conn : Held S) → IsWant (failed fault conn)
+want_of NoMemory conn = tt
+want_of StoreFailed conn = tt

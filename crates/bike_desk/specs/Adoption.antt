@@ -1,15 +1,21 @@
 -- What an adoption that fails hands back.
-use Rattle.std.specs.Prelude.{◌≡◌, ℕ, List, codes}
+use Rattle.std.specs.Prelude.{◌≡◌, ℕ, List, codes, Result, Ok, Err, IsTrue}
 use Rattle.sqlite_trees.specs.declared.store.Store.{Ghosts}
 use Rattle.sqlite_trees.specs.Tree.{Trees}
 use Rattle.sqlite.specs.Held.{Held, state}
 use Rattle.sqlite.specs.Effect.{Database}
-use Rattle.bike_schema.specs.Tables.{HasNone}
+use Rattle.sqlite.specs.State.{IsUnchanged}
+use Rattle.bike_operator.specs.Operator.{no_operator}
+use Rattle.bike_schema.specs.Makes.{OthersStay}
 use Rattle.bike_schema.specs.Creates.{IsFresh}
 use Rattle.bike_schema.specs.declared.fault.StatementFault.{StatementFault}
 use Rattle.bike_schema.specs.declared.fault.StatementFault.TheVariants as statement
 use Rattle.bike_desk.specs.declared.adopt.AdoptFault.{AdoptFault}
-use Rattle.bike_desk.specs.declared.adopt.AdoptFault.TheVariants.{Foreign, NoMemory, StoreFailed}
+use Rattle.bike_desk.specs.declared.adopt.AdoptFault.TheVariants.{Foreign, Unsound, Older, Newer, NoMemory, StoreFailed}
+use Rattle.bike_desk.specs.Desk.{DeskValue, IsAt, shown}
+use Rattle.bike_audit.specs.Audit.{IsAudited}
+use Rattle.bike_audit.specs.declared.finding.Finding.{Finding}
+use Rattle.bike_audit.specs.declared.finding.Finding.TheVariants as finding
 
 -- the trees hold the empty tables, beside the other tables of this database
 abbrev pub AreFresh : Database → Trees → Type 0
@@ -19,22 +25,60 @@ module _ {S : Type 0} where
   -- the connection in a fault
   abbrev pub handed : AdoptFault S → Held S
   handed (Foreign c) = c
+  handed (Unsound c bad) = c
+  handed (Older c version) = c
+  handed (Newer c version) = c
   handed (NoMemory c) = c
   handed (StoreFailed c) = c
 
-  -- the tables couldn't be made on the connection
-  abbrev pub unmade : StatementFault → Held S → AdoptFault S
-  unmade statement.NoMemory c = NoMemory c
-  unmade statement.StoreFailed c = StoreFailed c
+  -- a statement failed on the connection
+  abbrev pub failed : StatementFault → Held S → AdoptFault S
+  failed statement.NoMemory c = NoMemory c
+  failed statement.StoreFailed c = StoreFailed c
 
-  -- the line that tells the fault
+  -- what comes of a database that was found to be this; one that isn't empty is never found to be
+  abbrev pub found_as : Held S → Finding → Result (DeskValue S) (AdoptFault S)
+  found_as c finding.Sound = Ok (record { conn = c; is_stopped = c.in_transaction })
+  found_as c finding.Foreign = Err (Foreign c)
+  found_as c (finding.Unsound bad) = Err (Unsound c bad)
+  found_as c (finding.Older version) = Err (Older c version)
+  found_as c (finding.Newer version) = Err (Newer c version)
+  found_as c finding.Empty = Err (StoreFailed c)
+
+  -- the word that tells the fault
   abbrev pub line_of : AdoptFault S → List ℕ
   line_of (Foreign c) = codes "foreign"
+  line_of (Unsound c bad) = codes "unsound"
+  line_of (Older c version) = codes "older"
+  line_of (Newer c version) = codes "newer"
   line_of (NoMemory c) = codes "out of memory"
   line_of (StoreFailed c) = codes "store failed"
 
-  -- foreign is a database with some of the tables, and it stays as it is; the other faults are told only where there are none
+  -- the empty tables were made, beside all others
+  pub record Begins (g : Ghosts S) (old : Held S) (d : DeskValue S) : Type 0 where
+    pub was_open : IsTrue (state g old).is_open
+    pub at : IsAt g d no_operator
+    pub others : OthersStay (state g old).now (shown g d).now
+
+  -- a fault of a statement
+  abbrev pub IsOfStatement : Ghosts S → Held S → AdoptFault S → Type 0
+  IsOfStatement g old e = (fault : StatementFault) × (e ≡ failed fault (handed e))
+
+  -- the database is what the fault tells, and as it was
+  abbrev pub IsFound : Ghosts S → Held S → Held S → Finding → Type 0
+  IsFound g old c finding = IsAudited (state g old).now finding × IsUnchanged (state g old) (state g c)
+
+  -- What a fault tells of the database. Want of memory and a failed store tell nothing of it.
   abbrev pub IsToldOf : Ghosts S → Held S → AdoptFault S → Type 0
-  IsToldOf g old (Foreign c) = (¬ HasNone (state g old).now.schema) × (c ≡ old)
-  IsToldOf g old (NoMemory c) = HasNone (state g old).now.schema
-  IsToldOf g old (StoreFailed c) = HasNone (state g old).now.schema
+  IsToldOf g old (Foreign c) = IsFound g old c finding.Foreign
+  IsToldOf g old (Unsound c bad) = IsFound g old c (finding.Unsound bad)
+  IsToldOf g old (Older c version) = IsFound g old c (finding.Older version)
+  IsToldOf g old (Newer c version) = IsFound g old c (finding.Newer version)
+  IsToldOf g old (NoMemory c) = Unit {0}
+  IsToldOf g old (StoreFailed c) = Unit {0}
+
+  -- a fault that tells nothing of the database
+  abbrev pub IsWant : AdoptFault S → Type 0
+  IsWant (NoMemory c) = Unit {0}
+  IsWant (StoreFailed c) = Unit {0}
+  IsWant _ = ⊥

@@ -34,3 +34,7 @@ pub record StopsBy {S : Type 0} (old new : DeskValue S) (end : Option DeskFault)
 -- the trees stand for the operator after a front of the list that holds the k acknowledged requests and at most one more
 abbrev pub IsAfterFront : Operator → List Call → ℕ → Trees → Type 0
 IsAfterFront s calls k trees = (j : ℕ) × (k ≤ j) × (j ≤ k + 1) × (j ≤ length calls) × TreesStandFor (after s (take j calls)) trees
+
+-- the desk is at the operator after such a front
+abbrev pub IsAtFront : {S : Type 0} → Ghosts S → DeskValue S → Operator → List Call → ℕ → Type 0
+IsAtFront g d s calls k = (j : ℕ) × (k ≤ j) × (j ≤ k + 1) × (j ≤ length calls) × IsAt g d (after s (take j calls))

@@ -1,32 +1,40 @@
 //! Taking a database into service.
 
-ghost use Rattle.std.specs.Prelude.{◌≡◌, ◌≤◌, false, IsTrue, IfOk, IfErr, MatchResult, Err};
+ghost use Rattle.std.specs.Prelude.{◌≡◌, ◌≤◌, false, IsTrue, IfOk, IfErr, MatchResult};
 ghost use Rattle.sqlite.specs.State.{HasCleanDisk};
 ghost use Rattle.sqlite.specs.Held.{state};
 ghost use Rattle.sqlite_trees.specs.View.{doubt};
-ghost use Rattle.bike_operator.specs.Operator.{Operator, no_operator};
+ghost use Rattle.bike_operator.specs.Operator.{Operator};
 ghost use Rattle.bike_schema.specs.Tables.{HasNone};
 ghost use Rattle.bike_schema.specs.Makes.{OthersStay};
 ghost use Rattle.bike_schema.specs.Stands.{AllLeft, IsOf, TreesStandFor};
 ghost use Rattle.bike_desk.specs.Desk.{shown, IsAt};
-ghost use Rattle.bike_desk.specs.Adoption.{handed, unmade, IsToldOf};
+ghost use Rattle.bike_desk.specs.Adoption.{handed, failed, found_as, Begins, IsOfStatement, IsToldOf, IsWant};
 
 use crate::desk::Desk;
 use crate::transaction::make_tables;
+use bike_audit::{BadRow, Finding, audit};
 use bike_schema::{StatementFault, has_none};
 use sqlite::{Alter, Connection};
+use std::alloc::Global;
 use std::error::Error;
 use std::fmt;
 use std::fmt::{Debug, Display, Formatter};
 
-/// Why a connection wasn't adopted. Each fault hands it back.
+/// Why a connection wasn't adopted. Each fault hands it back, outside a transaction.
 #[derive(Drop)]
 pub enum AdoptFault<S: Alter> {
-    /// The database has some of the product's tables, or a foreign key that names one. It is as it was.
+    /// The database has some of the product's names, and isn't the product's. It is as it was.
     Foreign(Connection<S>),
-    /// Memory was refused while the tables were made. What is stored stands for the empty operator.
+    /// The tables stand for no operator: this is the first row that is not an operator's. The database is as it was.
+    Unsound(Connection<S>, BadRow),
+    /// The database is of this earlier version of the schema. It is as it was.
+    Older(Connection<S>, u64),
+    /// The database is of this later version of the schema. It is as it was.
+    Newer(Connection<S>, u64),
+    /// Memory was refused. What is stored stands for the operator for whom it stood.
     NoMemory(Connection<S>),
-    /// The store failed while the tables were made. What is stored stands for the empty operator.
+    /// The store failed. What is stored stands for the operator for whom it stood.
     StoreFailed(Connection<S>),
 }
 
@@ -37,14 +45,17 @@ impl<S: Alter> AdoptFault<S> {
     {
         match self {
             AdoptFault::Foreign(conn) => conn,
+            AdoptFault::Unsound(conn, _) => conn,
+            AdoptFault::Older(conn, _) => conn,
+            AdoptFault::Newer(conn, _) => conn,
             AdoptFault::NoMemory(conn) => conn,
             AdoptFault::StoreFailed(conn) => conn,
         }
     }
 
-    /// Why the tables couldn't be made on the connection.
-    fn unmade(fault: StatementFault, conn: Connection<S>) -> AdoptFault<S>
-        ensures { result ≡ unmade fault conn }
+    /// Why a statement on the connection failed.
+    fn failed(fault: StatementFault, conn: Connection<S>) -> AdoptFault<S>
+        ensures { result ≡ failed fault conn }
     {
         match fault {
             StatementFault::NoMemory => AdoptFault::NoMemory(conn),
@@ -62,6 +73,9 @@ impl<S: Alter> Display for AdoptFault<S> {
     fn fmt<W: fmt::Write>(&self, f: &mut Formatter<W>) -> fmt::Result {
         match self {
             AdoptFault::Foreign(_) => f.write_str("foreign"),
+            AdoptFault::Unsound(_, _) => f.write_str("unsound"),
+            AdoptFault::Older(_, _) => f.write_str("older"),
+            AdoptFault::Newer(_, _) => f.write_str("newer"),
             AdoptFault::NoMemory(_) => f.write_str("out of memory"),
             AdoptFault::StoreFailed(_) => f.write_str("store failed"),
         }
@@ -78,24 +92,65 @@ impl<S: Alter> Debug for AdoptFault<S> {
 impl<S: Alter + Drop> Error for AdoptFault<S> {}
 
 impl<S: Alter> Desk<S> {
-    /// Takes a connection outside a transaction whose database has none of the product's tables, and no foreign
-    /// key that names one, and makes them in one transaction: the desk begins with the operator of whom
-    /// nothing was asked, and every other table stays. Every other database comes back as `Foreign`, and as it was.
-    pub fn adopt(mut conn: Connection<S>) -> Result<Desk<S>, AdoptFault<S>>
+    /// Makes the tables in a database that has none of them, in one transaction.
+    fn begin(mut conn: Connection<S>) -> Result<Desk<S>, AdoptFault<S>>
         requires { conn.in_transaction ≡ false }
         ensures clean { MatchResult result
             (λ d. doubt (state S.Store conn).is_clean ≤ doubt (shown S.Store d).is_clean)
             (λ e. doubt (state S.Store conn).is_clean ≤ doubt (state S.Store (handed e)).is_clean) }
-        ensures only { IfOk result (λ d. HasNone (state S.Store conn).now.schema
-            × (HasCleanDisk (shown S.Store d) → IsAt S.Store d no_operator)) }
+        ensures begun { HasNone (state S.Store conn).now.schema → IfOk result (λ d. HasCleanDisk (shown S.Store d) → Begins S.Store conn d) }
+        ensures told { IfErr result (IsOfStatement S.Store conn) }
+        ensures autocommit { IfErr result (λ e. (handed e).in_transaction ≡ false) }
+        ensures left { HasNone (state S.Store conn).now.schema → (s : Operator) → TreesStandFor s (state S.Store conn).now.trees
+            → IsTrue (state S.Store conn).is_open → IfErr result (λ e. HasCleanDisk (state S.Store (handed e))
+            → AllLeft (state S.Store (handed e)) (TreesStandFor s)) }
+    {
+        // These two tell the prover that nothing is pending and that the database obeys its schema.
+        let _ = conn.is_autocommit();
+        let _ = conn.schema();
+        match make_tables(&mut conn) {
+            Ok(()) => Ok(Desk::over(conn)),
+            Err(fault) => Err(AdoptFault::failed(fault, conn)),
+        }
+    }
+
+    /// What comes of a database that was found to be this.
+    fn found(conn: Connection<S>, finding: Finding) -> Result<Desk<S>, AdoptFault<S>>
+        ensures { result ≡ found_as conn finding }
+    {
+        match finding {
+            Finding::Sound => Ok(Desk::over(conn)),
+            Finding::Foreign => Err(AdoptFault::Foreign(conn)),
+            Finding::Unsound(bad) => Err(AdoptFault::Unsound(conn, bad)),
+            Finding::Older(version) => Err(AdoptFault::Older(conn, version)),
+            Finding::Newer(version) => Err(AdoptFault::Newer(conn, version)),
+            // It had a table of the product's before.
+            Finding::Empty => Err(AdoptFault::StoreFailed(conn)),
+        }
+    }
+
+    /// Takes a connection outside a transaction into service. A database with none of the product's tables, and no
+    /// foreign key that names one, gets them in one transaction, and the desk begins with the operator of whom nothing was
+    /// asked. Of any other database the tables are audited, and the desk stands for their operator, if there is one. Tables
+    /// of other names stay.
+    pub fn adopt(alloc: Global, mut conn: Connection<S>) -> Result<Desk<S>, AdoptFault<S>>
+        requires { conn.in_transaction ≡ false }
+        ensures clean { MatchResult result
+            (λ d. doubt (state S.Store conn).is_clean ≤ doubt (shown S.Store d).is_clean)
+            (λ e. doubt (state S.Store conn).is_clean ≤ doubt (state S.Store (handed e)).is_clean) }
+        ensures only { IfOk result (λ d. HasCleanDisk (shown S.Store d)
+            → (s : Operator) × IsOf (state S.Store conn).now s × IsAt S.Store d s) }
         ensures others { IfOk result (λ d. HasCleanDisk (shown S.Store d)
             → OthersStay (state S.Store conn).now (shown S.Store d).now) }
         ensures found { (s : Operator) → TreesStandFor s (state S.Store conn).now.trees
             → IfOk result (λ d. HasCleanDisk (shown S.Store d) → IsAt S.Store d s) }
-        ensures foreign { ¬ HasNone (state S.Store conn).now.schema → result ≡ Err (AdoptFault.Foreign conn) }
+
+        // Tables that stand for an operator are refused for memory or storage alone.
+        ensures refused { (s : Operator) → TreesStandFor s (state S.Store conn).now.trees
+            → IfErr result (λ e. HasCleanDisk (state S.Store (handed e)) → IsWant e) }
 
         // Each fault hands the connection back outside a transaction.
-        ensures told { IfErr result (IsToldOf S.Store conn) }
+        ensures told { IfErr result (λ e. HasCleanDisk (state S.Store (handed e)) → IsToldOf S.Store conn e) }
         ensures autocommit { IfErr result (λ e. (handed e).in_transaction ≡ false) }
         ensures left { (s : Operator) → TreesStandFor s (state S.Store conn).now.trees
             → IsTrue (state S.Store conn).is_open → IfErr result (λ e. HasCleanDisk (state S.Store (handed e))
@@ -107,12 +162,12 @@ impl<S: Alter> Desk<S> {
         // These two tell the prover that nothing is pending and that the database obeys its schema.
         let _ = conn.is_autocommit();
         let _ = conn.schema();
-        if !has_none(&conn) {
-            return Err(AdoptFault::Foreign(conn));
+        if has_none(&conn) {
+            return Desk::begin(conn);
         }
-        match make_tables(&mut conn) {
-            Ok(()) => Ok(Desk::over(conn)),
-            Err(fault) => Err(AdoptFault::unmade(fault, conn)),
+        match audit(alloc, &mut conn) {
+            Ok(finding) => Desk::found(conn, finding),
+            Err(fault) => Err(AdoptFault::failed(fault, conn)),
         }
     }
 }

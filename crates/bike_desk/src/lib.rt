@@ -5,6 +5,7 @@
 #![tactic(auto)]
 
 mod adopt;
+mod crash;
 mod desk;
 mod fault;
 mod queries;

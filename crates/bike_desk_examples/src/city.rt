@@ -71,7 +71,7 @@ pub const CARRY: [Exchange; 4] = [
 
 /// A desk over an empty database in memory.
 fn open_desk(alloc: Global) -> Result<Desk<MemStore>, Fail> {
-    match Desk::adopt(Connection::open_in_memory(alloc)?) {
+    match Desk::adopt(alloc, Connection::open_in_memory(alloc)?) {
         Ok(desk) => Ok(desk),
         Err(_) => Err("an empty database is adopted".into()),
     }
