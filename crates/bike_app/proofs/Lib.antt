@@ -1,4 +1,5 @@
-pub mod EndLemmas
+pub mod PieceLemmas
 pub mod LineLemmas
 pub mod ProgramLemmas
 pub mod RunLemmas
+pub mod WordLemmas

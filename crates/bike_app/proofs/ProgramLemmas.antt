@@ -19,12 +19,12 @@ use Rattle.bike_desk.specs.declared.fault.DeskFault.{DeskFault}
 use Rattle.bike_desk.specs.declared.fault.DeskFault.TheVariants.{NoMemory, StoreFailed, Stopped}
 use Rattle.bike_desk.specs.declared.adopt.AdoptFault.{AdoptFault}
 use Rattle.bike_desk.specs.declared.adopt.AdoptFault.TheVariants as adopt
-use Rattle.bike_desk.specs.Adoption.{IsToldOf}
+use Rattle.bike_desk.specs.Adoption.{IsWant}
 use Rattle.bike_app.specs.declared.fault.LinesFault.{LinesFault}
 use Rattle.bike_app.specs.declared.end.Fault.{Fault}
 use Rattle.bike_app.specs.Ends.{lines_fault, adopt_fault, end_of}
 use Rattle.bike_app.specs.Runs.{ServesSome}
-use Rattle.bike_app.specs.Program.{StandsAfterSome, Serves, FailsToBegin, ServesInMemory}
+use Rattle.bike_app.specs.Program.{StandsAfterSome, Refuses, Serves, FailsToBegin, ServesInMemory}
 
 -- the fault of the lines is told as the program's
 pub end_told : (result : Result ℕ LinesFault) (told : Result ℕ Fault) → MatchResult result (λ count. told ≡ Ok count) (λ e. IsErrAnd told (λ f. f ≡ lines_fault e)) → told ≡ end_of result
@@ -61,19 +61,26 @@ unfolding doubt
 memory_is_clean h = refl
 
 -- it has none of the tables, and begins with nothing
-pub memory_has_none : (h : Held MemStore) → IsEmpty (state over_memory h) → HasNone (state over_memory h).now.schema
+memory_has_none : (h : Held MemStore) → IsEmpty (state over_memory h) → HasNone (state over_memory h).now.schema
 unfolding no_tables
 memory_has_none h empty = subst HasNone (sym empty.2) none_in
 
 pub memory_begins : (h : Held MemStore) → IsEmpty (state over_memory h) → TreesStandFor no_operator (state over_memory h).now.trees
 memory_begins h empty = ((state over_memory h).now.schema, record { sound = (empty.1 empty.0.is_open).0; is = inl (memory_has_none h empty, refl) })
 
-not_begun : (h : Held MemStore) (fault : AdoptFault MemStore) → HasNone (state over_memory h).now.schema → IsToldOf over_memory h fault → (input ahead old new : Option (List ℕ)) → Keeps input ahead → Keeps old new
-    → FailsToBegin input ahead old new (Err (adopt_fault fault))
-not_begun h (adopt.Foreign c) none told input ahead old new read written = absurd (told.0 none)
-not_begun h (adopt.NoMemory c) none told input ahead old new read written = record { told = inl refl; read = read; written = written }
-not_begun h (adopt.StoreFailed c) none told input ahead old new read written = record { told = inr refl; read = read; written = written }
+not_begun : (fault : AdoptFault MemStore) → IsWant fault → (input ahead old new : Option (List ℕ)) → Keeps input ahead → Keeps old new → FailsToBegin input ahead old new (Err (adopt_fault fault))
+not_begun (adopt.Foreign c) want input ahead old new read written = absurd want
+not_begun (adopt.Unsound c bad) want input ahead old new read written = absurd want
+not_begun (adopt.Older c version) want input ahead old new read written = absurd want
+not_begun (adopt.Newer c version) want input ahead old new read written = absurd want
+not_begun (adopt.NoMemory c) want input ahead old new read written = record { told = inl refl; read = read; written = written }
+not_begun (adopt.StoreFailed c) want input ahead old new read written = record { told = inr refl; read = read; written = written }
+
+-- a database in memory is refused for memory or storage alone
+pub memory_refused : (first last : Held MemStore) → IsEmpty (state over_memory first) → (input ahead old new : Option (List ℕ)) (end : Result ℕ Fault) → Refuses over_memory input ahead old new first last end → FailsToBegin input ahead old new end
+memory_refused first last empty input ahead old new end r =
+    subst (FailsToBegin input ahead old new) (sym r.told) (not_begun r.fault (r.want no_operator (memory_begins first empty)) input ahead old new r.read r.written)
 
 pub in_memory : (first last : Held MemStore) → IsEmpty (state over_memory first) → (input ahead old new : Option (List ℕ)) (end : Result ℕ Fault) → Serves over_memory input ahead old new first last no_operator end → ServesInMemory input ahead old new end
-in_memory first last empty input ahead old new end (inl r) = inl (subst (FailsToBegin input ahead old new) (sym r.told) (not_begun first r.fault (memory_has_none first empty) r.why input ahead old new r.read r.written))
+in_memory first last empty input ahead old new end (inl r) = inl (memory_refused first last empty input ahead old new end r)
 in_memory first last empty input ahead old new end (inr r) = inr (last, r)

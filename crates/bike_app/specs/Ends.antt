@@ -1,25 +1,46 @@
 -- How the program ends: a line on standard error, and its exit status.
-use Rattle.std.specs.Prelude.{ℕ, ◌≤◌, List, [], ◌∷◌, ◌++◌, length, take, codes, Option, Result, Ok, Err}
-use Rattle.std.specs.Io.KnownBytes.{Appends}
+use Rattle.std.specs.Prelude.{ℕ, List, [], ◌++◌, codes, Result, Ok, Err}
+use Rattle.std.specs.Fmt.{decimal}
+use Rattle.sqlite.specs.declared.error.Error.{Error}
+use Rattle.sqlite.specs.declared.error.Error.TheVariants.{SqliteFailure}
+use Rattle.sqlite.specs.declared.error.ErrorCode.TheVariants as code
+use Rattle.bike_schema.specs.Layouts.{name_of}
+use Rattle.bike_recognition.specs.Names.{table_named}
+use Rattle.bike_judges.specs.Judging.{key_row}
 use Rattle.bike_desk.specs.declared.fault.DeskFault.TheVariants as desk
 use Rattle.bike_desk.specs.declared.adopt.AdoptFault.{AdoptFault}
 use Rattle.bike_desk.specs.declared.adopt.AdoptFault.TheVariants as adopt
 use Rattle.bike_app.specs.declared.fault.LinesFault.{LinesFault}
 use Rattle.bike_app.specs.declared.fault.LinesFault.TheVariants as lines
 use Rattle.bike_app.specs.declared.end.Fault.{Fault}
-use Rattle.bike_app.specs.declared.end.Fault.TheVariants.{StoreFailed, OutOfMemory, Foreign, ReadFailed, WriteFailed}
+use Rattle.bike_app.specs.declared.end.Fault.TheVariants.{StoreFailed, OutOfMemory, Foreign, Unsound, Older, Newer, ReadFailed, WriteFailed}
+use Rattle.bike_app.specs.Pieces.{key_text}
 
-abbrev pub message_of : Fault → List ℕ
-message_of StoreFailed = codes "store failed"
-message_of OutOfMemory = codes "out of memory"
-message_of Foreign = codes "foreign"
-message_of ReadFailed = codes "read failed"
-message_of WriteFailed = codes "write failed"
+-- the word that a fault is told by
+abbrev pub word_of : Fault → List ℕ
+word_of StoreFailed = codes "store failed"
+word_of OutOfMemory = codes "out of memory"
+word_of Foreign = codes "foreign"
+word_of (Unsound bad) = codes "unsound"
+word_of (Older version) = codes "older"
+word_of (Newer version) = codes "newer"
+word_of ReadFailed = codes "read failed"
+word_of WriteFailed = codes "write failed"
+
+-- what is told behind the word: the table and the key of a bad row, or the version
+abbrev pub detail_of : Fault → List ℕ
+detail_of (Unsound bad) = codes " " ++ name_of (table_named bad.table) ++ codes " " ++ key_text (key_row bad.key)
+detail_of (Older version) = codes " " ++ decimal version
+detail_of (Newer version) = codes " " ++ decimal version
+detail_of _ = []
 
 abbrev pub fault_status : Fault → ℕ
 fault_status StoreFailed = 3
 fault_status OutOfMemory = 4
 fault_status Foreign = 5
+fault_status (Unsound bad) = 5
+fault_status (Older version) = 5
+fault_status (Newer version) = 5
 fault_status ReadFailed = 6
 fault_status WriteFailed = 6
 
@@ -34,6 +55,9 @@ lines_fault (lines.Desk desk.Stopped) = StoreFailed
 
 abbrev pub adopt_fault : {S : Type 0} → AdoptFault S → Fault
 adopt_fault (adopt.Foreign conn) = Foreign
+adopt_fault (adopt.Unsound conn bad) = Unsound bad
+adopt_fault (adopt.Older conn version) = Older version
+adopt_fault (adopt.Newer conn version) = Newer version
 adopt_fault (adopt.NoMemory conn) = OutOfMemory
 adopt_fault (adopt.StoreFailed conn) = StoreFailed
 
@@ -50,8 +74,9 @@ status_of (Err fault) = fault_status fault
 -- what is told of it on standard error
 abbrev pub line_of : Result ℕ Fault → List ℕ
 line_of (Ok count) = []
-line_of (Err fault) = message_of fault ++ 10 ∷ []
+line_of (Err fault) = word_of fault ++ detail_of fault ++ codes "\n"
 
--- known bytes grow by a front of these, or by all of them
-abbrev pub AppendsSome : Option (List ℕ) → Option (List ℕ) → List ℕ → Type 0
-AppendsSome old new bytes = (k : ℕ) × (k ≤ length bytes) × Appends old new (take k bytes)
+-- a database that can't be opened: want of memory, or the store
+abbrev pub open_fault : Error → Fault
+open_fault (SqliteFailure code.OutOfMemory) = OutOfMemory
+open_fault _ = StoreFailed

@@ -3,7 +3,7 @@ use Rattle.std.specs.Prelude.{◌≡◌, ◌⊎◌, ℕ, List, ◌++◌, length,
 use Rattle.std.specs.Io.KnownBytes.{Keeps}
 use Rattle.sqlite.specs.Store.{Ghosts}
 use Rattle.sqlite.specs.Steps.{over_memory}
-use Rattle.sqlite.specs.Held.{Held}
+use Rattle.sqlite.specs.Held.{Held, state}
 use Rattle.sqlite.specs.Tree.{Trees}
 use Rattle.sqlite_trees.specs.declared.memory.MemStore.{MemStore}
 use Rattle.bike_operator.specs.Operator.{Operator, no_operator}
@@ -12,7 +12,7 @@ use Rattle.bike_operator.specs.Sound.{AreCalls}
 use Rattle.bike_schema.specs.Stands.{TreesStandFor}
 use Rattle.bike_desk.specs.Desk.{DeskValue}
 use Rattle.bike_desk.specs.declared.adopt.AdoptFault.{AdoptFault}
-use Rattle.bike_desk.specs.Adoption.{handed, IsToldOf}
+use Rattle.bike_desk.specs.Adoption.{handed, IsToldOf, IsWant}
 use Rattle.bike_stream.specs.Lines.{lines_of}
 use Rattle.bike_app.specs.declared.fault.LinesFault.{LinesFault}
 use Rattle.bike_app.specs.declared.end.Fault.{Fault}
@@ -27,11 +27,12 @@ StandsAfterSome s trees = (calls : List Call) × AreCalls calls × TreesStandFor
 
 -- the input before and after, and what was written before and after
 module _ {S : Type 0} (g : Ghosts S) (input ahead old new : Option (List ℕ)) where
-  -- the connection couldn't be adopted, and nothing was read or written
+  -- the connection couldn't be adopted, for memory or storage alone where it stands for an operator; nothing was read or written
   pub record Refuses (first last : Held S) (end : Result ℕ Fault) : Type 0 where
     pub fault : AdoptFault S
     pub told : end ≡ Err (adopt_fault fault)
     pub why : IsToldOf g first fault
+    pub want : (s : Operator) → TreesStandFor s (state g first).now.trees → IsWant fault
     pub conn : last ≡ handed fault
     pub read : Keeps input ahead
     pub written : Keeps old new

@@ -1,14 +1,17 @@
 //! How the program ends: a line on standard error, and its exit status.
 
-ghost use Rattle.std.specs.Prelude.{◌≡◌, ◌++◌, ◌∷◌, []};
+ghost use Rattle.std.specs.Prelude.{◌≡◌, ◌++◌, codes};
+ghost use Rattle.std.specs.Fmt.{decimal};
 ghost use Rattle.std.specs.Process.{exit_status};
-ghost use Rattle.bike_app.specs.Ends.{message_of, fault_status, status_of, line_of, AppendsSome};
+ghost use Rattle.bike_desk.specs.Adoption.{handed};
+ghost use Rattle.bike_app.specs.Pieces.{AppendsSome, Puts};
+ghost use Rattle.bike_app.specs.Ends.{word_of, detail_of, fault_status, adopt_fault, status_of, line_of};
 
 use crate::fault::LinesFault;
-use arrayvec::ArrayString;
+use crate::pieces::{put, put_key, put_number};
+use bike_audit::BadRow;
 use bike_desk::{AdoptFault, DeskFault};
-use bike_stream::write_whole;
-use sqlite::Alter;
+use sqlite::{Alter, Connection, ErrorCode};
 use std::alloc::AllocError;
 use std::error::Error;
 use std::fmt;
@@ -16,11 +19,8 @@ use std::fmt::{Display, Formatter};
 use std::io::Write;
 use std::process::ExitCode;
 
-/// The bytes of the longest fault line, its line feed counted.
-const FAULT_LENGTH: usize = 14;
-
 /// What the program can't go on after.
-#[derive(Clone, Copy, Debug, PartialEq, Eq)]
+#[derive(Debug, Drop)]
 pub enum Fault {
     /// The store failed.
     StoreFailed,
@@ -28,6 +28,12 @@ pub enum Fault {
     OutOfMemory,
     /// The database belongs to another program.
     Foreign,
+    /// The tables stand for no operator: this is the first row that is not an operator's.
+    Unsound(BadRow),
+    /// The database is of this earlier version of the schema.
+    Older(u64),
+    /// The database is of this later version of the schema.
+    Newer(u64),
     /// The input failed.
     ReadFailed,
     /// The output failed.
@@ -35,50 +41,59 @@ pub enum Fault {
 }
 
 impl Fault {
-    /// What is told on standard error.
-    pub fn message(self) -> &'static str
-        ensures { result.now ≡ message_of self }
+    /// The first words of its line on standard error.
+    pub fn word(&self) -> &'static str
+        ensures { result.now ≡ word_of self.now }
     {
         match self {
             Fault::StoreFailed => "store failed",
             Fault::OutOfMemory => "out of memory",
             Fault::Foreign => "foreign",
+            Fault::Unsound(_) => "unsound",
+            Fault::Older(_) => "older",
+            Fault::Newer(_) => "newer",
             Fault::ReadFailed => "read failed",
             Fault::WriteFailed => "write failed",
         }
     }
 
     /// The exit status.
-    pub fn status(self) -> u8
-        ensures { result ≡ fault_status self }
+    pub fn status(&self) -> u8
+        ensures { result ≡ fault_status self.now }
     {
         match self {
             Fault::StoreFailed => 3,
             Fault::OutOfMemory => 4,
-            Fault::Foreign => 5,
+            Fault::Foreign | Fault::Unsound(_) | Fault::Older(_) | Fault::Newer(_) => 5,
             Fault::ReadFailed | Fault::WriteFailed => 6,
         }
     }
 
-    /// The message and a line feed.
-    fn line(self) -> ArrayString<FAULT_LENGTH>
-        ensures { result.bytes ≡ message_of self ++ 10 ∷ [] }
+    /// The fault of an adoption, and the connection that it hands back.
+    pub(crate) fn taken_from<S: Alter>(fault: AdoptFault<S>) -> (Connection<S>, Fault)
+        ensures conn { result.0 ≡ handed fault }
+        ensures told { result.1 ≡ adopt_fault fault }
     {
-        let mut out = ArrayString::new();
-        out.push_str(self.message());
-        out.push('\n');
-        out
+        match fault {
+            AdoptFault::Foreign(conn) => (conn, Fault::Foreign),
+            AdoptFault::Unsound(conn, bad) => (conn, Fault::Unsound(bad)),
+            AdoptFault::Older(conn, version) => (conn, Fault::Older(version)),
+            AdoptFault::Newer(conn, version) => (conn, Fault::Newer(version)),
+            AdoptFault::NoMemory(conn) => (conn, Fault::OutOfMemory),
+            AdoptFault::StoreFailed(conn) => (conn, Fault::StoreFailed),
+        }
     }
 }
 
+/// The first words of the fault's line.
 impl Display for Fault {
     ghost use Rattle.std.specs.Prelude.{Some};
-    ghost use Rattle.bike_app.specs.Ends.{message_of};
+    ghost use Rattle.bike_app.specs.Ends.{word_of};
 
-    ghost output = { λ fault. Some (message_of fault) };
+    ghost output = { λ fault. Some (word_of fault) };
 
     fn fmt<W: fmt::Write>(&self, f: &mut Formatter<W>) -> fmt::Result {
-        f.write_str(self.message())
+        f.write_str(self.word())
     }
 }
 
@@ -111,23 +126,48 @@ impl From<LinesFault> for Fault {
     }
 }
 
-impl<S: Alter> From<&AdoptFault<S>> for Fault {
+impl From<sqlite::Error> for Fault {
     ghost use Rattle.std.specs.Prelude.{◌≡◌};
-    ghost use Rattle.bike_app.specs.Ends.{adopt_fault};
+    ghost use Rattle.bike_app.specs.Ends.{open_fault};
 
-    ghost from_gives = { λ fault told. told ≡ adopt_fault fault.now };
+    ghost from_gives = { λ error told. told ≡ open_fault error };
 
-    fn from(fault: &AdoptFault<S>) -> Fault {
-        match fault {
-            AdoptFault::Foreign(_) => Fault::Foreign,
-            AdoptFault::NoMemory(_) => Fault::OutOfMemory,
-            AdoptFault::StoreFailed(_) => Fault::StoreFailed,
+    fn from(error: sqlite::Error) -> Fault {
+        match error {
+            sqlite::Error::SqliteFailure(ErrorCode::OutOfMemory) => Fault::OutOfMemory,
+            _ => Fault::StoreFailed,
         }
     }
 }
 
+/// Writes a version, and a space before it.
+fn put_version<W: Write>(out: &mut W, going: bool, version: u64) -> bool
+    ensures { Puts (W.contents out.old) (W.contents out.new) (codes " " ++ decimal version) going result }
+{
+    let going = put(out, going, b" ");
+    put_number(out, going, version)
+}
+
+/// Writes what is told of the fault behind its first words.
+fn put_detail<W: Write>(out: &mut W, going: bool, fault: &Fault) -> bool
+    ensures { Puts (W.contents out.old) (W.contents out.new) (detail_of fault.now) going result }
+{
+    match fault {
+        Fault::Unsound(bad) => {
+            let going = put(out, going, b" ");
+            let going = put(out, going, bad.table.name().as_bytes());
+            let going = put(out, going, b" ");
+            put_key(out, going, &bad.key)
+        }
+        Fault::Older(version) => put_version(out, going, *version),
+        Fault::Newer(version) => put_version(out, going, *version),
+        _ => going,
+    }
+}
+
 /// Writes the fault at which the program ends, if there is one, as a line, and gives the exit status, which is the same
-/// where that line can't be written.
+/// where that line can't be written. A fault's line is its first words; `unsound` has a table and a key behind them, whose
+/// columns are parted by `/`, and `older` and `newer` have a version.
 pub fn exit_code<W: Write>(errors: &mut W, end: &Result<u64, Fault>) -> ExitCode
     ensures status { exit_status result ≡ status_of end.now }
     ensures told { AppendsSome (W.contents errors.old) (W.contents errors.new) (line_of end.now) }
@@ -135,7 +175,9 @@ pub fn exit_code<W: Write>(errors: &mut W, end: &Result<u64, Fault>) -> ExitCode
     match end {
         Ok(_) => ExitCode::SUCCESS,
         Err(fault) => {
-            let _ = write_whole(errors, fault.line().as_bytes());
+            let going = put(errors, true, fault.word().as_bytes());
+            let going = put_detail(errors, going, fault);
+            put(errors, going, b"\n");
             ExitCode::from(fault.status())
         }
     }

@@ -4,9 +4,12 @@
 mod end;
 mod fault;
 mod lines;
+mod pieces;
 mod program;
+mod words;
 
 pub use end::{Fault, exit_code};
 pub use fault::LinesFault;
 pub use lines::{MOST_READS, run_lines};
 pub use program::{serve, serve_in_memory, serve_text};
+pub use words::{run_words, run_words_in_memory};

@@ -33,14 +33,14 @@ pub fn serve<S: Alter, R: Read, W: Write>(
         → TreesStandFor s (state S.Store conn).now.trees → IsTrue (state S.Store conn).is_open
         → AllLeft (state S.Store result.0) (StandsAfterSome s) }
 {
-    match Desk::adopt(conn) {
+    match Desk::adopt(alloc, conn) {
         Ok(mut desk) => {
             let end = run_lines(alloc, &mut desk, reader, writer);
             (desk.close(), end.map_err(Fault::from))
         }
         Err(fault) => {
-            let told = Fault::from(&fault);
-            (fault.into_connection(), Err(told))
+            let (conn, told) = Fault::taken_from(fault);
+            (conn, Err(told))
         }
     }
 }

@@ -23,15 +23,18 @@ returns-in-Ok-clause-kept g c clean s stands live =
     rw c.close.ensures.same (some_left g.S.Store c.run_lines-end.new.desk s _ (c.run_lines-end.ensures.kept now s (c.in-Ok.ensures.found s stands early)))
 
 pub returns-in-Err-clause-served : goal.returns-in-Err-clause-served
-returns-in-Err-clause-served g c clean s stands = inl (record {
-  fault = c.in-Err.fault;
-  told = ap Err c.from-told.ensures;
-  why = c.in-Err.ensures.told;
-  conn = c.into_connection.ensures;
-  read = search rules;
-  written = search rules;
-})
+returns-in-Err-clause-served g c clean s stands =
+    let now = rw c.taken_from-conn.ensures.conn at clean in
+    inl (record {
+      fault = c.in-Err.fault;
+      told = ap Err c.taken_from-conn.ensures.told;
+      why = c.in-Err.ensures.told now;
+      want = λ s stands. c.in-Err.ensures.refused s stands now;
+      conn = c.taken_from-conn.ensures.conn;
+      read = search rules;
+      written = search rules;
+    })
 
 pub returns-in-Err-clause-kept : goal.returns-in-Err-clause-kept
 returns-in-Err-clause-kept g c clean s stands live =
-    rw c.into_connection.ensures (λ db h. ([], tt, c.in-Err.ensures.left s stands live (rw c.into_connection.ensures at clean) db h))
+    rw c.taken_from-conn.ensures.conn (λ db h. ([], tt, c.in-Err.ensures.left s stands live (rw c.taken_from-conn.ensures.conn at clean) db h))

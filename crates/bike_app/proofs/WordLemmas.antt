@@ -1,0 +1,18 @@
+-- What the words do over a database in memory.
+use Rattle.std.proofs.Common.{ℕ, List, Option, Result, inl, inr}
+use Rattle.sqlite.specs.Steps.{over_memory, IsEmpty}
+use Rattle.sqlite.specs.Held.{Held, state}
+use Rattle.sqlite_trees.specs.declared.memory.MemStore.{MemStore}
+use Rattle.bike_operator.specs.Operator.{no_operator}
+use Rattle.bike_words.specs.declared.reading.Word.{Word}
+use Rattle.bike_words.specs.declared.reading.Word.TheVariants.{Init, Check, Lines}
+use Rattle.bike_app.specs.declared.end.Fault.{Fault}
+use Rattle.bike_app.specs.Words.{Does, DoesInMemory}
+use Rattle.bike_app.proofs.ProgramLemmas.{in_memory, memory_begins, memory_refused}
+
+pub word_in_memory : (word : Word) (first last : Held MemStore) → IsEmpty (state over_memory first) → (input ahead old new : Option (List ℕ)) (end : Result ℕ Fault) → Does over_memory input ahead old new word first last end → DoesInMemory input ahead old new word end
+word_in_memory Init first last empty input ahead old new end (inl r) = inl (memory_refused first last empty input ahead old new end r)
+word_in_memory Init first last empty input ahead old new end (inr t) = inr t.1
+word_in_memory Check first last empty input ahead old new end (inl r) = inl (memory_refused first last empty input ahead old new end r)
+word_in_memory Check first last empty input ahead old new end (inr t) = inr t.1
+word_in_memory Lines first last empty input ahead old new end does = in_memory first last empty input ahead old new end (does no_operator (memory_begins first empty))

@@ -1,0 +1,49 @@
+-- What each word of the program does with a database, and what it leaves.
+use Rattle.std.specs.Prelude.{◌≡◌, ◌⊎◌, ℕ, List, codes, Option, Result, Ok, Err}
+use Rattle.std.specs.Io.KnownBytes.{Appends}
+use Rattle.sqlite_trees.specs.Tree.{Trees}
+use Rattle.sqlite.specs.Store.{Ghosts}
+use Rattle.sqlite.specs.Held.{Held, state}
+use Rattle.bike_operator.specs.Operator.{Operator}
+use Rattle.bike_schema.specs.Stands.{IsOf, Keeps, TreesStandFor}
+use Rattle.bike_stream.specs.Writing.{AppendsFront}
+use Rattle.bike_words.specs.declared.reading.Word.{Word}
+use Rattle.bike_words.specs.declared.reading.Word.TheVariants.{Init, Check, Lines}
+use Rattle.bike_app.specs.declared.end.Fault.{Fault}
+use Rattle.bike_app.specs.declared.end.Fault.TheVariants.{WriteFailed}
+use Rattle.bike_app.specs.Program.{StandsAfterSome, Refuses, Serves, FailsToBegin, ServesInMemory}
+
+-- The database stood for an operator, or had none of the tables, and stands for him, with all that a crash may leave.
+pub record TakenUp {S : Type 0} (g : Ghosts S) (first last : Held S) : Type 0 where
+  pub operator : Operator
+  pub was : IsOf (state g first).now operator
+  pub keeps : Keeps (state g last) operator
+
+-- the line was written, or less of it
+abbrev pub WritesLine : Option (List ℕ) → Option (List ℕ) → List ℕ → Result ℕ Fault → Type 0
+WritesLine old new line (Ok count) = (count ≡ 0) × Appends old new line
+WritesLine old new line (Err fault) = (fault ≡ WriteFailed) × AppendsFront old new line
+
+-- the input before and after, and what was written before and after
+module _ {S : Type 0} (g : Ghosts S) (input ahead old new : Option (List ℕ)) where
+  -- the connection couldn't be adopted, or it was and a line tells that
+  abbrev pub TellsTakenUp : Held S → Held S → List ℕ → Result ℕ Fault → Type 0
+  TellsTakenUp first last line end = Refuses g input ahead old new first last end ⊎ (TakenUp g first last × WritesLine old new line end)
+
+  -- WHAT A WORD DOES over this connection, which becomes that one
+  abbrev pub Does : Word → Held S → Held S → Result ℕ Fault → Type 0
+  Does Init first last end = TellsTakenUp first last (codes "ready\n") end
+  Does Check first last end = TellsTakenUp first last (codes "sound\n") end
+  Does Lines first last end = (s : Operator) → TreesStandFor s (state g first).now.trees → Serves g input ahead old new first last s end
+
+-- what a crash may leave of a database that stood for the operator
+abbrev pub MayStand : Word → Operator → Trees → Type 0
+MayStand Lines s trees = StandsAfterSome s trees
+MayStand _ s trees = TreesStandFor s trees
+
+-- over a database in memory
+module _ (input ahead old new : Option (List ℕ)) where
+  abbrev pub DoesInMemory : Word → Result ℕ Fault → Type 0
+  DoesInMemory Init end = FailsToBegin input ahead old new end ⊎ WritesLine old new (codes "ready\n") end
+  DoesInMemory Check end = FailsToBegin input ahead old new end ⊎ WritesLine old new (codes "sound\n") end
+  DoesInMemory Lines end = ServesInMemory input ahead old new end
