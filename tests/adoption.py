@@ -1,0 +1,263 @@
+"""Files that are opened again: what `check` finds of a small city whose rows were changed from outside, one change at a time.
+
+The wanted words follow from the rules in docs/FORMATS.md, sections 10 and 11, by hand: the first row that is bad, by the order of
+the tables and of their keys, where a row out of its bounds counts as absent for the others.
+"""
+
+import sqlite3
+from pathlib import Path
+
+NOW = 1700003000
+
+# What was asked of the city, a minute apart or so; each under a key of its own, by the office.
+ASKED = [
+    (1699999200, "set-system metro en Metro_Bikes 24/7 feeds@example.org Etc/UTC EUR http://127.0.0.1:8080 30", "ok"),
+    (1699999200, "add-plan basic Basic 100 false One_euro_and_then_a_quarter 30:25:5:-", "ok"),
+    (1699999200, "add-type city City bicycle human 0 basic", "ok"),
+    (1699999200, "add-station a1 Harbour 41.890169 12.492269 2", "ok"),
+    (1699999200, "add-bike 7 city", "ok"),
+    (1699999200, "add-truck 3 20", "ok"),
+    (1699999200, "open-order 3 * a1 city 1", "order 1"),
+    (1699999200, "load 3 1 7", "ok"),
+    (1699999200, "unload 3 1 7 to 1", "ok"),
+    (1699999200, "close-order 1", "ok"),
+    (1699999200, "mark-dock a1 2 broken", "ok"),
+    (1699999200, "add-rider 17", "ok"),
+    (1699999200, "top-up 17 2500", "balance 2500"),
+    (1700000000, "start 17 a1 1", "rental 1 7"),
+    (1700001800, "end 7 a1 1", "fare 125 2375"),
+    (1700001900, "refund 1 25", "balance 2400"),
+    (1700001900, "add-rider 18", "ok"),
+    (1700001900, "top-up 18 1000", "balance 1000"),
+    (1700002000, "start 17 a1 1", "rental 2 7"),
+    (1700002000, "add-station b2 Bridge 45.000000 9.100000 3", "ok"),
+    (1700002000, "add-bike 8 city", "ok"),
+    (1700002000, "open-order 3 * b2 city 1", "order 2"),
+    (1700002000, "load 3 2 8", "ok"),
+    (1700002000, "unload 3 2 8 to 1", "ok"),
+    (1700002000, "close-order 2", "ok"),
+    (1700002000, "add-bike 9 city", "ok"),
+    (1700002000, "open-order 3 * a1 city 2", "order 3"),
+    (1700002000, "load 3 3 9", "ok"),
+    (NOW, "add-bike 10 city", "ok"),
+]
+
+# Two bicycles are where they say: 7 in rental 2, 8 in dock 1 of b2, 9 on truck 3 for order 3, 10 in the depot. Rental 1 is closed at
+# 125, of which 25 were refunded; entries 1 to 4 are a top-up of 17, that fare, that refund and a top-up of 18.
+CHANGES = [
+    ("UPDATE meta SET cash = cash + 1", "unsound meta 1"),
+    ("UPDATE meta SET revenue = revenue - 1", "unsound meta 1"),
+    ("UPDATE meta SET now = -1", "unsound meta 1"),
+    ("UPDATE meta SET now = 1600000000", "unsound stations a1"),
+    ("UPDATE meta SET app = 'other'", "foreign"),
+    ("UPDATE meta SET version = 0", "foreign"),
+    ("UPDATE meta SET version = -1", "foreign"),
+    ("UPDATE meta SET version = 2", "newer 2"),
+    ("UPDATE meta SET version = 9", "newer 9"),
+    ("DELETE FROM meta", "unsound meta 1"),
+    ("INSERT INTO meta VALUES (2, 'bikeshare', 1, 0, 0, 0)", "unsound meta 2"),
+    ("UPDATE system SET ttl = 86401", "unsound system 1"),
+    ("UPDATE system SET currency = 'eur'", "unsound system 1"),
+    ("UPDATE system SET one = 2", "unsound system 2"),
+    ("DELETE FROM system", None),
+    ("UPDATE plans SET price = -1", "unsound plans basic"),
+    ("UPDATE plans SET price = 1000001", "unsound plans basic"),
+    ("UPDATE plans SET taxable = 2", "unsound plans basic"),
+    ("UPDATE plans SET name = ''", "unsound plans basic"),
+    ("UPDATE plans SET plan_id = 'Basic'", "unsound plans Basic"),
+    ("UPDATE plans SET plan_id = 'gold'", "unsound segments basic/1"),
+    ("DELETE FROM plans", "unsound segments basic/1"),
+    ("UPDATE segments SET seq = 2", "unsound segments basic/2"),
+    ("UPDATE segments SET seq = 0", "unsound segments basic/0"),
+    ("UPDATE segments SET rate = 100001", "unsound segments basic/1"),
+    ("UPDATE segments SET finish = 30", "unsound segments basic/1"),
+    ("INSERT INTO segments VALUES ('basic', 3, 60, 1, 1, NULL)", "unsound segments basic/3"),
+    ("INSERT INTO segments VALUES ('basic', 2, 60, 1, 1, NULL)", None),
+    ("INSERT INTO segments VALUES ('aa', 1, 60, 1, 1, NULL)", "unsound segments aa/1"),
+    ("DELETE FROM segments", None),
+    ("UPDATE types SET plan_id = 'gold'", "unsound types city"),
+    ("UPDATE types SET form = 'boat'", "unsound types city"),
+    ("DELETE FROM types", "unsound bikes 7"),
+    ("UPDATE stations SET free = free + 1 WHERE station_id = 'a1'", "unsound stations a1"),
+    ("UPDATE stations SET free = free + 1", "unsound stations a1"),
+    ("UPDATE stations SET broken = broken + 1 WHERE station_id = 'b2'", "unsound stations b2"),
+    ("UPDATE stations SET lat = 90000001 WHERE station_id = 'b2'", "unsound stations b2"),
+    ("UPDATE stations SET docks = 0 WHERE station_id = 'b2'", "unsound stations b2"),
+    ("UPDATE stations SET reported = 1800000000 WHERE station_id = 'b2'", "unsound stations b2"),
+    ("UPDATE stations SET renting = 2 WHERE station_id = 'b2'", "unsound stations b2"),
+    ("DELETE FROM stations WHERE station_id = 'b2'", "unsound bikes 8"),
+    ("INSERT INTO docks VALUES ('a1', 3, 0)", "unsound docks a1/3"),
+    ("INSERT INTO docks VALUES ('zz', 1, 0)", "unsound docks zz/1"),
+    ("INSERT INTO docks VALUES ('b2', 3, 0)", None),
+    ("INSERT INTO docks VALUES ('b2', 3, 1)", "unsound stations b2"),
+    ("UPDATE docks SET broken = 2 WHERE station_id = 'a1'", "unsound stations a1"),
+    ("DELETE FROM docks WHERE station_id = 'a1'", "unsound stations a1"),
+    ("UPDATE bikes SET truck = 3, ord = 3 WHERE bike = 8", "unsound bikes 8"),
+    ("UPDATE bikes SET state = 3 WHERE bike = 10", "unsound bikes 10"),
+    ("UPDATE bikes SET state = 2 WHERE bike = 8", "unsound bikes 8"),
+    ("UPDATE bikes SET state = 2 WHERE bike = 10", None),
+    ("UPDATE bikes SET type_id = 'cargo' WHERE bike = 10", "unsound bikes 10"),
+    ("UPDATE bikes SET station_id = 'b2', dock = 1 WHERE bike = 10", "unsound bikes 10"),
+    ("UPDATE bikes SET station_id = 'b2', dock = 4 WHERE bike = 10", "unsound bikes 10"),
+    ("UPDATE bikes SET station_id = 'b2', dock = 2 WHERE bike = 10", "unsound stations b2"),
+    ("UPDATE bikes SET dock = NULL WHERE bike = 8", "unsound stations b2"),
+    ("UPDATE bikes SET rental = 1 WHERE bike = 10", "unsound bikes 10"),
+    ("UPDATE bikes SET rental = 2 WHERE bike = 10", "unsound bikes 10"),
+    ("UPDATE bikes SET rental = 3 WHERE bike = 10", "unsound bikes 10"),
+    ("UPDATE bikes SET ord = 1 WHERE bike = 9", "unsound bikes 9"),
+    ("UPDATE bikes SET truck = 4 WHERE bike = 9", "unsound bikes 9"),
+    ("UPDATE bikes SET rental = NULL WHERE bike = 7", "unsound rentals 2"),
+    ("UPDATE bikes SET bike = 0 WHERE bike = 10", "unsound bikes 0"),
+    ("UPDATE bikes SET bike = 1000000 WHERE bike = 10", "unsound bikes 1000000"),
+    ("DELETE FROM bikes WHERE bike = 10", None),
+    ("DELETE FROM bikes WHERE bike = 9", None),
+    ("DELETE FROM bikes WHERE bike = 7", "unsound rentals 1"),
+    ("UPDATE trucks SET capacity = 0", "unsound trucks 3"),
+    ("UPDATE trucks SET capacity = 61", "unsound trucks 3"),
+    ("UPDATE trucks SET capacity = 1", "unsound orders 3"),
+    ("DELETE FROM trucks", "unsound orders 1"),
+    ("UPDATE riders SET balance = balance + 1 WHERE rider = 17", "unsound riders 17"),
+    ("UPDATE riders SET balance = balance + 1", "unsound riders 17"),
+    ("UPDATE riders SET balance = balance + 1 WHERE rider = 18", "unsound riders 18"),
+    ("UPDATE riders SET blocked = 2 WHERE rider = 18", "unsound riders 18"),
+    ("INSERT INTO riders VALUES (19, 0, 1)", "unsound riders 19"),
+    ("INSERT INTO riders VALUES (19, 0, 0)", None),
+    ("INSERT INTO riders VALUES (1000000, 0, 0)", "unsound riders 1000000"),
+    ("DELETE FROM riders WHERE rider = 18", "unsound entries 4"),
+    ("DELETE FROM riders WHERE rider = 17", "unsound rentals 1"),
+    ("UPDATE rentals SET refunded = 24 WHERE rental = 1", "unsound rentals 1"),
+    ("UPDATE rentals SET fare = 126 WHERE rental = 1", "unsound entries 2"),
+    ("UPDATE rentals SET fare = 20 WHERE rental = 1", "unsound rentals 1"),
+    ("UPDATE rentals SET finish = start - 1 WHERE rental = 1", "unsound rentals 1"),
+    ("UPDATE rentals SET finish = NULL WHERE rental = 1", "unsound rentals 1"),
+    ("UPDATE rentals SET start = 1800000000 WHERE rental = 2", "unsound rentals 2"),
+    ("UPDATE rentals SET plan_id = 'gold' WHERE rental = 2", "unsound rentals 2"),
+    ("UPDATE rentals SET from_station = 'zz' WHERE rental = 1", "unsound rentals 1"),
+    ("UPDATE rentals SET to_station = 'zz' WHERE rental = 1", "unsound rentals 1"),
+    ("UPDATE rentals SET to_station = NULL WHERE rental = 1", None),
+    ("UPDATE rentals SET bike = 10 WHERE rental = 2", "unsound bikes 7"),
+    ("UPDATE rentals SET rider = 18 WHERE rental = 1", "unsound entries 2"),
+    ("UPDATE rentals SET rider = 19 WHERE rental = 2", "unsound rentals 2"),
+    ("UPDATE rentals SET rental = 3 WHERE rental = 2", "unsound bikes 7"),
+    ("DELETE FROM rentals WHERE rental = 1", "unsound rentals 2"),
+    ("INSERT INTO rentals SELECT 3, 17, 10, plan_id, from_station, start, NULL, NULL, NULL, 0 FROM rentals WHERE rental = 2", "unsound riders 17"),
+    ("UPDATE orders SET quantity = 0 WHERE ord = 3", "unsound bikes 9"),
+    ("UPDATE orders SET delivered = 2 WHERE ord = 3", "unsound orders 3"),
+    ("UPDATE orders SET to_end = '*' WHERE ord = 1", "unsound orders 1"),
+    ("UPDATE orders SET to_end = 'zz' WHERE ord = 2", "unsound orders 2"),
+    ("UPDATE orders SET type_id = 'cargo' WHERE ord = 1", "unsound orders 1"),
+    ("UPDATE orders SET truck = 4 WHERE ord = 1", "unsound orders 1"),
+    ("UPDATE orders SET is_open = 0 WHERE ord = 3", "unsound bikes 9"),
+    ("DELETE FROM orders WHERE ord = 1", "unsound orders 2"),
+    ("UPDATE entries SET amount = 2501 WHERE entry = 1", "unsound meta 1"),
+    ("UPDATE entries SET kind = 4 WHERE entry = 4", "unsound meta 1"),
+    ("UPDATE entries SET rider = 18 WHERE entry = 1", "unsound riders 17"),
+    ("UPDATE entries SET at = 1800000000 WHERE entry = 1", "unsound entries 1"),
+    ("UPDATE entries SET entry = 5 WHERE entry = 4", "unsound entries 5"),
+    ("UPDATE entries SET rental = 2 WHERE entry = 2", "unsound rentals 1"),
+    (
+        "INSERT INTO entries VALUES (5, 2, 17, 1, 125, 1700003000); UPDATE meta SET revenue = revenue + 125;"
+        " UPDATE riders SET balance = balance - 125 WHERE rider = 17",
+        "unsound entries 5",
+    ),
+    ("UPDATE kept SET reply = 'refused\t4\tunknown_rider' WHERE req_key = 'k2'", "unsound kept office/k2"),
+    ("UPDATE kept SET command = 'add-rider\t017' WHERE req_key = 'k2'", "unsound kept office/k2"),
+    ("UPDATE kept SET caller = 'rider:0' WHERE req_key = 'k2'", "unsound kept rider:0/k2"),
+    ("DELETE FROM kept", None),
+    ("UPDATE counts SET available = available + 1 WHERE station_id = 'b2'", "unsound counts b2/city"),
+    ("UPDATE counts SET disabled = 1 WHERE station_id = 'b2'", "unsound counts b2/city"),
+    ("DELETE FROM counts WHERE station_id = 'b2'", "unsound counts b2/city"),
+    ("INSERT INTO counts VALUES ('zz', 'city', 0, 0)", "unsound counts zz/city"),
+    ("INSERT INTO counts VALUES ('b2', 'cargo', 0, 0)", "unsound counts b2/cargo"),
+    ("DROP TABLE counts", "foreign"),
+    ("DROP TABLE meta", "foreign"),
+    ("ALTER TABLE bikes DROP COLUMN ord", "foreign"),
+    ("ALTER TABLE riders ADD COLUMN nickname TEXT", "foreign"),
+    ("CREATE TABLE notes (note TEXT); INSERT INTO notes VALUES ('x')", None),
+]
+
+
+def asked():
+    return "".join(f"{at}\toffice\tk{n}\t{what.replace(' ', chr(9)).replace('_', ' ')}\n" for n, (at, what, _) in enumerate(ASKED)).encode()
+
+
+def told():
+    return "".join(answer.replace(" ", "\t") + "\n" for _, _, answer in ASKED).encode()
+
+
+def made(program, name):
+    """Makes the city in a file."""
+    ended = program.run("lines", name, given=asked())
+    assert ended == (0, told(), b""), ended
+    return Path(program.folder) / name
+
+
+def checked(program, file, wanted):
+    """Holds what `check` says of a file, which it leaves as it is, to what is wanted; none is `sound`."""
+    before = file.read_bytes()
+    ended = program.run("check", file.name)
+    right = (0, b"sound\n", b"") if wanted is None else (5, b"", wanted.encode() + b"\n")
+    assert ended == right, (ended, right)
+    assert file.read_bytes() == before, "the file was changed"
+
+
+def test_each_change_of_a_small_city_is_found(program):
+    city = made(program, "city.db").read_bytes()
+    wrong = []
+    for n, (change, wanted) in enumerate(CHANGES):
+        file = Path(program.folder) / f"changed{n}.db"
+        file.write_bytes(city)
+        base = sqlite3.connect(file)
+        base.executescript(change)
+        base.close()
+        try:
+            checked(program, file, wanted)
+        except AssertionError as fault:
+            wrong.append(f"{change}: {fault}")
+        file.unlink()
+    assert not wrong, "\n".join(wrong)
+
+
+def test_a_file_goes_on_where_it_was(program):
+    file = made(program, "city.db")
+    checked(program, file, None)
+    # The same requests come again: each has its kept answer, and nothing is changed.
+    before = file.read_bytes()
+    ended = program.run("lines", file.name, given=asked())
+    assert ended == (0, told(), b""), ended
+    assert file.read_bytes() == before, "kept answers changed the file"
+    more = b"1700004000\toffice\tnew\tend\t7\ta1\t1\n"
+    ended = program.run("lines", file.name, given=more)
+    assert ended == (0, b"fare\t125\t2275\n", b""), ended
+    ended = program.run("lines", file.name, given=more)
+    assert ended == (0, b"fare\t125\t2275\n", b""), ended
+    checked(program, file, None)
+
+
+def test_a_new_file_gets_the_tables(program):
+    ended = program.run("init", "new.db")
+    assert ended == (0, b"ready\n", b""), ended
+    file = Path(program.folder) / "new.db"
+    base = sqlite3.connect(file)
+    assert base.execute("SELECT * FROM meta").fetchall() == [(1, "bikeshare", 1, 0, 0, 0)]
+    base.close()
+    checked(program, file, None)
+    ended = program.run("init", "new.db")
+    assert ended == (0, b"ready\n", b""), ended
+
+
+def test_a_file_that_is_no_database(program):
+    (Path(program.folder) / "text.db").write_bytes(b"no database at all\n" * 100)
+    ended = program.run("check", "text.db")
+    assert ended == (3, b"", b"store failed\n"), ended
+
+
+def test_a_balance_that_is_off_by_one(program):
+    lines = b"1700000000\toffice\tk1\tadd-rider\t17\n1700000001\toffice\tk2\ttop-up\t17\t2500\n"
+    ended = program.run("lines", "city.db", given=lines)
+    assert ended == (0, b"ok\nbalance\t2500\n", b""), ended
+    file = Path(program.folder) / "city.db"
+    base = sqlite3.connect(file)
+    base.executescript("UPDATE riders SET balance = 2501")
+    base.close()
+    checked(program, file, "unsound riders 17")

@@ -1,0 +1,95 @@
+"""The words of the program: what it does with a file, and what it says where the words are none of its own."""
+
+import os
+
+ADD = b"1700000000\toffice\tk0\tadd-rider\t17\n"
+ADD_AGAIN = b"1700000000\toffice\tk1\tadd-rider\t17\n"
+
+
+def refuses(program, *words):
+    """Holds the program to the usage text, on standard error alone, and leaves no file."""
+    status, out, said = program.run(*words, given=ADD)
+    assert (status, out) == (2, b""), (words, status, out)
+    assert said.startswith(b"usage: bikeshare ") and said.endswith(b"\n"), (words, said)
+    assert not os.listdir(program.folder), (words, os.listdir(program.folder))
+    return said
+
+
+def test_no_words_are_lines_in_memory(program):
+    for words in [], ["lines", ":memory:"]:
+        assert program.run(*words, given=ADD) == (0, b"ok\n", b""), words
+        assert program.run(*words, given=ADD_AGAIN) == (0, b"ok\n", b""), words
+    assert not os.listdir(program.folder), os.listdir(program.folder)
+
+
+def test_init(program):
+    assert program.run("init", "city.db") == (0, b"ready\n", b"")
+    assert program.run("init", "city.db") == (0, b"ready\n", b"")
+    with open(os.path.join(program.folder, "city.db"), "rb") as file:
+        assert file.read(16) == b"SQLite format 3\0"
+
+
+def test_init_reads_no_lines(program):
+    assert program.run("init", "city.db", given=ADD) == (0, b"ready\n", b"")
+    assert program.run("lines", "city.db", given=ADD_AGAIN) == (0, b"ok\n", b"")
+
+
+def test_init_keeps_what_is_there(program):
+    assert program.run("lines", "city.db", given=ADD) == (0, b"ok\n", b"")
+    assert program.run("init", "city.db") == (0, b"ready\n", b"")
+    assert program.run("lines", "city.db", given=ADD_AGAIN) == (0, b"refused\t10\talready_there\n", b"")
+
+
+def test_check(program):
+    assert program.run("init", "city.db") == (0, b"ready\n", b"")
+    assert program.run("check", "city.db") == (0, b"sound\n", b"")
+    assert program.run("lines", "city.db", given=ADD) == (0, b"ok\n", b"")
+    assert program.run("check", "city.db", given=ADD_AGAIN) == (0, b"sound\n", b"")
+
+
+def test_check_in_memory(program):
+    assert program.run("check", ":memory:") == (0, b"sound\n", b"")
+    assert not os.listdir(program.folder), os.listdir(program.folder)
+
+
+def test_lines_of_a_file_are_kept(program):
+    assert program.run("lines", "city.db", given=ADD) == (0, b"ok\n", b"")
+    assert program.run("lines", "city.db", given=ADD) == (0, b"ok\n", b"")
+    assert program.run("lines", "city.db", given=ADD_AGAIN) == (0, b"refused\t10\talready_there\n", b"")
+
+
+def test_a_file_that_begins_with_a_hyphen(program):
+    refuses(program, "init", "-city.db")
+    assert program.run("init", "--", "-city.db") == (0, b"ready\n", b"")
+    assert "-city.db" in os.listdir(program.folder), os.listdir(program.folder)
+
+
+def test_usage_has_a_line_for_each_word(program):
+    said = refuses(program, "--help")
+    for word in b"init", b"check", b"lines":
+        assert b"\n  " + word + b" FILE  " in said, said
+    assert b":memory:" in said, said
+
+
+def test_wrong_words(program):
+    said = refuses(program, "--help")
+    for words in (
+        ["help"],
+        ["-h"],
+        ["init", "--help"],
+        ["start", "city.db"],
+        ["Init", "city.db"],
+        ["city.db"],
+        [""],
+        ["init"],
+        ["check"],
+        ["lines"],
+        ["init", "city.db", "other.db"],
+        ["lines", "city.db", "other.db"],
+        ["init", "--force", "city.db"],
+    ):
+        assert refuses(program, *words) == said, words
+
+
+def test_words_that_are_not_utf_8(program):
+    refuses(program, "init", b"\xff")
