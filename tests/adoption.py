@@ -4,7 +4,9 @@ The wanted words follow from the rules in docs/FORMATS.md, sections 10 and 11, b
 the tables and of their keys, where a row out of its bounds counts as absent for the others.
 """
 
+import shutil
 import sqlite3
+import tempfile
 from pathlib import Path
 
 NOW = 1700003000
@@ -42,7 +44,7 @@ ASKED = [
     (NOW, "add-bike 10 city", "ok"),
 ]
 
-# Two bicycles are where they say: 7 in rental 2, 8 in dock 1 of b2, 9 on truck 3 for order 3, 10 in the depot. Rental 1 is closed at
+# In the end bicycle 7 is in rental 2, 8 in dock 1 of b2, 9 on truck 3 for order 3, 10 in the depot. Rental 1 is closed at
 # 125, of which 25 were refunded; entries 1 to 4 are a top-up of 17, that fare, that refund and a top-up of 18.
 CHANGES = [
     ("UPDATE meta SET cash = cash + 1", "unsound meta 1"),
@@ -58,18 +60,28 @@ CHANGES = [
     ("INSERT INTO meta VALUES (2, 'bikeshare', 1, 0, 0, 0)", "unsound meta 2"),
     ("UPDATE system SET ttl = 86401", "unsound system 1"),
     ("UPDATE system SET currency = 'eur'", "unsound system 1"),
+    ("UPDATE system SET system_id = ''", 'unsound system 1'),
+    ("UPDATE system SET language = ''", 'unsound system 1'),
+    ("UPDATE system SET name = ''", 'unsound system 1'),
+    ("UPDATE system SET hours = ''", 'unsound system 1'),
+    ("UPDATE system SET contact = ''", 'unsound system 1'),
+    ("UPDATE system SET zone = ''", 'unsound system 1'),
+    ("UPDATE system SET base_url = ''", 'unsound system 1'),
     ("UPDATE system SET one = 2", "unsound system 2"),
     ("DELETE FROM system", None),
     ("UPDATE plans SET price = -1", "unsound plans basic"),
     ("UPDATE plans SET price = 1000001", "unsound plans basic"),
     ("UPDATE plans SET taxable = 2", "unsound plans basic"),
     ("UPDATE plans SET name = ''", "unsound plans basic"),
+    ("UPDATE plans SET description = ''", 'unsound plans basic'),
     ("UPDATE plans SET plan_id = 'Basic'", "unsound plans Basic"),
     ("UPDATE plans SET plan_id = 'gold'", "unsound segments basic/1"),
     ("DELETE FROM plans", "unsound segments basic/1"),
     ("UPDATE segments SET seq = 2", "unsound segments basic/2"),
     ("UPDATE segments SET seq = 0", "unsound segments basic/0"),
     ("UPDATE segments SET rate = 100001", "unsound segments basic/1"),
+    ("UPDATE segments SET start = -1", "unsound segments basic/1"),
+    ("UPDATE segments SET every = 100001", "unsound segments basic/1"),
     ("UPDATE segments SET finish = 30", "unsound segments basic/1"),
     ("INSERT INTO segments VALUES ('basic', 3, 60, 1, 1, NULL)", "unsound segments basic/3"),
     ("INSERT INTO segments VALUES ('basic', 2, 60, 1, 1, NULL)", None),
@@ -77,6 +89,11 @@ CHANGES = [
     ("DELETE FROM segments", None),
     ("UPDATE types SET plan_id = 'gold'", "unsound types city"),
     ("UPDATE types SET form = 'boat'", "unsound types city"),
+    ("UPDATE types SET name = ''", 'unsound types city'),
+    ("UPDATE types SET propulsion = 'steam'", 'unsound types city'),
+    ("UPDATE types SET range_m = -1", "unsound types city"),
+    ("UPDATE types SET range_m = 5", "unsound types city"),
+    ("UPDATE types SET type_id = 'x'", 'unsound bikes 7'),
     ("DELETE FROM types", "unsound bikes 7"),
     ("UPDATE stations SET free = free + 1 WHERE station_id = 'a1'", "unsound stations a1"),
     ("UPDATE stations SET free = free + 1", "unsound stations a1"),
@@ -85,12 +102,19 @@ CHANGES = [
     ("UPDATE stations SET docks = 0 WHERE station_id = 'b2'", "unsound stations b2"),
     ("UPDATE stations SET reported = 1800000000 WHERE station_id = 'b2'", "unsound stations b2"),
     ("UPDATE stations SET renting = 2 WHERE station_id = 'b2'", "unsound stations b2"),
+    ("UPDATE stations SET name = '' WHERE station_id = 'b2'", 'unsound stations b2'),
+    ("UPDATE stations SET lon = -180000001 WHERE station_id = 'b2'", 'unsound stations b2'),
+    ("UPDATE stations SET installed = 2 WHERE station_id = 'b2'", 'unsound stations b2'),
+    ("UPDATE stations SET \"returning\" = -1 WHERE station_id = 'b2'", 'unsound stations b2'),
+    ("UPDATE stations SET station_id = 'zz' WHERE station_id = 'b2'", 'unsound stations zz'),
     ("DELETE FROM stations WHERE station_id = 'b2'", "unsound bikes 8"),
     ("INSERT INTO docks VALUES ('a1', 3, 0)", "unsound docks a1/3"),
     ("INSERT INTO docks VALUES ('zz', 1, 0)", "unsound docks zz/1"),
     ("INSERT INTO docks VALUES ('b2', 3, 0)", None),
     ("INSERT INTO docks VALUES ('b2', 3, 1)", "unsound stations b2"),
     ("UPDATE docks SET broken = 2 WHERE station_id = 'a1'", "unsound stations a1"),
+    ("UPDATE docks SET dock = 201 WHERE station_id = 'a1'", 'unsound stations a1'),
+    ("UPDATE docks SET station_id = 'b2' WHERE station_id = 'a1'", 'unsound stations a1'),
     ("DELETE FROM docks WHERE station_id = 'a1'", "unsound stations a1"),
     ("UPDATE bikes SET truck = 3, ord = 3 WHERE bike = 8", "unsound bikes 8"),
     ("UPDATE bikes SET state = 3 WHERE bike = 10", "unsound bikes 10"),
@@ -101,6 +125,7 @@ CHANGES = [
     ("UPDATE bikes SET station_id = 'b2', dock = 4 WHERE bike = 10", "unsound bikes 10"),
     ("UPDATE bikes SET station_id = 'b2', dock = 2 WHERE bike = 10", "unsound stations b2"),
     ("UPDATE bikes SET dock = NULL WHERE bike = 8", "unsound stations b2"),
+    ("UPDATE bikes SET station_id = 'zz' WHERE bike = 8", 'unsound stations b2'),
     ("UPDATE bikes SET rental = 1 WHERE bike = 10", "unsound bikes 10"),
     ("UPDATE bikes SET rental = 2 WHERE bike = 10", "unsound bikes 10"),
     ("UPDATE bikes SET rental = 3 WHERE bike = 10", "unsound bikes 10"),
@@ -116,10 +141,12 @@ CHANGES = [
     ("UPDATE trucks SET capacity = 61", "unsound trucks 3"),
     ("UPDATE trucks SET capacity = 1", "unsound orders 3"),
     ("DELETE FROM trucks", "unsound orders 1"),
+    ("UPDATE trucks SET truck = 4", "unsound orders 1"),
     ("UPDATE riders SET balance = balance + 1 WHERE rider = 17", "unsound riders 17"),
     ("UPDATE riders SET balance = balance + 1", "unsound riders 17"),
     ("UPDATE riders SET balance = balance + 1 WHERE rider = 18", "unsound riders 18"),
     ("UPDATE riders SET blocked = 2 WHERE rider = 18", "unsound riders 18"),
+    ("UPDATE riders SET rider = 19 WHERE rider = 18", "unsound riders 19"),
     ("INSERT INTO riders VALUES (19, 0, 1)", "unsound riders 19"),
     ("INSERT INTO riders VALUES (19, 0, 0)", None),
     ("INSERT INTO riders VALUES (1000000, 0, 0)", "unsound riders 1000000"),
@@ -147,6 +174,8 @@ CHANGES = [
     ("UPDATE orders SET to_end = 'zz' WHERE ord = 2", "unsound orders 2"),
     ("UPDATE orders SET type_id = 'cargo' WHERE ord = 1", "unsound orders 1"),
     ("UPDATE orders SET truck = 4 WHERE ord = 1", "unsound orders 1"),
+    ("UPDATE orders SET from_end = 'a1' WHERE ord = 1", 'unsound orders 1'),
+    ("UPDATE orders SET ord = 5 WHERE ord = 3", "unsound bikes 9"),
     ("UPDATE orders SET is_open = 0 WHERE ord = 3", "unsound bikes 9"),
     ("DELETE FROM orders WHERE ord = 1", "unsound orders 2"),
     ("UPDATE entries SET amount = 2501 WHERE entry = 1", "unsound meta 1"),
@@ -163,16 +192,22 @@ CHANGES = [
     ("UPDATE kept SET reply = 'refused\t4\tunknown_rider' WHERE req_key = 'k2'", "unsound kept office/k2"),
     ("UPDATE kept SET command = 'add-rider\t017' WHERE req_key = 'k2'", "unsound kept office/k2"),
     ("UPDATE kept SET caller = 'rider:0' WHERE req_key = 'k2'", "unsound kept rider:0/k2"),
+    ("UPDATE kept SET req_key = '' WHERE req_key = 'k2'", 'unsound kept office/'),
+    ("UPDATE kept SET req_key = 'k 2' WHERE req_key = 'k2'", 'unsound kept office/k 2'),
     ("DELETE FROM kept", None),
     ("UPDATE counts SET available = available + 1 WHERE station_id = 'b2'", "unsound counts b2/city"),
     ("UPDATE counts SET disabled = 1 WHERE station_id = 'b2'", "unsound counts b2/city"),
     ("DELETE FROM counts WHERE station_id = 'b2'", "unsound counts b2/city"),
     ("INSERT INTO counts VALUES ('zz', 'city', 0, 0)", "unsound counts zz/city"),
     ("INSERT INTO counts VALUES ('b2', 'cargo', 0, 0)", "unsound counts b2/cargo"),
+    ("UPDATE counts SET type_id = 'x' WHERE station_id = 'b2'", 'unsound counts b2/city'),
+    ("UPDATE counts SET station_id = 'a0' WHERE station_id = 'b2'", 'unsound counts a0/city'),
     ("DROP TABLE counts", "foreign"),
     ("DROP TABLE meta", "foreign"),
     ("ALTER TABLE bikes DROP COLUMN ord", "foreign"),
     ("ALTER TABLE riders ADD COLUMN nickname TEXT", "foreign"),
+    ("CREATE TABLE helmets (rider INTEGER REFERENCES riders)", "foreign"),
+    ("DROP TABLE meta; CREATE TABLE meta (one INTEGER PRIMARY KEY, app TEXT NOT NULL, version TEXT NOT NULL, now INTEGER NOT NULL, cash INTEGER NOT NULL, revenue INTEGER NOT NULL) STRICT; INSERT INTO meta VALUES (1, 'bikeshare', 'x', 0, 0, 0)", 'foreign'),
     ("CREATE TABLE notes (note TEXT); INSERT INTO notes VALUES ('x')", None),
 ]
 
@@ -185,20 +220,43 @@ def told():
     return "".join(answer.replace(" ", "\t") + "\n" for _, _, answer in ASKED).encode()
 
 
+def changed(file, change=""):
+    """Changes a file by SQL, from outside. What stood in the log beside it is in the file afterwards."""
+    base = sqlite3.connect(file)
+    base.executescript(change)
+    base.execute("PRAGMA wal_checkpoint(TRUNCATE)").fetchall()
+    base.close()
+
+
 def made(program, name):
     """Makes the city in a file."""
     ended = program.run("lines", name, given=asked())
     assert ended == (0, told(), b""), ended
-    return Path(program.folder) / name
+    file = Path(program.folder) / name
+    changed(file)
+    return file
+
+
+def held(file):
+    """Returns all that a file holds, as SQL. A copy is read, so that the file and the log beside it stay as they are."""
+    with tempfile.TemporaryDirectory() as folder:
+        copy = Path(folder) / file.name
+        for part in (file, file.with_name(file.name + "-wal")):
+            if part.exists():
+                shutil.copy(part, folder)
+        base = sqlite3.connect(copy)
+        lines = list(base.iterdump())
+        base.close()
+        return lines
 
 
 def checked(program, file, wanted):
     """Holds what `check` says of a file, which it leaves as it is, to what is wanted; none is `sound`."""
-    before = file.read_bytes()
+    before, rows = file.read_bytes(), held(file)
     ended = program.run("check", file.name)
     right = (0, b"sound\n", b"") if wanted is None else (5, b"", wanted.encode() + b"\n")
     assert ended == right, (ended, right)
-    assert file.read_bytes() == before, "the file was changed"
+    assert file.read_bytes() == before and held(file) == rows, "the file was changed"
 
 
 def test_each_change_of_a_small_city_is_found(program):
@@ -207,12 +265,10 @@ def test_each_change_of_a_small_city_is_found(program):
     for n, (change, wanted) in enumerate(CHANGES):
         file = Path(program.folder) / f"changed{n}.db"
         file.write_bytes(city)
-        base = sqlite3.connect(file)
-        base.executescript(change)
-        base.close()
         try:
+            changed(file, change)
             checked(program, file, wanted)
-        except AssertionError as fault:
+        except (AssertionError, sqlite3.Error) as fault:
             wrong.append(f"{change}: {fault}")
         file.unlink()
     assert not wrong, "\n".join(wrong)
@@ -222,10 +278,10 @@ def test_a_file_goes_on_where_it_was(program):
     file = made(program, "city.db")
     checked(program, file, None)
     # The same requests come again: each has its kept answer, and nothing is changed.
-    before = file.read_bytes()
+    before = held(file)
     ended = program.run("lines", file.name, given=asked())
     assert ended == (0, told(), b""), ended
-    assert file.read_bytes() == before, "kept answers changed the file"
+    assert held(file) == before, "kept answers changed the file"
     more = b"1700004000\toffice\tnew\tend\t7\ta1\t1\n"
     ended = program.run("lines", file.name, given=more)
     assert ended == (0, b"fare\t125\t2275\n", b""), ended
@@ -241,6 +297,7 @@ def test_a_new_file_gets_the_tables(program):
     base = sqlite3.connect(file)
     assert base.execute("SELECT * FROM meta").fetchall() == [(1, "bikeshare", 1, 0, 0, 0)]
     base.close()
+    changed(file)
     checked(program, file, None)
     ended = program.run("init", "new.db")
     assert ended == (0, b"ready\n", b""), ended
@@ -257,7 +314,5 @@ def test_a_balance_that_is_off_by_one(program):
     ended = program.run("lines", "city.db", given=lines)
     assert ended == (0, b"ok\nbalance\t2500\n", b""), ended
     file = Path(program.folder) / "city.db"
-    base = sqlite3.connect(file)
-    base.executescript("UPDATE riders SET balance = 2501")
-    base.close()
+    changed(file, "UPDATE riders SET balance = 2501")
     checked(program, file, "unsound riders 17")
