@@ -316,3 +316,34 @@ def test_a_balance_that_is_off_by_one(program):
     file = Path(program.folder) / "city.db"
     changed(file, "UPDATE riders SET balance = 2501")
     checked(program, file, "unsound riders 17")
+
+
+def test_changes_of_the_city_of_the_examples(program):
+    given = (Path(__file__).resolve().parent / "lines" / "the_city_of_the_examples.in").read_bytes()
+    ride = b"1700000000\toffice\tr1\tstart\t17\ta1\t1\n1700001800\toffice\tr2\tend\t7\ta1\t1\n"
+    before = [
+        ("UPDATE bikes SET truck = 3, ord = 1 WHERE bike = 7", "unsound bikes 7"),
+        ("UPDATE entries SET entry = 3 WHERE entry = 1", "unsound entries 3"),
+        ("INSERT INTO docks VALUES ('a1', 3, 0)", "unsound docks a1/3"),
+        ("DELETE FROM meta", "unsound meta 1"),
+        ("ALTER TABLE bikes DROP COLUMN ord", "foreign"),
+        ("CREATE TABLE notes (note TEXT)", None),
+    ]
+    after = [
+        ("UPDATE meta SET cash = cash - 1", "unsound meta 1"),
+        ("UPDATE counts SET available = 0", "unsound counts a1/city"),
+        ("DELETE FROM counts", "unsound counts a1/city"),
+        ("UPDATE stations SET free = 1", "unsound stations a1"),
+    ]
+    for n, (lines, changes) in enumerate([(given, before), (given + ride, after)]):
+        for m, (change, wanted) in enumerate(changes):
+            file = Path(program.folder) / f"city{n}_{m}.db"
+            ended = program.run("lines", file.name, given=lines)
+            assert ended[0] == 0 and b"refused" not in ended[1], ended
+            changed(file, change)
+            checked(program, file, wanted)
+    # What is served over a table of a stranger's leaves it.
+    file = Path(program.folder) / "city0_5.db"
+    ended = program.run("lines", file.name, given=ride)
+    assert ended == (0, b"rental\t1\t7\nfare\t125\t2375\n", b""), ended
+    assert "CREATE TABLE notes (note TEXT);" in held(file)
