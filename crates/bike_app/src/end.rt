@@ -9,8 +9,7 @@ ghost use Rattle.bike_app.specs.Ends.{word_of, detail_of, fault_status, adopt_fa
 
 use crate::fault::LinesFault;
 use crate::pieces::{put, put_key, put_number};
-use bike_audit::BadRow;
-use bike_desk::{AdoptFault, DeskFault};
+use bike_desk::{AdoptFault, BadRow, DeskFault};
 use sqlite::{Alter, Connection, ErrorCode};
 use std::alloc::AllocError;
 use std::error::Error;

@@ -14,6 +14,7 @@ mod serve;
 mod transaction;
 
 pub use adopt::AdoptFault;
+pub use bike_audit::BadRow;
 pub use desk::Desk;
 pub use fault::DeskFault;
 pub use run::Run;
