@@ -15,7 +15,7 @@ use Rattle.bike_judges.specs.Judging.{key_row}
 use Rattle.bike_judges.specs.Lines.{lines_of}
 use Rattle.bike_judges.specs.Passes.{first_failing}
 use Rattle.bike_judges.specs.Verdicts.{IsTableVerdict, JudgesTable}
-use Rattle.bike_passes.proofs.LineLaw.{lines_verdict}
+use Rattle.bike_judges.proofs.LineLaw.{lines_verdict}
 use Rattle.bike_catalogue_rules.specs.Tests.{is_system, is_kept, is_plan, is_type, first_astray, is_next, segment_name}
 use Rattle.bike_catalogue_rules.proofs.RowVerdicts.{IsTestOf, test_verdict}
 use Rattle.bike_catalogue_rules.proofs.CatalogueTests.{system_test, kept_test, plan_test, type_test}

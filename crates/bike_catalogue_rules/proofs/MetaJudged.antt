@@ -12,7 +12,7 @@ use Rattle.bike_rules.proofs.RulesLaws.{stored_in_order}
 use Rattle.bike_judges.specs.declared.key.BadKey.{BadKey}
 use Rattle.bike_judges.specs.Judging.{key_row, Continues}
 use Rattle.bike_judges.specs.Verdicts.{IsTableVerdict, JudgesTable}
-use Rattle.bike_passes.specs.Least.{least_key}
+use Rattle.bike_judges.specs.Least.{least_key}
 use Rattle.bike_catalogue_rules.specs.declared.meta.Sums.{Sums}
 use Rattle.bike_catalogue_rules.specs.Sums.{after_entry, is_meta, one_key, first_meta}
 use Rattle.bike_catalogue_rules.proofs.EntrySums.{entries_of, cash_sum, revenue_sum}

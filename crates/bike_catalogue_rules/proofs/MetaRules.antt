@@ -26,7 +26,7 @@ use Rattle.bike_rules.specs.Rules.{AreInOrder, IsGoodAt, IsGoodKey, row_under, r
 use Rattle.bike_rules.proofs.Places.{has_under, under_has}
 use Rattle.bike_rules.proofs.RowRules.{some_with}
 use Rattle.bike_judges.specs.Verdicts.{IsTableVerdict}
-use Rattle.bike_passes.specs.Least.{least_key}
+use Rattle.bike_judges.specs.Least.{least_key}
 use Rattle.bike_catalogue_rules.specs.declared.meta.Sums.{Sums}
 use Rattle.bike_catalogue_rules.specs.Sums.{has_sums, is_meta, one_key, first_meta}
 use Rattle.bike_catalogue_rules.proofs.EntrySums.{entries_of}

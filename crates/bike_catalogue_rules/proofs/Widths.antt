@@ -5,7 +5,7 @@ use Rattle.sqlite_rules.specs.Lists.{Has}
 use Rattle.sqlite.specs.Effect.{Database}
 use Rattle.bike_book.specs.Tables.{Tables, Plans, Segments, Types}
 use Rattle.bike_schema.specs.Tables.{HasTables, tables_of}
-use Rattle.bike_passes.proofs.QueryLaws.{stored_width}
+use Rattle.bike_judges.proofs.QueryLaws.{stored_width}
 
 -- The rows have all columns of their tables.
 pub record AreWide (t : Tables) : Type 0 where

@@ -8,7 +8,7 @@ use Rattle.bike_ledger.specs.declared.entry.EntryKind.TheVariants.{TopUp, Fare, 
 use Rattle.bike_book.specs.declared.version.TheConstants.{NEWEST}
 use Rattle.bike_book.specs.Rows.{number_value}
 use Rattle.bike_readings.specs.Readings.{meta_read, entry_read}
-use Rattle.bike_passes.specs.Least.{least_key}
+use Rattle.bike_judges.specs.Least.{least_key}
 use Rattle.bike_catalogue_rules.specs.declared.meta.Sums.{Sums}
 
 -- ---- sums

@@ -9,10 +9,8 @@ ghost use Rattle.bike_catalogue_rules.specs.Sums.{after_entry, is_meta, first_me
 
 use crate::key::number_key;
 use bike_book::NEWEST;
-use bike_judges::{BadKey, Judge, Query};
+use bike_judges::{BadKey, Judge, LineFold, Query, fold_lines, judge_lines, least};
 use bike_ledger::EntryKind;
-use bike_lines::{LineFold, fold_lines, judge_lines};
-use bike_passes::least;
 use bike_readings::{Part, read_entry, read_meta};
 use bike_schema::StatementFault;
 use sqlite::{Alter, Connection, Row};

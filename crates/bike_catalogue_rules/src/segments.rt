@@ -11,8 +11,7 @@ ghost use Rattle.bike_catalogue_rules.specs.Tests.{segment_name, comes_after, is
 use crate::key::columns_key;
 use crate::types::has_plan;
 use bike_fixed::Within;
-use bike_judges::{BadKey, Judge, Query};
-use bike_lines::judge_lines;
+use bike_judges::{BadKey, Judge, Query, judge_lines};
 use bike_readings::{Part, read_segment};
 use bike_schema::StatementFault;
 use sqlite::{Alter, Connection, Row};

@@ -8,9 +8,7 @@ ghost use Rattle.bike_judges.specs.Verdicts.{JudgesTable};
 ghost use Rattle.bike_catalogue_rules.specs.Tests.{is_system};
 
 use crate::key::number_key;
-use bike_judges::{BadKey, LineTest, Query};
-use bike_lines::judge_lines;
-use bike_passes::LineJudge;
+use bike_judges::{BadKey, LineJudge, LineTest, Query, judge_lines};
 use bike_readings::{Part, read_system};
 use bike_schema::StatementFault;
 use sqlite::{Alter, Connection, Row};

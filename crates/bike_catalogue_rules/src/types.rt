@@ -8,10 +8,8 @@ ghost use Rattle.bike_judges.specs.Verdicts.{JudgesTable};
 ghost use Rattle.bike_catalogue_rules.specs.Tests.{has_plan, is_type};
 
 use crate::key::columns_key;
-use bike_judges::{BadKey, LineTest, Query};
-use bike_lines::judge_lines;
+use bike_judges::{BadKey, LineJudge, LineTest, Query, judge_lines};
 use bike_operator::MOST_TYPES;
-use bike_passes::LineJudge;
 use bike_readings::{Part, read_plan, read_type};
 use bike_schema::StatementFault;
 use sqlite::{Alter, Connection, Row};

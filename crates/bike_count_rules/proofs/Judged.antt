@@ -29,10 +29,10 @@ use Rattle.bike_judges.specs.Judging.{key_row}
 use Rattle.bike_judges.specs.Lines.{lines_of}
 use Rattle.bike_judges.specs.Passes.{Demands, OfRow, first_failing}
 use Rattle.bike_judges.specs.Verdicts.{EarlierGood, IsFirstFailing, IsTableVerdict, JudgesTable}
-use Rattle.bike_passes.specs.Least.{least_key}
-use Rattle.bike_passes.proofs.LeastLaw.{least_verdict}
-use Rattle.bike_passes.proofs.LineLaw.{lines_verdict}
-use Rattle.bike_passes.proofs.QueryLaws.{stored_width}
+use Rattle.bike_judges.specs.Least.{least_key}
+use Rattle.bike_judges.proofs.LeastLaw.{least_verdict}
+use Rattle.bike_judges.proofs.LineLaw.{lines_verdict}
+use Rattle.bike_judges.proofs.QueryLaws.{stored_width}
 use Rattle.bike_count_rules.specs.declared.marks.Marks.{Marks}
 use Rattle.bike_count_rules.specs.declared.tally.Tally.{Tally}
 use Rattle.bike_count_rules.specs.Names.{is_named}

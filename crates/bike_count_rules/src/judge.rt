@@ -11,9 +11,7 @@ ghost use Rattle.bike_count_rules.specs.Tallies.{run, marked, tally_in, has_mark
 use crate::marks::Marks;
 use crate::names::CountTest;
 use crate::tally::{Tally, tally_in};
-use bike_judges::{BadKey, Judge, Query};
-use bike_lines::judge_lines;
-use bike_passes::{LineJudge, least};
+use bike_judges::{BadKey, Judge, LineJudge, Query, judge_lines, least};
 use bike_schema::StatementFault;
 use sqlite::{Alter, Connection, Row};
 use std::alloc::Global;

@@ -16,9 +16,9 @@ use Rattle.bike_judges.specs.declared.query.Query.TheVariants as query
 use Rattle.bike_judges.specs.Lines.{lines_of}
 use Rattle.bike_judges.specs.Passes.{first_failing, Demands}
 use Rattle.bike_judges.specs.Verdicts.{IsTableVerdict}
-use Rattle.bike_passes.specs.Least.{least_key}
-use Rattle.bike_passes.proofs.LineLaw.{lines_verdict}
-use Rattle.bike_passes.proofs.LeastLaw.{least_verdict}
+use Rattle.bike_judges.specs.Least.{least_key}
+use Rattle.bike_judges.proofs.LineLaw.{lines_verdict}
+use Rattle.bike_judges.proofs.LeastLaw.{least_verdict}
 use Rattle.bike_fleet_rules.specs.Docks.{dock_pass, number_row}
 use Rattle.bike_fleet_rules.specs.Tests.{first_key, bike_names, bike_uses}
 use Rattle.bike_fleet_rules.proofs.Parts.{AreWide}

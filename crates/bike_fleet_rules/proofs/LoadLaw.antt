@@ -19,7 +19,7 @@ use Rattle.bike_judges.specs.declared.pass.Opening.TheVariants.{Head, Item}
 use Rattle.bike_judges.specs.Lines.{lines_of, head, nulls, order_line, order_bike_line}
 use Rattle.bike_judges.specs.Passes.{pass, is_good_with, Demands}
 use Rattle.bike_judges.specs.Verdicts.{IsFirstFailing}
-use Rattle.bike_passes.proofs.StretchLaw.{HasOneKey, AreAccounts, AreItems, merged_verdict}
+use Rattle.bike_judges.proofs.StretchLaw.{HasOneKey, AreAccounts, AreItems, merged_verdict}
 use Rattle.bike_fleet_rules.specs.Loads.{loads, order_opened, order_begins, order_more, order_good, order_key}
 use Rattle.bike_fleet_rules.specs.declared.orders.OrderAccount.{OrderAccount}
 use Rattle.bike_fleet_rules.proofs.Parts.{AreWide, begins_with_one, own_part}

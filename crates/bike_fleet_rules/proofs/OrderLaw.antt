@@ -32,9 +32,9 @@ use Rattle.bike_judges.specs.declared.query.Query.TheVariants as query
 use Rattle.bike_judges.specs.Lines.{lines_of, or_nulls, with_two}
 use Rattle.bike_judges.specs.Passes.{first_failing, pass, Demands}
 use Rattle.bike_judges.specs.Verdicts.{IsTableVerdict}
-use Rattle.bike_passes.specs.Least.{least_key}
-use Rattle.bike_passes.proofs.LineLaw.{lines_verdict}
-use Rattle.bike_passes.proofs.LeastLaw.{least_verdict}
+use Rattle.bike_judges.specs.Least.{least_key}
+use Rattle.bike_judges.proofs.LineLaw.{lines_verdict}
+use Rattle.bike_judges.proofs.LeastLaw.{least_verdict}
 use Rattle.bike_fleet_rules.specs.Loads.{order_begins, order_more, order_good, order_key}
 use Rattle.bike_fleet_rules.specs.Tests.{first_key, holds, is_order_named, order_names, is_end_there, are_ends_there, order_ends}
 use Rattle.bike_fleet_rules.proofs.Parts.{AreWide, own_part, first_of_line, second_of_line}

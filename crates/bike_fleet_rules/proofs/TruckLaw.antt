@@ -22,7 +22,7 @@ use Rattle.bike_judges.specs.declared.pass.Opening.TheVariants.{Head, Item}
 use Rattle.bike_judges.specs.Lines.{lines_of, head, nulls, truck_line, truck_bike_line}
 use Rattle.bike_judges.specs.Passes.{pass, is_good_with, Demands}
 use Rattle.bike_judges.specs.Verdicts.{IsTableVerdict}
-use Rattle.bike_passes.proofs.StretchLaw.{HasOneKey, AreAccounts, AreItems, merged_verdict}
+use Rattle.bike_judges.proofs.StretchLaw.{HasOneKey, AreAccounts, AreItems, merged_verdict}
 use Rattle.bike_fleet_rules.specs.Loads.{loads, truck_opened, truck_begins, truck_more, truck_good, truck_key}
 use Rattle.bike_fleet_rules.specs.declared.trucks.TruckAccount.{TruckAccount}
 use Rattle.bike_fleet_rules.proofs.Parts.{AreWide, begins_with_one, own_part}

@@ -7,9 +7,7 @@ ghost use Rattle.bike_judges.specs.Verdicts.{JudgesTable};
 
 use crate::bike_tests::{BikeNames, BikeUses};
 use crate::docks::DockJudge;
-use bike_judges::{BadKey, Query};
-use bike_lines::judge_lines;
-use bike_passes::{LineJudge, least};
+use bike_judges::{BadKey, LineJudge, Query, judge_lines, least};
 use bike_schema::StatementFault;
 use sqlite::{Alter, Connection};
 

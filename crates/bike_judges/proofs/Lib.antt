@@ -1,0 +1,19 @@
+mod ShowLemmas
+mod Forms
+mod TieLemmas
+mod SelfJoinLaw
+mod RowTexts
+mod JoinTexts
+mod TwoJoinTexts
+mod UnionTexts
+mod UnionOfThreeTexts
+mod RowSteps
+mod StepLemmas
+mod FoldOrder
+pub mod LineLaw
+pub mod StretchLaw
+pub mod LeastLaw
+pub mod ApartLines
+pub mod QueryLaws
+pub mod ReadsLaw
+pub mod OwnAccounts

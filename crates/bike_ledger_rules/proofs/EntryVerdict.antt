@@ -42,9 +42,9 @@ use Rattle.bike_judges.specs.declared.query.Query.TheVariants as query
 use Rattle.bike_judges.specs.Lines.{lines_of}
 use Rattle.bike_judges.specs.Passes.{Demands}
 use Rattle.bike_judges.specs.Verdicts.{EarlierGood, IsFirstFailing, IsTableVerdict}
-use Rattle.bike_passes.specs.Least.{least_key}
-use Rattle.bike_passes.proofs.LeastLaw.{least_verdict}
-use Rattle.bike_passes.proofs.LineLaw.{below_tied}
+use Rattle.bike_judges.specs.Least.{least_key}
+use Rattle.bike_judges.proofs.LeastLaw.{least_verdict}
+use Rattle.bike_judges.proofs.LineLaw.{below_tied}
 use Rattle.bike_ledger_rules.specs.Lines.{FindsFailing}
 use Rattle.bike_ledger_rules.specs.Entries.{entry_names, entry_line, fare_pairs, fares_more, FirstFare, IsFirstOf, FindsSecondFare}
 use Rattle.bike_ledger_rules.specs.declared.fares.Fares.{Fares}

@@ -11,7 +11,7 @@ use Rattle.bike_operator.specs.declared.records.Rental.{Rental}
 use Rattle.bike_judges.specs.Lines.{part, rental_line, rental_entry_line}
 use Rattle.bike_judges.specs.declared.pass.Opening.{Opening}
 use Rattle.bike_judges.specs.declared.pass.Opening.TheVariants.{Head, Item}
-use Rattle.bike_passes.proofs.StretchLaw.{AreAccounts, AreItems}
+use Rattle.bike_judges.proofs.StretchLaw.{AreAccounts, AreItems}
 use Rattle.bike_ledger_rules.specs.declared.rental_entries.RentalAccount.{RentalAccount}
 use Rattle.bike_ledger_rules.specs.Lines.{holds}
 use Rattle.bike_ledger_rules.specs.Rentals.{opened_rental, rental_begins, rental_more, rental_good, rental_key, given_of, fare_of}

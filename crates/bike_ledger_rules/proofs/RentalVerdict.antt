@@ -26,10 +26,10 @@ use Rattle.bike_judges.specs.Judging.{key_row}
 use Rattle.bike_judges.specs.Lines.{lines_of, rental_line, rental_entry_line}
 use Rattle.bike_judges.specs.Passes.{first_failing, pass, Demands}
 use Rattle.bike_judges.specs.Verdicts.{EarlierGood, IsFirstFailing, IsTableVerdict}
-use Rattle.bike_passes.specs.Least.{least_key}
-use Rattle.bike_passes.proofs.LeastLaw.{least_verdict}
-use Rattle.bike_passes.proofs.LineLaw.{lines_verdict}
-use Rattle.bike_passes.proofs.StretchLaw.{HasOneKey, merged_verdict}
+use Rattle.bike_judges.specs.Least.{least_key}
+use Rattle.bike_judges.proofs.LeastLaw.{least_verdict}
+use Rattle.bike_judges.proofs.LineLaw.{lines_verdict}
+use Rattle.bike_judges.proofs.StretchLaw.{HasOneKey, merged_verdict}
 use Rattle.bike_ledger_rules.specs.Lines.{FindsFailing}
 use Rattle.bike_ledger_rules.specs.Rentals.{rental_names, rental_starts, rental_ends, rental_begins, rental_more, rental_good, rental_key, first_column, names_line, starts_line, ends_line, books_test}
 use Rattle.bike_ledger_rules.proofs.Apart.{first_column as first_of, table_apart, head_at, item_at, two_apart, zero_one}

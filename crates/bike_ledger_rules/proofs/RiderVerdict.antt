@@ -15,7 +15,7 @@ use Rattle.bike_judges.specs.Judging.{key_row}
 use Rattle.bike_judges.specs.Lines.{lines_of, rider_line, rider_rental_line, rider_entry_line}
 use Rattle.bike_judges.specs.Passes.{pass}
 use Rattle.bike_judges.specs.Verdicts.{JudgesTable, IsTableVerdict}
-use Rattle.bike_passes.proofs.StretchLaw.{HasOneKey, AreAccounts, AreItems, merged_of_three_verdict}
+use Rattle.bike_judges.proofs.StretchLaw.{HasOneKey, AreAccounts, AreItems, merged_of_three_verdict}
 use Rattle.bike_ledger_rules.specs.Riders.{rider_begins, rider_more, rider_good, rider_key}
 use Rattle.bike_ledger_rules.proofs.Apart.{first_column, table_apart, head_at, item_at, three_apart}
 use Rattle.bike_ledger_rules.proofs.RiderFolds.{AreWide}

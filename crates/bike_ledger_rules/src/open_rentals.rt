@@ -7,8 +7,7 @@ ghost use Rattle.bike_rules.specs.ReadOff.{operator_of};
 ghost use Rattle.bike_schema.specs.Tables.{IsOurs, tables_of};
 ghost use Rattle.bike_ledger_rules.specs.Entries.{with_open};
 
-use bike_judges::Query;
-use bike_lines::{LineFold, fold_lines};
+use bike_judges::{LineFold, Query, fold_lines};
 use bike_readings::{Part, read_rental};
 use bike_schema::StatementFault;
 use sqlite::{Alter, Connection, Row};

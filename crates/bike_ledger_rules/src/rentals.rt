@@ -15,9 +15,7 @@ use crate::columns::number_key;
 use crate::moment::find_moment;
 use crate::rental_entries::RentalAccount;
 use bike_fixed::Moment;
-use bike_judges::{BadKey, LineTest, Query};
-use bike_lines::judge_lines;
-use bike_passes::{LineJudge, StretchJudge, least};
+use bike_judges::{BadKey, LineJudge, LineTest, Query, StretchJudge, judge_lines, least};
 use bike_readings::{
     Part, StoredBike, StoredClosing, StoredPlace, StoredRental, read_bike, read_plan, read_rental,
     read_rider, read_station,

@@ -17,11 +17,11 @@ use Rattle.bike_judges.specs.Verdicts.{IsTableVerdict, JudgesTable}
 use Rattle.bike_judges.specs.declared.key.BadKey.{BadKey}
 use Rattle.bike_judges.specs.declared.query.Query.TheVariants as query
 use Rattle.bike_judges.specs.declared.pass.Opening.TheVariants.{Head, Item}
-use Rattle.bike_passes.specs.Least.{least_key}
-use Rattle.bike_passes.proofs.LineLaw.{lines_verdict}
-use Rattle.bike_passes.proofs.StretchLaw.{AreAccounts, AreItems}
-use Rattle.bike_passes.proofs.QueryLaws.{stations_verdict, stored_whole}
-use Rattle.bike_passes.proofs.LeastLaw.{least_verdict}
+use Rattle.bike_judges.specs.Least.{least_key}
+use Rattle.bike_judges.proofs.LineLaw.{lines_verdict}
+use Rattle.bike_judges.proofs.StretchLaw.{AreAccounts, AreItems}
+use Rattle.bike_judges.proofs.QueryLaws.{stations_verdict, stored_whole}
+use Rattle.bike_judges.proofs.LeastLaw.{least_verdict}
 use Rattle.bike_station_rules.specs.StationRows.{is_good_station}
 use Rattle.bike_station_rules.specs.Stations.{begins, more, good, key, owner, opened}
 use Rattle.bike_station_rules.specs.StationVerdicts.{FindsByRow, FindsByNumber, meta_in, now_in, is_accounted}

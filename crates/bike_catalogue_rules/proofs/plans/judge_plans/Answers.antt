@@ -1,4 +1,4 @@
-use Rattle.bike_passes.proofs.ReadsLaw.{reads_told}
+use Rattle.bike_judges.proofs.ReadsLaw.{reads_told}
 use Rattle.bike_catalogue_rules.proofs.Judged.{plans_judged}
 use Rattle.bike_catalogue_rules.proofs.plans.judge_plans.Goals as goal
 

@@ -1,4 +1,4 @@
-use Rattle.bike_passes.proofs.ReadsLaw.{reads_told}
+use Rattle.bike_judges.proofs.ReadsLaw.{reads_told}
 use Rattle.bike_catalogue_rules.proofs.Judged.{segments_judged}
 use Rattle.bike_catalogue_rules.proofs.segments.judge_segments.Goals as goal
 

@@ -1,5 +1,5 @@
 use Rattle.bike_rows.proofs.ChainLaws.{reads_as, reads_both}
-use Rattle.bike_passes.proofs.ReadsLaw.{reads_told}
+use Rattle.bike_judges.proofs.ReadsLaw.{reads_told}
 use Rattle.bike_count_rules.proofs.Judged.{AreFound, counts_judged}
 use Rattle.bike_count_rules.proofs.judge.judge_counts.Goals as goal
 

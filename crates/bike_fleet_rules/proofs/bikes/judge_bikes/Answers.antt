@@ -9,7 +9,7 @@ use Rattle.bike_judges.specs.Judging.{key_row}
 use Rattle.bike_judges.specs.Lines.{lines_of}
 use Rattle.bike_judges.specs.Passes.{first_failing}
 use Rattle.bike_judges.specs.Verdicts.{IsTableVerdict}
-use Rattle.bike_passes.specs.Least.{least_key}
+use Rattle.bike_judges.specs.Least.{least_key}
 use Rattle.bike_fleet_rules.specs.Docks.{docked_in, dock_pass, number_row}
 use Rattle.bike_fleet_rules.specs.Tests.{first_key, bike_names, bike_uses}
 use Rattle.bike_fleet_rules.proofs.Parts.{tables_wide}

@@ -9,7 +9,7 @@ use Rattle.bike_judges.specs.Judging.{key_row}
 use Rattle.bike_judges.specs.Lines.{lines_of}
 use Rattle.bike_judges.specs.Passes.{first_failing, pass}
 use Rattle.bike_judges.specs.Verdicts.{IsTableVerdict}
-use Rattle.bike_passes.specs.Least.{least_key}
+use Rattle.bike_judges.specs.Least.{least_key}
 use Rattle.bike_fleet_rules.specs.Loads.{order_begins, order_more, order_good, order_key}
 use Rattle.bike_fleet_rules.specs.Tests.{first_key, order_names, order_ends}
 use Rattle.bike_fleet_rules.proofs.Parts.{tables_wide}

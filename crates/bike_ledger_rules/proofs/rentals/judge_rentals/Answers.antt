@@ -1,7 +1,7 @@
 use Rattle.std.proofs.Common.{◌∙◌, ap₂, arith}
 use Rattle.bike_rows.proofs.ChainLaws.{reads_both, reads_failed}
 use Rattle.bike_book.specs.Tables.{Meta}
-use Rattle.bike_passes.specs.Least.{least_key}
+use Rattle.bike_judges.specs.Least.{least_key}
 use Rattle.bike_ledger_rules.proofs.ReadLaws.{reads_ours_as}
 use Rattle.bike_ledger_rules.proofs.RentalVerdict.{rentals_judged}
 use Rattle.bike_ledger_rules.proofs.rentals.judge_rentals.Goals as goal

@@ -1,4 +1,4 @@
-use Rattle.bike_passes.proofs.ReadsLaw.{reads_told}
+use Rattle.bike_judges.proofs.ReadsLaw.{reads_told}
 use Rattle.bike_station_rules.proofs.Judged.{numbers_judged}
 use Rattle.bike_station_rules.proofs.judge.judge_numbers.Goals as goal
 

@@ -1,5 +1,5 @@
 use Rattle.std.proofs.Common.{ap}
-use Rattle.bike_passes.proofs.ReadsLaw.{reads_told}
+use Rattle.bike_judges.proofs.ReadsLaw.{reads_told}
 use Rattle.bike_station_rules.specs.declared.station_rows.StationTest.{StationTest}
 use Rattle.bike_station_rules.proofs.Judged.{rows_judged}
 use Rattle.bike_station_rules.proofs.judge.judge_rows.Goals as goal

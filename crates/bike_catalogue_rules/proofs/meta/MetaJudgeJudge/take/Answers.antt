@@ -1,5 +1,5 @@
 use Rattle.std.proofs.Common.{◌≡◌, true, false, Some, ap, sym, ◌∙◌}
-use Rattle.bike_passes.specs.Least.{least_key}
+use Rattle.bike_judges.specs.Least.{least_key}
 use Rattle.bike_catalogue_rules.specs.Sums.{is_meta, one_key, first_meta}
 use Rattle.bike_catalogue_rules.specs.declared.meta.MetaJudge.{MetaJudge}
 use Rattle.bike_catalogue_rules.proofs.MetaJudged.{row_behind, good_first, bad_first, found_least}

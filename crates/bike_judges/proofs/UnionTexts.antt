@@ -1,0 +1,92 @@
+-- The queries that answer the rows of two tables, mixed.
+use Rattle.std.proofs.Common.{ℕ, List, [], ◌∷◌, pos, refl}
+use Rattle.sqlite_value.specs.declared.value.Value.TheVariants.{Int}
+use Rattle.sqlite_sql.specs.Term.{Term, lit, col}
+use Rattle.bike_rows.proofs.SelectLaws.{rows_merged, TiesOnlyByKey, NeverTies}
+use Rattle.bike_book.specs.Tables.{Docks, Bikes, Trucks, Rentals, Orders, Entries}
+use Rattle.bike_schema.specs.Layouts.{layout_of}
+use Rattle.bike_judges.specs.Lines.{dock_line, docked_line, truck_line, truck_bike_line, rental_line, rental_entry_line, order_line, order_bike_line}
+use Rattle.bike_judges.specs.declared.query.Query.TheVariants as query
+use Rattle.bike_judges.specs.Texts.{AsksLines}
+use Rattle.bike_judges.proofs.Forms.{line_terms, IsMixOf}
+use Rattle.bike_judges.proofs.TieLemmas.{owner_ties, number_ties, dock_tie, last_ties, zero_one, places_apart, third_apart}
+
+dock_ties : TiesOnlyByKey 4 2 (layout_of Docks) dock_line
+dock_ties r s tie = dock_tie _ _ _ _ _ _ _ tie
+
+docked_ties : TiesOnlyByKey 4 1 (layout_of Bikes) docked_line
+docked_ties r s tie = last_ties _ _ _ _ _ _ _ tie
+
+dock_and_docked : NeverTies 4 dock_line docked_line
+dock_and_docked r s tie = third_apart _ _ _ _ _ _ _ _ zero_one tie
+
+abbrev pub dock_terms : List Term
+dock_terms = line_terms (col 1 1 ∷ col 1 2 ∷ lit (Int (pos 0)) ∷ lit (Int (pos 0)) ∷ []) Docks 5
+
+abbrev pub docked_terms : List Term
+docked_terms = line_terms (col 1 4 ∷ col 1 5 ∷ lit (Int (pos 1)) ∷ col 1 0 ∷ []) Bikes 0
+
+pub bike_docks_lines : {text : List ℕ} → IsMixOf Docks dock_terms Bikes docked_terms (1 ∷ 2 ∷ 3 ∷ 4 ∷ []) text → AsksLines text query.BikeDocks
+bike_docks_lines is db has =
+    rows_merged (has Docks) (has Bikes) (1 ∷ 2 ∷ 3 ∷ 4 ∷ []) dock_terms docked_terms dock_line docked_line
+    is (λ r. refl) (λ r. refl) (λ r. refl) dock_ties docked_ties dock_and_docked
+
+truck_ties : TiesOnlyByKey 3 1 (layout_of Trucks) truck_line
+truck_ties r s tie = owner_ties _ _ _ _ _ tie
+
+truck_bike_ties : TiesOnlyByKey 3 1 (layout_of Bikes) truck_bike_line
+truck_bike_ties r s tie = number_ties _ _ _ _ _ tie
+
+truck_and_truck_bike : NeverTies 3 truck_line truck_bike_line
+truck_and_truck_bike r s tie = places_apart _ _ _ _ _ _ zero_one tie
+
+abbrev pub truck_terms : List Term
+truck_terms = line_terms (col 1 0 ∷ lit (Int (pos 0)) ∷ lit (Int (pos 0)) ∷ []) Trucks 6
+
+abbrev pub truck_bike_terms : List Term
+truck_bike_terms = line_terms (col 1 7 ∷ lit (Int (pos 1)) ∷ col 1 0 ∷ []) Bikes 0
+
+pub trucks_lines : {text : List ℕ} → IsMixOf Trucks truck_terms Bikes truck_bike_terms (1 ∷ 2 ∷ 3 ∷ []) text → AsksLines text query.Trucks
+trucks_lines is db has =
+    rows_merged (has Trucks) (has Bikes) (1 ∷ 2 ∷ 3 ∷ []) truck_terms truck_bike_terms truck_line truck_bike_line
+    is (λ r. refl) (λ r. refl) (λ r. refl) truck_ties truck_bike_ties truck_and_truck_bike
+
+rental_ties : TiesOnlyByKey 3 1 (layout_of Rentals) rental_line
+rental_ties r s tie = owner_ties _ _ _ _ _ tie
+
+rental_entry_ties : TiesOnlyByKey 3 1 (layout_of Entries) rental_entry_line
+rental_entry_ties r s tie = number_ties _ _ _ _ _ tie
+
+rental_and_rental_entry : NeverTies 3 rental_line rental_entry_line
+rental_and_rental_entry r s tie = places_apart _ _ _ _ _ _ zero_one tie
+
+abbrev pub rental_terms : List Term
+rental_terms = line_terms (col 1 0 ∷ lit (Int (pos 0)) ∷ lit (Int (pos 0)) ∷ []) Rentals 0
+
+abbrev pub rental_entry_terms : List Term
+rental_entry_terms = line_terms (col 1 4 ∷ lit (Int (pos 1)) ∷ col 1 0 ∷ []) Entries 4
+
+pub rental_entries_lines : {text : List ℕ} → IsMixOf Rentals rental_terms Entries rental_entry_terms (1 ∷ 2 ∷ 3 ∷ []) text → AsksLines text query.RentalEntries
+rental_entries_lines is db has =
+    rows_merged (has Rentals) (has Entries) (1 ∷ 2 ∷ 3 ∷ []) rental_terms rental_entry_terms rental_line rental_entry_line
+    is (λ r. refl) (λ r. refl) (λ r. refl) rental_ties rental_entry_ties rental_and_rental_entry
+
+order_ties : TiesOnlyByKey 3 1 (layout_of Orders) order_line
+order_ties r s tie = owner_ties _ _ _ _ _ tie
+
+order_bike_ties : TiesOnlyByKey 3 1 (layout_of Bikes) order_bike_line
+order_bike_ties r s tie = number_ties _ _ _ _ _ tie
+
+order_and_order_bike : NeverTies 3 order_line order_bike_line
+order_and_order_bike r s tie = places_apart _ _ _ _ _ _ zero_one tie
+
+abbrev pub order_terms : List Term
+order_terms = line_terms (col 1 0 ∷ lit (Int (pos 0)) ∷ lit (Int (pos 0)) ∷ []) Orders 0
+
+abbrev pub order_bike_terms : List Term
+order_bike_terms = line_terms (col 1 8 ∷ lit (Int (pos 1)) ∷ col 1 0 ∷ []) Bikes 0
+
+pub order_bikes_lines : {text : List ℕ} → IsMixOf Orders order_terms Bikes order_bike_terms (1 ∷ 2 ∷ 3 ∷ []) text → AsksLines text query.OrderBikes
+order_bikes_lines is db has =
+    rows_merged (has Orders) (has Bikes) (1 ∷ 2 ∷ 3 ∷ []) order_terms order_bike_terms order_line order_bike_line
+    is (λ r. refl) (λ r. refl) (λ r. refl) order_ties order_bike_ties order_and_order_bike

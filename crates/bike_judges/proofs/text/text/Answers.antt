@@ -1,0 +1,113 @@
+use Rattle.std.proofs.Common.{refl}
+use Rattle.sqlite_tied.specs.Compute.{everything}
+use Rattle.bike_book.specs.Tables.{Meta, System, Plans, Stations, Rentals, Entries, Kept}
+use Rattle.bike_judges.proofs.RowTexts.{table_lines}
+use Rattle.bike_judges.proofs.JoinTexts.{segments_lines, types_lines, docks_lines, rental_ends_lines}
+use Rattle.bike_judges.proofs.TwoJoinTexts.{bike_names_lines, bike_uses_lines, rental_names_lines, rental_starts_lines, order_names_lines, entry_names_lines, count_names_lines, order_ends_lines}
+use Rattle.bike_judges.proofs.UnionTexts.{bike_docks_lines, trucks_lines, rental_entries_lines, order_bikes_lines}
+use Rattle.bike_judges.proofs.UnionOfThreeTexts.{stations_lines, riders_lines, counts_lines}
+use Rattle.bike_judges.proofs.text.text.Goals as goal
+
+pub returns-in-Meta : goal.returns-in-Meta
+unfolding everything
+returns-in-Meta c = rw c.in-Meta.is (table_lines Meta (λ tree. refl, refl))
+
+pub returns-in-System : goal.returns-in-System
+unfolding everything
+returns-in-System c = rw c.in-System.is (table_lines System (λ tree. refl, refl))
+
+pub returns-in-Plans : goal.returns-in-Plans
+unfolding everything
+returns-in-Plans c = rw c.in-Plans.is (table_lines Plans (λ tree. refl, refl))
+
+pub returns-in-Segments : goal.returns-in-Segments
+unfolding everything
+returns-in-Segments c = rw c.in-Segments.is (segments_lines (λ tree more. refl, refl))
+
+pub returns-in-Types : goal.returns-in-Types
+unfolding everything
+returns-in-Types c = rw c.in-Types.is (types_lines (λ tree more. refl, refl))
+
+pub returns-in-StationRows : goal.returns-in-StationRows
+unfolding everything
+returns-in-StationRows c = rw c.in-StationRows.is (table_lines Stations (λ tree. refl, refl))
+
+pub returns-in-Stations : goal.returns-in-Stations
+unfolding everything
+returns-in-Stations c = rw c.in-Stations.is (stations_lines (λ tree more last. (refl, refl), refl))
+
+pub returns-in-Docks : goal.returns-in-Docks
+unfolding everything
+returns-in-Docks c = rw c.in-Docks.is (docks_lines (λ tree more. refl, refl))
+
+pub returns-in-BikeNames : goal.returns-in-BikeNames
+unfolding everything
+returns-in-BikeNames c = rw c.in-BikeNames.is (bike_names_lines (λ tree more last. refl, refl))
+
+pub returns-in-BikeUses : goal.returns-in-BikeUses
+unfolding everything
+returns-in-BikeUses c = rw c.in-BikeUses.is (bike_uses_lines (λ tree more last. refl, refl))
+
+pub returns-in-BikeDocks : goal.returns-in-BikeDocks
+unfolding everything
+returns-in-BikeDocks c = rw c.in-BikeDocks.is (bike_docks_lines (λ tree more. (refl, refl), refl))
+
+pub returns-in-Trucks : goal.returns-in-Trucks
+unfolding everything
+returns-in-Trucks c = rw c.in-Trucks.is (trucks_lines (λ tree more. (refl, refl), refl))
+
+pub returns-in-Riders : goal.returns-in-Riders
+unfolding everything
+returns-in-Riders c = rw c.in-Riders.is (riders_lines (λ tree more last. (refl, refl), refl))
+
+pub returns-in-Rentals : goal.returns-in-Rentals
+unfolding everything
+returns-in-Rentals c = rw c.in-Rentals.is (table_lines Rentals (λ tree. refl, refl))
+
+pub returns-in-RentalNames : goal.returns-in-RentalNames
+unfolding everything
+returns-in-RentalNames c = rw c.in-RentalNames.is (rental_names_lines (λ tree more last. refl, refl))
+
+pub returns-in-RentalStarts : goal.returns-in-RentalStarts
+unfolding everything
+returns-in-RentalStarts c = rw c.in-RentalStarts.is (rental_starts_lines (λ tree more last. refl, refl))
+
+pub returns-in-RentalEnds : goal.returns-in-RentalEnds
+unfolding everything
+returns-in-RentalEnds c = rw c.in-RentalEnds.is (rental_ends_lines (λ tree more. refl, refl))
+
+pub returns-in-RentalEntries : goal.returns-in-RentalEntries
+unfolding everything
+returns-in-RentalEntries c = rw c.in-RentalEntries.is (rental_entries_lines (λ tree more. (refl, refl), refl))
+
+pub returns-in-OrderNames : goal.returns-in-OrderNames
+unfolding everything
+returns-in-OrderNames c = rw c.in-OrderNames.is (order_names_lines (λ tree more last. refl, refl))
+
+pub returns-in-OrderEnds : goal.returns-in-OrderEnds
+unfolding everything
+returns-in-OrderEnds c = rw c.in-OrderEnds.is (order_ends_lines (λ tree more. refl, refl))
+
+pub returns-in-OrderBikes : goal.returns-in-OrderBikes
+unfolding everything
+returns-in-OrderBikes c = rw c.in-OrderBikes.is (order_bikes_lines (λ tree more. (refl, refl), refl))
+
+pub returns-in-Entries : goal.returns-in-Entries
+unfolding everything
+returns-in-Entries c = rw c.in-Entries.is (table_lines Entries (λ tree. refl, refl))
+
+pub returns-in-EntryNames : goal.returns-in-EntryNames
+unfolding everything
+returns-in-EntryNames c = rw c.in-EntryNames.is (entry_names_lines (λ tree more last. refl, refl))
+
+pub returns-in-Kept : goal.returns-in-Kept
+unfolding everything
+returns-in-Kept c = rw c.in-Kept.is (table_lines Kept (λ tree. refl, refl))
+
+pub returns-in-CountNames : goal.returns-in-CountNames
+unfolding everything
+returns-in-CountNames c = rw c.in-CountNames.is (count_names_lines (λ tree more last. refl, refl))
+
+pub returns-in-Counts : goal.returns-in-Counts
+unfolding everything
+returns-in-Counts c = rw c.in-Counts.is (counts_lines (λ tree more last. (refl, refl), refl))

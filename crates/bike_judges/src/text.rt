@@ -1,0 +1,93 @@
+//! The queries in SQL.
+
+ghost use Rattle.bike_judges.specs.Texts.{AsksLines};
+
+use crate::query::Query;
+
+/// The text of a query.
+pub(crate) fn text(query: Query) -> &'static str
+    ensures { AsksLines result.now query }
+{
+    match query {
+        Query::Meta => "SELECT * FROM meta ORDER BY one",
+        Query::System => "SELECT * FROM system ORDER BY one",
+        Query::Plans => "SELECT * FROM plans ORDER BY plan_id",
+        Query::Segments => "SELECT segments.*, plans.* FROM segments \
+             LEFT JOIN plans ON plans.plan_id = segments.plan_id \
+             ORDER BY segments.plan_id, segments.seq",
+        Query::Types => "SELECT types.*, plans.* FROM types \
+             LEFT JOIN plans ON plans.plan_id = types.plan_id \
+             ORDER BY types.type_id",
+        Query::StationRows => "SELECT * FROM stations ORDER BY station_id",
+        Query::Stations => "SELECT station_id, 0, 0, stations.* FROM stations \
+             UNION ALL SELECT station_id, 1, dock, docks.*, NULL, NULL, NULL, NULL, NULL, NULL, NULL, NULL \
+             FROM docks \
+             UNION ALL SELECT station_id, 2, bike, bikes.*, NULL, NULL, NULL FROM bikes \
+             ORDER BY 1, 2, 3",
+        Query::Docks => "SELECT docks.*, stations.* FROM docks \
+             LEFT JOIN stations ON stations.station_id = docks.station_id \
+             ORDER BY docks.station_id, docks.dock",
+        Query::BikeNames => "SELECT bikes.*, types.*, stations.* FROM bikes \
+             LEFT JOIN types ON types.type_id = bikes.type_id \
+             LEFT JOIN stations ON stations.station_id = bikes.station_id \
+             ORDER BY bikes.bike",
+        Query::BikeUses => "SELECT bikes.*, rentals.*, orders.* FROM bikes \
+             LEFT JOIN rentals ON rentals.rental = bikes.rental \
+             LEFT JOIN orders ON orders.ord = bikes.ord \
+             ORDER BY bikes.bike",
+        Query::BikeDocks =>
+            "SELECT station_id, dock, 0, 0, docks.*, NULL, NULL, NULL, NULL, NULL FROM docks \
+             UNION ALL SELECT station_id, dock, 1, bike, bikes.* FROM bikes \
+             ORDER BY 1, 2, 3, 4",
+        Query::Trucks =>
+            "SELECT truck, 0, 0, trucks.*, NULL, NULL, NULL, NULL, NULL, NULL FROM trucks \
+             UNION ALL SELECT truck, 1, bike, bikes.* FROM bikes \
+             ORDER BY 1, 2, 3",
+        Query::Riders =>
+            "SELECT rider, 0, 0, riders.*, NULL, NULL, NULL, NULL, NULL, NULL, NULL FROM riders \
+             UNION ALL SELECT rider, 1, rental, rentals.* FROM rentals \
+             UNION ALL SELECT rider, 2, entry, entries.*, NULL, NULL, NULL, NULL FROM entries \
+             ORDER BY 1, 2, 3",
+        Query::Rentals => "SELECT * FROM rentals ORDER BY rental",
+        Query::RentalNames => "SELECT rentals.*, riders.*, bikes.* FROM rentals \
+             LEFT JOIN riders ON riders.rider = rentals.rider \
+             LEFT JOIN bikes ON bikes.bike = rentals.bike \
+             ORDER BY rentals.rental",
+        Query::RentalStarts => "SELECT rentals.*, plans.*, stations.* FROM rentals \
+             LEFT JOIN plans ON plans.plan_id = rentals.plan_id \
+             LEFT JOIN stations ON stations.station_id = rentals.from_station \
+             ORDER BY rentals.rental",
+        Query::RentalEnds => "SELECT rentals.*, stations.* FROM rentals \
+             LEFT JOIN stations ON stations.station_id = rentals.to_station \
+             ORDER BY rentals.rental",
+        Query::RentalEntries => "SELECT rental, 0, 0, rentals.* FROM rentals \
+             UNION ALL SELECT rental, 1, entry, entries.*, NULL, NULL, NULL, NULL FROM entries \
+             ORDER BY 1, 2, 3",
+        Query::OrderNames => "SELECT orders.*, trucks.*, types.* FROM orders \
+             LEFT JOIN trucks ON trucks.truck = orders.truck \
+             LEFT JOIN types ON types.type_id = orders.type_id \
+             ORDER BY orders.ord",
+        Query::OrderEnds => "SELECT orders.*, origins.*, targets.* FROM orders \
+             LEFT JOIN stations AS origins ON origins.station_id = orders.from_end \
+             LEFT JOIN stations AS targets ON targets.station_id = orders.to_end \
+             ORDER BY orders.ord",
+        Query::OrderBikes => "SELECT ord, 0, 0, orders.* FROM orders \
+             UNION ALL SELECT ord, 1, bike, bikes.* FROM bikes \
+             ORDER BY 1, 2, 3",
+        Query::Entries => "SELECT * FROM entries ORDER BY entry",
+        Query::EntryNames => "SELECT entries.*, riders.*, rentals.* FROM entries \
+             LEFT JOIN riders ON riders.rider = entries.rider \
+             LEFT JOIN rentals ON rentals.rental = entries.rental \
+             ORDER BY entries.entry",
+        Query::Kept => "SELECT * FROM kept ORDER BY caller, req_key",
+        Query::CountNames => "SELECT counts.*, stations.*, types.* FROM counts \
+             LEFT JOIN stations ON stations.station_id = counts.station_id \
+             LEFT JOIN types ON types.type_id = counts.type_id \
+             ORDER BY counts.station_id, counts.type_id",
+        Query::Counts =>
+            "SELECT station_id, 0, dock, 0, 0, docks.*, NULL, NULL, NULL, NULL, NULL FROM docks \
+             UNION ALL SELECT station_id, 1, type_id, 1, bike, bikes.* FROM bikes \
+             UNION ALL SELECT station_id, 1, type_id, 0, 0, counts.*, NULL, NULL, NULL, NULL FROM counts \
+             ORDER BY 1, 2, 3, 4, 5",
+    }
+}

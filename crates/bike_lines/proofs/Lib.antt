@@ -1,9 +1,0 @@
-mod ShowLemmas
-mod Forms
-mod TieLemmas
-mod SelfJoinLaw
-mod RowTexts
-mod JoinTexts
-mod TwoJoinTexts
-mod UnionTexts
-mod UnionOfThreeTexts

@@ -1,2 +1,0 @@
-pub mod Showing
-pub mod Texts

@@ -1,3 +1,0 @@
-pub mod Closing
-pub mod Least
-pub mod Own
