@@ -2,3 +2,4 @@ mod StatementLemmas
 mod ColumnLemmas
 mod FoundLemmas
 mod LoadLemmas
+mod LastLemmas

@@ -46,7 +46,7 @@ pub finds_order : (order : ℕ) → FindsIn (codes "SELECT * FROM orders WHERE o
 unfolding everything
 finds_order order = keyed_in Orders (λ tree. refl, refl) refl
 
--- ---- by other columns, and the last row
+-- ---- by other columns, and the last rows
 
 abbrev in_dock : List ℕ → ℕ → List Row → List Row
 in_dock station dock = rows_where (3 ∷ 4 ∷ []) (Text station ∷ number_value dock ∷ [])
@@ -61,6 +61,10 @@ finds_docked station dock =
 pub finds_last_order : FindsIn (codes "SELECT * FROM orders ORDER BY ord DESC LIMIT 1") [] (λ t. slice_get (last_of t.orders) 0)
 unfolding everything
 finds_last_order = in_table Orders (λ rows. slice_get (last_of rows) 0) (λ db has. last_row (table_key Orders) (has Orders) (λ tree. refl, refl))
+
+pub finds_last_bike : FindsIn (codes "SELECT * FROM bikes ORDER BY bike DESC LIMIT 1") [] (λ t. slice_get (last_of t.bikes) 0)
+unfolding everything
+finds_last_bike = in_table Bikes (λ rows. slice_get (last_of rows) 0) (λ db has. last_row (table_key Bikes) (has Bikes) (λ tree. refl, refl))
 
 -- ---- counts
 

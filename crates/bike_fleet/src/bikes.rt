@@ -1,7 +1,7 @@
 //! The statements on `bikes`.
 
-ghost use Rattle.std.specs.Prelude.{◌≡◌, [], ◌∷◌, IfOk, Some, option_map, slice_get, length};
-ghost use Rattle.std.specs.FinMap.{get};
+ghost use Rattle.std.specs.Prelude.{◌≡◌, [], ◌∷◌, IfOk, Some, option_map, slice_get, length, ◌≤◌};
+ghost use Rattle.std.specs.FinMap.{get, len};
 ghost use Rattle.sqlite.specs.declared.types.Value.TheVariants.{Text};
 ghost use Rattle.sqlite_sql.specs.Aggregate.{count};
 ghost use Rattle.bike_operator.specs.declared.limits.TheConstants.{MOST_BIKES};
@@ -9,12 +9,12 @@ ghost use Rattle.bike_operator.specs.Counts.{docked_at, truck_load};
 ghost use Rattle.bike_operator.specs.View.{is_at_limit};
 ghost use Rattle.bike_book.specs.Tables.{Bikes};
 ghost use Rattle.bike_book.specs.Rows.{number_value};
-ghost use Rattle.bike_book.specs.Found.{row_count, row_under, rows_by};
+ghost use Rattle.bike_book.specs.Found.{last_row, row_count, row_under, rows_by};
 ghost use Rattle.bike_schema.specs.Answers.{Answers};
 ghost use Rattle.bike_fleet.specs.Fleet.{numbered_pair};
 ghost use Rattle.bike_fleet.specs.Holds.{HoldsAny, HoldsBike, HoldsNumbered};
 
-use crate::columns::{count_of, is_full};
+use crate::columns::{count_of, is_full, last_of};
 use crate::places::place_at;
 use bike_fields::{BicycleNumber, Ident, TruckNumber};
 use bike_operator::{Bike, MOST_BIKES};
@@ -61,6 +61,13 @@ fn select_docked<S: Alter>(
         "SELECT * FROM bikes WHERE station_id = ?1 AND dock = ?2 ORDER BY bike LIMIT 1",
         params![station.as_str(), dock],
     )
+}
+
+/// The row of the last bicycle.
+fn select_last_bike<S: Alter>(conn: &mut Connection<S>) -> Result<Option<Row>, StatementFault>
+    ensures { Answers S.Store conn.old conn.new result (λ s m row. row ≡ last_row s m Bikes) }
+{
+    first_row(conn, "SELECT * FROM bikes ORDER BY bike DESC LIMIT 1", &[])
 }
 
 /// How many bicycles there are, as the database answers it.
@@ -155,12 +162,32 @@ pub fn find_docked<S: Alter>(
     numbered_bike_of(alloc, &row)
 }
 
+/// The last bicycle's number, 0 where there is none. There are at most so many, since their numbers begin at 1.
+fn last_bike<S: Alter>(conn: &mut Connection<S>) -> Result<u32, StatementFault>
+    ensures { Answers S.Store conn.old conn.new result (λ s m x. len s.bikes ≤ x) }
+{
+    let row = select_last_bike(conn)?;
+    last_of(&row)
+}
+
 /// Whether there are as many bicycles as there may be, by a count over all of them.
-pub fn are_bikes_full<S: Alter>(conn: &mut Connection<S>) -> Result<bool, StatementFault>
+fn is_count_full<S: Alter>(conn: &mut Connection<S>) -> Result<bool, StatementFault>
     ensures { Answers S.Store conn.old conn.new result (λ s m x. x ≡ is_at_limit MOST_BIKES s.bikes) }
 {
     let answer = count_bikes(conn)?;
     is_full(&answer, MOST_BIKES)
+}
+
+/// Whether there are as many bicycles as there may be.
+pub fn are_bikes_full<S: Alter>(conn: &mut Connection<S>) -> Result<bool, StatementFault>
+    ensures { Answers S.Store conn.old conn.new result (λ s m x. x ≡ is_at_limit MOST_BIKES s.bikes) }
+{
+    // A count goes over all bicycles, so it is asked only where the last number doesn't tell.
+    let last = last_bike(conn)?;
+    if last < MOST_BIKES {
+        return Ok(false);
+    }
+    is_count_full(conn)
 }
 
 /// How many bicycles are on a truck.

@@ -1,9 +1,10 @@
-//! Columns of a row, and the answers of counts.
+//! Columns of a row, the answers of counts, and the number of a last row.
 
 ghost use Rattle.std.specs.Prelude.{◌≡◌, ℕ, [], ◌∷◌, IfOk, Some, nat_le};
 ghost use Rattle.sqlite.specs.Order.{column};
 ghost use Rattle.sqlite_sql.specs.Aggregate.{count};
 ghost use Rattle.bike_book.specs.Rows.{number_value};
+ghost use Rattle.bike_book.specs.Found.{IsLast};
 
 use bike_fixed::Within;
 use bike_schema::{StatementFault, number_at};
@@ -15,6 +16,16 @@ pub(crate) fn whole_at(row: &Row, at: usize) -> Result<u32, StatementFault>
 {
     let number: Within<0, 4_294_967_295> = number_at(row, at)?;
     Ok(number.get())
+}
+
+/// The number with which the last row begins, 0 where there is none.
+pub(crate) fn last_of(row: &Option<Row>) -> Result<u32, StatementFault>
+    ensures { IfOk result (λ n. (last : ℕ) → IsLast last row.now → n ≡ last) }
+{
+    match row {
+        Some(row) => whole_at(row, 0),
+        None => Ok(0),
+    }
 }
 
 /// The count that the one row of its answer tells.

@@ -1,6 +1,6 @@
 //! The statements on `orders`, and the count of an order's bicycles.
 
-ghost use Rattle.std.specs.Prelude.{◌≡◌, ℕ, [], ◌∷◌, true, IfOk, Some, codes, length, option_map};
+ghost use Rattle.std.specs.Prelude.{◌≡◌, [], ◌∷◌, true, IfOk, Some, codes, length, option_map};
 ghost use Rattle.sqlite.specs.declared.types.Value.TheVariants.{Text};
 ghost use Rattle.sqlite.specs.Order.{column};
 ghost use Rattle.sqlite_sql.specs.Aggregate.{count};
@@ -8,11 +8,11 @@ ghost use Rattle.bike_operator.specs.Operator.{numbered};
 ghost use Rattle.bike_operator.specs.Counts.{order_load};
 ghost use Rattle.bike_book.specs.Tables.{Bikes, Orders};
 ghost use Rattle.bike_book.specs.Rows.{number_value, end_text};
-ghost use Rattle.bike_book.specs.Found.{row_under, rows_by, last_row, IsLast};
+ghost use Rattle.bike_book.specs.Found.{row_under, rows_by, last_row};
 ghost use Rattle.bike_schema.specs.Answers.{Answers};
 ghost use Rattle.bike_fleet.specs.Holds.{HoldsAny, HoldsEnd, HoldsOrder, HoldsOrderNumbers, HoldsOrderTruck};
 
-use crate::columns::{count_of, whole_at};
+use crate::columns::{count_of, last_of, whole_at};
 use bike_fields::{OrderNumber, OrderQuantity, TruckNumber};
 use bike_fixed::Within;
 use bike_operator::Order;
@@ -68,16 +68,6 @@ fn count_on_truck_for<S: Alter>(
         "SELECT count(*) FROM bikes WHERE truck = ?1 AND ord = ?2",
         params![truck.get(), order.get()],
     )
-}
-
-/// The number of the last row, 0 where there is none.
-fn last_of(row: &Option<Row>) -> Result<u32, StatementFault>
-    ensures { IfOk result (λ n. (orders : ℕ) → IsLast orders row.now → n ≡ orders) }
-{
-    match row {
-        Some(row) => whole_at(row, 0),
-        None => Ok(0),
-    }
 }
 
 /// The truck in the stored row.
