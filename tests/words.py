@@ -66,8 +66,10 @@ def test_a_file_that_begins_with_a_hyphen(program):
 
 def test_usage_has_a_line_for_each_word(program):
     said = refuses(program, "--help")
-    for word in b"init", b"check", b"lines":
-        assert b"\n  " + word + b" FILE  " in said, said
+    for form in b"init FILE", b"check FILE", b"lines FILE", b"feed FILE NAME [--at M]", b"serve FILE --port P [--count N]":
+        assert b"\n  " + form + b"  " in said, said
+    for option in b"--at M", b"--port P", b"--count N":
+        assert b"\n  " + option + b"  " in said, said
     assert b":memory:" in said, said
 
 
@@ -86,6 +88,9 @@ def test_wrong_words(program):
         ["lines"],
         ["init", "city.db", "other.db"],
         ["lines", "city.db", "other.db"],
+        ["feed", "city.db"],
+        ["feed", "gbfs"],
+        ["feed", "city.db", "nothing"],
         ["init", "--force", "city.db"],
     ):
         assert refuses(program, *words) == said, words

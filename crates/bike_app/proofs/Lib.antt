@@ -3,3 +3,4 @@ pub mod LineLemmas
 pub mod ProgramLemmas
 pub mod RunLemmas
 pub mod WordLemmas
+pub mod FeedLemmas

@@ -4,15 +4,18 @@ use Rattle.sqlite.specs.Steps.{over_memory, IsEmpty}
 use Rattle.sqlite.specs.Held.{Held, state}
 use Rattle.sqlite_trees.specs.declared.memory.MemStore.{MemStore}
 use Rattle.bike_operator.specs.Operator.{no_operator}
-use Rattle.bike_words.specs.declared.reading.Word.{Word}
-use Rattle.bike_words.specs.declared.reading.Word.TheVariants.{Init, Check, Lines}
+use Rattle.bike_words.specs.declared.task.Task.{Task}
+use Rattle.bike_words.specs.declared.task.Task.TheVariants.{Init, Check, Lines, Feed, Serve}
 use Rattle.bike_app.specs.declared.end.Fault.{Fault}
 use Rattle.bike_app.specs.Words.{Does, DoesInMemory}
 use Rattle.bike_app.proofs.ProgramLemmas.{in_memory, memory_begins, memory_refused}
 
-pub word_in_memory : (word : Word) (first last : Held MemStore) → IsEmpty (state over_memory first) → (input ahead old new : Option (List ℕ)) (end : Result ℕ Fault) → Does over_memory input ahead old new word first last end → DoesInMemory input ahead old new word end
-word_in_memory Init first last empty input ahead old new end (inl r) = inl (memory_refused first last empty input ahead old new end r)
-word_in_memory Init first last empty input ahead old new end (inr t) = inr t.1
-word_in_memory Check first last empty input ahead old new end (inl r) = inl (memory_refused first last empty input ahead old new end r)
-word_in_memory Check first last empty input ahead old new end (inr t) = inr t.1
-word_in_memory Lines first last empty input ahead old new end does = in_memory first last empty input ahead old new end (does no_operator (memory_begins first empty))
+pub task_in_memory : (task : Task) (clock : Option ℕ) (first last : Held MemStore) → IsEmpty (state over_memory first) → (input ahead old new : Option (List ℕ)) (end : Result ℕ Fault) → Does over_memory input ahead old new task clock first last end → DoesInMemory input ahead old new task clock end
+task_in_memory Init clock first last empty input ahead old new end (inl r) = inl (memory_refused first last empty input ahead old new end r)
+task_in_memory Init clock first last empty input ahead old new end (inr t) = inr t.1
+task_in_memory Check clock first last empty input ahead old new end (inl r) = inl (memory_refused first last empty input ahead old new end r)
+task_in_memory Check clock first last empty input ahead old new end (inr t) = inr t.1
+task_in_memory Lines clock first last empty input ahead old new end does = in_memory first last empty input ahead old new end (does no_operator (memory_begins first empty))
+task_in_memory (Feed f at) clock first last empty input ahead old new end (inl r) = inl (memory_refused first last empty input ahead old new end r)
+task_in_memory (Feed f at) clock first last empty input ahead old new end (inr p) = inr (p.published no_operator (memory_begins first empty)).told
+task_in_memory (Serve port count) clock first last empty input ahead old new end does = absurd does

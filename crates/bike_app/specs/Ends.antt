@@ -10,14 +10,17 @@ use Rattle.bike_judges.specs.Judging.{key_row}
 use Rattle.bike_desk.specs.declared.fault.DeskFault.TheVariants as desk
 use Rattle.bike_desk.specs.declared.adopt.AdoptFault.{AdoptFault}
 use Rattle.bike_desk.specs.declared.adopt.AdoptFault.TheVariants as adopt
+use Rattle.bike_feeds.specs.declared.fault.FeedFault.{FeedFault}
+use Rattle.bike_feeds.specs.declared.fault.FeedFault.TheVariants as feed
 use Rattle.bike_app.specs.declared.fault.LinesFault.{LinesFault}
 use Rattle.bike_app.specs.declared.fault.LinesFault.TheVariants as lines
 use Rattle.bike_app.specs.declared.end.Fault.{Fault}
-use Rattle.bike_app.specs.declared.end.Fault.TheVariants.{StoreFailed, OutOfMemory, Foreign, Unsound, Older, Newer, ReadFailed, WriteFailed}
+use Rattle.bike_app.specs.declared.end.Fault.TheVariants.{SystemMissing, StoreFailed, OutOfMemory, Foreign, Unsound, Older, Newer, ReadFailed, WriteFailed}
 use Rattle.bike_app.specs.Pieces.{key_text}
 
 -- the word that a fault is told by
 abbrev pub word_of : Fault → List ℕ
+word_of SystemMissing = codes "system missing"
 word_of StoreFailed = codes "store failed"
 word_of OutOfMemory = codes "out of memory"
 word_of Foreign = codes "foreign"
@@ -35,6 +38,7 @@ detail_of (Newer version) = codes " " ++ decimal version
 detail_of _ = []
 
 abbrev pub fault_status : Fault → ℕ
+fault_status SystemMissing = 1
 fault_status StoreFailed = 3
 fault_status OutOfMemory = 4
 fault_status Foreign = 5
@@ -52,6 +56,13 @@ lines_fault lines.Write = WriteFailed
 lines_fault (lines.Desk desk.NoMemory) = OutOfMemory
 lines_fault (lines.Desk desk.StoreFailed) = StoreFailed
 lines_fault (lines.Desk desk.Stopped) = StoreFailed
+
+abbrev pub feed_fault : FeedFault → Fault
+feed_fault feed.SystemMissing = SystemMissing
+feed_fault feed.Write = WriteFailed
+feed_fault (feed.Desk desk.NoMemory) = OutOfMemory
+feed_fault (feed.Desk desk.StoreFailed) = StoreFailed
+feed_fault (feed.Desk desk.Stopped) = StoreFailed
 
 abbrev pub adopt_fault : {S : Type 0} → AdoptFault S → Fault
 adopt_fault (adopt.Foreign conn) = Foreign

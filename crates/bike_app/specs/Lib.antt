@@ -5,4 +5,5 @@ pub mod Runs
 pub mod Pieces
 pub mod Ends
 pub mod Program
+pub mod Feeds
 pub mod Words

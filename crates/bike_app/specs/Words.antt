@@ -7,11 +7,17 @@ use Rattle.sqlite.specs.Held.{Held, state}
 use Rattle.bike_operator.specs.Operator.{Operator}
 use Rattle.bike_schema.specs.Stands.{IsOf, Keeps, TreesStandFor}
 use Rattle.bike_stream.specs.Writing.{AppendsFront}
-use Rattle.bike_words.specs.declared.reading.Word.{Word}
-use Rattle.bike_words.specs.declared.reading.Word.TheVariants.{Init, Check, Lines}
+use Rattle.bike_words.specs.declared.task.Task.{Task}
+use Rattle.bike_words.specs.declared.task.Task.TheVariants.{Init, Check, Lines, Feed, Serve}
 use Rattle.bike_app.specs.declared.end.Fault.{Fault}
 use Rattle.bike_app.specs.declared.end.Fault.TheVariants.{WriteFailed}
 use Rattle.bike_app.specs.Program.{StandsAfterSome, Refuses, Serves, FailsToBegin, ServesInMemory}
+use Rattle.bike_app.specs.Feeds.{TellsPublished, PublishesInMemory, moment_of}
+
+-- the task that answers connections, which is done apart from the others
+abbrev pub ServesSockets : Task → Type 0
+ServesSockets (Serve port count) = Unit {0}
+ServesSockets _ = ⊥
 
 -- The database stood for an operator, or had none of the tables, and stands for him, with all that a crash may leave.
 pub record TakenUp {S : Type 0} (g : Ghosts S) (first last : Held S) : Type 0 where
@@ -30,20 +36,24 @@ module _ {S : Type 0} (g : Ghosts S) (input ahead old new : Option (List ℕ)) w
   abbrev pub TellsTakenUp : Held S → Held S → List ℕ → Result ℕ Fault → Type 0
   TellsTakenUp first last line end = Refuses g input ahead old new first last end ⊎ (TakenUp g first last × WritesLine old new line end)
 
-  -- WHAT A WORD DOES over this connection, which becomes that one
-  abbrev pub Does : Word → Held S → Held S → Result ℕ Fault → Type 0
-  Does Init first last end = TellsTakenUp first last (codes "ready\n") end
-  Does Check first last end = TellsTakenUp first last (codes "sound\n") end
-  Does Lines first last end = (s : Operator) → TreesStandFor s (state g first).now.trees → Serves g input ahead old new first last s end
+  -- WHAT A TASK DOES over this connection, which becomes that one, where the clock gave this moment
+  abbrev pub Does : Task → Option ℕ → Held S → Held S → Result ℕ Fault → Type 0
+  Does Init clock first last end = TellsTakenUp first last (codes "ready\n") end
+  Does Check clock first last end = TellsTakenUp first last (codes "sound\n") end
+  Does Lines clock first last end = (s : Operator) → TreesStandFor s (state g first).now.trees → Serves g input ahead old new first last s end
+  Does (Feed f at) clock first last end = TellsPublished g input ahead old new first last f (moment_of at clock) end
+  Does (Serve port count) clock first last end = ⊥
 
 -- what a crash may leave of a database that stood for the operator
-abbrev pub MayStand : Word → Operator → Trees → Type 0
+abbrev pub MayStand : Task → Operator → Trees → Type 0
 MayStand Lines s trees = StandsAfterSome s trees
 MayStand _ s trees = TreesStandFor s trees
 
 -- over a database in memory
 module _ (input ahead old new : Option (List ℕ)) where
-  abbrev pub DoesInMemory : Word → Result ℕ Fault → Type 0
-  DoesInMemory Init end = FailsToBegin input ahead old new end ⊎ WritesLine old new (codes "ready\n") end
-  DoesInMemory Check end = FailsToBegin input ahead old new end ⊎ WritesLine old new (codes "sound\n") end
-  DoesInMemory Lines end = ServesInMemory input ahead old new end
+  abbrev pub DoesInMemory : Task → Option ℕ → Result ℕ Fault → Type 0
+  DoesInMemory Init clock end = FailsToBegin input ahead old new end ⊎ WritesLine old new (codes "ready\n") end
+  DoesInMemory Check clock end = FailsToBegin input ahead old new end ⊎ WritesLine old new (codes "sound\n") end
+  DoesInMemory Lines clock end = ServesInMemory input ahead old new end
+  DoesInMemory (Feed f at) clock end = PublishesInMemory input ahead old new f (moment_of at clock) end
+  DoesInMemory (Serve port count) clock end = ⊥

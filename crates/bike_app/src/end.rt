@@ -5,11 +5,12 @@ ghost use Rattle.std.specs.Fmt.{decimal};
 ghost use Rattle.std.specs.Process.{exit_status};
 ghost use Rattle.bike_desk.specs.Adoption.{handed};
 ghost use Rattle.bike_app.specs.Pieces.{AppendsSome, Puts};
-ghost use Rattle.bike_app.specs.Ends.{word_of, detail_of, fault_status, adopt_fault, status_of, line_of};
+ghost use Rattle.bike_app.specs.Ends.{word_of, detail_of, fault_status, adopt_fault, feed_fault, status_of, line_of};
 
 use crate::fault::LinesFault;
 use crate::pieces::{put, put_key, put_number};
 use bike_desk::{AdoptFault, BadRow, DeskFault};
+use bike_feeds::FeedFault;
 use sqlite::{Alter, Connection, ErrorCode};
 use std::alloc::AllocError;
 use std::error::Error;
@@ -21,6 +22,8 @@ use std::process::ExitCode;
 /// What the program can't go on after.
 #[derive(Debug, Drop)]
 pub enum Fault {
+    /// No system is set, so there is no feed.
+    SystemMissing,
     /// The store failed.
     StoreFailed,
     /// Memory was refused.
@@ -45,6 +48,7 @@ impl Fault {
         ensures { result.now ≡ word_of self.now }
     {
         match self {
+            Fault::SystemMissing => "system missing",
             Fault::StoreFailed => "store failed",
             Fault::OutOfMemory => "out of memory",
             Fault::Foreign => "foreign",
@@ -61,10 +65,23 @@ impl Fault {
         ensures { result ≡ fault_status self.now }
     {
         match self {
+            Fault::SystemMissing => 1,
             Fault::StoreFailed => 3,
             Fault::OutOfMemory => 4,
             Fault::Foreign | Fault::Unsound(_) | Fault::Older(_) | Fault::Newer(_) => 5,
             Fault::ReadFailed | Fault::WriteFailed => 6,
+        }
+    }
+
+    /// The fault of a feed.
+    pub(crate) fn of_feed(fault: FeedFault) -> Fault
+        ensures { result ≡ feed_fault fault }
+    {
+        match fault {
+            FeedFault::SystemMissing => Fault::SystemMissing,
+            FeedFault::Write => Fault::WriteFailed,
+            FeedFault::Desk(DeskFault::NoMemory) => Fault::OutOfMemory,
+            FeedFault::Desk(DeskFault::StoreFailed | DeskFault::Stopped) => Fault::StoreFailed,
         }
     }
 

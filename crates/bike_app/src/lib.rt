@@ -1,15 +1,19 @@
-//! The product's edges: request lines in, answer lines out, and what the program tells at its end.
+//! The product's edges: request lines in, answer lines and feeds out, HTTP over sockets, and what the program tells at its end.
 #![tactic(auto)]
 
 mod end;
 mod fault;
+mod feed;
 mod lines;
 mod pieces;
 mod program;
+mod server;
 mod words;
 
 pub use end::{Fault, exit_code};
 pub use fault::LinesFault;
+pub use feed::publish;
 pub use lines::{MOST_READS, run_lines};
 pub use program::{serve, serve_in_memory, serve_text};
+pub use server::{clock_moment, listen, serve_count};
 pub use words::{run_words, run_words_in_memory};

@@ -12,6 +12,7 @@ mod queries;
 mod run;
 mod serve;
 mod transaction;
+mod walk;
 
 pub use adopt::AdoptFault;
 pub use bike_audit::BadRow;

@@ -27,7 +27,7 @@ use std::alloc::Global;
 /// answers `Stopped` and stays as it is; no other desk answers that.
 impl<S: Alter> Desk<S> {
     /// What a read answered; one that failed stops the desk.
-    fn answer<A>(&mut self, read: Result<A, StatementFault>) -> Result<A, DeskFault>
+    pub(crate) fn answer<A>(&mut self, read: Result<A, StatementFault>) -> Result<A, DeskFault>
         ensures { TellsOf read self.old self.new result }
     {
         match read {

@@ -108,7 +108,7 @@ fn counts<S: Alter>(
     };
     Ok(Some([
         counts.available,
-        first.available,
+        first.count,
         counts.disabled,
         counts.docks_available,
         counts.docks_disabled,

@@ -1,4 +1,6 @@
-pub mod Objects
-pub mod Arrays
-mod Names
-pub mod Frames
+pub mod After
+pub mod DeskLemmas
+pub mod WalkLemmas
+pub mod TextLemmas
+pub mod StatusLemmas
+pub mod FeedLemmas

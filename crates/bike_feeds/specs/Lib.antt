@@ -1,4 +1,2 @@
-pub mod Feeds
-pub mod Elements
-pub mod Trees
-pub mod Writing
+pub mod Publishing
+pub mod Walking

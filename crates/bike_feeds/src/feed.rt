@@ -1,53 +1,116 @@
-//! The names of the feeds.
+//! Whole feeds.
 
-ghost use Rattle.std.specs.Prelude.{◌≡◌, codes};
-ghost use Rattle.bike_feeds.specs.Feeds.{feed_name, feed_of};
+ghost use Rattle.std.specs.Prelude.{◌≡◌, false, IsTrue, IfOk, OnOk, OnErr};
+ghost use Rattle.std.specs.Io.KnownBytes.{Keeps};
+ghost use Rattle.sqlite.specs.State.{HasCleanDisk};
+ghost use Rattle.bike_json.specs.State.{outset};
+ghost use Rattle.bike_operator.specs.Operator.{Operator};
+ghost use Rattle.bike_desk.specs.Desk.{shown, IsAt};
+ghost use Rattle.bike_feeds.specs.Publishing.{feed_text, IsPublished, IsBegun, IsLength, LeavesDesk};
+ghost use Rattle.bike_feeds.specs.Walking.{IsCounted, WritesText};
 
-/// A feed of GBFS v3.0.
-#[derive(Clone, Copy, Debug, PartialEq, Eq, Drop)]
-pub enum Feed {
-    /// Where the others are found.
-    Gbfs,
-    /// What is published of the system as a whole.
-    SystemInformation,
-    /// The vehicle types.
-    VehicleTypes,
-    /// The stations: names, places and docks.
-    StationInformation,
-    /// The stations: counts, flags and last reports.
-    StationStatus,
-    /// The pricing plans.
-    SystemPricingPlans,
+use crate::fault::FeedFault;
+use crate::list::{
+    write_pricing_plans, write_station_information, write_station_status, write_vehicle_types,
+};
+use bike_catalogue::System;
+use bike_desk::Desk;
+use bike_feed_texts::{Feed, write_gbfs, write_system_information};
+use bike_fixed::Moment;
+use bike_json::JsonState;
+use sqlite::Alter;
+use std::alloc::Global;
+use std::io;
+use std::io::Write;
+
+/// Writes the feed of a system.
+fn write_of_system<S: Alter, W: Write>(
+    alloc: Global,
+    desk: &mut Desk<S>,
+    system: &System,
+    feed: Feed,
+    moment: Moment,
+    json: &mut JsonState,
+    out: &mut W,
+) -> Result<(), FeedFault>
+    requires going { desk.old.is_stopped ≡ false }
+    requires start { json.old ≡ outset }
+    ensures { WritesText S.Store desk.old desk.new (W.contents out.old) (W.contents out.new) json.new.count result
+        (λ s. feed_text s system.now feed moment) }
+{
+    match feed {
+        Feed::Gbfs => write_gbfs(json, out, system, moment)?,
+        Feed::SystemInformation => write_system_information(json, out, system, moment)?,
+        Feed::VehicleTypes => return write_vehicle_types(alloc, desk, system, moment, json, out),
+        Feed::StationInformation => {
+            return write_station_information(alloc, desk, system, moment, json, out);
+        }
+        Feed::StationStatus => return write_station_status(alloc, desk, system, moment, json, out),
+        Feed::SystemPricingPlans => {
+            return write_pricing_plans(alloc, desk, system, moment, json, out);
+        }
+    }
+    Ok(())
 }
 
-impl Feed {
-    /// Its name in GBFS.
-    pub fn name(self) -> &'static str
-        ensures { result.now ≡ feed_name self }
-    {
-        match self {
-            Feed::Gbfs => "gbfs",
-            Feed::SystemInformation => "system_information",
-            Feed::VehicleTypes => "vehicle_types",
-            Feed::StationInformation => "station_information",
-            Feed::StationStatus => "station_status",
-            Feed::SystemPricingPlans => "system_pricing_plans",
-        }
-    }
+/// Writes the feed of the system that the desk has, and counts what it writes.
+fn publish<S: Alter, W: Write>(
+    alloc: Global,
+    desk: &mut Desk<S>,
+    feed: Feed,
+    moment: Moment,
+    json: &mut JsonState,
+    out: &mut W,
+) -> Result<(), FeedFault>
+    requires { json.old ≡ outset }
+    ensures desk { LeavesDesk S.Store desk.old desk.new result }
+    ensures whole { HasCleanDisk (shown S.Store desk.new) → (s : Operator) → IsAt S.Store desk.old s
+        → OnOk result (IsCounted s feed moment (W.contents out.old) (W.contents out.new) json.new.count) }
+    ensures front { HasCleanDisk (shown S.Store desk.new) → (s : Operator) → IsAt S.Store desk.old s
+        → OnErr result (IsBegun s feed moment (W.contents out.old) (W.contents out.new)) }
+    ensures nothing { IsTrue desk.old.is_stopped → Keeps (W.contents out.old) (W.contents out.new) }
+{
+    let Some(system) = desk.system(alloc)? else {
+        return Err(FeedFault::SystemMissing);
+    };
+    write_of_system(alloc, desk, &system, feed, moment, json, out)
+}
 
-    /// The feed of that name; none where no feed has it.
-    #[tactic(auto, unfolding(crate::specs::Feeds::feed_of))]
-    pub fn read(text: &str) -> Option<Feed>
-        ensures { result ≡ feed_of text.now }
-    {
-        match text {
-            "gbfs" => Some(Feed::Gbfs),
-            "system_information" => Some(Feed::SystemInformation),
-            "vehicle_types" => Some(Feed::VehicleTypes),
-            "station_information" => Some(Feed::StationInformation),
-            "station_status" => Some(Feed::StationStatus),
-            "system_pricing_plans" => Some(Feed::SystemPricingPlans),
-            _ => None,
-        }
-    }
+/// Writes the feed for a moment: the text of the operator for whom the desk stands, and nothing else.
+///
+/// `SystemMissing` comes exactly where no system is set, and then nothing is written; after `Write` or a fault of the desk a front of
+/// the text is. What is kept never changes. `NoMemory` and `Write` leave the desk as it was, `StoreFailed` stops it, and a
+/// stopped desk answers `Stopped`, stays as it is and writes nothing.
+pub fn write_feed<S: Alter, W: Write>(
+    alloc: Global,
+    desk: &mut Desk<S>,
+    feed: Feed,
+    moment: Moment,
+    out: &mut W,
+) -> Result<(), FeedFault>
+    ensures desk { LeavesDesk S.Store desk.old desk.new result }
+    ensures whole { HasCleanDisk (shown S.Store desk.new) → (s : Operator) → IsAt S.Store desk.old s
+        → OnOk result (IsPublished s feed moment (W.contents out.old) (W.contents out.new)) }
+    ensures front { HasCleanDisk (shown S.Store desk.new) → (s : Operator) → IsAt S.Store desk.old s
+        → OnErr result (IsBegun s feed moment (W.contents out.old) (W.contents out.new)) }
+    ensures nothing { IsTrue desk.old.is_stopped → Keeps (W.contents out.old) (W.contents out.new) }
+{
+    let mut json = JsonState::new();
+    publish(alloc, desk, feed, moment, &mut json, out)
+}
+
+/// The length in bytes of what `write_feed` writes. Fails as that does.
+pub fn feed_length<S: Alter>(
+    alloc: Global,
+    desk: &mut Desk<S>,
+    feed: Feed,
+    moment: Moment,
+) -> Result<u64, FeedFault>
+    ensures desk { LeavesDesk S.Store desk.old desk.new result }
+    ensures length { HasCleanDisk (shown S.Store desk.new) → (s : Operator) → IsAt S.Store desk.old s
+        → IfOk result (λ n. IsLength s feed moment n) }
+{
+    let mut json = JsonState::new();
+    publish(alloc, desk, feed, moment, &mut json, &mut io::sink())?;
+    Ok(json.count())
 }

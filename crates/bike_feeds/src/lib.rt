@@ -1,32 +1,14 @@
-//! The feeds (GBFS v3.0): their trees over the operator, and their texts written part by part.
+//! The feeds of a desk: each is read from the stored tables, one element of a list at a time, and written as it is read.
 //!
-//! A feed's text depends on the operator, the feed and the moment that is asked for. `write_gbfs` and
-//! `write_system_information` write whole feeds. Of each other feed `open_list` writes what stands before the
-//! elements of its list, `write_type`, `write_station`, `write_status` or `write_plan` an element, and `close_list`
-//! what stands behind them; `list_text_laws` says that these together are the feed's text. So a caller needs no more than
-//! one element at a time. Nothing here takes memory.
-//!
-//! Each function takes the state of the text and the writer beside it, and fails as the calls of `JsonState` do: after a failed
-//! write nothing more is written, so what was written is a front of the text.
+//! A feed's text is that of the operator for whom the desk stands, for the moment that is asked for, byte for byte. No more of a
+//! city is held than one element of a list: a station with its counts, a plan with its segments.
 #![tactic(auto)]
 
+mod fault;
 mod feed;
-mod frame;
-mod gbfs;
-mod laws;
-mod members;
-mod plan;
-mod station;
-mod status;
-mod system;
-mod vehicle_type;
+mod items;
+mod list;
 
-pub use feed::Feed;
-pub use frame::{close_list, open_list};
-pub use gbfs::write_gbfs;
-pub use laws::{feed_name_laws, list_text_laws};
-pub use plan::write_plan;
-pub use station::write_station;
-pub use status::{Counts, StationReport, TypeCount, write_status};
-pub use system::write_system_information;
-pub use vehicle_type::write_type;
+pub use bike_feed_texts::Feed;
+pub use fault::FeedFault;
+pub use feed::{feed_length, write_feed};

@@ -63,7 +63,7 @@ module _ (s : Operator) (station : List ℕ) where
             tally = record {
               available = omega (arith, adds.available, was.available, available_is, more);
               disabled = omega (arith, adds.disabled, was.disabled, disabled_is, most);
-              by_type = adds.by_type ∙ (λ i. was.by_type i ++ record { type_id = id_is i; available = available_is i } ∷ []) ∙ sym (map_last (type_count s station) so.front e);
+              by_type = adds.by_type ∙ (λ i. was.by_type i ++ record { type_id = id_is i; count = available_is i } ∷ []) ∙ sym (map_last (type_count s station) so.front e);
             };
           }
 

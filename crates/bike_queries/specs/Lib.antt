@@ -1,2 +1,3 @@
 pub mod Infos
 pub mod StationCounts
+pub mod After

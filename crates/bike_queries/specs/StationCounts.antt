@@ -1,21 +1,39 @@
 -- The counts of a station, as GBFS's `station_status` has them.
-use Rattle.std.specs.Prelude.{◌≡◌, ◌+◌, ◌++◌, [], ◌∷◌, ℕ, List, map, Option, Some, None}
+use Rattle.std.specs.Prelude.{◌≡◌, ◌+◌, ◌++◌, [], ◌∷◌, ℕ, List, Bool, false, map, find, unwrap_or, Option, Some, None}
 use Rattle.std.specs.List.{sum_by}
+use Rattle.std.specs.Str.{bytes_eq}
 use Rattle.std.specs.FinMap as fin
-use Rattle.sqlite_value.specs.Order.{Row}
+use Rattle.sqlite_value.specs.declared.value.Value.{Value}
+use Rattle.sqlite_value.specs.declared.value.Value.TheVariants.{Text}
+use Rattle.sqlite_value.specs.Order.{Row, column}
 use Rattle.bike_catalogue.specs.Rows.{TypeRow}
 use Rattle.bike_operator.specs.Operator.{Operator, Station}
 use Rattle.bike_operator.specs.Counts.{available, available_of, disabled, docks_available, docks_broken}
 use Rattle.bike_counts.specs.Numbers.{disabled_of}
 use Rattle.bike_book.specs.Stored.{stored_type}
 use Rattle.bike_fleet.specs.declared.counts.TypeCounts.{TypeCounts}
-use Rattle.bike_queries.specs.declared.counts.TypeCount.{TypeCount}
+use Rattle.bike_fleet.specs.Fleet.{no_counts, type_counts_of}
+use Rattle.bike_fleet.specs.Holds.{HoldsAny, HoldsCounts}
+use Rattle.bike_feed_texts.specs.declared.status.TypeCount.{TypeCount}
 use Rattle.bike_queries.specs.declared.counts.Counts.{Counts}
 use Rattle.bike_queries.specs.declared.counts.Tally.{Tally}
 
 -- a vehicle type, with its bicycles that are available at a station
 abbrev pub type_count : Operator → List ℕ → List ℕ × TypeRow → TypeCount
-type_count s station e = record { type_id = e.0; available = available_of s station e.0 }
+type_count s station e = record { type_id = e.0; count = available_of s station e.0 }
+
+-- the text, and no other value
+abbrev pub is_text : List ℕ → Value → Bool
+is_text id (Text t) = bytes_eq t id
+is_text id _ = false
+
+-- a row of `counts` that is of the type
+abbrev pub is_of : List ℕ → Row → Bool
+is_of type_id row = is_text type_id (column row 1)
+
+-- The rows are those of a station's counts: they hold each type's, and a type with no row has 0 and 0.
+abbrev pub AreCountRows : Operator → List ℕ → List Row → Type 0
+AreCountRows s station rows = (type_id : List ℕ) (x : Option TypeCounts) → HoldsAny HoldsCounts (find (is_of type_id) rows) x → unwrap_or x no_counts ≡ type_counts_of s station type_id
 
 -- a station's bicycles of some types
 pub record IsTally (s : Operator) (station : List ℕ) (types : List (List ℕ × TypeRow)) (t : Tally) : Type 0 where
@@ -35,7 +53,7 @@ pub record IsSoFar (s : Operator) (station : List ℕ) (left : List Row) (t : Ta
 pub record Adds (old : Tally) (type_id : List ℕ) (counts : TypeCounts) (new : Tally) : Type 0 where
   pub available : new.available ≡ old.available + counts.available
   pub disabled : new.disabled ≡ old.disabled + counts.disabled
-  pub by_type : new.by_type.items ≡ old.by_type.items ++ record { type_id = type_id; available = counts.available } ∷ []
+  pub by_type : new.by_type.items ≡ old.by_type.items ++ record { type_id = type_id; count = counts.available } ∷ []
 
 -- The counts of a station that is there, each type's in the order of the types' identifiers.
 pub record AreCountsOf (s : Operator) (station : List ℕ) (x : Station) (c : Counts) : Type 0 where

@@ -1,27 +1,23 @@
 //! The counts of a station, by the numbers that its tables keep.
 
-ghost use Rattle.std.specs.Prelude.{◌≡◌, [], OnOk};
+ghost use Rattle.std.specs.Prelude.{◌≡◌, [], ◌∷◌, IfOk, OnOk, find, map};
 ghost use Rattle.std.specs.FinMap.{entries};
-ghost use Rattle.bike_book.specs.Tables.{Types};
-ghost use Rattle.bike_book.specs.Found.{rows_of};
+ghost use Rattle.sqlite_value.specs.declared.value.Value.TheVariants.{Text};
+ghost use Rattle.bike_book.specs.Tables.{Counts as CountRows, Types};
+ghost use Rattle.bike_book.specs.Stored.{stored_type};
+ghost use Rattle.bike_book.specs.Found.{rows_by, rows_of};
 ghost use Rattle.bike_schema.specs.Answers.{Answers};
 ghost use Rattle.bike_fleet.specs.Fleet.{type_counts_of};
-ghost use Rattle.bike_queries.specs.StationCounts.{Adds, AreCountsAt, IsTally};
+ghost use Rattle.bike_fleet.specs.Holds.{HoldsAny, HoldsCounts};
+ghost use Rattle.bike_queries.specs.StationCounts.{Adds, AreCountRows, AreCountsAt, IsTally, is_of};
 
+use crate::columns::{str_at, whole_at};
+use bike_feed_texts::TypeCount;
 use bike_fields::Ident;
-use bike_fleet::{TypeCounts, find_counts, find_dock_numbers};
+use bike_fleet::{TypeCounts, find_dock_numbers};
 use bike_schema::{StatementFault, ident_at};
-use sqlite::{Alter, Connection, Row};
+use sqlite::{Alter, Connection, Row, params};
 use std::alloc::Global;
-
-/// How many bicycles of a vehicle type are available at a station.
-#[derive(Debug, Drop)]
-pub struct TypeCount {
-    /// The vehicle type.
-    pub type_id: Ident,
-    /// How many of its bicycles are available.
-    pub available: u32,
-}
 
 /// The counts of a station: the numbers that GBFS's `station_status` shows.
 #[derive(Debug, Drop)]
@@ -54,21 +50,57 @@ fn select_types<S: Alter>(conn: &mut Connection<S>) -> Result<Vec<Row>, Statemen
     Ok(rows)
 }
 
-/// A station's bicycles of one type, those that can be rented and those that can't: 0 and 0 where these counts have no
-/// row.
-fn find_type_counts<S: Alter>(
+/// The rows of the station's counts, at most one a vehicle type, in byte order of the types' identifiers.
+fn select_counts<S: Alter>(
     conn: &mut Connection<S>,
     station: &Ident,
-    type_id: &Ident,
-) -> Result<TypeCounts, StatementFault>
+) -> Result<Vec<Row>, StatementFault>
     ensures { Answers S.Store conn.old conn.new result
-        (λ s m x. x ≡ type_counts_of s station.now type_id.now) }
+        (λ s m rows. rows.items ≡ rows_by s m CountRows (0 ∷ []) (Text station.now ∷ [])) }
+{
+    let rows = conn.query_all(
+        "SELECT * FROM counts WHERE station_id = ?1 ORDER BY station_id, type_id",
+        params![station.as_str()],
+    )?;
+    Ok(rows)
+}
+
+/// Whether a row of `counts` is of the type.
+fn is_of(row: &Row, type_id: &Ident) -> Result<bool, StatementFault>
+    ensures { IfOk result (λ is. is ≡ is_of type_id.now row.now) }
+{
+    let text = str_at(row, 1)?;
+    Ok(text == type_id.as_str())
+}
+
+/// The counts in the row of the type, if one of these rows of `counts` is the type's.
+fn counts_among(rows: &[Row], type_id: &Ident) -> Result<Option<TypeCounts>, StatementFault>
+    ensures { IfOk result (λ x. HoldsAny HoldsCounts (find (is_of type_id.now) rows.now) x) }
+{
+    for row in rows {
+        if is_of(row, type_id)? {
+            let available = whole_at(row, 2)?;
+            let disabled = whole_at(row, 3)?;
+            return Ok(Some(TypeCounts {
+                available,
+                disabled,
+            }));
+        }
+    }
+    Ok(None)
+}
+
+/// A station's bicycles of one type, those that can be rented and those that can't, by the rows of its counts: 0 and 0
+/// where the type has no row.
+fn type_counts(rows: &[Row], type_id: &Ident) -> Result<TypeCounts, StatementFault>
+    ensures { IfOk result
+        (λ x. (s : _) (station : _) → AreCountRows s station rows.now → x ≡ type_counts_of s station type_id.now) }
 {
     let none = TypeCounts {
         available: 0,
         disabled: 0,
     };
-    let counts = find_counts(conn, station, type_id)?;
+    let counts = counts_among(rows, type_id)?;
     Ok(counts.unwrap_or(none))
 }
 
@@ -84,7 +116,7 @@ impl Tally {
         };
         let one = TypeCount {
             type_id,
-            available: counts.available,
+            count: counts.available,
         };
         if self.by_type.push(one).is_err() {
             return Err(StatementFault::NoMemory);
@@ -95,8 +127,33 @@ impl Tally {
     }
 }
 
-/// A station's bicycles, by one walk over the vehicle types and one look-up for each. The list of types is put together
-/// in the room.
+/// A station's bicycles of the types in these rows, by the rows of its counts. The list of types is put together in the
+/// room.
+fn tally_rows(
+    alloc: Global,
+    types: &[Row],
+    counts: &[Row],
+    room: Vec<TypeCount>,
+) -> Result<Tally, StatementFault>
+    requires { room.items ≡ [] }
+    ensures { IfOk result (λ x. (s : _) (station : _) → types.now ≡ map stored_type (entries s.types) → AreCountRows s station counts.now
+        → IsTally s station (entries s.types) x) }
+{
+    let mut tally = Tally {
+        available: 0,
+        disabled: 0,
+        by_type: room,
+    };
+    for row in types {
+        let type_id = ident_at(alloc, row, 0)?;
+        let counted = type_counts(counts, &type_id)?;
+        tally.add(type_id, counted)?;
+    }
+    Ok(tally)
+}
+
+/// A station's bicycles, by one walk over the vehicle types and one over the station's counts. The list of types is put
+/// together in the room.
 fn tally_types<S: Alter>(
     alloc: Global,
     conn: &mut Connection<S>,
@@ -106,23 +163,13 @@ fn tally_types<S: Alter>(
     requires { room.items ≡ [] }
     ensures { Answers S.Store conn.old conn.new result (λ s m x. IsTally s station.now (entries s.types) x) }
 {
-    let rows = select_types(conn)?;
-    let types = rows.as_slice();
-    let mut tally = Tally {
-        available: 0,
-        disabled: 0,
-        by_type: room,
-    };
-    for row in types {
-        let type_id = ident_at(alloc, row, 0)?;
-        let counts = find_type_counts(conn, station, &type_id)?;
-        tally.add(type_id, counts)?;
-    }
-    Ok(tally)
+    let types = select_types(conn)?;
+    let counts = select_counts(conn, station)?;
+    tally_rows(alloc, types.as_slice(), counts.as_slice(), room)
 }
 
-/// The counts of the station, if it is there: one look-up of the station, one walk over the types and one look-up a
-/// type. The list of types is put together in the room, which best has a place for each of the `MOST_TYPES` types.
+/// The counts of the station, if it is there, by three statements: a look-up of the station, a walk over the types and a
+/// walk over the station's counts. The list of types is put together in the room, which best has a place for each of the `MOST_TYPES` types.
 /// `NoMemory` where an identifier finds none; every other fault is the database's.
 pub fn find_station_counts<S: Alter>(
     alloc: Global,

@@ -6,14 +6,23 @@
 //! `NoMemory`.
 #![tactic(auto)]
 
+mod after;
 mod bikes;
+mod columns;
 mod counts;
+mod plans;
 mod rentals;
 mod riders;
+mod stations;
 mod system;
+mod types;
 
+pub use bike_feed_texts::TypeCount;
 pub use bikes::find_place;
-pub use counts::{Counts, TypeCount, find_station_counts};
+pub use counts::{Counts, find_station_counts};
+pub use plans::find_plan_after;
 pub use rentals::{ClosingInfo, RentalInfo, find_rental_info};
 pub use riders::{RiderInfo, find_balance, find_rider_info};
+pub use stations::{StationInfo, find_station_after};
 pub use system::find_system;
+pub use types::find_type_after;

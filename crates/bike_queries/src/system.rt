@@ -1,21 +1,18 @@
 //! The system, as it was set.
 
-ghost use Rattle.std.specs.Prelude.{◌≡◌, [], ◌∷◌, IfOk, Some};
-ghost use Rattle.sqlite_value.specs.Order.{column};
+ghost use Rattle.std.specs.Prelude.{◌≡◌, [], ◌∷◌};
 ghost use Rattle.bike_book.specs.Tables.{System as SystemTable};
 ghost use Rattle.bike_book.specs.Rows.{number_value, system_row};
 ghost use Rattle.bike_book.specs.Found.{row_under};
 ghost use Rattle.bike_schema.specs.Answers.{Answers, IsReadOf};
-ghost use Rattle.bike_schema.specs.Columns.{text_in};
 
+use crate::columns::str_at;
 use bike_catalogue::System;
 use bike_fields::{FieldFault, TimeToLive};
 use bike_rows::lookup::first_row;
 use bike_schema::{StatementFault, number_at};
-use sqlite::types::ValueRef;
 use sqlite::{Alter, Connection, Row, params};
 use std::alloc::Global;
-use std::str;
 
 /// The one row of `system`, if the system is set.
 fn select_system<S: Alter>(conn: &mut Connection<S>) -> Result<Option<Row>, StatementFault>
@@ -23,19 +20,6 @@ fn select_system<S: Alter>(conn: &mut Connection<S>) -> Result<Option<Row>, Stat
         (λ s m row. row ≡ row_under s m SystemTable (number_value 1 ∷ [])) }
 {
     first_row(conn, "SELECT * FROM system WHERE one = ?1", params![1_i64])
-}
-
-/// The column as a text, which stays in its row.
-fn str_at(row: &Row, at: usize) -> Result<&str, StatementFault>
-    ensures { IfOk result (λ text. text_in (column row.now at) ≡ Some text.now) }
-{
-    let Ok(ValueRef::Text(bytes)) = row.get_ref(at) else {
-        return Err(StatementFault::StoreFailed);
-    };
-    match str::from_utf8(bytes) {
-        Ok(text) => Ok(text),
-        Err(_) => Err(StatementFault::StoreFailed),
-    }
 }
 
 /// The system that stands in a row of `system`.

@@ -1,18 +1,38 @@
--- The program as clap reads it: its words, each with its FILE.
-use Rattle.std.specs.Prelude.{◌==◌, [], ◌∷◌, ◌++◌, fold, codes, Bool, true, nat_eq}
+-- The program as clap reads it: its words, each with its FILE and with what it takes besides.
+use Rattle.std.specs.Prelude.{◌==◌, ◌≤◌, ℕ, [], ◌∷◌, ◌++◌, fold, codes, decimal, Bool, true, nat_eq, List, Option, Some, None, IfSome}
 use Rattle.std.specs.List.{list_any, slice_split, starts_with}
-use Rattle.clap.specs.Words.{App, Text, new_app, new_rule, with_rule, with_subcommand}
-use Rattle.bike_words.specs.declared.reading.Word.{Word}
-use Rattle.bike_words.specs.declared.reading.Word.TheVariants.{Init, Check, Lines}
+use Rattle.clap.specs.Words.{App, Rule, Text, new_app, new_rule, with_rule, with_subcommand}
+use Rattle.bike_fixed.specs.Whole.{last_moment}
+use Rattle.bike_feed_texts.specs.Feeds.{feed_name}
+use Rattle.bike_words.specs.declared.task.Task.{Task}
+use Rattle.bike_words.specs.declared.task.Task.TheVariants.{Init, Check, Lines, Feed, Serve}
 
-abbrev pub name_of : Word → Text
+abbrev pub name_of : Task → Text
 name_of Init = codes "init"
 name_of Check = codes "check"
 name_of Lines = codes "lines"
+name_of (Feed feed at) = codes "feed"
+name_of (Serve port count) = codes "serve"
+
+-- a value that has to be there, told by its place
+abbrev pub value_rule : Text → Rule
+value_rule id = record (new_rule id) { required = true }
+
+-- an option with a value
+abbrev pub option_rule : Text → Rule
+option_rule id = record (new_rule id) { long = Some id }
 
 -- the word of this name, which wants a FILE
 abbrev pub on_file : Text → App
-on_file name = with_rule (new_app name) (record (new_rule (codes "file")) { required = true })
+on_file name = with_rule (new_app name) (value_rule (codes "file"))
+
+-- .. and a feed's NAME, and may have its moment
+abbrev pub feed_word : App
+feed_word = with_rule (with_rule (on_file (codes "feed")) (value_rule (codes "name"))) (option_rule (codes "at"))
+
+-- .. and a port, and may have a count
+abbrev pub serve_word : App
+serve_word = with_rule (with_rule (on_file (codes "serve")) (record (option_rule (codes "port")) { required = true })) (option_rule (codes "count"))
 
 -- its own name is none of the words
 abbrev pub top : App
@@ -20,11 +40,42 @@ top = let app = new_app (codes "bikeshare") in record app { top = record app.top
 
 unfoldable pub program : App
 program = fold (λ (app word : App). with_subcommand app word.top) top
-    (on_file (name_of Init)
-    ∷ on_file (name_of Check)
-    ∷ on_file (name_of Lines)
+    (on_file (codes "init")
+    ∷ on_file (codes "check")
+    ∷ on_file (codes "lines")
+    ∷ feed_word
+    ∷ serve_word
     ∷ [])
 
--- a line of the text is for the word
-abbrev pub tells : Text → Word → Bool
-tells text word = list_any (λ line. starts_with nat_eq line (codes "  " ++ (name_of word ++ codes " FILE  "))) (slice_split (λ b. b == 10) text)
+-- an option with its number, where there is one
+abbrev pub option_words : Text → Option ℕ → List Text
+option_words flag None = []
+option_words flag (Some n) = flag ∷ decimal n ∷ []
+
+-- the words for a task on a file, in the usual order
+abbrev pub words_for : Task → Text → List Text
+words_for Init file = codes "init" ∷ file ∷ []
+words_for Check file = codes "check" ∷ file ∷ []
+words_for Lines file = codes "lines" ∷ file ∷ []
+words_for (Feed feed at) file = codes "feed" ∷ file ∷ feed_name feed ∷ option_words (codes "--at") at
+words_for (Serve port count) file = codes "serve" ∷ file ∷ codes "--port" ∷ decimal port ∷ option_words (codes "--count") count
+
+-- its numbers lie within their bounds
+abbrev pub IsWithin : Task → Type 0
+IsWithin (Feed feed at) = IfSome at (λ seconds. seconds ≤ last_moment)
+IsWithin (Serve port count) = (port ≤ 65535) × IfSome count (λ n. (1 ≤ n) × (n ≤ 1000000000))
+IsWithin _ = Unit
+
+-- the word with what it takes, as a user is told
+abbrev pub form_of : Task → Text
+form_of (Feed feed at) = codes "feed FILE NAME [--at M]"
+form_of (Serve port count) = codes "serve FILE --port P [--count N]"
+form_of task = name_of task ++ codes " FILE"
+
+-- a line of the text is for this form
+abbrev pub has_line : Text → Text → Bool
+has_line text form = list_any (λ line. starts_with nat_eq line (codes "  " ++ (form ++ codes "  "))) (slice_split (λ b. b == 10) text)
+
+-- a line of the text is for the task's word
+abbrev pub tells : Text → Task → Bool
+tells text task = has_line text (form_of task)

@@ -1,20 +1,30 @@
 //! How the program is used.
 
-ghost use Rattle.std.specs.Prelude.{◌≡◌, true};
-ghost use Rattle.bike_words.specs.Program.{tells};
-ghost use Rattle.bike_words.specs.declared.reading.Word.{Word};
+ghost use Rattle.std.specs.Prelude.{◌≡◌, codes, true};
+ghost use Rattle.bike_words.specs.Program.{has_line, tells};
+ghost use Rattle.bike_words.specs.declared.task.Task.{Task};
 
-/// How the program is used, with a line for each word.
+/// How the program is used, with a line for each word and for each option.
 pub fn usage() -> &'static str
-    ensures { (word : Word) → tells result.now word ≡ true }
+    ensures words { (task : Task) → tells result.now task ≡ true }
+    ensures at { has_line result.now (codes "--at M") ≡ true }
+    ensures port { has_line result.now (codes "--port P") ≡ true }
+    ensures count { has_line result.now (codes "--count N") ≡ true }
 {
     "\
-usage: bikeshare [WORD FILE]
+usage: bikeshare [WORD FILE ..]
 
-  init FILE    makes the tables where FILE has none, and prints ready
-  check FILE   checks that FILE is a sound database of this program, and prints sound
-  lines FILE   answers the request lines of standard input on standard output
+  init FILE                        makes the tables where FILE has none, and prints ready
+  check FILE                       checks that FILE is a sound database of this program, and prints sound
+  lines FILE                       answers the request lines of standard input on standard output
+  feed FILE NAME [--at M]          writes the feed NAME on standard output
+  serve FILE --port P [--count N]  answers HTTP requests on 127.0.0.1
 
+  --at M     the feed's moment in whole seconds since 1970, 0 to 253402300799; the clock's where it is left out
+  --port P   the port, 0 to 65535; 0 is a free one
+  --count N  ends after N connections, 1 to 1000000000; has no end where it is left out
+
+NAME is gbfs, system_information, vehicle_types, station_information, station_status or system_pricing_plans.
 FILE is an SQLite database, or :memory: for one that is gone at the end.
 No words at all are lines :memory:.
 "

@@ -1,12 +1,16 @@
-//! The words of the program's command line: a word and the FILE that it is for.
+//! The words of the program's command line: a word, the FILE that it is for, and its other values.
 //!
 //! The program is declared to clap, and what is answered is what clap's own definitions find in the words. Nothing
 //! here opens a file or prints.
 #![tactic(auto)]
 
 mod help;
+mod laws;
 mod program;
 mod reading;
+mod task;
 
 pub use help::usage;
-pub use reading::{Word, Words, WordsFault, read_words, word_laws};
+pub use laws::word_laws;
+pub use reading::{Words, WordsFault, read_words};
+pub use task::Task;

@@ -1,32 +1,22 @@
 //! What the words ask for.
 
-ghost use Rattle.std.specs.Prelude.{◌≡◌, ◌<◌, ◌∷◌, [], length, map, option_map, IfOk, IfErr, IsOkAnd, IfSome, IfNone, Err, codes, false};
+ghost use Rattle.std.specs.Prelude.{◌≡◌, ◌<◌, [], length, map, IfOk, IfErr, IsOkAnd, IfSome, IfNone, Err, codes, false};
 ghost use Rattle.std.specs.Str.Parse.{starts_with_minus};
 ghost use Rattle.clap.specs.Words.{Text, fault_of, kind_of, subcommand_of, subcommand_rows_of};
-ghost use Rattle.bike_words.specs.Program.{name_of, program};
-ghost use Rattle.bike_words.specs.Asked.{Ask, AskNothing, IsFound, IsNothing, IsTold, name_in, value_in};
+ghost use Rattle.bike_words.specs.Program.{IsWithin, program, words_for};
+ghost use Rattle.bike_words.specs.Asked.{Ask, AskNothing, IsFound, IsNothing, IsTold};
 
 use crate::program::program;
+use crate::task::{Task, task_in, value_in};
 use clap::error::ErrorKind;
 use clap::{ArgMatches, Error};
 use std::alloc::Global;
-
-/// What the program does with its file.
-#[derive(Clone, Copy, Debug, PartialEq, Eq)]
-pub enum Word {
-    /// Makes the tables where there are none.
-    Init,
-    /// Checks that the database is sound.
-    Check,
-    /// Answers the request lines of standard input.
-    Lines,
-}
 
 /// What the program is asked to do.
 #[derive(Clone, Copy, Debug, PartialEq, Eq)]
 pub struct Words<'a> {
     /// What is done.
-    pub word: Word,
+    pub task: Task,
     /// The database's file, or `:memory:`.
     pub file: &'a str,
 }
@@ -34,50 +24,20 @@ pub struct Words<'a> {
 /// Why the words ask for nothing.
 #[derive(Clone, Copy, Debug, PartialEq, Eq)]
 pub enum WordsFault {
-    /// They are no word with its FILE, or a wish for help.
+    /// They are no word with its FILE and its other values, or a wish for help.
     Usage,
     /// Memory was refused.
     NoMemory,
 }
 
-/// The name of the word that was found.
-fn name_in<'a>(matches: &ArgMatches<'a>) -> Option<&'a str>
-    ensures { option_map (λ name. name.now) result ≡ name_in (subcommand_rows_of matches.now) }
-{
-    matches.subcommand_name()
-}
-
-/// What was found behind the word under this id.
-fn value_in<'a>(matches: &ArgMatches<'a>, id: &str) -> Option<&'a str>
-    ensures { option_map (λ value. value.now) result ≡ value_in (subcommand_rows_of matches.now) id.now }
-{
-    match matches.subcommand() {
-        Some((_, found)) => found.get_str(id),
-        None => None,
-    }
-}
-
-/// The word of this name.
-fn word_of(name: &str) -> Option<Word>
-    ensures some { IfSome result (λ word. name.now ≡ name_of word) }
-    ensures none { IfNone result ((word : Word) → name.now ≡ name_of word → ⊥) }
-{
-    match name {
-        "init" => Some(Word::Init),
-        "check" => Some(Word::Check),
-        "lines" => Some(Word::Lines),
-        _ => None,
-    }
-}
-
 /// What the matches ask for.
 fn words_in<'a>(matches: &ArgMatches<'a>) -> Option<Words<'a>>
-    ensures some { IfSome result (λ words. IsFound (subcommand_rows_of matches.now) words.word words.file.now) }
+    ensures some { IfSome result (λ words. IsFound (subcommand_rows_of matches.now) words.task words.file.now) }
     ensures none { IfNone result (IsNothing (subcommand_rows_of matches.now)) }
 {
-    let word = word_of(name_in(matches)?)?;
+    let task = task_in(matches)?;
     let file = value_in(matches, "file")?;
-    Some(Words { word, file })
+    Some(Words { task, file })
 }
 
 /// Why clap refuses the words.
@@ -107,34 +67,24 @@ fn matches_of<'a>(alloc: Global, words: &'a [&'a str]) -> Result<ArgMatches<'a>,
 }
 
 /// What the words ask for; the program's own name is none of them. No words are the lines of a database in memory.
-/// `Usage` comes where clap refuses the words or they are a wish for help, and `NoMemory` where memory is refused.
+/// `Usage` comes where clap refuses the words, where they are a wish for help, and where a feed's name is none or a
+/// number isn't the decimal of one within its bounds; `NoMemory` comes where memory is refused.
 pub fn read_words<'a>(alloc: Global, words: &'a [&'a str]) -> Result<Words<'a>, WordsFault>
-    ensures none { words.entry.now ≡ [] → IsOkAnd result (λ asked. (asked.word ≡ Word.Lines) × (asked.file.now ≡ codes ":memory:")) }
-    ensures some { 0 < length words.entry.now → IfOk result (λ asked. Ask (map (λ w. w.now) words.entry.now) asked.word asked.file.now) }
+    ensures none { words.entry.now ≡ [] → IsOkAnd result (λ asked. (asked.task ≡ Task.Lines) × (asked.file.now ≡ codes ":memory:")) }
+    ensures some { 0 < length words.entry.now → IfOk result (λ asked. Ask (map (λ w. w.now) words.entry.now) asked.task asked.file.now) }
     ensures refused { result ≡ Err WordsFault.Usage → AskNothing (map (λ w. w.now) words.entry.now) }
-    ensures plain { (word : Word) (file : Text) → map (λ w. w.now) words.entry.now ≡ name_of word ∷ file ∷ []
-        → starts_with_minus file ≡ false → IsTold word file result }
+    ensures plain { (task : Task) (file : Text) → map (λ w. w.now) words.entry.now ≡ words_for task file
+        → starts_with_minus file ≡ false → IsWithin task → IsTold task file result }
 {
     if words.is_empty() {
         return Ok(Words {
-            word: Word::Lines,
+            task: Task::Lines,
             file: ":memory:",
         });
     }
     let matches = matches_of(alloc, words)?;
-    words_in(&matches).ok_or(WordsFault::Usage)
+    match words_in(&matches) {
+        Some(words) => Ok(words),
+        None => Err(WordsFault::Usage),
+    }
 }
-
-/// What some words ask for: a word alone, a second FILE, a flag, another word and a wish for help ask for nothing.
-/// A FILE that begins with a hyphen stands behind `--`.
-pub fn word_laws(_example: Word)
-    ensures file { (word : Word) (file : Text) → starts_with_minus file ≡ false → Ask (name_of word ∷ file ∷ []) word file }
-    ensures dashes { Ask (codes "init" ∷ codes "--" ∷ codes "-f" ∷ []) Word.Init (codes "-f") }
-    ensures bare { (word : Word) → AskNothing (name_of word ∷ []) }
-    ensures second { AskNothing (codes "check" ∷ codes "f" ∷ codes "g" ∷ []) }
-    ensures flag { AskNothing (codes "init" ∷ codes "-f" ∷ []) }
-    ensures other { AskNothing (codes "start" ∷ codes "f" ∷ []) }
-    ensures help { AskNothing (codes "help" ∷ []) }
-    ensures flag_help { AskNothing (codes "--help" ∷ []) }
-    ensures word_help { AskNothing (codes "lines" ∷ codes "--help" ∷ []) }
-{}

@@ -1,8 +1,19 @@
 use Rattle.std.proofs.Common.{refl}
-use Rattle.bike_words.specs.declared.reading.Word.TheVariants.{Init, Check, Lines}
+use Rattle.bike_words.specs.declared.task.Task.TheVariants.{Init, Check, Lines, Feed, Serve}
 use Rattle.bike_words.proofs.help.usage.Goals as goal
 
-pub returns : goal.returns
-returns c Init = refl
-returns c Check = refl
-returns c Lines = refl
+pub returns-clause-words : goal.returns-clause-words
+returns-clause-words c Init = refl
+returns-clause-words c Check = refl
+returns-clause-words c Lines = refl
+returns-clause-words c (Feed feed at) = refl
+returns-clause-words c (Serve port count) = refl
+
+pub returns-clause-at : goal.returns-clause-at
+returns-clause-at c = refl
+
+pub returns-clause-port : goal.returns-clause-port
+returns-clause-port c = refl
+
+pub returns-clause-count : goal.returns-clause-count
+returns-clause-count c = refl

@@ -1,0 +1,107 @@
+//! A feed of a database.
+
+ghost use Rattle.std.specs.Prelude.{◌≡◌, ◌≤◌, false, IsTrue, Some};
+ghost use Rattle.sqlite.specs.State.{HasCleanDisk};
+ghost use Rattle.sqlite.specs.Held.{state};
+ghost use Rattle.sqlite_trees.specs.View.{doubt};
+ghost use Rattle.bike_operator.specs.Operator.{Operator};
+ghost use Rattle.bike_schema.specs.Stands.{AllLeft, TreesStandFor};
+ghost use Rattle.bike_desk.specs.Desk.{shown, IsAt};
+ghost use Rattle.bike_app.specs.Feeds.{PublishesAt, TellsPublished, feed_end, moment_of};
+
+use crate::end::Fault;
+use bike_desk::Desk;
+use bike_feeds::{Feed, FeedFault, write_feed};
+use bike_fixed::Moment;
+use sqlite::{Alter, Connection};
+use std::alloc::Global;
+use std::io::{Read, Write};
+
+/// The moment that is asked for, or the clock's where none is.
+pub(crate) fn moment_of(at: Option<Moment>, clock: Option<Moment>) -> Option<Moment>
+    ensures { result ≡ moment_of at clock }
+{
+    match at {
+        Some(at) => Some(at),
+        None => clock,
+    }
+}
+
+/// What the program tells of a feed that was asked for.
+fn told(published: Result<(), FeedFault>) -> Result<u64, Fault>
+    ensures { result ≡ feed_end published }
+{
+    match published {
+        Ok(()) => Ok(0),
+        Err(fault) => Err(Fault::of_feed(fault)),
+    }
+}
+
+/// Writes the feed of a desk for this moment.
+fn publish_for<S: Alter, W: Write>(
+    alloc: Global,
+    desk: &mut Desk<S>,
+    feed: Feed,
+    moment: Moment,
+    writer: &mut W,
+) -> Result<u64, Fault>
+    ensures clean { doubt (shown S.Store desk.old).is_clean ≤ doubt (shown S.Store desk.new).is_clean }
+    ensures told { HasCleanDisk (shown S.Store desk.new) → (s : Operator) → IsAt S.Store desk.old s
+        → PublishesAt S.Store desk.new s feed (Some moment) (W.contents writer.old) (W.contents writer.new) result }
+    ensures left { HasCleanDisk (shown S.Store desk.new) → (s : Operator) → IsAt S.Store desk.old s
+        → AllLeft (shown S.Store desk.new) (TreesStandFor s) }
+{
+    let published = write_feed(alloc, desk, feed, moment, writer);
+    told(published)
+}
+
+/// Writes the feed of a desk for a moment; `ReadFailed` where the clock gave none.
+fn publish_at<S: Alter, W: Write>(
+    alloc: Global,
+    desk: &mut Desk<S>,
+    feed: Feed,
+    moment: Option<Moment>,
+    writer: &mut W,
+) -> Result<u64, Fault>
+    ensures clean { doubt (shown S.Store desk.old).is_clean ≤ doubt (shown S.Store desk.new).is_clean }
+    ensures told { HasCleanDisk (shown S.Store desk.new) → (s : Operator) → IsAt S.Store desk.old s
+        → PublishesAt S.Store desk.new s feed moment (W.contents writer.old) (W.contents writer.new) result }
+    ensures left { HasCleanDisk (shown S.Store desk.new) → (s : Operator) → IsAt S.Store desk.old s
+        → AllLeft (shown S.Store desk.new) (TreesStandFor s) }
+{
+    match moment {
+        Some(moment) => publish_for(alloc, desk, feed, moment, writer),
+        None => Err(Fault::ReadFailed),
+    }
+}
+
+/// Takes the connection, which is outside a transaction, into service and writes a feed of it. Nothing is read. Gives the
+/// connection back with the number 0, or with the fault at which that ended.
+pub fn publish<S: Alter, R: Read, W: Write>(
+    alloc: Global,
+    feed: Feed,
+    moment: Option<Moment>,
+    conn: Connection<S>,
+    reader: &mut R,
+    writer: &mut W,
+) -> (Connection<S>, Result<u64, Fault>)
+    requires { conn.in_transaction ≡ false }
+    ensures clean { doubt (state S.Store conn).is_clean ≤ doubt (state S.Store result.0).is_clean }
+    ensures told { HasCleanDisk (state S.Store result.0)
+        → TellsPublished S.Store (R.remaining reader.old) (R.remaining reader.new)
+        (W.contents writer.old) (W.contents writer.new) conn result.0 feed moment result.1 }
+    ensures kept { HasCleanDisk (state S.Store result.0) → (s : Operator)
+        → TreesStandFor s (state S.Store conn).now.trees → IsTrue (state S.Store conn).is_open
+        → AllLeft (state S.Store result.0) (TreesStandFor s) }
+{
+    match Desk::adopt(alloc, conn) {
+        Ok(mut desk) => {
+            let end = publish_at(alloc, &mut desk, feed, moment, writer);
+            (desk.close(), end)
+        }
+        Err(fault) => {
+            let (conn, told) = Fault::taken_from(fault);
+            (conn, Err(told))
+        }
+    }
+}

@@ -1,0 +1,108 @@
+//! HTTP/1.1 on the loopback address: one request a connection, one connection after the other.
+
+ghost use Rattle.std.specs.Prelude.{◌≡◌, false};
+
+use crate::end::Fault;
+use bike_desk::Desk;
+use bike_exchange::serve_one;
+use bike_fixed::Moment;
+use bike_heads::Routes;
+use bike_json::TokenBuffer;
+use bike_stream::write_whole;
+use sqlite::{Alter, Connection};
+use std::alloc::Global;
+use std::io::Write;
+use std::net::{TcpListener, TcpStream};
+use std::time::{Duration, SystemTime};
+
+/// For how many seconds a client may send nothing, or take nothing, before its connection is given up.
+const PATIENCE: u64 = 10;
+
+/// The clock's moment in whole seconds; none where the clock gives none, or one beyond the last that there is.
+pub fn clock_moment(rt: &HostRuntime) -> Option<Moment> {
+    let Ok(now) = SystemTime::now(rt) else {
+        return None;
+    };
+    let Ok(since) = now.duration_since(SystemTime::UNIX_EPOCH) else {
+        return None;
+    };
+    Moment::new(since.as_secs())
+}
+
+/// Serves the one request of a connection. What fails of the connection alone is told to nobody: the client sees it end.
+fn serve_stream<S: Alter>(
+    alloc: Global,
+    desk: &mut Desk<S>,
+    routes: &Routes,
+    moment: Moment,
+    stream: &TcpStream,
+) {
+    let patience = Some(Duration::from_secs(PATIENCE));
+    let _ = stream.set_read_timeout(patience);
+    let _ = stream.set_write_timeout(patience);
+    let mut reader = stream;
+    let mut writer = TokenBuffer::new(stream);
+    let _ = serve_one(alloc, desk, routes, moment, &mut reader, &mut writer);
+    let _ = writer.flush();
+}
+
+/// Accepts so many connections and serves one request of each, at the clock's moment of its acceptance. It ends early where
+/// accepting or the clock fails (`ReadFailed`) and where the desk is stopped (`StoreFailed`); a connection that fails ends nothing.
+pub fn serve_count<S: Alter>(
+    rt: &HostRuntime,
+    desk: &mut Desk<S>,
+    routes: &Routes,
+    listener: &TcpListener,
+    count: u64,
+) -> Result<(), Fault> {
+    for _ in 0..count {
+        let Ok((stream, _)) = listener.accept() else {
+            return Err(Fault::ReadFailed);
+        };
+        let Some(moment) = clock_moment(rt) else {
+            return Err(Fault::ReadFailed);
+        };
+        serve_stream(rt.alloc(), desk, routes, moment, &stream);
+        if desk.stopped() {
+            return Err(Fault::StoreFailed);
+        }
+    }
+    Ok(())
+}
+
+/// Takes the connection, which is outside a transaction, into service, listens on this port of 127.0.0.1 (0: a free one), tells that by
+/// the line `listening 127.0.0.1:PORT`, and serves so many connections, or without end. A port that can't be bound is `ReadFailed`.
+pub fn listen<S: Alter + Drop, W: Write>(
+    rt: &HostRuntime,
+    port: u16,
+    count: Option<u32>,
+    conn: Connection<S>,
+    writer: &mut W,
+) -> Result<u64, Fault>
+    requires { conn.in_transaction ≡ false }
+{
+    let mut desk = match Desk::adopt(rt.alloc(), conn) {
+        Ok(desk) => desk,
+        Err(fault) => return Err(Fault::taken_from(fault).1),
+    };
+    let Ok(routes) = Routes::new(rt.alloc()) else {
+        return Err(Fault::OutOfMemory);
+    };
+    let address = format!(in rt.alloc(); "127.0.0.1:{port}")?;
+    let Ok(listener) = TcpListener::bind(rt, address.as_str()) else {
+        return Err(Fault::ReadFailed);
+    };
+    let Ok(bound) = listener.local_addr() else {
+        return Err(Fault::ReadFailed);
+    };
+    let line = format!(in rt.alloc(); "listening {bound}\n")?;
+    if write_whole(writer, line.as_bytes()).is_err() {
+        return Err(Fault::WriteFailed);
+    }
+    let count = match count {
+        Some(count) => u64::from(count),
+        None => u64::MAX,
+    };
+    serve_count(rt, &mut desk, &routes, &listener, count)?;
+    Ok(0)
+}

@@ -1,0 +1,69 @@
+//! What the operator holds in byte order of identifiers, one after another: what a feed lists.
+
+ghost use Rattle.std.specs.Prelude.{◌≡◌, ◌≢◌, Err, option_map};
+ghost use Rattle.bike_queries.specs.After.{IsNext, IsNextStation, first_after};
+ghost use Rattle.bike_desk.specs.Queries.{Queries};
+
+use crate::desk::Desk;
+use crate::fault::DeskFault;
+use bike_catalogue::{Plan, VehicleType};
+use bike_fields::Ident;
+use bike_queries::{StationInfo, find_plan_after, find_station_after, find_type_after};
+use sqlite::Alter;
+use std::alloc::Global;
+
+/// Each answers the first whose identifier comes after the given one in byte order, or the first of all, and None exactly where
+/// none is left: a caller who hands back the identifier that was answered walks over all. Nothing that is kept changes. Faults
+/// come as those of the other queries do.
+impl<S: Alter> Desk<S> {
+    /// The next vehicle type.
+    pub fn type_after(
+        &mut self,
+        alloc: Global,
+        after: Option<&Ident>,
+    ) -> Result<Option<VehicleType>, DeskFault>
+        ensures query { Queries S.Store self.old self.new result
+            (λ s x. IsNext (λ t. t.type_id) (first_after (option_map (λ id. id.now) after.entry) s.types) x) }
+        ensures takes_none { result ≢ Err DeskFault.NoMemory }
+    {
+        if self.stopped() {
+            return Err(DeskFault::Stopped);
+        }
+        let read = find_type_after(alloc, &mut self.conn, after);
+        self.answer(read)
+    }
+
+    /// The next station.
+    pub fn station_after(
+        &mut self,
+        alloc: Global,
+        after: Option<&Ident>,
+    ) -> Result<Option<StationInfo>, DeskFault>
+        ensures query { Queries S.Store self.old self.new result
+            (λ s x. IsNextStation (first_after (option_map (λ id. id.now) after.entry) s.stations) x) }
+        ensures takes_none { result ≢ Err DeskFault.NoMemory }
+    {
+        if self.stopped() {
+            return Err(DeskFault::Stopped);
+        }
+        let read = find_station_after(alloc, &mut self.conn, after);
+        self.answer(read)
+    }
+
+    /// The next pricing plan, with its segments.
+    pub fn plan_after(
+        &mut self,
+        alloc: Global,
+        after: Option<&Ident>,
+    ) -> Result<Option<Plan>, DeskFault>
+        ensures query { Queries S.Store self.old self.new result
+            (λ s x. IsNext (λ p. p.plan_id) (first_after (option_map (λ id. id.now) after.entry) s.plans) x) }
+        ensures takes_none { result ≢ Err DeskFault.NoMemory }
+    {
+        if self.stopped() {
+            return Err(DeskFault::Stopped);
+        }
+        let read = find_plan_after(alloc, &mut self.conn, after);
+        self.answer(read)
+    }
+}

@@ -1,0 +1,4 @@
+pub mod Shows
+pub mod Told
+pub mod Feeds
+pub mod Ends

@@ -1,0 +1,52 @@
+-- What an operator shows: the feed and the row that are asked for.
+use Rattle.std.specs.Prelude.{ℕ, ℤ, pos, Option, Some, None}
+use Rattle.std.specs.FinMap as map
+use Rattle.bike_ledger.specs.Ledger.{balance_of, refunded_of}
+use Rattle.bike_operator.specs.declared.records.Closing.{Closing}
+use Rattle.bike_operator.specs.declared.records.Rental.{Rental}
+use Rattle.bike_operator.specs.Operator.{Operator, Rider, numbered}
+use Rattle.bike_queries.specs.Infos.{open_number}
+use Rattle.bike_feed_texts.specs.declared.feed.Feed.{Feed}
+use Rattle.bike_feed_texts.specs.declared.feed.Feed.TheVariants as feed
+use Rattle.bike_heads.specs.declared.feed.Feed.{Feed as Named}
+use Rattle.bike_heads.specs.declared.feed.Feed.TheVariants.{Gbfs, SystemInformation, VehicleTypes, StationInformation, StationStatus, SystemPricingPlans}
+use Rattle.bike_heads.specs.declared.aim.Rejection.TheVariants.{NotFound}
+use Rattle.bike_heads.specs.declared.resource.Shown.{Shown}
+use Rattle.bike_heads.specs.declared.resource.Shown.TheVariants as shown
+use Rattle.bike_answers.specs.declared.answer.Answer.{Answer}
+use Rattle.bike_answers.specs.declared.answer.Answer.TheVariants as answer
+
+-- the feed of the same name
+abbrev pub feed_of : Named → Feed
+feed_of Gbfs = feed.Gbfs
+feed_of SystemInformation = feed.SystemInformation
+feed_of VehicleTypes = feed.VehicleTypes
+feed_of StationInformation = feed.StationInformation
+feed_of StationStatus = feed.StationStatus
+feed_of SystemPricingPlans = feed.SystemPricingPlans
+
+abbrev pub not_found : Answer
+not_found = answer.Rejected NotFound
+
+-- what isn't there is not found
+abbrev pub found : {A : Type 0} → (A → Answer) → Option A → Answer
+found show None = not_found
+found show (Some x) = show x
+
+abbrev pub shown_rider : Operator → ℕ → Rider → Answer
+shown_rider s n r = answer.Rider (record { rider = n; blocked = r.is_blocked; balance = balance_of n s.entries; rental = open_number s n })
+
+-- refunds are shown of a closed rental alone
+abbrev pub refunds : ℤ → Option Closing → ℤ
+refunds refunded None = pos 0
+refunds refunded (Some c) = refunded
+
+abbrev pub shown_rental : Operator → ℕ → Rental → Answer
+shown_rental s n r = answer.Rental n r (refunds (refunded_of n s.entries) r.closing)
+
+-- the row that is shown of an operator
+abbrev pub shown_of : Operator → Shown → Answer
+shown_of s (shown.Rider n) = found (shown_rider s n) (map.get s.riders n)
+shown_of s (shown.Bike n) = found (λ bike. answer.Bike n bike) (map.get s.bikes n)
+shown_of s (shown.Rental n) = found (shown_rental s n) (numbered n s.rentals)
+shown_of s (shown.Order n) = found (λ order. answer.Order n order) (numbered n s.orders)

@@ -1,0 +1,15 @@
+//! One exchange of HTTP/1.1 over a desk: a request is read, the desk is asked, and the answer is written.
+//!
+//! What is answered is a function of the input's bytes, the operator for whom the desk stands and the moment. Once
+//! an answer with status 200 is written, the desk and all that a crash may leave stand for the operator after
+//! the request.
+#![tactic(auto)]
+
+mod exchange;
+mod feed;
+mod laws;
+mod respond;
+mod rows;
+
+pub use exchange::{ServeFault, Served, serve_one};
+pub use laws::answered_once;

@@ -1,0 +1,4 @@
+pub mod Objects
+pub mod Arrays
+mod Names
+pub mod Frames

@@ -1,0 +1,5 @@
+use Rattle.bike_feed_texts.proofs.Objects.{name_then}
+use Rattle.bike_feed_texts.proofs.members.cents_member.Goals as goal
+
+pub returns-clause-wrote : goal.returns-clause-wrote
+returns-clause-wrote g c = name_then c.name.ensures.wrote c.name.ensures.place.0 c.cents.ensures.wrote

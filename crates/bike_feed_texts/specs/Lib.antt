@@ -1,0 +1,4 @@
+pub mod Feeds
+pub mod Elements
+pub mod Trees
+pub mod Writing

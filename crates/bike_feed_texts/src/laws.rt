@@ -1,0 +1,35 @@
+//! What the texts of the feeds are made of, and what their names mean.
+
+ghost use Rattle.std.specs.Prelude.{◌≡◌, ◌++◌, ℕ, List, Some, false, codes};
+ghost use Rattle.std.specs.FinMap.{values};
+ghost use Rattle.bike_json.specs.Rows.{items};
+ghost use Rattle.bike_json.specs.Tree.{text_of, items_text};
+ghost use Rattle.bike_operator.specs.Operator.{Operator};
+ghost use Rattle.bike_catalogue.specs.Rows.{SystemRow};
+ghost use Rattle.bike_feed_texts.specs.declared.feed.Feed.{Feed as AnyFeed};
+ghost use Rattle.bike_feed_texts.specs.Elements.{type_tree, station_tree, status_tree, plan_tree};
+ghost use Rattle.bike_feed_texts.specs.Feeds.{feed_name, feed_of};
+ghost use Rattle.bike_feed_texts.specs.Trees.{feed_tree, report_of, counts_of};
+ghost use Rattle.bike_feed_texts.specs.Writing.{list_head_text, list_end_text};
+
+use crate::feed::Feed;
+
+/// A feed is read exactly from its name.
+pub fn feed_name_laws()
+    ensures sound { (text : List ℕ) (f : AnyFeed) → feed_of text ≡ Some f → text ≡ feed_name f }
+    ensures full { (f : AnyFeed) → feed_of (feed_name f) ≡ Some f }
+{}
+
+/// The text of a feed whose data are a list: what `open_list` writes, the elements with commas between them, and what `close_list` writes.
+pub fn list_text_laws()
+    ensures vehicle_types { (s : Operator) (x : SystemRow) (seconds : ℕ) → text_of (feed_tree s x Feed.VehicleTypes seconds)
+        ≡ list_head_text x seconds (codes "vehicle_types") ++ (items_text false (items (type_tree x) (values s.types)) ++ list_end_text) }
+    ensures station_information { (s : Operator) (x : SystemRow) (seconds : ℕ) → text_of (feed_tree s x Feed.StationInformation seconds)
+        ≡ list_head_text x seconds (codes "stations")
+        ++ (items_text false (items (λ station. station_tree x station.row) (values s.stations)) ++ list_end_text) }
+    ensures station_status { (s : Operator) (x : SystemRow) (seconds : ℕ) → text_of (feed_tree s x Feed.StationStatus seconds)
+        ≡ list_head_text x seconds (codes "stations")
+        ++ (items_text false (items (λ station. status_tree (report_of station) (counts_of s station)) (values s.stations)) ++ list_end_text) }
+    ensures system_pricing_plans { (s : Operator) (x : SystemRow) (seconds : ℕ) → text_of (feed_tree s x Feed.SystemPricingPlans seconds)
+        ≡ list_head_text x seconds (codes "plans") ++ (items_text false (items (plan_tree x) (values s.plans)) ++ list_end_text) }
+{}

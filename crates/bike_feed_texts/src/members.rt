@@ -1,0 +1,110 @@
+//! Members of objects, each written with its name.
+
+ghost use Rattle.std.specs.Prelude.{◌≡◌, ◌<◌, ◌≤◌, ◌+◌, IsTrue, length, pos};
+ghost use Rattle.bike_json.specs.Tree.{text, whole, cents, micro, flag};
+ghost use Rattle.bike_json.specs.State.{IsAt, takes_name, takes_value, after_value};
+ghost use Rattle.bike_feed_texts.specs.Elements.{localized_text, moment_tree, translation};
+ghost use Rattle.bike_feed_texts.specs.Writing.{WroteMember, WroteValue};
+
+use bike_catalogue::System;
+use bike_fields::Name;
+use bike_fixed::{Cents, Micro, Moment};
+use bike_json::{JsonState, Level};
+use std::io::Write;
+
+/// A text.
+pub(crate) fn text_member<W: Write>(json: &mut JsonState, out: &mut W, name: &str, value: &str)
+    requires { IsTrue (takes_name json.old.top) }
+    ensures wrote { WroteMember json.old json.new (W.contents out.old) (W.contents out.new) name.now (text value.now) }
+    ensures place { IsAt json.new Level.FilledObject json.old.round }
+{
+    let _ = json.name(out, name);
+    let _ = json.text(out, value);
+}
+
+/// A whole number.
+pub(crate) fn whole_member<W: Write>(json: &mut JsonState, out: &mut W, name: &str, number: u32)
+    requires { IsTrue (takes_name json.old.top) }
+    ensures wrote { WroteMember json.old json.new (W.contents out.old) (W.contents out.new) name.now (whole (pos number)) }
+    ensures place { IsAt json.new Level.FilledObject json.old.round }
+{
+    let _ = json.name(out, name);
+    let _ = json.whole(out, i64::from(number));
+}
+
+/// An amount, in units with two decimals.
+pub(crate) fn cents_member<W: Write>(json: &mut JsonState, out: &mut W, name: &str, amount: Cents)
+    requires { IsTrue (takes_name json.old.top) }
+    ensures wrote { WroteMember json.old json.new (W.contents out.old) (W.contents out.new) name.now (cents amount) }
+    ensures place { IsAt json.new Level.FilledObject json.old.round }
+{
+    let _ = json.name(out, name);
+    let _ = json.cents(out, amount);
+}
+
+/// A coordinate, in degrees with six decimals.
+pub(crate) fn micro_member<W: Write>(
+    json: &mut JsonState,
+    out: &mut W,
+    name: &str,
+    coordinate: Micro,
+)
+    requires { IsTrue (takes_name json.old.top) }
+    ensures wrote { WroteMember json.old json.new (W.contents out.old) (W.contents out.new) name.now (micro coordinate) }
+    ensures place { IsAt json.new Level.FilledObject json.old.round }
+{
+    let _ = json.name(out, name);
+    let _ = json.micro(out, coordinate);
+}
+
+/// `true` or `false`.
+pub(crate) fn flag_member<W: Write>(json: &mut JsonState, out: &mut W, name: &str, value: bool)
+    requires { IsTrue (takes_name json.old.top) }
+    ensures wrote { WroteMember json.old json.new (W.contents out.old) (W.contents out.new) name.now (flag value) }
+    ensures place { IsAt json.new Level.FilledObject json.old.round }
+{
+    let _ = json.name(out, name);
+    let _ = json.flag(out, value);
+}
+
+/// A moment, as RFC 3339 writes it.
+pub(crate) fn moment_member<W: Write>(json: &mut JsonState, out: &mut W, name: &str, moment: Moment)
+    requires { IsTrue (takes_name json.old.top) }
+    ensures wrote { WroteMember json.old json.new (W.contents out.old) (W.contents out.new) name.now (moment_tree moment) }
+    ensures place { IsAt json.new Level.FilledObject json.old.round }
+{
+    let text = moment.text();
+    text_member(json, out, name, text.as_str());
+}
+
+/// A text with its language, as an object.
+fn write_translation<W: Write>(json: &mut JsonState, out: &mut W, system: &System, value: &str)
+    requires value { IsTrue (takes_value json.old.top) }
+    requires room { length json.old.round < 16 }
+    ensures wrote { WroteValue json.old json.new (W.contents out.old) (W.contents out.new) (translation system.now value.now) }
+    ensures place { IsAt json.new (after_value json.old.top) json.old.round }
+{
+    let _ = json.begin_object(out);
+    text_member(json, out, "text", value);
+    text_member(json, out, "language", system.language().as_str());
+    let _ = json.end_object(out);
+}
+
+/// A localized text, in the system's language.
+pub(crate) fn localized_member<W: Write>(
+    json: &mut JsonState,
+    out: &mut W,
+    name: &str,
+    system: &System,
+    value: &Name,
+)
+    requires name { IsTrue (takes_name json.old.top) }
+    requires room { length json.old.round < 15 }
+    ensures wrote { WroteMember json.old json.new (W.contents out.old) (W.contents out.new) name.now (localized_text system.now value.now) }
+    ensures place { IsAt json.new Level.FilledObject json.old.round }
+{
+    let _ = json.name(out, name);
+    let _ = json.begin_array(out);
+    write_translation(json, out, system, value.as_str());
+    let _ = json.end_array(out);
+}

@@ -1,0 +1,34 @@
+//! The elements of `station_information`.
+
+ghost use Rattle.std.specs.Prelude.{◌≡◌, ◌<◌, IsTrue, length, is_ok, not};
+ghost use Rattle.bike_json.specs.State.{IsAt, takes_value, after_value};
+ghost use Rattle.bike_feed_texts.specs.Elements.{station_tree};
+ghost use Rattle.bike_feed_texts.specs.Writing.{WroteValue};
+
+use crate::members::{localized_member, micro_member, text_member, whole_member};
+use bike_catalogue::{Station, System};
+use bike_json::JsonState;
+use bike_stream::WriteFault;
+use std::io::Write;
+
+/// Writes a station: its name, its place and how many docks it has.
+pub fn write_station<W: Write>(
+    json: &mut JsonState,
+    out: &mut W,
+    system: &System,
+    station: &Station,
+) -> Result<(), WriteFault>
+    requires value { IsTrue (takes_value json.old.top) }
+    requires room { length json.old.round < 14 }
+    ensures wrote { WroteValue json.old json.new (W.contents out.old) (W.contents out.new) (station_tree system.now station.now) }
+    ensures place { IsAt json.new (after_value json.old.top) json.old.round }
+    ensures outcome { is_ok result ≡ not json.new.failed }
+{
+    let _ = json.begin_object(out);
+    text_member(json, out, "station_id", station.station_id().as_str());
+    localized_member(json, out, "name", system, station.name());
+    micro_member(json, out, "lat", station.lat());
+    micro_member(json, out, "lon", station.lon());
+    whole_member(json, out, "capacity", station.docks().get());
+    json.end_object(out)
+}

@@ -1,0 +1,153 @@
+//! The elements of `station_status`.
+
+ghost use Rattle.std.specs.Prelude.{◌≡◌, ◌<◌, IsTrue, length, false, is_ok, not, ◌&&◌};
+ghost use Rattle.bike_json.specs.Rows.{items};
+ghost use Rattle.bike_json.specs.State.{IsAt, Wrote, takes_name, takes_value, takes_array_end, after_value};
+ghost use Rattle.bike_json.specs.Tree.{array, items_text};
+ghost use Rattle.bike_feed_texts.specs.Elements.{members, type_count_tree, counts_members, report_members, status_tree};
+ghost use Rattle.bike_feed_texts.specs.Writing.{WroteMember, WroteMembers, WroteValue, report_row, counts_row};
+
+use crate::members::{flag_member, moment_member, text_member, whole_member};
+use bike_fields::Ident;
+use bike_fixed::Moment;
+use bike_json::{JsonState, Level};
+use bike_stream::WriteFault;
+use std::io::Write;
+
+/// How many bicycles of a vehicle type are available at a station.
+#[derive(Debug, Drop)]
+pub struct TypeCount {
+    /// The vehicle type.
+    pub type_id: Ident,
+    /// How many of it are available; 0 too.
+    pub count: u32,
+}
+
+/// The counts of a station, as GBFS's `station_status` has them.
+#[derive(Clone, Copy, Debug)]
+pub struct Counts<'a> {
+    /// The bicycles that are fit and in a dock that isn't broken.
+    pub available: u32,
+    /// The same of each vehicle type of the system.
+    pub by_type: &'a [TypeCount],
+    /// The other bicycles in its docks.
+    pub disabled: u32,
+    /// The docks that are empty and not broken.
+    pub docks_available: u32,
+    /// The broken docks.
+    pub docks_disabled: u32,
+}
+
+/// What a station's status tells beside its counts.
+#[derive(Clone, Copy, Debug)]
+pub struct StationReport<'a> {
+    /// The station.
+    pub station_id: &'a Ident,
+    /// Whether it stands at its place.
+    pub is_installed: bool,
+    /// Whether bicycles are rented there while it is installed.
+    pub is_renting: bool,
+    /// Whether bicycles are taken back there while it is installed.
+    pub is_returning: bool,
+    /// When it last reported.
+    pub reported: Moment,
+}
+
+fn write_type_count<W: Write>(json: &mut JsonState, out: &mut W, count: &TypeCount)
+    requires value { IsTrue (takes_value json.old.top) }
+    requires room { length json.old.round < 16 }
+    ensures wrote { WroteValue json.old json.new (W.contents out.old) (W.contents out.new) (type_count_tree count.now) }
+    ensures place { IsAt json.new (after_value json.old.top) json.old.round }
+{
+    let _ = json.begin_object(out);
+    text_member(json, out, "vehicle_type_id", count.type_id.as_str());
+    whole_member(json, out, "count", count.count);
+    let _ = json.end_object(out);
+}
+
+/// The counts by type as items.
+fn write_type_counts<W: Write>(json: &mut JsonState, out: &mut W, counts: &[TypeCount])
+    requires top { json.old.top ≡ Level.EmptyArray }
+    requires room { length json.old.round < 16 }
+    ensures wrote { Wrote json.old json.new (W.contents out.old) (W.contents out.new) (items_text false (items type_count_tree counts.now)) }
+    ensures place { IsTrue (takes_array_end json.new.top) × (json.new.round ≡ json.old.round) }
+{
+    for count in counts {
+        write_type_count(json, out, count);
+    }
+}
+
+/// The counts by type as a member.
+fn type_counts_member<W: Write>(json: &mut JsonState, out: &mut W, name: &str, counts: &[TypeCount])
+    requires name { IsTrue (takes_name json.old.top) }
+    requires room { length json.old.round < 15 }
+    ensures wrote { WroteMember json.old json.new (W.contents out.old) (W.contents out.new) name.now (array (items type_count_tree counts.now)) }
+    ensures place { IsAt json.new Level.FilledObject json.old.round }
+{
+    let _ = json.name(out, name);
+    let _ = json.begin_array(out);
+    write_type_counts(json, out, counts);
+    let _ = json.end_array(out);
+}
+
+fn counts_members<W: Write>(json: &mut JsonState, out: &mut W, counts: &Counts<'_>)
+    requires top { json.old.top ≡ Level.FilledObject }
+    requires room { length json.old.round < 15 }
+    ensures wrote { WroteMembers json.old json.new (W.contents out.old) (W.contents out.new) (members (counts_members (counts_row counts.now))) }
+    ensures place { IsAt json.new Level.FilledObject json.old.round }
+{
+    whole_member(json, out, "num_vehicles_available", counts.available);
+    type_counts_member(json, out, "vehicle_types_available", counts.by_type);
+    whole_member(json, out, "num_vehicles_disabled", counts.disabled);
+    whole_member(json, out, "num_docks_available", counts.docks_available);
+    whole_member(json, out, "num_docks_disabled", counts.docks_disabled);
+}
+
+/// Whether the station is installed and the flag is set.
+fn while_installed(station: &StationReport<'_>, flag: bool) -> bool
+    ensures { result ≡ station.now.is_installed && flag }
+{
+    station.is_installed && flag
+}
+
+fn report_members<W: Write>(json: &mut JsonState, out: &mut W, station: &StationReport<'_>)
+    requires { json.old.top ≡ Level.FilledObject }
+    ensures wrote { WroteMembers json.old json.new (W.contents out.old) (W.contents out.new) (members (report_members (report_row station.now))) }
+    ensures place { IsAt json.new Level.FilledObject json.old.round }
+{
+    flag_member(json, out, "is_installed", station.is_installed);
+    flag_member(
+        json,
+        out,
+        "is_renting",
+        while_installed(station, station.is_renting),
+    );
+    flag_member(
+        json,
+        out,
+        "is_returning",
+        while_installed(station, station.is_returning),
+    );
+    moment_member(json, out, "last_reported", station.reported);
+}
+
+/// Writes the status of a station. It rents bicycles and takes them back only while it is installed.
+pub fn write_status<W: Write>(
+    json: &mut JsonState,
+    out: &mut W,
+    station: &StationReport<'_>,
+    counts: &Counts<'_>,
+) -> Result<(), WriteFault>
+    requires value { IsTrue (takes_value json.old.top) }
+    requires room { length json.old.round < 14 }
+    ensures wrote { WroteValue json.old json.new (W.contents out.old) (W.contents out.new)
+        (status_tree (report_row station.now) (counts_row counts.now)) }
+    ensures place { IsAt json.new (after_value json.old.top) json.old.round }
+    ensures outcome { is_ok result ≡ not json.new.failed }
+{
+    let _ = json.begin_object(out);
+    text_member(json, out, "station_id", station.station_id.as_str());
+    counts_members(json, out, counts);
+    report_members(json, out, station);
+    json.end_object(out)
+}

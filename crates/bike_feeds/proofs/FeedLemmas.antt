@@ -1,0 +1,116 @@
+-- A feed of the system that the desk has.
+use Rattle.std.proofs.Common.{◌≡◌, ℕ, List, ◌++◌, length, Bool, true, false, not, Option, Some, None, Result, Ok, Err, OnOk, OnErr, refl, sym, ap, ◌∙◌, subst, arith}
+use Rattle.std.specs.Prelude.{MatchOption}
+use Rattle.std.specs.Result.{IsErrAnd}
+use Rattle.std.specs.Io.KnownBytes.{Keeps, Appends}
+use Rattle.std.proofs.KnownBytes.{Appends-nil, Keeps-refl}
+use Rattle.sqlite_trees.specs.declared.store.Store.{Ghosts}
+use Rattle.sqlite.specs.State.{HasCleanDisk}
+use Rattle.bike_stream.specs.Writing.{AppendsFront}
+use Rattle.bike_catalogue.specs.Rows.{SystemRow}
+use Rattle.bike_json.specs.Tree.{Tree, comma, text_of}
+use Rattle.bike_json.specs.State.{Place, Wrote, outset, has_more}
+use Rattle.bike_json.proofs.Series.{Wrote_as}
+use Rattle.bike_feed_texts.specs.declared.feed.Feed.{Feed}
+use Rattle.bike_feed_texts.specs.Trees.{feed_tree}
+use Rattle.bike_feed_texts.specs.Writing.{WroteValue}
+use Rattle.bike_operator.specs.Operator.{Operator}
+use Rattle.bike_desk.specs.Desk.{DeskValue, shown, IsAt}
+use Rattle.bike_desk.specs.Queries.{Queries}
+use Rattle.bike_feeds.specs.declared.fault.FeedFault.{FeedFault}
+use Rattle.bike_feeds.specs.declared.fault.FeedFault.TheVariants.{SystemMissing, Write}
+use Rattle.bike_feeds.specs.Publishing.{LeavesDesk, feed_text, IsPublished, IsBegun}
+use Rattle.bike_feeds.specs.Walking.{StaysAt, WritesText, IsCounted}
+use Rattle.bike_feeds.proofs.DeskLemmas.{earlier, stays_still, stays_asked, leaves_ok, leaves_missing, leaves_then, leaves_same}
+use Rattle.bike_feeds.proofs.TextLemmas.{text_told, text_cut, text_passed}
+
+-- ---- one feed of a system
+
+value_wrote : {p t : Place} {a b : Option (List ℕ)} {v : Tree} → p ≡ outset → WroteValue p t a b v → Wrote p t a b (text_of v)
+value_wrote {p} {t} {a} {b} {v} start w = Wrote_as (ap (λ (y : Place). comma (has_more y.top) ++ text_of v) start) w.are
+
+module _ {S : Type 0} (g : Ghosts S) (x : SystemRow) (moment : ℕ) {feed : Feed} (kind : Feed) (is : feed ≡ kind) where
+  pub feed_as : {A : Type 0} {d e : DeskValue S} {a b : Option (List ℕ)} {count : ℕ} {result : Result A FeedFault}
+      → WritesText g d e a b count result (λ s. feed_text s x kind moment) → WritesText g d e a b count result (λ s. feed_text s x feed moment)
+  feed_as {A} {d} {e} {a} {b} {count} {result} w = subst (λ (f : Feed). WritesText g d e a b count result (λ s. feed_text s x f moment)) (sym is) w
+
+  -- a feed that depends on no more than the system
+  module _ {d : DeskValue S} {p t : Place} {a b : Option (List ℕ)} (start : p ≡ outset) (going : d.is_stopped ≡ false)
+      (wrote : (s : Operator) → WroteValue p t a b (feed_tree s x kind moment)) where
+    pub value_done : {A : Type 0} (v : A) → true ≡ not t.failed → WritesText g d d a b t.count (Ok v) (λ s. feed_text s x feed moment)
+    value_done v well =
+        feed_as (text_told g (λ s. feed_text s x kind moment) v v start (leaves_ok g v (stays_still g d going)) (λ clean s at. value_wrote start (wrote s)) going well)
+
+    pub value_cut : {A : Type 0} {count : ℕ} (v : A) (result : Result A FeedFault) → IsErrAnd result (λ told. told ≡ Write) → false ≡ not t.failed
+        → WritesText g d d a b count result (λ s. feed_text s x feed moment)
+    value_cut v result told failed = feed_as (text_passed g (λ s. feed_text s x kind moment) Write result told
+        (text_cut g (λ s. feed_text s x kind moment) v start (leaves_ok g v (stays_still g d going)) (λ clean s at. value_wrote start (wrote s)) going failed))
+
+-- ---- the system that the desk has
+
+begun_by : (s : Operator) (feed : Feed) (moment : ℕ) (a : Option (List ℕ)) (o : Option SystemRow) → MatchOption o (Keeps a a) (λ x. AppendsFront a a (feed_text s x feed moment))
+begun_by s feed moment a None = Keeps-refl a
+begun_by s feed moment a (Some x) = (0, omega arith, Appends-nil a)
+
+-- nothing is written
+pub nothing_begun : (s : Operator) (feed : Feed) (moment : ℕ) (a : Option (List ℕ)) → IsBegun s feed moment a a
+nothing_begun s feed moment a = begun_by s feed moment a s.system
+
+pub on_err : {A E P : Type 0} (r : Result A E) → P → OnErr r P
+on_err (Ok x) h = tt
+on_err (Err e) h = h
+
+-- a desk that answered was going on
+was_going : {S A : Type 0} (g : Ghosts S) {d e : DeskValue S} {says : Operator → A → Type 0} (x : A) → Queries g d e (Ok x) says → d.is_stopped ≡ false
+was_going g {d} x q = go d.is_stopped refl where
+  go : (b : Bool) → d.is_stopped ≡ b → d.is_stopped ≡ false
+  go true is = let it = (q.stays is).0 in absurd cc
+  go false is = is
+
+counted : {A : Type 0} (s : Operator) (x : SystemRow) (feed : Feed) (moment : ℕ) (a b : Option (List ℕ)) (count : ℕ) (r : Result A FeedFault) → s.system ≡ Some x
+    → OnOk r (Appends a b (feed_text s x feed moment) × (count ≡ length (feed_text s x feed moment))) → OnOk r (IsCounted s feed moment a b count)
+counted s x feed moment a b count (Ok y) set h = (x, set, h.0, h.1)
+counted s x feed moment a b count (Err e) set h = tt
+
+begun : {A : Type 0} (s : Operator) (x : SystemRow) (feed : Feed) (moment : ℕ) (a b : Option (List ℕ)) (r : Result A FeedFault) → s.system ≡ Some x
+    → OnErr r (AppendsFront a b (feed_text s x feed moment)) → OnErr r (IsBegun s feed moment a b)
+begun s x feed moment a b (Ok y) set h = tt
+begun s x feed moment a b (Err e) set h = subst (λ (o : Option SystemRow). MatchOption o (Keeps a b) (λ y. AppendsFront a b (feed_text s y feed moment))) (sym set) h
+
+module _ {S : Type 0} (g : Ghosts S) {d e : DeskValue S} (o : Option SystemRow) (q : Queries g d e (Ok o) (λ s x. x ≡ s.system)) where
+  asked : StaysAt g d e
+  asked = stays_asked g o (was_going g o q) q
+
+  pub publish_missing : {A : Type 0} → o ≡ None → LeavesDesk g d e {A = A} (Err SystemMissing)
+  publish_missing none = leaves_missing g asked (λ clean s at. sym (q.ok clean s at).0 ∙ none)
+
+  has : (x : SystemRow) → o ≡ Some x → HasCleanDisk (shown g e) → (s : Operator) → IsAt g d s → s.system ≡ Some x
+  has x is clean s at = sym (q.ok clean s at).0 ∙ is
+
+  pub publish_leaves : {A : Type 0} {f : DeskValue S} {a b : Option (List ℕ)} {count : ℕ} {result : Result A FeedFault} {text : Operator → List ℕ}
+      → WritesText g e f a b count result text → LeavesDesk g d f result
+  publish_leaves w = leaves_then g asked w.desk
+
+  module _ {A : Type 0} {f : DeskValue S} (x : SystemRow) (is : o ≡ Some x) (feed : Feed) (moment : ℕ) {a b : Option (List ℕ)} {count : ℕ} (result : Result A FeedFault)
+      (w : WritesText g e f a b count result (λ s. feed_text s x feed moment)) where
+    pub publish_whole : HasCleanDisk (shown g f) → (s : Operator) → IsAt g d s → OnOk result (IsCounted s feed moment a b count)
+    publish_whole clean s at =
+        let before = earlier g e f w.desk.clean clean in
+        counted s x feed moment a b count result (has x is before s at) (w.whole clean s (asked.same before s at))
+
+    pub publish_front : HasCleanDisk (shown g f) → (s : Operator) → IsAt g d s → OnErr result (IsBegun s feed moment a b)
+    publish_front clean s at =
+        let before = earlier g e f w.desk.clean clean in
+        begun s x feed moment a b result (has x is before s at) (w.front clean s (asked.same before s at))
+
+-- ---- what callers are told
+
+pub published : {A : Type 0} (s : Operator) (feed : Feed) (moment : ℕ) (a b : Option (List ℕ)) (count : ℕ) (r : Result A FeedFault) → OnOk r (IsCounted s feed moment a b count)
+    → OnOk r (IsPublished s feed moment a b)
+published s feed moment a b count (Ok x) h = (h.0, h.1, h.2)
+published s feed moment a b count (Err e) h = tt
+
+pub leaves_passed : {S A B : Type 0} (g : Ghosts S) {d e : DeskValue S} (fault : FeedFault) (result : Result B FeedFault) → IsErrAnd result (λ told. told ≡ fault)
+    → LeavesDesk g d e {A = A} (Err fault) → LeavesDesk g d e result
+leaves_passed g fault (Ok x) is l = absurd is
+leaves_passed {B = B} g {d} {e} fault (Err told) is l = subst (λ (f : FeedFault). LeavesDesk g d e {A = B} (Err f)) (sym is) (leaves_same g fault l)

@@ -1,8 +1,0 @@
-use Rattle.bike_feeds.proofs.Objects.{object_then, member_then, member_last}
-use Rattle.bike_feeds.proofs.gbfs.write_link.Goals as goal
-
-pub returns-clause-wrote : goal.returns-clause-wrote
-returns-clause-wrote g c =
-    object_then c.begin_object.ensures.wrote c.begin_object.ensures.place.0
-    (member_then (rw (c.name.ensures) at c.text_member.ensures.wrote) c.text_member.ensures.place.0 (member_last (rw (c.as_str.ensures.value, c.url_of-url.ensures) at c.text_member-2.ensures.wrote)))
-    c.end_object.ensures.wrote

@@ -1,0 +1,7 @@
+use Rattle.bike_feed_texts.specs.Elements.{plan_tree}
+use Rattle.bike_feeds.proofs.WalkLemmas.{Walks}
+use Rattle.bike_feeds.proofs.items.write_plans.Given as goal
+
+abbrev pub invariant-plans : goal.invariant-plans
+invariant-plans g l =
+    Walks g.S.Store (λ p. p.plan_id) (λ s. plan_tree l.fn.system) (λ s. s.plans) l.next l.fn.desk l.desk l.fn.json l.json (g.W.Write.contents l.fn.out) (g.W.Write.contents l.out)

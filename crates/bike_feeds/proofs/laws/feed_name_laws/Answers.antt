@@ -1,5 +1,0 @@
-use Rattle.bike_feeds.proofs.Names.{feed_sound, feed_full}
-use Rattle.bike_feeds.proofs.laws.feed_name_laws.Goals as goal
-
-pub returns : goal.returns
-returns c = record { sound = feed_sound; full = feed_full }

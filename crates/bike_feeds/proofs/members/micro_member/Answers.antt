@@ -1,5 +1,0 @@
-use Rattle.bike_feeds.proofs.Objects.{name_then}
-use Rattle.bike_feeds.proofs.members.micro_member.Goals as goal
-
-pub returns-clause-wrote : goal.returns-clause-wrote
-returns-clause-wrote g c = name_then c.name.ensures.wrote c.name.ensures.place.0 c.micro.ensures.wrote

@@ -1,0 +1,57 @@
+-- What the functions owe of which a feed is made, and what holds between two questions to the desk.
+use Rattle.std.specs.Prelude.{◌≡◌, ◌≤◌, ℕ, List, length, false, IsTrue, Option, Some, Result, OnOk, OnErr}
+use Rattle.std.specs.Io.KnownBytes.{Appends}
+use Rattle.sqlite_trees.specs.View.{doubt}
+use Rattle.sqlite_trees.specs.declared.store.Store.{Ghosts}
+use Rattle.sqlite.specs.State.{HasCleanDisk}
+use Rattle.bike_stream.specs.Writing.{AppendsFront}
+use Rattle.bike_json.specs.Tree.{Tree, items_text}
+use Rattle.bike_json.specs.Rows.{items, WroteFront}
+use Rattle.bike_json.specs.State.{Place, Wrote, takes_array_end}
+use Rattle.bike_catalogue.specs.Rows.{SystemRow}
+use Rattle.bike_operator.specs.Operator.{Operator}
+use Rattle.bike_feed_texts.specs.declared.feed.Feed.{Feed}
+use Rattle.bike_feed_texts.specs.Elements.{CountsRow}
+use Rattle.bike_queries.specs.declared.counts.Counts.{Counts}
+use Rattle.bike_schema.specs.Stands.{AllLeft}
+use Rattle.bike_desk.specs.Desk.{DeskValue, shown, IsAt}
+use Rattle.bike_feeds.specs.declared.fault.FeedFault.{FeedFault}
+use Rattle.bike_feeds.specs.Publishing.{LeavesDesk, feed_text}
+
+-- the desk was asked, goes on, and is at the operator at whom it was
+pub record StaysAt {S : Type 0} (g : Ghosts S) (old new : DeskValue S) : Type 0 where
+  pub clean : doubt (shown g old).is_clean ≤ doubt (shown g new).is_clean
+  pub same : HasCleanDisk (shown g new) → (s : Operator) → IsAt g old s → IsAt g new s
+  pub left : HasCleanDisk (shown g new) → (s : Operator) → IsAt g old s → AllLeft (shown g new) (shown g old).may_leave
+  pub went_on : old.is_stopped ≡ false
+  pub goes_on : new.is_stopped ≡ false
+
+-- THE ELEMENTS OF A LIST were written as items, or at a fault a front of their text
+pub record WritesItems {S X : Type 0} (g : Ghosts S) (old new : DeskValue S) (from to : Place) (before after : Option (List ℕ)) {A : Type 0} (result : Result A FeedFault)
+    (tree : Operator → X → Tree) (rows : Operator → List X) : Type 0 where
+  pub desk : LeavesDesk g old new result
+  pub all : HasCleanDisk (shown g new) → (s : Operator) → IsAt g old s → OnOk result (Wrote from to before after (items_text false (items (tree s) (rows s))))
+  pub front : HasCleanDisk (shown g new) → (s : Operator) → IsAt g old s → OnErr result (WroteFront from to before after (items_text false (items (tree s) (rows s))))
+  pub inside : IsTrue (takes_array_end to.top)
+  pub round : to.round ≡ from.round
+
+-- A WHOLE TEXT was written and counted, or at a fault a front of it and not all
+pub record WritesText {S : Type 0} (g : Ghosts S) (old new : DeskValue S) (before after : Option (List ℕ)) (count : ℕ) {A : Type 0} (result : Result A FeedFault)
+    (text : Operator → List ℕ) : Type 0 where
+  pub desk : LeavesDesk g old new result
+  pub whole : HasCleanDisk (shown g new) → (s : Operator) → IsAt g old s → OnOk result (Appends before after (text s) × (count ≡ length (text s)))
+  pub front : HasCleanDisk (shown g new) → (s : Operator) → IsAt g old s → OnErr result (AppendsFront before after (text s))
+
+-- the whole feed was written, and counted
+abbrev pub IsCounted : Operator → Feed → ℕ → Option (List ℕ) → Option (List ℕ) → ℕ → Type 0
+IsCounted s feed moment old new count = (x : SystemRow) × (s.system ≡ Some x) × Appends old new (feed_text s x feed moment) × (count ≡ length (feed_text s x feed moment))
+
+-- the counts that were read of a station, as its status shows them
+abbrev pub shown_counts : Counts → CountsRow
+shown_counts c = record {
+  available = c.available;
+  by_type = c.by_type.items;
+  disabled = c.disabled;
+  docks_available = c.docks_available;
+  docks_disabled = c.docks_disabled;
+}

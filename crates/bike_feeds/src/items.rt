@@ -1,0 +1,155 @@
+//! The elements of the feeds' lists, each read from the desk as it is written.
+
+ghost use Rattle.std.specs.Prelude.{◌≡◌, ◌<◌, IsTrue, length, false, is_ok, not};
+ghost use Rattle.std.specs.FinMap.{values};
+ghost use Rattle.bike_json.specs.State.{IsAt as IsIn, takes_value, after_value};
+ghost use Rattle.bike_feed_texts.specs.Elements.{type_tree, station_tree, status_tree, plan_tree};
+ghost use Rattle.bike_feed_texts.specs.Trees.{report_of, counts_of};
+ghost use Rattle.bike_feed_texts.specs.Writing.{WroteValue, in_list};
+ghost use Rattle.bike_queries.specs.After.{station_of};
+ghost use Rattle.bike_feeds.specs.Walking.{WritesItems, shown_counts};
+
+use crate::fault::FeedFault;
+use bike_catalogue::System;
+use bike_desk::Desk;
+use bike_feed_texts::{Counts, StationReport, write_plan, write_station, write_status, write_type};
+use bike_json::{JsonState, Level};
+use bike_queries::{Counts as StoredCounts, StationInfo};
+use bike_stream::WriteFault;
+use sqlite::Alter;
+use std::alloc::Global;
+use std::io::Write;
+
+/// Writes the vehicle types as items.
+pub(crate) fn write_types<S: Alter, W: Write>(
+    alloc: Global,
+    desk: &mut Desk<S>,
+    system: &System,
+    json: &mut JsonState,
+    out: &mut W,
+) -> Result<(), FeedFault>
+    requires going { desk.old.is_stopped ≡ false }
+    requires place { IsIn json.old Level.EmptyArray in_list }
+    ensures { WritesItems S.Store desk.old desk.new json.old json.new (W.contents out.old) (W.contents out.new) result
+        (λ s. type_tree system.now) (λ s. values s.types) }
+{
+    let mut next = desk.type_after(alloc, None)?;
+    'types: for _ in 0..usize::MAX {
+        let Some(vehicle_type) = next else {
+            return Ok(());
+        };
+        write_type(json, out, system, &vehicle_type)?;
+        next = desk.type_after(alloc, Some(vehicle_type.type_id()))?;
+    }
+    // No list is that long.
+    Err(FeedFault::Write)
+}
+
+/// Writes the stations as items.
+pub(crate) fn write_stations<S: Alter, W: Write>(
+    alloc: Global,
+    desk: &mut Desk<S>,
+    system: &System,
+    json: &mut JsonState,
+    out: &mut W,
+) -> Result<(), FeedFault>
+    requires going { desk.old.is_stopped ≡ false }
+    requires place { IsIn json.old Level.EmptyArray in_list }
+    ensures { WritesItems S.Store desk.old desk.new json.old json.new (W.contents out.old) (W.contents out.new) result
+        (λ s station. station_tree system.now station.row) (λ s. values s.stations) }
+{
+    let mut next = desk.station_after(alloc, None)?;
+    'stations: for _ in 0..usize::MAX {
+        let Some(info) = next else {
+            return Ok(());
+        };
+        write_station(json, out, system, &info.station)?;
+        next = desk.station_after(alloc, Some(info.station.station_id()))?;
+    }
+    // No list is that long.
+    Err(FeedFault::Write)
+}
+
+/// Writes a station's status from its report and its counts.
+fn write_report<W: Write>(
+    json: &mut JsonState,
+    out: &mut W,
+    info: &StationInfo,
+    counts: &StoredCounts,
+) -> Result<(), WriteFault>
+    requires value { IsTrue (takes_value json.old.top) }
+    requires room { length json.old.round < 14 }
+    ensures wrote { WroteValue json.old json.new (W.contents out.old) (W.contents out.new)
+        (status_tree (report_of (station_of info.now)) (shown_counts counts.now)) }
+    ensures place { IsIn json.new (after_value json.old.top) json.old.round }
+    ensures outcome { is_ok result ≡ not json.new.failed }
+{
+    let report = StationReport {
+        station_id: info.station.station_id(),
+        is_installed: info.is_installed,
+        is_renting: info.is_renting,
+        is_returning: info.is_returning,
+        reported: info.reported,
+    };
+    let shown = Counts {
+        available: counts.available,
+        by_type: counts.by_type.as_slice(),
+        disabled: counts.disabled,
+        docks_available: counts.docks_available,
+        docks_disabled: counts.docks_disabled,
+    };
+    write_status(json, out, &report, &shown)
+}
+
+/// Writes the stations' statuses as items, the counts of each read behind it.
+pub(crate) fn write_statuses<S: Alter, W: Write>(
+    alloc: Global,
+    desk: &mut Desk<S>,
+    json: &mut JsonState,
+    out: &mut W,
+) -> Result<(), FeedFault>
+    requires going { desk.old.is_stopped ≡ false }
+    requires place { IsIn json.old Level.EmptyArray in_list }
+    ensures { WritesItems S.Store desk.old desk.new json.old json.new (W.contents out.old) (W.contents out.new) result
+        (λ s station. status_tree (report_of station) (counts_of s station)) (λ s. values s.stations) }
+{
+    let mut next = desk.station_after(alloc, None)?;
+    'stations: for _ in 0..usize::MAX {
+        let Some(info) = next else {
+            return Ok(());
+        };
+        let Some(counts) = desk.station_counts(alloc, info.station.station_id())? else {
+            // A station that was read has its counts.
+            return Err(FeedFault::Write);
+        };
+        write_report(json, out, &info, &counts)?;
+        next = desk.station_after(alloc, Some(info.station.station_id()))?;
+    }
+    // No list is that long.
+    Err(FeedFault::Write)
+}
+
+/// Writes the pricing plans as items.
+pub(crate) fn write_plans<S: Alter, W: Write>(
+    alloc: Global,
+    desk: &mut Desk<S>,
+    system: &System,
+    json: &mut JsonState,
+    out: &mut W,
+) -> Result<(), FeedFault>
+    requires going { desk.old.is_stopped ≡ false }
+    requires place { IsIn json.old Level.EmptyArray in_list }
+    ensures { WritesItems S.Store desk.old desk.new json.old json.new (W.contents out.old) (W.contents out.new) result
+        (λ s. plan_tree system.now) (λ s. values s.plans) }
+{
+    let mut next = desk.plan_after(alloc, None)?;
+    'plans: for _ in 0..usize::MAX {
+        let Some(plan) = next else {
+            return Ok(());
+        };
+        write_plan(json, out, system, &plan)?;
+        next = desk.plan_after(alloc, Some(plan.plan_id()))?;
+    }
+    // No list is that long.
+    Err(FeedFault::Write)
+}

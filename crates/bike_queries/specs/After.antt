@@ -1,0 +1,33 @@
+-- What stands next in byte order of identifiers.
+use Rattle.std.specs.Prelude.{◌≡◌, ℕ, ℤ, List, find, slice_get, Option, Some, None, option_map}
+use Rattle.std.specs.Ordering.{is_lt}
+use Rattle.std.specs.FinMap.{FinMap, entries}
+use Rattle.sqlite_value.specs.Order.{Row}
+use Rattle.bike_operator.specs.Operator.{Station, text_cmp}
+use Rattle.bike_book.specs.Rows.{station_row}
+use Rattle.bike_queries.specs.declared.stations.StationInfo.{StationInfo}
+
+-- the first entry whose identifier comes after this one, or the first of all
+abbrev pub first_after : {V : Type 0} → Option (List ℕ) → FinMap text_cmp V → Option (List ℕ × V)
+first_after None m = slice_get (entries m) 0
+first_after (Some id) m = find (λ e. is_lt (text_cmp id e.0)) (entries m)
+
+-- the entry's value was answered, and that has the entry's identifier; or there is no entry
+abbrev pub IsNext : {V : Type 0} → (V → List ℕ) → Option (List ℕ × V) → Option V → Type 0
+IsNext id None None = Unit {0}
+IsNext id (Some e) (Some x) = (x ≡ e.1) × (id x ≡ e.0)
+IsNext id None (Some x) = ⊥
+IsNext id (Some e) None = ⊥
+
+-- a station as the operator keeps it
+abbrev pub station_of : StationInfo → Station
+station_of x = record { row = x.station; is_installed = x.is_installed; is_renting = x.is_renting; is_returning = x.is_returning; reported = x.reported }
+
+abbrev pub IsNextStation : Option (List ℕ × Station) → Option StationInfo → Type 0
+IsNextStation next x = IsNext (λ (s : Station). s.row.station_id) next (option_map station_of x)
+
+-- the row is that of the station, whatever its docks' numbers
+pub record HoldsStation (row : Row) (x : Station) : Type 0 where
+  pub free : ℤ
+  pub broken : ℕ
+  pub is : row ≡ station_row x.row.station_id x free broken

@@ -1,0 +1,82 @@
+//! The vehicle types in byte order of their identifiers, one after another.
+
+ghost use Rattle.std.specs.Prelude.{◌≡◌, IfOk, option_map};
+ghost use Rattle.sqlite_value.specs.declared.value.Value.TheVariants.{Text};
+ghost use Rattle.sqlite_value.specs.Order.{column};
+ghost use Rattle.bike_catalogue.specs.Vehicle.{form_text, propulsion_text};
+ghost use Rattle.bike_book.specs.Rows.{type_row};
+ghost use Rattle.bike_book.specs.Stored.{stored_type};
+ghost use Rattle.bike_schema.specs.Answers.{Answers, IsReadOf};
+ghost use Rattle.bike_queries.specs.After.{IsNext, first_after};
+
+use crate::after::start_of;
+use crate::columns::str_at;
+use bike_catalogue::{Form, Propulsion, VehicleType};
+use bike_fields::Ident;
+use bike_rows::lookup::first_row;
+use bike_schema::{StatementFault, ident_at, name_at, number_at};
+use sqlite::{Alter, Connection, Row, params};
+use std::alloc::Global;
+
+/// The row of the first vehicle type whose identifier comes after this one, or of the first of all.
+fn select_type<S: Alter>(
+    conn: &mut Connection<S>,
+    after: Option<&Ident>,
+) -> Result<Option<Row>, StatementFault>
+    ensures { Answers S.Store conn.old conn.new result
+        (λ s m row. row ≡ option_map stored_type (first_after (option_map (λ id. id.now) after.entry) s.types)) }
+{
+    first_row(
+        conn,
+        "SELECT * FROM types WHERE type_id > ?1 ORDER BY type_id LIMIT 1",
+        params![start_of(after)],
+    )
+}
+
+/// The form that the column names.
+fn form_at(row: &Row, at: usize) -> Result<Form, StatementFault>
+    ensures { IfOk result (λ x. (form : _) → column row.now at ≡ Text (form_text form) → x ≡ form) }
+{
+    let text = str_at(row, at)?;
+    Form::read(text).ok_or(StatementFault::StoreFailed)
+}
+
+/// The propulsion that the column names.
+fn propulsion_at(row: &Row, at: usize) -> Result<Propulsion, StatementFault>
+    ensures { IfOk result
+        (λ x. (propulsion : _) → column row.now at ≡ Text (propulsion_text propulsion) → x ≡ propulsion) }
+{
+    let text = str_at(row, at)?;
+    Propulsion::read(text).ok_or(StatementFault::StoreFailed)
+}
+
+/// The vehicle type that stands in a row of `types`.
+fn read_type(alloc: Global, row: &Row) -> Result<VehicleType, StatementFault>
+    ensures { IsReadOf (λ t. type_row t.type_id t) row.now result }
+{
+    let type_id = ident_at(alloc, row, 0)?;
+    let name = name_at(alloc, row, 1)?;
+    let form = form_at(row, 2)?;
+    let propulsion = propulsion_at(row, 3)?;
+    let max_range = number_at(row, 4)?;
+    let plan_id = ident_at(alloc, row, 5)?;
+    VehicleType::from_fields(type_id, name, form, propulsion, max_range, plan_id).ok_or(
+        StatementFault::StoreFailed,
+    )
+}
+
+/// The first vehicle type whose identifier comes after this one, or the first of all; `None` where there is none. `NoMemory`
+/// where its texts find no room; every other fault is the database's.
+pub fn find_type_after<S: Alter>(
+    alloc: Global,
+    conn: &mut Connection<S>,
+    after: Option<&Ident>,
+) -> Result<Option<VehicleType>, StatementFault>
+    ensures { Answers S.Store conn.old conn.new result
+        (λ s m x. IsNext (λ t. t.type_id) (first_after (option_map (λ id. id.now) after.entry) s.types) x) }
+{
+    match select_type(conn, after)? {
+        Some(row) => Ok(Some(read_type(alloc, &row)?)),
+        None => Ok(None),
+    }
+}

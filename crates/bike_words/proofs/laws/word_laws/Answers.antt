@@ -1,0 +1,88 @@
+use Rattle.std.proofs.Common.{◌≡◌, ℕ, ap, ap₂, arith, refl, sym, codes, [], ◌∷◌, Option, Some, None, option_and_then, false}
+use Rattle.std.proofs.lemmas.Fmt.{decimal_digit}
+use Rattle.clap.specs.Walk.{is_empty}
+use Rattle.clap.specs.Words.{fault_of, subcommand_of}
+use Rattle.clap.proofs.OnLiterals.{clap_on_literals}
+use Rattle.bike_fixed.specs.Whole.{last_moment, number_of}
+use Rattle.bike_fixed.proofs.Numbers.{number_full}
+use Rattle.bike_feed_texts.specs.Feeds.{feed_of}
+use Rattle.bike_feed_texts.specs.declared.feed.Feed.TheVariants.{Gbfs, StationStatus}
+use Rattle.bike_words.specs.Program.{name_of, program}
+use Rattle.bike_words.specs.Asked.{task_of}
+use Rattle.bike_words.specs.declared.task.Task.{Task}
+use Rattle.bike_words.specs.declared.task.Task.TheVariants.{Init, Check, Lines, Feed, Serve}
+use Rattle.bike_words.proofs.Asks.{feed_by, serve_by, word_asks}
+use Rattle.bike_words.proofs.Bounds.{found_within}
+use Rattle.bike_words.proofs.Numbers.{no_number, number_read}
+use Rattle.bike_words.proofs.Parse.{faulty, taskless}
+use Rattle.bike_words.proofs.laws.word_laws.Goals as goal
+
+bare : (task : Task) → is_empty (fault_of program (name_of task ∷ [])) ≡ false
+unfolding program clap_on_literals
+bare Init = refl
+bare Check = refl
+bare Lines = refl
+bare (Feed feed at) = refl
+bare (Serve port count) = refl
+
+port_zero : number_of 0 65535 (codes "0") ≡ Some 0
+port_zero = number_full 0 65535 (codes "0") 0 (omega arith) (record { low_le = omega arith; le_high = omega arith; spelled = sym (decimal_digit 0 (omega arith)) })
+
+port_eighty : number_of 0 65535 (codes "80") ≡ Some 80
+port_eighty = number_read 0 65535 80 (codes "80") (omega arith) (omega arith) (omega arith) refl refl (omega arith) refl
+
+port_high : number_of 0 65535 (codes "8080") ≡ Some 8080
+port_high = number_read 0 65535 8080 (codes "8080") (omega arith) (omega arith) (omega arith) refl refl (omega arith) refl
+
+count_one : number_of 1 1000000000 (codes "1") ≡ Some 1
+count_one = number_read 1 1000000000 1 (codes "1") (omega arith) (omega arith) (omega arith) refl refl (omega arith) refl
+
+count_zero : number_of 1 1000000000 (codes "0") ≡ None
+unfolding number_of
+count_zero = refl
+
+moment_read : number_of 0 last_moment (codes "1700000000") ≡ Some 1700000000
+moment_read = number_read 0 last_moment 1700000000 (codes "1700000000") (omega arith) (omega arith) (omega arith) refl refl (omega arith) refl
+
+moment_late : number_of 0 last_moment (codes "253402300800") ≡ None
+unfolding number_of
+moment_late = refl
+
+port_past : number_of 0 65535 (codes "65536") ≡ None
+unfolding number_of
+port_past = refl
+
+abbrev port_alone : Option ℕ → Option Task
+port_alone = option_and_then (λ (port : ℕ). Some (Serve port None))
+
+pub returns : goal.returns
+unfolding program clap_on_literals task_of feed_of
+returns c = record {
+  file = word_asks;
+  within = λ texts task file asks. found_within (subcommand_of program texts) task asks.1.0;
+  dashes = (refl, (refl, refl));
+  bare = λ task. faulty (name_of task ∷ []) (bare task);
+  second = faulty (codes "check" ∷ codes "f" ∷ codes "g" ∷ []) refl;
+  flag = faulty (codes "init" ∷ codes "-f" ∷ []) refl;
+  other = faulty (codes "start" ∷ codes "f" ∷ []) refl;
+  help = faulty (codes "help" ∷ []) refl;
+  flag_help = faulty (codes "--help" ∷ []) refl;
+  word_help = faulty (codes "lines" ∷ codes "--help" ∷ []) refl;
+  feed = (refl, (refl, refl));
+  feed_at = (refl, (ap (feed_by (Some StationStatus)) moment_read, refl));
+  no_feed = taskless (codes "feed" ∷ codes "f" ∷ codes "nothing" ∷ []) refl;
+  no_name = faulty (codes "feed" ∷ codes "f" ∷ []) refl;
+  signed = faulty (codes "feed" ∷ codes "f" ∷ codes "gbfs" ∷ codes "--at" ∷ codes "-1" ∷ []) refl;
+  tied = taskless (codes "feed" ∷ codes "f" ∷ codes "gbfs" ∷ codes "--at=-1" ∷ [])
+      (ap (feed_by (Some Gbfs)) (no_number 0 last_moment (codes "-1") (omega arith) refl));
+  late = taskless (codes "feed" ∷ codes "f" ∷ codes "gbfs" ∷ codes "--at" ∷ codes "253402300800" ∷ []) (ap (feed_by (Some Gbfs)) moment_late);
+  serve = (refl, (ap port_alone port_high, refl));
+  serve_one = (refl, (ap₂ serve_by port_zero count_one, refl));
+  before = (refl, (ap port_alone port_eighty, refl));
+  no_port = faulty (codes "serve" ∷ codes "f" ∷ []) refl;
+  high = taskless (codes "serve" ∷ codes "f" ∷ codes "--port" ∷ codes "65536" ∷ []) (ap port_alone port_past);
+  plus = taskless (codes "serve" ∷ codes "f" ∷ codes "--port" ∷ codes "+80" ∷ []) (ap port_alone (no_number 0 65535 (codes "+80") (omega arith) refl));
+  no_count = taskless (codes "serve" ∷ codes "f" ∷ codes "--port" ∷ codes "80" ∷ codes "--count" ∷ codes "0" ∷ []) (ap₂ serve_by port_eighty count_zero);
+  twice = faulty (codes "serve" ∷ codes "f" ∷ codes "--port" ∷ codes "1" ∷ codes "--port" ∷ codes "2" ∷ []) refl;
+  not_its = faulty (codes "lines" ∷ codes "f" ∷ codes "--port" ∷ codes "80" ∷ []) refl;
+}

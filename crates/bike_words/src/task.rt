@@ -1,0 +1,129 @@
+//! What the program is asked to do, and what of that stands in clap's matches.
+
+ghost use Rattle.std.specs.Prelude.{◌≡◌, option_map};
+ghost use Rattle.clap.specs.Words.{subcommand_rows_of};
+ghost use Rattle.bike_words.specs.Asked.{count_in, feed_in, feed_task, moment_in, name_in, port_in, serve_task, task_in, task_of, value_in};
+
+use bike_feed_texts::Feed;
+use bike_fixed::{Moment, read_whole};
+use clap::ArgMatches;
+
+/// What the program does with its file.
+#[derive(Clone, Copy, Debug, PartialEq, Eq)]
+pub enum Task {
+    /// Makes the tables where there are none.
+    Init,
+    /// Checks that the database is sound.
+    Check,
+    /// Answers the request lines of standard input.
+    Lines,
+    /// Writes a feed.
+    Feed {
+        /// Which one.
+        feed: Feed,
+        /// The feed's moment, or none for the clock's.
+        at: Option<Moment>,
+    },
+    /// Answers HTTP requests.
+    Serve {
+        /// The port that is listened on, or 0 for a free one.
+        port: u16,
+        /// After how many connections that ends, from 1 to 1000000000, or none for no end.
+        count: Option<u32>,
+    },
+}
+
+/// The name of the word that was found.
+fn name_in<'a>(matches: &ArgMatches<'a>) -> Option<&'a str>
+    ensures { option_map (λ name. name.now) result ≡ name_in (subcommand_rows_of matches.now) }
+{
+    matches.subcommand_name()
+}
+
+/// What was found behind the word under this id.
+pub(crate) fn value_in<'a>(matches: &ArgMatches<'a>, id: &str) -> Option<&'a str>
+    ensures { option_map (λ value. value.now) result ≡ value_in (subcommand_rows_of matches.now) id.now }
+{
+    match matches.subcommand() {
+        Some((_, found)) => found.get_str(id),
+        None => None,
+    }
+}
+
+/// The feed of the NAME.
+fn feed_in(matches: &ArgMatches<'_>) -> Option<Feed>
+    ensures { result ≡ feed_in (subcommand_rows_of matches.now) }
+{
+    Feed::read(value_in(matches, "name")?)
+}
+
+/// The feed's moment, which may be left out.
+fn moment_in(matches: &ArgMatches<'_>) -> Option<Option<Moment>>
+    ensures { result ≡ moment_in (subcommand_rows_of matches.now) }
+{
+    match value_in(matches, "at") {
+        Some(text) => Some(Some(Moment::read(text)?)),
+        None => Some(None),
+    }
+}
+
+/// The port.
+fn port_in(matches: &ArgMatches<'_>) -> Option<u16>
+    ensures { result ≡ port_in (subcommand_rows_of matches.now) }
+{
+    let port = read_whole(value_in(matches, "port")?, 0, 65_535)?;
+    Some(port as u16)
+}
+
+/// The number of connections, which may be left out.
+fn count_in(matches: &ArgMatches<'_>) -> Option<Option<u32>>
+    ensures { result ≡ count_in (subcommand_rows_of matches.now) }
+{
+    match value_in(matches, "count") {
+        Some(text) => {
+            let count = read_whole(text, 1, 1_000_000_000)?;
+            Some(Some(count as u32))
+        }
+        None => Some(None),
+    }
+}
+
+/// The feed and its moment.
+fn feed_task(matches: &ArgMatches<'_>) -> Option<Task>
+    ensures { result ≡ feed_task (subcommand_rows_of matches.now) }
+{
+    let feed = feed_in(matches)?;
+    let at = moment_in(matches)?;
+    Some(Task::Feed { feed, at })
+}
+
+/// The port and the number of connections.
+fn serve_task(matches: &ArgMatches<'_>) -> Option<Task>
+    ensures { result ≡ serve_task (subcommand_rows_of matches.now) }
+{
+    let port = port_in(matches)?;
+    let count = count_in(matches)?;
+    Some(Task::Serve { port, count })
+}
+
+/// The task of the word of this name.
+#[tactic(auto, unfolding(crate::specs::Asked::task_of))]
+fn task_of(name: &str, matches: &ArgMatches<'_>) -> Option<Task>
+    ensures { result ≡ task_of name.now (subcommand_rows_of matches.now) }
+{
+    match name {
+        "init" => Some(Task::Init),
+        "check" => Some(Task::Check),
+        "lines" => Some(Task::Lines),
+        "feed" => feed_task(matches),
+        "serve" => serve_task(matches),
+        _ => None,
+    }
+}
+
+/// The task that was found.
+pub(crate) fn task_in(matches: &ArgMatches<'_>) -> Option<Task>
+    ensures { result ≡ task_in (subcommand_rows_of matches.now) }
+{
+    task_of(name_in(matches)?, matches)
+}

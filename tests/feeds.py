@@ -1,0 +1,273 @@
+"""The six feeds, as `feed` writes them: the worked texts, names that need escapes, and a made city whose numbers are counted from
+its tables by plain SQL."""
+
+import itertools
+import json
+import random
+import sqlite3
+import subprocess
+from pathlib import Path
+
+NAMES = ["gbfs", "system_information", "vehicle_types", "station_information", "station_status", "system_pricing_plans"]
+NOW = "1700000000"
+HEAD = '{"last_updated":"2023-11-14T22:13:20Z","ttl":30,"version":"3.0","data":'
+
+SYSTEM = "set-system\tmetro\ten\tMetro Bikes\t24/7\tfeeds@example.org\tEtc/UTC\tEUR\thttp://127.0.0.1:8080\t30"
+CITY = [
+    SYSTEM,
+    "add-plan\tbasic\tBasic\t100\tfalse\tOne euro and then a quarter\t30:25:5:-",
+    "add-type\tcity\tCity\tbicycle\thuman\t0\tbasic",
+    "add-station\ta1\tHarbour\t41.890169\t12.492269\t2",
+    "add-bike\t7\tcity",
+    "add-truck\t3\t20",
+    "open-order\t3\t*\ta1\tcity\t1",
+    "load\t3\t1\t7",
+    "unload\t3\t1\t7\tto\t1",
+    "close-order\t1",
+    "mark-dock\ta1\t2\tbroken",
+]
+
+# What each feed of that city holds.
+DATA = {
+    "gbfs": '{"feeds":['
+    + ",".join(f'{{"name":"{name}","url":"http://127.0.0.1:8080/gbfs/3.0/{name}.json"}}' for name in NAMES[1:])
+    + "]}",
+    "system_information": '{"system_id":"metro","languages":["en"],"name":[{"text":"Metro Bikes","language":"en"}],'
+    '"opening_hours":"24/7","feed_contact_email":"feeds@example.org","timezone":"Etc/UTC"}',
+    "vehicle_types": '{"vehicle_types":[{"vehicle_type_id":"city","form_factor":"bicycle","propulsion_type":"human",'
+    '"name":[{"text":"City","language":"en"}],"default_pricing_plan_id":"basic"}]}',
+    "station_information": '{"stations":[{"station_id":"a1","name":[{"text":"Harbour","language":"en"}],"lat":41.890169,'
+    '"lon":12.492269,"capacity":2}]}',
+    "station_status": '{"stations":[{"station_id":"a1","num_vehicles_available":1,"vehicle_types_available":'
+    '[{"vehicle_type_id":"city","count":1}],"num_vehicles_disabled":0,"num_docks_available":0,"num_docks_disabled":1,'
+    '"is_installed":true,"is_renting":true,"is_returning":true,"last_reported":"2023-11-14T22:00:00Z"}]}',
+    "system_pricing_plans": '{"plans":[{"plan_id":"basic","name":[{"text":"Basic","language":"en"}],"currency":"EUR",'
+    '"price":1.00,"is_taxable":false,"description":[{"text":"One euro and then a quarter","language":"en"}],'
+    '"per_min_pricing":[{"start":30,"rate":0.25,"interval":5}]}]}',
+}
+
+
+def ask(program, commands, at=1699999200, first=1):
+    """Has the office send the commands, each under a key of its own, and returns the answers."""
+    given = "".join(f"{at}\toffice\tk{number}\t{command}\n" for number, command in enumerate(commands, first))
+    status, out, said = program.run("lines", "city.db", given=given.encode())
+    assert (status, said) == (0, b""), (status, said)
+    return out.decode().splitlines()
+
+
+def feed(program, name, at=NOW):
+    """The text of a feed, which stands alone on standard output."""
+    status, out, said = program.run("feed", "city.db", name, "--at", at)
+    assert (status, said) == (0, b""), (name, status, said)
+    return out.decode()
+
+
+def test_worked_texts(program):
+    answers = ask(program, CITY)
+    assert answers == ["ok"] * 6 + ["order\t1"] + ["ok"] * 4, answers
+    for name in NAMES:
+        assert feed(program, name) == HEAD + DATA[name] + "}", (name, feed(program, name))
+
+
+def test_a_bicycle_in_a_broken_dock_is_not_available(program):
+    ask(program, CITY)
+    assert ask(program, ["mark-dock\ta1\t1\tbroken"], first=90) == ["ok"]
+    wanted = DATA["station_status"]
+    for old, new in (
+        ('"num_vehicles_available":1', '"num_vehicles_available":0'),
+        ('"count":1', '"count":0'),
+        ('"num_vehicles_disabled":0', '"num_vehicles_disabled":1'),
+        ('"num_docks_disabled":1', '"num_docks_disabled":2'),
+    ):
+        assert wanted.count(old) == 1
+        wanted = wanted.replace(old, new)
+    assert feed(program, "station_status") == HEAD + wanted + "}"
+
+
+def test_a_system_alone(program):
+    ask(program, [SYSTEM])
+    assert feed(program, "station_status") == HEAD + '{"stations":[]}}'
+    assert feed(program, "station_information") == HEAD + '{"stations":[]}}'
+    assert feed(program, "vehicle_types") == HEAD + '{"vehicle_types":[]}}'
+    assert feed(program, "system_pricing_plans") == HEAD + '{"plans":[]}}'
+
+
+def test_no_system(program):
+    assert program.run("init", "city.db") == (0, b"ready\n", b"")
+    for name in NAMES:
+        assert program.run("feed", "city.db", name, "--at", NOW) == (1, b"", b"system missing\n"), name
+    assert program.run("feed", ":memory:", "gbfs") == (1, b"", b"system missing\n")
+
+
+def test_the_moment_is_the_one_that_is_asked_for(program):
+    ask(program, CITY)
+    for at, text in ("0", "1970-01-01T00:00:00Z"), ("1709251199", "2024-02-29T23:59:59Z"), ("253402300799", "9999-12-31T23:59:59Z"):
+        for name in NAMES:
+            wanted = HEAD.replace("2023-11-14T22:13:20Z", text) + DATA[name] + "}"
+            assert feed(program, name, at) == wanted, (name, at)
+
+
+def test_the_clock_where_no_moment_is_given(program):
+    ask(program, CITY)
+    status, out, said = program.run("feed", "city.db", "gbfs")
+    assert (status, said) == (0, b"")
+    assert json.loads(out)["last_updated"] > "2026-01-01", out[:60]
+
+
+def test_names_that_need_escapes(program):
+    ask(program, CITY)
+    names = {
+        'Q "1"\\t': ('"Q \\"1\\"\\t"', 'Q "1"\t'),
+        "back\\\\slash": ('"back\\\\slash"', "back\\slash"),
+        "two\\nlines": ('"two\\nlines"', "two\nlines"),
+        "bell \x07 and \x1f": ('"bell \\u0007 and \\u001f"', "bell \x07 and \x1f"),
+        "solidus / stays": ('"solidus / stays"', "solidus / stays"),
+        "Łódź 🚲 \x7f": ('"Łódź 🚲 \x7f"', "Łódź 🚲 \x7f"),
+    }
+    for number, (field, (_, name)) in enumerate(names.items()):
+        assert ask(program, [f"add-station\tn{number}\t{field}\t0\t0\t1"], first=100 + number) == ["ok"], field
+    text = feed(program, "station_information")
+    stations = json.loads(text)["data"]["stations"]
+    assert [it["name"][0]["text"] for it in stations[1:]] == [name for _, name in names.values()], stations
+    for written, _ in names.values():
+        assert '"name":[{"text":' + written + ',"language":"en"}]' in text, written
+
+
+def test_types_with_a_motor_and_plans_without_segments(program):
+    ask(program, CITY)
+    more = [
+        "add-plan\tday\tDay\t0\ttrue\tA day\t-",
+        "add-plan\tall\tAll\t250\tfalse\tEnds\t0:-60:0:30;20:50:10:-",
+        "add-type\tcargo\tCargo\tcargo_bicycle\telectric_assist\t60000\tday",
+    ]
+    assert ask(program, more, first=50) == ["ok"] * 3
+    plans = {it["plan_id"]: it for it in json.loads(feed(program, "system_pricing_plans"))["data"]["plans"]}
+    assert list(plans) == sorted(plans)
+    assert "per_min_pricing" not in plans["day"] and plans["day"]["is_taxable"] is True, plans["day"]
+    assert plans["all"]["per_min_pricing"] == [
+        {"start": 0, "rate": -0.6, "interval": 0, "end": 30},
+        {"start": 20, "rate": 0.5, "interval": 10},
+    ], plans["all"]
+    types = json.loads(feed(program, "vehicle_types"))["data"]["vehicle_types"]
+    assert [it["vehicle_type_id"] for it in types] == ["cargo", "city"]
+    assert list(types[0]) == ["vehicle_type_id", "form_factor", "propulsion_type", "max_range_meters", "name", "default_pricing_plan_id"]
+    assert types[0]["max_range_meters"] == 60000 and "max_range_meters" not in types[1]
+
+
+def test_flags_count_only_while_the_station_is_installed(program):
+    ask(program, CITY)
+    cases = itertools.product((True, False), repeat=3)
+    for number, (installed, renting, returning) in enumerate(cases):
+        words = "\t".join("true" if it else "false" for it in (installed, renting, returning))
+        assert ask(program, [f"set-station\ta1\t{words}"], first=70 + number) == ["ok"]
+        (station,) = json.loads(feed(program, "station_status"))["data"]["stations"]
+        flags = [station[it] for it in ("is_installed", "is_renting", "is_returning")]
+        assert flags == [installed, installed and renting, installed and returning], (words, station)
+        assert station["num_vehicles_available"] == 1, station
+
+
+def test_300_stations_of_five_types(program):
+    types = [f"add-type\tt{it}\tType\tbicycle\thuman\t0\tbasic" for it in range(5)]
+    order = list(range(300))
+    random.Random(7).shuffle(order)
+    stations = [f"add-station\ts-{it}\tStation\t0\t0\t1" for it in order]
+    answers = ask(program, [*CITY[:2], *types, *stations])
+    assert answers == ["ok"] * 307
+    text = feed(program, "station_status")
+    found = json.loads(text)["data"]["stations"]
+    assert [it["station_id"] for it in found] == sorted(f"s-{it}" for it in order)
+    for station in found:
+        assert station["vehicle_types_available"] == [{"vehicle_type_id": f"t{it}", "count": 0} for it in range(5)]
+        assert [station[f"num_{it}"] for it in ("vehicles_available", "vehicles_disabled", "docks_available", "docks_disabled")] == [0, 0, 1, 0]
+
+
+def made_city(seed):
+    """Commands of a city of several stations, types and bicycles, some of them docked, some broken, some disabled."""
+    pick = random.Random(seed)
+    commands = [*CITY[:2], "add-truck\t1\t60"]
+    types = [f"t{it}" for it in range(4)]
+    commands += [f"add-type\t{it}\tType {it}\tbicycle\thuman\t0\tbasic" for it in types]
+    docks = {f"s{it}": pick.randint(1, 12) for it in range(20)}
+    commands += [f"add-station\t{it}\tStation {it}\t{pick.randint(-90, 90)}\t{pick.randint(-180, 180)}\t{n}" for it, n in docks.items()]
+    bike = order = 0
+    for station, n in docks.items():
+        for dock in pick.sample(range(1, n + 1), pick.randint(0, n)):
+            bike, order = bike + 1, order + 1
+            kind = pick.choice(types)
+            commands += [
+                f"add-bike\t{bike}\t{kind}",
+                f"open-order\t1\t*\t{station}\t{kind}\t1",
+                f"load\t1\t{order}\t{bike}",
+                f"unload\t1\t{order}\t{bike}\tto\t{dock}",
+                f"close-order\t{order}",
+            ]
+            if pick.random() < 0.2:
+                commands.append(f"mark-bike\t{bike}\tdisabled")
+        for dock in range(1, n + 1):
+            if pick.random() < 0.15:
+                commands.append(f"mark-dock\t{station}\t{dock}\tbroken")
+    return commands
+
+
+# A bicycle is available where it is fit (0) and its dock isn't broken; a dock without a row works.
+COUNTED = """
+SELECT stations.station_id, types.type_id,
+  (SELECT count(*) FROM bikes LEFT JOIN docks ON docks.station_id = bikes.station_id AND docks.dock = bikes.dock
+     WHERE bikes.station_id = stations.station_id AND bikes.type_id = types.type_id AND bikes.state = 0 AND coalesce(docks.broken, 0) = 0)
+FROM stations, types ORDER BY 1, 2
+"""
+
+
+def test_a_made_city_is_counted_by_sql(program):
+    for seed in range(3):
+        Path(program.folder, "city.db").unlink(missing_ok=True)
+        Path(program.folder, "city.db-wal").unlink(missing_ok=True)
+        answers = ask(program, made_city(seed))
+        assert not [it for it in answers if it.startswith("refused")], answers
+        found = {it["station_id"]: it for it in json.loads(feed(program, "station_status"))["data"]["stations"]}
+        db = sqlite3.connect(Path(program.folder, "city.db"))
+        available = {}
+        for station, kind, count in db.execute(COUNTED):
+            available.setdefault(station, []).append({"vehicle_type_id": kind, "count": count})
+        in_docks = dict(db.execute("SELECT station_id, count(*) FROM bikes WHERE station_id IS NOT NULL GROUP BY station_id"))
+        broken = dict(db.execute("SELECT station_id, sum(broken) FROM docks GROUP BY station_id"))
+        both = dict(db.execute(
+            "SELECT bikes.station_id, count(*) FROM bikes JOIN docks USING (station_id, dock) WHERE docks.broken = 1 GROUP BY 1"
+        ))
+        capacity = dict(db.execute("SELECT station_id, docks FROM stations"))
+        db.close()
+        assert list(found) == sorted(capacity), list(found)
+        for station, shown in found.items():
+            total = sum(it["count"] for it in available[station])
+            assert shown["vehicle_types_available"] == available[station], (seed, station, shown)
+            assert shown["num_vehicles_available"] == total, (seed, station, shown)
+            assert shown["num_vehicles_disabled"] == in_docks.get(station, 0) - total, (seed, station, shown)
+            assert shown["num_docks_disabled"] == broken.get(station, 0), (seed, station, shown)
+            empty = capacity[station] - in_docks.get(station, 0) - broken.get(station, 0) + both.get(station, 0)
+            assert shown["num_docks_available"] == empty, (seed, station, shown)
+
+
+def test_wrong_names_and_moments(program):
+    ask(program, CITY)
+    for words in (
+        ["status"], ["Station_Status"], [""], ["gbfs", "gbfs"], [], ["gbfs", "--at"], ["gbfs", "--at", "-1"], ["gbfs", "--at", "+1"],
+        ["gbfs", "--at", "253402300800"], ["gbfs", "--at", "1.5"], ["gbfs", "--at", ""], ["gbfs", "--on", "1"], ["gbfs", "--at", "1", "--at", "2"],
+    ):
+        status, out, said = program.run("feed", "city.db", *words)
+        assert (status, out) == (2, b"") and said.startswith(b"usage: bikeshare "), (words, status, out, said)
+
+
+def test_a_feed_changes_nothing(program):
+    ask(program, CITY)
+    before = Path(program.folder, "city.db").read_bytes()
+    for name in NAMES:
+        feed(program, name)
+    assert Path(program.folder, "city.db").read_bytes() == before
+    assert program.run("check", "city.db") == (0, b"sound\n", b"")
+
+
+def test_an_output_that_fails(program):
+    ask(program, CITY)
+    with open("/dev/full", "wb") as full:
+        ran = subprocess.run([program.file, "feed", "city.db", "gbfs", "--at", NOW], cwd=program.folder, stdout=full, stderr=subprocess.PIPE, timeout=60)
+    assert (ran.returncode, ran.stderr) == (6, b"write failed\n"), ran

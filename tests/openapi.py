@@ -1,0 +1,237 @@
+"""The examples of docs/openapi.yaml, each sent to the program over a small city: the answer has to be the one that is shown.
+
+No YAML reader comes with Python, so the file keeps to a part of YAML that `tree_of` reads: blocks by two spaces, lists of blocks or words
+with "- ", whole-line comments, and values that stand on one line. A value is JSON where it begins with a quote, a bracket or a brace,
+else a plain word or number. Values stay as they are written until they are loaded, so that an answer can be held to them byte for byte.
+"""
+
+import importlib.util
+import json
+import re
+import time
+from pathlib import Path
+
+HERE = Path(__file__).resolve().parent
+KEY = re.compile(r'("[^"\\]*"|[A-Za-z0-9_$./{}-]+):(?: (.+))?')
+PLAIN = re.compile(r"[A-Za-z0-9_][A-Za-z0-9_./-]*")
+
+
+def by_path(file, name):
+    """Returns a module by its file, since the name `http` is the library's."""
+    spec = importlib.util.spec_from_file_location(name, file)
+    module = importlib.util.module_from_spec(spec)
+    spec.loader.exec_module(module)
+    return module
+
+
+SERVING = by_path(HERE / "serving.py", "tests_serving")
+LINES = (HERE.parent / "docs/openapi.yaml").read_text(encoding="utf-8").splitlines()
+
+
+def tree_of(lines):
+    """Returns the file as dicts and lists whose leaves are texts, as they are written."""
+    rows = [(len(it) - len(it.lstrip(" ")), it.strip()) for it in lines if it.strip() and not it.lstrip().startswith("#")]
+    tree, rest = block(rows, 0)
+    assert not rest, f"not read: {rest[0]}"
+    return tree
+
+
+def block(rows, indent):
+    """Returns the block that begins the rows, and the rows below it."""
+    assert rows and rows[0][0] == indent, (indent, rows[:1])
+    if not rows[0][1].startswith("- "):
+        return mapping(rows, indent)
+    items = []
+    while rows and rows[0][0] == indent and rows[0][1].startswith("- "):
+        text = rows[0][1][2:]
+        if KEY.fullmatch(text):
+            item, rows = mapping([(indent + 2, text), *rows[1:]], indent + 2)
+        else:
+            item, rows = value(text), rows[1:]
+        items.append(item)
+    return items, rows
+
+
+def mapping(rows, indent):
+    found = {}
+    while rows and rows[0][0] == indent and not rows[0][1].startswith("- "):
+        parts = KEY.fullmatch(rows[0][1])
+        assert parts, rows[0]
+        name = parts[1].strip('"')
+        assert name not in found, f"{name} stands twice"
+        if parts[2]:
+            found[name], rows = value(parts[2]), rows[1:]
+        else:
+            found[name], rows = block(rows[1:], indent + 2)
+    return found, rows
+
+
+def value(text):
+    if text[0] in '"[{':
+        json.loads(text)
+    else:
+        assert PLAIN.fullmatch(text), text
+    return text
+
+
+def loaded(tree):
+    """Returns the tree with its values read."""
+    if isinstance(tree, dict):
+        return {name: loaded(it) for name, it in tree.items()}
+    if isinstance(tree, list):
+        return [loaded(it) for it in tree]
+    try:
+        return json.loads(tree)
+    except ValueError:
+        return tree
+
+
+TREE = tree_of(LINES)
+API = loaded(TREE)
+
+
+def at(reference):
+    """What a reference names."""
+    found = API
+    for part in reference.removeprefix("#/").split("/"):
+        found = found[part]
+    return found
+
+
+def misfit(it, schema):
+    """Why the value doesn't fit the schema, or nothing. It knows the words that docs/openapi.yaml uses, and no others."""
+    if "$ref" in schema:
+        return misfit(it, at(schema["$ref"]))
+    kinds = {"object": dict, "array": list, "string": str, "integer": int, "number": (int, float), "boolean": bool}
+    wrong = {
+        "type": lambda kind: not isinstance(it, kinds[kind]) or (isinstance(it, bool) and kind != "boolean"),
+        "const": lambda want: it != want,
+        "enum": lambda wants: it not in wants,
+        "minimum": lambda least: it < least,
+        "maximum": lambda most: it > most,
+        "pattern": lambda pattern: not re.search(pattern, it),
+        "required": lambda names: [name for name in names if name not in it],
+        "properties": lambda members: [why for name in members if name in it for why in [misfit(it[name], members[name])] if why],
+        "items": lambda item: [why for each in it for why in [misfit(each, item)] if why],
+        "oneOf": lambda those: sum(misfit(it, one) is None for one in those) != 1,
+        "anyOf": lambda those: all(misfit(it, one) for one in those),
+        "description": lambda _: False,
+        "format": lambda _: False,
+    }
+    for word, want in schema.items():
+        if wrong[word](want):
+            return f"{it!r} isn't of {word} {want!r}"
+    return None
+
+
+def operations():
+    """Each operation with its path and its method."""
+    return [(path, method, it) for path, methods in TREE["paths"].items() for method, it in methods.items()]
+
+
+def examples_of(holder):
+    return holder.get("content", {}).get("application/json", {}).get("examples", {})
+
+
+def target_of(path, operation, example):
+    """Where the example's request goes."""
+    if "x-target" in example:
+        return json.loads(example["x-target"])
+    for parameter in operation.get("parameters", []):
+        named = at(json.loads(parameter["$ref"]))
+        path = path.replace("{" + named["name"] + "}", str(named["example"]))
+    return path
+
+
+def exchanges():
+    """Each example of an answer: its name, the office's commands before it, its request and the whole answer."""
+    for path, method, operation in operations():
+        asked = examples_of(operation.get("requestBody", {}))
+        answered = set()
+        for status, holder in operation["responses"].items():
+            for name, example in examples_of(holder).items():
+                assert name not in answered, (path, name)
+                answered.add(name)
+                target = target_of(path, operation, example)
+                request = SERVING.post(target, asked[name]["value"]) if method == "post" else SERVING.get(target)
+                before = json.loads(example.get("x-before", "[]"))
+                yield f"{method} {path} {name}", before, request, SERVING.answer(int(status), example["value"])
+        assert set(asked) <= answered, (path, set(asked) - answered)
+
+
+def test_every_route_is_there(program):
+    wanted = {
+        "post": "/riders/{rider}/start /docks/{station}/end /docks/{station}/mark-dock /docks/{station}/mark-bike /crews/{truck}/load "
+        "/crews/{truck}/unload /crews/{truck}/mark-bike /office",
+        "get": "/riders/{rider} /bikes/{bike} /rentals/{rental} /orders/{order} "
+        + " ".join(f"/gbfs/3.0/{name}.json" for name in SERVING.NAMES),
+    }
+    for method, paths in wanted.items():
+        assert sorted(path for path, found, _ in operations() if found == method) == sorted(paths.split()), method
+    names = [it["operationId"] for _, _, it in operations()]
+    assert len(names) == len(set(names)) == 18, names
+
+
+def test_every_reference_names_something(program):
+    found = [json.loads(it) for line in LINES for it in re.findall(r'\$ref"?: ("[^"]*")', line)]
+    assert len(found) > 100
+    for reference in found:
+        assert at(reference), reference
+    for kind, those in API["components"].items():
+        for name in those:
+            assert f"#/components/{kind}/{name}" in found or name == "MethodNotAllowed", (kind, name)
+
+
+def test_examples_fit_their_schemas(program):
+    """A request's example fits too, unless it is there to show a refusal of its members."""
+    for path, _, operation in operations():
+        operation = loaded(operation)
+        unread = examples_of(operation["responses"]["400"])
+        holders = [*operation["responses"].values(), *([operation["requestBody"]] if "requestBody" in operation else [])]
+        for holder in holders:
+            for name, example in examples_of(holder).items():
+                why = misfit(example["value"], holder["content"]["application/json"]["schema"])
+                asked = holder is operation.get("requestBody")
+                if asked and name in unread:
+                    assert why or path == "/office", (path, name)
+                else:
+                    assert why is None, (path, name, why)
+    for parameter in API["components"]["parameters"].values():
+        assert misfit(parameter["example"], parameter["schema"]) is None, parameter
+    for response in API["components"]["responses"].values():
+        content = response["content"]["application/json"]
+        assert misfit(content["example"], content["schema"]) is None, response
+
+
+def test_each_example_is_what_the_program_answers(program):
+    SERVING.city(program)
+    files = [it for it in Path(program.folder).iterdir() if it.name.startswith("city.db")]
+    made = {it: it.read_bytes() for it in files}
+    count = 0
+    for name, before, request, wanted in exchanges():
+        for it in Path(program.folder).glob("city.db*"):
+            it.unlink()
+        for it, data in made.items():
+            it.write_bytes(data)
+        given = "".join(f"{int(time.time())}\toffice\tb{number}\t{command}\n" for number, command in enumerate(before))
+        if before:
+            status, out, said = program.run("lines", "city.db", given=given.encode())
+            assert (status, said) == (0, b"") and b"refused" not in out, (name, status, out, said)
+        with SERVING.Server(program, 1) as server:
+            found = server.ask(request)
+        assert SERVING.timeless(found) == SERVING.timeless(wanted), f"{name}: {found!r}, not {wanted!r}"
+        count += 1
+    assert count > 50, count
+
+
+def test_shared_answers(program):
+    SERVING.city(program)
+    rows = {
+        "BadRequest": (400, SERVING.post("/office", "[]"), None),
+        "NotFound": (404, SERVING.get("/nowhere"), None),
+        "MethodNotAllowed": (405, SERVING.get("/office"), "POST"),
+        "TooLarge": (413, SERVING.request("POST", "/office", "Content-Length: 16385"), None),
+    }
+    shown = {name: it["content"]["application/json"]["example"] for name, it in TREE["components"]["responses"].items()}
+    assert sorted(shown) == sorted([*rows, "Unavailable"]), sorted(shown)
+    SERVING.holds(program, [(asked, SERVING.answer(status, shown[name], allow)) for name, (status, asked, allow) in rows.items()])
