@@ -793,7 +793,9 @@ def test_one_byte_a_write(program):
                     client.sendall(bytes([byte]))
                     # So that most bytes are read alone.
                     time.sleep(0.0005)
-                client.shutdown(socket.SHUT_WR)
+                # An unreadable head is answered at the byte that tells, and what comes behind may meet a closed connection.
+                with contextlib.suppress(OSError):
+                    client.shutdown(socket.SHUT_WR)
                 found = rest(client)
             assert found == wanted, (asked, found)
 

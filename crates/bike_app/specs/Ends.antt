@@ -7,9 +7,9 @@ use Rattle.sqlite.specs.declared.error.ErrorCode.TheVariants as code
 use Rattle.bike_schema.specs.Layouts.{name_of}
 use Rattle.bike_recognition.specs.Names.{table_named}
 use Rattle.bike_judges.specs.Judging.{key_row}
-use Rattle.bike_desk.specs.declared.fault.DeskFault.TheVariants as desk
-use Rattle.bike_desk.specs.declared.adopt.AdoptFault.{AdoptFault}
-use Rattle.bike_desk.specs.declared.adopt.AdoptFault.TheVariants as adopt
+use Rattle.bike_feeds.specs.DeskFault.TheVariants as desk
+use Rattle.bike_feeds.specs.AdoptFault.{AdoptFault}
+use Rattle.bike_feeds.specs.AdoptFault.TheVariants as adopt
 use Rattle.bike_feeds.specs.declared.fault.FeedFault.{FeedFault}
 use Rattle.bike_feeds.specs.declared.fault.FeedFault.TheVariants as feed
 use Rattle.bike_app.specs.declared.fault.LinesFault.{LinesFault}

@@ -7,7 +7,7 @@ use Rattle.bike_http.specs.Received.{Received}
 use Rattle.bike_answers.specs.declared.answer.Answer.{Answer}
 use Rattle.bike_answers.specs.declared.answer.Answer.TheVariants as answer
 use Rattle.bike_answers.specs.Sent.{IsSent}
-use Rattle.bike_desk.specs.Desk.{DeskValue, IsAt}
+use Rattle.bike_feeds.specs.Desk.{DeskValue, IsAt}
 use Rattle.bike_exchange.specs.Exchange.{answered, response_of, operator_after, response_status, Answers}
 use Rattle.bike_exchange.specs.Telling.{SendsAnswer, Responds, Serves, Rests, IsDone, ended}
 use Rattle.bike_exchange.specs.declared.respond.SendFault.{SendFault}

@@ -8,10 +8,10 @@ use Rattle.bike_schema.specs.Stands.{AllLeft}
 use Rattle.bike_http.specs.declared.asked.Asked.{Asked}
 use Rattle.bike_answers.specs.declared.answer.Answer.{Answer}
 use Rattle.bike_answers.specs.Sent.{IsSent}
-use Rattle.bike_desk.specs.declared.fault.DeskFault.{DeskFault}
-use Rattle.bike_desk.specs.declared.fault.DeskFault.TheVariants.{NoMemory, StoreFailed, Stopped}
-use Rattle.bike_desk.specs.Desk.{DeskValue, shown, IsAt, TreesStandForEither}
-use Rattle.bike_desk.specs.Queries.{Queries}
+use Rattle.bike_feeds.specs.DeskFault.{DeskFault}
+use Rattle.bike_feeds.specs.DeskFault.TheVariants.{NoMemory, StoreFailed, Stopped}
+use Rattle.bike_feeds.specs.Desk.{DeskValue, shown, IsAt, TreesStandForEither}
+use Rattle.bike_feeds.specs.Queries.{Queries}
 use Rattle.bike_exchange.specs.Exchange.{Response, answered, response_of, operator_after}
 use Rattle.bike_exchange.specs.Telling.{IsEither, Tells, SendsAnswer, Responds}
 use Rattle.bike_exchange.specs.declared.respond.SendFault.{SendFault}

@@ -4,12 +4,12 @@ ghost use Rattle.std.specs.Prelude.{◌≡◌, ◌≤◌, IsTrue, Ok};
 ghost use Rattle.sqlite.specs.State.{HasCleanDisk};
 ghost use Rattle.sqlite_trees.specs.View.{doubt};
 ghost use Rattle.bike_operator.specs.Operator.{Operator};
-ghost use Rattle.bike_desk.specs.Desk.{shown, IsAt};
+ghost use Rattle.bike_feeds.specs.Desk.{shown, IsAt};
 ghost use Rattle.bike_exchange.specs.Telling.{ended, Serves, Rests, IsDone};
 
 use crate::respond::{SendFault, respond, send};
 use bike_answers::Answer;
-use bike_desk::Desk;
+use bike_feeds::Desk;
 use bike_fixed::Moment;
 use bike_heads::Routes;
 use bike_http::{ReceiveFault, receive};

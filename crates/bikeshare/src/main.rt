@@ -3,8 +3,7 @@
 
 ghost use Rattle.bike_app.specs.Words.{ServesSockets};
 
-use bike_app::{Fault, clock_moment, exit_code, listen, run_words, run_words_in_memory};
-use bike_feeds::Feed;
+use bike_app::{Fault, Feed, clock_moment, exit_code, listen, run_words, run_words_in_memory};
 use bike_fixed::Moment;
 use bike_words::{Task, Words, WordsFault, read_words, usage};
 use sqlite::Connection;

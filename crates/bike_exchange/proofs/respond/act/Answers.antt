@@ -1,5 +1,5 @@
 use Rattle.std.proofs.Common.{Err, inr, refl, ap}
-use Rattle.bike_desk.specs.declared.fault.DeskFault.{DeskFault}
+use Rattle.bike_feeds.specs.DeskFault.{DeskFault}
 use Rattle.bike_exchange.proofs.Told.{act_either}
 use Rattle.bike_exchange.proofs.respond.act.Goals as goal
 

@@ -1,6 +1,6 @@
 use Rattle.std.proofs.Common.{inl, inr, sym, ap, refl, arith}
 use Rattle.sqlite.specs.State.{HasCleanDisk}
-use Rattle.bike_desk.specs.Desk.{shown}
+use Rattle.bike_feeds.specs.Desk.{shown}
 use Rattle.bike_answers.specs.declared.answer.Answer.TheVariants as answer
 use Rattle.bike_exchange.specs.Shown.{not_found}
 use Rattle.bike_exchange.specs.Exchange.{feed_response}
