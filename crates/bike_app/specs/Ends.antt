@@ -7,11 +7,11 @@ use Rattle.sqlite.specs.declared.error.ErrorCode.TheVariants as code
 use Rattle.bike_schema.specs.Layouts.{name_of}
 use Rattle.bike_recognition.specs.Names.{table_named}
 use Rattle.bike_judges.specs.Judging.{key_row}
-use Rattle.bike_feeds.specs.DeskFault.TheVariants as desk
-use Rattle.bike_feeds.specs.AdoptFault.{AdoptFault}
-use Rattle.bike_feeds.specs.AdoptFault.TheVariants as adopt
-use Rattle.bike_feeds.specs.declared.fault.FeedFault.{FeedFault}
-use Rattle.bike_feeds.specs.declared.fault.FeedFault.TheVariants as feed
+use Rattle.bike_exchange.specs.DeskFault.TheVariants as desk
+use Rattle.bike_exchange.specs.AdoptFault.{AdoptFault}
+use Rattle.bike_exchange.specs.AdoptFault.TheVariants as adopt
+use Rattle.bike_exchange.specs.FeedFault.{FeedFault}
+use Rattle.bike_exchange.specs.FeedFault.TheVariants as feed
 use Rattle.bike_app.specs.declared.fault.LinesFault.{LinesFault}
 use Rattle.bike_app.specs.declared.fault.LinesFault.TheVariants as lines
 use Rattle.bike_app.specs.declared.end.Fault.{Fault}

@@ -3,13 +3,13 @@
 ghost use Rattle.std.specs.Prelude.{◌≡◌, ◌++◌, codes};
 ghost use Rattle.std.specs.Fmt.{decimal};
 ghost use Rattle.std.specs.Process.{exit_status};
-ghost use Rattle.bike_feeds.specs.Adoption.{handed};
+ghost use Rattle.bike_exchange.specs.Adoption.{handed};
 ghost use Rattle.bike_app.specs.Pieces.{AppendsSome, Puts};
 ghost use Rattle.bike_app.specs.Ends.{word_of, detail_of, fault_status, adopt_fault, feed_fault, status_of, line_of};
 
 use crate::fault::LinesFault;
 use crate::pieces::{put, put_key, put_number};
-use bike_feeds::{AdoptFault, BadRow, DeskFault, FeedFault};
+use bike_exchange::{AdoptFault, BadRow, DeskFault, FeedFault};
 use sqlite::{Alter, Connection, ErrorCode};
 use std::alloc::AllocError;
 use std::error::Error;

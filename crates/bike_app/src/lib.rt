@@ -10,7 +10,7 @@ mod program;
 mod server;
 mod words;
 
-pub use bike_feeds::Feed;
+pub use bike_exchange::Feed;
 pub use end::{Fault, exit_code};
 pub use fault::LinesFault;
 pub use feed::publish;

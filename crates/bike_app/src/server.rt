@@ -3,8 +3,7 @@
 ghost use Rattle.std.specs.Prelude.{◌≡◌, false};
 
 use crate::end::Fault;
-use bike_exchange::serve_one;
-use bike_feeds::Desk;
+use bike_exchange::{Desk, serve_one};
 use bike_fixed::Moment;
 use bike_heads::Routes;
 use bike_json::TokenBuffer;

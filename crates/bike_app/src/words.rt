@@ -11,7 +11,7 @@ ghost use Rattle.bike_app.specs.Words.{Does, DoesInMemory, MayStand, ServesSocke
 use crate::end::Fault;
 use crate::feed::{moment_of, publish};
 use crate::program::serve;
-use bike_feeds::Desk;
+use bike_exchange::Desk;
 use bike_fixed::Moment;
 use bike_stream::write_whole;
 use bike_words::Task;

@@ -19,7 +19,7 @@ use Rattle.bike_book.specs.Tables.{TableName, Tables, table_place, Meta, System,
 use Rattle.bike_schema.specs.Layouts.{every_table}
 use Rattle.bike_schema.specs.Tables.{HasTables, IsOurs, tables_of}
 use Rattle.bike_schema.proofs.AnswerLemmas.{reads_weaker}
-use Rattle.bike_rules.specs.Rules.{IsGoodKey, IsVerdict}
+use Rattle.bike_readings.specs.Rules.{IsGoodKey, IsVerdict}
 use Rattle.bike_recognition.specs.Names.{table_named}
 use Rattle.bike_recognition.specs.declared.table.TableName as code
 use Rattle.bike_recognition.specs.Recognition.{AnyDatabase, ReadsAny, told_by, meta_version, IsByTables, IsAsTold, IsRecognised}

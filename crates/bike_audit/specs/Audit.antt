@@ -4,7 +4,7 @@ use Rattle.sqlite_value.specs.Order.{Row}
 use Rattle.sqlite.specs.Effect.{Database}
 use Rattle.bike_book.specs.Tables.{TableName}
 use Rattle.bike_schema.specs.Tables.{HasTables, tables_of}
-use Rattle.bike_rules.specs.Rules.{IsVerdict}
+use Rattle.bike_readings.specs.Rules.{IsVerdict}
 use Rattle.bike_recognition.specs.Names.{table_named}
 use Rattle.bike_recognition.specs.Recognition.{IsRecognised}
 use Rattle.bike_recognition.specs.declared.recognition.Recognition.TheVariants as recognition

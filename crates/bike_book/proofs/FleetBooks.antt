@@ -13,7 +13,7 @@ use Rattle.bike_operator.specs.Counts.{count, is_available, is_working_dock, doc
 use Rattle.bike_operator.specs.Changes.{changed}
 use Rattle.bike_places.proofs.MapLemmas.{number_order, there_of}
 use Rattle.bike_places.proofs.CountLemmas.{one, weight, count-added}
-use Rattle.bike_counts.specs.Numbers.{is_disabled_of}
+use Rattle.bike_places.specs.Numbers.{is_disabled_of}
 use Rattle.bike_book.specs.Rows.{station_row, count_row, rider_row, first_text, second_text}
 use Rattle.bike_book.specs.Stored.{stored_bike, stored_truck, stored_rider, stored_count}
 use Rattle.bike_book.specs.Between.{counted_station, tables_between}

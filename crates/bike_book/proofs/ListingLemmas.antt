@@ -10,7 +10,7 @@ use Rattle.bike_operator.specs.Operator.{Operator, Station, Key, DockKey, text_c
 use Rattle.bike_operator.specs.Counts.{available_of}
 use Rattle.bike_operator.specs.Sound.{HasDock}
 use Rattle.bike_places.proofs.CatalogueLemmas.{same_docks}
-use Rattle.bike_counts.specs.Numbers.{disabled_of}
+use Rattle.bike_places.specs.Numbers.{disabled_of}
 use Rattle.bike_book.specs.Stored.{Listed, IsListing, IsDockKey, IsCountKey}
 
 -- Docks, stations and types go on being there.

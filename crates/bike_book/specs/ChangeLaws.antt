@@ -11,7 +11,7 @@ use Rattle.bike_operator.specs.declared.change.Change.TheVariants as change
 use Rattle.bike_operator.specs.Operator.{Operator, numbered}
 use Rattle.bike_operator.specs.Counts.{docks_broken}
 use Rattle.bike_operator.specs.Changes.{changed, all_changed}
-use Rattle.bike_counts.specs.Numbers.{occupied}
+use Rattle.bike_places.specs.Numbers.{occupied}
 use Rattle.bike_book.specs.declared.row_change.RowChange.{RowChange}
 use Rattle.bike_book.specs.declared.row_change.RowChange.TheVariants as row
 use Rattle.bike_book.specs.Tables.{Segments}

@@ -16,7 +16,7 @@ use Rattle.bike_operator.specs.Operator.{Operator, Station, Truck, Rider, Kept, 
 use Rattle.bike_operator.specs.Counts.{available_of, docks_available, docks_broken}
 use Rattle.bike_operator.specs.Sound.{HasDock}
 use Rattle.bike_book.specs.declared.version.TheConstants.{NEWEST}
-use Rattle.bike_counts.specs.Numbers.{disabled_of}
+use Rattle.bike_places.specs.Numbers.{disabled_of}
 use Rattle.bike_book.specs.Tables.{Tables}
 use Rattle.bike_book.specs.Rows.{meta_row, system_row, plan_row, segment_row, type_row, station_row, dock_row, bike_row, truck_row, rider_row, rental_row, order_row, entry_row, kept_row, count_row, first_text, second_text, second_number}
 

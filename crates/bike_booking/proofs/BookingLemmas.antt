@@ -17,7 +17,7 @@ use Rattle.bike_operator.specs.Operator.{Operator}
 use Rattle.bike_operator.specs.View.{view_of}
 use Rattle.bike_operator.specs.Changes.{changed, all_changed, present, place_of}
 use Rattle.bike_places.proofs.MapLemmas.{there_of}
-use Rattle.bike_counts.specs.Laws.{IsAway}
+use Rattle.bike_places.specs.Laws.{IsAway}
 use Rattle.bike_book.specs.declared.row_change.RowChange.{RowChange}
 use Rattle.bike_book.specs.declared.row_change.RowChange.TheVariants as row
 use Rattle.bike_book.specs.Stored.{Listed, IsListing}

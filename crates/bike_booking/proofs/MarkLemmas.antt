@@ -12,7 +12,7 @@ use Rattle.bike_operator.specs.Counts.{is_broken, docked_at}
 use Rattle.bike_operator.specs.View.{view_of, station_view, dock_view, docked_view}
 use Rattle.bike_operator.specs.Changes.{changed}
 use Rattle.bike_operator.specs.Sound.{HasDock}
-use Rattle.bike_counts.specs.Laws.{one, IsMoved, dock_shares}
+use Rattle.bike_places.specs.Laws.{one, IsMoved, dock_shares}
 use Rattle.bike_book.specs.declared.row_change.RowChange.{RowChange}
 use Rattle.bike_book.specs.declared.row_change.RowChange.TheVariants as row
 use Rattle.bike_book.specs.Stored.{Listed}

@@ -16,7 +16,7 @@ use Rattle.bike_operator.specs.Counts.{is_broken}
 use Rattle.bike_operator.specs.Changes.{changed, place_of}
 use Rattle.bike_operator.specs.Sound.{IsSound}
 use Rattle.bike_places.proofs.MapLemmas.{there_of}
-use Rattle.bike_counts.specs.Laws.{IsMoved, IsAway, IsMarkedAt, Shares, place_shares}
+use Rattle.bike_places.specs.Laws.{IsMoved, IsAway, IsMarkedAt, Shares, place_shares}
 use Rattle.bike_book.specs.declared.row_change.RowChange.{RowChange}
 use Rattle.bike_book.specs.declared.row_change.RowChange.TheVariants as row
 use Rattle.bike_book.specs.Stored.{Listed, IsListing}

@@ -4,7 +4,7 @@ use Rattle.std.specs.Borrow.{Bor}
 use Rattle.bike_commands.specs.declared.command.Command.TheVariants as command
 use Rattle.bike_operator.specs.declared.records.BikeState.{BikeState}
 use Rattle.bike_operator.specs.declared.view.StationView.{StationView}
-use Rattle.bike_counts.specs.Laws.{one, IsMoved, dock_shares}
+use Rattle.bike_places.specs.Laws.{one, IsMoved, dock_shares}
 use Rattle.bike_book.specs.declared.row_change.RowChange.{RowChange}
 use Rattle.bike_book.specs.declared.row_change.RowChange.TheVariants as row
 use Rattle.bike_facts.specs.declared.stored.StoredNumbers.{StoredNumbers}

@@ -3,7 +3,7 @@
 ghost use Rattle.std.specs.Prelude.{◌≡◌, ◌++◌, ◌∷◌, [], true, Some};
 ghost use Rattle.bike_operator.specs.declared.change.Change.TheVariants as change;
 ghost use Rattle.bike_operator.specs.Changes.{place_of};
-ghost use Rattle.bike_counts.specs.Laws.{IsAway};
+ghost use Rattle.bike_places.specs.Laws.{IsAway};
 ghost use Rattle.bike_facts.specs.Bikes.{IsBikeRead, HasBike};
 ghost use Rattle.bike_booking.specs.Moves.{count_written};
 ghost use Rattle.bike_booking.specs.Stages.{AreMovesBooked};

@@ -12,10 +12,10 @@ use Rattle.bike_book.specs.Tables.{Tables, System, Plans, Types, Kept}
 use Rattle.bike_readings.specs.Readings.{system_read, plan_read, type_read, kept_read}
 use Rattle.bike_readings.proofs.CatalogueRows.{type_reading}
 use Rattle.bike_readings.proofs.KeptRows.{kept_reading}
-use Rattle.bike_rules.specs.ReadOff.{operator_of}
-use Rattle.bike_rules.specs.Demands.{IsGoodPlan, IsGoodType, IsGoodKept}
-use Rattle.bike_rules.specs.Rules.{AreInOrder}
-use Rattle.bike_rules.proofs.RowRules.{some_with}
+use Rattle.bike_readings.specs.ReadOff.{operator_of}
+use Rattle.bike_readings.specs.Demands.{IsGoodPlan, IsGoodType, IsGoodKept}
+use Rattle.bike_readings.specs.Rules.{AreInOrder}
+use Rattle.bike_readings.proofs.RowRules.{some_with}
 use Rattle.bike_judges.specs.Lines.{part}
 use Rattle.bike_catalogue_rules.specs.Tests.{is_system, is_kept, is_plan, is_type, has_plan}
 use Rattle.bike_catalogue_rules.proofs.PlanLines.{plan_line, own_part, has_plan_is}

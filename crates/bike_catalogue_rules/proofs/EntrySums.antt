@@ -9,7 +9,7 @@ use Rattle.bike_ledger.specs.Ledger.{cash_of, revenue_of, cash_in, earned}
 use Rattle.bike_ledger.specs.declared.entry.EntryKind.{EntryKind}
 use Rattle.bike_ledger.specs.declared.entry.EntryKind.TheVariants.{TopUp, Fare, Refund}
 use Rattle.bike_readings.specs.Readings.{entry_read}
-use Rattle.bike_rules.specs.ReadOff.{entry_in}
+use Rattle.bike_readings.specs.ReadOff.{entry_in}
 use Rattle.bike_catalogue_rules.specs.declared.meta.Sums.{Sums}
 use Rattle.bike_catalogue_rules.specs.Sums.{booked, with_entry, after_entry}
 

@@ -7,8 +7,8 @@ use Rattle.sqlite_rules.specs.Lists.{Has}
 use Rattle.sqlite.specs.Effect.{Database}
 use Rattle.bike_book.specs.Tables.{TableName, Tables, rows_in, keys_of, System, Plans, Segments, Types, Kept}
 use Rattle.bike_schema.specs.Tables.{IsOurs, tables_of}
-use Rattle.bike_rules.specs.Rules.{AreInOrder}
-use Rattle.bike_rules.proofs.RulesLaws.{stored_in_order}
+use Rattle.bike_readings.specs.Rules.{AreInOrder}
+use Rattle.bike_readings.proofs.RulesLaws.{stored_in_order}
 use Rattle.bike_judges.specs.declared.key.BadKey.{BadKey}
 use Rattle.bike_judges.specs.declared.query.Query.TheVariants as query
 use Rattle.bike_judges.specs.Judging.{key_row}

@@ -17,11 +17,11 @@ use Rattle.bike_book.proofs.MapRows.{StoresKeys, has_find}
 use Rattle.bike_book.proofs.Keys.{text_key, texts}
 use Rattle.bike_readings.specs.Readings.{plan_read}
 use Rattle.bike_readings.proofs.CatalogueRows.{plan_reading}
-use Rattle.bike_rules.specs.ReadOff.{plan_in, with_segments, operator_of}
-use Rattle.bike_rules.specs.Rules.{AreInOrder}
-use Rattle.bike_rules.proofs.ReadLists.{read_of, has_read, find_has}
-use Rattle.bike_rules.proofs.ReadRows.{mapped}
-use Rattle.bike_rules.proofs.Places.{has_under, under_has}
+use Rattle.bike_readings.specs.ReadOff.{plan_in, with_segments, operator_of}
+use Rattle.bike_readings.specs.Rules.{AreInOrder}
+use Rattle.bike_readings.proofs.ReadLists.{read_of, has_read, find_has}
+use Rattle.bike_readings.proofs.ReadRows.{mapped}
+use Rattle.bike_readings.proofs.Places.{has_under, under_has}
 
 passed : (r : Ordering) → r ≡ Less → T (is_lt r)
 passed r e = rw e tt

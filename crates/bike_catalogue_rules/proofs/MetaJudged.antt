@@ -8,7 +8,7 @@ use Rattle.sqlite.specs.Effect.{Database}
 use Rattle.bike_ledger.specs.Ledger.{cash_of, revenue_of}
 use Rattle.bike_book.specs.Tables.{Meta}
 use Rattle.bike_schema.specs.Tables.{tables_of}
-use Rattle.bike_rules.proofs.RulesLaws.{stored_in_order}
+use Rattle.bike_readings.proofs.RulesLaws.{stored_in_order}
 use Rattle.bike_judges.specs.declared.key.BadKey.{BadKey}
 use Rattle.bike_judges.specs.Judging.{key_row, Continues}
 use Rattle.bike_judges.specs.Verdicts.{IsTableVerdict, JudgesTable}

@@ -20,11 +20,11 @@ use Rattle.bike_book.specs.declared.version.TheConstants.{NEWEST}
 use Rattle.bike_book.specs.Tables.{Tables, Meta}
 use Rattle.bike_readings.specs.Readings.{meta_read}
 use Rattle.bike_readings.proofs.CatalogueRows.{meta_reading}
-use Rattle.bike_rules.specs.ReadOff.{operator_of}
-use Rattle.bike_rules.specs.Demands.{IsGoodMeta}
-use Rattle.bike_rules.specs.Rules.{AreInOrder, IsGoodAt, IsGoodKey, row_under, rows_below}
-use Rattle.bike_rules.proofs.Places.{has_under, under_has}
-use Rattle.bike_rules.proofs.RowRules.{some_with}
+use Rattle.bike_readings.specs.ReadOff.{operator_of}
+use Rattle.bike_readings.specs.Demands.{IsGoodMeta}
+use Rattle.bike_readings.specs.Rules.{AreInOrder, IsGoodAt, IsGoodKey, row_under, rows_below}
+use Rattle.bike_readings.proofs.Places.{has_under, under_has}
+use Rattle.bike_readings.proofs.RowRules.{some_with}
 use Rattle.bike_judges.specs.Verdicts.{IsTableVerdict}
 use Rattle.bike_judges.specs.Least.{least_key}
 use Rattle.bike_catalogue_rules.specs.declared.meta.Sums.{Sums}

@@ -12,11 +12,11 @@ use Rattle.bike_operator.specs.Operator.{text_cmp}
 use Rattle.bike_book.specs.Tables.{Tables, Plans}
 use Rattle.bike_book.proofs.Keys.{text_key, texts}
 use Rattle.bike_readings.specs.Readings.{plan_read}
-use Rattle.bike_rules.specs.ReadOff.{plan_in, with_segments, segments_of, operator_of}
-use Rattle.bike_rules.specs.Rules.{AreInOrder}
-use Rattle.bike_rules.proofs.Places.{under_has}
-use Rattle.bike_rules.proofs.ReadLists.{read_of, find_has}
-use Rattle.bike_rules.proofs.ReadRows.{mapped}
+use Rattle.bike_readings.specs.ReadOff.{plan_in, with_segments, segments_of, operator_of}
+use Rattle.bike_readings.specs.Rules.{AreInOrder}
+use Rattle.bike_readings.proofs.Places.{under_has}
+use Rattle.bike_readings.proofs.ReadLists.{read_of, find_has}
+use Rattle.bike_readings.proofs.ReadRows.{mapped}
 use Rattle.bike_judges.specs.Lines.{part, or_nulls, with_one}
 use Rattle.bike_catalogue_rules.specs.Tests.{has_plan}
 use Rattle.bike_catalogue_rules.proofs.Lookups.{plan_at, plan_key, sorted_read}

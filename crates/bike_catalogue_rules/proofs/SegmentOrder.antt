@@ -14,7 +14,7 @@ use Rattle.bike_catalogue.specs.Rows.{SegmentRow}
 use Rattle.bike_operator.specs.Operator.{text_cmp, item_at, numbered}
 use Rattle.bike_book.specs.Rows.{segment_row}
 use Rattle.bike_book.proofs.Keys.{texts, value_cmp-number_value}
-use Rattle.bike_rules.specs.ReadOff.{segment_at, and_after, segments_from, segments_of}
+use Rattle.bike_readings.specs.ReadOff.{segment_at, and_after, segments_from, segments_of}
 
 -- ---- numbers
 

@@ -24,12 +24,12 @@ use Rattle.bike_book.specs.Rows.{segment_row}
 use Rattle.bike_book.specs.Tables.{Tables, Segments}
 use Rattle.bike_readings.specs.Readings.{segment_read}
 use Rattle.bike_readings.proofs.CatalogueRows.{segment_reading}
-use Rattle.bike_rules.specs.ReadOff.{operator_of, segment_at, segments_of}
-use Rattle.bike_rules.specs.Demands.{IsGoodSegment}
-use Rattle.bike_rules.specs.Rules.{AreInOrder, IsGoodAt, IsGoodKey, row_under, rows_below}
-use Rattle.bike_rules.proofs.Places.{has_under, under_has}
-use Rattle.bike_rules.proofs.RowRules.{some_and, some_with}
-use Rattle.bike_rules.proofs.Segments.{segment_found, found_segment, item_found}
+use Rattle.bike_readings.specs.ReadOff.{operator_of, segment_at, segments_of}
+use Rattle.bike_readings.specs.Demands.{IsGoodSegment}
+use Rattle.bike_readings.specs.Rules.{AreInOrder, IsGoodAt, IsGoodKey, row_under, rows_below}
+use Rattle.bike_readings.proofs.Places.{has_under, under_has}
+use Rattle.bike_readings.proofs.RowRules.{some_and, some_with}
+use Rattle.bike_readings.proofs.Segments.{segment_found, found_segment, item_found}
 use Rattle.bike_judges.specs.Lines.{part}
 use Rattle.bike_judges.specs.Verdicts.{IsTableVerdict}
 use Rattle.bike_catalogue_rules.specs.Tests.{has_plan, segment_name, comes_after, is_next, first_astray}

@@ -18,7 +18,7 @@ use Rattle.bike_rows.proofs.SortLemmas.{AreApartAll}
 use Rattle.bike_rows.proofs.TreeLemmas.{by_key_total}
 use Rattle.bike_book.proofs.Keys.{value_cmp-number_value}
 use Rattle.bike_book.specs.Tables.{Tables, Docks, Bikes, Counts}
-use Rattle.bike_rules.specs.Rules.{AreInOrder}
+use Rattle.bike_readings.specs.Rules.{AreInOrder}
 use Rattle.bike_judges.specs.Lines.{count_dock_line, count_bike_line, count_line}
 
 first_column : (row : Row) → 1 ≤ length row → take 1 row ≡ column row 0 ∷ []

@@ -17,18 +17,18 @@ use Rattle.bike_places.proofs.MapLemmas.{text_order}
 use Rattle.bike_operator.specs.declared.records.Bike.{Bike}
 use Rattle.bike_operator.specs.Operator.{Operator}
 use Rattle.bike_operator.specs.Counts.{count, is_broken, available_of}
-use Rattle.bike_counts.specs.Numbers.{disabled_of, is_available_of, is_disabled_of}
+use Rattle.bike_places.specs.Numbers.{disabled_of, is_available_of, is_disabled_of}
 use Rattle.bike_book.specs.Tables.{Tables, Bikes, Counts}
 use Rattle.bike_book.specs.Stored.{stored_bike}
 use Rattle.bike_book.proofs.Keys.{numbers}
 use Rattle.bike_readings.specs.Readings.{bike_read, count_read}
 use Rattle.bike_readings.proofs.FleetRows.{bike_reading}
-use Rattle.bike_rules.specs.Rules.{AreInOrder, row_under, rows_below, IsGoodAt, IsGoodRow}
-use Rattle.bike_rules.specs.ReadOff.{operator_of, bike_in, first_of, misplaced_bike}
-use Rattle.bike_rules.specs.Demands.{IsGoodBike}
-use Rattle.bike_rules.proofs.ReadLists.{IsStored, read_map}
-use Rattle.bike_rules.proofs.ReadRows.{stored_plain}
-use Rattle.bike_rules.proofs.Places.{has_under, under_has}
+use Rattle.bike_readings.specs.Rules.{AreInOrder, row_under, rows_below, IsGoodAt, IsGoodRow}
+use Rattle.bike_readings.specs.ReadOff.{operator_of, bike_in, first_of, misplaced_bike}
+use Rattle.bike_readings.specs.Demands.{IsGoodBike}
+use Rattle.bike_readings.proofs.ReadLists.{IsStored, read_map}
+use Rattle.bike_readings.proofs.ReadRows.{stored_plain}
+use Rattle.bike_readings.proofs.Places.{has_under, under_has}
 use Rattle.bike_judges.specs.Lines.{count_dock_line, count_bike_line, count_line}
 use Rattle.bike_judges.specs.Verdicts.{EarlierGood, IsFirstFailing}
 use Rattle.bike_count_rules.specs.declared.marks.Marks.{Marks}

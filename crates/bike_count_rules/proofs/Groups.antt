@@ -13,7 +13,7 @@ use Rattle.sqlite_value.proofs.OrderLemmas.{row_cmp_total, value_cmp-Text}
 use Rattle.sqlite_value.proofs.KeyLemmas.{then_tied}
 use Rattle.sqlite_rules.specs.Lists.{Has}
 use Rattle.bike_places.proofs.MapLemmas.{text_order}
-use Rattle.bike_rules.specs.ReadOff.{first_of}
+use Rattle.bike_readings.specs.ReadOff.{first_of}
 use Rattle.bike_count_rules.specs.declared.tally.Tally.{Tally}
 use Rattle.bike_count_rules.specs.Tallies.{is_same, joined, is_even, tally_key, bad_key, first_uneven}
 

@@ -12,17 +12,17 @@ use Rattle.sqlite_rules.specs.Lists.{Has}
 use Rattle.sqlite.specs.Effect.{Database}
 use Rattle.bike_operator.specs.Operator.{Operator}
 use Rattle.bike_operator.specs.Counts.{available_of}
-use Rattle.bike_counts.specs.Numbers.{disabled_of}
+use Rattle.bike_places.specs.Numbers.{disabled_of}
 use Rattle.bike_book.specs.Tables.{Tables, Counts, Docks, Bikes, Stations, Types}
 use Rattle.bike_schema.specs.Tables.{tables_of, IsOurs}
 use Rattle.bike_readings.specs.Readings.{count_read}
 use Rattle.bike_readings.proofs.LedgerRows.{count_reading}
-use Rattle.bike_rules.specs.Rules.{AreInOrder, row_under, rows_below, IsGoodKey, IsGoodAt}
-use Rattle.bike_rules.specs.ReadOff.{operator_of}
-use Rattle.bike_rules.specs.Demands.{IsGoodCount}
-use Rattle.bike_rules.proofs.Places.{under_has}
-use Rattle.bike_rules.proofs.RowRules.{IsSomeWith, some_with, some_and}
-use Rattle.bike_rules.proofs.RulesLaws.{stored_in_order}
+use Rattle.bike_readings.specs.Rules.{AreInOrder, row_under, rows_below, IsGoodKey, IsGoodAt}
+use Rattle.bike_readings.specs.ReadOff.{operator_of}
+use Rattle.bike_readings.specs.Demands.{IsGoodCount}
+use Rattle.bike_readings.proofs.Places.{under_has}
+use Rattle.bike_readings.proofs.RowRules.{IsSomeWith, some_with, some_and}
+use Rattle.bike_readings.proofs.RulesLaws.{stored_in_order}
 use Rattle.bike_judges.specs.declared.key.BadKey.{BadKey}
 use Rattle.bike_judges.specs.declared.query.Query.TheVariants as query
 use Rattle.bike_judges.specs.Judging.{key_row}

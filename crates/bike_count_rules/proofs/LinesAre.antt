@@ -26,9 +26,9 @@ use Rattle.bike_readings.specs.Readings.{dock_read, bike_read, count_read}
 use Rattle.bike_readings.proofs.CatalogueRows.{dock_reading}
 use Rattle.bike_readings.proofs.FleetRows.{bike_reading}
 use Rattle.bike_readings.proofs.LedgerRows.{count_reading}
-use Rattle.bike_rules.specs.Rules.{AreInOrder}
-use Rattle.bike_rules.specs.ReadOff.{operator_of}
-use Rattle.bike_rules.proofs.Broken.{broken_as, broken_has}
+use Rattle.bike_readings.specs.Rules.{AreInOrder}
+use Rattle.bike_readings.specs.ReadOff.{operator_of}
+use Rattle.bike_readings.proofs.Broken.{broken_as, broken_has}
 use Rattle.bike_judges.specs.Lines.{nulls, count_dock_line, count_bike_line, count_line}
 use Rattle.bike_count_rules.specs.declared.tally.Tally.{Tally}
 use Rattle.bike_count_rules.specs.Tallies.{count_tally, placed_tally, bike_tally}

@@ -15,10 +15,10 @@ use Rattle.bike_book.proofs.Keys.{texts}
 use Rattle.bike_readings.specs.Readings.{count_read, station_read, type_read}
 use Rattle.bike_readings.proofs.CatalogueRows.{station_reading, type_reading}
 use Rattle.bike_readings.proofs.LedgerRows.{count_reading}
-use Rattle.bike_rules.specs.Rules.{AreInOrder}
-use Rattle.bike_rules.specs.ReadOff.{operator_of, station_in}
-use Rattle.bike_rules.proofs.Places.{under_has}
-use Rattle.bike_rules.proofs.ReadRows.{mapped}
+use Rattle.bike_readings.specs.Rules.{AreInOrder}
+use Rattle.bike_readings.specs.ReadOff.{operator_of, station_in}
+use Rattle.bike_readings.proofs.Places.{under_has}
+use Rattle.bike_readings.proofs.ReadRows.{mapped}
 use Rattle.bike_judges.specs.Lines.{part, nulls, or_nulls, with_two}
 use Rattle.bike_count_rules.specs.Names.{is_named}
 use Rattle.bike_count_rules.proofs.Apart.{AreWide}

@@ -1,7 +1,7 @@
 -- What one more line does to what the judge of counts says.
 use Rattle.std.proofs.Common.{◌≡◌, List, [], ◌∷◌, Option, Some, None, option_map, Result, Ok, Err, IfOk, OnOk, refl, sym, ap, ◌∙◌}
 use Rattle.sqlite_value.specs.Order.{Row}
-use Rattle.bike_rules.specs.ReadOff.{first_of}
+use Rattle.bike_readings.specs.ReadOff.{first_of}
 use Rattle.bike_judges.specs.declared.key.BadKey.{BadKey}
 use Rattle.bike_judges.specs.Judging.{Continues, key_row}
 use Rattle.bike_count_rules.specs.declared.judge.CountJudge.{CountJudge}

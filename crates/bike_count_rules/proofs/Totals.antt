@@ -25,13 +25,13 @@ use Rattle.bike_operator.specs.declared.records.Bike.{Bike}
 use Rattle.bike_operator.specs.Operator.{Operator}
 use Rattle.bike_operator.specs.Counts.{count, is_fit, is_broken}
 use Rattle.bike_places.proofs.CountLemmas.{count-cons}
-use Rattle.bike_counts.specs.Laws.{one}
-use Rattle.bike_counts.specs.Numbers.{is_available_of, is_disabled_of}
+use Rattle.bike_places.specs.Laws.{one}
+use Rattle.bike_places.specs.Numbers.{is_available_of, is_disabled_of}
 use Rattle.bike_book.specs.Stored.{stored_bike}
 use Rattle.bike_readings.specs.Readings.{bike_read, count_read}
 use Rattle.bike_readings.proofs.LedgerRows.{count_reading}
-use Rattle.bike_rules.specs.ReadOff.{bike_in, first_of, misplaced_bike}
-use Rattle.bike_rules.proofs.ReadLists.{IsStored}
+use Rattle.bike_readings.specs.ReadOff.{bike_in, first_of, misplaced_bike}
+use Rattle.bike_readings.proofs.ReadLists.{IsStored}
 use Rattle.bike_judges.specs.Lines.{nulls, count_dock_line, count_bike_line, count_line}
 use Rattle.bike_count_rules.specs.declared.tally.Tally.{Tally}
 use Rattle.bike_count_rules.specs.Tallies.{count_tally, placed_tally, bike_tally, tally_in}

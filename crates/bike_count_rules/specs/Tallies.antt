@@ -10,8 +10,8 @@ use Rattle.bike_operator.specs.declared.records.Place.{Place}
 use Rattle.bike_operator.specs.declared.records.Place.TheVariants as place
 use Rattle.bike_operator.specs.declared.records.Bike.{Bike}
 use Rattle.bike_operator.specs.Counts.{is_fit}
-use Rattle.bike_counts.specs.Laws.{one}
-use Rattle.bike_rules.specs.ReadOff.{first_of}
+use Rattle.bike_places.specs.Laws.{one}
+use Rattle.bike_readings.specs.ReadOff.{first_of}
 use Rattle.bike_readings.specs.Readings.{dock_read, bike_read, count_read}
 use Rattle.bike_judges.specs.Lines.{part}
 use Rattle.bike_count_rules.specs.declared.marks.Marks.{Marks}

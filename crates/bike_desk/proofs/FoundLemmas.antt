@@ -23,8 +23,8 @@ use Rattle.bike_book.specs.Tables.{Tables, Meta, TableName, keys_of}
 use Rattle.bike_schema.specs.Makes.{OthersStay}
 use Rattle.bike_schema.specs.Tables.{tables_of, HasTables, HasNone}
 use Rattle.bike_schema.specs.Stands.{Stores, IsOf, StandsFor, TreesStandFor, AllLeft}
-use Rattle.bike_rules.specs.ReadOff.{operator_of}
-use Rattle.bike_rules.proofs.RulesLaws.{stored_good, stored_bad}
+use Rattle.bike_readings.specs.ReadOff.{operator_of}
+use Rattle.bike_readings.proofs.RulesLaws.{stored_good, stored_bad}
 use Rattle.bike_book.specs.declared.version.TheConstants.{NEWEST}
 use Rattle.bike_recognition.specs.Recognition.{AnyDatabase, ReadsAny, meta_version, version_in, told_by, IsByTables, IsAsTold, IsRecognised}
 use Rattle.bike_recognition.specs.declared.version.MetaVersion.TheVariants.{Version}

@@ -22,7 +22,7 @@ use Rattle.bike_operator.specs.Changes.{place_of}
 use Rattle.bike_operator.specs.Sound.{AreBikesSound, IsPlace}
 use Rattle.bike_places.proofs.MapLemmas.{number_order}
 use Rattle.bike_places.proofs.CountLemmas.{found_by}
-use Rattle.bike_counts.proofs.DockLaw.{dock_is}
+use Rattle.bike_places.proofs.DockLaw.{dock_is}
 use Rattle.bike_facts.specs.declared.bikes.BikeRow.{BikeRow}
 use Rattle.bike_facts.specs.Touched.{DockPlace, dock_of_place, dock_of_bike, dock_at_end, dock_of_order, type_of_docked, dock_touched}
 use Rattle.bike_facts.specs.Bikes.{IsBikeOf}

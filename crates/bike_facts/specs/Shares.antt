@@ -1,6 +1,6 @@
 -- What a bicycle adds to the numbers of a dock's station, and the numbers when that changes.
 use Rattle.std.specs.Prelude.{◌≡◌}
-use Rattle.bike_counts.specs.Laws.{IsMoved, Shares}
+use Rattle.bike_places.specs.Laws.{IsMoved, Shares}
 use Rattle.bike_facts.specs.declared.stored.StoredNumbers.{StoredNumbers}
 use Rattle.bike_facts.specs.declared.shares.BikeShares.{BikeShares}
 

@@ -13,7 +13,7 @@ use Rattle.bike_operator.specs.declared.records.Order.{Order}
 use Rattle.bike_operator.specs.Operator.{Operator, Station, dock_key, key_of, numbered}
 use Rattle.bike_operator.specs.Counts.{docked_at, available_of, docks_available, docks_broken}
 use Rattle.bike_operator.specs.View.{end_at}
-use Rattle.bike_counts.specs.Numbers.{disabled_of}
+use Rattle.bike_places.specs.Numbers.{disabled_of}
 use Rattle.bike_book.specs.Stored.{Listed}
 use Rattle.bike_facts.specs.declared.stored.StoredNumbers.{StoredNumbers}
 use Rattle.bike_facts.specs.declared.touched.Touched.{Touched}

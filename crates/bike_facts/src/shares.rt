@@ -3,7 +3,7 @@
 ghost use Rattle.std.specs.Prelude.{◌≡◌, IfSome};
 ghost use Rattle.bike_operator.specs.Changes.{place_of};
 ghost use Rattle.bike_operator.specs.Counts.{is_fit};
-ghost use Rattle.bike_counts.specs.Laws.{one, IsMoved, dock_shares, place_shares};
+ghost use Rattle.bike_places.specs.Laws.{one, IsMoved, dock_shares, place_shares};
 ghost use Rattle.bike_facts.specs.Shares.{AreShares, AreCountsMoved, AreMoved};
 
 use crate::stored::StoredNumbers;

@@ -4,7 +4,7 @@ use Rattle.std.specs.FinMap as map
 use Rattle.bike_operator.specs.declared.records.Bike.{Bike}
 use Rattle.bike_operator.specs.Operator.{Operator, Station, key_of, dock_key}
 use Rattle.bike_operator.specs.Counts.{available_of, docks_available, docks_broken, is_broken}
-use Rattle.bike_counts.specs.Numbers.{disabled_of}
+use Rattle.bike_places.specs.Numbers.{disabled_of}
 use Rattle.bike_book.specs.Stored.{Listed}
 use Rattle.bike_fleet.specs.declared.stations.DockNumbers.{DockNumbers}
 use Rattle.bike_fleet.specs.declared.counts.TypeCounts.{TypeCounts}

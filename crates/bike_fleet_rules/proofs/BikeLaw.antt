@@ -25,9 +25,9 @@ use Rattle.bike_book.specs.Rows.{number_value}
 use Rattle.bike_readings.specs.Readings.{type_read, station_read, bike_read, rental_read, order_read}
 use Rattle.bike_readings.specs.Bounds.{IsStoredPlace}
 use Rattle.bike_readings.proofs.FleetRows.{bike_reading}
-use Rattle.bike_rules.specs.ReadOff.{rental_at, order_at, operator_of}
-use Rattle.bike_rules.specs.Rules.{AreInOrder}
-use Rattle.bike_rules.specs.Demands.{IsInRental, IsForOrder, IsGoodPlace}
+use Rattle.bike_readings.specs.ReadOff.{rental_at, order_at, operator_of}
+use Rattle.bike_readings.specs.Rules.{AreInOrder}
+use Rattle.bike_readings.specs.Demands.{IsInRental, IsForOrder, IsGoodPlace}
 use Rattle.bike_judges.specs.Lines.{or_nulls, with_two}
 use Rattle.bike_fleet_rules.specs.Tests.{has_dock, is_dock_there, is_where_retired, is_bike_named, bike_names, is_ridden, is_carried, is_used, is_bike_used, bike_uses}
 use Rattle.bike_fleet_rules.proofs.Parts.{AreWide, own_part, first_of_line, second_of_line}

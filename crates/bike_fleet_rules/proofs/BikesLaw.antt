@@ -9,9 +9,9 @@ use Rattle.bike_operator.specs.declared.records.Bike.{Bike}
 use Rattle.bike_operator.specs.Operator.{Operator}
 use Rattle.bike_book.specs.Tables.{Tables, Bikes}
 use Rattle.bike_readings.specs.Readings.{bike_read}
-use Rattle.bike_rules.specs.ReadOff.{operator_of}
-use Rattle.bike_rules.specs.Rules.{AreInOrder, IsGoodKey}
-use Rattle.bike_rules.specs.Demands.{IsGoodBike, IsAloneInDock}
+use Rattle.bike_readings.specs.ReadOff.{operator_of}
+use Rattle.bike_readings.specs.Rules.{AreInOrder, IsGoodKey}
+use Rattle.bike_readings.specs.Demands.{IsGoodBike, IsAloneInDock}
 use Rattle.bike_judges.specs.declared.query.Query.TheVariants as query
 use Rattle.bike_judges.specs.Lines.{lines_of}
 use Rattle.bike_judges.specs.Passes.{first_failing, Demands}

@@ -12,7 +12,7 @@ use Rattle.bike_operator.specs.declared.records.Bike.{Bike}
 use Rattle.bike_schema.specs.declared.fault.StatementFault.{StatementFault}
 use Rattle.bike_schema.specs.Columns.{read_or_failed, whole_in, text_in}
 use Rattle.bike_readings.proofs.ColumnLaws.{whole_column}
-use Rattle.bike_rules.specs.ReadOff.{misplaced_bike, first_place}
+use Rattle.bike_readings.specs.ReadOff.{misplaced_bike, first_place}
 use Rattle.bike_judges.specs.Lines.{part}
 use Rattle.bike_fleet_rules.specs.Counted.{counted_in, counted_at, spelled_by, named_place, place_at}
 use Rattle.bike_fleet_rules.proofs.CountedRows.{counted_first}

@@ -15,7 +15,7 @@ use Rattle.bike_readings.specs.Bounds.{IsStoredPlace, IsStoredBike, IsWithin}
 use Rattle.bike_readings.proofs.ColumnLaws.{number_column, state_column, ident_column}
 use Rattle.bike_readings.proofs.ChainLaws.{wide, takes, gives, gives_wide}
 use Rattle.bike_readings.proofs.FleetRows.{bike_reading}
-use Rattle.bike_rules.specs.ReadOff.{first_of, first_place, misplaced_bike, bike_in}
+use Rattle.bike_readings.specs.ReadOff.{first_of, first_place, misplaced_bike, bike_in}
 
 -- ---- a row that is read is counted at its place
 

@@ -24,11 +24,11 @@ use Rattle.bike_operator.specs.Operator.{Operator}
 use Rattle.bike_book.specs.Tables.{Tables, Docks, Bikes, keys_of}
 use Rattle.bike_book.proofs.MapRows.{has_get}
 use Rattle.bike_book.proofs.Keys.{numbers, value_cmp-number_value}
-use Rattle.bike_rules.specs.ReadOff.{bike_in, operator_of}
-use Rattle.bike_rules.specs.Rules.{AreInOrder, row_under}
-use Rattle.bike_rules.specs.Demands.{IsAloneInDock}
-use Rattle.bike_rules.proofs.Places.{has_under, under_has, same_key}
-use Rattle.bike_rules.proofs.ReadLists.{read_of, has_read, find_has}
+use Rattle.bike_readings.specs.ReadOff.{bike_in, operator_of}
+use Rattle.bike_readings.specs.Rules.{AreInOrder, row_under}
+use Rattle.bike_readings.specs.Demands.{IsAloneInDock}
+use Rattle.bike_readings.proofs.Places.{has_under, under_has, same_key}
+use Rattle.bike_readings.proofs.ReadLists.{read_of, has_read, find_has}
 use Rattle.bike_judges.specs.declared.query.Query.TheVariants as query
 use Rattle.bike_judges.specs.Lines.{lines_of, dock_line, docked_line}
 use Rattle.bike_judges.specs.Verdicts.{IsFirstFailing}

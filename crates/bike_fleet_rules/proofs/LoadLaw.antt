@@ -12,8 +12,8 @@ use Rattle.bike_book.specs.Tables.{Tables, Orders, Bikes}
 use Rattle.bike_book.specs.Rows.{number_value}
 use Rattle.bike_readings.specs.Readings.{order_read}
 use Rattle.bike_readings.proofs.FleetRows.{order_reading}
-use Rattle.bike_rules.specs.ReadOff.{operator_of}
-use Rattle.bike_rules.specs.Rules.{AreInOrder}
+use Rattle.bike_readings.specs.ReadOff.{operator_of}
+use Rattle.bike_readings.specs.Rules.{AreInOrder}
 use Rattle.bike_judges.specs.declared.query.Query.TheVariants as query
 use Rattle.bike_judges.specs.declared.pass.Opening.TheVariants.{Head, Item}
 use Rattle.bike_judges.specs.Lines.{lines_of, head, nulls, order_line, order_bike_line}

@@ -22,8 +22,8 @@ use Rattle.bike_places.proofs.CountLemmas.{count-cons, one}
 use Rattle.bike_book.specs.Rows.{number_value}
 use Rattle.bike_readings.specs.ColumnReaders.{serial_in}
 use Rattle.bike_readings.proofs.ColumnLaws.{number_column}
-use Rattle.bike_rules.specs.ReadOff.{bike_in, operator_of}
-use Rattle.bike_rules.specs.Rules.{AreInOrder}
+use Rattle.bike_readings.specs.ReadOff.{bike_in, operator_of}
+use Rattle.bike_readings.specs.Rules.{AreInOrder}
 use Rattle.bike_judges.specs.Lines.{part, truck_bike_line, order_bike_line}
 use Rattle.bike_fleet_rules.specs.Counted.{counted_in}
 use Rattle.bike_fleet_rules.specs.Loads.{is_of, is_number, is_placed, loads, truck_more, order_more}

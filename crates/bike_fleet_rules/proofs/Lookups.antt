@@ -28,11 +28,11 @@ use Rattle.bike_book.proofs.Keys.{number_key, text_key, numbers, texts}
 use Rattle.bike_readings.specs.Readings.{type_read, station_read, truck_read, rental_read, order_read}
 use Rattle.bike_readings.proofs.CatalogueRows.{type_reading, station_reading}
 use Rattle.bike_readings.proofs.FleetRows.{truck_reading}
-use Rattle.bike_rules.specs.ReadOff.{station_in, rental_in, bike_in, rental_at, order_at, operator_of}
-use Rattle.bike_rules.specs.Rules.{AreInOrder}
-use Rattle.bike_rules.proofs.ReadLists.{read_of, has_read, find_has}
-use Rattle.bike_rules.proofs.ReadRows.{mapped}
-use Rattle.bike_rules.proofs.Places.{has_under, under_has}
+use Rattle.bike_readings.specs.ReadOff.{station_in, rental_in, bike_in, rental_at, order_at, operator_of}
+use Rattle.bike_readings.specs.Rules.{AreInOrder}
+use Rattle.bike_readings.proofs.ReadLists.{read_of, has_read, find_has}
+use Rattle.bike_readings.proofs.ReadRows.{mapped}
+use Rattle.bike_readings.proofs.Places.{has_under, under_has}
 use Rattle.bike_fleet_rules.proofs.CountedRows.{counted_is}
 
 passed : (r : Ordering) → r ≡ Less → T (is_lt r)

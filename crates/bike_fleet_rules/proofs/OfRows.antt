@@ -3,9 +3,9 @@ use Rattle.std.proofs.Common.{◌≡◌, ℕ, ◌&&◌, Bool, true, false, Optio
 use Rattle.sqlite_value.specs.Order.{Row}
 use Rattle.sqlite_rules.specs.Lists.{Has}
 use Rattle.bike_book.specs.Tables.{TableName, Tables, rows_in, keys_of}
-use Rattle.bike_rules.specs.ReadOff.{operator_of}
-use Rattle.bike_rules.specs.Rules.{row_under, rows_below, IsGoodKey, IsGoodRow, IsGoodAt, MayLack}
-use Rattle.bike_rules.proofs.Places.{under_has}
+use Rattle.bike_readings.specs.ReadOff.{operator_of}
+use Rattle.bike_readings.specs.Rules.{row_under, rows_below, IsGoodKey, IsGoodRow, IsGoodAt, MayLack}
+use Rattle.bike_readings.proofs.Places.{under_has}
 use Rattle.bike_judges.specs.Passes.{Demands, OfRow}
 use Rattle.bike_judges.specs.Verdicts.{IsFirstFailing}
 

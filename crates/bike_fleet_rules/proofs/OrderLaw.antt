@@ -25,9 +25,9 @@ use Rattle.bike_book.specs.Tables.{Tables, Types, Stations, Trucks, Orders}
 use Rattle.bike_book.specs.Rows.{end_text, order_row}
 use Rattle.bike_readings.specs.Readings.{type_read, station_read, truck_read, order_read}
 use Rattle.bike_readings.proofs.FleetRows.{order_reading}
-use Rattle.bike_rules.specs.ReadOff.{operator_of}
-use Rattle.bike_rules.specs.Rules.{AreInOrder, IsGoodKey}
-use Rattle.bike_rules.specs.Demands.{IsGoodOrder}
+use Rattle.bike_readings.specs.ReadOff.{operator_of}
+use Rattle.bike_readings.specs.Rules.{AreInOrder, IsGoodKey}
+use Rattle.bike_readings.specs.Demands.{IsGoodOrder}
 use Rattle.bike_judges.specs.declared.query.Query.TheVariants as query
 use Rattle.bike_judges.specs.Lines.{lines_of, or_nulls, with_two}
 use Rattle.bike_judges.specs.Passes.{first_failing, pass, Demands}

@@ -14,9 +14,9 @@ use Rattle.bike_book.specs.Tables.{Tables, Trucks, Bikes}
 use Rattle.bike_book.specs.Rows.{number_value}
 use Rattle.bike_readings.specs.Readings.{truck_read}
 use Rattle.bike_readings.proofs.FleetRows.{truck_reading}
-use Rattle.bike_rules.specs.ReadOff.{operator_of}
-use Rattle.bike_rules.specs.Rules.{AreInOrder, IsGoodKey}
-use Rattle.bike_rules.specs.Demands.{IsGoodTruck}
+use Rattle.bike_readings.specs.ReadOff.{operator_of}
+use Rattle.bike_readings.specs.Rules.{AreInOrder, IsGoodKey}
+use Rattle.bike_readings.specs.Demands.{IsGoodTruck}
 use Rattle.bike_judges.specs.declared.query.Query.TheVariants as query
 use Rattle.bike_judges.specs.declared.pass.Opening.TheVariants.{Head, Item}
 use Rattle.bike_judges.specs.Lines.{lines_of, head, nulls, truck_line, truck_bike_line}

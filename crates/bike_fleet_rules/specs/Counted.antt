@@ -8,7 +8,7 @@ use Rattle.bike_operator.specs.declared.records.Place.TheVariants as place
 use Rattle.bike_operator.specs.declared.records.Bike.{Bike}
 use Rattle.bike_schema.specs.Columns.{ident_in, state_in}
 use Rattle.bike_readings.specs.ColumnReaders.{numbered_in, in_dock, in_rental, on_truck}
-use Rattle.bike_rules.specs.ReadOff.{first_of, bike_in}
+use Rattle.bike_readings.specs.ReadOff.{first_of, bike_in}
 
 -- the bicycle that a row counts
 unfoldable pub counted_in : Row → Option (ℕ × Bike)

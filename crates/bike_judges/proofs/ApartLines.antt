@@ -19,7 +19,7 @@ use Rattle.bike_rows.proofs.SortLemmas.{AreApartAll}
 use Rattle.bike_rows.proofs.TreeLemmas.{by_key_total}
 use Rattle.bike_book.proofs.Keys.{value_cmp-number_value}
 use Rattle.bike_book.specs.Tables.{TableName, Tables, rows_in, keys_of, Stations, Docks, Bikes, Trucks, Riders, Rentals, Orders, Entries}
-use Rattle.bike_rules.specs.Rules.{AreInOrder}
+use Rattle.bike_readings.specs.Rules.{AreInOrder}
 use Rattle.bike_judges.specs.Lines.{line, station_line, station_dock_line, station_bike_line, truck_line, truck_bike_line, rider_line, rider_rental_line, rider_entry_line, rental_line, rental_entry_line, order_line, order_bike_line}
 
 -- Each row has the columns of its key.

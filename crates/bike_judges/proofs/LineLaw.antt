@@ -11,8 +11,8 @@ use Rattle.bike_rows.specs.View.{by_key}
 use Rattle.bike_rows.proofs.OrderLemmas.{Rises, all_has}
 use Rattle.bike_rows.proofs.TreeLemmas.{by_key_total}
 use Rattle.bike_book.specs.Tables.{TableName, Tables, rows_in, keys_of}
-use Rattle.bike_rules.specs.Rules.{AreInOrder, row_under, rows_below}
-use Rattle.bike_rules.proofs.Places.{lesser, lesser_before, has_under, under_has}
+use Rattle.bike_readings.specs.Rules.{AreInOrder, row_under, rows_below}
+use Rattle.bike_readings.proofs.Places.{lesser, lesser_before, has_under, under_has}
 use Rattle.bike_judges.specs.Passes.{first_failing, OfRow, Demands}
 use Rattle.bike_judges.specs.Verdicts.{IsFirstFailing}
 

@@ -17,7 +17,7 @@ use Rattle.bike_book.specs.Tables.{TableName, Tables, rows_in, keys_of, Meta, Sy
 use Rattle.bike_schema.specs.Layouts.{layout_of}
 use Rattle.bike_schema.specs.Tables.{tables_of, HasTables}
 use Rattle.bike_schema.proofs.MakesLemmas.{rows_of_table}
-use Rattle.bike_rules.specs.Rules.{AreInOrder}
+use Rattle.bike_readings.specs.Rules.{AreInOrder}
 use Rattle.bike_judges.specs.declared.pass.Opening.{Opening}
 use Rattle.bike_judges.specs.declared.query.Query.TheVariants as query
 use Rattle.bike_judges.specs.Lines.{lines_of, station_line, station_dock_line, station_bike_line, truck_line, truck_bike_line, rider_line, rider_rental_line, rider_entry_line, rental_line, rental_entry_line, order_line, order_bike_line}

@@ -20,7 +20,7 @@ use Rattle.bike_rows.proofs.TreeLemmas.{by_key_total}
 use Rattle.bike_rows.proofs.SortLemmas.{AreApartAll, order_permutes}
 use Rattle.bike_book.proofs.Keys.{value_cmp-number_value}
 use Rattle.bike_book.specs.Tables.{TableName, Tables, rows_in, keys_of}
-use Rattle.bike_rules.specs.Rules.{AreInOrder}
+use Rattle.bike_readings.specs.Rules.{AreInOrder}
 use Rattle.bike_judges.specs.declared.pass.Opening.{Opening}
 use Rattle.bike_judges.specs.declared.pass.Opening.TheVariants.{Head, Unread, Item}
 use Rattle.bike_judges.specs.Lines.{head, merged, merged_of_three}

@@ -2,7 +2,7 @@
 use Rattle.std.specs.Prelude.{◌≡◌, ℕ, suc, List, [], ◌∷◌, fold, if◌then◌else◌, Bool, true, false, Option, Some, None, option_map}
 use Rattle.sqlite_value.specs.Order.{Row}
 use Rattle.bike_book.specs.Tables.{TableName, Tables}
-use Rattle.bike_rules.specs.Rules.{row_under, rows_below}
+use Rattle.bike_readings.specs.Rules.{row_under, rows_below}
 use Rattle.bike_judges.specs.declared.pass.Opening.{Opening}
 use Rattle.bike_judges.specs.declared.pass.Opening.TheVariants.{Head, Unread, Item}
 

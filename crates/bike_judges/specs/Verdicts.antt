@@ -5,7 +5,7 @@ use Rattle.sqlite_value.specs.Order.{Row, row_cmp}
 use Rattle.sqlite.specs.Effect.{Database}
 use Rattle.bike_book.specs.Tables.{TableName, Tables, keys_of, table_place}
 use Rattle.bike_schema.specs.Tables.{tables_of}
-use Rattle.bike_rules.specs.Rules.{IsGoodKey, row_under}
+use Rattle.bike_readings.specs.Rules.{IsGoodKey, row_under}
 use Rattle.bike_judges.specs.declared.key.BadKey.{BadKey}
 use Rattle.bike_judges.specs.Judging.{key_row}
 

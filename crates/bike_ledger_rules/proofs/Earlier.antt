@@ -15,13 +15,13 @@ use Rattle.bike_readings.specs.Readings.{plan_read, station_read, bike_read, rid
 use Rattle.bike_readings.proofs.CatalogueRows.{plan_reading, station_reading}
 use Rattle.bike_readings.proofs.FleetRows.{bike_reading}
 use Rattle.bike_readings.proofs.LedgerRows.{rider_reading}
-use Rattle.bike_rules.specs.ReadOff.{operator_of, plan_in, station_in, bike_in, rider_in, with_segments, first_of, misplaced_bike}
-use Rattle.bike_rules.specs.Demands.{IsGoodPlan, IsGoodStation, IsGoodBike, IsGoodRider}
-use Rattle.bike_rules.specs.Rules.{AreInOrder, IsGoodRow, IsGoodAt, rows_below}
-use Rattle.bike_rules.proofs.Places.{has_under}
-use Rattle.bike_rules.proofs.ReadLists.{IsStored, AreRowsOf, read_map}
-use Rattle.bike_rules.proofs.ReadRows.{stored_plain, stored_part}
-use Rattle.bike_rules.proofs.RowRules.{some_with}
+use Rattle.bike_readings.specs.ReadOff.{operator_of, plan_in, station_in, bike_in, rider_in, with_segments, first_of, misplaced_bike}
+use Rattle.bike_readings.specs.Demands.{IsGoodPlan, IsGoodStation, IsGoodBike, IsGoodRider}
+use Rattle.bike_readings.specs.Rules.{AreInOrder, IsGoodRow, IsGoodAt, rows_below}
+use Rattle.bike_readings.proofs.Places.{has_under}
+use Rattle.bike_readings.proofs.ReadLists.{IsStored, AreRowsOf, read_map}
+use Rattle.bike_readings.proofs.ReadRows.{stored_plain, stored_part}
+use Rattle.bike_readings.proofs.RowRules.{some_with}
 use Rattle.bike_judges.specs.Lines.{or_nulls}
 use Rattle.bike_judges.specs.Verdicts.{EarlierGood}
 use Rattle.bike_ledger_rules.proofs.Lookups.{reads_partner}

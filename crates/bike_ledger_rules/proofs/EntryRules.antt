@@ -25,12 +25,12 @@ use Rattle.bike_book.specs.Stored.{stored_rental}
 use Rattle.bike_book.proofs.Keys.{number_key}
 use Rattle.bike_readings.specs.Readings.{rider_read, rental_read, entry_read}
 use Rattle.bike_readings.proofs.LedgerRows.{rental_reading, entry_reading}
-use Rattle.bike_rules.specs.ReadOff.{operator_of, rental_in}
-use Rattle.bike_rules.specs.Demands.{IsGoodRental}
-use Rattle.bike_rules.specs.Rules.{AreInOrder, rows_below}
-use Rattle.bike_rules.proofs.ByNumber.{at_number}
-use Rattle.bike_rules.proofs.ReadRows.{stored_part, AreRowsOfList, read_list}
-use Rattle.bike_rules.proofs.RowRules.{some_with}
+use Rattle.bike_readings.specs.ReadOff.{operator_of, rental_in}
+use Rattle.bike_readings.specs.Demands.{IsGoodRental}
+use Rattle.bike_readings.specs.Rules.{AreInOrder, rows_below}
+use Rattle.bike_readings.proofs.ByNumber.{at_number}
+use Rattle.bike_readings.proofs.ReadRows.{stored_part, AreRowsOfList, read_list}
+use Rattle.bike_readings.proofs.RowRules.{some_with}
 use Rattle.bike_judges.specs.Lines.{part, or_nulls}
 use Rattle.bike_ledger_rules.specs.declared.open_rentals.OpenRentals.{OpenRentals}
 use Rattle.bike_ledger_rules.specs.Entries.{with_open, is_paid, is_closed_for, is_of, is_booked, entry_holds, entry_names, entry_line}

@@ -29,13 +29,13 @@ use Rattle.bike_schema.specs.Tables.{tables_of, IsOurs}
 use Rattle.bike_readings.specs.Bounds.{IsStoredRentalOf, IsStoredAmount}
 use Rattle.bike_readings.specs.Readings.{entry_read}
 use Rattle.bike_readings.proofs.LedgerRows.{entry_reading}
-use Rattle.bike_rules.specs.ReadOff.{operator_of}
-use Rattle.bike_rules.specs.Demands.{IsGoodEntry, IsOneFare, IsFirstFare}
-use Rattle.bike_rules.specs.Rules.{AreInOrder, IsGoodKey, IsGoodAt, rows_below, row_under}
-use Rattle.bike_rules.proofs.Places.{has_under, under_has, has_between, lesser_before}
-use Rattle.bike_rules.proofs.ReadLists.{read_of, has_read}
-use Rattle.bike_rules.proofs.RowRules.{some_with, some_and}
-use Rattle.bike_rules.proofs.RulesLaws.{stored_in_order}
+use Rattle.bike_readings.specs.ReadOff.{operator_of}
+use Rattle.bike_readings.specs.Demands.{IsGoodEntry, IsOneFare, IsFirstFare}
+use Rattle.bike_readings.specs.Rules.{AreInOrder, IsGoodKey, IsGoodAt, rows_below, row_under}
+use Rattle.bike_readings.proofs.Places.{has_under, under_has, has_between, lesser_before}
+use Rattle.bike_readings.proofs.ReadLists.{read_of, has_read}
+use Rattle.bike_readings.proofs.RowRules.{some_with, some_and}
+use Rattle.bike_readings.proofs.RulesLaws.{stored_in_order}
 use Rattle.bike_judges.specs.declared.key.BadKey.{BadKey}
 use Rattle.bike_judges.specs.Judging.{key_row}
 use Rattle.bike_judges.specs.declared.query.Query.TheVariants as query

@@ -25,9 +25,9 @@ use Rattle.bike_book.specs.Rows.{number_value}
 use Rattle.bike_book.proofs.Keys.{numbers, number_key, value_cmp-number_value}
 use Rattle.bike_readings.specs.Readings.{entry_read}
 use Rattle.bike_readings.proofs.LedgerRows.{entry_reading}
-use Rattle.bike_rules.specs.Rules.{AreInOrder, row_under}
-use Rattle.bike_rules.proofs.Places.{has_under, under_has}
-use Rattle.bike_rules.proofs.ReadLists.{read_of, has_read}
+use Rattle.bike_readings.specs.Rules.{AreInOrder, row_under}
+use Rattle.bike_readings.proofs.Places.{has_under, under_has}
+use Rattle.bike_readings.proofs.ReadLists.{read_of, has_read}
 use Rattle.bike_judges.specs.declared.query.Query.TheVariants as query
 use Rattle.bike_judges.specs.Lines.{lines_of, rental_line, rental_entry_line}
 use Rattle.bike_judges.specs.Verdicts.{IsFirstFailing}

@@ -7,7 +7,7 @@ use Rattle.sqlite_value.specs.Order.{Row}
 use Rattle.bike_ledger.specs.Entries.{Entry}
 use Rattle.bike_operator.specs.declared.records.Rental.{Rental}
 use Rattle.bike_readings.specs.Readings.{rental_read, entry_read}
-use Rattle.bike_rules.specs.ReadOff.{rental_in, entry_in}
+use Rattle.bike_readings.specs.ReadOff.{rental_in, entry_in}
 use Rattle.bike_judges.specs.Lines.{nulls}
 
 pub fold_append : {A B : Type 0} (f : B → A → B) (b : B) (xs ys : List A) → fold f b (xs ++ ys) ≡ fold f (fold f b xs) ys

@@ -9,7 +9,7 @@ use Rattle.sqlite_value.specs.Order.{Row}
 use Rattle.sqlite_rules.specs.Lists.{Has}
 use Rattle.bike_rows.specs.View.{row_with}
 use Rattle.bike_book.proofs.MapRows.{StoresKeys, BeginsWithKey, found_entries}
-use Rattle.bike_rules.proofs.ReadLists.{IsStored, AreRowsOf}
+use Rattle.bike_readings.proofs.ReadLists.{IsStored, AreRowsOf}
 use Rattle.bike_judges.specs.Lines.{nulls, or_nulls}
 
 module _ {K X : Type 0} {R : K → K → Ordering} {keys : ℕ} {key_row : K → Row} {IsGood : K → Type 0} (h : StoresKeys R keys key_row IsGood) (every : (k : K) → IsGood k) (row : K × X → Row) (begins : BeginsWithKey h row)

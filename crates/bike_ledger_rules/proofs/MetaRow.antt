@@ -12,11 +12,11 @@ use Rattle.bike_schema.specs.declared.fault.StatementFault.{StatementFault}
 use Rattle.bike_schema.proofs.AnswerLemmas.{FindsIn, keyed_in}
 use Rattle.bike_readings.specs.Readings.{meta_read}
 use Rattle.bike_readings.proofs.ColumnLaws.{moment_column}
-use Rattle.bike_rules.specs.ReadOff.{operator_of, moment_of}
-use Rattle.bike_rules.specs.Demands.{IsGoodMeta}
-use Rattle.bike_rules.specs.Rules.{AreInOrder, IsGoodAt, rows_below}
-use Rattle.bike_rules.proofs.Places.{under_has, has_under}
-use Rattle.bike_rules.proofs.ReadRows.{meta_are}
+use Rattle.bike_readings.specs.ReadOff.{operator_of, moment_of}
+use Rattle.bike_readings.specs.Demands.{IsGoodMeta}
+use Rattle.bike_readings.specs.Rules.{AreInOrder, IsGoodAt, rows_below}
+use Rattle.bike_readings.proofs.Places.{under_has, has_under}
+use Rattle.bike_readings.proofs.ReadRows.{meta_are}
 use Rattle.bike_ledger_rules.specs.Lines.{MetaGood}
 
 pub finds_meta : FindsIn (codes "SELECT * FROM meta WHERE one = ?1") (number_value 1 ∷ []) (λ t. row_with 1 (number_value 1 ∷ []) t.meta)

@@ -21,9 +21,9 @@ use Rattle.bike_places.proofs.CountLemmas.{one, weight}
 use Rattle.bike_book.specs.Tables.{Tables}
 use Rattle.bike_readings.specs.Readings.{entry_read, rental_read}
 use Rattle.bike_readings.proofs.LedgerRows.{entry_reading}
-use Rattle.bike_rules.specs.ReadOff.{operator_of}
-use Rattle.bike_rules.specs.Demands.{HasFare}
-use Rattle.bike_rules.proofs.Fares.{is_fare_of}
+use Rattle.bike_readings.specs.ReadOff.{operator_of}
+use Rattle.bike_readings.specs.Demands.{HasFare}
+use Rattle.bike_readings.proofs.Fares.{is_fare_of}
 use Rattle.bike_judges.specs.Lines.{rental_entry_line}
 use Rattle.bike_judges.specs.Passes.{is_good_with}
 use Rattle.bike_ledger_rules.specs.declared.rental_entries.RentalAccount.{RentalAccount}

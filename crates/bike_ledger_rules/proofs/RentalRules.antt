@@ -23,8 +23,8 @@ use Rattle.bike_book.specs.Tables.{Tables, Plans, Stations, Bikes, Riders}
 use Rattle.bike_book.specs.Rows.{closing_columns}
 use Rattle.bike_readings.specs.Readings.{rider_read, bike_read, plan_read, station_read, rental_read}
 use Rattle.bike_readings.proofs.LedgerRows.{rental_reading}
-use Rattle.bike_rules.specs.ReadOff.{operator_of}
-use Rattle.bike_rules.specs.Rules.{AreInOrder}
+use Rattle.bike_readings.specs.ReadOff.{operator_of}
+use Rattle.bike_readings.specs.Rules.{AreInOrder}
 use Rattle.bike_judges.specs.Lines.{part, or_nulls}
 use Rattle.bike_ledger_rules.specs.Rentals.{is_in, is_out, names_hold, rental_names, starts_hold, rental_starts, stops, closes, ends_hold, rental_ends, names_line, starts_line, ends_line}
 use Rattle.bike_ledger_rules.proofs.Earlier.{AreGood, rider_partner, bike_partner, plan_partner, station_partner}

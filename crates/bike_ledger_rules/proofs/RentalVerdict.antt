@@ -15,11 +15,11 @@ use Rattle.bike_schema.specs.Tables.{tables_of, IsOurs}
 use Rattle.bike_readings.specs.Bounds.{IsOpenOrStored}
 use Rattle.bike_readings.specs.Readings.{rental_read}
 use Rattle.bike_readings.proofs.LedgerRows.{rental_reading}
-use Rattle.bike_rules.specs.ReadOff.{operator_of}
-use Rattle.bike_rules.specs.Demands.{IsGoodRental}
-use Rattle.bike_rules.specs.Rules.{AreInOrder, rows_below}
-use Rattle.bike_rules.proofs.RulesLaws.{stored_in_order}
-use Rattle.bike_rules.proofs.RowRules.{some_with, some_is, some_and}
+use Rattle.bike_readings.specs.ReadOff.{operator_of}
+use Rattle.bike_readings.specs.Demands.{IsGoodRental}
+use Rattle.bike_readings.specs.Rules.{AreInOrder, rows_below}
+use Rattle.bike_readings.proofs.RulesLaws.{stored_in_order}
+use Rattle.bike_readings.proofs.RowRules.{some_with, some_is, some_and}
 use Rattle.bike_judges.specs.declared.key.BadKey.{BadKey}
 use Rattle.bike_judges.specs.declared.query.Query.TheVariants as query
 use Rattle.bike_judges.specs.Judging.{key_row}

@@ -17,9 +17,9 @@ use Rattle.bike_book.specs.Tables.{Tables, Riders}
 use Rattle.bike_readings.specs.Readings.{rider_read, entry_read}
 use Rattle.bike_readings.specs.Bounds.{IsNumbered}
 use Rattle.bike_readings.proofs.LedgerRows.{rider_reading}
-use Rattle.bike_rules.specs.ReadOff.{operator_of}
-use Rattle.bike_rules.specs.Demands.{IsRiding, IsGoodRider}
-use Rattle.bike_rules.specs.Rules.{IsGoodRow}
+use Rattle.bike_readings.specs.ReadOff.{operator_of}
+use Rattle.bike_readings.specs.Demands.{IsRiding, IsGoodRider}
+use Rattle.bike_readings.specs.Rules.{IsGoodRow}
 use Rattle.bike_judges.specs.Lines.{rider_line, rider_rental_line, rider_entry_line}
 use Rattle.bike_judges.specs.Passes.{is_good_with, Demands}
 use Rattle.bike_judges.specs.Verdicts.{IsFirstFailing, IsTableVerdict}

@@ -7,8 +7,8 @@ use Rattle.bike_rows.proofs.SortLemmas.{AreApartAll}
 use Rattle.bike_rows.proofs.TreeLemmas.{by_key_total}
 use Rattle.bike_book.specs.Tables.{Tables, Riders, Rentals, Entries}
 use Rattle.bike_schema.specs.Tables.{tables_of, IsOurs}
-use Rattle.bike_rules.specs.Rules.{AreInOrder}
-use Rattle.bike_rules.proofs.RulesLaws.{stored_in_order}
+use Rattle.bike_readings.specs.Rules.{AreInOrder}
+use Rattle.bike_readings.proofs.RulesLaws.{stored_in_order}
 use Rattle.bike_judges.specs.declared.key.BadKey.{BadKey}
 use Rattle.bike_judges.specs.declared.query.Query.TheVariants as query
 use Rattle.bike_judges.specs.Judging.{key_row}

@@ -3,9 +3,9 @@ use Rattle.std.proofs.Common.{◌≡◌, ℕ, Bool, true, Option, Some, None, re
 use Rattle.sqlite_value.specs.Order.{Row}
 use Rattle.sqlite_rules.specs.Lists.{Has}
 use Rattle.bike_book.specs.Tables.{TableName, Tables, rows_in, keys_of}
-use Rattle.bike_rules.specs.ReadOff.{operator_of}
-use Rattle.bike_rules.specs.Rules.{row_under, rows_below, IsGoodRow, MayLack, IsGoodAt, IsGoodKey}
-use Rattle.bike_rules.proofs.Places.{under_has}
+use Rattle.bike_readings.specs.ReadOff.{operator_of}
+use Rattle.bike_readings.specs.Rules.{row_under, rows_below, IsGoodRow, MayLack, IsGoodAt, IsGoodKey}
+use Rattle.bike_readings.proofs.Places.{under_has}
 use Rattle.bike_judges.specs.Passes.{OfRow, Demands}
 use Rattle.bike_judges.specs.Verdicts.{IsFirstFailing, IsTableVerdict}
 

@@ -15,7 +15,7 @@ use Rattle.bike_book.specs.Tables.{Tables, Entries}
 use Rattle.sqlite_rules.specs.Lists.{Has}
 use Rattle.sqlite.specs.Effect.{Database}
 use Rattle.bike_schema.specs.Tables.{tables_of}
-use Rattle.bike_rules.specs.Rules.{row_under}
+use Rattle.bike_readings.specs.Rules.{row_under}
 use Rattle.bike_judges.specs.declared.key.BadKey.{BadKey}
 use Rattle.bike_judges.specs.declared.query.Query.TheVariants as query
 use Rattle.bike_judges.specs.Judging.{key_row}

@@ -7,7 +7,7 @@ use Rattle.sqlite_value.specs.Order.{Row}
 use Rattle.sqlite.specs.Effect.{Database}
 use Rattle.bike_book.specs.Tables.{TableName, Tables, Meta}
 use Rattle.bike_schema.specs.Tables.{tables_of}
-use Rattle.bike_rules.specs.Rules.{IsGoodKey}
+use Rattle.bike_readings.specs.Rules.{IsGoodKey}
 use Rattle.bike_judges.specs.declared.key.BadKey.{BadKey}
 use Rattle.bike_judges.specs.Judging.{key_row}
 use Rattle.bike_judges.specs.Passes.{Demands}

@@ -4,7 +4,7 @@ ghost use Rattle.std.specs.Prelude.{◌≡◌, [], ◌∷◌};
 ghost use Rattle.bike_book.specs.Rows.{number_value};
 ghost use Rattle.bike_rows.specs.Calls.{ReadsWhere};
 ghost use Rattle.bike_rows.specs.View.{row_with};
-ghost use Rattle.bike_rules.specs.ReadOff.{moment_of};
+ghost use Rattle.bike_readings.specs.ReadOff.{moment_of};
 ghost use Rattle.bike_schema.specs.Tables.{IsOurs, tables_of};
 ghost use Rattle.bike_ledger_rules.specs.Lines.{MetaGood};
 

@@ -12,7 +12,7 @@ use Rattle.bike_operator.specs.Steps.{key_changed, dock_marked}
 use Rattle.bike_operator.specs.Sound.{AreBikesSound}
 use Rattle.bike_catalogue.specs.Rows.{StationRow}
 use Rattle.bike_places.proofs.MapLemmas.{number_order, text_order, IsKept, Same, Turned, kept_changed, known_changed}
-use Rattle.bike_counts.specs.Laws.{place_shares, IsAway}
+use Rattle.bike_places.specs.Laws.{place_shares, IsAway}
 use Rattle.bike_book.specs.Between.{docks_left}
 use Rattle.bike_moves.specs.Facts.{DockTotals, BikeTotals, HasDockTotals, HasBikeTotals, BikesMove, IsMarkedEmpty, IsMarkedHeld}
 use Rattle.bike_moves.specs.AfterLaws.{Always, DocksStay, BikesStay, AfterReport, AfterPlace, AfterPlaceAway, AfterPlaceAt, AfterTurn, AfterTurnAway, AfterTurnAt, AfterMarkEmpty, AfterMarkHeld}

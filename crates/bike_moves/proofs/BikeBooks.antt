@@ -10,8 +10,8 @@ use Rattle.bike_operator.specs.declared.change.NewPlace.{NewPlace}
 use Rattle.bike_operator.specs.Operator.{Operator}
 use Rattle.bike_operator.specs.Counts.{available_of}
 use Rattle.bike_operator.specs.Changes.{place_of}
-use Rattle.bike_counts.specs.Numbers.{disabled_of}
-use Rattle.bike_counts.specs.Laws.{IsAway}
+use Rattle.bike_places.specs.Numbers.{disabled_of}
+use Rattle.bike_places.specs.Laws.{IsAway}
 use Rattle.bike_book.specs.declared.row_change.RowChange.TheVariants as row
 use Rattle.bike_book.specs.Tables.{Tables}
 use Rattle.bike_book.specs.Stored.{Listed, IsListing, stored_count}

@@ -15,10 +15,10 @@ use Rattle.bike_operator.specs.declared.records.Bike.{Bike}
 use Rattle.bike_operator.specs.Operator.{Operator, Station}
 use Rattle.bike_operator.specs.Counts.{available_of}
 use Rattle.bike_operator.specs.Steps.{found_changed, key_changed}
-use Rattle.bike_counts.specs.Numbers.{disabled_of, occupied}
-use Rattle.bike_counts.specs.Laws.{IsMoved, available_share, disabled_share, occupied_share, place_shares, IsAway, IsMarkedAt, ShareLaw, HasPut, PutLaw}
-use Rattle.bike_counts.proofs.PutLaw.{put_law}
-use Rattle.bike_counts.proofs.ShareLaw.{away_at, no_occupied, no_available, no_disabled, share_law}
+use Rattle.bike_places.specs.Numbers.{disabled_of, occupied}
+use Rattle.bike_places.specs.Laws.{IsMoved, available_share, disabled_share, occupied_share, place_shares, IsAway, IsMarkedAt, ShareLaw, HasPut, PutLaw}
+use Rattle.bike_places.proofs.PutLaw.{put_law}
+use Rattle.bike_places.proofs.ShareLaw.{away_at, no_occupied, no_available, no_disabled, share_law}
 use Rattle.bike_book.specs.Rows.{number_value, state_number, place_columns, bike_row}
 use Rattle.bike_book.specs.Stored.{stored_bike}
 use Rattle.bike_book.specs.Writes.{Columns, columns_from}

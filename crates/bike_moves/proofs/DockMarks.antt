@@ -14,11 +14,11 @@ use Rattle.bike_operator.specs.Steps.{dock_marked}
 use Rattle.bike_operator.specs.Sound.{HasDock, AreBikesSound}
 use Rattle.bike_places.proofs.CountLemmas.{found_by}
 use Rattle.bike_places.proofs.MapLemmas.{number_order, texts_order}
-use Rattle.bike_counts.specs.Numbers.{disabled_of, occupied}
-use Rattle.bike_counts.specs.Laws.{one, IsMoved, available_share, disabled_share, occupied_share, Shares, dock_shares, place_shares, IsMarkedAt, ShareLaw, docked_bike, HasMarked, MarkLaw}
-use Rattle.bike_counts.proofs.DockLaw.{dock_is}
-use Rattle.bike_counts.proofs.ShareLaw.{share_law}
-use Rattle.bike_counts.proofs.MarkLaw.{mark_law}
+use Rattle.bike_places.specs.Numbers.{disabled_of, occupied}
+use Rattle.bike_places.specs.Laws.{one, IsMoved, available_share, disabled_share, occupied_share, Shares, dock_shares, place_shares, IsMarkedAt, ShareLaw, docked_bike, HasMarked, MarkLaw}
+use Rattle.bike_places.proofs.DockLaw.{dock_is}
+use Rattle.bike_places.proofs.ShareLaw.{share_law}
+use Rattle.bike_places.proofs.MarkLaw.{mark_law}
 use Rattle.bike_book.specs.Between.{docks_left}
 use Rattle.bike_moves.specs.Facts.{DockTotals, BikeTotals, IsMarkedEmpty, IsMarkedHeld}
 use Rattle.bike_moves.proofs.TotalsRows.{HasTotalsAt, totals_at, SameDocks, SameBikes, SameBikesElsewhere}

@@ -5,7 +5,7 @@ use Rattle.std.proofs.lemmas.Int.{ints}
 use Rattle.bike_operator.specs.Operator.{Operator, Station}
 use Rattle.bike_operator.specs.Counts.{docks_available, docks_broken}
 use Rattle.bike_operator.specs.Sound.{AreBikesSound}
-use Rattle.bike_counts.proofs.DockLaw.{docks_law}
+use Rattle.bike_places.proofs.DockLaw.{docks_law}
 use Rattle.bike_book.specs.Rows.{station_row}
 use Rattle.bike_book.specs.Stored.{Listed, stored_station, tables_for}
 use Rattle.bike_book.specs.Writes.{writes_of, tables_after_all}

@@ -8,8 +8,8 @@ use Rattle.bike_operator.specs.Operator.{Operator, dock_key}
 use Rattle.bike_operator.specs.Counts.{available_of}
 use Rattle.bike_operator.specs.Steps.{dock_marked}
 use Rattle.bike_operator.specs.Sound.{AreBikesSound}
-use Rattle.bike_counts.specs.Numbers.{disabled_of}
-use Rattle.bike_counts.proofs.MarkLaw.{marked_here, marked_other}
+use Rattle.bike_places.specs.Numbers.{disabled_of}
+use Rattle.bike_places.proofs.MarkLaw.{marked_here, marked_other}
 use Rattle.bike_book.specs.declared.row_change.RowChange.TheVariants as row
 use Rattle.bike_book.specs.Tables.{Tables}
 use Rattle.bike_book.specs.Stored.{Listed, IsListing, stored_dock, stored_count}

@@ -11,7 +11,7 @@ use Rattle.bike_rows.specs.View.{put_row_by, updated, with_values}
 use Rattle.bike_operator.specs.Operator.{Operator, Station, Key, DockKey, text_cmp, texts_cmp, key_of, dock_key}
 use Rattle.bike_operator.specs.Counts.{is_broken, available_of, docks_broken}
 use Rattle.bike_places.proofs.MapLemmas.{text_order, texts_order, there_of}
-use Rattle.bike_counts.specs.Numbers.{disabled_of}
+use Rattle.bike_places.specs.Numbers.{disabled_of}
 use Rattle.bike_book.specs.declared.row_change.RowChange.TheVariants as row
 use Rattle.bike_book.specs.Tables.{Tables}
 use Rattle.bike_book.specs.Rows.{truth, number_value, station_row, dock_row, count_row}

@@ -9,7 +9,7 @@ use Rattle.bike_operator.specs.declared.change.Change.TheVariants as change
 use Rattle.bike_operator.specs.Operator.{Operator}
 use Rattle.bike_operator.specs.Changes.{changed, place_of}
 use Rattle.bike_operator.specs.Sound.{AreBikesSound}
-use Rattle.bike_counts.specs.Laws.{IsAway}
+use Rattle.bike_places.specs.Laws.{IsAway}
 use Rattle.bike_moves.specs.Facts.{DockTotals, BikeTotals, HasDockTotals, HasBikeTotals, IsPlacedAt, IsTurnedAt, IsMarkedEmpty, IsMarkedHeld}
 use Rattle.bike_moves.specs.MoveLaws.{mark_change}
 

@@ -7,8 +7,8 @@ use Rattle.bike_operator.specs.declared.records.Bike.{Bike}
 use Rattle.bike_operator.specs.Operator.{Operator, Station}
 use Rattle.bike_operator.specs.Counts.{is_broken, docked_at, available_of, docks_broken}
 use Rattle.bike_operator.specs.Sound.{HasDock}
-use Rattle.bike_counts.specs.Numbers.{disabled_of}
-use Rattle.bike_counts.specs.Laws.{one, IsMoved, Shares, dock_shares, place_shares, IsMarkedAt}
+use Rattle.bike_places.specs.Numbers.{disabled_of}
+use Rattle.bike_places.specs.Laws.{one, IsMoved, Shares, dock_shares, place_shares, IsMarkedAt}
 use Rattle.bike_book.specs.Between.{docks_left}
 
 -- ---- the stored numbers

@@ -10,7 +10,7 @@ use Rattle.bike_operator.specs.declared.change.Change.TheVariants as change
 use Rattle.bike_operator.specs.Operator.{Operator, key_of, dock_key}
 use Rattle.bike_operator.specs.Changes.{changed, place_of}
 use Rattle.bike_operator.specs.Sound.{AreBikesSound}
-use Rattle.bike_counts.specs.Laws.{IsAway}
+use Rattle.bike_places.specs.Laws.{IsAway}
 use Rattle.bike_book.specs.declared.row_change.RowChange.{RowChange}
 use Rattle.bike_book.specs.declared.row_change.RowChange.TheVariants as row
 use Rattle.bike_book.specs.Stored.{Listed}

@@ -11,3 +11,10 @@ pub mod OrderLaw
 pub mod OrderLemmas
 pub mod TestLemmas
 pub mod UnloadLemmas
+pub mod StoredTestLemmas
+pub mod Members
+pub mod StoredCountLemmas
+pub mod DockLaw
+pub mod PutLaw
+pub mod MarkLaw
+pub mod ShareLaw

@@ -1,1 +1,3 @@
 pub mod Accepted
+pub mod Numbers
+pub mod Laws

@@ -15,9 +15,9 @@ use Rattle.bike_operator.specs.Counts.{count, is_at, is_available, available, av
 use Rattle.bike_operator.specs.Sound.{IsSound}
 use Rattle.bike_places.proofs.MapLemmas.{number_order, text_order, tied, there_of}
 use Rattle.bike_places.proofs.CountLemmas.{count-cons}
-use Rattle.bike_counts.specs.Laws.{one}
-use Rattle.bike_counts.specs.Numbers.{disabled_of}
-use Rattle.bike_counts.proofs.Members.{Has, both, below_has, has_get}
+use Rattle.bike_places.specs.Laws.{one}
+use Rattle.bike_places.specs.Numbers.{disabled_of}
+use Rattle.bike_places.proofs.Members.{Has, both, below_has, has_get}
 
 -- ---- sums
 

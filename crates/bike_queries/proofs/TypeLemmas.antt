@@ -11,7 +11,7 @@ use Rattle.bike_catalogue.specs.Rows.{TypeRow}
 use Rattle.bike_operator.specs.Operator.{Operator, Station}
 use Rattle.bike_operator.specs.Counts.{available_of}
 use Rattle.bike_operator.specs.Sound.{IsSound}
-use Rattle.bike_counts.specs.Numbers.{disabled_of}
+use Rattle.bike_places.specs.Numbers.{disabled_of}
 use Rattle.bike_book.specs.Tables.{Types}
 use Rattle.bike_book.specs.Stored.{stored_type}
 use Rattle.bike_schema.specs.Columns.{ident_in}

@@ -9,7 +9,7 @@ use Rattle.sqlite_value.specs.Order.{Row, column}
 use Rattle.bike_catalogue.specs.Rows.{TypeRow}
 use Rattle.bike_operator.specs.Operator.{Operator, Station}
 use Rattle.bike_operator.specs.Counts.{available, available_of, disabled, docks_available, docks_broken}
-use Rattle.bike_counts.specs.Numbers.{disabled_of}
+use Rattle.bike_places.specs.Numbers.{disabled_of}
 use Rattle.bike_book.specs.Stored.{stored_type}
 use Rattle.bike_fleet.specs.declared.counts.TypeCounts.{TypeCounts}
 use Rattle.bike_fleet.specs.Fleet.{no_counts, type_counts_of}

@@ -8,3 +8,17 @@ pub mod TextUtf8
 pub mod KeptRows
 mod ReadLemmas
 mod KeptLemmas
+pub mod ReadLists
+pub mod ByNumber
+pub mod Places
+pub mod ReadBack
+pub mod Segments
+pub mod Broken
+pub mod RowRules
+pub mod ReadOffBack
+pub mod Fares
+pub mod GoodRows
+pub mod ReadRows
+pub mod TablesRead
+pub mod ReadSound
+pub mod RulesLaws

@@ -20,7 +20,7 @@ use Rattle.bike_operator.specs.Operator.{Operator, Station, Truck, Rider, item_a
 use Rattle.bike_operator.specs.Counts.{count, docks_up_to, docks_broken, available_of, is_broken}
 use Rattle.bike_operator.specs.View.{has_end}
 use Rattle.bike_operator.specs.Sound.{IsSetSystem, HasDock, IsPlace, IsStop as IsStopOf, IsOpenOrClosed, IsBooking, IsSound}
-use Rattle.bike_counts.specs.Numbers.{disabled_of}
+use Rattle.bike_places.specs.Numbers.{disabled_of}
 use Rattle.bike_places.proofs.ItemLemmas.{number_within}
 use Rattle.bike_book.specs.declared.version.TheConstants.{NEWEST}
 use Rattle.bike_readings.specs.SoundRows.{HasBounds}

@@ -4,3 +4,7 @@ pub mod Bounds
 pub mod BothWays
 pub mod Views
 pub mod SoundRows
+pub mod ReadOff
+pub mod Demands
+pub mod Rules
+pub mod Laws

@@ -16,12 +16,12 @@ use Rattle.bike_book.proofs.Keys.{texts}
 use Rattle.bike_schema.specs.Layouts.{layout_of}
 use Rattle.bike_readings.specs.Readings.{station_read, dock_read}
 use Rattle.bike_readings.proofs.CatalogueRows.{station_reading, dock_reading}
-use Rattle.bike_rules.specs.ReadOff.{operator_of, station_in}
-use Rattle.bike_rules.specs.Demands.{IsGoodDock}
-use Rattle.bike_rules.specs.Rules.{AreInOrder, IsGoodKey}
-use Rattle.bike_rules.proofs.Places.{under_has}
-use Rattle.bike_rules.proofs.RowRules.{some_with}
-use Rattle.bike_rules.proofs.ReadRows.{mapped}
+use Rattle.bike_readings.specs.ReadOff.{operator_of, station_in}
+use Rattle.bike_readings.specs.Demands.{IsGoodDock}
+use Rattle.bike_readings.specs.Rules.{AreInOrder, IsGoodKey}
+use Rattle.bike_readings.proofs.Places.{under_has}
+use Rattle.bike_readings.proofs.RowRules.{some_with}
+use Rattle.bike_readings.proofs.ReadRows.{mapped}
 use Rattle.bike_judges.specs.Lines.{or_nulls, with_one, part, nulls}
 use Rattle.bike_judges.specs.Passes.{Demands}
 use Rattle.bike_station_rules.specs.Docks.{has_dock, is_good_dock}

@@ -14,7 +14,7 @@ use Rattle.bike_readings.specs.ColumnReaders.{numbered_in, dock_in, serial_in, i
 use Rattle.bike_readings.proofs.ColumnLaws.{ident_column}
 use Rattle.std.proofs.lemmas.List.{get_or-take, get_or-drop, length-take, length-drop}
 use Rattle.std.proofs.lemmas.Bool.Decides.{nat_tests}
-use Rattle.bike_rules.specs.ReadOff.{bike_in, first_of, first_place}
+use Rattle.bike_readings.specs.ReadOff.{bike_in, first_of, first_place}
 use Rattle.bike_judges.specs.Lines.{part}
 use Rattle.bike_station_rules.specs.Docked.{dock_of, docked_in, docked_columns}
 

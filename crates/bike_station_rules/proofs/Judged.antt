@@ -5,11 +5,11 @@ use Rattle.sqlite_value.specs.Order.{Row, column}
 use Rattle.bike_rows.proofs.PageLaw.{map_same_list}
 use Rattle.bike_operator.specs.Operator.{Station}
 use Rattle.bike_readings.specs.Readings.{station_read}
-use Rattle.bike_rules.specs.ReadOff.{moment_of}
+use Rattle.bike_readings.specs.ReadOff.{moment_of}
 use Rattle.sqlite.specs.Effect.{Database}
 use Rattle.bike_book.specs.Tables.{Docks, Stations}
 use Rattle.bike_schema.specs.Tables.{tables_of, IsOurs}
-use Rattle.bike_rules.proofs.RulesLaws.{stored_in_order}
+use Rattle.bike_readings.proofs.RulesLaws.{stored_in_order}
 use Rattle.bike_judges.specs.Judging.{key_row}
 use Rattle.bike_judges.specs.Lines.{lines_of, part, station_line, station_dock_line, station_bike_line}
 use Rattle.bike_judges.specs.Passes.{first_failing, pass, Demands}

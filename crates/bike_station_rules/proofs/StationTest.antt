@@ -21,15 +21,15 @@ use Rattle.bike_operator.specs.declared.records.Place.TheVariants as place
 use Rattle.bike_operator.specs.Operator.{Operator, Station, DockKey, texts_cmp, dock_key}
 use Rattle.bike_operator.specs.Counts.{is_dock, docked_at, is_broken, docks_available, docks_broken, docks_up_to}
 use Rattle.bike_places.proofs.MapLemmas.{texts_order, tied}
-use Rattle.bike_counts.proofs.CountLemmas.{count_same}
+use Rattle.bike_places.proofs.StoredCountLemmas.{count_same}
 use Rattle.bike_book.specs.Rows.{number_value}
 use Rattle.bike_book.specs.Tables.{Tables, Stations, Docks, Bikes}
 use Rattle.bike_book.proofs.Keys.{numbers}
 use Rattle.bike_readings.specs.Readings.{dock_read, station_read}
 use Rattle.bike_readings.proofs.CatalogueRows.{dock_reading, station_reading}
 use Rattle.bike_readings.proofs.ColumnLaws.{number_column}
-use Rattle.bike_rules.specs.ReadOff.{operator_of, broken_in, bike_in}
-use Rattle.bike_rules.specs.Rules.{AreInOrder}
+use Rattle.bike_readings.specs.ReadOff.{operator_of, broken_in, bike_in}
+use Rattle.bike_readings.specs.Rules.{AreInOrder}
 use Rattle.bike_judges.specs.Lines.{part, nulls, station_line, station_dock_line, station_bike_line}
 use Rattle.bike_judges.specs.Passes.{is_good_with}
 use Rattle.bike_station_rules.specs.DockSets.{has_bit, many_in, many_in_neither}

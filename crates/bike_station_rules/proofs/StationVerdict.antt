@@ -14,12 +14,12 @@ use Rattle.bike_book.specs.Tables.{Tables, Meta, Stations}
 use Rattle.bike_book.specs.Rows.{number_value}
 use Rattle.bike_readings.specs.Readings.{meta_read, station_read}
 use Rattle.bike_readings.proofs.CatalogueRows.{station_reading}
-use Rattle.bike_rules.specs.ReadOff.{operator_of, moment_of, first}
-use Rattle.bike_rules.specs.Demands.{IsGoodMeta, IsGoodStation}
-use Rattle.bike_rules.specs.Rules.{AreInOrder, row_under, rows_below, IsGoodKey, IsGoodAt}
-use Rattle.bike_rules.proofs.Places.{has_under, under_has}
-use Rattle.bike_rules.proofs.ReadRows.{IsMeta, meta_are}
-use Rattle.bike_rules.proofs.RowRules.{some_with}
+use Rattle.bike_readings.specs.ReadOff.{operator_of, moment_of, first}
+use Rattle.bike_readings.specs.Demands.{IsGoodMeta, IsGoodStation}
+use Rattle.bike_readings.specs.Rules.{AreInOrder, row_under, rows_below, IsGoodKey, IsGoodAt}
+use Rattle.bike_readings.proofs.Places.{has_under, under_has}
+use Rattle.bike_readings.proofs.ReadRows.{IsMeta, meta_are}
+use Rattle.bike_readings.proofs.RowRules.{some_with}
 use Rattle.bike_judges.specs.Passes.{Demands, OfRow}
 use Rattle.bike_judges.specs.Verdicts.{EarlierGood, IsFirstFailing, IsTableVerdict}
 use Rattle.bike_station_rules.specs.StationRows.{is_by, has_room, is_good_station}

@@ -6,7 +6,7 @@ use Rattle.bike_operator.specs.declared.records.Place.{Place}
 use Rattle.bike_operator.specs.declared.records.Place.TheVariants as place
 use Rattle.bike_schema.specs.Columns.{state_in, ident_in}
 use Rattle.bike_readings.specs.ColumnReaders.{numbered_in, dock_in}
-use Rattle.bike_rules.specs.ReadOff.{bike_in}
+use Rattle.bike_readings.specs.ReadOff.{bike_in}
 
 -- the number of the dock
 abbrev pub dock_of : Place → Option ℕ

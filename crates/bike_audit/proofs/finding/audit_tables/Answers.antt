@@ -2,7 +2,7 @@ use Rattle.std.proofs.Common.{rules, subst}
 use Rattle.std.specs.Prelude.{option_map}
 use Rattle.bike_rows.proofs.ChainLaws.{reads_as, reads_failed}
 use Rattle.bike_schema.specs.Tables.{tables_of}
-use Rattle.bike_rules.specs.Rules.{IsVerdict}
+use Rattle.bike_readings.specs.Rules.{IsVerdict}
 use Rattle.bike_audit.specs.Audit.{named}
 use Rattle.bike_audit.proofs.AuditLemmas.{ours_then}
 use Rattle.bike_audit.proofs.finding.audit_tables.Goals as goal

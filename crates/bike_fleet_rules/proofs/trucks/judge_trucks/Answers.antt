@@ -2,7 +2,7 @@ use Rattle.std.proofs.Common.{◌≡◌, None, refl, sym, subst}
 use Rattle.std.specs.Prelude.{take, option_map}
 use Rattle.bike_book.specs.Tables.{Trucks}
 use Rattle.bike_schema.specs.Tables.{tables_of}
-use Rattle.bike_rules.proofs.RulesLaws.{stored_in_order}
+use Rattle.bike_readings.proofs.RulesLaws.{stored_in_order}
 use Rattle.bike_judges.specs.declared.query.Query.TheVariants as query
 use Rattle.bike_judges.specs.Judging.{key_row}
 use Rattle.bike_judges.specs.Lines.{lines_of}

@@ -1,0 +1,179 @@
+-- Tables whose rows are all good are those of the operator that is read off them: table by table.
+use Rattle.std.proofs.Common.{◌≡◌, ℕ, ℤ, zero, suc, ◌+◌, List, [], ◌∷◌, Bool, Option, Some, refl, sym, ap, ◌∙◌, subst}
+use Rattle.std.specs.Prelude.{option_map, take}
+use Rattle.std.specs.FinMap as fin
+use Rattle.sqlite_value.specs.Order.{Row}
+use Rattle.sqlite_rules.specs.Lists.{Has}
+use Rattle.bike_catalogue.specs.Rows.{SegmentRow, PlanRow, IsSegment, IsPlan}
+use Rattle.bike_ledger.specs.Entries.{Entry}
+use Rattle.bike_texts.specs.Fields.{AreSegments}
+use Rattle.bike_operator.specs.declared.records.Bike.{Bike}
+use Rattle.bike_operator.specs.declared.records.Rental.{Rental}
+use Rattle.bike_operator.specs.Operator.{Operator, Key, DockKey, dock_key, key_of, item_at}
+use Rattle.bike_operator.specs.Sound.{IsPlanAt}
+use Rattle.bike_book.specs.Tables.{Tables, System, Plans, Segments, Types, Stations, Docks, Bikes, Trucks, Riders, Rentals, Orders, Entries, Kept, Counts, TableName, keys_of}
+use Rattle.bike_book.specs.Stored.{plans_segments, stored_plan, stored_type, stored_station, stored_dock, stored_bike, stored_truck, stored_rider, stored_rental, stored_order, stored_entry, stored_kept, stored_count}
+use Rattle.bike_book.proofs.Keys.{numbers, texts, pairs, docks, IsPair, IsDockPair}
+use Rattle.bike_readings.specs.Readings.{plan_read, segment_read, type_read, dock_read, truck_read, rental_read, order_read, entry_read, kept_read, count_read}
+use Rattle.bike_readings.proofs.CatalogueRows.{plan_reading, segment_reading, type_reading, station_reading, dock_reading}
+use Rattle.bike_readings.proofs.LedgerRows.{count_reading, rider_reading, rental_reading, entry_reading}
+use Rattle.bike_readings.proofs.FleetRows.{bike_reading, truck_reading, order_reading}
+use Rattle.bike_readings.proofs.KeptRows.{kept_reading}
+use Rattle.bike_readings.specs.ReadOff.{with_segments, plan_in, station_in, rider_in, rental_in, entry_in, dock_in, count_in, segments_of, most_segments, operator_of, listed_of, first_of, misplaced_bike, bike_in}
+use Rattle.bike_readings.specs.Demands.{IsGoodPlan, IsGoodSegment, IsGoodType, IsGoodStation, IsGoodDock, IsGoodBike, IsGoodTruck, IsGoodRider, IsGoodRental, IsGoodOrder, IsGoodEntry, IsGoodKept, IsGoodCount}
+use Rattle.bike_readings.specs.Rules.{AreInOrder, rows_below}
+use Rattle.bike_readings.proofs.ReadLists.{IsStored, AreRowsOf, read_map}
+use Rattle.bike_readings.proofs.Segments.{IsOfPlan, segments_are, item_found, segment_found, few_found}
+use Rattle.bike_readings.proofs.Broken.{broken_as}
+use Rattle.bike_readings.proofs.RowRules.{some_with, AreGoodRows}
+use Rattle.bike_readings.proofs.ReadRows.{mapped, stored_plain, stored_part, AreRowsOfList, read_list, IsSystemOf, system_are}
+use Rattle.bike_book.specs.Rows.{count_row, dock_row, rental_row, rider_row, station_row}
+use Rattle.bike_fields.specs.Caller.{caller_text}
+
+are_segments : (gs : List SegmentRow) → ((i : ℕ) (g : SegmentRow) → item_at i gs ≡ Some g → IsSegment g) → AreSegments gs
+are_segments [] each = tt
+are_segments (g ∷ gs) each = (each zero g refl, are_segments gs (λ i x is. each (suc i) x is))
+
+module _ (t : Tables) (up : AreInOrder t) (rows : AreGoodRows (operator_of t) t) where
+  abbrev s : Operator
+  s = operator_of t
+
+  -- so many rows stand below a row
+  abbrev below_of : TableName → Row → ℕ
+  below_of name r = rows_below t name (take (keys_of name) r)
+
+  -- ---- the system and the catalogue
+
+  pub system_table : IsSystemOf t.system
+  system_table = system_are t.system (up System) (λ r has. rows System r has)
+
+  pub plans_table : AreRowsOf texts stored_plan (λ e. refl) (plan_in t.segments) t.plans s.plans
+  plans_table =
+      read_map texts stored_plan (λ e. refl) (plan_in t.segments) t.plans (up Plans)
+      (λ r has. stored_part plan_reading (with_segments t.segments) stored_plan (IsGoodPlan s (below_of Plans r)) r (rows Plans r has) (λ a is fact. refl))
+      (λ r e has is. tt)
+
+  -- a plan that is read off has the segments that stand under it
+  pub plan_read_off : (id : List ℕ) (p : PlanRow) → fin.get s.plans id ≡ Some p → IsPlanAt id p × (p.segments ≡ segments_of t.segments id)
+  plan_read_off id p found =
+      let at = plans_table.found id p found in
+      let it = mapped (with_segments t.segments) (plan_read at.item) (id, p) at.read_is in
+      let law = (plan_reading.sound at.item it.value it.value_is).1 in
+      let gs = segments_of t.segments it.value.0 in
+      let plain : IsPlan (record it.value.1 { segments = segments_of t.segments it.value.0 }) =
+      record { plan_id = law.0.good.plan_id; name = law.0.good.name; price = law.0.good.price; description = law.0.good.description; segments = few_found t.segments it.value.0 1 most_segments } in
+      let each = are_segments gs (λ i g is. (segment_found t.segments it.value.0 (1 + i) g (item_found t.segments it.value.0 1 most_segments i g is)).good.good) in
+      let here : IsPlanAt it.value.0 (record it.value.1 { segments = segments_of t.segments it.value.0 }) = record { id_is = law.0.id_is; good = plain; segments = each } in (
+        subst (λ (e : List ℕ × PlanRow). IsPlanAt e.0 e.1) it.part_is here,
+        ap (λ (e : List ℕ × PlanRow). e.1.segments) (sym it.part_is) ∙ ap (λ (e : List ℕ × PlanRow). segments_of t.segments e.0) it.part_is,
+      )
+
+  segment_of_plan : (r : Row) → Has t.segments r → IsOfPlan s.plans t.segments (up Segments) r
+  segment_of_plan r has =
+      let it = some_with (IsGoodSegment s (below_of Segments r)) (segment_read r) (rows Segments r has) in
+      record {
+        id = it.value.0;
+        seq = it.value.1;
+        segment = it.value.2;
+        plan = it.fact.plan;
+        row_is = (segment_reading.sound r it.value it.value_is).0;
+        found = it.fact.found;
+        segment_is = it.fact.segment_is;
+      }
+
+  pub segments_table : t.segments ≡ plans_segments (fin.entries s.plans)
+  segments_table = segments_are s.plans t.segments (up Segments) segment_of_plan (λ id p found. (plan_read_off id p found).1)
+
+  pub types_table : AreRowsOf texts stored_type (λ e. refl) type_read t.types s.types
+  types_table =
+      read_map texts stored_type (λ e. refl) type_read t.types (up Types) (λ r has. stored_plain type_reading (IsGoodType s (below_of Types r)) r (rows Types r has)) (λ r e has is. tt)
+
+  pub stations_table : AreRowsOf texts (stored_station s) (λ e. refl) station_in t.stations s.stations
+  stations_table =
+      read_map texts (stored_station s) (λ e. refl) station_in t.stations (up Stations)
+      (λ r has. stored_part station_reading (λ e. (e.0, e.1)) (stored_station s) (IsGoodStation s (below_of Stations r)) r (rows Stations r has)
+      (λ a is fact. let free = fact.free_is in let broken = fact.broken_is in λ i. station_row a.0 a.1 (free i) (broken i)))
+      (λ r e has is. tt)
+
+  -- ---- docks and counts
+
+  dock_pair : (r : Row) (e : DockKey × Unit {0}) → Has t.docks r → dock_in r ≡ Some e → IsDockPair e.0
+  dock_pair r e has is =
+      let it = mapped (λ (x : List ℕ × ℕ × Bool). (dock_key x.0 x.1, tt)) (dock_read r) e is in
+      record { station = it.value.0; dock = it.value.1; is = ap (λ (x : DockKey × Unit {0}). x.0) (sym it.part_is) }
+
+  pub docks_table : AreRowsOf docks (stored_dock s.broken) (λ e. refl) dock_in t.docks (listed_of t).docks
+  docks_table =
+      read_map docks (stored_dock s.broken) (λ e. refl) dock_in t.docks (up Docks)
+      (λ r has. stored_part dock_reading (λ e. (dock_key e.0 e.1, tt)) (stored_dock s.broken) (IsGoodDock s (below_of Docks r)) r (rows Docks r has)
+      (λ a is fact. ap (λ (b : Bool). dock_row a.0 a.1 b) (sym (broken_as t.docks (up Docks) r a.0 a.1 a.2 has is))))
+      dock_pair
+
+  count_pair : (r : Row) (e : Key × Unit {0}) → Has t.counts r → count_in r ≡ Some e → IsPair e.0
+  count_pair r e has is =
+      let it = mapped (λ (x : List ℕ × List ℕ × ℕ × ℕ). (key_of x.0 x.1, tt)) (count_read r) e is in
+      record { first = it.value.0; second = it.value.1; is = ap (λ (x : Key × Unit {0}). x.0) (sym it.part_is) }
+
+  pub counts_table : AreRowsOf pairs (stored_count s) (λ e. refl) count_in t.counts (listed_of t).counts
+  counts_table =
+      read_map pairs (stored_count s) (λ e. refl) count_in t.counts (up Counts)
+      (λ r has. stored_part count_reading (λ e. (key_of e.0 e.1, tt)) (stored_count s) (IsGoodCount s (below_of Counts r)) r (rows Counts r has)
+      (λ a is fact. let available = fact.available_is in let disabled = fact.disabled_is in λ i. count_row a.0 a.1 (available i) (disabled i)))
+      count_pair
+
+  -- ---- bicycles, trucks, riders, kept requests
+
+  -- the bicycle of a good row is the one that it spells
+  good_bike : (r : Row) → Has t.bikes r → IsStored bike_in stored_bike r
+  good_bike r has =
+      let it = stored_plain bike_reading (IsGoodBike t s (below_of Bikes r)) r (rows Bikes r has) in
+      record { value = it.value; read_is = ap (λ (o : Option (ℕ × Bike)). first_of o (misplaced_bike r)) it.read_is; store_is = it.store_is }
+
+  pub bikes_table : AreRowsOf numbers stored_bike (λ e. refl) bike_in t.bikes s.bikes
+  bikes_table = read_map numbers stored_bike (λ e. refl) bike_in t.bikes (up Bikes) good_bike (λ r e has is. tt)
+
+  pub trucks_table : AreRowsOf numbers stored_truck (λ e. refl) truck_read t.trucks s.trucks
+  trucks_table =
+      read_map numbers stored_truck (λ e. refl) truck_read t.trucks (up Trucks) (λ r has. stored_plain truck_reading (IsGoodTruck s (below_of Trucks r)) r (rows Trucks r has)) (λ r e has is. tt)
+
+  pub riders_table : AreRowsOf numbers (stored_rider s.entries) (λ e. refl) rider_in t.riders s.riders
+  riders_table =
+      read_map numbers (stored_rider s.entries) (λ e. refl) rider_in t.riders (up Riders)
+      (λ r has. stored_part rider_reading (λ e. (e.0, e.1)) (stored_rider s.entries) (IsGoodRider s (below_of Riders r)) r (rows Riders r has)
+      (λ a is fact. ap (λ (z : ℤ). rider_row a.0 a.1.is_blocked z) fact.balance_is))
+      (λ r e has is. tt)
+
+  kept_pair : (r : Row) (e : _) → Has t.kept r → kept_read r ≡ Some e → IsPair e.0
+  kept_pair r e has is =
+      let it = (kept_reading.sound r e is).1 in
+      record { first = caller_text it.caller; second = it.name; is = it.key_is }
+
+  pub kept_table : AreRowsOf pairs stored_kept (λ e. refl) kept_read t.kept s.kept
+  kept_table = read_map pairs stored_kept (λ e. refl) kept_read t.kept (up Kept) (λ r has. stored_plain kept_reading (IsGoodKept s (below_of Kept r)) r (rows Kept r has)) kept_pair
+
+  -- ---- rentals, orders, entries
+
+  pub rentals_table : AreRowsOfList (stored_rental s.entries) rental_in t.rentals s.rentals
+  rentals_table =
+      read_list (stored_rental s.entries) rental_in t.rentals (up Rentals)
+      (λ r has. stored_part rental_reading (λ e. (e.0, e.1)) (stored_rental s.entries) (IsGoodRental s (below_of Rentals r)) r (rows Rentals r has)
+      (λ a is fact. ap (λ (z : ℤ). rental_row a.0 a.1 z) fact.refunded_is))
+      (λ r has.
+      let it = some_with (IsGoodRental s (below_of Rentals r)) (rental_read r) (rows Rentals r has) in
+      (it.value.1, ap (option_map (λ (e : ℕ × Rental × ℤ). (e.0, e.1))) it.value_is ∙ ap (λ (n : ℕ). Some (n, it.value.1)) it.fact.number_is))
+
+  pub orders_table : AreRowsOfList stored_order order_read t.orders s.orders
+  orders_table =
+      read_list stored_order order_read t.orders (up Orders)
+      (λ r has. stored_plain order_reading (IsGoodOrder s (below_of Orders r)) r (rows Orders r has))
+      (λ r has.
+      let it = some_with (IsGoodOrder s (below_of Orders r)) (order_read r) (rows Orders r has) in
+      (it.value.1, it.value_is ∙ ap (λ (n : ℕ). Some (n, it.value.1)) it.fact.number_is))
+
+  pub entries_table : AreRowsOfList stored_entry entry_in t.entries s.entries
+  entries_table =
+      read_list stored_entry entry_in t.entries (up Entries)
+      (λ r has. stored_part entry_reading (λ (e : Entry). (e.number, e)) stored_entry (IsGoodEntry s (below_of Entries r)) r (rows Entries r has) (λ a is fact. refl))
+      (λ r has.
+      let it = some_with (IsGoodEntry s (below_of Entries r)) (entry_read r) (rows Entries r has) in
+      (it.value, ap (option_map (λ (e : Entry). (e.number, e))) it.value_is ∙ ap (λ (n : ℕ). Some (n, it.value)) it.fact.number_is))

@@ -1,0 +1,188 @@
+-- What is demanded of a row: of the record that it spells, in the operator that is read off the tables. `below` is how many rows of the table have a
+-- lesser key. Which row is to blame where the operator is not sound:
+--
+--   a name that stands for no record, a bound of a record       the row that has it
+--   a count of records over its limit                           the first row past it
+--   a missing dock of a row of docks                            the row of docks
+--   two bicycles in one dock                                    the later bicycle
+--   a bicycle in a rental or on a truck that isn't its own      the bicycle
+--   a truck over its capacity                                   the truck
+--   two open rentals of a rider                                 the rider
+--   an open rental whose bicycle is elsewhere                   the rental
+--   a closed rental with no Fare entry                          the rental
+--   two Fare entries of a rental                                the later entry
+--   a Fare entry of another amount, or of an open rental        the entry
+--   refunds over the fare                                       the rental
+--   delivered and bicycles on the truck over the count          the order
+--   entries and open rentals over their limit                   the first entry past it
+--   a number stored beside a record that isn't the figure       the row that has it
+use Rattle.std.specs.Prelude.{◌≡◌, ℕ, ℤ, ◌+◌, ◌<◌, ◌≤◌, ◌≤ℤ◌, pos, List, Bool, true, length, Option, Some, None}
+use Rattle.std.specs.FinMap as fin
+use Rattle.bike_catalogue.specs.Rows.{SegmentRow, PlanRow, TypeRow}
+use Rattle.bike_ledger.specs.Entries.{Entry}
+use Rattle.bike_ledger.specs.declared.entry.EntryKind.{EntryKind}
+use Rattle.bike_ledger.specs.declared.entry.EntryKind.TheVariants.{TopUp, Fare, Refund}
+use Rattle.bike_ledger.specs.Ledger.{balance_of, cash_of, revenue_of, refunded_of}
+use Rattle.bike_operator.specs.declared.limits.TheConstants.{MOST_PLANS, MOST_TYPES, MOST_STATIONS, MOST_BIKES, MOST_TRUCKS, MOST_RIDERS, MOST_ORDERS, MOST_ENTRIES}
+use Rattle.bike_operator.specs.declared.records.Place.{Place}
+use Rattle.bike_operator.specs.declared.records.Place.TheVariants as place
+use Rattle.bike_operator.specs.declared.records.Bike.{Bike}
+use Rattle.bike_operator.specs.declared.records.Rental.{Rental}
+use Rattle.bike_operator.specs.declared.records.Closing.{Closing}
+use Rattle.bike_operator.specs.declared.records.Order.{Order}
+use Rattle.bike_operator.specs.Operator.{Operator, Station, Truck, Rider, Kept, Key, numbered}
+use Rattle.bike_operator.specs.Counts.{is_open, is_retired, open_rentals, docks_available, docks_broken, available_of}
+use Rattle.bike_operator.specs.Sound.{IsTypeAt, IsStationAt, HasDock, IsTruckAt, IsOrderAt, IsOpenOrClosed, most_refunded, fares_of, IsRiderNumber, IsEntryAt, IsKept}
+use Rattle.bike_places.specs.Numbers.{disabled_of}
+use Rattle.bike_book.specs.declared.version.TheConstants.{NEWEST}
+use Rattle.bike_book.specs.Tables.{Tables}
+use Rattle.bike_readings.specs.ReadOff.{rental_at, order_at}
+
+module _ (s : Operator) where
+  -- no bicycle of a lesser number is in this one's dock
+  abbrev pub IsAloneInDock : ℕ → Bike → Type 0
+  IsAloneInDock number b =
+      (other : ℕ) (x : Bike) (station : List ℕ) (dock : ℕ) → other < number → fin.get s.bikes other ≡ Some x
+      → x.place ≡ place.Dock station dock → b.place ≡ place.Dock station dock → ⊥
+
+  -- an open rental of the rider, with its number
+  pub record IsRiding (rider number : ℕ) : Type 0 where
+    pub row : Rental
+    pub found : numbered number s.rentals ≡ Some row
+    pub not_closed : is_open row ≡ true
+    pub rider_is : row.rider ≡ rider
+
+  -- a closed rental has a Fare entry
+  abbrev pub HasFare : ℕ → Option Closing → Type 0
+  HasFare number None = Unit {0}
+  HasFare number (Some c) = 1 ≤ length (fares_of number s.entries)
+
+  -- the rental was closed at this fare
+  pub record IsFareOf (rental : ℕ) (amount : ℤ) : Type 0 where
+    pub row : Rental
+    pub closing : Closing
+    pub found : numbered rental s.rentals ≡ Some row
+    pub closed : row.closing ≡ Some closing
+    pub fare_is : amount ≡ closing.fare
+
+  -- no entry of a lesser number is a fare of the rental
+  abbrev pub IsFirstFare : ℕ → ℕ → Type 0
+  IsFirstFare number rental =
+      (other : ℕ) (x : Entry) → other < number → numbered other s.entries ≡ Some x → x.kind ≡ Fare → x.rental ≡ rental → ⊥
+
+  -- a fare is its rental's, and the first of it
+  abbrev pub IsOneFare : Entry → EntryKind → Type 0
+  IsOneFare e TopUp = Unit {0}
+  IsOneFare e Fare = IsFareOf e.rental e.amount × IsFirstFare e.number e.rental
+  IsOneFare e Refund = Unit {0}
+
+-- Where a bicycle says that it is, by the rows with those numbers: numbering without gaps is demanded of rentals and orders themselves.
+module _ (t : Tables) (s : Operator) where
+  -- the open rental of this bicycle
+  pub record IsInRental (bike rental : ℕ) : Type 0 where
+    pub row : Rental
+    pub found : rental_at t rental ≡ Some row
+    pub not_closed : is_open row ≡ true
+    pub bike_is : row.bike ≡ bike
+
+  -- an open order of this truck, and of the bicycle's type
+  pub record IsForOrder (type_id : List ℕ) (truck order : ℕ) : Type 0 where
+    pub row : Order
+    pub found : order_at t order ≡ Some row
+    pub not_closed : row.is_open ≡ true
+    pub truck_is : row.truck ≡ truck
+    pub type_is : row.type_id ≡ type_id
+
+  abbrev pub IsGoodPlace : ℕ → List ℕ → Place → Type 0
+  IsGoodPlace bike type_id (place.Dock station dock) = HasDock s station dock
+  IsGoodPlace bike type_id (place.Rental rental) = IsInRental bike rental
+  IsGoodPlace bike type_id (place.Truck truck order) = IsForOrder type_id truck order
+  IsGoodPlace bike type_id place.Depot = Unit {0}
+
+  pub record IsGoodBike (below : ℕ) (e : ℕ × Bike) : Type 0 where
+    pub room : below < MOST_BIKES
+    pub low : 1 ≤ e.0
+    pub high : e.0 ≤ 999999
+    pub type_is : fin.contains_key s.types e.1.type_id ≡ true
+    pub placed : IsGoodPlace e.0 e.1.type_id e.1.place
+    pub retired : is_retired e.1.state ≡ true → e.1.place ≡ place.Depot
+    pub alone : IsAloneInDock s e.0 e.1
+
+module _ (s : Operator) (below : ℕ) where
+  -- ---- the system and the catalogue
+
+  -- version, now, cash, revenue
+  pub record IsGoodMeta (e : ℕ × ℕ × ℤ × ℤ) : Type 0 where
+    pub version_is : e.0 ≡ NEWEST
+    pub cash_is : e.2 ≡ cash_of s.entries
+    pub revenue_is : e.3 ≡ revenue_of s.entries
+
+  pub record IsGoodPlan (e : List ℕ × PlanRow) : Type 0 where
+    pub room : below < MOST_PLANS
+
+  -- it is the segment of this number of its plan
+  pub record IsGoodSegment (e : List ℕ × ℕ × SegmentRow) : Type 0 where
+    pub plan : PlanRow
+    pub found : fin.get s.plans e.0 ≡ Some plan
+    pub segment_is : numbered e.1 plan.segments ≡ Some e.2
+
+  pub record IsGoodType (e : List ℕ × TypeRow) : Type 0 where
+    pub room : below < MOST_TYPES
+    pub good : IsTypeAt s e.0 e.1
+
+  pub record IsGoodStation (e : List ℕ × Station × ℤ × ℕ) : Type 0 where
+    pub room : below < MOST_STATIONS
+    pub good : IsStationAt s e.0 e.1
+    pub free_is : e.2 ≡ pos (docks_available s e.0 e.1.row.docks)
+    pub broken_is : e.3 ≡ docks_broken s e.0 e.1.row.docks
+
+  abbrev pub IsGoodDock : List ℕ × ℕ × Bool → Type 0
+  IsGoodDock e = HasDock s e.0 e.1
+
+  -- ---- trucks and riders
+
+  pub record IsGoodTruck (e : ℕ × Truck) : Type 0 where
+    pub room : below < MOST_TRUCKS
+    pub good : IsTruckAt s e.0 e.1
+
+  pub record IsGoodRider (e : ℕ × Rider × ℤ) : Type 0 where
+    pub room : below < MOST_RIDERS
+    pub good : IsRiderNumber e.0
+    pub balance_is : e.2 ≡ balance_of e.0 s.entries
+    pub riding_once : (a b : ℕ) → IsRiding s e.0 a → IsRiding s e.0 b → a ≡ b
+
+  -- ---- rentals and orders
+
+  pub record IsGoodRental (e : ℕ × Rental × ℤ) : Type 0 where
+    pub number_is : e.0 ≡ below + 1
+    pub rider_is : fin.contains_key s.riders e.1.rider ≡ true
+    pub bike_is : fin.contains_key s.bikes e.1.bike ≡ true
+    pub plan_is : fin.contains_key s.plans e.1.plan ≡ true
+    pub from_is : fin.contains_key s.stations e.1.from_station ≡ true
+    pub by_now : e.1.start ≤ s.now
+    pub closing : IsOpenOrClosed s e.0 e.1 e.1.closing
+    pub booked : HasFare s e.0 e.1.closing
+    pub refunded_is : e.2 ≡ refunded_of e.0 s.entries
+    pub refunded : refunded_of e.0 s.entries ≤ℤ most_refunded e.1.closing
+
+  pub record IsGoodOrder (e : ℕ × Order) : Type 0 where
+    pub number_is : e.0 ≡ below + 1
+    pub room : below < MOST_ORDERS
+    pub good : IsOrderAt s e.0 e.1
+
+  -- ---- entries, kept requests and counts
+
+  pub record IsGoodEntry (e : Entry) : Type 0 where
+    pub number_is : e.number ≡ below + 1
+    pub room : below + open_rentals s < MOST_ENTRIES
+    pub good : IsEntryAt s e.number e
+    pub fare : IsOneFare s e e.kind
+
+  abbrev pub IsGoodKept : Key × Kept → Type 0
+  IsGoodKept e = IsKept e.0 e.1
+
+  pub record IsGoodCount (e : List ℕ × List ℕ × ℕ × ℕ) : Type 0 where
+    pub has_station : fin.contains_key s.stations e.0 ≡ true
+    pub has_type : fin.contains_key s.types e.1 ≡ true
+    pub available_is : e.2 ≡ available_of s e.0 e.1
+    pub disabled_is : e.3 ≡ disabled_of s e.0 e.1

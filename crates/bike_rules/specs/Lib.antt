@@ -1,4 +1,0 @@
-pub mod ReadOff
-pub mod Demands
-pub mod Rules
-pub mod Laws
