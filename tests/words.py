@@ -66,7 +66,15 @@ def test_a_file_that_begins_with_a_hyphen(program):
 
 def test_usage_has_a_line_for_each_word(program):
     said = refuses(program, "--help")
-    for form in b"init FILE", b"check FILE", b"lines FILE", b"feed FILE NAME [--at M]", b"serve FILE --port P [--count N]":
+    for form in (
+        b"init FILE",
+        b"check FILE",
+        b"lines FILE",
+        b"feed FILE NAME [--at M]",
+        b"day FILE WHICH DATE ZONE",
+        b"import FILE NAME [--at M]",
+        b"serve FILE --port P [--count N]",
+    ):
         assert b"\n  " + form + b"  " in said, said
     for option in b"--at M", b"--port P", b"--count N":
         assert b"\n  " + option + b"  " in said, said
@@ -91,6 +99,12 @@ def test_wrong_words(program):
         ["feed", "city.db"],
         ["feed", "gbfs"],
         ["feed", "city.db", "nothing"],
+        ["day", "city.db", "entries", "2024-03-31"],
+        ["day", "city.db", "riders", "2024-03-31", "UTC0"],
+        ["day", "city.db", "entries", "-1", "UTC0"],
+        ["import", "city.db"],
+        ["import", "city.db", "Spring"],
+        ["import", "city.db", "spring", "--at", "253402300800"],
         ["init", "--force", "city.db"],
     ):
         assert refuses(program, *words) == said, words

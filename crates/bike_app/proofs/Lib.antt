@@ -4,3 +4,5 @@ pub mod ProgramLemmas
 pub mod RunLemmas
 pub mod WordLemmas
 pub mod FeedLemmas
+pub mod DayLemmas
+pub mod ImportLemmas

@@ -34,7 +34,7 @@ end_told (Err e) (Err f) is = ap Err is
 
 -- ---- what a crash may leave
 
-calls_push : (calls : List Call) (c : Call) → AreCalls calls → IsCall c → AreCalls (calls ++ c ∷ [])
+pub calls_push : (calls : List Call) (c : Call) → AreCalls calls → IsCall c → AreCalls (calls ++ c ∷ [])
 calls_push [] c good more = (more, tt)
 calls_push (d ∷ calls) c good more = (good.0, calls_push calls c good.1 more)
 

@@ -341,7 +341,7 @@ asked_after s [] = refl
 asked_after s (None ∷ cs) = asked_after s cs
 asked_after s (Some c ∷ cs) = asked_after (step s c.0 c.1).1 cs
 
-after_one : (s : Operator) (cs : List Call) (c : Call) → after s (cs ++ c ∷ []) ≡ (step (after s cs) c.0 c.1).1
+pub after_one : (s : Operator) (cs : List Call) (c : Call) → after s (cs ++ c ∷ []) ≡ (step (after s cs) c.0 c.1).1
 after_one s [] c = refl
 after_one s (d ∷ cs) c = after_one (step s d.0 d.1).1 cs c
 

@@ -5,7 +5,7 @@ use Rattle.sqlite.specs.Held.{Held, state}
 use Rattle.sqlite_trees.specs.declared.memory.MemStore.{MemStore}
 use Rattle.bike_operator.specs.Operator.{no_operator}
 use Rattle.bike_words.specs.declared.task.Task.{Task}
-use Rattle.bike_words.specs.declared.task.Task.TheVariants.{Init, Check, Lines, Feed, Serve}
+use Rattle.bike_words.specs.declared.task.Task.TheVariants.{Init, Check, Lines, Feed, Day, Import, Serve}
 use Rattle.bike_app.specs.declared.end.Fault.{Fault}
 use Rattle.bike_app.specs.Words.{Does, DoesInMemory}
 use Rattle.bike_app.proofs.ProgramLemmas.{in_memory, memory_begins, memory_refused}
@@ -18,4 +18,8 @@ task_in_memory Check clock first last empty input ahead old new end (inr t) = in
 task_in_memory Lines clock first last empty input ahead old new end does = in_memory first last empty input ahead old new end (does no_operator (memory_begins first empty))
 task_in_memory (Feed f at) clock first last empty input ahead old new end (inl r) = inl (memory_refused first last empty input ahead old new end r)
 task_in_memory (Feed f at) clock first last empty input ahead old new end (inr p) = inr (p.published no_operator (memory_begins first empty)).told
+task_in_memory (Day table date zone) clock first last empty input ahead old new end (inl r) = inl (memory_refused first last empty input ahead old new end r)
+task_in_memory (Day table date zone) clock first last empty input ahead old new end (inr p) = inr (p.reported no_operator (memory_begins first empty)).told
+task_in_memory (Import name at) clock first last empty input ahead old new end (inl r) = inl (memory_refused first last empty input ahead old new end r)
+task_in_memory (Import name at) clock first last empty input ahead old new end (inr p) = inr (p.desk, p.imported no_operator (memory_begins first empty))
 task_in_memory (Serve port count) clock first last empty input ahead old new end does = absurd does

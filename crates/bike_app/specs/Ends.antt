@@ -7,20 +7,35 @@ use Rattle.sqlite.specs.declared.error.ErrorCode.TheVariants as code
 use Rattle.bike_schema.specs.Layouts.{name_of}
 use Rattle.bike_recognition.specs.Names.{table_named}
 use Rattle.bike_judges.specs.Judging.{key_row}
+use Rattle.bike_fixed.specs.declared.day.DayFault.{DayFault}
+use Rattle.bike_fixed.specs.declared.day.DayFault.TheVariants as day
+use Rattle.bike_commands.specs.Refusals.{name_of as refusal_name}
+use Rattle.bike_exchange.specs.DeskFault.{DeskFault}
 use Rattle.bike_exchange.specs.DeskFault.TheVariants as desk
 use Rattle.bike_exchange.specs.AdoptFault.{AdoptFault}
 use Rattle.bike_exchange.specs.AdoptFault.TheVariants as adopt
 use Rattle.bike_exchange.specs.FeedFault.{FeedFault}
 use Rattle.bike_exchange.specs.FeedFault.TheVariants as feed
+use Rattle.bike_days.specs.declared.fault.DayTableFault.{DayTableFault}
+use Rattle.bike_days.specs.declared.fault.DayTableFault.TheVariants as table
+use Rattle.bike_imports.specs.declared.fault.ImportFault.{ImportFault}
+use Rattle.bike_imports.specs.declared.fault.ImportFault.TheVariants as stations
 use Rattle.bike_app.specs.declared.fault.LinesFault.{LinesFault}
 use Rattle.bike_app.specs.declared.fault.LinesFault.TheVariants as lines
 use Rattle.bike_app.specs.declared.end.Fault.{Fault}
-use Rattle.bike_app.specs.declared.end.Fault.TheVariants.{SystemMissing, StoreFailed, OutOfMemory, Foreign, Unsound, Older, Newer, ReadFailed, WriteFailed}
+use Rattle.bike_app.specs.declared.end.Fault.TheVariants.{SystemMissing, RowRefused, RowUnreadable, BadHeader, BadDate, BadZone, DayOutOfRange}
+use Rattle.bike_app.specs.declared.end.Fault.TheVariants.{StoreFailed, OutOfMemory, Foreign, Unsound, Older, Newer, ReadFailed, WriteFailed}
 use Rattle.bike_app.specs.Pieces.{key_text}
 
 -- the word that a fault is told by
 abbrev pub word_of : Fault → List ℕ
 word_of SystemMissing = codes "system missing"
+word_of (RowRefused number refusal) = codes "row"
+word_of (RowUnreadable number) = codes "row"
+word_of BadHeader = codes "bad header"
+word_of BadDate = codes "bad date"
+word_of BadZone = codes "bad zone"
+word_of DayOutOfRange = codes "day out of range"
 word_of StoreFailed = codes "store failed"
 word_of OutOfMemory = codes "out of memory"
 word_of Foreign = codes "foreign"
@@ -30,8 +45,14 @@ word_of (Newer version) = codes "newer"
 word_of ReadFailed = codes "read failed"
 word_of WriteFailed = codes "write failed"
 
--- what is told behind the word: the table and the key of a bad row, or the version
+-- a row's number, and what is wrong with it
+abbrev pub row_detail : ℕ → List ℕ → List ℕ
+row_detail number what = codes " " ++ decimal number ++ codes " " ++ what
+
+-- what is told behind the word: a row's number and what is wrong with it, the table and the key of a bad row, or the version
 abbrev pub detail_of : Fault → List ℕ
+detail_of (RowRefused number refusal) = row_detail number (refusal_name refusal)
+detail_of (RowUnreadable number) = row_detail number (codes "unreadable")
 detail_of (Unsound bad) = codes " " ++ name_of (table_named bad.table) ++ codes " " ++ key_text (key_row bad.key)
 detail_of (Older version) = codes " " ++ decimal version
 detail_of (Newer version) = codes " " ++ decimal version
@@ -39,6 +60,12 @@ detail_of _ = []
 
 abbrev pub fault_status : Fault → ℕ
 fault_status SystemMissing = 1
+fault_status (RowRefused number refusal) = 1
+fault_status (RowUnreadable number) = 1
+fault_status BadHeader = 1
+fault_status BadDate = 1
+fault_status BadZone = 1
+fault_status DayOutOfRange = 1
 fault_status StoreFailed = 3
 fault_status OutOfMemory = 4
 fault_status Foreign = 5
@@ -49,20 +76,40 @@ fault_status ReadFailed = 6
 fault_status WriteFailed = 6
 
 -- a desk that was stopped is one whose store failed
+abbrev pub fault_of_desk : DeskFault → Fault
+fault_of_desk desk.NoMemory = OutOfMemory
+fault_of_desk desk.StoreFailed = StoreFailed
+fault_of_desk desk.Stopped = StoreFailed
+
 abbrev pub lines_fault : LinesFault → Fault
 lines_fault lines.Read = ReadFailed
 lines_fault lines.TooManyReads = ReadFailed
 lines_fault lines.Write = WriteFailed
-lines_fault (lines.Desk desk.NoMemory) = OutOfMemory
-lines_fault (lines.Desk desk.StoreFailed) = StoreFailed
-lines_fault (lines.Desk desk.Stopped) = StoreFailed
+lines_fault (lines.Desk fault) = fault_of_desk fault
 
 abbrev pub feed_fault : FeedFault → Fault
 feed_fault feed.SystemMissing = SystemMissing
 feed_fault feed.Write = WriteFailed
-feed_fault (feed.Desk desk.NoMemory) = OutOfMemory
-feed_fault (feed.Desk desk.StoreFailed) = StoreFailed
-feed_fault (feed.Desk desk.Stopped) = StoreFailed
+feed_fault (feed.Desk fault) = fault_of_desk fault
+
+-- why a day has no bounds
+abbrev pub day_fault : DayFault → Fault
+day_fault day.BadDate = BadDate
+day_fault day.BadZone = BadZone
+day_fault day.OutOfRange = DayOutOfRange
+day_fault day.NoMemory = OutOfMemory
+
+abbrev pub table_fault : DayTableFault → Fault
+table_fault (table.Day fault) = day_fault fault
+table_fault table.Write = WriteFailed
+table_fault (table.Desk fault) = fault_of_desk fault
+
+abbrev pub import_fault : ImportFault → Fault
+import_fault stations.BadHeader = BadHeader
+import_fault (stations.Unreadable number) = RowUnreadable number
+import_fault (stations.Row number refusal) = RowRefused number refusal
+import_fault stations.Read = ReadFailed
+import_fault (stations.Desk fault) = fault_of_desk fault
 
 abbrev pub adopt_fault : {S : Type 0} → AdoptFault S → Fault
 adopt_fault (adopt.Foreign conn) = Foreign

@@ -7,3 +7,5 @@ pub mod Ends
 pub mod Program
 pub mod Feeds
 pub mod Words
+pub mod Days
+pub mod Imports

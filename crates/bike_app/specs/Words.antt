@@ -8,11 +8,13 @@ use Rattle.bike_operator.specs.Operator.{Operator}
 use Rattle.bike_schema.specs.Stands.{IsOf, Keeps, TreesStandFor}
 use Rattle.bike_stream.specs.Writing.{AppendsFront}
 use Rattle.bike_words.specs.declared.task.Task.{Task}
-use Rattle.bike_words.specs.declared.task.Task.TheVariants.{Init, Check, Lines, Feed, Serve}
+use Rattle.bike_words.specs.declared.task.Task.TheVariants.{Init, Check, Lines, Feed, Day, Import, Serve}
 use Rattle.bike_app.specs.declared.end.Fault.{Fault}
 use Rattle.bike_app.specs.declared.end.Fault.TheVariants.{WriteFailed}
 use Rattle.bike_app.specs.Program.{StandsAfterSome, Refuses, Serves, FailsToBegin, ServesInMemory}
 use Rattle.bike_app.specs.Feeds.{TellsPublished, PublishesInMemory, moment_of}
+use Rattle.bike_app.specs.Days.{TellsReported, ReportsInMemory}
+use Rattle.bike_app.specs.Imports.{TellsImported, ImportsInMemory}
 
 -- the task that answers connections, which is done apart from the others
 abbrev pub ServesSockets : Task → Type 0
@@ -42,11 +44,14 @@ module _ {S : Type 0} (g : Ghosts S) (input ahead old new : Option (List ℕ)) w
   Does Check clock first last end = TellsTakenUp first last (codes "sound\n") end
   Does Lines clock first last end = (s : Operator) → TreesStandFor s (state g first).now.trees → Serves g input ahead old new first last s end
   Does (Feed f at) clock first last end = TellsPublished g input ahead old new first last f (moment_of at clock) end
+  Does (Day table date zone) clock first last end = TellsReported table date.now zone.now g input ahead old new first last end
+  Does (Import name at) clock first last end = TellsImported g input ahead old new name.now first last (moment_of at clock) end
   Does (Serve port count) clock first last end = ⊥
 
 -- what a crash may leave of a database that stood for the operator
 abbrev pub MayStand : Task → Operator → Trees → Type 0
 MayStand Lines s trees = StandsAfterSome s trees
+MayStand (Import name at) s trees = StandsAfterSome s trees
 MayStand _ s trees = TreesStandFor s trees
 
 -- over a database in memory
@@ -56,4 +61,6 @@ module _ (input ahead old new : Option (List ℕ)) where
   DoesInMemory Check clock end = FailsToBegin input ahead old new end ⊎ WritesLine old new (codes "sound\n") end
   DoesInMemory Lines clock end = ServesInMemory input ahead old new end
   DoesInMemory (Feed f at) clock end = PublishesInMemory input ahead old new f (moment_of at clock) end
+  DoesInMemory (Day table date zone) clock end = ReportsInMemory table date.now zone.now input ahead old new end
+  DoesInMemory (Import name at) clock end = ImportsInMemory input ahead old new name.now (moment_of at clock) end
   DoesInMemory (Serve port count) clock end = ⊥

@@ -5,11 +5,16 @@ ghost use Rattle.std.specs.Fmt.{decimal};
 ghost use Rattle.std.specs.Process.{exit_status};
 ghost use Rattle.bike_exchange.specs.Adoption.{handed};
 ghost use Rattle.bike_app.specs.Pieces.{AppendsSome, Puts};
-ghost use Rattle.bike_app.specs.Ends.{word_of, detail_of, fault_status, adopt_fault, feed_fault, status_of, line_of};
+ghost use Rattle.bike_app.specs.Ends.{word_of, row_detail, detail_of, fault_status, status_of, line_of};
+ghost use Rattle.bike_app.specs.Ends.{adopt_fault, day_fault, fault_of_desk, feed_fault, import_fault, table_fault};
 
 use crate::fault::LinesFault;
 use crate::pieces::{put, put_key, put_number};
+use bike_commands::Refusal;
+use bike_days::DayTableFault;
 use bike_exchange::{AdoptFault, BadRow, DeskFault, FeedFault};
+use bike_fixed::DayFault;
+use bike_imports::ImportFault;
 use sqlite::{Alter, Connection, ErrorCode};
 use std::alloc::AllocError;
 use std::error::Error;
@@ -23,6 +28,18 @@ use std::process::ExitCode;
 pub enum Fault {
     /// No system is set, so there is no feed.
     SystemMissing,
+    /// The row of this number, from 1, of an import is refused.
+    RowRefused(u64, Refusal),
+    /// The record of this number behind the header of an import is no row.
+    RowUnreadable(u64),
+    /// An import has no header, or another one.
+    BadHeader,
+    /// A day's date is none.
+    BadDate,
+    /// A day's time zone is none.
+    BadZone,
+    /// A day lies outside the years that have tables.
+    DayOutOfRange,
     /// The store failed.
     StoreFailed,
     /// Memory was refused.
@@ -48,6 +65,11 @@ impl Fault {
     {
         match self {
             Fault::SystemMissing => "system missing",
+            Fault::RowRefused(_, _) | Fault::RowUnreadable(_) => "row",
+            Fault::BadHeader => "bad header",
+            Fault::BadDate => "bad date",
+            Fault::BadZone => "bad zone",
+            Fault::DayOutOfRange => "day out of range",
             Fault::StoreFailed => "store failed",
             Fault::OutOfMemory => "out of memory",
             Fault::Foreign => "foreign",
@@ -64,11 +86,58 @@ impl Fault {
         ensures { result ≡ fault_status self.now }
     {
         match self {
-            Fault::SystemMissing => 1,
+            Fault::SystemMissing | Fault::RowRefused(_, _) | Fault::RowUnreadable(_) => 1,
+            Fault::BadHeader | Fault::BadDate | Fault::BadZone | Fault::DayOutOfRange => 1,
             Fault::StoreFailed => 3,
             Fault::OutOfMemory => 4,
             Fault::Foreign | Fault::Unsound(_) | Fault::Older(_) | Fault::Newer(_) => 5,
             Fault::ReadFailed | Fault::WriteFailed => 6,
+        }
+    }
+
+    /// The fault of a desk: one that was stopped is one whose store failed.
+    pub(crate) fn of_desk(fault: DeskFault) -> Fault
+        ensures { result ≡ fault_of_desk fault }
+    {
+        match fault {
+            DeskFault::NoMemory => Fault::OutOfMemory,
+            DeskFault::StoreFailed | DeskFault::Stopped => Fault::StoreFailed,
+        }
+    }
+
+    /// The fault of a day that has no bounds.
+    pub(crate) fn of_day(fault: DayFault) -> Fault
+        ensures { result ≡ day_fault fault }
+    {
+        match fault {
+            DayFault::BadDate => Fault::BadDate,
+            DayFault::BadZone => Fault::BadZone,
+            DayFault::OutOfRange => Fault::DayOutOfRange,
+            DayFault::NoMemory => Fault::OutOfMemory,
+        }
+    }
+
+    /// The fault of a day's table.
+    pub(crate) fn of_table(fault: DayTableFault) -> Fault
+        ensures { result ≡ table_fault fault }
+    {
+        match fault {
+            DayTableFault::Day(fault) => Fault::of_day(fault),
+            DayTableFault::Write => Fault::WriteFailed,
+            DayTableFault::Desk(fault) => Fault::of_desk(fault),
+        }
+    }
+
+    /// The fault of an import.
+    pub(crate) fn of_import(fault: ImportFault) -> Fault
+        ensures { result ≡ import_fault fault }
+    {
+        match fault {
+            ImportFault::BadHeader => Fault::BadHeader,
+            ImportFault::Unreadable(number) => Fault::RowUnreadable(number),
+            ImportFault::Row(number, refusal) => Fault::RowRefused(number, refusal),
+            ImportFault::Read => Fault::ReadFailed,
+            ImportFault::Desk(fault) => Fault::of_desk(fault),
         }
     }
 
@@ -79,8 +148,7 @@ impl Fault {
         match fault {
             FeedFault::SystemMissing => Fault::SystemMissing,
             FeedFault::Write => Fault::WriteFailed,
-            FeedFault::Desk(DeskFault::NoMemory) => Fault::OutOfMemory,
-            FeedFault::Desk(DeskFault::StoreFailed | DeskFault::Stopped) => Fault::StoreFailed,
+            FeedFault::Desk(fault) => Fault::of_desk(fault),
         }
     }
 
@@ -135,8 +203,7 @@ impl From<LinesFault> for Fault {
         match fault {
             LinesFault::Read | LinesFault::TooManyReads => Fault::ReadFailed,
             LinesFault::Write => Fault::WriteFailed,
-            LinesFault::Desk(DeskFault::NoMemory) => Fault::OutOfMemory,
-            LinesFault::Desk(DeskFault::StoreFailed | DeskFault::Stopped) => Fault::StoreFailed,
+            LinesFault::Desk(fault) => Fault::of_desk(fault),
         }
     }
 }
@@ -163,6 +230,16 @@ fn put_version<W: Write>(out: &mut W, going: bool, version: u64) -> bool
     put_number(out, going, version)
 }
 
+/// Writes a row's number, with a space on either side, and what is wrong with it.
+fn put_row<W: Write>(out: &mut W, going: bool, number: u64, what: &str) -> bool
+    ensures { Puts (W.contents out.old) (W.contents out.new) (row_detail number what.now) going result }
+{
+    let going = put(out, going, b" ");
+    let going = put_number(out, going, number);
+    let going = put(out, going, b" ");
+    put(out, going, what.as_bytes())
+}
+
 /// Writes what is told of the fault behind its first words.
 fn put_detail<W: Write>(out: &mut W, going: bool, fault: &Fault) -> bool
     ensures { Puts (W.contents out.old) (W.contents out.new) (detail_of fault.now) going result }
@@ -174,6 +251,8 @@ fn put_detail<W: Write>(out: &mut W, going: bool, fault: &Fault) -> bool
             let going = put(out, going, b" ");
             put_key(out, going, &bad.key)
         }
+        Fault::RowRefused(number, refusal) => put_row(out, going, *number, refusal.name()),
+        Fault::RowUnreadable(number) => put_row(out, going, *number, "unreadable"),
         Fault::Older(version) => put_version(out, going, *version),
         Fault::Newer(version) => put_version(out, going, *version),
         _ => going,
@@ -181,8 +260,8 @@ fn put_detail<W: Write>(out: &mut W, going: bool, fault: &Fault) -> bool
 }
 
 /// Writes the fault at which the program ends, if there is one, as a line, and gives the exit status, which is the same
-/// where that line can't be written. A fault's line is its first words; `unsound` has a table and a key behind them, whose
-/// columns are parted by `/`, and `older` and `newer` have a version.
+/// where that line can't be written. A fault's line is its first words; `row` has the row's number behind them and
+/// the refusal's name or `unreadable`, `unsound` a table and a key, whose columns are parted by `/`, and `older` and `newer` a version.
 pub fn exit_code<W: Write>(errors: &mut W, end: &Result<u64, Fault>) -> ExitCode
     ensures status { exit_status result ≡ status_of end.now }
     ensures told { AppendsSome (W.contents errors.old) (W.contents errors.new) (line_of end.now) }

@@ -1,9 +1,12 @@
-//! The product's edges: request lines in, answer lines and feeds out, HTTP over sockets, and what the program tells at its end.
+//! The product's edges: request lines and imports in, answer lines, feeds and tables out, HTTP over sockets, and what the program
+//! tells at its end.
 #![tactic(auto)]
 
+mod day;
 mod end;
 mod fault;
 mod feed;
+mod import;
 mod lines;
 mod pieces;
 mod program;
@@ -11,9 +14,11 @@ mod server;
 mod words;
 
 pub use bike_exchange::Feed;
+pub use day::report_day;
 pub use end::{Fault, exit_code};
 pub use fault::LinesFault;
 pub use feed::publish;
+pub use import::import_from;
 pub use lines::{MOST_READS, run_lines};
 pub use program::{serve, serve_in_memory, serve_text};
 pub use server::{clock_moment, listen, serve_count};

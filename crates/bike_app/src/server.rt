@@ -3,19 +3,25 @@
 ghost use Rattle.std.specs.Prelude.{◌≡◌, false};
 
 use crate::end::Fault;
-use bike_exchange::{Desk, serve_one};
+use bike_exchange::{Desk, ServeFault, Served, serve_one};
 use bike_fixed::Moment;
 use bike_heads::Routes;
 use bike_json::TokenBuffer;
 use bike_stream::write_whole;
 use sqlite::{Alter, Connection};
 use std::alloc::Global;
-use std::io::Write;
-use std::net::{TcpListener, TcpStream};
+use std::io::{Read, Write};
+use std::net::{Shutdown, TcpListener, TcpStream};
 use std::time::{Duration, SystemTime};
 
 /// For how many seconds a client may send nothing, or take nothing, before its connection is given up.
 const PATIENCE: u64 = 10;
+
+/// For how many milliseconds a client is waited for that may still send of a request which was answered before all of it was read.
+const LINGER: u64 = 200;
+
+/// In how many pieces that is read at most.
+const MOST_PIECES: u32 = 64;
 
 /// The clock's moment in whole seconds; none where the clock gives none, or one beyond the last that there is.
 pub fn clock_moment(rt: &HostRuntime) -> Option<Moment> {
@@ -26,6 +32,26 @@ pub fn clock_moment(rt: &HostRuntime) -> Option<Moment> {
         return None;
     };
     Moment::new(since.as_secs())
+}
+
+/// Whether the answer may have come before the whole request was read.
+fn may_be_early(served: &Result<Served, ServeFault>) -> bool {
+    matches!(served, Ok(Served::Status(400 | 404 | 405 | 413)))
+}
+
+/// Reads what a client still sends. A connection that is closed while bytes of it are unread is reset, and with that the client may
+/// lose its answer (RFC 9112, section 9.6).
+fn drain(stream: &TcpStream) {
+    let _ = stream.shutdown(Shutdown::Write);
+    let _ = stream.set_read_timeout(Some(Duration::from_millis(LINGER)));
+    let mut piece = [0; 4096];
+    let mut reader = stream;
+    for _ in 0..MOST_PIECES {
+        match reader.read(&mut piece) {
+            Ok(0) | Err(_) => return,
+            Ok(_) => {}
+        }
+    }
 }
 
 /// Serves the one request of a connection. What fails of the connection alone is told to nobody: the client sees it end.
@@ -41,8 +67,11 @@ fn serve_stream<S: Alter>(
     let _ = stream.set_write_timeout(patience);
     let mut reader = stream;
     let mut writer = TokenBuffer::new(stream);
-    let _ = serve_one(alloc, desk, routes, moment, &mut reader, &mut writer);
+    let served = serve_one(alloc, desk, routes, moment, &mut reader, &mut writer);
     let _ = writer.flush();
+    if may_be_early(&served) {
+        drain(stream);
+    }
 }
 
 /// Accepts so many connections and serves one request of each, at the clock's moment of its acceptance. It ends early where

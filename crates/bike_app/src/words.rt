@@ -6,10 +6,13 @@ ghost use Rattle.sqlite.specs.Held.{state};
 ghost use Rattle.sqlite_trees.specs.View.{doubt};
 ghost use Rattle.bike_operator.specs.Operator.{Operator};
 ghost use Rattle.bike_schema.specs.Stands.{AllLeft, TreesStandFor};
+ghost use Rattle.bike_words.specs.Program.{IsWithin};
 ghost use Rattle.bike_app.specs.Words.{Does, DoesInMemory, MayStand, ServesSockets, TellsTakenUp, WritesLine};
 
+use crate::day::report_day;
 use crate::end::Fault;
 use crate::feed::{moment_of, publish};
+use crate::import::import_from;
 use crate::program::serve;
 use bike_exchange::Desk;
 use bike_fixed::Moment;
@@ -56,33 +59,42 @@ fn take_up<S: Alter, R: Read, W: Write>(
 }
 
 /// Does what the words ask, but for `Serve`, over the connection, which is outside a transaction: `Init` and `Check` take it into service
-/// and tell that by the line `ready` or `sound`, `Lines` serves the input, as `serve` does, and `Feed` writes a feed, for the clock's
-/// moment where none is asked for. Gives the connection back with the number of lines served, or with the fault at which that ended.
+/// and tell that by the line `ready` or `sound`, `Lines` serves the input, as `serve` does, `Feed` writes a feed, as `publish` does, `Day`
+/// a table, as `report_day`, and `Import` takes the input's stations in, as `import_from`; where a feed or an import is asked for at no
+/// moment, it is the clock's. Gives the connection back with the number of lines or rows served, or with the fault at which that ended.
 pub fn run_words<S: Alter, R: Read, W: Write>(
     alloc: Global,
-    task: Task,
+    task: &Task<'_>,
     clock: Option<Moment>,
     conn: Connection<S>,
     reader: &mut R,
     writer: &mut W,
 ) -> (Connection<S>, Result<u64, Fault>)
     requires outside { conn.in_transaction ≡ false }
-    requires streams { ServesSockets task → ⊥ }
+    requires streams { ServesSockets task.now → ⊥ }
+    requires within { IsWithin task.now }
     ensures clean { doubt (state S.Store conn).is_clean ≤ doubt (state S.Store result.0).is_clean }
     ensures done { HasCleanDisk (state S.Store result.0)
         → Does S.Store (R.remaining reader.old) (R.remaining reader.new)
-        (W.contents writer.old) (W.contents writer.new) task clock conn result.0 result.1 }
+        (W.contents writer.old) (W.contents writer.new) task.now clock conn result.0 result.1 }
     ensures kept { HasCleanDisk (state S.Store result.0) → (s : Operator)
         → TreesStandFor s (state S.Store conn).now.trees → IsTrue (state S.Store conn).is_open
-        → AllLeft (state S.Store result.0) (MayStand task s) }
+        → AllLeft (state S.Store result.0) (MayStand task.now s) }
 {
     match task {
         Task::Init => take_up(alloc, "ready\n", conn, reader, writer),
         Task::Check => take_up(alloc, "sound\n", conn, reader, writer),
         Task::Lines => serve(alloc, conn, reader, writer),
         Task::Feed { feed, at } => {
-            let moment = moment_of(at, clock);
-            publish(alloc, feed, moment, conn, reader, writer)
+            let moment = moment_of(*at, clock);
+            publish(alloc, *feed, moment, conn, reader, writer)
+        }
+        Task::Day { table, date, zone } => {
+            report_day(alloc, *table, date, zone, conn, reader, writer)
+        }
+        Task::Import { name, at } => {
+            let moment = moment_of(*at, clock);
+            import_from(alloc, name, moment, conn, reader, writer)
         }
         // No caller asks for it.
         Task::Serve { port: _, count: _ } => (conn, Err(Fault::ReadFailed)),
@@ -92,14 +104,15 @@ pub fn run_words<S: Alter, R: Read, W: Write>(
 /// Does what the words ask, but for `Serve`, over a database in memory, which is made for it and let go at the end.
 pub fn run_words_in_memory<R: Read, W: Write>(
     alloc: Global,
-    task: Task,
+    task: &Task<'_>,
     clock: Option<Moment>,
     reader: &mut R,
     writer: &mut W,
 ) -> Result<u64, Fault>
-    requires { ServesSockets task → ⊥ }
+    requires streams { ServesSockets task.now → ⊥ }
+    requires within { IsWithin task.now }
     ensures { DoesInMemory (R.remaining reader.old) (R.remaining reader.new)
-        (W.contents writer.old) (W.contents writer.new) task clock result }
+        (W.contents writer.old) (W.contents writer.new) task.now clock result }
 {
     let conn = Connection::open_in_memory(alloc)?;
     let (_, end) = run_words(alloc, task, clock, conn, reader, writer);

@@ -6,6 +6,7 @@
 
 mod adopt;
 mod crash;
+mod day;
 mod desk;
 mod fault;
 mod queries;

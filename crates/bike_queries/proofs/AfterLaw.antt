@@ -1,5 +1,5 @@
 -- The first row of a table whose key comes after a text.
-use Rattle.std.proofs.Common.{◌≡◌, inl, ℕ, List, [], ◌∷◌, filter, find, slice_get, Bool, true, false, cond, ◌&&◌, Option, Some, None, Less, Equal, Greater, Ordering, refl, sym, ap, subst, ◌∙◌}
+use Rattle.std.proofs.Common.{◌≡◌, inl, inr, ℕ, List, [], ◌∷◌, filter, find, slice_get, Bool, true, false, cond, ◌&&◌, Option, Some, None, Less, Equal, Greater, Ordering, refl, sym, ap, subst, ◌∙◌}
 use Rattle.std.specs.Prelude.{map, option_map, unwrap_or}
 use Rattle.std.specs.FinMap as fin
 use Rattle.std.specs.FinMap.{FinMap, entries}
@@ -45,7 +45,7 @@ gt_test (Real x) id = truth_of (is_gt (value_cmp (Real x) (Text id)))
 gt_test (Text t) id = truth_of (is_gt (value_cmp (Text t) (Text id)))
 gt_test (Blob b) id = truth_of (is_gt (value_cmp (Blob b) (Text id)))
 
-and_true : (b : Bool) → (b && true) ≡ b
+pub and_true : (b : Bool) → (b && true) ≡ b
 and_true true = refl
 and_true false = refl
 
@@ -59,7 +59,7 @@ after_tests place = op2 (Compare Gt Binary) (col 1 place) (col 0 0) ∷ []
 
 -- ---- the first row after a text
 
-shows_every : (t : TableName) (params r : Row) → eval_all (every_column (layout_of t)) (params ∷ r ∷ []) ≡ columns_of (table_of (layout_of t) 0) r
+pub shows_every : (t : TableName) (params r : Row) → eval_all (every_column (layout_of t)) (params ∷ r ∷ []) ≡ columns_of (table_of (layout_of t) 0) r
 shows_every t params r = map_map _ (λ term. eval term (params ∷ r ∷ [])) _
 
 -- SELECT * FROM the table WHERE the column at a place > ?1 ORDER BY its key LIMIT 1
@@ -77,10 +77,10 @@ after_in t {text} place id shown is =
 
 -- ---- the first entry of a map
 
-first_passed : {A : Type 0} (row : A → Row) (pass : Row → Bool) (test : A → Bool) → ((x : A) → pass (row x) ≡ test x)
-    → (xs : List A) → slice_get (filter pass (map row xs)) 0 ≡ option_map row (find test xs)
-first_passed row pass test same [] = refl
-first_passed {A} row pass test same (x ∷ xs) = rw (same x) (go (test x) (first_passed row pass test same xs)) where
+pub first_passed : {A : Type 0} (row : A → Row) (pass : Row → Bool) (test : A → Bool) (xs : List A) → ((x : A) → Has xs x → pass (row x) ≡ test x)
+    → slice_get (filter pass (map row xs)) 0 ≡ option_map row (find test xs)
+first_passed row pass test [] same = refl
+first_passed {A} row pass test (x ∷ xs) same = rw (same x (inl refl)) (go (test x) (first_passed row pass test xs (λ y has. same y (inr has)))) where
   go : (b : Bool) → slice_get (filter pass (map row xs)) 0 ≡ option_map row (find test xs)
       → slice_get (cond b (row x ∷ filter pass (map row xs)) (filter pass (map row xs))) 0 ≡ option_map row (cond b (Some x) (find test xs))
   go true rest = refl
@@ -112,6 +112,6 @@ module _ {V : Type 0} (m : FinMap text_cmp V) (named : (e : List ℕ × V) → f
   pub row_after : (row : List ℕ × V → Row) → ((e : List ℕ × V) → column (row e) 0 ≡ Text e.0) → (after : Option (List ℕ)) (start : List ℕ) → start ≡ unwrap_or after []
       → slice_get (filter (is_behind start) (map row (entries m))) 0 ≡ option_map row (first_after after m)
   row_after row begins after start is =
-      first_passed row (is_behind start) (λ e. is_lt (text_cmp start e.0)) (λ e.
-      ap (λ v. is_gt (value_cmp v (Text start))) (begins e) ∙ ap is_gt (value_cmp-Text e.0 start ∙ text_order.total.antisymm e.0 start) ∙ turned (text_cmp start e.0)) (entries m)
+      first_passed row (is_behind start) (λ e. is_lt (text_cmp start e.0)) (entries m) (λ e has.
+      ap (λ v. is_gt (value_cmp v (Text start))) (begins e) ∙ ap is_gt (value_cmp-Text e.0 start ∙ text_order.total.antisymm e.0 start) ∙ turned (text_cmp start e.0))
       ∙ ap (λ id. option_map row (first_after (Some id) m)) is ∙ ap (option_map row) (after_start after)

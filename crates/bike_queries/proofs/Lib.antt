@@ -4,4 +4,6 @@ mod InfoLemmas
 mod TypeLemmas
 mod CountRows
 mod AfterLaw
+mod SpanLaw
+mod SpanLemmas
 mod NextLemmas

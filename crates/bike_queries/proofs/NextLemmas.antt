@@ -50,7 +50,7 @@ first_has : {A : Type 0} (xs : List A) (x : A) → slice_get xs 0 ≡ Some x →
 first_has [] x is = absurd cc
 first_has (y ∷ ys) x is = inl (sym (same_Some y x is))
 
-find_has : {A : Type 0} (test : A → Bool) (xs : List A) (x : A) → find test xs ≡ Some x → Has xs x
+pub find_has : {A : Type 0} (test : A → Bool) (xs : List A) (x : A) → find test xs ≡ Some x → Has xs x
 find_has test [] x is = absurd cc
 find_has test (y ∷ ys) x is = go (test y) (find_has test ys x) is where
   go : (b : Bool) → (find test ys ≡ Some x → Has ys x) → cond b (Some y) (find test ys) ≡ Some x → Has (y ∷ ys) x

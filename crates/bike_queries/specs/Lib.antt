@@ -1,3 +1,4 @@
 pub mod Infos
 pub mod StationCounts
 pub mod After
+pub mod Spans

@@ -1,5 +1,5 @@
-//! Reads for the queries of a desk. Each answers what the operator holds of a name whose tables stand in the database,
-//! as a value that owns what it shows, and changes nothing.
+//! Reads for the queries of a desk. Each answers what the operator whose tables stand in the database holds of a name,
+//! or next in order, as a value that owns what it shows, and changes nothing.
 //!
 //! Stored numbers are used as they stand (a rider's balance, a rental's refunds, the numbers of a station): no bicycle
 //! and no entry is counted. A row that holds what the product never writes is `StoreFailed`; memory that is refused is
@@ -10,9 +10,11 @@ mod after;
 mod bikes;
 mod columns;
 mod counts;
+mod entries;
 mod plans;
 mod rentals;
 mod riders;
+mod span;
 mod stations;
 mod system;
 mod types;
@@ -20,8 +22,9 @@ mod types;
 pub use bike_feed_texts::TypeCount;
 pub use bikes::find_place;
 pub use counts::{Counts, find_station_counts};
+pub use entries::find_entry_after;
 pub use plans::find_plan_after;
-pub use rentals::{ClosingInfo, RentalInfo, find_rental_info};
+pub use rentals::{ClosingInfo, RentalInfo, find_ended_after, find_rental_info};
 pub use riders::{RiderInfo, find_balance, find_rider_info};
 pub use stations::{StationInfo, find_station_after};
 pub use system::find_system;

@@ -1,15 +1,19 @@
-//! A rental, as queries show one.
+//! A rental, as queries show one, and those that ended in a span of time in order of their numbers.
 
 ghost use Rattle.std.specs.Prelude.{◌≡◌, option_map};
+ghost use Rattle.bike_book.specs.Stored.{stored_rental};
 ghost use Rattle.bike_schema.specs.Answers.{Answers};
 ghost use Rattle.bike_queries.specs.Infos.{closing_info, stored_info, rental_info_at};
+ghost use Rattle.bike_queries.specs.Spans.{ended_after, ended_info_after};
 
+use crate::span::{seconds_of, start_at};
 use bike_accounts::{StoredRental, find_rental};
 use bike_fields::{BicycleNumber, Ident, RentalNumber, RiderNumber};
 use bike_fixed::{Cents, Moment};
 use bike_operator::{Closing, Rental};
-use bike_schema::StatementFault;
-use sqlite::{Alter, Connection};
+use bike_rows::lookup::first_row;
+use bike_schema::{StatementFault, number_at};
+use sqlite::{Alter, Connection, Row, params};
 use std::alloc::Global;
 
 /// What is shown of how a rental was closed.
@@ -98,5 +102,59 @@ pub fn find_rental_info<S: Alter>(
     match find_rental(alloc, conn, rental)? {
         Some(stored) => Ok(Some(RentalInfo::of_stored(stored))),
         None => Ok(None),
+    }
+}
+
+/// The row of the first rental of a later number that ended in the span.
+fn select_ended<S: Alter>(
+    conn: &mut Connection<S>,
+    number: u64,
+    begin: Moment,
+    end: Moment,
+) -> Result<Option<Row>, StatementFault>
+    ensures { Answers S.Store conn.old conn.new result
+        (λ s m row. row ≡ option_map (stored_rental s.entries) (ended_after s number begin end)) }
+{
+    first_row(
+        conn,
+        "SELECT * FROM rentals WHERE rental > ?1 AND finish >= ?2 AND finish < ?3 ORDER BY rental LIMIT 1",
+        params![start_at(number), seconds_of(begin), seconds_of(end)],
+    )
+}
+
+/// The number of that rental.
+fn find_ended<S: Alter>(
+    conn: &mut Connection<S>,
+    number: u64,
+    begin: Moment,
+    end: Moment,
+) -> Result<Option<RentalNumber>, StatementFault>
+    ensures { Answers S.Store conn.old conn.new result
+        (λ s m x. x ≡ option_map (λ e. e.0) (ended_after s number begin end)) }
+{
+    match select_ended(conn, number, begin, end)? {
+        Some(row) => Ok(Some(number_at(&row, 0)?)),
+        None => Ok(None),
+    }
+}
+
+/// The first rental of a later number that ended at `begin` or later and before `end`, with its number; `None` where there is
+/// none. `NoMemory` where its texts find no room; every other fault is the database's.
+pub fn find_ended_after<S: Alter>(
+    alloc: Global,
+    conn: &mut Connection<S>,
+    number: u64,
+    begin: Moment,
+    end: Moment,
+) -> Result<Option<(RentalNumber, RentalInfo)>, StatementFault>
+    ensures { Answers S.Store conn.old conn.new result
+        (λ s m x. x ≡ ended_info_after s number begin end) }
+{
+    let Some(rental) = find_ended(conn, number, begin, end)? else {
+        return Ok(None);
+    };
+    match find_rental_info(alloc, conn, rental)? {
+        Some(info) => Ok(Some((rental, info))),
+        None => Err(StatementFault::StoreFailed),
     }
 }

@@ -1,5 +1,7 @@
 -- The words for a task ask for it.
-use Rattle.std.proofs.Common.{◌≡◌, ◌∙◌, ℕ, ap, ap₂, refl, arith, map, List, [], ◌∷◌, Option, Some, None, option_and_then, option_map, false, codes, decimal, unwrap_or, find}
+use Rattle.std.proofs.Common.{◌≡◌, ◌∙◌, ℕ, ap, ap₂, refl, arith, map, List, [], ◌∷◌, ◌++◌, Bool, Bor, Option, Some, None, option_and_then, option_map}
+use Rattle.std.proofs.Common.{true, false, ◌||◌, if◌then◌else◌, codes, decimal, unwrap_or, find}
+use Rattle.std.specs.List.{list_any}
 use Rattle.std.specs.Str.Parse.{starts_with_minus}
 use Rattle.clap.specs.Kinds.{or_else}
 use Rattle.clap.specs.Simple.{built, label_of, new_shape}
@@ -7,13 +9,18 @@ use Rattle.clap.specs.Walk.{answers_to}
 use Rattle.clap.specs.Words.{Row, Shape, Text, first_of, subcommand_of}
 use Rattle.clap.proofs.OnLiterals.{clap_on_literals}
 use Rattle.bike_fixed.specs.Whole.{last_moment, number_of}
+use Rattle.bike_fields.specs.Bytes.{ident_of, is_ident}
+use Rattle.bike_day_texts.specs.Tables.{table_name, table_of}
+use Rattle.bike_day_texts.specs.declared.table.DayTable.{DayTable}
+use Rattle.bike_day_texts.specs.declared.table.DayTable.TheVariants.{Entries, Rentals}
 use Rattle.bike_feed_texts.specs.Feeds.{feed_name, feed_of}
 use Rattle.bike_feed_texts.specs.declared.feed.Feed.{Feed as AnyFeed}
 use Rattle.bike_feed_texts.specs.declared.feed.Feed.TheVariants as feeds
 use Rattle.bike_words.specs.Program.{IsWithin, name_of, program, words_for}
-use Rattle.bike_words.specs.Asked.{Ask, Found, task_in, task_of, value_in}
+use Rattle.bike_words.specs.Asked.{Ask, Found, Wanted, task_in, task_of, value_in, wanted}
+use Rattle.bike_words.specs.Asked as want
 use Rattle.bike_words.specs.declared.task.Task.{Task}
-use Rattle.bike_words.specs.declared.task.Task.TheVariants.{Init, Check, Lines, Feed, Serve}
+use Rattle.bike_words.specs.declared.task.Task.TheVariants.{Init, Check, Lines, Feed, Day, Import, Serve}
 use Rattle.bike_words.proofs.Entered.{Enters, fault_entered, subcommand_entered}
 use Rattle.bike_words.proofs.Numbers.{decimal_plain, read_back}
 use Rattle.bike_words.proofs.Plain.{ArePlain, Marked, fault_behind, level_marked, other, plain, rows_behind, rows_marked, text_of}
@@ -37,6 +44,15 @@ feed_named feeds.StationInformation = refl
 feed_named feeds.StationStatus = refl
 feed_named feeds.SystemPricingPlans = refl
 
+table_named : (table : DayTable) → table_of (table_name table) ≡ Some table
+unfolding table_of
+table_named Entries = refl
+table_named Rentals = refl
+
+ident_named : (name : Text) → is_ident name ≡ true → ident_of name ≡ Some name
+unfolding ident_of
+ident_named name good = rw good refl
+
 -- ---- the words of the program
 
 abbrev shape_of : Text → Shape
@@ -48,12 +64,14 @@ enters Init = record { bare = refl; stops = refl; finds = refl; named = refl; tu
 enters Check = record { bare = refl; stops = refl; finds = refl; named = refl; turns = refl; ends = refl }
 enters Lines = record { bare = refl; stops = refl; finds = refl; named = refl; turns = refl; ends = refl }
 enters (Feed feed at) = record { bare = refl; stops = refl; finds = refl; named = refl; turns = refl; ends = refl }
+enters (Day table date zone) = record { bare = refl; stops = refl; finds = refl; named = refl; turns = refl; ends = refl }
+enters (Import name at) = record { bare = refl; stops = refl; finds = refl; named = refl; turns = refl; ends = refl }
 enters (Serve port count) = record { bare = refl; stops = refl; finds = refl; named = refl; turns = refl; ends = refl }
 
 -- what stands behind the task's word is this task on this file
 record Behind (task : Task) (file : Text) (words : List Marked) : Type 0 where
   free : fault_behind (shape_of (name_of task)) words ≡ []
-  tells : task_in (Some (name_of task, rows_behind (shape_of (name_of task)) words)) ≡ Some task
+  tells : task_in (Some (name_of task, rows_behind (shape_of (name_of task)) words)) ≡ Some (wanted task)
   file_is : first_of (codes "file") (rows_behind (shape_of (name_of task)) words) ≡ Some file
 
 asks_by : (task : Task) (file : Text) (words : List Marked) → ArePlain words → Behind task file words → Ask (name_of task ∷ map text_of words) task file
@@ -66,11 +84,14 @@ asks_by task file words are is =
     let fault = fault_entered program name s rest (enters task) ∙ ap (λ kinds. or_else kinds []) (level_marked s words are ∙ is.free) in
     (fault, (ap task_in found ∙ is.tells, ap (λ (f : Found). value_in f (codes "file")) found ∙ is.file_is))
 
-abbrev pub feed_by : Option AnyFeed → Option ℕ → Option Task
-feed_by feed at = option_and_then (λ feed. option_map (λ at. Feed feed at) (option_map (λ n. Some n) at)) feed
+abbrev pub feed_by : Option AnyFeed → Option ℕ → Option Wanted
+feed_by feed at = option_and_then (λ feed. option_map (λ at. want.Feed feed at) (option_map (λ n. Some n) at)) feed
 
-abbrev pub serve_by : Option ℕ → Option ℕ → Option Task
-serve_by port count = option_and_then (λ port. option_map (λ count. Serve port count) (option_map (λ n. Some n) count)) port
+abbrev pub import_by : Option Text → Option ℕ → Option Wanted
+import_by name at = option_and_then (λ name. option_map (λ at. want.Import name at) (option_map (λ n. Some n) at)) name
+
+abbrev pub serve_by : Option ℕ → Option ℕ → Option Wanted
+serve_by port count = option_and_then (λ port. option_map (λ count. want.Serve port count) (option_map (λ n. Some n) count)) port
 
 behind_init : (file : Text) → Behind Init file (plain file ∷ [])
 unfolding program clap_on_literals task_of
@@ -88,7 +109,7 @@ behind_feed : (feed : AnyFeed) (file name : Text) → feed_of name ≡ Some feed
 unfolding program clap_on_literals task_of
 behind_feed feed file name is = record {
   free = refl;
-  tells = ap (option_and_then (λ (feed : AnyFeed). Some (Feed feed None))) is;
+  tells = ap (option_and_then (λ (feed : AnyFeed). Some (want.Feed feed None))) is;
   file_is = refl;
 }
 
@@ -101,12 +122,58 @@ behind_feed_at feed at file name text is seconds = record {
   file_is = refl;
 }
 
+behind_day : (table : DayTable) (date zone : Bor Text) (file name : Text) → table_of name ≡ Some table
+    → Behind (Day table date zone) file (plain file ∷ plain name ∷ plain date.now ∷ plain zone.now ∷ [])
+unfolding program clap_on_literals task_of
+behind_day table date zone file name is = record {
+  free = refl;
+  tells = ap (option_and_then (λ (table : DayTable). Some (want.Day table date.now zone.now))) is;
+  file_is = refl;
+}
+
+-- all texts stand behind a `--`
+behind_day_all : (table : DayTable) (date zone : Bor Text) (file name : Text) → table_of name ≡ Some table
+    → Behind (Day table date zone) file (other (codes "--") ∷ other file ∷ other name ∷ other date.now ∷ other zone.now ∷ [])
+unfolding program clap_on_literals task_of
+behind_day_all table date zone file name is = record {
+  free = refl;
+  tells = ap (option_and_then (λ (table : DayTable). Some (want.Day table date.now zone.now))) is;
+  file_is = refl;
+}
+
+behind_import : (name : Bor Text) (file : Text) → ident_of name.now ≡ Some name.now → Behind (Import name None) file (plain file ∷ plain name.now ∷ [])
+unfolding program clap_on_literals task_of
+behind_import name file is = record {
+  free = refl;
+  tells = ap (option_and_then (λ (name : Text). Some (want.Import name None))) is;
+  file_is = refl;
+}
+
+behind_import_at : (name : Bor Text) (at : ℕ) (file text : Text) → ident_of name.now ≡ Some name.now → number_of 0 last_moment text ≡ Some at
+    → Behind (Import name (Some at)) file (plain file ∷ plain name.now ∷ other (codes "--at") ∷ plain text ∷ [])
+unfolding program clap_on_literals task_of
+behind_import_at name at file text is seconds = record { free = refl; tells = ap₂ import_by is seconds; file_is = refl }
+
+behind_import_all : (name : Bor Text) (file : Text) → ident_of name.now ≡ Some name.now
+    → Behind (Import name None) file (other (codes "--") ∷ other file ∷ other name.now ∷ [])
+unfolding program clap_on_literals task_of
+behind_import_all name file is = record {
+  free = refl;
+  tells = ap (option_and_then (λ (name : Text). Some (want.Import name None))) is;
+  file_is = refl;
+}
+
+behind_import_at_all : (name : Bor Text) (at : ℕ) (file text : Text) → ident_of name.now ≡ Some name.now → number_of 0 last_moment text ≡ Some at
+    → Behind (Import name (Some at)) file (other (codes "--at") ∷ plain text ∷ other (codes "--") ∷ other file ∷ other name.now ∷ [])
+unfolding program clap_on_literals task_of
+behind_import_at_all name at file text is seconds = record { free = refl; tells = ap₂ import_by is seconds; file_is = refl }
+
 behind_serve : (port : ℕ) (file text : Text) → number_of 0 65535 text ≡ Some port
     → Behind (Serve port None) file (plain file ∷ other (codes "--port") ∷ plain text ∷ [])
 unfolding program clap_on_literals task_of
 behind_serve port file text is = record {
   free = refl;
-  tells = ap (option_and_then (λ (port : ℕ). Some (Serve port None))) is;
+  tells = ap (option_and_then (λ (port : ℕ). Some (want.Serve port None))) is;
   file_is = refl;
 }
 
@@ -119,6 +186,55 @@ behind_serve_count port count file text many is counts = record {
   file_is = refl;
 }
 
+-- ---- texts that may begin with a hyphen
+
+both_false : (a b : Bool) → a || b ≡ false → (a ≡ false) × (b ≡ false)
+both_false true b is = cc
+both_false false b is = (refl, is)
+
+all_plain : (texts : List Text) → list_any starts_with_minus texts ≡ false → ArePlain (map plain texts)
+all_plain [] none = tt
+all_plain (text ∷ texts) none =
+    let both = both_false (starts_with_minus text) (list_any starts_with_minus texts) none in
+    (both.0, all_plain texts both.1)
+
+-- a task whose texts are placed is asked for both where they are plain and where not
+placed_asks : (task : Task) (file : Text) (texts options : List Text) (some : Bool) → list_any starts_with_minus texts ≡ some
+    → (list_any starts_with_minus texts ≡ false → Ask (name_of task ∷ texts ++ options) task file)
+    → Ask (name_of task ∷ options ++ codes "--" ∷ texts) task file
+    → Ask (name_of task ∷ (if some then options ++ codes "--" ∷ texts else texts ++ options)) task file
+placed_asks task file texts options true is usual all = all
+placed_asks task file texts options false is usual all = usual is
+
+day_asks : (table : DayTable) (date zone : Bor Text) (file : Text) → Ask (words_for (Day table date zone) file) (Day table date zone) file
+day_asks table date zone file =
+    let task = Day table date zone in
+    let name = table_name table in
+    let texts = file ∷ name ∷ date.now ∷ zone.now ∷ [] in
+    placed_asks task file texts [] (list_any starts_with_minus texts) refl
+    (λ none. asks_by task file (map plain texts) (all_plain texts none) (behind_day table date zone file name (table_named table)))
+    (asks_by task file (other (codes "--") ∷ map other texts) tt (behind_day_all table date zone file name (table_named table)))
+
+import_asks : (name : Bor Text) (at : Option ℕ) (file : Text) → IsWithin (Import name at) → Ask (words_for (Import name at) file) (Import name at) file
+import_asks name None file within =
+    let task = Import name None in
+    let texts = file ∷ name.now ∷ [] in
+    let is = ident_named name.now within.0 in
+    placed_asks task file texts [] (list_any starts_with_minus texts) refl
+    (λ none. asks_by task file (map plain texts) (all_plain texts none) (behind_import name file is))
+    (asks_by task file (other (codes "--") ∷ map other texts) tt (behind_import_all name file is))
+import_asks name (Some at) file within =
+    let task = Import name (Some at) in
+    let texts = file ∷ name.now ∷ [] in
+    let option = other (codes "--at") ∷ plain (decimal at) ∷ [] in
+    let is = ident_named name.now within.0 in
+    let seconds = read_back 0 last_moment at (omega arith) (omega arith) within.1 in
+    let no_minus = decimal_plain at (omega (arith, within.1)) in
+    placed_asks task file texts (codes "--at" ∷ decimal at ∷ []) (list_any starts_with_minus texts) refl
+    (λ none. let plain_texts = all_plain texts none in
+    asks_by task file (plain file ∷ plain name.now ∷ option) (plain_texts.0, (plain_texts.1.0, (no_minus, tt))) (behind_import_at name at file (decimal at) is seconds))
+    (asks_by task file (option ++ other (codes "--") ∷ map other texts) (no_minus, tt) (behind_import_at_all name at file (decimal at) is seconds))
+
 pub word_asks : (task : Task) (file : Text) → starts_with_minus file ≡ false → IsWithin task → Ask (words_for task file) task file
 word_asks Init file no_minus within = asks_by Init file (plain file ∷ []) (no_minus, tt) (behind_init file)
 word_asks Check file no_minus within = asks_by Check file (plain file ∷ []) (no_minus, tt) (behind_check file)
@@ -130,6 +246,8 @@ word_asks (Feed feed (Some at)) file no_minus within =
     asks_by (Feed feed (Some at)) file (plain file ∷ plain (feed_name feed) ∷ other (codes "--at") ∷ plain (decimal at) ∷ [])
     (no_minus, (feed_plain feed, (decimal_plain at (omega (arith, within)), tt)))
     (behind_feed_at feed at file (feed_name feed) (decimal at) (feed_named feed) (read_back 0 last_moment at (omega arith) (omega arith) within))
+word_asks (Day table date zone) file no_minus within = day_asks table date zone file
+word_asks (Import name at) file no_minus within = import_asks name at file within
 word_asks (Serve port None) file no_minus within =
     asks_by (Serve port None) file (plain file ∷ other (codes "--port") ∷ plain (decimal port) ∷ [])
     (no_minus, (decimal_plain port (omega (arith, within.0)), tt))

@@ -1,17 +1,22 @@
 -- The program as clap reads it: its words, each with its FILE and with what it takes besides.
-use Rattle.std.specs.Prelude.{◌==◌, ◌≤◌, ℕ, [], ◌∷◌, ◌++◌, fold, codes, decimal, Bool, true, nat_eq, List, Option, Some, None, IfSome}
+use Rattle.std.specs.Prelude.{◌≡◌, ◌==◌, ◌≤◌, ℕ, [], ◌∷◌, ◌++◌, fold, codes, decimal, Bool, true, nat_eq, if◌then◌else◌, List, Option, Some, None, IfSome}
 use Rattle.std.specs.List.{list_any, slice_split, starts_with}
+use Rattle.std.specs.Str.Parse.{starts_with_minus}
 use Rattle.clap.specs.Words.{App, Rule, Text, new_app, new_rule, with_rule, with_subcommand}
 use Rattle.bike_fixed.specs.Whole.{last_moment}
+use Rattle.bike_fields.specs.Bytes.{is_ident}
+use Rattle.bike_day_texts.specs.Tables.{table_name}
 use Rattle.bike_feed_texts.specs.Feeds.{feed_name}
 use Rattle.bike_words.specs.declared.task.Task.{Task}
-use Rattle.bike_words.specs.declared.task.Task.TheVariants.{Init, Check, Lines, Feed, Serve}
+use Rattle.bike_words.specs.declared.task.Task.TheVariants.{Init, Check, Lines, Feed, Day, Import, Serve}
 
 abbrev pub name_of : Task → Text
 name_of Init = codes "init"
 name_of Check = codes "check"
 name_of Lines = codes "lines"
 name_of (Feed feed at) = codes "feed"
+name_of (Day table date zone) = codes "day"
+name_of (Import name at) = codes "import"
 name_of (Serve port count) = codes "serve"
 
 -- a value that has to be there, told by its place
@@ -26,9 +31,13 @@ option_rule id = record (new_rule id) { long = Some id }
 abbrev pub on_file : Text → App
 on_file name = with_rule (new_app name) (value_rule (codes "file"))
 
--- .. and a feed's NAME, and may have its moment
-abbrev pub feed_word : App
-feed_word = with_rule (with_rule (on_file (codes "feed")) (value_rule (codes "name"))) (option_rule (codes "at"))
+-- .. and the NAME of a feed or an import, and may have its moment
+abbrev pub named_word : Text → App
+named_word name = with_rule (with_rule (on_file name) (value_rule (codes "name"))) (option_rule (codes "at"))
+
+-- .. and the table WHICH of the day of a DATE in a ZONE
+abbrev pub day_word : App
+day_word = with_rule (with_rule (with_rule (on_file (codes "day")) (value_rule (codes "which"))) (value_rule (codes "date"))) (value_rule (codes "zone"))
 
 -- .. and a port, and may have a count
 abbrev pub serve_word : App
@@ -43,7 +52,9 @@ program = fold (λ (app word : App). with_subcommand app word.top) top
     (on_file (codes "init")
     ∷ on_file (codes "check")
     ∷ on_file (codes "lines")
-    ∷ feed_word
+    ∷ named_word (codes "feed")
+    ∷ day_word
+    ∷ named_word (codes "import")
     ∷ serve_word
     ∷ [])
 
@@ -52,23 +63,32 @@ abbrev pub option_words : Text → Option ℕ → List Text
 option_words flag None = []
 option_words flag (Some n) = flag ∷ decimal n ∷ []
 
+-- Texts by their places, and the options behind them. Where one of the texts would be taken for an option, they stand behind a `--`.
+abbrev pub placed : List Text → List Text → List Text
+placed texts options = if list_any starts_with_minus texts then options ++ codes "--" ∷ texts else texts ++ options
+
 -- the words for a task on a file, in the usual order
 abbrev pub words_for : Task → Text → List Text
 words_for Init file = codes "init" ∷ file ∷ []
 words_for Check file = codes "check" ∷ file ∷ []
 words_for Lines file = codes "lines" ∷ file ∷ []
 words_for (Feed feed at) file = codes "feed" ∷ file ∷ feed_name feed ∷ option_words (codes "--at") at
+words_for (Day table date zone) file = codes "day" ∷ placed (file ∷ table_name table ∷ date.now ∷ zone.now ∷ []) []
+words_for (Import name at) file = codes "import" ∷ placed (file ∷ name.now ∷ []) (option_words (codes "--at") at)
 words_for (Serve port count) file = codes "serve" ∷ file ∷ codes "--port" ∷ decimal port ∷ option_words (codes "--count") count
 
--- its numbers lie within their bounds
+-- its numbers lie within their bounds, and the name of an import is spelled as an identifier
 abbrev pub IsWithin : Task → Type 0
 IsWithin (Feed feed at) = IfSome at (λ seconds. seconds ≤ last_moment)
+IsWithin (Import name at) = (is_ident name.now ≡ true) × IfSome at (λ seconds. seconds ≤ last_moment)
 IsWithin (Serve port count) = (port ≤ 65535) × IfSome count (λ n. (1 ≤ n) × (n ≤ 1000000000))
 IsWithin _ = Unit
 
 -- the word with what it takes, as a user is told
 abbrev pub form_of : Task → Text
 form_of (Feed feed at) = codes "feed FILE NAME [--at M]"
+form_of (Day table date zone) = codes "day FILE WHICH DATE ZONE"
+form_of (Import name at) = codes "import FILE NAME [--at M]"
 form_of (Serve port count) = codes "serve FILE --port P [--count N]"
 form_of task = name_of task ++ codes " FILE"
 

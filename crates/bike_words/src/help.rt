@@ -18,13 +18,17 @@ usage: bikeshare [WORD FILE ..]
   check FILE                       checks that FILE is a sound database of this program, and prints sound
   lines FILE                       answers the request lines of standard input on standard output
   feed FILE NAME [--at M]          writes the feed NAME on standard output
+  day FILE WHICH DATE ZONE         writes the table WHICH of a local day on standard output, as CSV
+  import FILE NAME [--at M]        adds the stations of a CSV table on standard input, and prints rows with their number
   serve FILE --port P [--count N]  answers HTTP requests on 127.0.0.1
 
-  --at M     the feed's moment in whole seconds since 1970, 0 to 253402300799; the clock's where it is left out
+  --at M     the moment of the feed or the import in whole seconds since 1970, 0 to 253402300799; the clock's where it is left out
   --port P   the port, 0 to 65535; 0 is a free one
   --count N  ends after N connections, 1 to 1000000000; has no end where it is left out
 
-NAME is gbfs, system_information, vehicle_types, station_information, station_status or system_pricing_plans.
+A feed's NAME is gbfs, system_information, vehicle_types, station_information, station_status or system_pricing_plans.
+WHICH is entries or rentals, DATE is the day's date as 2024-03-31, and ZONE a POSIX time zone as CET-1CEST,M3.5.0,M10.5.0/3.
+An import's NAME is 1 to 36 of a-z 0-9 _ -, and stands for the caller import:NAME.
 FILE is an SQLite database, or :memory: for one that is gone at the end.
 No words at all are lines :memory:.
 "

@@ -3,7 +3,7 @@
 ghost use Rattle.std.specs.Prelude.{◌≡◌, IfOk, false};
 ghost use Rattle.clap.specs.Words.{app_of, rule_of};
 ghost use Rattle.clap.specs.declared.builder.command.Command.TheViews.{out-Command as fields_of};
-ghost use Rattle.bike_words.specs.Program.{feed_word, on_file, option_rule, program, serve_word, value_rule};
+ghost use Rattle.bike_words.specs.Program.{day_word, named_word, on_file, option_rule, program, serve_word, value_rule};
 
 use clap::{Arg, Command};
 use std::alloc::{AllocError, Global};
@@ -32,14 +32,25 @@ fn on_file<'a>(alloc: Global, name: &'a str) -> Result<Command<'a>, AllocError>
     Command::new(alloc, name).arg(value(alloc, "file"))
 }
 
-/// The word for a feed.
-fn feed_word<'a>(alloc: Global) -> Result<Command<'a>, AllocError>
-    ensures app { IfOk result (λ c. app_of c ≡ feed_word) }
+/// The word of this name, which wants a FILE and a NAME, and may have a moment.
+fn named_word<'a>(alloc: Global, name: &'a str) -> Result<Command<'a>, AllocError>
+    ensures app { IfOk result (λ c. app_of c ≡ named_word name.entry.now) }
     ensures local { IfOk result (λ c. (fields_of c).has_globals ≡ false) }
 {
-    on_file(alloc, "feed")?
+    on_file(alloc, name)?
         .arg(value(alloc, "name"))?
         .arg(option(alloc, "at"))
+}
+
+/// The word for a table of a day.
+fn day_word<'a>(alloc: Global) -> Result<Command<'a>, AllocError>
+    ensures app { IfOk result (λ c. app_of c ≡ day_word) }
+    ensures local { IfOk result (λ c. (fields_of c).has_globals ≡ false) }
+{
+    on_file(alloc, "day")?
+        .arg(value(alloc, "which"))?
+        .arg(value(alloc, "date"))?
+        .arg(value(alloc, "zone"))
 }
 
 /// The word for serving HTTP.
@@ -61,6 +72,8 @@ pub(crate) fn program<'a>(alloc: Global) -> Result<Command<'a>, AllocError>
         .subcommand(on_file(alloc, "init")?)?
         .subcommand(on_file(alloc, "check")?)?
         .subcommand(on_file(alloc, "lines")?)?
-        .subcommand(feed_word(alloc)?)?
+        .subcommand(named_word(alloc, "feed")?)?
+        .subcommand(day_word(alloc)?)?
+        .subcommand(named_word(alloc, "import")?)?
         .subcommand(serve_word(alloc)?)
 }

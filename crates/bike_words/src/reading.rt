@@ -16,7 +16,7 @@ use std::alloc::Global;
 #[derive(Clone, Copy, Debug, PartialEq, Eq)]
 pub struct Words<'a> {
     /// What is done.
-    pub task: Task,
+    pub task: Task<'a>,
     /// The database's file, or `:memory:`.
     pub file: &'a str,
 }
@@ -35,9 +35,11 @@ fn words_in<'a>(matches: &ArgMatches<'a>) -> Option<Words<'a>>
     ensures some { IfSome result (λ words. IsFound (subcommand_rows_of matches.now) words.task words.file.now) }
     ensures none { IfNone result (IsNothing (subcommand_rows_of matches.now)) }
 {
-    let task = task_in(matches)?;
     let file = value_in(matches, "file")?;
-    Some(Words { task, file })
+    match task_in(matches) {
+        Some(task) => Some(Words { task, file }),
+        None => None,
+    }
 }
 
 /// Why clap refuses the words.
@@ -67,11 +69,12 @@ fn matches_of<'a>(alloc: Global, words: &'a [&'a str]) -> Result<ArgMatches<'a>,
 }
 
 /// What the words ask for; the program's own name is none of them. No words are the lines of a database in memory.
-/// `Usage` comes where clap refuses the words, where they are a wish for help, and where a feed's name is none or a
-/// number isn't the decimal of one within its bounds; `NoMemory` comes where memory is refused.
+/// `Usage` comes where clap refuses the words, where they are a wish for help, where a feed's or a table's name is none, where an
+/// import's name is no identifier, and where a number isn't the decimal of one within its bounds; `NoMemory` comes where memory is refused.
 pub fn read_words<'a>(alloc: Global, words: &'a [&'a str]) -> Result<Words<'a>, WordsFault>
     ensures none { words.entry.now ≡ [] → IsOkAnd result (λ asked. (asked.task ≡ Task.Lines) × (asked.file.now ≡ codes ":memory:")) }
     ensures some { 0 < length words.entry.now → IfOk result (λ asked. Ask (map (λ w. w.now) words.entry.now) asked.task asked.file.now) }
+    ensures within { IfOk result (λ asked. IsWithin asked.task) }
     ensures refused { result ≡ Err WordsFault.Usage → AskNothing (map (λ w. w.now) words.entry.now) }
     ensures plain { (task : Task) (file : Text) → map (λ w. w.now) words.entry.now ≡ words_for task file
         → starts_with_minus file ≡ false → IsWithin task → IsTold task file result }

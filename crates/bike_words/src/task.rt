@@ -2,15 +2,18 @@
 
 ghost use Rattle.std.specs.Prelude.{◌≡◌, option_map};
 ghost use Rattle.clap.specs.Words.{subcommand_rows_of};
-ghost use Rattle.bike_words.specs.Asked.{count_in, feed_in, feed_task, moment_in, name_in, port_in, serve_task, task_in, task_of, value_in};
+ghost use Rattle.bike_words.specs.Asked.{count_in, day_task, feed_in, feed_task, import_in, import_task, moment_in, name_in, port_in, serve_task};
+ghost use Rattle.bike_words.specs.Asked.{table_in, task_in, task_of, value_in, wanted};
 
+use bike_day_texts::DayTable;
 use bike_feed_texts::Feed;
+use bike_fields::Ident;
 use bike_fixed::{Moment, read_whole};
 use clap::ArgMatches;
 
 /// What the program does with its file.
 #[derive(Clone, Copy, Debug, PartialEq, Eq)]
-pub enum Task {
+pub enum Task<'a> {
     /// Makes the tables where there are none.
     Init,
     /// Checks that the database is sound.
@@ -22,6 +25,22 @@ pub enum Task {
         /// Which one.
         feed: Feed,
         /// The feed's moment, or none for the clock's.
+        at: Option<Moment>,
+    },
+    /// Writes a table of a day.
+    Day {
+        /// Which one.
+        table: DayTable,
+        /// The day's date, `YYYY-MM-DD`. Any text is taken.
+        date: &'a str,
+        /// The POSIX time zone in which that is a day. Any text is taken.
+        zone: &'a str,
+    },
+    /// Adds the stations of standard input.
+    Import {
+        /// The import's name, an identifier.
+        name: &'a str,
+        /// The import's moment, or none for the clock's.
         at: Option<Moment>,
     },
     /// Answers HTTP requests.
@@ -57,7 +76,7 @@ fn feed_in(matches: &ArgMatches<'_>) -> Option<Feed>
     Feed::read(value_in(matches, "name")?)
 }
 
-/// The feed's moment, which may be left out.
+/// The moment of a feed or an import, which may be left out.
 fn moment_in(matches: &ArgMatches<'_>) -> Option<Option<Moment>>
     ensures { result ≡ moment_in (subcommand_rows_of matches.now) }
 {
@@ -65,6 +84,20 @@ fn moment_in(matches: &ArgMatches<'_>) -> Option<Option<Moment>>
         Some(text) => Some(Some(Moment::read(text)?)),
         None => Some(None),
     }
+}
+
+/// The table of the WHICH.
+fn table_in(matches: &ArgMatches<'_>) -> Option<DayTable>
+    ensures { result ≡ table_in (subcommand_rows_of matches.now) }
+{
+    DayTable::read(value_in(matches, "which")?)
+}
+
+/// The name of an import.
+fn import_in<'a>(matches: &ArgMatches<'a>) -> Option<&'a str>
+    ensures { option_map (λ name. name.now) result ≡ import_in (subcommand_rows_of matches.now) }
+{
+    Ident::checked(value_in(matches, "name")?)
 }
 
 /// The port.
@@ -89,17 +122,36 @@ fn count_in(matches: &ArgMatches<'_>) -> Option<Option<u32>>
 }
 
 /// The feed and its moment.
-fn feed_task(matches: &ArgMatches<'_>) -> Option<Task>
-    ensures { result ≡ feed_task (subcommand_rows_of matches.now) }
+fn feed_task<'a>(matches: &ArgMatches<'a>) -> Option<Task<'a>>
+    ensures { option_map wanted result ≡ feed_task (subcommand_rows_of matches.now) }
 {
     let feed = feed_in(matches)?;
     let at = moment_in(matches)?;
     Some(Task::Feed { feed, at })
 }
 
+/// The table and its day.
+fn day_task<'a>(matches: &ArgMatches<'a>) -> Option<Task<'a>>
+    ensures { option_map wanted result ≡ day_task (subcommand_rows_of matches.now) }
+{
+    let table = table_in(matches)?;
+    let date = value_in(matches, "date")?;
+    let zone = value_in(matches, "zone")?;
+    Some(Task::Day { table, date, zone })
+}
+
+/// The import's name and its moment.
+fn import_task<'a>(matches: &ArgMatches<'a>) -> Option<Task<'a>>
+    ensures { option_map wanted result ≡ import_task (subcommand_rows_of matches.now) }
+{
+    let name = import_in(matches)?;
+    let at = moment_in(matches)?;
+    Some(Task::Import { name, at })
+}
+
 /// The port and the number of connections.
-fn serve_task(matches: &ArgMatches<'_>) -> Option<Task>
-    ensures { result ≡ serve_task (subcommand_rows_of matches.now) }
+fn serve_task<'a>(matches: &ArgMatches<'a>) -> Option<Task<'a>>
+    ensures { option_map wanted result ≡ serve_task (subcommand_rows_of matches.now) }
 {
     let port = port_in(matches)?;
     let count = count_in(matches)?;
@@ -108,22 +160,24 @@ fn serve_task(matches: &ArgMatches<'_>) -> Option<Task>
 
 /// The task of the word of this name.
 #[tactic(auto, unfolding(crate::specs::Asked::task_of))]
-fn task_of(name: &str, matches: &ArgMatches<'_>) -> Option<Task>
-    ensures { result ≡ task_of name.now (subcommand_rows_of matches.now) }
+fn task_of<'a>(name: &str, matches: &ArgMatches<'a>) -> Option<Task<'a>>
+    ensures { option_map wanted result ≡ task_of name.now (subcommand_rows_of matches.now) }
 {
     match name {
         "init" => Some(Task::Init),
         "check" => Some(Task::Check),
         "lines" => Some(Task::Lines),
         "feed" => feed_task(matches),
+        "day" => day_task(matches),
+        "import" => import_task(matches),
         "serve" => serve_task(matches),
         _ => None,
     }
 }
 
 /// The task that was found.
-pub(crate) fn task_in(matches: &ArgMatches<'_>) -> Option<Task>
-    ensures { result ≡ task_in (subcommand_rows_of matches.now) }
+pub(crate) fn task_in<'a>(matches: &ArgMatches<'a>) -> Option<Task<'a>>
+    ensures { option_map wanted result ≡ task_in (subcommand_rows_of matches.now) }
 {
     task_of(name_in(matches)?, matches)
 }

@@ -1,10 +1,10 @@
 //! The program `bikeshare`: it makes, checks or serves the database of a bike share, as its words say.
 #![tactic(auto)]
 
+ghost use Rattle.bike_words.specs.Program.{IsWithin};
 ghost use Rattle.bike_app.specs.Words.{ServesSockets};
 
-use bike_app::{Fault, Feed, clock_moment, exit_code, listen, run_words, run_words_in_memory};
-use bike_fixed::Moment;
+use bike_app::{Fault, clock_moment, exit_code, listen, run_words, run_words_in_memory};
 use bike_words::{Task, Words, WordsFault, read_words, usage};
 use sqlite::Connection;
 use std::alloc::{AllocError, Global};
@@ -15,7 +15,7 @@ use std::process::ExitCode;
 /// The status of words that aren't the program's.
 const WRONG_WORDS: u8 = 2;
 
-/// How many bytes of a feed are written at once.
+/// How many bytes of a feed or a table are written at once.
 const PIECE: usize = 65_536;
 
 /// Tells how the program is used; that this can't be written changes nothing.
@@ -34,24 +34,29 @@ fn lent(alloc: Global, texts: &[String]) -> Result<Vec<&str>, AllocError> {
 }
 
 /// Does a task over the database, with this output.
-fn run_on<W: Write>(rt: &HostRuntime, file: &str, task: Task, out: &mut W) -> Result<u64, Fault>
-    requires { ServesSockets task → ⊥ }
+fn run_on<W: Write>(rt: &HostRuntime, words: &Words<'_>, out: &mut W) -> Result<u64, Fault>
+    requires streams { ServesSockets words.now.task → ⊥ }
+    requires within { IsWithin words.now.task }
 {
     let clock = clock_moment(rt);
-    if file == ":memory:" {
+    let task = &words.task;
+    if words.file == ":memory:" {
         return run_words_in_memory(rt.alloc(), task, clock, &mut rt.stdin(), out);
     }
-    let conn = Connection::open(rt, file)?;
+    let conn = Connection::open(rt, words.file)?;
     let (_, end) = run_words(rt.alloc(), task, clock, conn, &mut rt.stdin(), out);
     end
 }
 
-/// Writes a feed of the database, in large pieces.
-fn publish(rt: &HostRuntime, file: &str, feed: Feed, at: Option<Moment>) -> Result<u64, Fault> {
+/// Does the task of words that ask for a long text, and writes that in large pieces.
+fn publish(rt: &HostRuntime, words: &Words<'_>) -> Result<u64, Fault>
+    requires streams { ServesSockets words.now.task → ⊥ }
+    requires within { IsWithin words.now.task }
+{
     let Ok(mut out) = BufWriter::with_capacity(rt.alloc(), PIECE, rt.stdout()) else {
         return Err(Fault::OutOfMemory);
     };
-    let end = run_on(rt, file, Task::Feed { feed, at }, &mut out)?;
+    let end = run_on(rt, words, &mut out)?;
     match out.flush() {
         Ok(()) => Ok(end),
         Err(_) => Err(Fault::WriteFailed),
@@ -69,12 +74,16 @@ fn answer(rt: &HostRuntime, file: &str, port: u16, count: Option<u32>) -> Result
 }
 
 /// Opens the database and does what the words ask.
-fn run(rt: &HostRuntime, words: &Words<'_>) -> Result<u64, Fault> {
+fn run(rt: &HostRuntime, words: &Words<'_>) -> Result<u64, Fault>
+    requires { IsWithin words.now.task }
+{
     match words.task {
-        Task::Init => run_on(rt, words.file, Task::Init, &mut rt.stdout()),
-        Task::Check => run_on(rt, words.file, Task::Check, &mut rt.stdout()),
-        Task::Lines => run_on(rt, words.file, Task::Lines, &mut rt.stdout()),
-        Task::Feed { feed, at } => publish(rt, words.file, feed, at),
+        Task::Init => run_on(rt, words, &mut rt.stdout()),
+        Task::Check => run_on(rt, words, &mut rt.stdout()),
+        Task::Lines => run_on(rt, words, &mut rt.stdout()),
+        Task::Import { .. } => run_on(rt, words, &mut rt.stdout()),
+        Task::Feed { .. } => publish(rt, words),
+        Task::Day { .. } => publish(rt, words),
         Task::Serve { port, count } => answer(rt, words.file, port, count),
     }
 }

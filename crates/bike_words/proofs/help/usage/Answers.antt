@@ -1,5 +1,5 @@
 use Rattle.std.proofs.Common.{refl}
-use Rattle.bike_words.specs.declared.task.Task.TheVariants.{Init, Check, Lines, Feed, Serve}
+use Rattle.bike_words.specs.declared.task.Task.TheVariants.{Init, Check, Lines, Feed, Day, Import, Serve}
 use Rattle.bike_words.proofs.help.usage.Goals as goal
 
 pub returns-clause-words : goal.returns-clause-words
@@ -7,6 +7,8 @@ returns-clause-words c Init = refl
 returns-clause-words c Check = refl
 returns-clause-words c Lines = refl
 returns-clause-words c (Feed feed at) = refl
+returns-clause-words c (Day table date zone) = refl
+returns-clause-words c (Import name at) = refl
 returns-clause-words c (Serve port count) = refl
 
 pub returns-clause-at : goal.returns-clause-at

@@ -1,17 +1,21 @@
-use Rattle.std.proofs.Common.{◌≡◌, ℕ, ap, ap₂, arith, refl, sym, codes, [], ◌∷◌, Option, Some, None, option_and_then, false}
+use Rattle.std.proofs.Common.{◌≡◌, ◌∙◌, ℕ, ap, ap₂, arith, refl, sym, codes, [], ◌∷◌, Option, Some, None, option_and_then, false}
 use Rattle.std.proofs.lemmas.Fmt.{decimal_digit}
 use Rattle.clap.specs.Walk.{is_empty}
-use Rattle.clap.specs.Words.{fault_of, subcommand_of}
+use Rattle.clap.specs.Words.{Text, fault_of, subcommand_of}
 use Rattle.clap.proofs.OnLiterals.{clap_on_literals}
 use Rattle.bike_fixed.specs.Whole.{last_moment, number_of}
 use Rattle.bike_fixed.proofs.Numbers.{number_full}
+use Rattle.bike_fields.specs.Bytes.{ident_of}
+use Rattle.bike_day_texts.specs.Tables.{table_of}
 use Rattle.bike_feed_texts.specs.Feeds.{feed_of}
+use Rattle.bike_day_texts.specs.declared.table.DayTable.TheVariants.{Rentals}
 use Rattle.bike_feed_texts.specs.declared.feed.Feed.TheVariants.{Gbfs, StationStatus}
 use Rattle.bike_words.specs.Program.{name_of, program}
-use Rattle.bike_words.specs.Asked.{task_of}
+use Rattle.bike_words.specs.Asked.{Wanted, task_of}
+use Rattle.bike_words.specs.Asked as want
 use Rattle.bike_words.specs.declared.task.Task.{Task}
-use Rattle.bike_words.specs.declared.task.Task.TheVariants.{Init, Check, Lines, Feed, Serve}
-use Rattle.bike_words.proofs.Asks.{feed_by, serve_by, word_asks}
+use Rattle.bike_words.specs.declared.task.Task.TheVariants.{Init, Check, Lines, Feed, Day, Import, Serve}
+use Rattle.bike_words.proofs.Asks.{feed_by, import_by, serve_by, word_asks}
 use Rattle.bike_words.proofs.Bounds.{found_within}
 use Rattle.bike_words.proofs.Numbers.{no_number, number_read}
 use Rattle.bike_words.proofs.Parse.{faulty, taskless}
@@ -23,6 +27,8 @@ bare Init = refl
 bare Check = refl
 bare Lines = refl
 bare (Feed feed at) = refl
+bare (Day table date zone) = refl
+bare (Import name at) = refl
 bare (Serve port count) = refl
 
 port_zero : number_of 0 65535 (codes "0") ≡ Some 0
@@ -52,11 +58,11 @@ port_past : number_of 0 65535 (codes "65536") ≡ None
 unfolding number_of
 port_past = refl
 
-abbrev port_alone : Option ℕ → Option Task
-port_alone = option_and_then (λ (port : ℕ). Some (Serve port None))
+abbrev port_alone : Option ℕ → Option Wanted
+port_alone = option_and_then (λ (port : ℕ). Some (want.Serve port None))
 
 pub returns : goal.returns
-unfolding program clap_on_literals task_of feed_of
+unfolding program clap_on_literals task_of feed_of table_of ident_of
 returns c = record {
   file = word_asks;
   within = λ texts task file asks. found_within (subcommand_of program texts) task asks.1.0;
@@ -76,6 +82,13 @@ returns c = record {
   tied = taskless (codes "feed" ∷ codes "f" ∷ codes "gbfs" ∷ codes "--at=-1" ∷ [])
       (ap (feed_by (Some Gbfs)) (no_number 0 last_moment (codes "-1") (omega arith) refl));
   late = taskless (codes "feed" ∷ codes "f" ∷ codes "gbfs" ∷ codes "--at" ∷ codes "253402300800" ∷ []) (ap (feed_by (Some Gbfs)) moment_late);
+  day = λ date zone is_date is_zone. (refl, (sym (ap₂ (λ (d z : Text). Some (want.Day Rentals d z)) is_date is_zone), refl));
+  no_table = taskless (codes "day" ∷ codes "f" ∷ codes "riders" ∷ codes "2024-03-31" ∷ codes "UTC0" ∷ []) refl;
+  no_zone = faulty (codes "day" ∷ codes "f" ∷ codes "entries" ∷ codes "2024-03-31" ∷ []) refl;
+  import = λ name is. (refl, (sym (ap (λ (n : Text). Some (want.Import n None)) is), refl));
+  import_at = λ name is. (refl, (ap (import_by (Some (codes "harbor-2"))) moment_read ∙ sym (ap (λ (n : Text). Some (want.Import n (Some 1700000000))) is), refl));
+  no_ident = taskless (codes "import" ∷ codes "f" ∷ codes "Harbor" ∷ []) refl;
+  unnamed = faulty (codes "import" ∷ codes "f" ∷ []) refl;
   serve = (refl, (ap port_alone port_high, refl));
   serve_one = (refl, (ap₂ serve_by port_zero count_one, refl));
   before = (refl, (ap port_alone port_eighty, refl));

@@ -1,0 +1,5 @@
+pub mod Lists
+pub mod DeskLemmas
+pub mod WalkLemmas
+pub mod Sources
+pub mod DayLemmas

@@ -1,0 +1,43 @@
+-- What the functions owe that write a table, and what holds between two questions to the desk.
+use Rattle.std.specs.Prelude.{◌≡◌, ◌≤◌, ℕ, List, IsTrue, false, Option, Result, Ok, Err}
+use Rattle.std.specs.Io.KnownBytes.{Keeps, Appends}
+use Rattle.sqlite_trees.specs.View.{doubt}
+use Rattle.sqlite_trees.specs.declared.store.Store.{Ghosts}
+use Rattle.sqlite.specs.State.{HasCleanDisk}
+use Rattle.bike_stream.specs.Writing.{AppendsFront}
+use Rattle.bike_operator.specs.Operator.{Operator}
+use Rattle.bike_schema.specs.Stands.{AllLeft}
+use Rattle.bike_desk.specs.Desk.{DeskValue, shown, IsAt}
+use Rattle.bike_days.specs.declared.fault.DayTableFault.{DayTableFault}
+use Rattle.bike_days.specs.declared.fault.DayTableFault.TheVariants.{Day, Write, Desk}
+use Rattle.bike_days.specs.Ends.{AppendsSome, LeavesDesk}
+
+-- the desk was asked, goes on, and is at the operator at whom it was
+pub record StaysAt {S : Type 0} (g : Ghosts S) (old new : DeskValue S) : Type 0 where
+  pub clean : doubt (shown g old).is_clean ≤ doubt (shown g new).is_clean
+  pub same : HasCleanDisk (shown g new) → (s : Operator) → IsAt g old s → IsAt g new s
+  pub left : HasCleanDisk (shown g new) → (s : Operator) → IsAt g old s → AllLeft (shown g new) (shown g old).may_leave
+  pub went_on : old.is_stopped ≡ false
+  pub goes_on : new.is_stopped ≡ false
+
+-- the text was written: after a failed write a front of it and not all, after a fault of the desk a front; no day is refused any more
+abbrev pub WritesText : {A : Type 0} → Option (List ℕ) → Option (List ℕ) → List ℕ → Result A DayTableFault → Type 0
+WritesText old new text (Ok x) = Appends old new text
+WritesText old new text (Err (Day fault)) = ⊥
+WritesText old new text (Err Write) = AppendsFront old new text
+WritesText old new text (Err (Desk fault)) = AppendsSome old new text
+
+-- no day is refused
+abbrev pub IsOfDay : {A : Type 0} → Result A DayTableFault → Type 0
+IsOfDay (Ok x) = Unit {0}
+IsOfDay (Err (Day fault)) = ⊥
+IsOfDay (Err Write) = Unit {0}
+IsOfDay (Err (Desk fault)) = Unit {0}
+
+-- A TABLE of the operator was written from the first question to the desk on
+pub record WritesTable {S : Type 0} (g : Ghosts S) (old new : DeskValue S) (before after : Option (List ℕ)) {A : Type 0} (result : Result A DayTableFault)
+    (text : Operator → List ℕ) : Type 0 where
+  pub desk : LeavesDesk g old new result
+  pub wrote : HasCleanDisk (shown g new) → (s : Operator) → IsAt g old s → WritesText before after (text s) result
+  pub nothing : IsTrue old.is_stopped → Keeps before after
+  pub day : IsOfDay result

@@ -1,0 +1,90 @@
+use Rattle.std.proofs.Common.{Ok, Err, ap, sym, subst, ◌∙◌, arith}
+use Rattle.sqlite.specs.State.{HasCleanDisk}
+use Rattle.csv.specs.Records.{fields_of}
+use Rattle.bike_operator.specs.Runs.{after}
+use Rattle.bike_desk.specs.Desk.{shown}
+use Rattle.bike_imports.specs.declared.fault.ImportFault.TheVariants.{Read}
+use Rattle.bike_imports.specs.Imports.{Imports}
+use Rattle.bike_imports.proofs.Serving.{err_is}
+use Rattle.bike_imports.proofs.Importing.{importing_begins, lacks_header, importing_ends, importing_breaks, importing_unread, importing_more, importing_refused, left_of}
+use Rattle.bike_imports.proofs.import.import_stations.Goals as goal
+
+pub returns-in_err-take_header-clause-imports : goal.returns-in_err-take_header-clause-imports
+returns-in_err-take_header-clause-imports g c clean s at =
+    let input = g.R.Read.remaining c.args.reader.now in
+    subst (Imports g.S.Store c.args.desk.now s c.args.moment c.args.name.now input) (sym (err_is _ _ c.from_residual.ensures.1)) (
+    lacks_header g.S.Store (λ input. g.R.Read.remaining input.reader.now) s c.args.moment c.args.name.now input c.args.desk.now c.open_table-table.result c.take_header.new.table c.open_table-table.ensures.start at c.in_err-take_header.field-0.0
+    c.in_err-take_header.ensures.fault
+    )
+
+pub returns-in_err-take_header-clause-left : goal.returns-in_err-take_header-clause-left
+returns-in_err-take_header-clause-left g c clean s at = left_of g.S.Store c.args.desk.now s _ _ _ _ (returns-in_err-take_header-clause-imports g c clean s at)
+
+pub rows-init : goal.rows-init
+rows-init g c =
+    let input = g.R.Read.remaining c.args.reader.now in
+    record {
+      clean = omega arith;
+      goes_on = sym c.stopped.ensures ∙ c.if-stopped.false;
+      plain = c.in_ok-take_header.ensures.plain;
+      so_far = λ clean s at.
+          importing_begins g.S.Store (λ input. g.R.Read.remaining input.reader.now) s c.args.moment c.args.name.now input c.args.desk.now c.open_table-table.result c.take_header.new.table c.open_table-table.ensures.start
+          c.in_ok-take_header.ensures.takes at;
+    }
+
+pub returns-in_err-next_record-clause-imports : goal.returns-in_err-next_record-clause-imports
+returns-in_err-next_record-clause-imports g c clean s at =
+    let input = g.R.Read.remaining c.args.reader.now in
+    subst (Imports g.S.Store c.rows.desk s c.args.moment c.args.name.now input) (sym (err_is _ _ c.from_residual-in_err-next_record.ensures.1)) (
+    importing_unread g.S.Store (λ input. g.R.Read.remaining input.reader.now) s c.args.moment c.args.name.now input c.rows.desk c.rows.table c.next_record.new.table c.rows.count (c.rows.invariant.so_far clean s at)
+    c.in_err-next_record.field-0.0 c.in_err-next_record.ensures.fault
+    )
+
+pub returns-in_err-next_record-clause-left : goal.returns-in_err-next_record-clause-left
+returns-in_err-next_record-clause-left g c clean s at = left_of g.S.Store c.rows.desk s _ _ _ _ (returns-in_err-next_record-clause-imports g c clean s at)
+
+pub returns-then-not-branch-clause-imports : goal.returns-then-not-branch-clause-imports
+returns-then-not-branch-clause-imports g c clean s at =
+    let input = g.R.Read.remaining c.args.reader.now in
+    importing_ends g.S.Store (λ input. g.R.Read.remaining input.reader.now) s c.args.moment c.args.name.now input c.rows.desk c.rows.table c.next_record.new.table c.rows.count (c.rows.invariant.so_far clean s at)
+    (c.in_ok-next_record.ensures.none (ap Ok c.if-not-branch.true))
+
+pub returns-then-not-branch-clause-left : goal.returns-then-not-branch-clause-left
+returns-then-not-branch-clause-left g c clean s at = left_of g.S.Store c.rows.desk s _ _ _ (Ok c.rows.count) (returns-then-not-branch-clause-imports g c clean s at)
+
+pub returns-in_err-import_row-clause-imports : goal.returns-in_err-import_row-clause-imports
+returns-in_err-import_row-clause-imports g c clean s at =
+    let it = c.in_err-import_row.ensures in
+    let early : HasCleanDisk (shown g.S.Store c.rows.desk) = omega (arith, clean, it.clean) in
+    let so_far = c.rows.invariant.so_far early s at in
+    let input = g.R.Read.remaining c.args.reader.now in
+    subst (Imports g.S.Store c.import_row.new.desk s c.args.moment c.args.name.now input) (sym (err_is _ _ c.from_residual-in_err-import_row.ensures.1)) (
+    importing_refused g.S.Store (λ input. g.R.Read.remaining input.reader.now) s c.args.moment c.args.name.now input c.rows.desk c.rows.table c.next_record.new.table c.rows.count so_far
+    c.import_row.new.desk (fields_of c.next_record.new.row) (c.in_ok-next_record.ensures.takes (ap Ok c.if-not-branch.false)) c.in_ok-next_record.ensures.text c.in_err-import_row.field-0.0 (it.served clean (after s so_far.calls) so_far.at)
+    )
+
+pub returns-in_err-import_row-clause-left : goal.returns-in_err-import_row-clause-left
+returns-in_err-import_row-clause-left g c clean s at = left_of g.S.Store c.import_row.new.desk s _ _ _ _ (returns-in_err-import_row-clause-imports g c clean s at)
+
+pub rows-preserved : goal.rows-preserved
+rows-preserved g c =
+    let it = c.in_ok-import_row.ensures in
+    let before = c.rows.invariant in
+    let input = g.R.Read.remaining c.args.reader.now in
+    record {
+      clean = omega (arith, before.clean, it.clean);
+      goes_on = it.goes_on before.goes_on;
+      plain = c.in_ok-next_record.ensures.plain;
+      so_far = λ clean s at.
+          let so_far = before.so_far (omega (arith, clean, it.clean)) s at in
+          importing_more g.S.Store (λ input. g.R.Read.remaining input.reader.now) s c.args.moment c.args.name.now input c.rows.desk c.rows.table c.next_record.new.table c.rows.count so_far
+          c.import_row.new.desk (fields_of c.next_record.new.row) (c.in_ok-next_record.ensures.takes (ap Ok c.if-not-branch.false)) c.in_ok-import_row.field-0 (it.served clean (after s so_far.calls) so_far.at);
+    }
+
+pub returns-clause-imports : goal.returns-clause-imports
+returns-clause-imports g c clean s at =
+    let input = g.R.Read.remaining c.args.reader.now in
+    importing_breaks g.S.Store (λ input. g.R.Read.remaining input.reader.now) s c.args.moment c.args.name.now input c.rows.desk c.rows.table c.rows.table c.rows.count (c.rows.invariant.so_far clean s at)
+
+pub returns-clause-left : goal.returns-clause-left
+returns-clause-left g c clean s at = left_of g.S.Store c.rows.desk s _ _ _ (Err Read) (returns-clause-imports g c clean s at)

@@ -1,0 +1,63 @@
+//! Importing a table.
+
+ghost use Rattle.std.specs.Prelude.{◌≡◌, ◌≤◌, Err};
+ghost use Rattle.std.specs.Io.KnownBytes.{Keeps};
+ghost use Rattle.sqlite.specs.State.{HasCleanDisk};
+ghost use Rattle.sqlite_trees.specs.View.{doubt};
+ghost use Rattle.bike_operator.specs.Operator.{Operator};
+ghost use Rattle.bike_schema.specs.Stands.{AllLeft};
+ghost use Rattle.bike_desk.specs.Desk.{shown, IsAt};
+ghost use Rattle.bike_desk.specs.Runs.{StopsBy};
+ghost use Rattle.bike_imports.specs.Serving.{desk_fault};
+ghost use Rattle.bike_imports.specs.Imports.{Imports, StandsAfterSome};
+
+use crate::fault::ImportFault;
+use crate::row::import_row;
+use crate::table::{next_record, open_table, take_header};
+use bike_desk::{Desk, DeskFault};
+use bike_fields::Ident;
+use bike_fixed::Moment;
+use csv::StringRecord;
+use sqlite::Alter;
+use std::alloc::Global;
+use std::io::Read;
+
+/// How many rows an import serves at most.
+pub const MOST_ROWS: u64 = 1_000_000;
+
+/// Serves a table of stations, in CSV, row by row. Its header is `station_id,name,lat,lon,docks`, as a record. Row number
+/// `n`, from 1, is the request to add its station at the moment, which the caller `import:NAME` sends with the key `row-n`; its
+/// coordinates are in degrees, and its name stands without escapes. Answers how many rows were served, each accepted.
+///
+/// The import ends at the first row that is unreadable or refused: `Unreadable` and `Row` name it, and the rows before
+/// it stay. A row with a bad field is refused as such before the desk is asked. One record is held at a time; where memory for
+/// that is refused the fault is `Desk(NoMemory)`. A stopped desk answers `Desk(Stopped)` before anything is read.
+pub fn import_stations<S: Alter, R: Read>(
+    alloc: Global,
+    desk: &mut Desk<S>,
+    moment: Moment,
+    name: &Ident,
+    reader: &mut R,
+) -> Result<u64, ImportFault>
+    ensures clean { doubt (shown S.Store desk.old).is_clean ≤ doubt (shown S.Store desk.new).is_clean }
+    ensures imports { HasCleanDisk (shown S.Store desk.new) → (s : Operator) → IsAt S.Store desk.old s
+        → Imports S.Store desk.new s moment name.now (R.remaining reader.old) result }
+    ensures left { HasCleanDisk (shown S.Store desk.new) → (s : Operator) → IsAt S.Store desk.old s
+        → AllLeft (shown S.Store desk.new) (StandsAfterSome s) }
+    ensures stops { StopsBy desk.old desk.new (desk_fault result) }
+    ensures refused { result ≡ Err (ImportFault.Desk DeskFault.Stopped) → Keeps (R.remaining reader.old) (R.remaining reader.new) }
+{
+    if desk.stopped() {
+        return Err(ImportFault::Desk(DeskFault::Stopped));
+    }
+    let mut table = open_table(alloc, reader);
+    let mut row = StringRecord::new(alloc);
+    take_header(&mut table, &mut row)?;
+    'rows: for count in 0..MOST_ROWS {
+        if !next_record(&mut table, &mut row, count + 1)? {
+            return Ok(count);
+        }
+        import_row(alloc, desk, moment, name, count + 1, &row)?;
+    }
+    Err(ImportFault::Read)
+}

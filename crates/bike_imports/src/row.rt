@@ -1,0 +1,59 @@
+//! Serving one row.
+
+ghost use Rattle.std.specs.Prelude.{◌≡◌, ◌≤◌, false};
+ghost use Rattle.csv.specs.Records.{fields_of};
+ghost use Rattle.sqlite.specs.State.{HasCleanDisk};
+ghost use Rattle.sqlite_trees.specs.View.{doubt};
+ghost use Rattle.bike_operator.specs.Operator.{Operator};
+ghost use Rattle.bike_desk.specs.Desk.{shown, IsAt};
+ghost use Rattle.bike_imports.specs.Rows.{call_of};
+ghost use Rattle.bike_imports.specs.Serving.{desk_fault, GoesOn, ServesCall, ServesRow};
+
+use crate::fault::ImportFault;
+use crate::request::row_request;
+use bike_commands::{Reply, Request};
+use bike_desk::Desk;
+use bike_fields::Ident;
+use bike_fixed::Moment;
+use csv::StringRecord;
+use sqlite::Alter;
+use std::alloc::Global;
+
+/// Serves the request of the row of that number. An error where it isn't accepted.
+fn serve_request<S: Alter>(
+    alloc: Global,
+    desk: &mut Desk<S>,
+    moment: Moment,
+    number: u64,
+    request: &Request,
+) -> Result<(), ImportFault>
+    ensures clean { doubt (shown S.Store desk.old).is_clean ≤ doubt (shown S.Store desk.new).is_clean }
+    ensures goes_on { desk.old.is_stopped ≡ false → GoesOn desk.new (desk_fault result) }
+    ensures served { HasCleanDisk (shown S.Store desk.new) → (s : Operator) → IsAt S.Store desk.old s
+        → ServesCall S.Store desk.new s number (moment, request.now) result }
+{
+    match desk.apply(alloc, moment, request)? {
+        Reply::Refused(refusal) => Err(ImportFault::Row(number, refusal)),
+        _ => Ok(()),
+    }
+}
+
+/// Serves the row of that number in the import of that name. An error where it isn't accepted: the desk is then as it was,
+/// but where its store failed.
+pub fn import_row<S: Alter>(
+    alloc: Global,
+    desk: &mut Desk<S>,
+    moment: Moment,
+    name: &Ident,
+    number: u64,
+    row: &StringRecord,
+) -> Result<(), ImportFault>
+    ensures clean { doubt (shown S.Store desk.old).is_clean ≤ doubt (shown S.Store desk.new).is_clean }
+    ensures goes_on { desk.old.is_stopped ≡ false → GoesOn desk.new (desk_fault result) }
+    ensures served { HasCleanDisk (shown S.Store desk.new) → (s : Operator) → IsAt S.Store desk.old s
+        → ServesRow S.Store desk.new s number (fields_of row.now) (call_of moment name.now number (fields_of row.now)) result }
+{
+    let _ = moment.seconds();
+    let request = row_request(alloc, name, number, row)?;
+    serve_request(alloc, desk, moment, number, &request)
+}

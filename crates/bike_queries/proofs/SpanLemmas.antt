@@ -1,0 +1,119 @@
+-- What is found and read of entries and rentals in a span.
+use Rattle.std.proofs.Common.{◌≡◌, ◌+◌, ◌≤◌, inl, inr, ℕ, ℤ, suc, List, [], ◌∷◌, filter, map, min, slice_get, ◌&&◌, Option, Some, None, Result, Ok, refl, sym, ap, ◌∙◌, arith}
+use Rattle.std.specs.Prelude.{nat_lt, option_map}
+use Rattle.std.proofs.lemmas.Option.{same_Some}
+use Rattle.sqlite_value.specs.Order.{Row, column}
+use Rattle.sqlite_rules.specs.Lists.{Has}
+use Rattle.bike_ledger.specs.Entries.{Entry}
+use Rattle.bike_ledger.specs.Ledger.{refunded_of}
+use Rattle.bike_operator.specs.declared.limits.TheConstants.{MOST_ENTRIES}
+use Rattle.bike_operator.specs.declared.records.Rental.{Rental}
+use Rattle.bike_operator.specs.declared.records.Closing.{Closing}
+use Rattle.bike_operator.specs.Operator.{Operator, item_at, numbered}
+use Rattle.bike_operator.specs.Sound.{IsSound}
+use Rattle.bike_places.proofs.ItemLemmas.{number_within}
+use Rattle.bike_book.specs.Rows.{entry_row, rental_row}
+use Rattle.bike_book.specs.Stored.{numbers_from, with_numbers, stored_entry, stored_rental}
+use Rattle.bike_schema.specs.declared.fault.StatementFault.{StatementFault}
+use Rattle.bike_schema.specs.Columns.{number_in, read_or_failed}
+use Rattle.bike_schema.proofs.ReadLemmas.{number_read}
+use Rattle.bike_queries.specs.Infos.{rental_info, rental_info_at}
+use Rattle.bike_queries.specs.Spans.{lies_in, ends_in, entry_after, ended_after, ended_info_after}
+use Rattle.bike_queries.specs.declared.rentals.RentalInfo.{RentalInfo}
+use Rattle.bike_queries.proofs.AfterLaw.{first_passed}
+use Rattle.bike_queries.proofs.NextLemmas.{find_has}
+use Rattle.bike_queries.proofs.SpanLaw.{is_spanned, spanned_is, never_spanned}
+
+-- the value, or a failure
+abbrev Told : {X : Type 0} → X → Option X → Type 0
+Told x found = ◌≡◌ {A = Result _ StatementFault} (Ok x) (read_or_failed found)
+
+-- ---- members of numbered lists
+
+-- a member of a list has a number
+has_number : {A : Type 0} (xs : List A) (x : A) → Has xs x → (n : ℕ) × (numbered n xs ≡ Some x)
+has_number xs x has = let it = at xs has in (suc it.0, it.1)
+  where
+    at : (ys : List _) → Has ys x → (i : ℕ) × (item_at i ys ≡ Some x)
+    at [] has = elim has [ ]
+    at (y ∷ ys) (inl is) = (0, ap Some (sym is))
+    at (y ∷ ys) (inr later) = let it = at ys later in (suc it.0, it.1)
+
+-- and one of a list with numbers has its own
+own_number : {A : Type 0} (xs : List A) (e : ℕ × A) → Has (with_numbers xs) e → numbered e.0 xs ≡ Some e.1
+own_number {A} xs e has = let it = at 1 xs has in let is : e.0 ≡ suc it.0 = omega (arith, it.1) in ap (λ n. numbered n xs) is ∙ it.2
+  where
+    at : (n : ℕ) (ys : List A) → Has (numbers_from n ys) e → (i : ℕ) × (e.0 ≡ n + i) × (item_at i ys ≡ Some e.1)
+    at n [] has = elim has [ ]
+    at n (y ∷ ys) (inl is) = (0, ap (λ (x : ℕ × A). x.0) is ∙ omega arith, ap (λ (x : ℕ × A). Some x.1) (sym is))
+    at n (y ∷ ys) (inr later) = let it = at (suc n) ys later in (suc it.0, omega (arith, it.1), it.2)
+
+-- ---- entries
+
+-- an entry's row under its own number
+abbrev pub own_row : Entry → Row
+own_row e = entry_row e.number e
+
+-- entries that are numbered from one on
+own_rows : (n : ℕ) (es : List Entry) → ((i : ℕ) (e : Entry) → item_at i es ≡ Some e → e.number ≡ n + i) → map stored_entry (numbers_from n es) ≡ map own_row es
+own_rows n [] named = refl
+own_rows n (e ∷ es) named =
+    let first : n ≡ e.number = let is = named 0 e refl in omega (arith, is) in
+    (λ i. entry_row (first i) e ∷ own_rows (suc n) es (λ k x at. let is = named (suc k) x at in omega (arith, is)) i)
+
+-- the row that is found is that of the first entry in the span
+pub entry_found : (s : Operator) → IsSound s → (number begin end start : ℕ) → start ≡ min number MOST_ENTRIES
+    → slice_get (filter (is_spanned 5 start begin end) (map stored_entry (with_numbers s.entries))) 0 ≡ option_map own_row (entry_after s number begin end)
+entry_found s sound number begin end start is =
+    ap (λ n. slice_get (filter (is_spanned 5 n begin end) (map stored_entry (with_numbers s.entries))) 0) is
+    ∙ ap (λ rows. slice_get (filter (is_spanned 5 (min number MOST_ENTRIES) begin end) rows) 0) (own_rows 1 s.entries (λ i e at. (sound.ledger.entries (suc i) e at).number_is ∙ omega arith))
+    ∙ first_passed own_row (is_spanned 5 (min number MOST_ENTRIES) begin end) (λ e. nat_lt number e.number && lies_in begin end e.at) s.entries
+    (λ e has. spanned_is 5 number MOST_ENTRIES begin end e.number e.at (own_row e) (within e has) refl refl)
+  where
+    within : (e : Entry) → Has s.entries e → e.number ≤ MOST_ENTRIES
+    within e has =
+        let it = has_number s.entries e has in
+        omega (arith, (sound.ledger.entries it.0 e it.1).number_is, number_within it.0 s.entries e it.1, sound.ledger.few_entries)
+
+-- ---- rentals
+
+-- a rental's row passes just where the rental ended in the span
+ended_is : (number begin end n : ℕ) (r : Rental) (refunded : ℤ) (closing : Option Closing) → n ≤ MOST_ENTRIES
+    → is_spanned 7 (min number MOST_ENTRIES) begin end (rental_row n (record r { closing = closing }) refunded) ≡ (nat_lt number n && ends_in begin end closing)
+ended_is number begin end n r refunded None within = never_spanned 7 number MOST_ENTRIES begin end n (rental_row n (record r { closing = None }) refunded) within refl refl
+ended_is number begin end n r refunded (Some c) within = spanned_is 7 number MOST_ENTRIES begin end n c.finish (rental_row n (record r { closing = Some c }) refunded) within refl refl
+
+-- the row that is found is that of the first rental that ended in the span
+pub ended_found : (s : Operator) → IsSound s → (number begin end start : ℕ) → start ≡ min number MOST_ENTRIES
+    → slice_get (filter (is_spanned 7 start begin end) (map (stored_rental s.entries) (with_numbers s.rentals))) 0 ≡ option_map (stored_rental s.entries) (ended_after s number begin end)
+ended_found s sound number begin end start is =
+    ap (λ n. slice_get (filter (is_spanned 7 n begin end) (map (stored_rental s.entries) (with_numbers s.rentals))) 0) is
+    ∙ first_passed (stored_rental s.entries) (is_spanned 7 (min number MOST_ENTRIES) begin end) (λ e. nat_lt number e.0 && ends_in begin end e.1.closing) (with_numbers s.rentals)
+    (λ e has. ended_is number begin end e.0 e.1 (refunded_of e.0 s.entries) e.1.closing (within e has))
+  where
+    within : (e : ℕ × Rental) → Has (with_numbers s.rentals) e → e.0 ≤ MOST_ENTRIES
+    within e has = omega (arith, number_within e.0 s.rentals e.1 (own_number s.rentals e has), sound.rentals.few_rentals, sound.ledger.few_entries)
+
+-- the number in that row
+pub ended_number : (entries : List Entry) (o : Option (ℕ × Rental)) {row : Row} {n : ℕ} → Told n (number_in 1 100000000 (column row 0)) → Some row ≡ option_map (stored_rental entries) o → Some n ≡ option_map (λ e. e.0) o
+ended_number entries None told is = absurd cc
+ended_number entries (Some e) {row} told is = ap Some (number_read 1 100000000 told (ap (λ r. column r 0) (same_Some row (stored_rental entries e) is)))
+
+-- what is shown of the rental under that number
+pub ended_shown : (s : Operator) (number begin end n : ℕ) (info : RentalInfo) → Some n ≡ option_map (λ e. e.0) (ended_after s number begin end) → Some info ≡ rental_info_at s n
+    → ◌≡◌ {A = Option (ℕ × RentalInfo)} (Some (n, info)) (ended_info_after s number begin end)
+ended_shown s number begin end n info is shown = by (ended_after s number begin end) refl is
+  where
+    by : (o : Option (ℕ × Rental)) → ended_after s number begin end ≡ o → Some n ≡ option_map (λ e. e.0) o
+        → ◌≡◌ {A = Option (ℕ × RentalInfo)} (Some (n, info)) (option_map (λ e. (e.0, rental_info (refunded_of e.0 s.entries) e.1)) o)
+    by None next is = absurd cc
+    by (Some e) next is =
+        let n_is : n ≡ e.0 = same_Some n e.0 is in
+        let there : numbered e.0 s.rentals ≡ Some e.1 = own_number s.rentals e (find_has _ (with_numbers s.rentals) e next) in
+        let info_is : info ≡ rental_info (refunded_of e.0 s.entries) e.1 = same_Some info _ (shown ∙ ap (rental_info_at s) n_is ∙ ap (option_map (rental_info (refunded_of e.0 s.entries))) there) in
+        (λ i. Some (n_is i, info_is i))
+
+-- nothing is made of what isn't there
+pub none_mapped : {A B C : Type 0} (f : A → B) (g : A → C) (o : Option A) → None ≡ option_map f o → None ≡ option_map g o
+none_mapped f g None is = refl
+none_mapped f g (Some x) is = absurd cc

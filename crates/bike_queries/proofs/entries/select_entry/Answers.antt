@@ -1,0 +1,11 @@
+use Rattle.std.proofs.Common.{◌∙◌}
+use Rattle.bike_rows.proofs.ParamLemmas.{bindings}
+use Rattle.bike_schema.proofs.AnswerLemmas.{row_answers, reads_weaker}
+use Rattle.bike_queries.proofs.SpanLaw.{finds_entry_after}
+use Rattle.bike_queries.proofs.SpanLemmas.{entry_found}
+use Rattle.bike_queries.proofs.entries.select_entry.Goals as goal
+
+pub returns : goal.returns
+returns g c =
+    reads_weaker (row_answers (finds_entry_after c.start_at.result c.args.begin c.args.end) c.first_row.ensures (search bindings)) (λ db row is s h.
+    is s h ∙ entry_found s h.sound c.args.number c.args.begin c.args.end c.start_at.result c.start_at.ensures)

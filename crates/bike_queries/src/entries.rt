@@ -1,0 +1,101 @@
+//! The ledger's entries of a span of time in order of their numbers, one after another.
+
+ghost use Rattle.std.specs.Prelude.{◌≡◌, ◌≤ℤ◌, IfOk, option_map, pos};
+ghost use Rattle.sqlite_value.specs.declared.value.Value.TheVariants.{Int};
+ghost use Rattle.sqlite_value.specs.Order.{column};
+ghost use Rattle.bike_fixed.specs.declared.cents.TheConstants.{GREATEST_FARE};
+ghost use Rattle.bike_book.specs.Rows.{entry_row, kind_number};
+ghost use Rattle.bike_schema.specs.Answers.{Answers, IsReadOf};
+ghost use Rattle.bike_queries.specs.Spans.{entry_after};
+
+use crate::columns::whole_at;
+use crate::span::{seconds_of, start_at};
+use bike_fixed::{Cents, GREATEST_FARE, Moment, Within};
+use bike_ledger::{Entry, EntryKind};
+use bike_rows::lookup::first_row;
+use bike_schema::{StatementFault, cents_at, moment_at, number_at};
+use sqlite::{Alter, Connection, Row, params};
+
+/// The row of the first entry of a later number that lies in the span.
+fn select_entry<S: Alter>(
+    conn: &mut Connection<S>,
+    number: u64,
+    begin: Moment,
+    end: Moment,
+) -> Result<Option<Row>, StatementFault>
+    ensures { Answers S.Store conn.old conn.new result
+        (λ s m row. row ≡ option_map (λ e. entry_row e.number e) (entry_after s number begin end)) }
+{
+    first_row(
+        conn,
+        "SELECT * FROM entries WHERE entry > ?1 AND at >= ?2 AND at < ?3 ORDER BY entry LIMIT 1",
+        params![start_at(number), seconds_of(begin), seconds_of(end)],
+    )
+}
+
+/// The kind that the column stands for, which is stored as 1, 2 or 3.
+fn kind_at(row: &Row, at: usize) -> Result<EntryKind, StatementFault>
+    ensures { IfOk result (λ x. (kind : _) → column row.now at ≡ Int (kind_number kind) → x ≡ kind) }
+{
+    match whole_at(row, at)? {
+        1 => Ok(EntryKind::TopUp),
+        2 => Ok(EntryKind::Fare),
+        3 => Ok(EntryKind::Refund),
+        _ => Err(StatementFault::StoreFailed),
+    }
+}
+
+/// The amount in the column, where it may be that of a fare.
+fn fare_at(row: &Row, at: usize) -> Result<Cents, StatementFault>
+    ensures value { IfOk result (λ fare. column row.now at ≡ Int fare) }
+    ensures bounds { IfOk result (λ fare. (pos 0 ≤ℤ fare) × (fare ≤ℤ GREATEST_FARE)) }
+{
+    let fare = cents_at(row, at)?;
+    if fare.hundredths() < 0 || fare.hundredths() > GREATEST_FARE {
+        return Err(StatementFault::StoreFailed);
+    }
+    Ok(fare)
+}
+
+/// The entry that stands in a row of `entries`.
+fn read_entry(row: &Row) -> Result<Entry, StatementFault>
+    ensures { IsReadOf (λ e. entry_row e.number e) row.now result }
+{
+    let number = number_at(row, 0)?;
+    let kind = kind_at(row, 1)?;
+    let rider = number_at(row, 2)?;
+    let at = moment_at(row, 5)?;
+    match kind {
+        EntryKind::TopUp => {
+            let _none: Within<0, 0> = number_at(row, 3)?;
+            let amount = number_at(row, 4)?;
+            Ok(Entry::top_up(number, rider, amount, at))
+        }
+        EntryKind::Fare => {
+            let rental = number_at(row, 3)?;
+            let amount = fare_at(row, 4)?;
+            Ok(Entry::fare(number, rider, rental, amount, at))
+        }
+        EntryKind::Refund => {
+            let rental = number_at(row, 3)?;
+            let amount = number_at(row, 4)?;
+            Ok(Entry::refund(number, rider, rental, amount, at))
+        }
+    }
+}
+
+/// The first entry of a later number whose moment is `begin` or later and before `end`; `None` where there is none. Every fault
+/// is the database's.
+pub fn find_entry_after<S: Alter>(
+    conn: &mut Connection<S>,
+    number: u64,
+    begin: Moment,
+    end: Moment,
+) -> Result<Option<Entry>, StatementFault>
+    ensures { Answers S.Store conn.old conn.new result (λ s m x. x ≡ entry_after s number begin end) }
+{
+    match select_entry(conn, number, begin, end)? {
+        Some(row) => Ok(Some(read_entry(&row)?)),
+        None => Ok(None),
+    }
+}

@@ -1,0 +1,39 @@
+-- The operator after a front of a list is sound, and is read.
+use Rattle.std.proofs.Common.{◌≡◌, [], inl, inr, Option, Some, None, codes, sym, ap, subst}
+use Rattle.std.specs.Prelude.{IfSome}
+use Rattle.sqlite_trees.specs.declared.store.Store.{Ghosts}
+use Rattle.sqlite_trees.specs.declared.memory.MemStore.{MemStore}
+use Rattle.sqlite_schema.specs.declared.schema.Schema.{Schema}
+use Rattle.sqlite_schema.specs.Names.{table_named}
+use Rattle.sqlite.specs.Effect.{Database}
+use Rattle.sqlite.specs.State.{HasCleanDisk}
+use Rattle.sqlite.specs.Steps.{over_memory}
+use Rattle.sqlite.proofs.Callers.{memory_is_clean}
+use Rattle.bike_operator.specs.Operator.{Operator, no_operator}
+use Rattle.bike_operator.specs.Sound.{IsSound}
+use Rattle.bike_laws.proofs.NoOperatorLemmas.{none_sound}
+use Rattle.bike_book.specs.Tables.{Meta}
+use Rattle.bike_schema.specs.Stands.{IsOf}
+use Rattle.bike_feeds.specs.Desk.{DeskValue, shown, IsAt}
+
+sound_of : (db : Database) (s : Operator) → IsOf db s → IsSound s
+sound_of db s (inl none) = subst IsSound (sym none.1) none_sound
+sound_of db s (inr stores) = stores.sound
+
+-- an operator for whom a desk stands is sound
+pub sound_at : {S : Type 0} (g : Ghosts S) (d : DeskValue S) (s : Operator) → IsAt g d s → IsSound s
+sound_at g d s at = sound_of _ s at.keeps.now.is
+
+-- a database with no table is the operator's of whom nothing was asked, and nobody else's
+pub nobody : (db : Database) (s : Operator) → db.schema ≡ record { tables = []; indexes = []; views = [] } → IsOf db s → s ≡ no_operator
+nobody db s empty (inl none) = none.1
+nobody db s empty (inr h) =
+    let none : table_named db.schema (codes "meta") ≡ None = ap (λ (x : Schema). table_named x (codes "meta")) empty in
+    let some = (h.has Meta).has.found in
+    absurd (cc)
+
+-- over memory nothing has to be supposed of a disk
+pub in_memory : {R : Type 0} (P : DeskValue MemStore × R → Type 0) (o : Option (DeskValue MemStore × R))
+    → IfSome o (λ r. HasCleanDisk (shown over_memory r.0) → P r) → IfSome o P
+in_memory P None h = tt
+in_memory P (Some r) h = h (memory_is_clean r.0.conn)

@@ -1,0 +1,241 @@
+"""A day's tables, as `day` writes them: the worked day, days of many time zones beside Python's zoneinfo, a made city whose sums are
+those of plain SQL, and the days and zones that are refused."""
+
+import csv
+import io
+import random
+import sqlite3
+import struct
+from datetime import date, datetime, timedelta, timezone
+from zoneinfo import ZoneInfo
+
+from pathlib import Path
+
+ROME = "CET-1CEST,M3.5.0,M10.5.0/3"
+ENTRIES = "number,kind,rider,rental,amount,at\n"
+RENTALS = "number,rider,bike,plan,from,start,to,end,fare\n"
+CITY = [
+    "set-system\tmetro\ten\tMetro Bikes\t24/7\tfeeds@example.org\tEtc/UTC\tEUR\thttp://127.0.0.1:8080\t30",
+    "add-plan\tbasic\tBasic\t100\tfalse\tOne euro and then a quarter\t30:25:5:-",
+    "add-type\tcity\tCity\tbicycle\thuman\t0\tbasic",
+    "add-station\ta1\tHarbour\t41.890169\t12.492269\t2",
+    "add-bike\t7\tcity",
+    "add-truck\t3\t20",
+    "open-order\t3\t*\ta1\tcity\t1",
+    "load\t3\t1\t7",
+    "unload\t3\t1\t7\tto\t1",
+    "close-order\t1",
+    "add-rider\t17",
+    "top-up\t17\t2500",
+]
+
+# Rules with a change of the clock at midnight, at other hours, over the new year, of half an hour, and with none.
+ZONES = {
+    "UTC0": (2024, 2023),
+    ROME: (2024, 2025),
+    "EST5EDT,M3.2.0,M11.1.0": (2024, 2031),
+    "AAA3BBB,M10.3.0/0,M2.3.0/1": (2024, 2018),
+    "<-03>3<-02>,M10.3.0/0,M2.3.0/0": (2023, 2024),
+    "AEST-10AEDT,M10.1.0,M4.1.0/3": (2024, 2026),
+    "<+1030>-10:30<+11>-11,M10.1.0,M4.1.0": (2024, 2029),
+    "IST-5:30": (2024, 1999),
+    "<-04>4<-03>,M9.1.6/24,M4.1.6/24": (2024, 2022),
+    "EET-2EEST,M3.5.5/0,M10.5.5/0": (2022, 2024),
+    "<+0545>-5:45": (2024, 2100),
+    "NZST-12NZDT,M9.5.0,M4.1.0/3": (2024, 2027),
+}
+
+
+def ask(program, commands, at=1699999200, first=1, caller="office"):
+    """Sends the commands, each under a key of its own, and returns the answers."""
+    given = "".join(f"{at}\t{caller}\tk{number}\t{command}\n" for number, command in enumerate(commands, first))
+    status, out, said = program.run("lines", "city.db", given=given.encode())
+    assert (status, said) == (0, b""), (status, said)
+    return out.decode().splitlines()
+
+
+def table(program, which, day, zone):
+    """The text of a day's table, which stands alone on standard output."""
+    status, out, said = program.run("day", "city.db", which, day, zone)
+    assert (status, said) == (0, b""), (which, day, zone, status, said)
+    return out.decode()
+
+
+def text_of(moment):
+    return datetime.fromtimestamp(moment, timezone.utc).strftime("%Y-%m-%dT%H:%M:%SZ")
+
+
+def test_worked_day(program):
+    assert ask(program, CITY)[-1] == "balance\t2500"
+    for at, command, answer in (
+        (1711918800, "start\t17\ta1\t1", "rental\t1\t7"),
+        (1711922399, "end\t7\ta1\t1", "fare\t250\t2250"),
+        (1711922399, "start\t17\ta1\t1", "rental\t2\t7"),
+        (1711922400, "end\t7\ta1\t1", "fare\t100\t2150"),
+    ):
+        caller = "rider:17" if command.startswith("start") else "dock:a1"
+        assert ask(program, [command], at, first=at, caller=caller) == [answer], command
+    short = "1,17,7,basic,a1,2024-03-31T21:00:00Z,a1,2024-03-31T21:59:59Z,2.50\n"
+    long = "2,17,7,basic,a1,2024-03-31T21:59:59Z,a1,2024-03-31T22:00:00Z,1.00\n"
+    assert table(program, "rentals", "2024-03-31", ROME) == RENTALS + short
+    assert table(program, "rentals", "2024-04-01", ROME) == RENTALS + long
+    assert table(program, "rentals", "2024-03-31", "UTC0") == RENTALS + short + long
+    assert table(program, "entries", "2024-03-31", ROME) == ENTRIES + "2,fare,17,1,2.50,2024-03-31T21:59:59Z\n"
+    assert table(program, "entries", "2023-11-14", "UTC0") == ENTRIES + "1,topup,17,0,25.00,2023-11-14T22:00:00Z\n"
+    assert table(program, "entries", "2024-04-02", ROME) == ENTRIES
+
+
+def test_recovered_rental_ends_nowhere(program):
+    ask(program, CITY)
+    assert ask(program, ["start\t17\ta1\t1"], 1700000000, first=50) == ["rental\t1\t7"]
+    assert ask(program, ["recover\t1"], 1700000060, first=51) == ["fare\t100\t2400"]
+    assert table(program, "rentals", "2023-11-14", "UTC0") == RENTALS + "1,17,7,basic,a1,2023-11-14T22:13:20Z,*,2023-11-14T22:14:20Z,1.00\n"
+
+
+def test_a_file_without_tables_has_an_empty_day(program):
+    assert table(program, "entries", "2024-03-31", "UTC0") == ENTRIES
+    assert table(program, "rentals", "2024-03-31", "UTC0") == RENTALS
+
+
+def test_refused_days(program):
+    program.run("init", "city.db")
+    for day, zone, word in (
+        ("2024-02-30", "UTC0", "bad date"),
+        ("2023-02-29", "UTC0", "bad date"),
+        ("24-02-01", "UTC0", "bad date"),
+        ("2024-2-1", "UTC0", "bad date"),
+        ("2024-02-01 ", "UTC0", "bad date"),
+        ("", "UTC0", "bad date"),
+        ("2024-02-30", "x", "bad date"),
+        ("2024-02-01", "x", "bad zone"),
+        ("2024-02-01", "", "bad zone"),
+        ("2024-02-01", "Europe/Rome", "bad zone"),
+        ("1969-12-31", "x", "bad zone"),
+        ("1969-12-31", "UTC0", "day out of range"),
+        ("1970-01-01", "CET-1", "day out of range"),
+        ("9999-12-31", "UTC0", "day out of range"),
+        ("9999-01-01", "UTC0", "day out of range"),
+    ):
+        for which in ("entries", "rentals"):
+            ended = program.run("day", "city.db", which, day, zone)
+            assert ended == (1, b"", word.encode() + b"\n"), (day, zone, ended)
+    for day in ("1970-01-01", "9998-12-31"):
+        assert table(program, "entries", day, "UTC0") == ENTRIES
+    for words in (["fares", "2024-02-01", "UTC0"], ["entries", "2024-02-01"], ["entries"], ["Entries", "2024-02-01", "UTC0"]):
+        status, out, said = program.run("day", "city.db", *words)
+        assert (status, out) == (2, b"") and said, (words, status, out)
+
+
+def zone_of(rule):
+    """The time zone of a POSIX rule, by Python: a file of the tz database with no transition and this rule behind it."""
+    counts = struct.pack(">6l", 0, 0, 0, 0, 1, 4)
+    block = struct.pack(">lBB", 0, 0, 0) + b"UTC\0"
+    head = b"TZif2" + bytes(15)
+    return ZoneInfo.from_file(io.BytesIO(head + counts + block + head + counts + block + b"\n" + rule.encode() + b"\n"))
+
+
+def begin_of(day, zone):
+    """The moment of the local midnight: of two the earlier, and where there is none, as the offset before the gap has it."""
+    return int((datetime(day.year, day.month, day.day, tzinfo=zone) - datetime(1970, 1, 1, tzinfo=timezone.utc)).total_seconds())
+
+
+def days_of(zone, years, few):
+    """Days of a zone: those whose length isn't a day's and their neighbours, then others up to the number."""
+    found = []
+    for year in years:
+        for number in range(364):
+            day = date(year, 1, 1) + timedelta(number)
+            if begin_of(day + timedelta(1), zone) - begin_of(day, zone) != 86400:
+                found += [day - timedelta(1), day, day + timedelta(1)]
+    draw = random.Random(few)
+    while len(found) < few:
+        found.append(date(draw.choice(years), 1, 1) + timedelta(draw.randrange(364)))
+    return sorted(set(found[:few]))
+
+
+def test_days_of_many_zones(program):
+    days = []
+    for rule, years in ZONES.items():
+        zone = zone_of(rule)
+        days += [(rule, day, begin_of(day, zone), begin_of(day + timedelta(1), zone)) for day in days_of(zone, years, 34)]
+    assert len(days) >= 350, len(days)
+    moments = sorted({at for _, _, begin, end in days for at in (begin - 1, begin, end - 1, end)})
+    given = "".join(f"{at}\toffice\tz{number}\ttop-up\t17\t1\n" for number, at in enumerate(moments))
+    assert moments[0] > 900000000
+    assert ask(program, ["add-rider\t17"], at=900000000) == ["ok"]
+    status, out, said = program.run("lines", "city.db", given=given.encode())
+    assert (status, said) == (0, b"") and out.count(b"balance") == len(moments)
+    for rule, day, begin, end in days:
+        rows = list(csv.DictReader(io.StringIO(table(program, "entries", day.isoformat(), rule))))
+        wanted = [text_of(at) for at in moments if begin <= at < end]
+        assert [row["at"] for row in rows] == wanted, (rule, day, begin, end)
+
+
+def test_days_whose_midnight_is_skipped_or_comes_twice(program):
+    zone = zone_of("AAA3BBB,M10.3.0/0,M2.3.0/1")
+    assert begin_of(date(2024, 10, 20), zone) == 1729393200 and begin_of(date(2024, 10, 21), zone) == 1729476000
+    assert begin_of(date(2024, 2, 18), zone) == 1708221600 and begin_of(date(2024, 2, 19), zone) == 1708311600
+
+
+def made_city(program, seed):
+    """Plays some days of trips, top-ups and refunds, and returns a copy of its file, so that the file is free for the program."""
+    draw = random.Random(seed)
+    ask(program, CITY + [f"add-rider\t{rider}" for rider in range(100, 120)] + [f"top-up\t{rider}\t100000" for rider in range(100, 120)])
+    at, key, rental, commands = 1711000000, 1000, 0, []
+    for trip in range(140):
+        at += draw.randrange(1, 4000)
+        rider = draw.randrange(100, 120)
+        key += 10
+        commands.append((at, f"start\t{rider}\ta1\t1", key))
+        at += draw.randrange(0, 9000)
+        rental += 1
+        if trip == 139:
+            commands.append((at, f"recover\t{rental}", key + 1))
+            break
+        commands.append((at, "end\t7\ta1\t1", key + 1))
+        if draw.random() < 0.3:
+            commands.append((at + draw.randrange(90000), f"refund\t{rental}\t{draw.randrange(1, 100)}", key + 2))
+        if draw.random() < 0.3:
+            commands.append((at, f"top-up\t{rider}\t{draw.randrange(1, 10000)}", key + 3))
+    given = "".join(f"{at}\toffice\tk{key}\t{command}\n" for at, command, key in commands)
+    status, out, said = program.run("lines", "city.db", given=given.encode())
+    assert (status, said) == (0, b""), (status, said)
+    stored = sqlite3.connect(Path(program.folder) / "city.db")
+    memory = sqlite3.connect(":memory:")
+    stored.backup(memory)
+    stored.close()
+    return memory
+
+
+def hundredths(text):
+    whole, part = text.split(".")
+    assert len(part) == 2
+    return int(whole) * 100 + int(part)
+
+
+def test_sums_are_those_of_plain_sql(program):
+    stored = made_city(program, 7)
+    zone = zone_of(ROME)
+    kinds = {"topup": 1, "fare": 2, "refund": 3}
+    seen = 0
+    for number in range(12):
+        day = date(2024, 3, 20) + timedelta(number)
+        begin, end = begin_of(day, zone), begin_of(day + timedelta(1), zone)
+        rows = list(csv.DictReader(io.StringIO(table(program, "entries", day.isoformat(), ROME))))
+        for name, kind in kinds.items():
+            wanted = stored.execute("SELECT count(*), coalesce(sum(amount), 0) FROM entries WHERE kind = ? AND at >= ? AND at < ?", (kind, begin, end)).fetchone()
+            found = [hundredths(row["amount"]) for row in rows if row["kind"] == name]
+            assert (len(found), sum(found)) == wanted, (day, name)
+            seen += len(found)
+        ended = list(csv.DictReader(io.StringIO(table(program, "rentals", day.isoformat(), ROME))))
+        wanted = stored.execute(
+            "SELECT rental, rider, bike, plan_id, from_station, start, to_station, finish, fare FROM rentals WHERE finish >= ? AND finish < ? ORDER BY rental", (begin, end)
+        ).fetchall()
+        found = [
+            (int(row["number"]), int(row["rider"]), int(row["bike"]), row["plan"], row["from"], row["start"], None if row["to"] == "*" else row["to"], row["end"], hundredths(row["fare"]))
+            for row in ended
+        ]
+        assert found == [(*row[:5], text_of(row[5]), row[6], text_of(row[7]), row[8]) for row in wanted], day
+        numbers = [int(row["number"]) for row in rows]
+        assert numbers == sorted(numbers)
+    assert seen > 50

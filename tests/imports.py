@@ -1,0 +1,139 @@
+"""Stations from CSV, as `import` reads them: the worked tables, what counts as the header and as a row, and what is left after a fault."""
+
+import json
+import sqlite3
+from pathlib import Path
+
+HEADER = "station_id,name,lat,lon,docks\n"
+ROWS = 'c1,Canal,45.0,9.1,10\nc2,"Corso, north",45.000001,9.2,12\nc3,Castle,45,9.3,8\n'
+AT = "1700000000"
+
+
+def load(program, table, name="spring", *words):
+    """Imports a table, and returns the status, the output and what is said of a fault."""
+    given = table if isinstance(table, bytes) else table.encode()
+    status, out, said = program.run("import", "city.db", name, *(words or ("--at", AT)), given=given)
+    return status, out.decode(), said.decode()
+
+
+def stations(program):
+    """The stations in the file: identifier, name, latitude, longitude in microdegrees, docks."""
+    stored = sqlite3.connect(Path(program.folder) / "city.db")
+    columns = [row[1] for row in stored.execute("PRAGMA table_info(stations)")]
+    rows = [dict(zip(columns, row)) for row in stored.execute("SELECT * FROM stations ORDER BY station_id")]
+    stored.close()
+    return [(row["station_id"], row["name"], row["lat"], row["lon"], row["docks"]) for row in rows]
+
+
+def is_sound(program):
+    return program.run("check", "city.db") == (0, b"sound\n", b"")
+
+
+def test_worked_tables(program):
+    assert load(program, HEADER + ROWS.replace("45,9.3", "91,9.3")) == (1, "", "row 3 bad_field\n")
+    assert [row[0] for row in stations(program)] == ["c1", "c2"]
+    assert load(program, HEADER + ROWS) == (0, "rows 3\n", "")
+    wanted = [("c1", "Canal", 45000000, 9100000, 10), ("c2", "Corso, north", 45000001, 9200000, 12), ("c3", "Castle", 45000000, 9300000, 8)]
+    assert stations(program) == wanted, stations(program)
+    before = (Path(program.folder) / "city.db").read_bytes()
+    assert load(program, HEADER + ROWS) == (0, "rows 3\n", "")
+    assert stations(program) == wanted
+    assert load(program, HEADER + ROWS.replace("Canal", "Kanal")) == (1, "", "row 1 key_reused\n")
+    assert load(program, HEADER + ROWS, "summer") == (1, "", "row 1 already_there\n")
+    assert stations(program) == wanted and is_sound(program)
+    assert before[:16] == b"SQLite format 3\0"
+
+
+def test_rows_are_kept_as_requests(program):
+    assert load(program, HEADER + ROWS) == (0, "rows 3\n", "")
+    stored = sqlite3.connect(Path(program.folder) / "city.db")
+    kept = stored.execute("SELECT caller, req_key, command, reply FROM kept ORDER BY req_key").fetchall()
+    stored.close()
+    assert [row[:2] for row in kept] == [("import:spring", f"row-{number}") for number in (1, 2, 3)], kept
+    assert kept[1][2] == "add-station\tc2\tCorso, north\t45.000001\t9.200000\t12" and {row[3] for row in kept} == {"ok"}, kept
+    again = f"{AT}\timport:spring\trow-1\tadd-station\tc1\tCanal\t45\t9.1\t10\n".encode()
+    assert program.run("lines", "city.db", given=again) == (0, b"ok\n", b"")
+
+
+def test_moment(program):
+    system = "1600000000\toffice\tk1\tset-system\tmetro\ten\tMetro\t24/7\tfeeds@example.org\tEtc/UTC\tEUR\thttp://127.0.0.1:8080\t30\n"
+    assert program.run("lines", "city.db", given=system.encode()) == (0, b"ok\n", b"")
+    assert load(program, HEADER + "c1,Canal,45,9.1,10\n", "spring", "--at", AT)[0] == 0
+    status, out, said = program.run("feed", "city.db", "station_status", "--at", AT)
+    assert (status, said) == (0, b"")
+    assert json.loads(out)["data"]["stations"][0]["last_reported"] == "2023-11-14T22:13:20Z", out
+    status, out, said = program.run("import", "city.db", "autumn", given=(HEADER + "c2,Corso,45,9.1,10\n").encode())
+    assert (status, out, said) == (0, b"rows 1\n", b"")
+
+
+def test_headers(program):
+    row = "c1,Canal,45,9.1,10\n"
+    for header in ("", "\n", "station_id,name,lat,lon\n", "name,station_id,lat,lon,docks\n", "station_id, name,lat,lon,docks\n", "Station_id,name,lat,lon,docks\n", "station_id,name,lat,lon,docks,\n", "station_id;name;lat;lon;docks\n"):
+        assert load(program, header + (row if header.strip() else "")) == (1, "", "bad header\n"), header
+    assert load(program, row) == (1, "", "bad header\n")
+    assert load(program, b"\xff,name,lat,lon,docks\n" + row.encode()) == (1, "", "bad header\n")
+    assert stations(program) == []
+    for number, header in enumerate((HEADER.replace("\n", "\r\n"), '"station_id",name,"lat",lon,docks\n', "\n\n" + HEADER, "\ufeff" + HEADER)):
+        assert load(program, header + f"d{number},Canal,45,9.1,10\n", f"n{number}") == (0, "rows 1\n", ""), header
+    for table in (HEADER, HEADER.rstrip("\n"), HEADER + "\n\n"):
+        assert load(program, table, "none") == (0, "rows 0\n", ""), table
+
+
+def test_rows_of_every_form(program):
+    table = HEADER + 'q1,"He said ""ciao""",45,9.1,10\r\n' + '\nq2,"two\nlines",-0.000001,-180,1\n' + "q3,back\\tslash,90,180,200\n" + '"q4",Last,-90,"9.1","7"'
+    assert load(program, table) == (0, "rows 4\n", ""), load(program, table)
+    assert stations(program) == [
+        ("q1", 'He said "ciao"', 45000000, 9100000, 10),
+        ("q2", "two\nlines", -1, -180000000, 1),
+        ("q3", "back\\tslash", 90000000, 180000000, 200),
+        ("q4", "Last", -90000000, 9100000, 7),
+    ], stations(program)
+    assert is_sound(program)
+
+
+def test_rows_that_are_unreadable(program):
+    good = "c1,Canal,45,9.1,10\n"
+    for number, (row, word) in enumerate(
+        (
+            ("c2,Corso,45,9.1\n", "unreadable"),
+            ("c2,Corso,45,9.1,10,\n", "unreadable"),
+            ("c2\n", "unreadable"),
+            (b"c2,Cors\xff,45,9.1,10\n", "unreadable"),
+            (b"c2,Corso,45,9.1,\xed\xa0\x80\n", "unreadable"),
+            ('c2,"Corso,45,9.1,10\n' + "c3,Castle,45,9.3,8\n" * 5, "unreadable"),
+            ("c2,Corso,45,9.1,0\n", "bad_field"),
+            ("c2,Corso,45,9.1,201\n", "bad_field"),
+            ("c2,Corso,45,9.1,010\n", "bad_field"),
+            ("c2,Corso,45,9.1, 10\n", "bad_field"),
+            ("c2,Corso,45.1234567,9.1,10\n", "bad_field"),
+            ("c2,Corso,+45,9.1,10\n", "bad_field"),
+            ("c2,Corso,45,180.000001,10\n", "bad_field"),
+            ("c 2,Corso,45,9.1,10\n", "bad_field"),
+            (",Corso,45,9.1,10\n", "bad_field"),
+            ("c2,,45,9.1,10\n", "bad_field"),
+            ("c2," + "x" * 1000000 + ",45,9.1,10\n", "bad_field"),
+            ("x" * 1000000 + "\n", "unreadable"),
+        )
+    ):
+        table = (HEADER + good).encode() + (row if isinstance(row, bytes) else row.encode()) + b"c9,Never,45,9.1,10\n"
+        found = load(program, table)
+        assert found == (1, "", f"row 2 {word}\n"), (number, row[:60], found)
+    assert [row[0] for row in stations(program)] == ["c1"] and is_sound(program)
+
+
+def test_an_open_quote_takes_the_rest(program):
+    assert load(program, HEADER + 'c1,Canal,45.0,9.1,"10') == (0, "rows 1\n", "")
+
+
+def test_words_of_import(program):
+    for words in ([], ["no name"], ["spring", "--at"], ["spring", "--at", "-1"], ["spring", "--at", "01"], ["spring", "--at", "253402300800"], ["spring", "more"], [""], ["x" * 37]):
+        status, out, said = program.run("import", "city.db", *words, given=HEADER.encode())
+        assert (status, out) == (2, b"") and said, (words, status, out, said)
+    assert not (Path(program.folder) / "city.db").exists()
+
+
+def test_many_stations(program):
+    rows = [f"s{number},Station {number},45.{number:06},9.{number:06},{number % 200 + 1}\n" for number in range(1, 1001)]
+    assert load(program, HEADER + "".join(rows)) == (0, "rows 1000\n", "")
+    assert len(stations(program)) == 1000 and is_sound(program)
+    assert load(program, HEADER + "".join(rows) + "s1001,More,45,9,1\n") == (0, "rows 1001\n", "")
