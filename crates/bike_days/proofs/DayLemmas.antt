@@ -55,7 +55,8 @@ module _ {A : Type 0} (date zone : List ℕ) (begin until : ℕ) (bounds : HasBo
   day_ends (Err Write) of = (begin, until, bounds)
   day_ends (Err (Desk fault)) of = (begin, until, bounds)
 
-  pub day_written : (s : Operator) (table kind : DayTable) → table ≡ kind → (result : Result A DayTableFault) → WritesText old new (span_text s kind begin until) result
+  pub day_written : (s : Operator) (table kind : DayTable) → table ≡ kind → (result : Result A DayTableFault)
+      → WritesText old new (span_text s kind begin until) result
       → WritesDay s table date zone old new result
   day_written s table kind is result wrote =
       by result (subst (λ (which : DayTable). WritesText old new (span_text s which begin until) result) (sym is) wrote) where

@@ -15,7 +15,8 @@ use Rattle.bike_days.specs.Ends.{LeavesDesk}
 use Rattle.bike_days.specs.Walking.{StaysAt}
 
 -- a fault of the desk as its own call told it
-told : {A B : Type 0} {x y : DeskFault} → ◌≡◌ {A = Result B DayTableFault} (Err (Desk x)) (Err (Desk y)) → ◌≡◌ {A = Result A DeskFault} (Err x) (Err y)
+told : {A B : Type 0} {x y : DeskFault} → ◌≡◌ {A = Result B DayTableFault} (Err (Desk x)) (Err (Desk y))
+    → ◌≡◌ {A = Result A DeskFault} (Err x) (Err y)
 told is = cc
 
 fault_is : {A : Type 0} {x y : DeskFault} → ◌≡◌ {A = Result A DeskFault} (Err x) (Err y) → x ≡ y
@@ -32,7 +33,8 @@ module _ {S : Type 0} (g : Ghosts S) where
     go true is = let it = (q.stays is).0 in absurd cc
     go false is = is
 
-  pub earlier : (d e : DeskValue S) → doubt (shown g d).is_clean ≤ doubt (shown g e).is_clean → HasCleanDisk (shown g e) → HasCleanDisk (shown g d)
+  pub earlier : (d e : DeskValue S) → doubt (shown g d).is_clean ≤ doubt (shown g e).is_clean → HasCleanDisk (shown g e)
+      → HasCleanDisk (shown g d)
   earlier d e le clean = omega (arith, le, clean)
 
   -- a question that was answered
@@ -57,7 +59,8 @@ module _ {S : Type 0} (g : Ghosts S) where
   -- ---- the ends of a table
 
   -- a question failed, the first of all
-  pub leaves_first : {A B : Type 0} {says : Operator → A → Type 0} {d e : DeskValue S} (fault : DeskFault) → Queries g d e (Err fault) says
+  pub leaves_first : {A B : Type 0} {says : Operator → A → Type 0} {d e : DeskValue S} (fault : DeskFault)
+      → Queries g d e (Err fault) says
       → LeavesDesk g d e {A = B} (Err (Desk fault))
   leaves_first {A} {B} {d = d} fault q = record {
     clean = q.clean;
@@ -73,14 +76,16 @@ module _ {S : Type 0} (g : Ghosts S) where
   }
 
   -- or one behind questions that were answered
-  pub leaves_failed : {A B : Type 0} {says : Operator → A → Type 0} {d e f : DeskValue S} (fault : DeskFault) → StaysAt g d e → Queries g e f (Err fault) says
+  pub leaves_failed : {A B : Type 0} {says : Operator → A → Type 0} {d e f : DeskValue S} (fault : DeskFault) → StaysAt g d e
+      → Queries g e f (Err fault) says
       → LeavesDesk g d f {A = B} (Err (Desk fault))
   leaves_failed {A} {B} {says} {d} {e} {f} fault p q = record {
     clean = omega (arith, p.clean, q.clean);
     same = λ clean s at. tt;
     day = λ refused is. absurd cc;
     write = λ clean s at is. absurd cc;
-    no_memory = λ clean s at is. subst (λ (x : DeskValue S). IsAt g x s) (sym (q.no_memory (told {A = A} {B = B} is))) (p.same (earlier e f q.clean clean) s at);
+    no_memory = λ clean s at is. subst (λ (x : DeskValue S). IsAt g x s) (sym (q.no_memory (told {A = A} {B = B} is)))
+        (p.same (earlier e f q.clean clean) s at);
     left = λ clean s at db h. p.left (earlier e f q.clean clean) s at db (q.left clean s (p.same (earlier e f q.clean clean) s at) db h);
     goes_on = tt;
     stops = λ is. q.stops (told {A = A} {B = B} is);

@@ -34,11 +34,13 @@ module _ {X : Type 0} (number : X → ℕ) (p : X → Bool) where
       → find (is_next (number x)) (front ++ x ∷ rest) ≡ find p rest
   next_behind n [] x rest h =
       let own : nat_lt (number x) (number x) ≡ false = le-ltb (number x) (number x) (omega arith) in
-      ap (λ (b : Bool). cond (b && p x) (Some x) (find (is_next (number x)) rest)) own ∙ beyond (number x) (suc n) rest h.1 (omega (arith, h.0))
+      ap (λ (b : Bool). cond (b && p x) (Some x) (find (is_next (number x)) rest)) own ∙ beyond (number x) (suc n) rest h.1
+      (omega (arith, h.0))
   next_behind n (y ∷ front) x rest h =
       let above : suc n ≤ number x = behind_front (suc n) front x rest h.1 in
       let earlier : nat_lt (number x) (number y) ≡ false = le-ltb (number x) (number y) (omega (arith, h.0, above)) in
-      ap (λ (b : Bool). cond (b && p y) (Some y) (find (is_next (number x)) (front ++ x ∷ rest))) earlier ∙ next_behind (suc n) front x rest h.1
+      ap (λ (b : Bool). cond (b && p y) (Some y) (find (is_next (number x)) (front ++ x ∷ rest))) earlier
+      ∙ next_behind (suc n) front x rest h.1
 
   -- numbers begin at 1, so 0 asks for the first of all
   pub next_first : (xs : List X) → IsNumbered number 1 xs → find (is_next 0) xs ≡ find p xs
@@ -73,7 +75,8 @@ module _ {X : Type 0} (p : X → Bool) where
   pub none_of : (xs : List X) → find p xs ≡ None → filter p xs ≡ []
   none_of [] e = refl
   none_of (x ∷ xs) e = go (p x) e (none_of xs) where
-    go : (b : Bool) → cond b (Some x) (find p xs) ≡ None → (find p xs ≡ None → filter p xs ≡ []) → cond b (x ∷ filter p xs) (filter p xs) ≡ []
+    go : (b : Bool) → cond b (Some x) (find p xs) ≡ None → (find p xs ≡ None → filter p xs ≡ [])
+        → cond b (x ∷ filter p xs) (filter p xs) ≡ []
     go true e below = absurd cc
     go false e below = below e
 
@@ -92,4 +95,5 @@ module _ {X : Type 0} (p : X → Bool) where
     lines_first x xs passes = ap (λ (b : Bool). flat_map line (cond b (x ∷ filter p xs) (filter p xs))) passes
 
     pub lines_more : (xs : List X) (x : X) → p x ≡ true → lines (xs ++ x ∷ []) ≡ lines xs ++ line x
-    lines_more xs x passes = lines_then xs (x ∷ []) ∙ ap (λ (bytes : List ℕ). lines xs ++ bytes) (lines_first x [] passes ∙ append-nil (line x))
+    lines_more xs x passes = lines_then xs (x ∷ []) ∙ ap (λ (bytes : List ℕ). lines xs ++ bytes) (lines_first x [] passes
+        ∙ append-nil (line x))

@@ -29,13 +29,15 @@ use Rattle.bike_days.proofs.WalkLemmas.{Source, AsksLine, text, table_as}
 -- ---- entries
 
 -- the numbers of items are their places
-numbered_by_place : {X : Type 0} (number : X → ℕ) (n : ℕ) (xs : List X) → ((k : ℕ) (x : X) → item_at k xs ≡ Some x → number x ≡ n + k) → IsNumbered number n xs
+numbered_by_place : {X : Type 0} (number : X → ℕ) (n : ℕ) (xs : List X) → ((k : ℕ) (x : X) → item_at k xs ≡ Some x
+    → number x ≡ n + k) → IsNumbered number n xs
 numbered_by_place number n [] h = tt
 numbered_by_place number n (x ∷ xs) h =
     (omega (arith, h 0 x refl), numbered_by_place number (suc n) xs (λ k y is. omega (arith, h (suc k) y is)))
 
 pub numbered_entries : (s : Operator) → IsSound s → IsNumbered (λ e. e.number) 1 s.entries
-numbered_entries s sound = numbered_by_place (λ e. e.number) 1 s.entries (λ k e is. omega (arith, (sound.ledger.entries (suc k) e is).number_is))
+numbered_entries s sound = numbered_by_place (λ e. e.number) 1 s.entries
+    (λ k e is. omega (arith, (sound.ledger.entries (suc k) e is).number_is))
 
 pub few_entries : (s : Operator) → IsSound s → length s.entries ≤ 100000000
 few_entries s sound = omega (arith, sound.ledger.few_entries)
@@ -55,7 +57,8 @@ entries begin until = record {
   few = few_entries;
 }
 
-pub entry_asks : (begin until : ℕ) (e : Entry) (b c : Option (List ℕ)) (result : Result (Unit {0}) LineFault) → WritesLine b c (entry_line e) result
+pub entry_asks : (begin until : ℕ) (e : Entry) (b c : Option (List ℕ)) (result : Result (Unit {0}) LineFault)
+    → WritesLine b c (entry_line e) result
     → AsksLine (entries begin until) e b c result
 entry_asks begin until e b c result wrote s x passes same = subst (λ (y : Entry). WritesLine b c (entry_line y) result) same wrote
 
@@ -99,7 +102,8 @@ pub rental_asks : (begin until : ℕ) (y : ℕ × RentalInfo) (b c : Option (Lis
 rental_asks begin until y b c result wrote s x passes same =
     let shown : ℕ × RentalInfo = (x.0, rental_info (refunded_of x.0 s.entries) x.1) in
     go x.1.closing refl passes
-    (subst (λ (z : ℕ × RentalInfo). (closing : ClosingInfo) → z.1.closing ≡ Some closing → WritesLine b c (ended_line (info_row z.0 z.1 closing)) result) same wrote) where
+    (subst (λ (z : ℕ × RentalInfo). (closing : ClosingInfo) → z.1.closing ≡ Some closing
+    → WritesLine b c (ended_line (info_row z.0 z.1 closing)) result) same wrote) where
       go : (o : Option Closing) → x.1.closing ≡ o → ends_in begin until o ≡ true
           → ((closing : ClosingInfo) → option_map (closing_info (refunded_of x.0 s.entries)) x.1.closing ≡ Some closing
           → WritesLine b c (ended_line (info_row x.0 (rental_info (refunded_of x.0 s.entries) x.1) closing)) result)
@@ -121,11 +125,14 @@ module _ (begin until : ℕ) where
   abbrev rows : List (ℕ × Rental) → List EndedRow
   rows = filter_map (λ e. ended_in begin until e.0 e.1 e.1.closing)
 
-  one_more : (e : ℕ × Rental) (o : Option Closing) → e.1.closing ≡ o → (xs : List (ℕ × Rental)) (ys : List EndedRow) → flat_map line_at xs ≡ flat_map ended_line ys
-      → flat_map line_at (cond (ends_in begin until o) (e ∷ xs) xs) ≡ flat_map ended_line (cons_option (ended_in begin until e.0 e.1 o) ys)
+  one_more : (e : ℕ × Rental) (o : Option Closing) → e.1.closing ≡ o → (xs : List (ℕ × Rental)) (ys : List EndedRow)
+      → flat_map line_at xs ≡ flat_map ended_line ys
+      → flat_map line_at (cond (ends_in begin until o) (e ∷ xs) xs) ≡ flat_map ended_line
+      (cons_option (ended_in begin until e.0 e.1 o) ys)
   one_more e None is xs ys same = same
   one_more e (Some c) is xs ys same = go (lies_in begin until c.finish) where
-    go : (b : Bool) → flat_map line_at (cond b (e ∷ xs) xs) ≡ flat_map ended_line (cons_option (cond b (Some (ended_row e.0 e.1 c)) None) ys)
+    go : (b : Bool) → flat_map line_at (cond b (e ∷ xs) xs) ≡ flat_map ended_line
+        (cons_option (cond b (Some (ended_row e.0 e.1 c)) None) ys)
     go true =
         ap (λ (o : Option Closing). closed_line e.0 e.1 o ++ flat_map line_at xs) is
         ∙ ap (λ (bytes : List ℕ). ended_line (ended_row e.0 e.1 c) ++ bytes) same

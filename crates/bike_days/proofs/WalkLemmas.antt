@@ -33,7 +33,12 @@ front_first a b x y h =
     (h.0, omega (arith, length-append x y, h.1), rw (take-append-le h.0 x y short) h.2)
 
 front_then : (a b c : Option (List ℕ)) (x y : List ℕ) → Appends a b x → AppendsFront b c y → AppendsFront a c (x ++ y)
-front_then a b c x y h k = (length x + k.0, omega (arith, length-append x y, k.1), rw (take-append-add x y k.0) (Appends-trans a b c x (take k.0 y) h k.2))
+front_then a b c x y h k = (
+  length x + k.0,
+  omega (arith, length-append x y, k.1),
+  rw (take-append-add x y k.0)
+      (Appends-trans a b c x (take k.0 y) h k.2),
+)
 
 some_first : (a b : Option (List ℕ)) (x y : List ℕ) → Appends a b x → AppendsSome a b (x ++ y)
 some_first a b x y h = (length x, rw (take-append_seam x y) h)
@@ -115,7 +120,8 @@ module _ {S X Y : Type 0} (g : Ghosts S) (t : Source X Y) where
     pub behind : HasCleanDisk (shown g new) → (s : Operator) → IsAt g old s → IsBehind s y count before after
 
   -- the header behind the first answer
-  pub walk_begins : {d e : DeskValue S} {a b : Option (List ℕ)} (next : Option Y) → Queries g d e (Ok next) (IsAnswer t 0) → Appends a b t.header
+  pub walk_begins : {d e : DeskValue S} {a b : Option (List ℕ)} (next : Option Y) → Queries g d e (Ok next) (IsAnswer t 0)
+      → Appends a b t.header
       → Walks next 0 d e a b
   walk_begins {a = a} {b = b} next q head = record {
     stays = stays_asked g next q;
@@ -142,11 +148,13 @@ module _ {S X Y : Type 0} (g : Ghosts S) (t : Source X Y) where
             front = it.front ++ found.skipped;
             at = x;
             rest = found.rest;
-            split = it.split ∙ (ap (λ (xs : List X). it.front ++ xs) found.split ∙ sym (append_assoc it.front found.skipped (x ∷ found.rest)));
+            split = it.split ∙ (ap (λ (xs : List X). it.front ++ xs) found.split
+                ∙ sym (append_assoc it.front found.skipped (x ∷ found.rest)));
             passes = found.passes;
             same = cc;
             many = omega (arith, it.many, length-append it.front found.skipped);
-            wrote = subst (λ (bytes : List ℕ). Appends a b (t.header ++ bytes)) (sym (lines_skip t.passes t.line it.front found.skipped found.none)) it.wrote;
+            wrote = subst (λ (bytes : List ℕ). Appends a b (t.header ++ bytes))
+                (sym (lines_skip t.passes t.line it.front found.skipped found.none)) it.wrote;
           }
 
     -- the whole text, as far as it is written, the row's line, and the rest
@@ -173,14 +181,17 @@ module _ {S X Y : Type 0} (g : Ghosts S) (t : Source X Y) where
     cut_at : (c : Option (List ℕ)) (it : IsBefore s y count a b) → AppendsFront b c (t.line it.at) → AppendsFront a c (text t s)
     cut_at c it more =
         subst (AppendsFront a c) (sym (text_at it))
-        (front_then a b c (t.header ++ rows_text t it.front) (t.line it.at ++ rows_text t it.rest) it.wrote (front_first b c (t.line it.at) (rows_text t it.rest) more))
+        (front_then a b c (t.header ++ rows_text t it.front) (t.line it.at ++ rows_text t it.rest) it.wrote
+        (front_first b c (t.line it.at) (rows_text t it.rest) more))
 
     none_at : (c : Option (List ℕ)) (it : IsBefore s y count a b) → Keeps b c → AppendsSome a c (text t s)
     none_at c it kept =
         subst (AppendsSome a c) (sym (text_at it))
-        (some_first a c (t.header ++ rows_text t it.front) (t.line it.at ++ rows_text t it.rest) (Appends-kept a b c (t.header ++ rows_text t it.front) it.wrote kept))
+        (some_first a c (t.header ++ rows_text t it.front) (t.line it.at ++ rows_text t it.rest)
+        (Appends-kept a b c (t.header ++ rows_text t it.front) it.wrote kept))
 
-  pub walk_writes : {count : ℕ} {d e : DeskValue S} {a b c : Option (List ℕ)} (y : Y) → Walks (Some y) count d e a b → AsksLine t y b c (Ok tt)
+  pub walk_writes : {count : ℕ} {d e : DeskValue S} {a b c : Option (List ℕ)} (y : Y) → Walks (Some y) count d e a b
+      → AsksLine t y b c (Ok tt)
       → Passes y count d e a c
   walk_writes {count = count} {a = a} {b = b} {c = c} y w wrote = record {
     stays = w.stays;
@@ -191,16 +202,19 @@ module _ {S X Y : Type 0} (g : Ghosts S) (t : Source X Y) where
 
   -- the next answer
   pub walk_goes : {count : ℕ} {d e f : DeskValue S} {a b : Option (List ℕ)} {y : Y} (asked : ℕ) (next : Option Y)
-      → Passes y count d e a b → Queries g e f (Ok next) (IsAnswer t asked) → ((s : Operator) (x : X) → y ≡ t.shows s x → asked ≡ t.number x)
+      → Passes y count d e a b → Queries g e f (Ok next) (IsAnswer t asked) → ((s : Operator) (x : X) → y ≡ t.shows s x
+      → asked ≡ t.number x)
       → Walks next (count + 1) d f a b
   walk_goes {e = e} {f = f} {y = y} asked next w q for_it = record {
     stays = stays_then g w.stays (stays_asked g next q);
     ahead = λ clean s at.
         let clean_before = earlier g e f q.clean clean in
         let it = w.behind clean_before s at in
-        let sorted : IsNumbered t.number 1 (it.front ++ it.last ∷ it.rest) = subst (IsNumbered t.number 1) it.split (t.numbered s (sound_of _ s at)) in
+        let sorted : IsNumbered t.number 1 (it.front ++ it.last ∷ it.rest) = subst (IsNumbered t.number 1) it.split
+        (t.numbered s (sound_of _ s at)) in
         let after = ap (λ (n : ℕ). find (is_next t.number t.passes n) (t.held s)) (for_it s it.last it.same)
-        ∙ (ap (find (is_next t.number t.passes (t.number it.last))) it.split ∙ next_behind t.number t.passes 1 it.front it.last it.rest sorted) in
+        ∙ (ap (find (is_next t.number t.passes (t.number it.last))) it.split
+        ∙ next_behind t.number t.passes 1 it.front it.last it.rest sorted) in
         record {
           front = it.front ++ it.last ∷ [];
           rest = it.rest;
@@ -218,7 +232,8 @@ module _ {S X Y : Type 0} (g : Ghosts S) (t : Source X Y) where
   not_stopped p stopped = absurd (going_only _ p.went_on stopped)
 
   -- no row is left
-  pub walk_ends : {A : Type 0} {count : ℕ} {d e : DeskValue S} {a b : Option (List ℕ)} (u : A) → Walks None count d e a b → WritesTable g d e a b (Ok u) (text t)
+  pub walk_ends : {A : Type 0} {count : ℕ} {d e : DeskValue S} {a b : Option (List ℕ)} (u : A) → Walks None count d e a b
+      → WritesTable g d e a b (Ok u) (text t)
   walk_ends {a = a} {b = b} u w = record {
     desk = leaves_ok g u w.stays;
     wrote = λ clean s at.
@@ -237,7 +252,8 @@ module _ {S X Y : Type 0} (g : Ghosts S) (t : Source X Y) where
       go (Some x) is = let one : None ≡ Some (t.shows s x) = is ∙ t.answers_some s x in absurd cc
 
   -- what never comes: there are fewer rows than turns
-  pub walk_runs_out : {A : Type 0} {count : ℕ} {next : Option Y} {d e : DeskValue S} {a b : Option (List ℕ)} → Walks next count d e a b → 100000000 < count
+  pub walk_runs_out : {A : Type 0} {count : ℕ} {next : Option Y} {d e : DeskValue S} {a b : Option (List ℕ)}
+      → Walks next count d e a b → 100000000 < count
       → WritesTable g d e a b {A = A} (Err Write) (text t)
   walk_runs_out w many = record {
     desk = leaves_write g w.stays;
@@ -269,14 +285,16 @@ module _ {S X Y : Type 0} (g : Ghosts S) (t : Source X Y) where
         ap (λ (xs : List X). t.header ++ rows_text t xs) (it.split ∙ sym (append_assoc it.front (it.last ∷ []) it.rest))
         ∙ (ap (λ (bytes : List ℕ). t.header ++ bytes) (lines_then t.passes t.line (it.front ++ it.last ∷ []) it.rest)
         ∙ sym (append_assoc t.header (rows_text t (it.front ++ it.last ∷ [])) (rows_text t it.rest))) in
-        subst (AppendsSome a b) (sym split) (some_first a b (t.header ++ rows_text t (it.front ++ it.last ∷ [])) (rows_text t it.rest) it.wrote);
+        subst (AppendsSome a b) (sym split) (some_first a b (t.header ++ rows_text t (it.front ++ it.last ∷ []))
+        (rows_text t it.rest) it.wrote);
     nothing = not_stopped w.stays;
     day = tt;
   }
 
   -- the header wasn't written whole
   pub header_failed : {A : Type 0} {d e : DeskValue S} {a b : Option (List ℕ)} (next : Option Y) (fault : LineFault)
-      → Queries g d e (Ok next) (IsAnswer t 0) → WritesLine {A = Unit {0}} a b t.header (Err fault) → WritesTable g d e a b {A = A} (Err (line_fault fault)) (text t)
+      → Queries g d e (Ok next) (IsAnswer t 0) → WritesLine {A = Unit {0}} a b t.header (Err fault)
+      → WritesTable g d e a b {A = A} (Err (line_fault fault)) (text t)
   header_failed {a = a} {b = b} next line.Write q wrote = record {
     desk = leaves_write g (stays_asked g next q);
     wrote = λ clean s at. front_first a b t.header (rows_text t (t.held s)) wrote;
@@ -291,7 +309,8 @@ module _ {S X Y : Type 0} (g : Ghosts S) (t : Source X Y) where
   }
 
   -- nor a row
-  pub row_failed : {A : Type 0} {count : ℕ} {d e : DeskValue S} {a b c : Option (List ℕ)} (y : Y) (fault : LineFault) → Walks (Some y) count d e a b
+  pub row_failed : {A : Type 0} {count : ℕ} {d e : DeskValue S} {a b c : Option (List ℕ)} (y : Y) (fault : LineFault)
+      → Walks (Some y) count d e a b
       → AsksLine t y b c (Err fault) → WritesTable g d e a c {A = A} (Err (line_fault fault)) (text t)
   row_failed {count = count} {a = a} {b = b} {c = c} y line.Write w wrote = record {
     desk = leaves_write g w.stays;
@@ -317,7 +336,8 @@ module _ {S : Type 0} (g : Ghosts S) (text : Operator → List ℕ) where
   pub table_told : {A : Type 0} {d e : DeskValue S} {a b : Option (List ℕ)} (fault : DayTableFault) (result : Result A DayTableFault)
       → IsErrAnd result (λ told. told ≡ fault) → WritesTable g d e a b {A = A} (Err fault) text → WritesTable g d e a b result text
   table_told fault (Ok x) is w = absurd is
-  table_told {A} {d} {e} {a} {b} fault (Err told) is w = subst (λ (f : DayTableFault). WritesTable g d e a b {A = A} (Err f) text) (sym is) w
+  table_told {A} {d} {e} {a} {b} fault (Err told) is w = subst (λ (f : DayTableFault). WritesTable g d e a b {A = A}
+      (Err f) text) (sym is) w
 
   -- the same text
   pub table_as : {A : Type 0} {d e : DeskValue S} {a b : Option (List ℕ)} {result : Result A DayTableFault} (other : Operator → List ℕ)

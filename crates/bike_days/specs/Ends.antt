@@ -43,20 +43,23 @@ EndsByDay date zone old new (Err (Desk fault)) = HasDay date zone
 abbrev pub AppendsSome : Option (List ℕ) → Option (List ℕ) → List ℕ → Type 0
 AppendsSome old new text = (k : ℕ) × Appends old new (take k text)
 
--- so of the bounds of the day
+-- it is so of the bounds of the day
 abbrev pub OfDay : List ℕ → List ℕ → (ℕ → ℕ → Type 0) → Type 0
 OfDay date zone says = (begin : ℕ) × (until : ℕ) × HasBounds date zone begin until × says begin until
 
 -- THE DAY'S TABLE of the operator; nothing where a day is refused
-abbrev pub WritesDay : {A : Type 0} → Operator → DayTable → List ℕ → List ℕ → Option (List ℕ) → Option (List ℕ) → Result A DayTableFault → Type 0
+abbrev pub WritesDay : {A : Type 0} → Operator → DayTable → List ℕ → List ℕ → Option (List ℕ) → Option (List ℕ)
+    → Result A DayTableFault → Type 0
 WritesDay s table date zone old new (Ok x) = OfDay date zone (λ begin until. Appends old new (span_text s table begin until))
 WritesDay s table date zone old new (Err (Day fault)) = Keeps old new
-WritesDay s table date zone old new (Err Write) = OfDay date zone (λ begin until. AppendsFront old new (span_text s table begin until))
-WritesDay s table date zone old new (Err (Desk fault)) = OfDay date zone (λ begin until. AppendsSome old new (span_text s table begin until))
+WritesDay s table date zone old new (Err Write) =
+    OfDay date zone (λ begin until. AppendsFront old new (span_text s table begin until))
+WritesDay s table date zone old new (Err (Desk fault)) =
+    OfDay date zone (λ begin until. AppendsSome old new (span_text s table begin until))
 
 -- ---- the desk
 
--- what a stopped desk is asked in vain: date and zone are looked at first
+-- how a table of a stopped desk ends: date and zone are looked at before the desk is asked
 abbrev pub IsOfStopped : {A : Type 0} → Result A DayTableFault → Type 0
 IsOfStopped (Ok x) = ⊥
 IsOfStopped (Err (Day fault)) = Unit {0}

@@ -1,4 +1,4 @@
--- What a line's fault is to a table.
+-- What a line is made of, and what its fault is to a table.
 use Rattle.std.specs.Prelude.{ℕ}
 use Rattle.bike_queries.specs.declared.rentals.ClosingInfo.{ClosingInfo}
 use Rattle.bike_queries.specs.declared.rentals.RentalInfo.{RentalInfo}

@@ -20,7 +20,7 @@ pub record StaysAt {S : Type 0} (g : Ghosts S) (old new : DeskValue S) : Type 0 
   pub went_on : old.is_stopped ≡ false
   pub goes_on : new.is_stopped ≡ false
 
--- the text was written: after a failed write a front of it and not all, after a fault of the desk a front; no day is refused any more
+-- the text was written: after a failed write a front of it and not all, after a fault of the desk a front; no day is refused
 abbrev pub WritesText : {A : Type 0} → Option (List ℕ) → Option (List ℕ) → List ℕ → Result A DayTableFault → Type 0
 WritesText old new text (Ok x) = Appends old new text
 WritesText old new text (Err (Day fault)) = ⊥
@@ -35,8 +35,8 @@ IsOfDay (Err Write) = Unit {0}
 IsOfDay (Err (Desk fault)) = Unit {0}
 
 -- A TABLE of the operator was written from the first question to the desk on
-pub record WritesTable {S : Type 0} (g : Ghosts S) (old new : DeskValue S) (before after : Option (List ℕ)) {A : Type 0} (result : Result A DayTableFault)
-    (text : Operator → List ℕ) : Type 0 where
+pub record WritesTable {S : Type 0} (g : Ghosts S) (old new : DeskValue S) (before after : Option (List ℕ)) {A : Type 0}
+    (result : Result A DayTableFault) (text : Operator → List ℕ) : Type 0 where
   pub desk : LeavesDesk g old new result
   pub wrote : HasCleanDisk (shown g new) → (s : Operator) → IsAt g old s → WritesText before after (text s) result
   pub nothing : IsTrue old.is_stopped → Keeps before after

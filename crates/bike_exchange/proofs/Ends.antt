@@ -9,7 +9,7 @@ use Rattle.bike_answers.specs.declared.answer.Answer.TheVariants as answer
 use Rattle.bike_answers.specs.Sent.{IsSent}
 use Rattle.bike_feeds.specs.Desk.{DeskValue, IsAt}
 use Rattle.bike_exchange.specs.Exchange.{answered, response_of, operator_after, response_status, Answers}
-use Rattle.bike_exchange.specs.Telling.{SendsAnswer, Responds, Serves, Rests, IsDone, ended}
+use Rattle.bike_exchange.specs.Telling.{SendsAnswer, Responds, Serves, Rests, Refuses, IsDone, ended, refusal_of}
 use Rattle.bike_exchange.specs.declared.respond.SendFault.{SendFault}
 use Rattle.bike_exchange.specs.declared.respond.SendFault.TheVariants as fault
 use Rattle.bike_exchange.specs.declared.exchange.Served.{Served}
@@ -65,3 +65,19 @@ pub rests : {S : Type 0} (old new : DeskValue S) (before after : Option (List �
 rests old new before after (Ok status) = tt
 rests old new before after (Err fault.Write) = tt
 rests old new before after (Err fault.Cut) = tt
+
+-- ---- a stopped desk
+
+module _ (input before after : Option (List ℕ)) where
+  -- what the input asks for was known
+  pub stopped_refuses : (asked : Asked) → IfSome input (λ bytes. Received bytes (Some asked)) → (r : Result ℕ SendFault)
+      → SendsAnswer before after (refusal_of asked) r → Refuses input before after (ended r)
+  stopped_refuses asked received (Ok status) h = (refusal_of asked, inr (asked, received, refl), h)
+  stopped_refuses asked received (Err fault.Write) h = (refusal_of asked, inr (asked, received, refl), h)
+  stopped_refuses asked received (Err fault.Cut) h = absurd h
+
+  -- memory was refused while it was read
+  pub stopped_unread : (r : Result ℕ SendFault) → SendsAnswer before after answer.Unavailable r → Refuses input before after (ended r)
+  stopped_unread (Ok status) h = (answer.Unavailable, inl refl, h)
+  stopped_unread (Err fault.Write) h = (answer.Unavailable, inl refl, h)
+  stopped_unread (Err fault.Cut) h = absurd h

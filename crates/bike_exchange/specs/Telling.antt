@@ -1,11 +1,14 @@
 -- What is told of a request, and where the desk is then.
-use Rattle.std.specs.Prelude.{◌≡◌, ◌⊎◌, ℕ, ◌<◌, List, [], ◌++◌, length, take, false, Option, IfSome, Result, Ok, Err}
+use Rattle.std.specs.Prelude.{◌≡◌, ◌⊎◌, ℕ, ◌<◌, List, [], ◌++◌, length, take, false, Option, Some, IfSome, Result, Ok, Err}
 use Rattle.std.specs.Io.KnownBytes.{Appends, Keeps}
 use Rattle.sqlite_trees.specs.declared.store.Store.{Ghosts}
 use Rattle.bike_stream.specs.Writing.{AppendsFront}
 use Rattle.bike_operator.specs.Operator.{Operator}
 use Rattle.bike_schema.specs.Stands.{AllLeft}
 use Rattle.bike_feeds.specs.Desk.{DeskValue, shown, IsAt, TreesStandForEither}
+use Rattle.bike_http.specs.declared.asked.Asked.{Asked}
+use Rattle.bike_http.specs.declared.asked.Asked.TheVariants.{Reject, Apply, Show, Publish}
+use Rattle.bike_http.specs.Received.{Received}
 use Rattle.bike_answers.specs.declared.answer.Answer.{Answer}
 use Rattle.bike_answers.specs.declared.answer.Answer.TheVariants as answer
 use Rattle.bike_answers.specs.Sent.{Sends, SendsFront}
@@ -86,3 +89,24 @@ Rests old new before after (Ok (Status status)) = Unit {0}
 Rests old new before after (Err Read) = (new ≡ old) × Keeps before after
 Rests old new before after (Err Write) = Unit {0}
 Rests old new before after (Err Cut) = Unit {0}
+
+-- ---- a stopped desk
+
+-- what is sent where a stopped desk is asked: an input that asks for nothing is rejected as ever, and all else has no answer now
+abbrev pub refusal_of : Asked → Answer
+refusal_of (Reject rejection) = answer.Rejected rejection
+refusal_of (Apply q) = answer.Unavailable
+refusal_of (Show row) = answer.Unavailable
+refusal_of (Publish named) = answer.Unavailable
+
+-- the same of an input; where memory was refused while it was read, there is no answer now
+abbrev pub RefusesWith : Option (List ℕ) → Answer → Type 0
+RefusesWith input a = (a ≡ answer.Unavailable) ⊎ ((asked : Asked) × IfSome input (λ bytes. Received bytes (Some asked)) × (a ≡ refusal_of asked))
+
+-- HOW AN EXCHANGE WITH A STOPPED DESK ENDS over an input
+abbrev pub Refuses : Option (List ℕ) → Option (List ℕ) → Option (List ℕ) → Result Served ServeFault → Type 0
+Refuses input before after (Ok Empty) = IfSome input (λ bytes. bytes ≡ [])
+Refuses input before after (Ok (Status status)) = (a : Answer) × RefusesWith input a × Sends before after a status
+Refuses input before after (Err Read) = Unit {0}
+Refuses input before after (Err Write) = (a : Answer) × RefusesWith input a × SendsFront before after a
+Refuses input before after (Err Cut) = ⊥

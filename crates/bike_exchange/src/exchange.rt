@@ -5,7 +5,7 @@ ghost use Rattle.sqlite.specs.State.{HasCleanDisk};
 ghost use Rattle.sqlite_trees.specs.View.{doubt};
 ghost use Rattle.bike_operator.specs.Operator.{Operator};
 ghost use Rattle.bike_feeds.specs.Desk.{shown, IsAt};
-ghost use Rattle.bike_exchange.specs.Telling.{ended, Serves, Rests, IsDone};
+ghost use Rattle.bike_exchange.specs.Telling.{ended, Serves, Rests, Refuses, IsDone};
 
 use crate::respond::{SendFault, respond, send};
 use bike_answers::Answer;
@@ -57,7 +57,8 @@ fn ended(sent: Result<u16, SendFault>) -> Result<Served, ServeFault>
 /// The answer is 503 where memory is refused or the desk fails before the response's head; the desk then goes on at the operator
 /// before or after the request, or it is stopped and a crash leaves one of these. `Read` comes where a read fails or more
 /// than 20,000 are needed, and then nothing is asked of the desk; `Write` where a write fails, after a front of the response or of
-/// the 503; `Cut` where the desk fails behind a feed's head. A stopped desk stays as it is.
+/// the 503; `Cut` where the desk fails behind a feed's head. A stopped desk stays as it is: what asks for nothing is rejected as ever,
+/// and all else is answered 503.
 pub fn serve_one<S: Alter, R: Read, W: Write>(
     alloc: Global,
     desk: &mut Desk<S>,
@@ -73,6 +74,8 @@ pub fn serve_one<S: Alter, R: Read, W: Write>(
         → result ≡ Ok (Served.Status 200) → IsDone S.Store desk.new s moment (R.remaining reader.old) }
     ensures rests { Rests desk.old desk.new (W.contents writer.old) (W.contents writer.new) result }
     ensures stays { IsTrue desk.old.is_stopped → desk.new ≡ desk.old }
+    ensures refuses { IsTrue desk.old.is_stopped
+        → Refuses (R.remaining reader.old) (W.contents writer.old) (W.contents writer.new) result }
 {
     match receive(alloc, routes, reader) {
         Ok(None) => Ok(Served::Empty),

@@ -10,7 +10,7 @@ ghost use Rattle.bike_feeds.specs.Queries.{Queries};
 ghost use Rattle.bike_feeds.specs.Publishing.{IsLength};
 ghost use Rattle.bike_exchange.specs.Shown.{shown_of};
 ghost use Rattle.bike_exchange.specs.Exchange.{answered, feed_response, response_of, operator_after};
-ghost use Rattle.bike_exchange.specs.Telling.{Tells, SendsAnswer, Responds};
+ghost use Rattle.bike_exchange.specs.Telling.{Tells, SendsAnswer, Responds, refusal_of};
 
 use crate::feed::feed_of;
 use crate::rows::{bike_answer, order_answer, rental_answer, rider_answer};
@@ -51,6 +51,7 @@ fn act<S: Alter>(alloc: Global, desk: &mut Desk<S>, moment: Moment, request: &Re
     ensures told { HasCleanDisk (shown S.Store desk.new) → (s : Operator) → IsAt S.Store desk.old s
         → Tells S.Store desk.new s (answered (Answer.Replied (step s moment request.now).0)) (step s moment request.now).1 (answered result) }
     ensures stays { IsTrue desk.old.is_stopped → desk.new ≡ desk.old }
+    ensures refuses { IsTrue desk.old.is_stopped → result ≡ Answer.Unavailable }
 {
     match desk.apply(alloc, moment, request) {
         Ok(reply) => Answer::Replied(reply),
@@ -76,6 +77,7 @@ fn show<S: Alter>(alloc: Global, desk: &mut Desk<S>, row: Shown) -> Answer
     ensures told { HasCleanDisk (shown S.Store desk.new) → (s : Operator) → IsAt S.Store desk.old s
         → Tells S.Store desk.new s (answered (shown_of s row)) s (answered result) }
     ensures stays { IsTrue desk.old.is_stopped → desk.new ≡ desk.old }
+    ensures refuses { IsTrue desk.old.is_stopped → result ≡ Answer.Unavailable }
 {
     match find_row(alloc, desk, row) {
         Ok(answer) => answer,
@@ -120,6 +122,7 @@ fn publish<S: Alter, W: Write>(
     ensures sent { HasCleanDisk (shown S.Store desk.new) → (s : Operator) → IsAt S.Store desk.old s
         → Responds S.Store desk.new s (feed_response s moment feed s.system) s (W.contents writer.old) (W.contents writer.new) result }
     ensures stays { IsTrue desk.old.is_stopped → desk.new ≡ desk.old }
+    ensures refuses { IsTrue desk.old.is_stopped → SendsAnswer (W.contents writer.old) (W.contents writer.new) Answer.Unavailable result }
 {
     match feed_length(alloc, desk, feed, moment) {
         Ok(length) => publish_whole(alloc, desk, feed, length, moment, writer),
@@ -140,6 +143,7 @@ pub(crate) fn respond<S: Alter, W: Write>(
     ensures sent { HasCleanDisk (shown S.Store desk.new) → (s : Operator) → IsAt S.Store desk.old s
         → Responds S.Store desk.new s (response_of s moment asked) (operator_after s moment asked) (W.contents writer.old) (W.contents writer.new) result }
     ensures stays { IsTrue desk.old.is_stopped → desk.new ≡ desk.old }
+    ensures refuses { IsTrue desk.old.is_stopped → SendsAnswer (W.contents writer.old) (W.contents writer.new) (refusal_of asked) result }
 {
     match asked {
         Asked::Reject(rejection) => send(writer, &Answer::Rejected(rejection)),

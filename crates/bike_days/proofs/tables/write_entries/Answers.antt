@@ -6,7 +6,8 @@ use Rattle.bike_days.proofs.tables.write_entries.Goals as goal
 pub returns-in_err-next : goal.returns-in_err-next
 returns-in_err-next g c =
     let of = entries c.args.begin c.args.until in
-    table_told g.S.Store (text of) _ _ c.from_residual.ensures.1 (first_failed g.S.Store of c.in_err-next.field-0.0 c.in_err-next.ensures.query)
+    table_told g.S.Store (text of) _ _ c.from_residual.ensures.1
+    (first_failed g.S.Store of c.in_err-next.field-0.0 c.in_err-next.ensures.query)
 
 pub returns-in_err-write_header : goal.returns-in_err-write_header
 returns-in_err-write_header g c =

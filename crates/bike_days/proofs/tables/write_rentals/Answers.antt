@@ -7,7 +7,8 @@ use Rattle.bike_days.proofs.tables.write_rentals.Goals as goal
 pub returns-in_err-next : goal.returns-in_err-next
 returns-in_err-next g c =
     let of = rentals c.args.begin c.args.until in
-    rentals_told c.args.begin c.args.until g.S.Store (table_told g.S.Store (text of) _ _ c.from_residual.ensures.1 (first_failed g.S.Store of c.in_err-next.field-0.0 c.in_err-next.ensures.query))
+    rentals_told c.args.begin c.args.until g.S.Store (table_told g.S.Store (text of) _ _ c.from_residual.ensures.1
+    (first_failed g.S.Store of c.in_err-next.field-0.0 c.in_err-next.ensures.query))
 
 pub returns-in_err-write_header : goal.returns-in_err-write_header
 returns-in_err-write_header g c =
@@ -21,7 +22,8 @@ rentals-init g c =
 
 pub returns-in_default : goal.returns-in_default
 returns-in_default g c =
-    rentals_told c.args.begin c.args.until g.S.Store (walk_ends g.S.Store (rentals c.args.begin c.args.until) tt (rw c.in_default.is at c.rentals.invariant))
+    rentals_told c.args.begin c.args.until g.S.Store (walk_ends g.S.Store (rentals c.args.begin c.args.until) tt
+    (rw c.in_default.is at c.rentals.invariant))
 
 pub returns-in_err-write_rental : goal.returns-in_err-write_rental
 returns-in_err-write_rental g c =

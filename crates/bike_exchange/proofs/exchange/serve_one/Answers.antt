@@ -1,10 +1,10 @@
 use Rattle.std.proofs.Common.{◌∙◌, IfSome, Option, Result, sym, subst}
 use Rattle.bike_http.specs.declared.asked.Asked.{Asked}
 use Rattle.bike_http.specs.Received.{Received}
-use Rattle.bike_exchange.specs.Telling.{Serves, Rests}
+use Rattle.bike_exchange.specs.Telling.{Serves, Rests, Refuses}
 use Rattle.bike_exchange.specs.declared.exchange.Served.{Served}
 use Rattle.bike_exchange.specs.declared.exchange.ServeFault.{ServeFault}
-use Rattle.bike_exchange.proofs.Ends.{serves, is_done, refuses, never_done, rests}
+use Rattle.bike_exchange.proofs.Ends.{serves, is_done, refuses, never_done, rests, stopped_refuses, stopped_unread}
 use Rattle.bike_exchange.proofs.exchange.serve_one.Goals as goal
 
 pub returns-in-Ok-Some-clause-served : goal.returns-in-Ok-Some-clause-served
@@ -38,3 +38,14 @@ pub returns-in-Err-NoMemory-clause-rests : goal.returns-in-Err-NoMemory-clause-r
 returns-in-Err-NoMemory-clause-rests g c =
     subst (λ (r : Result Served ServeFault). Rests c.args.desk.now c.args.desk.now (g.W.Write.contents c.args.writer.now) (g.W.Write.contents c.send.new.writer) r)
     (sym c.ended-in-Err-NoMemory.ensures) (rests _ _ _ _ c.send.result)
+
+pub returns-in-Ok-Some-clause-refuses : goal.returns-in-Ok-Some-clause-refuses
+returns-in-Ok-Some-clause-refuses g c stopped =
+    let received = subst (λ (o : Option Asked). IfSome (g.R.Read.remaining c.args.reader.now) (λ bytes. Received bytes o)) c.in-Ok-Some.field-0-is c.in-Ok-Some.ensures in
+    subst (λ (r : Result Served ServeFault). Refuses (g.R.Read.remaining c.args.reader.now) (g.W.Write.contents c.args.writer.now) (g.W.Write.contents c.respond.new.writer) r)
+    (sym c.ended.ensures) (stopped_refuses _ _ _ c.in-Ok-Some.asked received c.respond.result (c.respond.ensures.refuses stopped))
+
+pub returns-in-Err-NoMemory-clause-refuses : goal.returns-in-Err-NoMemory-clause-refuses
+returns-in-Err-NoMemory-clause-refuses g c stopped =
+    subst (λ (r : Result Served ServeFault). Refuses (g.R.Read.remaining c.args.reader.now) (g.W.Write.contents c.args.writer.now) (g.W.Write.contents c.send.new.writer) r)
+    (sym c.ended-in-Err-NoMemory.ensures) (stopped_unread _ _ _ c.send.result c.send.ensures)

@@ -27,4 +27,5 @@ returns-in-Err g c =
       sent = λ clean s at. responds g.S.Store c.feed_length.new.desk s s _ answer.Unavailable _ _ c.send-in-Err.result
           (inr (refl, feed_either g.S.Store c.args.desk.now c.feed_length.new.desk s s c.in-Err.field-0 clean at h.desk)) c.send-in-Err.ensures;
       stays = λ is_stopped. (h.desk.stays is_stopped).1;
+      refuses = λ is_stopped. c.send-in-Err.ensures;
     }
