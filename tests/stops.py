@@ -1,143 +1,627 @@
-"""The program is stopped at each storage call in turn, before the call or in its midst, while it serves a list of requests over a file.
+"""The program is stopped at every call that it makes on its files, its disk loses what was not flushed, fails, or moves bytes one by one,
+and it is refused every request for memory, each in its turn. tests/stops/faults.c does it from outside; cc builds it.
 
-What is left has to be adopted: it is the city after a front of the list that holds every answered request and at most one more; and the
-list, sent again, ends where it would have ended. A wrapper of the system's calls stops the program; cc builds it.
+It does that while it makes a file, serves lines (of a new file, of one that is there, and over the moment at which the log is copied into
+the file), imports stations, checks a file, writes a feed and the table of a day, and answers HTTP. After each fault, without faults:
+
+  - SQLite's own integrity_check finds nothing, and `check` says `sound`;
+  - what was answered is a front of what a run that nobody disturbed answers;
+  - the file holds, table by table and row by row, what it held in that run after the answered requests or one more, and the feed
+    `station_status` is that one's;
+  - the requests that were not answered, sent again, have that run's answers, and the file ends as that run's.
+
+Every turn of the short runs and some of the long ones stand in the gate. By hand, from the environment:
+
+    BIKESHARE_STOPS=1 BIKESHARE_JOBS=4 tests/run stops.
+
+BIKESHARE_STOPS is the stride for all runs, so 1 tries each turn; BIKESHARE_STOPS_FIRST is how many turns are left out before the first;
+BIKESHARE_SEED is what the losses are drawn from; BIKESHARE_JOBS is how many programs run at a time; BIKESHARE_STOPS_TOLD names a file to which each test adds how many turns it tried
+and how they ended.
 """
 
+import collections
+import concurrent.futures
+import contextlib
+import copy
+import functools
 import importlib.util
 import os
+import re
+import shutil
+import socket
+import sqlite3
 import subprocess
+import tempfile
+import threading
 from pathlib import Path
 
-WRAPPER = r"""
-#define _GNU_SOURCE
-#include <dlfcn.h>
-#include <stdlib.h>
-#include <sys/types.h>
-#include <unistd.h>
+HERE = Path(__file__).resolve().parent
+STRIDE = int(os.environ.get("BIKESHARE_STOPS", "0"))
+FIRST = int(os.environ.get("BIKESHARE_STOPS_FIRST", "0"))
+SEED = int(os.environ.get("BIKESHARE_SEED", "5"))
+JOBS = int(os.environ.get("BIKESHARE_JOBS", "1"))
+SECONDS = 60
+SHOWN = 5
+CLOCK = "1700005000"
+AT = "1700009000"
+PARTS = ["", "-wal", "-journal", "-shm"]
+# The wrapper knows what was flushed, so the files may stand where a flush costs nothing.
+ROOM = "/dev/shm" if os.access("/dev/shm", os.W_OK) else None
+KILLED = -9
+EIO, ENOSPC, EINTR = 5, 28, 4
 
-static long stop_at, calls;
-static int in_midst;
+Ran = collections.namedtuple("Ran", "status out said calls memory hit")
 
-__attribute__((constructor)) static void begin(void)
-{
-    const char *at = getenv("STOP_AT");
-    stop_at = at ? atol(at) : 0;
-    in_midst = getenv("STOP_IN_MIDST") != NULL;
-}
 
-/* Whether the program stops at this call. */
-static int stops(void)
-{
-    calls += 1;
-    return calls == stop_at;
-}
+def by_path(name):
+    spec = importlib.util.spec_from_file_location(f"tests_{name}", HERE / f"{name}.py")
+    module = importlib.util.module_from_spec(spec)
+    spec.loader.exec_module(module)
+    return module
 
-static ssize_t put(const char *name, int file, const void *bytes, size_t count, off_t at)
-{
-    ssize_t (*real)(int, const void *, size_t, off_t) = dlsym(RTLD_NEXT, name);
-    if (stops()) {
-        if (in_midst)
-            (void)!real(file, bytes, count / 2, at);
-        _exit(77);
-    }
-    return real(file, bytes, count, at);
-}
 
-ssize_t pwrite(int file, const void *bytes, size_t count, off_t at) { return put("pwrite", file, bytes, count, at); }
-ssize_t pwrite64(int file, const void *bytes, size_t count, off_t at) { return put("pwrite64", file, bytes, count, at); }
+serving = by_path("serving")
 
-#define ON_FILE(name)                                       \
-    int name(int file)                                      \
-    {                                                       \
-        int (*real)(int) = dlsym(RTLD_NEXT, #name);         \
-        if (stops())                                        \
-            _exit(77);                                      \
-        return real(file);                                  \
-    }
-ON_FILE(fsync)
-ON_FILE(fdatasync)
+# ---- What is asked, and the answers, written by hand
 
-#define CUTS(name)                                          \
-    int name(int file, off_t length)                        \
-    {                                                       \
-        int (*real)(int, off_t) = dlsym(RTLD_NEXT, #name);  \
-        if (stops())                                        \
-            _exit(77);                                      \
-        return real(file, length);                          \
-    }
-CUTS(ftruncate)
-CUTS(ftruncate64)
+TOUR = (HERE.parent / "docs/tour.txt").read_bytes().splitlines(keepends=True)
+TOUR_ANSWERS = (
+    "ok|ok|ok|ok|ok|ok|order 1|ok|ok|ok|ok|balance 2500|balance 2500|refused 33 key_reused|rental 1 7|refused 20 rider_is_riding|fare 125 2375|fare 125 2375"
+)
+MORE = [
+    ("1700002400 office k11 refund 1 100", "balance 2475"),
+    ("1700002500 rider:17 s3 start 17 a1 2", "rental 2 7"),
+    ("1700004300 dock:a1 e2 end 7 a1 1", "fare 125 2350"),
+    ("1700004400 office k12 top-up 17 150", "balance 2500"),
+    ("1700004500 dock:a1 d1 mark-dock a1 2 broken", "ok"),
+]
+# Over the city of all these: the commands that they don't have.
+OTHERS = [
+    ("1700004600 office n1 set-station a1 true true false", "ok"),
+    ("1700004600 office n2 mark-bike 7 disabled", "ok"),
+    ("1700004700 office n3 mark-bike 7 fit", "ok"),
+    ("1700004700 rider:17 n4 start 17 a1 1", "rental 3 7"),
+    ("1700004800 office n5 recover 3", "fare 100 2400"),
+    ("1700004800 office n6 add-plan day Day 250 true Day -", "ok"),
+    ("1700004800 office n7 set-plan city day", "ok"),
+    ("1700004900 office n8 set-rider 17 blocked", "ok"),
+    ("1700004900 office n9 mark-bike 7 fit", "ok"),
+    ("1700004900 office n10 open-order 3 * a1 city 1", "order 2"),
+    ("1700004950 crew:3 n11 load 3 2 7", "ok"),
+    ("1700004950 crew:3 n12 unload 3 2 7 from 0", "ok"),
+    ("1700004950 office n13 retire-bike 7", "ok"),
+]
 
-int unlink(const char *path)
-{
-    int (*real)(const char *) = dlsym(RTLD_NEXT, "unlink");
-    if (stops())
-        _exit(77);
-    return real(path);
-}
+
+def as_line(text):
+    return text.replace(" ", "\t").encode() + b"\n"
+
+
+LINES = TOUR + [as_line(line) for line, _ in MORE]
+ANSWERS = [as_line(it) for it in TOUR_ANSWERS.split("|")] + [as_line(answer) for _, answer in MORE]
+HEADER = b"station_id,name,lat,lon,docks\n"
+ROWS = [b"c1,Canal,45.0,9.1,10\n", b'c2,"Corso, north",45.000001,9.2,12\n', b"c3,Castle,45,9.3,8\n"]
+ENTRIES = b"""number,kind,rider,rental,amount,at
+1,topup,17,0,25.00,2023-11-14T22:18:20Z
+2,fare,17,1,1.25,2023-11-14T22:51:40Z
+3,refund,17,1,1.00,2023-11-14T22:53:20Z
+4,fare,17,2,1.25,2023-11-14T23:25:00Z
+5,topup,17,0,1.50,2023-11-14T23:26:40Z
 """
-
-# The list of the tests of adoption: every request of it is accepted.
-spec = importlib.util.spec_from_file_location("adoption", Path(__file__).resolve().parent / "adoption.py")
-adoption = importlib.util.module_from_spec(spec)
-spec.loader.exec_module(adoption)
-
-
-def built(folder):
-    """Builds the wrapper."""
-    source = Path(folder) / "stop.c"
-    source.write_text(WRAPPER)
-    made = Path(folder) / "stop.so"
-    subprocess.run(["cc", "-shared", "-fPIC", "-O1", "-o", made, source, "-ldl"], check=True)
-    return made
+START = serving.post("/riders/17/start", '{"key":"h1","station":"a1","dock":1}')
+STATUS = serving.get("/gbfs/3.0/station_status.json")
+UNAVAILABLE = (
+    b"HTTP/1.1 503 Service Unavailable\r\nContent-Type: application/json\r\nContent-Length: 39\r\nConnection: close\r\n\r\n"
+    b'{"result":"error","name":"unavailable"}'
+)
 
 
-def served(program, file, lines, **stop):
-    """Serves the lines over the file, under the wrapper where it is to stop; returns the status and the answer lines."""
-    words = [program.file, "lines", file]
-    ran = subprocess.run(words, input=b"".join(lines), cwd=program.folder, capture_output=True, timeout=60, env={**os.environ, **stop})
-    return ran.returncode, ran.stdout.splitlines(keepends=True)
+def top_ups(count):
+    """So many requests more, that fill the log."""
+    told = [(as_line(f"1700004600 office t{it} top-up 17 1"), as_line(f"balance {2500 + it}")) for it in range(1, count + 1)]
+    return [line for line, _ in told], [answer for _, answer in told]
 
 
-def fronts(program, lines):
-    """Returns what a file holds after each front of the list."""
-    told = []
-    for count in range(len(lines) + 1):
-        file = f"front{count}.db"
-        served(program, file, lines[:count])
-        told.append(adoption.held(Path(program.folder) / file))
-    return told
+# ---- Files
 
 
-def stops_at_each_call(program, **how):
-    lines = adoption.asked().splitlines(keepends=True)
-    answers = adoption.told().splitlines(keepends=True)
-    wrapper = built(program.folder)
-    wanted = fronts(program, lines)
-    call = 0
-    while True:
-        call += 1
-        file = Path(program.folder) / f"stopped{call}.db"
-        ended, given = served(program, file.name, lines, LD_PRELOAD=str(wrapper), STOP_AT=str(call), **how)
-        if ended == 0:
-            break
-        assert ended == 77 and given == answers[: len(given)], (call, ended, given)
-        # The file is taken up, and holds a front of the list.
-        ended, found, said = program.run("check", file.name)
-        assert (ended, found, said) == (0, b"sound\n", b""), (call, ended, found, said)
-        held = adoption.held(file)
-        held_fronts = [count for count in (len(given), len(given) + 1) if count < len(wanted) and wanted[count] == held]
-        assert held_fronts, f"call {call}: after {len(given)} answers the file holds neither the city then nor one request later"
-        # The list comes again and is answered to its end.
-        assert served(program, file.name, lines) == (0, answers), call
-        assert adoption.held(file) == wanted[-1], f"call {call}: the list, sent again, ends elsewhere"
-    assert call > 60, f"the program made only {call} storage calls"
+def put(parts, folder, name):
+    """Puts a file that was taken, with the log beside it."""
+    for part, data in parts.items():
+        Path(folder, name + part).write_bytes(data)
 
 
-def test_a_stop_before_each_storage_call(program):
-    stops_at_each_call(program)
+def taken(folder, name):
+    return {part: Path(folder, name + part).read_bytes() for part in PARTS if Path(folder, name + part).exists()}
 
 
-def test_a_stop_in_the_midst_of_each_write(program):
-    stops_at_each_call(program, STOP_IN_MIDST="1")
+def removed(folder, name):
+    for part in [*PARTS, ".told"]:
+        Path(folder, name + part).unlink(missing_ok=True)
+
+
+def held(folder, name):
+    """All that a file holds, as SQL, and nothing where there is no table. SQLite reads a copy and finds it whole."""
+    with tempfile.TemporaryDirectory(dir=folder) as inner:
+        for part in PARTS:
+            if Path(folder, name + part).exists():
+                shutil.copy(Path(folder, name + part), inner)
+        with contextlib.closing(sqlite3.connect(Path(inner, name))) as base:
+            whole = base.execute("PRAGMA integrity_check").fetchall()
+            assert whole == [("ok",)], f"integrity_check: {whole}"
+            lines = list(base.iterdump())
+    return lines if len(lines) > 2 else []
+
+
+# ---- Runs
+
+
+class Lines:
+    """Words that are given lines. Each whole line of the output is an answer, where lines are given."""
+
+    def __init__(self, file, parts, words, lines, answers):
+        self.file, self.parts, self.words, self.lines, self.answers = file, parts, words, lines, answers
+        self.wanted = b"".join(answers)
+        self.is_new = not parts
+
+    def words_for(self, name):
+        return [self.file, *[name if it == "FILE" else it for it in self.words]]
+
+    def plain(self, folder, name, lines):
+        """A run that nobody disturbs, which may be given a part of the lines."""
+        ran = subprocess.run(self.words_for(name), input=b"".join(lines), cwd=folder, capture_output=True, timeout=SECONDS)
+        return ran.returncode, ran.stdout, ran.stderr
+
+    def disturbed(self, folder, name, env):
+        ran = subprocess.run(self.words_for(name), input=b"".join(self.lines), cwd=folder, capture_output=True, timeout=SECONDS, env=env)
+        return ran.returncode, ran.stdout, ran.stderr
+
+    def answered(self, out):
+        return out.count(b"\n") if self.lines else 0
+
+    def fronts(self, answered, one_more):
+        """How many requests the file may hold after so many answers."""
+        return range(answered, min(answered + 1 + one_more, len(self.lines) + 1))
+
+    def goes_on(self, folder, name, answered):
+        """The requests that were not answered are sent again."""
+        ended = self.plain(folder, name, self.lines[answered:])
+        wanted = b"".join(self.answers[answered:]) if self.lines else self.wanted
+        assert ended == (0, wanted, b""), f"sent again: {ended}"
+
+
+class Import(Lines):
+    """Stations of a CSV table, a row each. What it answers tells of all rows or of none, so that any front of them may stand."""
+
+    def plain(self, folder, name, lines):
+        return super().plain(folder, name, [HEADER, *lines])
+
+    def disturbed(self, folder, name, env):
+        ran = subprocess.run(self.words_for(name), input=HEADER + b"".join(self.lines), cwd=folder, capture_output=True, timeout=SECONDS, env=env)
+        return ran.returncode, ran.stdout, ran.stderr
+
+    def answered(self, out):
+        return len(self.lines) if out == self.wanted else 0
+
+    def fronts(self, answered, one_more):
+        return range(answered, len(self.lines) + 1)
+
+    def goes_on(self, folder, name, answered):
+        ended = self.plain(folder, name, self.lines)
+        assert ended == (0, self.wanted, b""), f"imported again: {ended}"
+
+
+class Exchange(Lines):
+    """One HTTP request to a server of one connection. The clock stands still, so that the answer and the file are always the same."""
+
+    def __init__(self, file, parts, request, env):
+        super().__init__(file, parts, ["serve", "FILE", "--port", "0", "--count", "1"], [request], [])
+        self.env = env
+
+    def plain(self, folder, name, lines):
+        return self.disturbed(folder, name, self.env) if lines else (0, b"", b"")
+
+    def disturbed(self, folder, name, env):
+        child = subprocess.Popen(
+            self.words_for(name), cwd=folder, stdin=subprocess.DEVNULL, stdout=subprocess.PIPE, stderr=subprocess.PIPE, env=env
+        )
+        ending = threading.Timer(SECONDS, child.kill)
+        ending.start()
+        try:
+            found = b""
+            port = re.fullmatch(rb"listening 127\.0\.0\.1:([0-9]+)\n", child.stdout.readline())
+            if port:
+                with contextlib.suppress(ConnectionError), socket.create_connection(("127.0.0.1", int(port[1])), timeout=SECONDS) as client:
+                    client.sendall(self.lines[0])
+                    while piece := client.recv(65536):
+                        found += piece
+            out, said = child.communicate(timeout=SECONDS)
+            assert not out, f"it said {out!r} after its first line"
+            return child.returncode, found, said
+        finally:
+            ending.cancel()
+            if child.poll() is None:
+                child.kill()
+                child.communicate()
+
+    def answered(self, out):
+        return int(bool(self.wanted) and out == self.wanted)
+
+    def goes_on(self, folder, name, answered):
+        ended = self.plain(folder, name, self.lines[answered:])
+        assert ended == (0, self.wanted if answered == 0 else b"", b""), f"sent again: {ended}"
+
+
+class Reopened(Lines):
+    """`check` of what a fault left of another run, of which so many requests were answered."""
+
+    def __init__(self, run, left, count):
+        super().__init__(run.file, left, ["check", "FILE"], [], [b"sound\n"])
+        self.before, self.count, self.is_new = run, count, run.is_new
+
+    def answered(self, out):
+        return self.count
+
+    def fronts(self, answered, one_more):
+        return self.before.fronts(answered, one_more)
+
+    def goes_on(self, folder, name, answered):
+        self.before.goes_on(folder, name, answered)
+
+
+@functools.cache
+def room():
+    """The folder of all files."""
+    return tempfile.TemporaryDirectory(prefix="bikeshare-stops-", dir=ROOM)
+
+
+@functools.cache
+def built():
+    """faults.c, built once. Not every RAM disk lets a library be loaded from it, so it stands elsewhere."""
+    folder = tempfile.TemporaryDirectory(prefix="bikeshare-faults-")
+    library = Path(folder.name, "faults.so")
+    subprocess.run(["cc", "-shared", "-fPIC", "-O2", "-o", library, HERE / "stops/faults.c", "-ldl"], check=True)
+    return folder, library
+
+
+def environment(folder, name, **faults):
+    told = {"LD_PRELOAD": built()[1], "FAULT_FILE": Path(folder, name), "TOLD_TO": Path(folder, name + ".told"), "CLOCK": CLOCK, **faults}
+    return {**os.environ, **{key: str(value) for key, value in told.items()}}
+
+
+def feed(file, folder, name):
+    ran = subprocess.run([file, "feed", name, "station_status", "--at", AT], cwd=folder, capture_output=True, timeout=SECONDS)
+    return ran.returncode, ran.stdout, ran.stderr
+
+
+@functools.cache
+def made(file, count):
+    """A file after so many of the lines, with its log."""
+    lines, answers = top_ups(max(0, count - len(LINES)))
+    with tempfile.TemporaryDirectory(dir=ROOM) as folder:
+        run = Lines(file, {}, ["lines", "FILE"], (LINES + lines)[:count], (ANSWERS + answers)[:count])
+        ended = run.plain(folder, "city.db", run.lines)
+        assert ended == (0, run.wanted, b""), ended
+        return taken(folder, "city.db")
+
+
+@functools.cache
+def before_the_copy(file):
+    """How many lines fill the log so far that the next few have it copied into the file."""
+    few, many = len(LINES), 600
+    short = len(made(file, few)[""])
+    assert len(made(file, many)[""]) > short, "the log is never copied into the file"
+    while many - few > 1:
+        half = (few + many) // 2
+        few, many = (half, many) if len(made(file, half)[""]) == short else (few, half)
+    return few - 1
+
+
+def run_named(file, name):
+    """What is done, and over which file."""
+    words = ["lines", "FILE"]
+    if name == "init":
+        return Lines(file, {}, ["init", "FILE"], [], [b"ready\n"])
+    if name == "lines of a new file":
+        return Lines(file, {}, words, LINES, ANSWERS)
+    if name == "lines of a file":
+        return Lines(file, made(file, 10), words, LINES[10:], ANSWERS[10:])
+    if name == "lines of other commands":
+        return Lines(file, made(file, len(LINES)), words, [as_line(line) for line, _ in OTHERS], [as_line(answer) for _, answer in OTHERS])
+    if name == "lines while the log is copied":
+        begun = before_the_copy(file)
+        lines, answers = top_ups(begun + 3 - len(LINES))
+        return Lines(file, made(file, begun), words, lines[-3:], answers[-3:])
+    if name == "check":
+        return Lines(file, made(file, len(LINES)), ["check", "FILE"], [], [b"sound\n"])
+    if name == "feed":
+        return Lines(file, made(file, len(LINES)), ["feed", "FILE", "station_status", "--at", AT], [], [b""])
+    if name == "a table of a day":
+        return Lines(file, made(file, len(LINES)), ["day", "FILE", "entries", "2023-11-14", "UTC0"], [], [b""])
+    if name == "import":
+        return Import(file, made(file, len(LINES)), ["import", "FILE", "spring", "--at", AT], ROWS, [])
+    env = environment(tempfile.gettempdir(), "none.db")
+    del env["TOLD_TO"]
+    return Exchange(file, made(file, len(LINES)), START if name == "a start over HTTP" else STATUS, env)
+
+
+LONG = ["lines of a new file", "lines of a file", "lines of other commands", "lines while the log is copied"]
+RUNS = ["init", *LONG, "import"]
+RUNS += ["check", "feed", "a table of a day", "a start over HTTP", "a feed over HTTP"]
+
+
+@functools.cache
+def undisturbed(file, name):
+    """The run, what a file holds after each front of its requests, the feed then, and how many calls and requests for memory it makes."""
+    run = run_named(file, name)
+    fronts, feeds = [], []
+    with tempfile.TemporaryDirectory(dir=ROOM) as folder:
+        for count in range(len(run.lines) + 1):
+            put(run.parts, folder, "front.db")
+            ended = run.plain(folder, "front.db", run.lines[:count])
+            assert (ended[0], ended[2]) == (0, b""), (name, count, ended)
+            if run.answers == [b""] or isinstance(run, (Exchange, Import)):
+                run.wanted = ended[1]
+            else:
+                assert ended[1] == b"".join(run.answers[: count if run.lines else None]), (name, count, ended)
+            fronts.append(held(folder, "front.db"))
+            feeds.append(feed(file, folder, "front.db"))
+            removed(folder, "front.db")
+    told = {
+        "import": b"rows 3\n",
+        "feed": feeds[-1][1],
+        "a table of a day": ENTRIES,
+        "a start over HTTP": b'\r\n\r\n{"result":"ok","rental":3,"bike":7}',
+        "a feed over HTTP": feeds[-1][1].partition(b'"ttl"')[2],
+    }
+    assert run.wanted.endswith(told.get(name, run.wanted)), (name, run.wanted)
+    return run, fronts, feeds
+
+
+# ---- One turn
+
+
+class Turns:
+    """The turns of a run, with faults of a kind."""
+
+    def __init__(self, program, name, judge, **always):
+        self.file, self.name, self.judge, self.always = program.file, name, judge, always
+        self.run, self.fronts, self.feeds = undisturbed(program.file, name)
+        self.folder = os.path.realpath(room().name)
+        self.ends = collections.Counter()
+
+    def disturbed(self, file, **faults):
+        """The run over a file of its own, with these faults."""
+        removed(self.folder, file)
+        put(self.run.parts, self.folder, file)
+        ended = self.run.disturbed(self.folder, file, environment(self.folder, file, **self.always, **faults))
+        told = Path(self.folder, file + ".told")
+        rows = dict(it.split(" ", 1) for it in told.read_text().splitlines()) if told.exists() else {"calls": -1, "memory": -1, "hit": "unknown"}
+        return Ran(*ended, int(rows["calls"]), int(rows["memory"]), rows["hit"])
+
+    def total(self, of):
+        """How many calls, or requests for memory, there are where no fault comes."""
+        ran = self.disturbed("whole.db")
+        assert (ran.status, ran.out, ran.said) == (0, self.run.wanted, b""), (self.name, ran)
+        assert held(self.folder, "whole.db") == self.fronts[-1], self.name
+        removed(self.folder, "whole.db")
+        return getattr(ran, of)
+
+    def opened(self):
+        """How many requests for memory there are until the file is open."""
+        if self.run.is_new or "FILE" not in self.run.words:
+            return 1
+        opening = copy.copy(self)
+        opening.run = Lines(self.run.file, self.run.parts, ["check", "FILE"], [], [b"sound\n"])
+        return opening.disturbed("opened.db").memory
+
+    def stands(self, file, answered, one_more=True):
+        """Holds what a fault left to a front of the requests. Where no request was answered there may be no tables yet."""
+        begins = answered == 0 and self.run.is_new
+        try:
+            found = held(self.folder, file)
+        except sqlite3.DatabaseError as fault:
+            # A file whose first page is being made: SQLite doesn't take it for a database, and the program makes it anew.
+            assert begins and str(fault) == "file is not a database", f"SQLite: {fault}"
+            found = []
+        ended = Lines(self.file, {}, ["check", "FILE"], [], []).plain(self.folder, file, [])
+        assert ended == (0, b"sound\n", b""), f"check: {ended}"
+        after = held(self.folder, file)
+        assert after == found or (begins and not found), "check changed the file"
+        fits = [it for it in self.run.fronts(answered, one_more) if self.fronts[it] == after]
+        assert fits, f"after {answered} answers the file holds neither what it held then nor after one more: {len(after)} lines of SQL"
+        told = feed(self.file, self.folder, file)
+        assert told == self.feeds[fits[0]], f"the feed: {told}, not {self.feeds[fits[0]]}"
+        self.run.goes_on(self.folder, file, answered)
+        assert held(self.folder, file) == self.fronts[-1], "sent again, the requests end elsewhere"
+
+    def turn(self, number, faults):
+        """Returns what is wrong after a fault, or nothing."""
+        file = f"turn{number}.db"
+        try:
+            ran = self.disturbed(file, **faults)
+            assert self.run.wanted.startswith(ran.out) or (ran.out == UNAVAILABLE and ran.status != KILLED), f"it answered {ran.out[-300:]}"
+            answered = self.run.answered(ran.out)
+            if ran.hit == "nothing":
+                assert (ran.status, ran.out, ran.said) == (0, self.run.wanted, b""), f"without a fault: {ran}"
+            else:
+                self.judge(ran, self.run.wanted)
+            # Where memory is refused, nothing was changed by the request; and a 503 of a server that goes on is one of the city before.
+            exact = ran.status == 4 or (ran.out == UNAVAILABLE and ran.status == 0)
+            self.stands(file, answered, one_more=not exact)
+            self.ends["no fault came" if ran.hit == "nothing" else {0: "all answered", KILLED: "killed"}.get(ran.status, ran.said.decode().strip())] += 1
+        except (AssertionError, sqlite3.Error, subprocess.TimeoutExpired, OSError) as fault:
+            hit = Path(self.folder, file + ".told")
+            return f"{self.name}, {faults}, {hit.read_text().splitlines() if hit.exists() else 'nothing told'}: {fault}"
+        finally:
+            removed(self.folder, file)
+        return None
+
+    def tried(self, of, faults, stride, first=0):
+        """Tries turns: faults gives the names and numbers of each. In the turn behind the last no fault comes."""
+        turns = range(1 + (FIRST + first) % stride, self.total(of) + 2, stride)
+        return self.at_once([(it, faults(it)) for it in turns]), len(turns)
+
+    def at_once(self, turns):
+        with concurrent.futures.ThreadPoolExecutor(JOBS) as pool:
+            return [it for it in pool.map(lambda turn: self.turn(*turn), turns) if it]
+
+
+def tell(kind, name, ends, tried):
+    if "BIKESHARE_STOPS_TOLD" in os.environ:
+        with open(os.environ["BIKESHARE_STOPS_TOLD"], "a", encoding="ascii") as told:
+            told.write(f"{kind}; {name}: {tried} tried: " + ", ".join(f"{count} {end}" for end, count in sorted(ends.items())) + "\n")
+
+
+def each_turn(program, kind, judge, of, kinds, strides, **always):
+    """Tries turns of all runs. Each kind of fault begins elsewhere."""
+    wrong = []
+    for name in RUNS:
+        for first, (how, faults) in enumerate(kinds.items()):
+            turns = Turns(program, name, judge, **always)
+            found, tried = turns.tried(of, faults, STRIDE or strides.get(name, strides[""]), first)
+            tell(f"{kind}, {how}", name, turns.ends, tried)
+            wrong += found
+    assert not wrong, "\n".join([*wrong[:SHOWN], f"{len(wrong)} in all"])
+
+
+# ---- How a run may end
+
+
+def is_killed(ran, wanted):
+    assert (ran.status, ran.said) == (KILLED, b""), f"it wasn't stopped: {ran}"
+
+
+def fails_or_goes_on(ran, wanted):
+    """A call that failed ends the program, or was none that is needed."""
+    whole = (ran.status, ran.said) == (0, b"") and ran.out in (wanted, UNAVAILABLE)
+    # A feed whose head is written ends where the store fails.
+    assert whole or (ran.status, ran.said) == (3, b"store failed\n"), f"{ran}"
+
+
+def goes_on(ran, wanted):
+    assert (ran.status, ran.out, ran.said) == (0, wanted, b""), f"{ran}"
+
+
+def wants_memory(ran, wanted):
+    wants = {3: b"store failed\n", 4: b"out of memory\n"}
+    whole = (ran.status, ran.said) == (0, b"") and (ran.out in (wanted, UNAVAILABLE) or is_cut(ran.out, wanted))
+    assert whole or ran.said == wants.get(ran.status), f"{ran}"
+
+
+def loses_an_end(ran, wanted):
+    """An input or output that failed is told; of a connection it is told to nobody."""
+    told = (ran.status, ran.said) in ((6, b"write failed\n"), (6, b"read failed\n"))
+    assert told or (wanted.startswith(b"HTTP") and (ran.status, ran.said) == (0, b"")), f"{ran}"
+
+
+def is_cut(out, wanted):
+    """Whether a feed's answer over HTTP ends after its head, or nothing came."""
+    return wanted.startswith(b"HTTP") and wanted.startswith(out)
+
+
+# ---- The tests
+
+STOPS = {"before a call": lambda at: {"STOP_AT": at}, "in its midst": lambda at: {"PART_AT": at}}
+LOSSES = {
+    "all that was not flushed": lambda at: {"LOSE_AT": at},
+    "some of it": lambda at: {"LOSE_AT": at, "LOSE_SEED": 2 * at + 1},
+    "other of it": lambda at: {"LOSE_AT": at, "LOSE_SEED": 7919 * at + SEED},
+}
+FAILURES = {
+    "the call alone": lambda at: {"FAIL_AT": at, "FAIL_WITH": EIO},
+    "all calls from then on": lambda at: {"FAIL_FROM": at, "FAIL_WITH": EIO},
+    "no room from then on": lambda at: {"FAIL_FROM": at, "FAIL_WITH": ENOSPC},
+    "a byte and then no room": lambda at: {"SHORT_AT": at, "FAIL_FROM": at + 1, "FAIL_WITH": ENOSPC},
+    "interrupted": lambda at: {"FAIL_AT": at, "FAIL_WITH": EINTR},
+    "what was not flushed is lost too": lambda at: {"FAIL_AT": at, "FAIL_WITH": EIO, "LOSE_AT_END": 1, "LOSE_SEED": at % 3 and SEED + at},
+}
+SHORT = {
+    "a byte by the call alone": lambda at: {"SHORT_AT": at},
+    "at most 500 bytes from then on": lambda at: {"SHORT_FROM": at, "SHORT_BYTES": 500},
+}
+# The strides of runs whose reads are counted too.
+READING = {"": 311, "lines of a new file": 97, "lines while the log is copied": 2503}
+REFUSALS = {"alone": lambda at: {"REFUSE_AT": at}, "with all after it": lambda at: {"REFUSE_FROM": at}}
+
+
+def long_runs(short, long):
+    """The strides of short and of long runs."""
+    return {"": short, **dict.fromkeys(LONG, long)}
+
+
+def test_stops_before_a_call_and_in_its_midst(program):
+    each_turn(program, "stop", is_killed, "calls", STOPS, long_runs(2, 5), ONLY_CHANGES=1, ENDS=1)
+
+
+def test_a_disk_that_loses_what_was_not_flushed(program):
+    each_turn(program, "loss", is_killed, "calls", LOSSES, long_runs(6, 13), ONLY_CHANGES=1, ENDS=1)
+
+
+def test_a_disk_that_lies_is_noticed(program):
+    """That these tests see what is lost: flushes that are answered and not done lose requests that were answered."""
+    turns = Turns(program, "lines of a file", is_killed, ONLY_CHANGES=1, ENDS=1, NO_FLUSH=1)
+    found = turns.at_once([(at, {"LOSE_AT": at}) for at in range(20, 60, 13)])
+    assert found and all("holds neither" in it for it in found), found
+
+
+def test_a_second_stop_while_what_is_left_is_opened(program):
+    wrong, tried, ends = [], 0, collections.Counter()
+    for name, stride in ("init", 13), ("lines of a new file", 47), ("lines while the log is copied", 23):
+        first = Turns(program, name, is_killed, ONLY_CHANGES=1, ENDS=1)
+        for at in range(1 + FIRST, first.total("calls") + 1, 3 * STRIDE or stride):
+            faults = {"LOSE_AT": at, "LOSE_SEED": SEED + at} if at % 2 else {"STOP_AT": at}
+            ran = first.disturbed("first.db", **faults)
+            left = taken(first.folder, "first.db")
+            second = Turns(program, name, is_killed, ONLY_CHANGES=1, ENDS=1)
+            second.run = Reopened(first.run, left, first.run.answered(ran.out))
+            put(left, first.folder, "first.db")
+            last = second.disturbed("first.db").calls
+            turns = range(1 + at % 4, last + 2, STRIDE or 4)
+            kinds = ({"STOP_AT": it} if it % 2 else {"LOSE_AT": it, "LOSE_SEED": SEED + 31 * it + at} for it in turns)
+            wrong += [f"after {faults} ({ran.hit}): {it}" for it in second.at_once(list(zip(turns, kinds)))]
+            tried, ends = tried + len(turns), ends + second.ends
+    tell("second stop", "check of what is left", ends, tried)
+    assert not wrong, "\n".join([*wrong[:SHOWN], f"{len(wrong)} in all"])
+
+
+def test_changes_that_fail(program):
+    each_turn(program, "failure", fails_or_goes_on, "calls", FAILURES, long_runs(11, 37), ONLY_CHANGES=1)
+
+
+def test_calls_that_fail(program):
+    """Reads, lengths, names and locks among them."""
+    kinds = {name: FAILURES[name] for name in ("the call alone", "all calls from then on")}
+    each_turn(program, "failure of any call", fails_or_goes_on, "calls", kinds, READING)
+
+
+def test_writes_of_few_bytes(program):
+    each_turn(program, "short write", goes_on, "calls", SHORT, long_runs(13, 41), ONLY_CHANGES=1)
+
+
+def test_reads_of_few_bytes(program):
+    """A page that is read again has to come whole, else the store fails."""
+    kinds = {"a byte by the call alone": SHORT["a byte by the call alone"]}
+    each_turn(program, "short call", fails_or_goes_on, "calls", kinds, {"": 211, "lines of a new file": 41, "lines while the log is copied": 1301})
+
+
+def test_refused_memory(program):
+    """Most requests for memory are made where a file is opened; those behind it are tried more closely."""
+    wrong = []
+    for name in RUNS:
+        for first, (how, faults) in enumerate(REFUSALS.items()):
+            turns = Turns(program, name, wants_memory)
+            total, opened = turns.total("memory"), turns.opened()
+            asked = [*range(1 + first, opened, STRIDE or 9001), *range(opened + first, total + 1, STRIDE or max(1, (total - opened) // 5)), total + 1]
+            wrong += turns.at_once([(it, faults(it)) for it in asked])
+            tell(f"memory, {how}", name, turns.ends, len(asked))
+    assert not wrong, "\n".join([*wrong[:SHOWN], f"{len(wrong)} in all"])
+
+
+def test_ends_that_fail(program):
+    """Standard input, standard output and sockets, at once and a byte a call."""
+    fails = {"the call": lambda at: {"FAIL_AT": at, "FAIL_WITH": EIO}}
+    each_turn(program, "end", loses_an_end, "calls", fails, long_runs(2, 9), ONLY_ENDS=1)
+    each_turn(program, "end of which each call moves a byte", loses_an_end, "calls", fails, {"": 101, "lines of a new file": 701}, ONLY_ENDS=1, SHORT_FROM=1)
+    takes = {"takes nothing": lambda at: {"SHORT_AT": at, "SHORT_BYTES": 0}}
+    each_turn(program, "end", loses_an_end, "calls", takes, long_runs(3, 11), ONLY_ENDS=2)

@@ -68,7 +68,10 @@ fn serve_stream<S: Alter>(
     let mut reader = stream;
     let mut writer = TokenBuffer::new(stream);
     let served = serve_one(alloc, desk, routes, moment, &mut reader, &mut writer);
-    let _ = writer.flush();
+    // After a failed write the client would be waited for once more.
+    if !matches!(served, Err(ServeFault::Write)) {
+        let _ = writer.flush();
+    }
     if may_be_early(&served) {
         drain(stream);
     }

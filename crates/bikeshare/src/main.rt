@@ -33,6 +33,19 @@ fn lent(alloc: Global, texts: &[String]) -> Result<Vec<&str>, AllocError> {
     Ok(lent)
 }
 
+/// Whether the log is copied into the file at the end, so that the file alone is the whole database: after a task that may change
+/// it, where the file was taken into service and the store didn't fail.
+fn is_settled(task: &Task<'_>, end: &Result<u64, Fault>) -> bool {
+    match task {
+        Task::Init | Task::Lines | Task::Import { .. } => {}
+        Task::Check | Task::Feed { .. } | Task::Day { .. } | Task::Serve { .. } => return false,
+    }
+    match end {
+        Ok(_) => true,
+        Err(fault) => matches!(fault.status(), 1 | 6),
+    }
+}
+
 /// Does a task over the database, with this output.
 fn run_on<W: Write>(rt: &HostRuntime, words: &Words<'_>, out: &mut W) -> Result<u64, Fault>
     requires streams { ServesSockets words.now.task → ⊥ }
@@ -44,7 +57,11 @@ fn run_on<W: Write>(rt: &HostRuntime, words: &Words<'_>, out: &mut W) -> Result<
         return run_words_in_memory(rt.alloc(), task, clock, &mut rt.stdin(), out);
     }
     let conn = Connection::open(rt, words.file)?;
-    let (_, end) = run_words(rt.alloc(), task, clock, conn, &mut rt.stdin(), out);
+    let (conn, end) = run_words(rt.alloc(), task, clock, conn, &mut rt.stdin(), out);
+    if is_settled(task, &end) {
+        // Where this fails the log stays, and is read at the next start.
+        let _ = conn.close();
+    }
     end
 }
 

@@ -1,0 +1,769 @@
+"""Hostile inputs from a seeded generator: request lines, HTTP requests and words of the command line.
+
+Whatever comes, the program neither crashes nor hangs. Each line is answered exactly once, as the operator in model.py answers it; each
+connection gets one well-formed response, the one that docs/FORMATS.md, section 6, and the same operator demand where this file can tell it,
+or is closed; words end with a status of docs/OPERATOR.md, section 12, and its line. Afterwards `check` says `sound`.
+
+Some 2,000 inputs stand in the gate. By hand, from the environment:
+
+    BIKESHARE_INPUTS=100000 BIKESHARE_SEED=7 tests/run hostile.
+
+BIKESHARE_INPUTS is how many inputs are made in all, six of ten lines, three HTTP requests and one a list of words; BIKESHARE_SEED is what they
+are made from. A failure tells the seed and the input.
+"""
+
+import contextlib
+import importlib.util
+import json
+import os
+import random
+import re
+import select
+import socket
+import subprocess
+import threading
+import time
+from pathlib import Path
+
+HERE = Path(__file__).resolve().parent
+INPUTS = int(os.environ.get("BIKESHARE_INPUTS", "2000"))
+SEED = int(os.environ.get("BIKESHARE_SEED", "1"))
+SECONDS = 40
+
+
+def by_path(name):
+    spec = importlib.util.spec_from_file_location(f"tests_{name}", HERE / f"{name}.py")
+    module = importlib.util.module_from_spec(spec)
+    spec.loader.exec_module(module)
+    return module
+
+
+formats, model, serving = by_path("formats"), by_path("model"), by_path("serving")
+
+
+def told(data):
+    return repr(data if len(data) <= 600 else data[:400] + b" .. " + data[-100:]) + f" ({len(data)} bytes)"
+
+
+# ---- what inputs are made of
+
+TYPES, PLANS, STATIONS = ["city", "cargo", "none"], ["basic", "day", "none"], ["a1", "b2", "c3", "zz"]
+TEXTS = [
+    "Name", "Łódź 🚲", "a\\tb", "\\\\", "\\n\\r", "\\x", "\\", "", "é" * 60, "é" * 61, "n" * 120, "n" * 121, " ", "\x7f", "\x01", "\u0085", "\u2028",
+    "\ufeff", "\U0010ffff", "'; DROP TABLE bikes; --", "%s%n", "../..", '"', "\u202e",
+]
+DEGREES = "0 -0 45.5 -45.123456 007 90 180 90.000001 -180 180.000001 1. .5 +1 1.0000000 x 000.0 0000".split()
+SEGMENTS = ["-", "30:25:5:-", "0:-60:0:30;20:50:10:-", "1:2:3:1", "0:-0:1:-", ":::", "1:1:1:-;", "0:1:1:5;" * 8 + "0:1:1:5", "100000:-100000:100000:-", ""]
+LANGUAGES, CURRENCIES = ["en", "e", "x" * 35, "x" * 36, "e n"], ["EUR", "eur", "EURO"]
+FORMS, PROPULSIONS, RANGES = ["bicycle", "cargo_bicycle", "boat"], ["human", "electric_assist"], ["0", "60000", "1000001"]
+BIG = ["4294967296", "18446744073709551616", "9" * 30, "9" * 400, "-1", "+1", "01", "1.0", "1e3", "0x10", "٣", "¹", "", "١٢"]
+
+
+def numbers(pick, least, most):
+    """Mostly a number within its bounds, and mostly a small one."""
+    kind = pick.random()
+    if kind < 0.9:
+        return str(pick.randint(least, min(most, least + 12)))
+    if kind < 0.95:
+        return str(pick.choice([least, most, most + 1, max(0, least - 1), pick.randint(least, most)]))
+    return pick.choice(BIG)
+
+
+def command(pick):
+    """The words of a command, mostly a good one."""
+    def bike():
+        return numbers(pick, 1, 999_999) if pick.random() < 0.1 else str(pick.randint(1, 20))
+
+    def serial():
+        return numbers(pick, 1, 100_000_000)
+
+    def text():
+        return pick.choice(TEXTS) if pick.random() < 0.2 else "Name"
+
+    def flag():
+        return pick.choice(["true", "false"]) if pick.random() < 0.95 else pick.choice(["True", "1", "", "yes"])
+
+    def degrees():
+        return pick.choice(DEGREES)
+
+    def segments():
+        return pick.choice(SEGMENTS)
+
+    def station():
+        return pick.choice(STATIONS) if pick.random() < 0.9 else pick.choice(["A1", "", "*", "a" * 36, "a" * 37, "a b"])
+
+    def end():
+        return "*" if pick.random() < 0.4 else station()
+
+    def kind():
+        return pick.choice(TYPES)
+
+    def dock():
+        return numbers(pick, 1, 200) if pick.random() < 0.2 else str(pick.randint(1, 6))
+
+    def rider():
+        return bike()
+
+    made = {
+        "set-system": lambda: [
+            "metro", pick.choice(LANGUAGES), text(), text(), text(), text(), pick.choice(CURRENCIES), text(), numbers(pick, 0, 86_400)
+        ],
+        "add-plan": lambda: [pick.choice(["basic", "day", f"p{pick.randint(0, 300)}"]), text(), numbers(pick, 0, 1_000_000), flag(), text(), segments()],
+        "add-type": lambda: [
+            pick.choice(["city", "cargo", f"t{pick.randint(0, 40)}"]), text(), pick.choice(FORMS), pick.choice(PROPULSIONS), pick.choice(RANGES),
+            pick.choice(PLANS),
+        ],
+        "set-plan": lambda: [kind(), pick.choice(PLANS)],
+        "add-station": lambda: [pick.choice([station(), f"s{pick.randint(0, 500)}"]), text(), degrees(), degrees(), dock()],
+        "set-station": lambda: [station(), flag(), flag(), flag()],
+        "mark-dock": lambda: [station(), dock(), pick.choice(["broken", "working", "fit"])],
+        "add-bike": lambda: [bike(), kind()],
+        "mark-bike": lambda: [bike(), pick.choice(["disabled", "fit", "broken"])],
+        "retire-bike": lambda: [bike()],
+        "add-rider": lambda: [rider()],
+        "set-rider": lambda: [rider(), pick.choice(["open", "blocked", ""])],
+        "top-up": lambda: [rider(), numbers(pick, 1, 1_000_000)],
+        "refund": lambda: [serial(), numbers(pick, 1, 1_000_000)],
+        "start": lambda: [rider(), station(), dock()],
+        "end": lambda: [bike(), station(), dock()],
+        "recover": lambda: [serial()],
+        "add-truck": lambda: [pick.choice(["1", "2", "3", bike()]), numbers(pick, 1, 60)],
+        "open-order": lambda: [pick.choice(["1", "2", "3", bike()]), end(), end(), kind(), numbers(pick, 1, 60)],
+        "load": lambda: [pick.choice(["1", "2", "3", bike()]), serial(), bike()],
+        "unload": lambda: [pick.choice(["1", "2", "3", bike()]), serial(), bike(), pick.choice(["from", "to"]), pick.choice(["0", dock()])],
+        "close-order": lambda: [serial()],
+        "raise": lambda: [""],
+    }
+    often = ["start", "end", "load", "unload", "open-order", "add-bike", "top-up", "mark-bike", "mark-dock"]
+    name = pick.choice(often if pick.random() < 0.6 else list(made))
+    return [name, *made[name]()]
+
+
+def caller(pick):
+    if pick.random() < 0.95:
+        return pick.choice(["office", "office", "rider:17", "dock:a1", "crew:3", "import:first"])
+    return pick.choice(["rider:0", "rider:017", "dock:", "dock:A1", "crew:1000000", "Office", "office:1", "", "rider:1:2"])
+
+
+def key(pick):
+    if pick.random() < 0.97:
+        return f"k{pick.randrange(100_000)}"
+    return pick.choice(["", "k", "K" * 64, "K" * 65, "k.1", "k 1", "é", "_-", "k\u0000", "k1"])
+
+
+def moment(pick):
+    if pick.random() < 0.97:
+        return str(1_700_000_000 + pick.randrange(10_000_000))
+    return pick.choice(["0", "253402300799", "253402300800", *BIG])
+
+
+def good_line(pick):
+    return "\t".join([moment(pick), caller(pick), key(pick), *command(pick)]).encode()
+
+
+SPICE = [
+    b"\0", b"\t", b"\t\t", b"\r", b"\xff", b"\xc3", b"\xc0\xaf", b"\xed\xa0\x80", b"\xf4\x90\x80\x80", b"\xef\xbb\xbf", b" ", b"\\", b"\\\\", b"9" * 40,
+    b"a" * 5000, b"\x1b[2J", b"\x1a", b"\x7f", b";", b"'", b'"', b"{", b"\xe2\x80\xae", b"-", b"0",
+]
+
+
+def mutated(pick, data, feeds=False):
+    """Some bytes changed, cut, doubled, put in or left out, once or several times."""
+    data = bytearray(data)
+    for _ in range(pick.choice([1, 1, 1, 2, 3, 8])):
+        at, kind = pick.randrange(len(data) + 1), pick.randrange(9)
+        size = pick.choice([1, 1, 1, 2, 3, 10, 60])
+        if kind == 0 and data:
+            data[at % len(data)] = pick.randrange(256)
+        elif kind == 1 and data:
+            data[at % len(data)] ^= 1 << pick.randrange(8)
+        elif kind == 2:
+            del data[at : at + size]
+        elif kind == 3:
+            data[at:at] = data[at : at + size] or b"x"
+        elif kind == 4:
+            data[at:at] = pick.choice(SPICE)
+        elif kind == 5:
+            del data[at:]
+        elif kind == 6:
+            data[at:at] = bytes(pick.randrange(256) for _ in range(size))
+        elif kind == 7:
+            data += data[:at]
+        elif data:
+            other = pick.randrange(len(data))
+            data[at % len(data)], data[other] = data[other], data[at % len(data)]
+    return bytes(data) if feeds else bytes(data).replace(b"\n", b"")
+
+
+# ---- request lines
+
+CITY = [
+    "set-system\tmetro\ten\tMetro\t24/7\tfeeds@example.org\tEtc/UTC\tEUR\thttp://127.0.0.1:8080\t30",
+    "add-plan\tbasic\tBasic\t100\tfalse\tBasic\t30:25:5:-", "add-plan\tday\tDay\t250\ttrue\tDay\t-",
+    "add-type\tcity\tCity\tbicycle\thuman\t0\tbasic", "add-type\tcargo\tCargo\tcargo_bicycle\telectric_assist\t60000\tday",
+    "add-station\ta1\tHarbour\t41.890169\t12.492269\t6", "add-station\tb2\tBridge\t-45\t9.1\t5", "add-truck\t3\t20", "add-truck\t1\t3",
+    *(f"add-bike\t{it}\t{'cargo' if it % 3 == 0 else 'city'}" for it in range(1, 9)),
+    *(f"add-rider\t{it}" for it in range(1, 9)), *(f"top-up\t{it}\t10000" for it in range(1, 9)),
+    "open-order\t3\t*\ta1\tcity\t4", *(f"load\t3\t1\t{it}" for it in (1, 2, 4)), *(f"unload\t3\t1\t{it}\tto\t{it}" for it in (1, 2, 4)),
+]
+
+
+def make_city(program, file):
+    """Makes the city in a file, and returns the operator who holds the same."""
+    given = "".join(f"1699990000\toffice\tc{number}\t{it}\n" for number, it in enumerate(CITY)).encode()
+    status, out, said = program.run("lines", file, given=given)
+    assert (status, said) == (0, b"") and b"refused" not in out, (status, out, said)
+    operator = model.Operator()
+    assert out == b"".join(operator.answer(it) + b"\n" for it in given.splitlines()), out
+    return operator
+
+
+def hostile_line(pick):
+    kind = pick.random()
+    if kind < 0.45:
+        return good_line(pick)
+    if kind < 0.9:
+        return mutated(pick, good_line(pick))
+    if kind < 0.93:
+        return good_line(pick).ljust(pick.choice([4095, 4096, 4097, 4098, 9000, 70_000]), b"5")
+    if kind < 0.96:
+        return bytes(pick.randrange(256) for _ in range(pick.randrange(300))).replace(b"\n", b"")
+    return pick.choice([b"", b"\r", b"\t\t\t", b"\0", b"\t" * 5000, b"\xff" * 4096, good_line(pick) + b"\r", b"\xef\xbb\xbf" + good_line(pick), b"GET / HTTP/1.1\r"])
+
+
+def fed(program, file, data, pick):
+    """Feeds the input in pieces of odd sizes, and returns the status, the output and what is said."""
+    child = subprocess.Popen([program.file, "lines", file], cwd=program.folder, stdin=subprocess.PIPE, stdout=subprocess.PIPE, stderr=subprocess.PIPE)
+
+    def feed():
+        at = 0
+        with contextlib.suppress(BrokenPipeError):
+            while at < len(data):
+                size = pick.choice([1, 7, 100, 4096, 4097, 65_536, 100_000])
+                child.stdin.write(data[at : at + size])
+                child.stdin.flush()
+                at += size
+            child.stdin.close()
+
+    feeding = threading.Thread(target=feed)
+    feeding.start()
+    out, said = [], []
+    saying = threading.Thread(target=lambda: said.append(child.stderr.read()))
+    taking = threading.Thread(target=lambda: out.append(child.stdout.read()))
+    saying.start()
+    taking.start()
+    taking.join(SECONDS)
+    hangs = taking.is_alive()
+    if hangs:
+        child.kill()
+    for it in feeding, taking, saying:
+        it.join()
+    assert not hangs, f"it had not ended after {SECONDS} seconds"
+    return child.wait(timeout=SECONDS), out[0], said[0]
+
+
+def test_lines(program):
+    pick = random.Random(f"{SEED} lines")
+    operator = make_city(program, "city.db")
+    left = INPUTS * 6 // 10
+    batch = 0
+    while left > 0:
+        lines = [hostile_line(pick) for _ in range(min(left, 400))]
+        left -= len(lines)
+        batch += 1
+        data = b"\n".join(lines) + (pick.choice([b"\n", b"\n", b""]) if lines[-1] else b"\n")
+        answered(program, operator, lines, data, pick, f"seed {SEED}, batch {batch}")
+        if batch % 4 == 1:
+            # What was accepted is answered as before, in whatever pieces it comes.
+            answered(program, operator, lines, data, pick, f"seed {SEED}, batch {batch}, again")
+        ended = program.run("check", "city.db")
+        assert ended == (0, b"sound\n", b""), f"seed {SEED}, batch {batch}: check: {ended}"
+
+
+def answered(program, operator, lines, data, pick, where):
+    """Holds the answers to the lines to those of the operator."""
+    status, out, said = fed(program, "city.db", data, pick)
+    answers = out.split(b"\n")
+    last = told(lines[min(len(answers), len(lines)) - 1])
+    assert (status, said) == (0, b""), f"{where}: status {status}, {said!r}, after {len(answers) - 1} answers: {last}"
+    assert answers.pop() == b"" and len(answers) == len(lines), f"{where}: {len(answers)} answers to {len(lines)} lines"
+    for line, found in zip(lines, answers):
+        right = operator.answer(line)
+        assert formats.is_reply(found) and found == right, f"{where}: {told(line)} is answered by {found!r}, not {right!r}"
+
+
+# ---- HTTP
+
+GETS = ["/riders/1", "/bikes/1", "/rentals/1", "/orders/1", "/riders/999999", *(f"/gbfs/3.0/{it}.json" for it in serving.NAMES)]
+ODD_TARGETS = [
+    "/", "*", "/office/", "//office", "/%6fffice", "/office%00", "/riders/%31", "/riders/01", "/riders/0", "/riders/+1", "/riders/1000000", "/riders/" + "9" * 400,
+    "/docks/A1/end", "/docks/a1", "/docks//end", "/gbfs/3.0/", "/gbfs/3.0/x.json", "/../etc/passwd", "/riders/1/start/", "http://127.0.0.1/office", "/office#x",
+    "/riders/1?x=%zz", "/?", "?", "/" + "a" * 7000, "/" + "a" * 9000, "/riders/" + "%41" * 2000, "/crews/1/load?" + "q" * 3000,
+]
+
+
+ODD_VALUES = [
+    b"1e400", b"-1e400", b"1e-400", b"01", b"nan", b'"\\ud800"', b'"\\u0000"', b"tru", b"-", b"1.", b'"\xff"', b'"\t"', b"9" * 3000,
+]
+ODD_LENGTHS = ["0", "+5", "-1", "0x10", "", "1 2", "9" * 30, "16385", "16384", "18446744073709551616"]
+ODD_FIELDS = [
+    "X: " + "x" * 8100, "Expect: 100-continue", "Connection: keep-alive", "X: \x00", " X: folded", "X : 1", ": 1", "X", "X: \xff", "X:\x0b1", "X: \r 1",
+]
+
+
+def posted(pick):
+    """A target of a POST, and members that are mostly right."""
+    def one(good, bad):
+        return pick.choice(good if pick.random() < 0.93 else bad)
+
+    dock, station = one([1, 2, 3, 4, 5], [0, 201, "1", 1.0, None, -1, 2**64, [1]]), one(["a1", "b2", "zz"], ["A1", 5, ""])
+    bike, state = one([1, 2, 3, 4, 9], [0, 1_000_000, "1", True]), one(["disabled", "fit", "broken", "working"], ["Fit", True])
+    order, side = one([1, 2, 3], [0, 100_000_001]), one(["to", "from"], ["up", 1])
+    named = {"key": f"h{pick.randrange(10**6)}" if pick.random() < 0.96 else pick.choice(["", "k" * 65, 1, "é", "k 1", None])}
+    rider, dock_at, truck = pick.randint(1, 9), pick.choice(["a1", "b2", "zz", "c-3"]), pick.choice([1, 3, 5])
+    return pick.choice([
+        (f"/riders/{rider}/start", {**named, "station": station, "dock": dock}),
+        (f"/docks/{dock_at}/end", {**named, "bike": bike, "dock": dock}),
+        (f"/docks/{dock_at}/mark-dock", {**named, "dock": dock, "state": state}),
+        (f"/docks/{dock_at}/mark-bike", {**named, "bike": bike, "state": state}),
+        (f"/crews/{truck}/load", {**named, "order": order, "bike": bike}),
+        (f"/crews/{truck}/unload", {**named, "order": order, "bike": bike, "side": side, "dock": dock}),
+        (f"/crews/{truck}/mark-bike", {**named, "bike": bike, "state": state}),
+        ("/office", {**named, "command": "\t".join(command(pick))}),
+        ("/office", {**named, "command": "\t".join(command(pick))}),
+        ("/office", {**named, "command": mutated(pick, "\t".join(command(pick)).encode(), True).decode(errors="replace")}),
+    ])
+
+
+def json_text(pick, members):
+    """A JSON text of the members, often spoiled or spelled oddly."""
+    kind = pick.random()
+    text = json.dumps(members, ensure_ascii=pick.random() < 0.5).encode("utf-8", "surrogatepass")
+    if kind < 0.7:
+        return text
+    if kind < 0.85:
+        return mutated(pick, text, True)
+    inside = text[:-1]
+    return pick.choice([
+        inside + b',"x":' + b"[" * (n := pick.choice([1, 126, 127, 128, 4000])) + b"]" * n + b"}",
+        inside + b',"x":' + b'{"a":' * (n := pick.choice([1, 125, 126, 127])) + b"1" + b"}" * n + b"}",
+        inside + b',"x":' + pick.choice(ODD_VALUES) + b"}",
+        inside + b"," + text[1:], b"[" + text + b"]", text + text, b"\xef\xbb\xbf" + text, text + b"\0",
+        text.decode("utf-8", "replace").encode("utf-16"), b" \r\n\t" + text + b" \n", b"", b"null", b"[]", b"{}", b'"x"', b"[" * 8000,
+        b"{" * 8000, text.ljust(16_384), text.ljust(16_385), inside,
+    ])
+
+
+def http_input(pick):
+    """A request, mostly one whose head is good."""
+    kind = pick.random()
+    if kind < 0.35:
+        method, target, body = "GET", pick.choice(GETS), b""
+    else:
+        target, members = posted(pick)
+        method, body = "POST", json_text(pick, members)
+    if pick.random() < 0.1:
+        target = pick.choice(ODD_TARGETS)
+    if pick.random() < 0.06:
+        method = pick.choice(["HEAD", "OPTIONS", "PUT", "get", "POST", "GET", "X-Y", "DELETE"])
+    if pick.random() < 0.1:
+        target += pick.choice(["?", "?a=b", "?/../", "/", "%20"])
+    fields = ["Host: 127.0.0.1"] if pick.random() < 0.8 else []
+    length = str(len(body))
+    if pick.random() < 0.12:
+        length = pick.choice([str(len(body) + 1), str(max(0, len(body) - 1)), "00" + length, length + " ", *ODD_LENGTHS])
+    if method == "POST" or pick.random() < 0.2:
+        fields.append(pick.choice(["Content-Length", "content-length", "CONTENT-LENGTH"]) + ": " + length)
+    if pick.random() < 0.04:
+        fields.append(pick.choice(["Transfer-Encoding: chunked", "Transfer-Encoding: identity", "Content-Length: " + length, "transfer-encoding:"]))
+    if pick.random() < 0.1:
+        fields += [f"X-{it}: {'v' * pick.choice([0, 1, 200])}" for it in range(pick.choice([1, 5, 29, 30, 31, 32, 33, 200]))]
+    if pick.random() < 0.05:
+        fields.append(pick.choice(ODD_FIELDS))
+    version = "HTTP/1.1" if pick.random() < 0.95 else pick.choice(["HTTP/1.0", "HTTP/2.0", "HTTP/1.2", "http/1.1", "HTTP/1.1 ", ""])
+    ending = "\r\n" if pick.random() < 0.93 else pick.choice(["\n", "\r", "\r\r\n"])
+    data = ending.join([f"{method} {target} {version}", *fields, "", ""]).encode("utf-8", "surrogatepass") + body
+    last = pick.random()
+    if last < 0.12:
+        return mutated(pick, data, True)
+    if last < 0.2:
+        return data + pick.choice([data, b"x", b"GET /riders/1 HTTP/1.1\r\n\r\n", b"\r\n" * 50, b"\0" * 1000, b"y" * 100_000])
+    if last < 0.25:
+        return data[: pick.randrange(len(data) + 1)]
+    if last < 0.27:
+        return bytes(pick.randrange(256) for _ in range(pick.choice([1, 10, 500, 9000])))
+    if last < 0.28:
+        return b"\r\n" * pick.choice([1, 10, 4096, 5000]) + data
+    return data
+
+
+PLAIN_LINE = re.compile(rb"([A-Za-z-]+) ([!-~]+) HTTP/1\.[01]")
+PLAIN_FIELD = re.compile(rb"([A-Za-z0-9-]+):([ -~]*)")
+
+
+def plain_head(data):
+    """The method, target, fields and length of a head that is spelled plainly, or none."""
+    head, end, _ = data.partition(b"\r\n\r\n")
+    first, *fields = head.split(b"\r\n")
+    line, found = PLAIN_LINE.fullmatch(first), [PLAIN_FIELD.fullmatch(it) for it in fields]
+    if not end or line is None or not all(found):
+        return None
+    return line[1], line[2], [(it[1].lower(), it[2].strip(b" ")) for it in found], len(head) + 4
+
+
+ROUTES = [
+    (rb"/riders/(?P<rider>[^/]*)/start", "POST", {"station": "ident", "dock": (1, 200)}),
+    (rb"/docks/(?P<station>[^/]*)/end", "POST", {"bike": (1, 999_999), "dock": (1, 200)}),
+    (rb"/docks/(?P<station>[^/]*)/mark-dock", "POST", {"dock": (1, 200), "state": ("broken", "working")}),
+    (rb"/docks/(?P<station>[^/]*)/mark-bike", "POST", {"bike": (1, 999_999), "state": ("disabled", "fit")}),
+    (rb"/crews/(?P<truck>[^/]*)/load", "POST", {"order": (1, 100_000_000), "bike": (1, 999_999)}),
+    (rb"/crews/(?P<truck>[^/]*)/unload", "POST", {"order": (1, 100_000_000), "bike": (1, 999_999), "side": ("from", "to"), "dock": (0, 200)}),
+    (rb"/crews/(?P<truck>[^/]*)/mark-bike", "POST", {"bike": (1, 999_999), "state": ("disabled", "fit")}),
+    (rb"/office", "POST", {"command": "command"}),
+    (rb"/riders/(?P<rider>[^/]*)", "GET", "row"), (rb"/bikes/(?P<rider>[^/]*)", "GET", "row"),
+    (rb"/rentals/(?P<serial>[^/]*)", "GET", "row"), (rb"/orders/(?P<serial>[^/]*)", "GET", "row"),
+    *((rb"/gbfs/3\.0/%s\.json" % it.encode(), "GET", "feed") for it in serving.NAMES),
+]
+
+
+class NoJson(Exception):
+    pass
+
+
+def no_json(*_):
+    raise NoJson
+
+
+def json_object(body):
+    """The members of a body, or none where it is no JSON object of the document."""
+    depth = most = 0
+    inside = escaped = False
+    for byte in body:
+        if inside:
+            inside, escaped = (escaped or byte != 0x22), (not escaped and byte == 0x5C)
+        elif byte == 0x22:
+            inside = True
+        elif byte in b"[{":
+            depth += 1
+            most = max(most, depth)
+        elif byte in b"]}":
+            depth -= 1
+    if most > 127:
+        return None
+
+    try:
+        if body.startswith(b"\xef\xbb\xbf"):
+            return None
+        members = json.loads(body.decode("utf-8"), parse_constant=no_json, parse_int=whole, parse_float=floating, object_pairs_hook=paired)
+    except (NoJson, ValueError, RecursionError):
+        return None
+    return members if isinstance(members, dict) else None
+
+
+def floating(text):
+    return float(text) if abs(float(text)) != float("inf") else no_json()
+
+
+def whole(text):
+    """A whole number; `-0` is none, and neither is one that only a float can hold."""
+    value = floating(text)
+    return value if text == "-0" or len(text) > 20 else int(text)
+
+
+def encodes(text):
+    try:
+        text.encode("utf-8")
+    except UnicodeEncodeError:
+        return False
+    return True
+
+
+def paired(pairs):
+    """Of equal members the last counts, but all have to be texts and values."""
+    for pair in pairs:
+        if not encodes(json.dumps(pair, ensure_ascii=False)):
+            no_json()
+    return dict(pairs)
+
+
+def is_good_member(kind, value):
+    if kind == "ident":
+        return isinstance(value, str) and formats.is_ident(value.encode())
+    if kind == "command":
+        return isinstance(value, str) and formats.command_text(value.encode()) is not None
+    if isinstance(kind[0], str):
+        return value in kind if isinstance(value, str) else False
+    return isinstance(value, int) and not isinstance(value, bool) and kind[0] <= value <= kind[1]
+
+
+def wanted(data, operator):
+    """What section 6 demands of a response: its status, the name in its body and the method in Allow, or the whole body; or none where this
+    can't tell it."""
+    if not data:
+        return "nothing"
+    found = plain_head(data)
+    if found is None:
+        return None
+    method_given, target, fields, size = found
+    if size > 8192 or len(fields) > 32:
+        return 400, "bad_request"
+    return measured(method_given, target, fields, data[size:], operator)
+
+
+def measured(method, target, fields, rest, operator):
+    """What is demanded of a request with a good head."""
+    lengths = [value for name, value in fields if name == b"content-length"]
+    if any(name == b"transfer-encoding" for name, _ in fields) or len(lengths) > 1 or not all(re.fullmatch(rb"[0-9]+", it) for it in lengths):
+        return 400, "bad_request"
+    digits = lengths[0].lstrip(b"0") if lengths else b""
+    length = int(digits or b"0") if len(digits) < 10 else 10**9
+    if length > 16_384:
+        return 413, "too_large"
+    if len(rest) < length:
+        return 400, "bad_request"
+    return routed(method, target.split(b"?", 1)[0], rest[:length], operator)
+
+
+def routed(method_given, path, body, operator):
+    for pattern, method, rest in ROUTES:
+        parts = re.fullmatch(pattern, path)
+        if parts is None:
+            continue
+        good = {"rider": formats.COUNTED, "truck": formats.COUNTED, "station": formats.is_ident, "serial": formats.SERIALS}
+        if not all(good[name](value) for name, value in parts.groupdict().items()):
+            return 404, "not_found"
+        if method_given != method.encode():
+            return 405, "method_not_allowed", method
+        return (200, 404) if rest == "row" else 200 if rest == "feed" else of_body(path.decode(), body, rest, operator)
+    return 404, "not_found"
+
+
+def of_body(path, body, members, operator):
+    given = json_object(body)
+    if given is None:
+        return 400, "bad_request"
+    if not isinstance(given.get("key"), str) or not formats.is_key(given["key"].encode()):
+        return 400, "bad_field"
+    if not all(it in given and is_good_member(kind, given[it]) for it, kind in members.items()):
+        return 400, "bad_field"
+    line = [str(int(time.time())), *as_line(path, given)]
+    return body_of("\t".join(line).encode(), operator)
+
+
+def as_line(path, given):
+    """The caller, key and command of a request over HTTP."""
+    _, kind, *rest = path.split("/")
+    if kind == "office":
+        return ["office", given["key"], given["command"]]
+    name, word = rest
+    caller = f"{kind.removesuffix('s')}:{name}"
+    fields = {
+        "start": [name, "station", "dock"], "end": ["bike", name, "dock"], "mark-dock": [name, "dock", "state"], "mark-bike": ["bike", "state"],
+        "load": [name, "order", "bike"], "unload": [name, "order", "bike", "side", "dock"],
+    }[word]
+    return [caller, given["key"], "\t".join([word, *(str(given[it]) if it in given and it != name else it for it in fields)])]
+
+
+def body_of(line, operator):
+    """The status and the body that tell the operator's reply."""
+    word, *fields = operator.answer(line).decode().split("\t")
+    if word == "refused":
+        return 400 if fields[0] == "11" else 409, f'{{"result":"refused","number":{fields[0]},"name":"{fields[1]}"}}'.encode()
+    names = {"ok": [], "balance": ["balance_cents"], "rental": ["rental", "bike"], "fare": ["fare_cents", "balance_cents"], "order": ["order"]}[word]
+    return 200, ('{"result":"ok"' + "".join(f',"{name}":{value}' for name, value in zip(names, fields)) + "}").encode()
+
+
+def loosely(data, operator):
+    """Tells the operator of a request whose head is spelled in a way that plain_head does not read, but that the program took."""
+    head, rest = re.match(rb"(?s)[\r\n]*(.*?)\r?\n\r?\n(.*)", data).groups()
+    first, *fields = re.split(rb"\r?\n", head)
+    method, target, _ = first.split(b" ")
+    named = [it.partition(b":") for it in fields]
+    return measured(method, target, [(name.lower(), value.strip(b" \t")) for name, _, value in named], rest, operator)
+
+
+HEAD = re.compile(
+    rb"HTTP/1\.1 (200 OK|400 Bad Request|404 Not Found|405 Method Not Allowed|409 Conflict|413 Payload Too Large)\r\nContent-Type: application/json\r\n"
+    rb"Content-Length: (0|[1-9][0-9]*)\r\nConnection: close\r\n(?:Allow: (GET|POST)\r\n)?\r\n"
+)
+
+
+def judged(data, found, operator):
+    """What is wrong with the response, or nothing."""
+    want = wanted(data, operator)
+    if want == "nothing":
+        return found and "an answer to nothing"
+    head = HEAD.match(found)
+    if head is None or len(found) - len(head[0]) != int(head[2]):
+        return "not a well-formed response"
+    status, body = int(head[1][:3]), found[len(head[0]) :]
+    members = json.loads(body)
+    if want is None and body != b'{"result":"error","name":"bad_request"}':
+        want = loosely(data, operator)
+    if (status == 405) != (head[3] is not None):
+        return "Allow without 405 or 405 without Allow"
+    if want is None:
+        return status != 400 and "a status of no table"
+    if want == 200:
+        return (status != 200 or members.get("version") != "3.0") and "wanted is a feed"
+    if want == (200, 404):
+        return (status not in want or (status == 404) != (members == {"result": "error", "name": "not_found"})) and "wanted is a row or none"
+    if isinstance(want[1], bytes):
+        return (status, body) != want and f"wanted is {want}"
+    if len(want) > 2 and head[3].decode() != want[2]:
+        return f"wanted is {want}"
+    kind = "refused" if want[1] == "bad_field" else "error"
+    return (status, members.get("name"), members.get("result")) != (*want[:2], kind) and f"wanted is {want}"
+
+
+def exchanged(server, data, pick):
+    """Sends the input in some manner, and returns all bytes that come back; none where nobody waits for them."""
+    manner = pick.random() if pick else 0
+    with server.connect() as client:
+        try:
+            if manner < 0.7:
+                client.sendall(data)
+            elif manner < 0.9:
+                cuts = sorted(pick.randrange(len(data) + 1) for _ in range(pick.choice([1, 2, 5])))
+                for begin, end in zip([0, *cuts], [*cuts, len(data)]):
+                    client.sendall(data[begin:end])
+                    time.sleep(0.001)
+            elif manner < 0.95:
+                client.sendall(data[: pick.randrange(len(data) + 1)])
+                return None if pick.random() < 0.5 else serving.reset(client)
+            else:
+                client.sendall(data)
+                return None
+        except (BrokenPipeError, ConnectionResetError):
+            pass
+        with contextlib.suppress(OSError):
+            client.shutdown(socket.SHUT_WR)
+        return serving.rest(client)
+
+
+def test_http(program):
+    pick = random.Random(f"{SEED} http")
+    operator = make_city(program, "city.db")
+    make_city(program, "idle.db")
+    left = INPUTS * 3 // 10
+    with serving.Server(program, file="city.db") as server, serving.Server(program, file="idle.db") as second:
+        # A client that says nothing is given up, and the next one is served.
+        idle = second.connect()
+        idle.sendall(b"GET /riders/1 HT")
+        begun = time.monotonic()
+        while left:
+            left -= 1
+            data = http_input(pick)
+            try:
+                found = exchanged(server, data, pick)
+                if found is None:
+                    # Nobody knows whether that counted, so it is sent again whole: where it did, the answer is the kept one.
+                    found = exchanged(server, data, None)
+                wrong = judged(data, found, operator)
+            except (OSError, ValueError, AttributeError, KeyError, IndexError) as fault:
+                found, wrong = None, f"{type(fault).__name__}: {fault}, and the server's status is {server.child.poll()}"
+            assert not wrong, f"seed {SEED}, {left} inputs before the end: {wrong}: {told(data)} is answered by {found and told(found)}"
+            if left % 100 == 0:
+                found = server.ask(serving.get("/bikes/1"))
+                assert found.startswith(b"HTTP/1.1 200 OK\r\n"), found
+        assert server.child.poll() is None, server.child.poll()
+        with second.connect() as client:
+            client.settimeout(SECONDS)
+            client.sendall(serving.get("/bikes/1"))
+            assert serving.rest(client).startswith(b"HTTP/1.1 200 OK\r\n")
+        assert time.monotonic() - begun > 5, time.monotonic() - begun
+        assert serving.rest(idle) == b"", "an idle client got an answer"
+        idle.close()
+    for file in "city.db", "idle.db":
+        ended = program.run("check", file)
+        assert ended == (0, b"sound\n", b""), f"seed {SEED}: check: {ended}"
+
+
+# ---- words
+
+VOCABULARY = [
+    "init", "check", "lines", "feed", "serve", "day", "import", "raise", "help", "--port", "--count", "--at", "--", "-", "--help", "-h", "-V", "--version",
+    "--port=0", "--port=x", "--port=0=1", "--ports", "--por", "-p", "-p0", "--count=1", "--at=1", "--at=", "0", "1", "2", "65535", "65536", "-1", "+1", "00",
+    "1e3", "253402300799", "253402300800", "9" * 400, "", " ", "city.db", "new.db", ":memory:", "text.db", "no/such.db", ".", "file:city.db?mode=ro",
+    "gbfs", "station_status", "nothing", "é", "\udcff", "x" * 300, "x" * 100_000, "a\nb", "%s", "*", "~",
+]
+ENDS = re.compile(
+    rb"system missing|store failed|out of memory|foreign|unsound [a-z]+ .*|older [0-9]+|newer [0-9]+|read failed|write failed", re.S
+)
+STATUS_OF = {b"system": 1, b"store": 3, b"out": 4, b"foreign": 5, b"unsound": 5, b"older": 5, b"newer": 5, b"read": 6, b"write": 6}
+
+
+def some_words(pick):
+    kind = pick.random()
+    if kind < 0.5:
+        base = pick.choice([
+            ["init", "city.db"], ["check", "city.db"], ["lines", "city.db"], ["feed", "city.db", "gbfs"], ["feed", "city.db", "station_status", "--at", "0"],
+            ["serve", "city.db", "--port", "0", "--count", "1"], ["check", "text.db"], ["lines", ":memory:"], ["feed", "new.db", "gbfs"], [],
+        ])
+        words = list(base)
+        for _ in range(pick.choice([0, 1, 1, 2, 3])):
+            at = pick.randrange(len(words) + 1)
+            if words and pick.random() < 0.4:
+                words[at % len(words)] = pick.choice(VOCABULARY)
+            elif words and pick.random() < 0.3:
+                del words[at % len(words)]
+            else:
+                words.insert(at, pick.choice(VOCABULARY))
+        return words
+    return [pick.choice(VOCABULARY) for _ in range(pick.choice([0, 1, 2, 3, 4, 6, 12]))]
+
+
+def run_words(program, words):
+    """The status, output and faults; a server that listens is asked once, and ended where it goes on."""
+    asked = [program.file.encode(), *(it.encode("utf-8", "surrogateescape") for it in words)]
+    with subprocess.Popen(asked, cwd=program.folder, stdin=subprocess.DEVNULL, stdout=subprocess.PIPE, stderr=subprocess.PIPE) as child:
+        try:
+            if "serve" not in words:
+                out, said = child.communicate(timeout=SECONDS)
+                return child.returncode, out, said
+            ready, _, _ = select.select([child.stdout], [], [], SECONDS)
+            assert ready, "nothing is said"
+            line = child.stdout.readline()
+            listens = re.fullmatch(rb"listening 127\.0\.0\.1:([0-9]+)\n", line)
+            if not listens:
+                out, said = child.communicate(timeout=SECONDS)
+                return child.returncode, line + out, said
+            with socket.create_connection(("127.0.0.1", int(listens[1])), timeout=SECONDS) as client:
+                client.sendall(serving.get("/riders/1"))
+                assert serving.rest(client).startswith(b"HTTP/1.1 ")
+            # One connection may be all that it was to serve.
+            try:
+                child.wait(timeout=0.5)
+            except subprocess.TimeoutExpired:
+                return "listens", b"", b""
+            out, said = child.communicate(timeout=SECONDS)
+            return child.returncode, out, said
+        finally:
+            if child.poll() is None:
+                child.kill()
+
+
+def test_words(program):
+    pick = random.Random(f"{SEED} words")
+    make_city(program, "city.db")
+    Path(program.folder, "text.db").write_bytes(b"no database\n" * 400)
+    usage = program.run("--help")
+    assert usage[:2] == (2, b"") and usage[2].startswith(b"usage: bikeshare "), usage
+    for _ in range(INPUTS // 10):
+        words = some_words(pick)
+        before = set(os.listdir(program.folder))
+        try:
+            status, out, said = run_words(program, words)
+        except subprocess.TimeoutExpired:
+            raise AssertionError(f"seed {SEED}: {words!r:.500}: it had not ended after {SECONDS} seconds") from None
+        where = f"seed {SEED}: {words!r:.500}: {status, out[:200], said[:200]}"
+        if status == 2:
+            assert (out, said) == usage[1:] and set(os.listdir(program.folder)) == before, where
+        elif status in (0, "listens"):
+            assert not said and re.fullmatch(rb"|ready\n|sound\n|\{.*\}", out), where
+        else:
+            assert status in (1, 3, 5, 6) and said.endswith(b"\n") and ENDS.fullmatch(said[:-1]) and STATUS_OF[said.split()[0]] == status and not out, where
+        for file in set(os.listdir(program.folder)) - {"city.db", "city.db-wal", "text.db"}:
+            os.unlink(os.path.join(program.folder, file))
+        assert Path(program.folder, "text.db").read_bytes() == b"no database\n" * 400, where
+    assert program.run("check", "city.db") == (0, b"sound\n", b""), f"seed {SEED}"

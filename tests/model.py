@@ -1,0 +1,276 @@
+"""The operator of docs/OPERATOR.md in Python: what each request line has to be answered. It holds no test.
+
+It keeps plain lists and dictionaries, counts everything anew, and shares no thought with the program but the document.
+"""
+
+import importlib.util
+from pathlib import Path
+
+HERE = Path(__file__).resolve().parent
+spec = importlib.util.spec_from_file_location("tests_formats", HERE / "formats.py")
+formats = importlib.util.module_from_spec(spec)
+spec.loader.exec_module(formats)
+
+DEPOT = ("depot",)
+
+
+class Refused(Exception):
+    pass
+
+
+def refuse(number, holds):
+    if holds:
+        raise Refused(number)
+
+
+def fare(plan, elapsed):
+    """Sections 8's rules, minute by minute as far as there are any."""
+    elapsed = min(elapsed, 2_592_000)
+    total = plan["price"]
+    for start, rate, interval, end in plan["segments"]:
+        last = elapsed // 60 if end is None else min(elapsed // 60, end - 1)
+        if start <= last:
+            total += rate * (1 + ((last - start) // interval if interval else 0))
+    return max(0, total)
+
+
+class Operator:
+    def __init__(self):
+        self.now = 0
+        self.system = None
+        self.plans, self.types, self.stations, self.trucks, self.riders, self.bikes = {}, {}, {}, {}, {}, {}
+        self.broken, self.rentals, self.orders, self.entries, self.kept = set(), [], [], [], {}
+
+    def answer(self, line):
+        """The answer to a line without its line feed."""
+        if not formats.spells_request(line):
+            return b"refused\t11\tbad_field"
+        moment, caller, key, text = line.split(b"\t", 3)
+        text = formats.command_text(text)
+        if (caller, key) in self.kept:
+            command, reply = self.kept[caller, key]
+            return reply if command == text else b"refused\t33\tkey_reused"
+        word, *fields = text.decode().split("\t")
+        later, self.later = self.now, max(self.now, int(moment))
+        try:
+            reply = getattr(self, word.replace("-", "_"))(*fields) or "ok"
+        except Refused as refusal:
+            (number,) = refusal.args
+            return f"refused\t{number}\t{formats.REFUSALS[number]}".encode()
+        assert later <= self.later
+        self.now = self.later
+        self.kept[caller, key] = text, reply.encode()
+        return reply.encode()
+
+    # Each command tests first, and changes nothing before its last test.
+
+    def report(self, station):
+        self.stations[station]["reported"] = self.later
+
+    def bike_in(self, station, dock):
+        return next((number for number, it in self.bikes.items() if it["place"] == ("dock", station, dock)), None)
+
+    def riding(self, rider):
+        return any(it["rider"] == rider and it["finish"] is None for it in self.rentals)
+
+    def balance(self, rider):
+        return sum(-amount if kind == 2 else amount for kind, its, _, amount in self.entries if its == rider)
+
+    def on_truck(self, truck, order=None):
+        return sum(it["place"][0] == "truck" and it["place"][1] == truck and order in (None, it["place"][2]) for it in self.bikes.values())
+
+    def is_full_of_entries(self):
+        return len(self.entries) + sum(it["finish"] is None for it in self.rentals) >= 100_000_000
+
+    def set_system(self, *fields):
+        refuse(10, self.system)
+        self.system = fields
+
+    def add_plan(self, plan, name, price, taxable, description, segments):
+        refuse(10, plan in self.plans)
+        refuse(32, len(self.plans) >= 256)
+        parts = [] if segments == "-" else [it.split(":") for it in segments.split(";")]
+        rows = [(int(start), int(rate), int(interval), None if end == "-" else int(end)) for start, rate, interval, end in parts]
+        self.plans[plan] = {"price": int(price), "segments": rows}
+
+    def add_type(self, kind, name, form, propulsion, most, plan):
+        refuse(10, kind in self.types)
+        refuse(7, plan not in self.plans)
+        refuse(32, len(self.types) >= 32)
+        self.types[kind] = plan
+
+    def set_plan(self, kind, plan):
+        refuse(6, kind not in self.types)
+        refuse(7, plan not in self.plans)
+        self.types[kind] = plan
+
+    def add_station(self, station, name, lat, lon, docks):
+        refuse(10, station in self.stations)
+        refuse(32, len(self.stations) >= 5000)
+        self.stations[station] = {"docks": int(docks), "flags": (True, True, True)}
+        self.report(station)
+
+    def set_station(self, station, *flags):
+        refuse(1, station not in self.stations)
+        self.stations[station]["flags"] = tuple(it == "true" for it in flags)
+        self.report(station)
+
+    def mark_dock(self, station, dock, state):
+        refuse(1, station not in self.stations)
+        refuse(2, int(dock) > self.stations[station]["docks"])
+        (self.broken.add if state == "broken" else self.broken.discard)((station, int(dock)))
+        self.report(station)
+
+    def add_bike(self, bike, kind):
+        refuse(10, bike in self.bikes)
+        refuse(6, kind not in self.types)
+        refuse(32, len(self.bikes) >= 100_000)
+        self.bikes[bike] = {"type": kind, "state": "fit", "place": DEPOT}
+
+    def mark_bike(self, bike, state):
+        refuse(3, bike not in self.bikes)
+        refuse(23, self.bikes[bike]["state"] == "retired")
+        self.bikes[bike]["state"] = state
+        if self.bikes[bike]["place"][0] == "dock":
+            self.report(self.bikes[bike]["place"][1])
+
+    def retire_bike(self, bike):
+        refuse(3, bike not in self.bikes)
+        refuse(23, self.bikes[bike]["state"] == "retired")
+        refuse(22, self.bikes[bike]["place"] != DEPOT)
+        self.bikes[bike]["state"] = "retired"
+
+    def add_rider(self, rider):
+        refuse(10, rider in self.riders)
+        refuse(32, len(self.riders) >= 500_000)
+        self.riders[rider] = "open"
+
+    def set_rider(self, rider, state):
+        refuse(4, rider not in self.riders)
+        self.riders[rider] = state
+
+    def top_up(self, rider, amount):
+        refuse(4, rider not in self.riders)
+        refuse(32, self.is_full_of_entries())
+        self.entries.append((1, rider, 0, int(amount)))
+        return f"balance\t{self.balance(rider)}"
+
+    def refund(self, rental, amount):
+        number = int(rental)
+        refuse(5, number > len(self.rentals))
+        row = self.rentals[number - 1]
+        refuse(31, row["finish"] is None)
+        given = sum(amount for kind, _, its, amount in self.entries if kind == 3 and its == number)
+        refuse(30, int(amount) > row["fare"] - given)
+        refuse(32, self.is_full_of_entries())
+        self.entries.append((3, row["rider"], number, int(amount)))
+        return f"balance\t{self.balance(row['rider'])}"
+
+    def start(self, rider, station, dock):
+        refuse(4, rider not in self.riders)
+        refuse(18, self.riders[rider] == "blocked")
+        refuse(19, self.balance(rider) < 0)
+        refuse(20, self.riding(rider))
+        refuse(1, station not in self.stations)
+        refuse(2, int(dock) > self.stations[station]["docks"])
+        refuse(16, not all(self.stations[station]["flags"][:2]))
+        refuse(14, (station, int(dock)) in self.broken)
+        bike = self.bike_in(station, int(dock))
+        refuse(12, bike is None)
+        refuse(15, self.bikes[bike]["state"] != "fit")
+        refuse(32, self.is_full_of_entries())
+        plan = self.types[self.bikes[bike]["type"]]
+        self.rentals.append({"rider": rider, "bike": bike, "plan": plan, "start": self.later, "finish": None, "fare": None})
+        self.bikes[bike]["place"] = ("rental", len(self.rentals))
+        self.report(station)
+        return f"rental\t{len(self.rentals)}\t{bike}"
+
+    def close(self, number):
+        row = self.rentals[number - 1]
+        row["finish"], row["fare"] = self.later, fare(self.plans[row["plan"]], self.later - row["start"])
+        self.entries.append((2, row["rider"], number, row["fare"]))
+        return f"fare\t{row['fare']}\t{self.balance(row['rider'])}"
+
+    def end(self, bike, station, dock):
+        refuse(3, bike not in self.bikes)
+        refuse(21, self.bikes[bike]["place"][0] != "rental")
+        refuse(1, station not in self.stations)
+        self.takes(station, int(dock), 17)
+        number = self.bikes[bike]["place"][1]
+        self.bikes[bike]["place"] = ("dock", station, int(dock))
+        self.report(station)
+        return self.close(number)
+
+    def takes(self, station, dock, returning=None):
+        """The tests of a dock that is to take a bicycle."""
+        refuse(2, not 1 <= dock <= self.stations[station]["docks"])
+        refuse(returning, returning and not (self.stations[station]["flags"][0] and self.stations[station]["flags"][2]))
+        refuse(14, (station, dock) in self.broken)
+        refuse(13, self.bike_in(station, dock) is not None)
+
+    def recover(self, rental):
+        number = int(rental)
+        refuse(5, number > len(self.rentals))
+        refuse(35, self.rentals[number - 1]["finish"] is not None)
+        bike = self.bikes[self.rentals[number - 1]["bike"]]
+        bike["place"], bike["state"] = DEPOT, "disabled"
+        return self.close(number)
+
+    def add_truck(self, truck, capacity):
+        refuse(10, truck in self.trucks)
+        refuse(32, len(self.trucks) >= 1000)
+        self.trucks[truck] = int(capacity)
+
+    def open_order(self, truck, begin, end, kind, count):
+        refuse(8, truck not in self.trucks)
+        refuse(1, begin != "*" and begin not in self.stations)
+        refuse(1, end != "*" and end not in self.stations)
+        refuse(36, begin == end)
+        refuse(6, kind not in self.types)
+        refuse(24, int(count) > self.trucks[truck])
+        refuse(32, len(self.orders) >= 10_000_000)
+        self.orders.append({"truck": truck, "from": begin, "to": end, "type": kind, "count": int(count), "delivered": 0, "open": True})
+        return f"order\t{len(self.orders)}"
+
+    def order_of(self, truck, order):
+        refuse(8, truck not in self.trucks)
+        refuse(9, int(order) > len(self.orders))
+        row = self.orders[int(order) - 1]
+        refuse(27, not row["open"])
+        refuse(36, row["truck"] != truck)
+        return row
+
+    def load(self, truck, order, bike):
+        row = self.order_of(truck, order)
+        refuse(3, bike not in self.bikes)
+        found = self.bikes[bike]
+        refuse(23, found["state"] == "retired")
+        place = found["place"]
+        refuse(25, place != DEPOT if row["from"] == "*" else place[:2] != ("dock", row["from"]))
+        refuse(26, found["type"] != row["type"])
+        refuse(28, row["delivered"] + self.on_truck(truck, int(order)) >= row["count"])
+        refuse(34, self.on_truck(truck) >= self.trucks[truck])
+        found["place"] = ("truck", truck, int(order))
+        if place[0] == "dock":
+            self.report(place[1])
+
+    def unload(self, truck, order, bike, side, dock):
+        row = self.order_of(truck, order)
+        refuse(3, bike not in self.bikes)
+        refuse(25, self.bikes[bike]["place"] != ("truck", truck, int(order)))
+        end = row[side]
+        if end == "*":
+            refuse(2, int(dock) != 0)
+        else:
+            self.takes(end, int(dock))
+        self.bikes[bike]["place"] = DEPOT if end == "*" else ("dock", end, int(dock))
+        row["delivered"] += side == "to"
+        if end != "*":
+            self.report(end)
+
+    def close_order(self, order):
+        refuse(9, int(order) > len(self.orders))
+        row = self.orders[int(order) - 1]
+        refuse(27, not row["open"])
+        refuse(29, self.on_truck(row["truck"], int(order)) > 0)
+        row["open"] = False

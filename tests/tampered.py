@@ -1,0 +1,746 @@
+"""Database files that were changed from outside: each column of each table in turn, rows added and removed, tables and columns dropped,
+the file and its log cut, and bytes changed.
+
+What `check` has to say of rows is worked out here by Python alone, from docs/FORMATS.md, sections 10 and 11. Of what is no database that
+SQLite could read it has to name a fault. It may neither crash nor hang nor change a byte, and `lines` has to say the same.
+
+A sample stands in the gate. By hand, all of them from the environment:
+
+    BIKESHARE_TAMPERED=all BIKESHARE_SEED=7 tests/run tampered.
+
+BIKESHARE_TAMPERED is how many changes each test draws, BIKESHARE_SEED what they are drawn from; a failure tells the seed and the change.
+"""
+
+import contextlib
+import importlib.util
+import itertools
+import os
+import random
+import sqlite3
+import subprocess
+from pathlib import Path
+
+HERE = Path(__file__).resolve().parent
+TRIED = os.environ.get("BIKESHARE_TAMPERED", "15")
+SEED = int(os.environ.get("BIKESHARE_SEED", "1"))
+
+
+def by_path(name):
+    spec = importlib.util.spec_from_file_location(f"tests_{name}", HERE / f"{name}.py")
+    module = importlib.util.module_from_spec(spec)
+    spec.loader.exec_module(module)
+    return module
+
+
+formats = by_path("formats")
+
+# ---- the city
+
+ASKED = [
+    "set-system metro en Metro_Bikes 24/7 feeds@example.org Etc/UTC EUR http://127.0.0.1:8080 30",
+    "add-plan basic Basic 100 false One_euro_and_then_a_quarter 30:25:5:-",
+    "add-plan day Day 250 true By_day 0:-60:0:30;20:50:10:60;100:7:1:-",
+    "add-plan zero Free 0 false Free -",
+    "add-type city City bicycle human 0 basic",
+    "add-type cargo Cargo cargo_bicycle electric_assist 60000 day",
+    "add-station a1 Harbour 41.890169 12.492269 3",
+    "add-station b2 Bridge -45 -179.999999 4",
+    "add-station c3 Closed 0 0 1",
+    "add-truck 3 20",
+    "add-truck 4 1",
+    *(f"add-bike {it} city" for it in (7, 8, 9, 10)),
+    "add-bike 11 cargo",
+    "add-bike 12 cargo",
+    "open-order 3 * a1 city 2", "load 3 1 7", "unload 3 1 7 to 1", "load 3 1 8", "unload 3 1 8 to 2", "close-order 1",
+    "open-order 3 * b2 cargo 1", "load 3 2 11", "unload 3 2 11 to 4", "close-order 2",
+    "add-rider 17", "top-up 17 2500", "add-rider 18", "top-up 18 1000", "add-rider 19",
+    "start 17 a1 1", "end 7 b2 1", "refund 1 25", "refund 1 25",
+    "start 18 b2 4", "end 11 a1 1",
+    "start 18 a1 2", "recover 3",
+    "start 17 b2 1",
+    "open-order 3 * a1 city 2", "load 3 3 9",
+    "open-order 4 a1 b2 cargo 1",
+    "mark-dock a1 3 broken", "mark-dock b2 1 broken", "mark-dock b2 1 working", "mark-bike 11 disabled",
+    "set-station c3 false true true", "set-rider 19 blocked", "retire-bike 8",
+]
+
+
+def asked():
+    callers = ["office", "rider:17", "dock:a1", "crew:3", "import:first"]
+    lines = (f"{1700000000 + 600 * at}\t{callers[at % 5]}\tk{at}\t{it.replace(' ', chr(9)).replace('_', ' ')}\n" for at, it in enumerate(ASKED))
+    return "".join(lines).replace("cargo bicycle", "cargo_bicycle").replace("electric assist", "electric_assist").encode()
+
+
+def made(program):
+    """Makes the city and returns the bytes of its file, in which all of its log is, and of the file and the log as the program left them when
+    it was killed: where it ends by itself it copies the log into the file."""
+    with subprocess.Popen([program.file, "lines", "city.db"], cwd=program.folder, stdin=subprocess.PIPE, stdout=subprocess.PIPE) as running:
+        running.stdin.write(asked())
+        running.stdin.flush()
+        told = [running.stdout.readline() for _ in ASKED]
+        running.kill()
+    assert all(told) and not any(it.startswith(b"refused") for it in told), told
+    file, log = Path(program.folder, "city.db"), Path(program.folder, "city.db-wal")
+    left = file.read_bytes(), log.read_bytes()
+    with contextlib.closing(sqlite3.connect(file)) as base:
+        base.execute("PRAGMA wal_checkpoint(TRUNCATE)").fetchall()
+    whole = file.read_bytes()
+    file.unlink()
+    log.unlink(missing_ok=True)
+    return whole, left
+
+
+# ---- the audit, from the document
+
+TABLES = {
+    "meta": 1, "system": 1, "plans": 1, "segments": 2, "types": 1, "stations": 1, "docks": 2, "bikes": 1, "trucks": 1, "riders": 1,
+    "rentals": 1, "orders": 1, "entries": 1, "kept": 2, "counts": 2,
+}
+TEXTS = {
+    "app", "system_id", "language", "name", "hours", "contact", "zone", "currency", "base_url", "plan_id", "description", "type_id", "form",
+    "propulsion", "station_id", "from_station", "to_station", "from_end", "to_end", "caller", "req_key", "command", "reply",
+}
+MAY_BE_NULL = {
+    "segments": {"finish"}, "bikes": {"station_id", "dock", "rental", "truck", "ord"}, "rentals": {"to_station", "finish", "fare"},
+}
+
+
+def is_within(least, most):
+    return lambda it: isinstance(it, int) and least <= it <= most
+
+
+def is_text(good):
+    return lambda it: isinstance(it, bytes) and good(it)
+
+
+ANY = is_within(-(2**63), 2**63 - 1)
+FLAG, MOMENT = is_within(0, 1), is_within(0, formats.LAST_MOMENT)
+NUMBERED, SERIAL, DOCK = is_within(*formats.NUMBERED), is_within(*formats.SERIAL), is_within(1, 200)
+IDENT, NAME, ASCII, END = (is_text(it) for it in (formats.is_ident, formats.is_name_value, formats.is_ascii_value, formats.is_end))
+FARE = is_within(0, formats.GREATEST_FARE)
+
+
+def word(*words):
+    return lambda it: it in [word.encode() for word in words]
+
+
+BOUNDS = {
+    "meta": {"one": is_within(1, 1), "app": word("bikeshare"), "version": is_within(1, 1), "now": MOMENT, "cash": ANY, "revenue": ANY},
+    "system": {
+        "one": is_within(1, 1), "system_id": IDENT, "language": is_text(formats.is_language), "name": NAME, "hours": ASCII, "contact": ASCII,
+        "zone": ASCII, "currency": is_text(formats.is_currency), "base_url": ASCII, "ttl": is_within(0, 86_400),
+    },
+    "plans": {"plan_id": IDENT, "name": NAME, "price": is_within(0, 1_000_000), "taxable": FLAG, "description": NAME},
+    "segments": {
+        "plan_id": IDENT, "seq": is_within(1, 8), "start": is_within(0, 100_000), "rate": is_within(-100_000, 100_000),
+        "every": is_within(0, 100_000), "finish": is_within(0, 100_000),
+    },
+    "types": {
+        "type_id": IDENT, "name": NAME, "form": word("bicycle", "cargo_bicycle"), "propulsion": word("human", "electric_assist"),
+        "range_m": is_within(0, 1_000_000), "plan_id": IDENT,
+    },
+    "stations": {
+        "station_id": IDENT, "name": NAME, "lat": is_within(-90_000_000, 90_000_000), "lon": is_within(-180_000_000, 180_000_000), "docks": DOCK,
+        "installed": FLAG, "renting": FLAG, "returning": FLAG, "reported": MOMENT, "free": ANY, "broken": ANY,
+    },
+    "docks": {"station_id": IDENT, "dock": DOCK, "broken": FLAG},
+    "bikes": {
+        "bike": NUMBERED, "type_id": IDENT, "state": is_within(0, 2), "station_id": IDENT, "dock": DOCK, "rental": SERIAL, "truck": NUMBERED,
+        "ord": SERIAL,
+    },
+    "trucks": {"truck": NUMBERED, "capacity": is_within(1, 60)},
+    "riders": {"rider": NUMBERED, "blocked": FLAG, "balance": ANY},
+    "rentals": {
+        "rental": SERIAL, "rider": NUMBERED, "bike": NUMBERED, "plan_id": IDENT, "from_station": IDENT, "start": MOMENT, "to_station": IDENT,
+        "finish": MOMENT, "fare": FARE, "refunded": ANY,
+    },
+    "orders": {
+        "ord": SERIAL, "truck": NUMBERED, "from_end": END, "to_end": END, "type_id": IDENT, "quantity": is_within(1, 60),
+        "delivered": is_within(0, 60), "is_open": FLAG,
+    },
+    "entries": {"entry": SERIAL, "kind": is_within(1, 3), "rider": NUMBERED, "rental": is_within(0, 100_000_000), "amount": ANY, "at": MOMENT},
+    "kept": {
+        "caller": is_text(formats.is_caller), "req_key": is_text(formats.is_key), "command": is_text(lambda it: formats.command_text(it) == it),
+        "reply": is_text(lambda it: formats.is_reply(it) and not it.startswith(b"refused")),
+    },
+    "counts": {"station_id": IDENT, "type_id": IDENT, "available": ANY, "disabled": ANY},
+}
+
+
+def agree(table, row):
+    """Conditions within one row, which count as bounds of its fields."""
+    if table == "segments":
+        return row["finish"] is None or row["finish"] > row["start"]
+    if table == "types":
+        return (row["propulsion"] == b"human") == (row["range_m"] == 0)
+    if table == "entries":
+        least, most = (0, formats.GREATEST_FARE) if row["kind"] == 2 else (1, 1_000_000)
+        return least <= row["amount"] <= most and (row["rental"] == 0) == (row["kind"] == 1)
+    if table == "rentals":
+        return (row["finish"] is None) == (row["fare"] is None) and (row["finish"] is not None or row["to_station"] is None)
+    return True
+
+
+def place_of(row):
+    """The first whole place of a bicycle, and how many columns name one."""
+    dock = ("dock", row["station_id"], row["dock"]) if IDENT(row["station_id"]) and DOCK(row["dock"]) else None
+    rental = ("rental", row["rental"]) if SERIAL(row["rental"]) else None
+    truck = ("truck", row["truck"], row["ord"]) if NUMBERED(row["truck"]) and SERIAL(row["ord"]) else None
+    named = [row[it] for it in ("station_id", "dock", "rental", "truck", "ord") if row[it] is not None]
+    first = dock or rental or truck or ("depot",)
+    return first, len(named) == {"dock": 2, "rental": 1, "truck": 2, "depot": 0}[first[0]]
+
+
+class Audit:
+    """The first bad row of the tables, which are lists of rows by column."""
+
+    def __init__(self, tables):
+        self.rows = {name: sorted(rows, key=lambda it, keys=keys: [rank(value) for value in list(it.values())[:keys]])
+                     for (name, keys), rows in zip(TABLES.items(), (tables[name] for name in TABLES))}
+        self.good = {name: [it for it in rows if self.keeps_bounds(name, it)] for name, rows in self.rows.items()}
+        self.good["bikes"] = [{**it, "place": place_of(it)} for it in self.good["bikes"]]
+        self.by = {name: {tuple(it.values())[: TABLES[name]] if TABLES[name] > 1 else next(iter(it.values())): it for it in rows}
+                   for name, rows in self.good.items()}
+
+    def keeps_bounds(self, table, row):
+        if table == "bikes":
+            # Where it says that it is in several places it is at the first of them.
+            return all(BOUNDS[table][it](row[it]) for it in ("bike", "type_id", "state"))
+        optional = MAY_BE_NULL.get(table, ())
+        return all((row[it] is None and it in optional) or good(row[it]) for it, good in BOUNDS[table].items()) and agree(table, row)
+
+    def sum(self, kind, **of):
+        return sum(it["amount"] for it in self.good["entries"] if it["kind"] == kind and all(it[name] == value for name, value in of.items()))
+
+    def holds(self, station):
+        """Each dock of a station: whether it is broken, and the bicycle in it."""
+        bikes = {it["place"][0][1:]: it for it in reversed(self.good["bikes"]) if it["place"][0][0] == "dock"}
+        number = station["docks"]
+        for dock in range(1, number + 1):
+            broken = self.by["docks"].get((station["station_id"], dock), {"broken": 0})["broken"]
+            yield broken, bikes.get((station["station_id"], dock))
+
+    def first_bad(self):
+        """The table and key of the first bad row, or none."""
+        for table, keys in TABLES.items():
+            listed = [(list(it.values())[:keys], it) for it in self.rows[table]]
+            missing = [(key, None) for key in self.owed(table) if key not in [it for it, _ in listed]]
+            for at, (key, row) in enumerate(sorted(listed + missing, key=lambda it: [rank(value) for value in it[0]])):
+                if row is None or not self.is_good(table, row, at):
+                    return table, key
+        return None
+
+    def owed(self, table):
+        if table == "meta":
+            return [[1]]
+        if table != "counts":
+            return []
+        return [[station, kind] for station in self.by["stations"] for kind in self.by["types"] if self.counted(station, kind) != (0, 0)]
+
+    def counted(self, station, kind):
+        held = [(broken, it) for broken, it in self.holds(self.by["stations"][station]) if it and it["type_id"] == kind]
+        fit = [it for broken, it in held if not broken and it["state"] == 0]
+        return len(fit), len(held) - len(fit)
+
+    def is_good(self, table, row, at):
+        if table == "bikes":
+            found = self.by["bikes"].get(row["bike"])
+            return found is not None and found["place"][1] and self.bikes(found, at)
+        if not self.keeps_bounds(table, row):
+            return False
+        return getattr(self, table)(row, at)
+
+    def now(self):
+        return self.by["meta"][1]["now"]
+
+    def on_truck(self, truck, order=None):
+        places = [it["place"][0] for it in self.good["bikes"]]
+        return sum(it[0] == "truck" and it[1] == truck and order in (None, it[2]) for it in places)
+
+    def meta(self, row, at):
+        return row["cash"] == self.sum(1) and row["revenue"] == self.sum(2) - self.sum(3)
+
+    def system(self, row, at):
+        return True
+
+    def plans(self, row, at):
+        return at < 256
+
+    def segments(self, row, at):
+        before = sum(it["plan_id"] == row["plan_id"] and it["seq"] < row["seq"] for it in self.rows["segments"])
+        return row["plan_id"] in self.by["plans"] and row["seq"] == before + 1
+
+    def types(self, row, at):
+        return at < 32 and row["plan_id"] in self.by["plans"]
+
+    def stations(self, row, at):
+        held = list(self.holds(row))
+        free = sum(not broken and it is None for broken, it in held)
+        return row["reported"] <= self.now() and row["free"] == free and row["broken"] == sum(broken for broken, _ in held)
+
+    def has_dock(self, station, dock):
+        return station in self.by["stations"] and dock <= self.by["stations"][station]["docks"]
+
+    def docks(self, row, at):
+        return self.has_dock(row["station_id"], row["dock"])
+
+    def bikes(self, row, at):
+        place = row["place"][0]
+        good = True
+        if place[0] == "dock":
+            good = self.has_dock(*place[1:])
+        elif place[0] == "rental":
+            rental = self.by["rentals"].get(place[1])
+            good = rental is not None and rental["finish"] is None and rental["bike"] == row["bike"]
+        elif place[0] == "truck":
+            order = self.by["orders"].get(place[2])
+            good = order is not None and order["is_open"] == 1 and order["truck"] == place[1] and order["type_id"] == row["type_id"]
+        alone = place[0] != "dock" or not any(it["place"][0] == place and it["bike"] < row["bike"] for it in self.good["bikes"])
+        return good and alone and row["type_id"] in self.by["types"] and (row["state"] != 2 or place[0] == "depot")
+
+    def trucks(self, row, at):
+        return self.on_truck(row["truck"]) <= row["capacity"]
+
+    def riders(self, row, at):
+        riding = sum(it["rider"] == row["rider"] and it["finish"] is None for it in self.good["rentals"])
+        balance = self.sum(1, rider=row["rider"]) - self.sum(2, rider=row["rider"]) + self.sum(3, rider=row["rider"])
+        return row["balance"] == balance and riding <= 1
+
+    def rentals(self, row, at):
+        number = row["rental"]
+        named = row["rider"] in self.by["riders"] and row["plan_id"] in self.by["plans"] and row["from_station"] in self.by["stations"]
+        if number != at + 1 or not named or row["bike"] not in self.by["bikes"] or row["start"] > self.now():
+            return False
+        if row["refunded"] != self.sum(3, rental=number):
+            return False
+        if row["finish"] is None:
+            return row["refunded"] == 0 and self.by["bikes"][row["bike"]]["place"][0] == ("rental", number)
+        station = row["to_station"] is None or row["to_station"] in self.by["stations"]
+        has_fare = any(it["kind"] == 2 and it["rental"] == number for it in self.good["entries"])
+        return station and has_fare and row["start"] <= row["finish"] <= self.now() and row["refunded"] <= row["fare"]
+
+    def orders(self, row, at):
+        truck = self.by["trucks"].get(row["truck"])
+        ends = all(it == b"*" or it in self.by["stations"] for it in (row["from_end"], row["to_end"])) and row["from_end"] != row["to_end"]
+        if row["ord"] != at + 1 or truck is None or not ends or row["type_id"] not in self.by["types"] or row["quantity"] > truck["capacity"]:
+            return False
+        held = self.on_truck(row["truck"], row["ord"])
+        return row["delivered"] + held <= row["quantity"] and (row["is_open"] == 1 or held == 0)
+
+    def entries(self, row, at):
+        if row["entry"] != at + 1 or row["rider"] not in self.by["riders"] or row["at"] > self.now():
+            return False
+        if row["kind"] == 1:
+            return True
+        rental = self.by["rentals"].get(row["rental"])
+        if rental is None or rental["finish"] is None or rental["rider"] != row["rider"]:
+            return False
+        earlier = any(it["kind"] == 2 and it["rental"] == row["rental"] and it["entry"] < row["entry"] for it in self.good["entries"])
+        return row["kind"] == 3 or (not earlier and row["amount"] == rental["fare"])
+
+    def kept(self, row, at):
+        return True
+
+    def counts(self, row, at):
+        known = row["station_id"] in self.by["stations"] and row["type_id"] in self.by["types"]
+        return known and (row["available"], row["disabled"]) == self.counted(row["station_id"], row["type_id"])
+
+
+def rank(value):
+    """A value by the order of keys: nothing, numbers, texts, blobs."""
+    return (0, 0) if value is None else (1, value) if isinstance(value, (int, float)) else (2, value)
+
+
+def read(file):
+    """All rows of the product's tables by column, texts as bytes; a blob is told from a text by its class."""
+    with contextlib.closing(sqlite3.connect(f"file:{file}?immutable=1", uri=True)) as base:
+        base.text_factory = bytes
+        told = {}
+        for name in TABLES:
+            rows = base.execute(f"SELECT * FROM {name}")
+            columns = [it[0] for it in rows.description]
+            told[name] = [dict(zip(columns, row)) for row in rows]
+        return told
+
+
+def shown(value):
+    if isinstance(value, int):
+        return str(value).encode()
+    return value if isinstance(value, bytes) and formats.is_utf8(value) else b"?"
+
+
+def verdict(tables):
+    """What `check` has to end with."""
+    row = next((it for it in tables["meta"] if it["one"] == 1), None)
+    if row is not None and (row["app"] != b"bikeshare" or row["version"] < 1):
+        return FOREIGN
+    if row is not None and row["version"] > 1:
+        return 5, b"", b"newer %d\n" % row["version"]
+    bad = Audit(tables).first_bad()
+    if bad is None:
+        return 0, b"sound\n", b""
+    return 5, b"", b"unsound %s %s\n" % (bad[0].encode(), b"/".join(shown(it) for it in bad[1]))
+
+
+# ---- changes
+
+SOUND = (0, b"sound\n", b"")
+FAILED = (3, b"", b"store failed\n")
+FOREIGN = (5, b"", b"foreign\n")
+
+
+def drawn(changes, salt):
+    """A sample of the changes, in their order."""
+    changes = list(changes)
+    if TRIED == "all" or len(changes) <= int(TRIED):
+        return changes
+    pick = random.Random(f"{SEED} {salt}")
+    return [changes[at] for at in sorted(pick.sample(range(len(changes)), int(TRIED)))]
+
+
+# A log of fewer bytes holds nothing: no frame has room in it. Opening a file makes one of 41 bytes where there is none that holds something.
+LEAST_LOG = 56
+
+
+def parts(file):
+    """The bytes of the file and of a log that holds something, and the names of whatever else stands beside it."""
+    data = {it.name: it.read_bytes() for it in file.parent.glob(f"{file.name}*")}
+    empty = f"{file.name}-wal"
+    return {name: it for name, it in data.items() if name != empty or len(it) >= LEAST_LOG}
+
+
+def says(program, file):
+    """What `check` says of a file, which it leaves as it is; `lines` has to say the same, and to answer nothing where that is a fault."""
+    before = parts(file)
+    ended = program.run("check", file.name)
+    assert parts(file) == before, f"check changed {[it for it in parts(file) if parts(file)[it] != before.get(it)]}, after {ended}"
+    assert ended == SOUND or (ended[0] in (3, 5) and not ended[1] and ended[2].endswith(b"\n")), ended
+    line = b"1700000000\toffice\tk0\tclose-order\t1\n"
+    served = program.run("lines", file.name, given=b"" if ended == SOUND else line)
+    assert served == (ended[0], b"", ended[2]) or (ended == SOUND and served == (0, b"", b"")), f"lines says {served}, and check {ended}"
+    assert parts(file) == before, f"lines changed the file, after {served}"
+    return ended
+
+
+def holds(program, city, changes, wanted, salt):
+    """Applies each change of the sample to the city, and holds what the program says to what is wanted of the changed file."""
+    wrong = []
+    for number, (name, change) in enumerate(drawn(changes, salt)):
+        file = Path(program.folder, f"changed{number}.db")
+        try:
+            file.write_bytes(city)
+            told = change(file)
+            right = wanted(file, told)
+            found = says(program, file)
+            if found not in right:
+                wrong.append(f"{name}: {found}, not {right[0]}")
+        except (AssertionError, sqlite3.Error) as fault:
+            wrong.append(f"{name}: {fault}")
+        for part in file.parent.glob(f"{file.name}*"):
+            part.unlink()
+    assert not wrong, f"seed {SEED}\n" + "\n".join(wrong)
+
+
+def by_sql(sql, values=(), loose=False):
+    """A change by SQL. A loose one passes by what the tables demand of their columns: they lose STRICT and NOT NULL for it."""
+
+    def change(file):
+        with contextlib.closing(sqlite3.connect(file, isolation_level=None)) as base:
+            base.execute("PRAGMA synchronous = OFF")
+            base.execute("PRAGMA journal_mode = DELETE").fetchall()
+            if loose:
+                texts = base.execute("SELECT name, sql FROM sqlite_schema WHERE type = 'table'").fetchall()
+                base.execute("PRAGMA writable_schema = ON")
+                base.execute("UPDATE sqlite_schema SET sql = replace(replace(sql, ' STRICT', ''), ' NOT NULL', '') WHERE type = 'table'")
+                base.execute("PRAGMA writable_schema = RESET")
+        with contextlib.closing(sqlite3.connect(file, isolation_level=None)) as base:
+            base.execute("PRAGMA synchronous = OFF")
+            base.execute(sql, values)
+            if loose:
+                base.execute("PRAGMA writable_schema = ON")
+                for name, text in texts:
+                    base.execute("UPDATE sqlite_schema SET sql = ? WHERE name = ?", (text, name))
+                base.execute("PRAGMA writable_schema = RESET")
+            base.execute("PRAGMA journal_mode = WAL").fetchall()
+
+    return change
+
+
+NUMBERS = [-1, 0, 1, 2, 3, 4, 5, 7, 61, 201, 256, 60_000, 1_000_000, 1_000_001, 100_000_001, 2**31, 2**32 + 1, 2**53 + 1, 2**63 - 1, -(2**63)]
+WORDS = [
+    "", "a1", "b2", "zz", "A1", "*", "city", "cargo", "basic", "day", "a" * 36, "a" * 37, "é", "x\0y", "n" * 120, "n" * 121, "~" * 200, "~" * 201,
+    "two\nlines", "a\tb", " ", "true", "NULL", "0", "1", "-1", "bicycle", "human", "electric_assist", "EUR", "office", "rider:17", "rider:0",
+    "add-rider\t17", "ok", "balance\t5", "balance\t-0", "refused\t4\tunknown_rider", "rental\t1\t7", "fare\t1\t2", "order\t0", "x" * 9000, "k1",
+]
+
+
+def values_for(column, old):
+    """Other values of a column, of its own kind."""
+    if column in TEXTS:
+        return [it for it in WORDS if old is None or it.encode() != old]
+    near = [] if old is None else [old + 1, old - 1, old + 1000, -old]
+    return [it for it in dict.fromkeys([*near, *NUMBERS]) if it != old and -(2**63) <= it < 2**63]
+
+
+def updates(tables):
+    """Each column of each table, in a row or two, at each other value of its kind; and NULL where that is allowed."""
+    for name, rows in tables.items():
+        for row in rows[:1] + rows[len(rows) // 2 : len(rows) // 2 + 1] + rows[-1:]:
+            keys = list(row)[: TABLES[name]]
+            where = " AND ".join(f"{it} = ?" for it in keys)
+            found = [row[it].decode() if isinstance(row[it], bytes) else row[it] for it in keys]
+            for column, old in row.items():
+                empty = [None] if column in MAY_BE_NULL.get(name, ()) and old is not None else []
+                for value in [*values_for(column, old), *empty]:
+                    sql = f'UPDATE OR IGNORE {name} SET "{column}" = ? WHERE {where}'
+                    yield f"{sql} {[value, *found]!r:.200}", by_sql(sql, (value, *found))
+
+
+def unlike(tables):
+    """Values that the columns can't hold: of another kind, or NULL, and texts that are not UTF-8."""
+    for name, rows in tables.items():
+        row = rows[-1]
+        keys = list(row)[: TABLES[name]]
+        where = " AND ".join(f"{it} IS ?" for it in keys)
+        found = [row[it].decode() if isinstance(row[it], bytes) else row[it] for it in keys]
+        for column in row:
+            if column in keys and TABLES[name] == 1 and column not in TEXTS:
+                continue
+            others = ["NULL", "x'6131'"] if column in TEXTS else ["'a1'", "NULL", "x'31'", "1.5", "'1x'"]
+            if column in MAY_BE_NULL.get(name, ()):
+                others.remove("NULL")
+            for value in others:
+                sql = f'UPDATE {name} SET "{column}" = {value} WHERE {where}'
+                yield f"{sql} {found}", by_sql(sql, found, loose=True)
+
+
+def not_utf8(tables):
+    for name, rows in tables.items():
+        row = rows[-1]
+        keys = list(row)[: TABLES[name]]
+        where = " AND ".join(f"{it} = ?" for it in keys)
+        found = [row[it].decode() if isinstance(row[it], bytes) else row[it] for it in keys]
+        for column in TEXTS & set(row):
+            for value in "ff", "c3", "c0af", "eda080", "61ff", "6100":
+                sql = f"UPDATE {name} SET \"{column}\" = CAST(x'{value}' AS TEXT) WHERE {where}"
+                yield f"{sql} {found}", by_sql(sql, found)
+
+
+def rows_added_and_removed(tables):
+    for name, rows in tables.items():
+        columns = list(rows[0])
+        keys = columns[: TABLES[name]]
+        for row in rows:
+            found = [row[it].decode() if isinstance(row[it], bytes) else row[it] for it in keys]
+            yield f"DELETE FROM {name} {found}", by_sql(f"DELETE FROM {name} WHERE {' AND '.join(f'{it} = ?' for it in keys)}", found)
+        for key in itertools.product(*([["a0", "zz", "city"] if it in TEXTS else [0, 1, 2, 3, 4, 9, 100, 999_999, 1_000_000] for it in keys])):
+            for row in rows[0], rows[-1]:
+                whole = [*key, *(row[it].decode() if isinstance(row[it], bytes) else row[it] for it in columns[len(keys) :])]
+                sql = f"INSERT OR IGNORE INTO {name} VALUES ({', '.join('?' * len(whole))})"
+                yield f"{sql} {whole!r:.200}", by_sql(sql, whole)
+        yield f"DELETE FROM {name}", by_sql(f"DELETE FROM {name}")
+
+
+def of_rows(file, told):
+    return [verdict(read(file))]
+
+
+def of_rows_or_no_store(file, told):
+    """Where the store itself finds the row against its table it need not be read."""
+    return [FAILED]
+
+
+def tables_of(city, program):
+    file = Path(program.folder, "read.db")
+    file.write_bytes(city)
+    tables = read(file)
+    file.unlink()
+    assert verdict(tables) == SOUND and all(tables.values()), verdict(tables)
+    return tables
+
+
+def test_each_column_of_each_table(program):
+    city, _ = made(program)
+    holds(program, city, updates(tables_of(city, program)), of_rows, "updates")
+
+
+def test_columns_of_another_kind(program):
+    city, _ = made(program)
+    holds(program, city, unlike(tables_of(city, program)), of_rows_or_no_store, "unlike")
+
+
+def test_texts_that_are_not_utf_8(program):
+    city, _ = made(program)
+    holds(program, city, not_utf8(tables_of(city, program)), of_rows, "utf8")
+
+
+def test_rows_added_and_removed(program):
+    city, _ = made(program)
+    holds(program, city, rows_added_and_removed(tables_of(city, program)), of_rows, "rows")
+
+
+def test_tables_and_columns(program):
+    """A table that is missing or has other columns is another program's. Other tables, and indexes of ours, are left alone."""
+    city, _ = made(program)
+    tables = tables_of(city, program)
+    foreign, sound = [], []
+    for name, rows in tables.items():
+        columns = list(rows[0])
+        foreign += [f"DROP TABLE {name}", f"ALTER TABLE {name} RENAME TO {name}_old", f"ALTER TABLE {name} ADD COLUMN more INTEGER"]
+        foreign += [f'ALTER TABLE {name} RENAME COLUMN "{it}" TO other' for it in columns]
+        last = columns[-1]
+        foreign += [f'ALTER TABLE {name} DROP COLUMN "{last}"'] if name not in ("bikes",) else []
+        foreign += [f"CREATE TABLE pointing_{name} (a INTEGER REFERENCES {name})"]
+        sound += [f"CREATE INDEX more_{name} ON {name} ({columns[1]})"]
+    sound += ["DROP INDEX bikes_by_dock", "DROP INDEX rentals_by_rider", "CREATE TABLE notes (note TEXT)", "CREATE VIEW seen AS SELECT bike FROM bikes"]
+    sound += ["CREATE TABLE helmets (helmet INTEGER PRIMARY KEY, size TEXT UNIQUE)", "PRAGMA user_version = 7", "PRAGMA application_id = 77", "VACUUM"]
+    holds(program, city, [(it, by_sql(it)) for it in foreign], lambda file, told: [FOREIGN, FAILED], "foreign")
+    holds(program, city, [(it, by_sql(it)) for it in sound], lambda file, told: [SOUND], "sound")
+
+
+def with_bytes(edit):
+    return lambda file: file.write_bytes(edit(bytearray(file.read_bytes())))
+
+
+def set_byte(at, value):
+    def edit(data):
+        data[at] = value
+        return data
+
+    return with_bytes(edit)
+
+
+def cut(size):
+    return with_bytes(lambda data: data[:size])
+
+
+def readable(file):
+    """What SQLite reads of a file, and none where it finds it damaged."""
+    try:
+        with contextlib.closing(sqlite3.connect(f"file:{file}?immutable=1", uri=True)) as base:
+            base.text_factory = bytes
+            if base.execute("PRAGMA integrity_check").fetchall() != [(b"ok",)]:
+                return None
+        tables = read(file)
+        # A byte of a table's text may have changed the name of a column.
+        return tables if all(list(it) == list(BOUNDS[name]) for name, rows in tables.items() for it in rows[:1]) else None
+    except (sqlite3.Error, UnicodeDecodeError):
+        return None
+
+
+def as_sqlite_reads(file, told):
+    """A fault of the store may always be named. What SQLite reads as whole may be judged by its rows, and nothing else may be called sound."""
+    tables = readable(file)
+    if tables is None:
+        return [FAILED, FOREIGN]
+    return [FAILED, FOREIGN, verdict(tables)]
+
+
+def test_bytes_of_the_header(program):
+    city, _ = made(program)
+    changes = [(f"byte {at} = {value}", set_byte(at, value)) for at in range(100) for value in {0, 1, 2, 127, 255, city[at] ^ 1, city[at] ^ 128} - {city[at]}]
+    holds(program, city, changes, as_sqlite_reads, "header")
+
+
+def test_bytes_anywhere(program):
+    city, _ = made(program)
+    pick = random.Random(f"{SEED} bytes")
+    count = 3000 if TRIED == "all" else int(TRIED)
+    changes = []
+    for _ in range(count):
+        # Most of a page is at its begin and its end.
+        page, at = pick.randrange(len(city) // 4096), pick.choice([pick.randrange(16), pick.randrange(200), 4095 - pick.randrange(400), pick.randrange(4096)])
+        value = pick.choice([0, 1, 255, pick.randrange(256)])
+        changes.append((f"byte {4096 * page + at} = {value}", set_byte(4096 * page + at, value)))
+    holds(program, city, changes, as_sqlite_reads, "bytes")
+
+
+def test_pages_that_are_cut(program):
+    city, _ = made(program)
+    sizes = sorted({*range(0, len(city), 4096), *range(1, 200, 11), 100, 4095, 4097, len(city) - 1, len(city) - 4095, len(city) + 0} - {len(city)})
+
+    # A file of one byte or none is taken for one whose making was stopped: the tables are made, as where there is no file.
+    holds(program, city, [(f"cut to {it}", cut(it)) for it in sizes if it > 1], lambda file, told: [FAILED], "cut")
+    for size in 0, 1:
+        file = Path(program.folder, f"begun{size}.db")
+        file.write_bytes(city[:size])
+        assert program.run("check", file.name) == SOUND and program.run("check", file.name) == SOUND, size
+    more = [(f"{count} bytes of {value} behind", with_bytes(lambda data, count=count, value=value: data + bytes([value]) * count))
+            for count in (1, 100, 4096, 8192) for value in (0, 255)]
+    holds(program, city, more, lambda file, told: [SOUND, FAILED], "more")
+
+
+def test_pages_in_other_places(program):
+    city, _ = made(program)
+    pick = random.Random(f"{SEED} pages")
+    pages = len(city) // 4096
+
+    def swapped(one, other):
+        def edit(data):
+            a, b = slice(4096 * one, 4096 * one + 4096), slice(4096 * other, 4096 * other + 4096)
+            data[a], data[b] = data[b], data[a]
+            return data
+
+        return with_bytes(edit)
+
+    def filled(page, value):
+        def edit(data):
+            data[4096 * page : 4096 * page + 4096] = bytes([value]) * 4096
+            return data
+
+        return with_bytes(edit)
+
+    changes = [(f"pages {one} and {other} swapped", swapped(one, other)) for one, other in (sorted(pick.sample(range(pages), 2)) for _ in range(40))]
+    changes += [(f"page {page} of {value}", filled(page, value)) for page in range(pages) for value in (0, 255)]
+    holds(program, city, changes, as_sqlite_reads, "pages")
+
+
+def test_logs_that_are_changed(program):
+    """A log that is damaged ends where the damage is, so the city is that after a front of the requests; or a fault is named."""
+    _, (main, log) = made(program)
+    pick = random.Random(f"{SEED} log")
+    count = 400 if TRIED == "all" else int(TRIED) // 2
+    sizes = [0, 1, 31, 32, 33, 55, 56, 57, len(log) - 1, *(pick.randrange(len(log)) for _ in range(count // 2))]
+    used = 32 + (len(log) - 32) // 4120 * 4120
+    changes = [(f"log cut to {it}", log[:it]) for it in sizes]
+    for _ in range(count):
+        at, value = pick.choice([pick.randrange(32), pick.randrange(used), 32 + 4120 * pick.randrange(used // 4120) + pick.randrange(24)]), pick.randrange(256)
+        changes.append((f"byte {at} of the log = {value}", log[:at] + bytes([value]) + log[at + 1 :]))
+    wrong = []
+    for number, (name, bytes_of_log) in enumerate(changes):
+        file = Path(program.folder, f"log{number}.db")
+        file.write_bytes(main)
+        beside = file.with_name(file.name + "-wal")
+        beside.write_bytes(bytes_of_log)
+        ended = program.run("check", file.name)
+        if ended not in (SOUND, FAILED) or file.read_bytes() != main:
+            wrong.append(f"{name}: {ended}, {'the file stands' if file.read_bytes() == main else 'the file was changed'}")
+        again = program.run("check", file.name)
+        if again != ended:
+            wrong.append(f"{name}: first {ended} and then {again}")
+        if ended == SOUND:
+            with contextlib.closing(sqlite3.connect(file)) as base:
+                (there,) = base.execute("SELECT count(*) FROM sqlite_schema WHERE name = 'kept'").fetchone()
+                kept = base.execute("SELECT count(*) FROM kept").fetchone()[0] if there else 0
+            if verdict(read(file)) != SOUND:
+                wrong.append(f"{name}: {verdict(read(file))}, and check says sound, of {kept} requests")
+        for part in file.parent.glob(f"{file.name}*"):
+            part.unlink()
+    assert not wrong, f"seed {SEED}\n" + "\n".join(wrong)
+
+
+def test_files_of_no_city(program):
+    """Files that are no database, and databases of others."""
+    pick = random.Random(f"{SEED} files")
+    folder = Path(program.folder)
+    for number, data in enumerate([b"xx", b"SQ", b"SQLite format 3\0", b"SQLite format 3", bytes(100), bytes(4096), bytes(8192), pick.randbytes(4096),
+                                   b"SQLite format 3\0" + bytes(4080), b"SQLite format 3\0" + pick.randbytes(4080), b"text\n" * 1000]):
+        file = folder / f"no{number}.db"
+        file.write_bytes(data)
+        assert says(program, file) == FAILED, (data[:20], says(program, file))
+    for number, sql in enumerate(["CREATE TABLE meta (a)", "CREATE TABLE regions (a)", "CREATE TABLE more_names (a)", "CREATE TABLE stations_2 (a)",
+                                  "CREATE TABLE stations_3 (a)", "CREATE TABLE counts (a)"]):
+        file = folder / f"other{number}.db"
+        by_sql(sql)(file)
+        found = says(program, file)
+        assert found == FOREIGN, (sql, found)
