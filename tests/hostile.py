@@ -688,9 +688,11 @@ VOCABULARY = [
     "gbfs", "station_status", "nothing", "é", "\udcff", "x" * 300, "x" * 100_000, "a\nb", "%s", "*", "~",
 ]
 ENDS = re.compile(
-    rb"system missing|store failed|out of memory|foreign|unsound [a-z]+ .*|older [0-9]+|newer [0-9]+|read failed|write failed", re.S
+    rb"system missing|bad header|bad date|bad zone|day out of range|row [0-9]+ [a-z_]+|store failed|out of memory|foreign|unsound [a-z]+ .*"
+    rb"|older [0-9]+|newer [0-9]+|read failed|write failed", re.S
 )
-STATUS_OF = {b"system": 1, b"store": 3, b"out": 4, b"foreign": 5, b"unsound": 5, b"older": 5, b"newer": 5, b"read": 6, b"write": 6}
+OUTPUT = re.compile(rb"|ready\n|sound\n|rows [0-9]+\n|\{.*\}|number,[a-z0-9,\n.:TZ*-]*\n")
+STATUS_OF = {b"system": 1, b"bad": 1, b"day": 1, b"row": 1, b"store": 3, b"out": 4, b"foreign": 5, b"unsound": 5, b"older": 5, b"newer": 5, b"read": 6, b"write": 6}
 
 
 def some_words(pick):
@@ -698,7 +700,8 @@ def some_words(pick):
     if kind < 0.5:
         base = pick.choice([
             ["init", "city.db"], ["check", "city.db"], ["lines", "city.db"], ["feed", "city.db", "gbfs"], ["feed", "city.db", "station_status", "--at", "0"],
-            ["serve", "city.db", "--port", "0", "--count", "1"], ["check", "text.db"], ["lines", ":memory:"], ["feed", "new.db", "gbfs"], [],
+            ["serve", "city.db", "--port", "0", "--count", "1"], ["import", "city.db", "spring"], ["day", "city.db", "entries", "2023-11-14", "CET-1CEST,M3.5.0,M10.5.0/3"],
+            ["check", "text.db"], ["lines", ":memory:"], ["feed", "new.db", "gbfs"], [],
         ])
         words = list(base)
         for _ in range(pick.choice([0, 1, 1, 2, 3])):
@@ -760,7 +763,7 @@ def test_words(program):
         if status == 2:
             assert (out, said) == usage[1:] and set(os.listdir(program.folder)) == before, where
         elif status in (0, "listens"):
-            assert not said and re.fullmatch(rb"|ready\n|sound\n|\{.*\}", out), where
+            assert not said and OUTPUT.fullmatch(out), where
         else:
             assert status in (1, 3, 5, 6) and said.endswith(b"\n") and ENDS.fullmatch(said[:-1]) and STATUS_OF[said.split()[0]] == status and not out, where
         for file in set(os.listdir(program.folder)) - {"city.db", "city.db-wal", "text.db"}:

@@ -1,0 +1,490 @@
+"""What docs/OPERATING.md says of running the program: copies of a city's file while it is served and after, restoring, a standby, the exit
+statuses, a release, the unit files, and the gateway of deploy/nginx.conf.
+
+The tests of the gateway need nginx, that of the unit files systemd-analyze. Where there is none a line says that they weren't tried.
+"""
+
+import contextlib
+import http.client
+import importlib.util
+import json
+import os
+import re
+import shutil
+import socket
+import sqlite3
+import subprocess
+import threading
+import time
+from pathlib import Path
+
+HERE = Path(__file__).resolve().parent
+TOP = HERE.parent
+DEPLOY = TOP / "deploy"
+SECONDS = 30
+NOBODY = 65534
+
+
+def by_path(name):
+    """Returns the module of another file of tests."""
+    spec = importlib.util.spec_from_file_location(f"tests_{name}", HERE / f"{name}.py")
+    module = importlib.util.module_from_spec(spec)
+    spec.loader.exec_module(module)
+    return module
+
+
+serving = by_path("serving")
+
+
+def has(tool, test):
+    """Whether there is such a program on this machine; where there is none it is told that the test wasn't tried."""
+    if shutil.which(tool) or os.access(f"/usr/sbin/{tool}", os.X_OK):
+        return True
+    print(f"operating.{test}: not tried, there is no {tool}", flush=True)
+    return False
+
+
+def ran(*words, **how):
+    """Runs a program, and returns its exit status and all that it said."""
+    done = subprocess.run([str(it) for it in words], stdout=subprocess.PIPE, stderr=subprocess.STDOUT, timeout=SECONDS, **how)
+    return done.returncode, done.stdout.decode(errors="replace")
+
+
+def is_sound(program, file):
+    """Holds that `check` accepts a file."""
+    ended = program.run("check", file)
+    assert ended == (0, b"sound\n", b""), (file, ended)
+
+
+def rows(path, query):
+    """The rows that a query has of a file that nobody serves."""
+    with contextlib.closing(sqlite3.connect(path)) as base:
+        return base.execute(query).fetchall()
+
+
+# ---- copies
+
+
+def top_ups(server, numbers):
+    """Sends a top-up of 1 hundredth for each number, and returns the numbers of those that were answered."""
+    asked = ((it, serving.office(f"n{it}", "top-up\t17\t1")) for it in numbers)
+    return [it for it, request in asked if b'"balance_cents"' in server.ask(request)]
+
+
+def keys_in(path):
+    """The numbers of the top-ups that a file holds."""
+    return sorted(int(it[1:]) for (it,) in rows(path, "SELECT req_key FROM kept WHERE req_key GLOB 'n[0-9]*'"))
+
+
+class Sender(threading.Thread):
+    """Sends top-ups in turn until it is told to end. A request that has no answer is sent again, as a client does."""
+
+    def __init__(self, server):
+        super().__init__()
+        self.server, self.answered, self.over = server, 0, threading.Event()
+
+    def run(self):
+        """Counts the requests that were answered, each under the key of its number."""
+        while not self.over.is_set():
+            with contextlib.suppress(ConnectionError):
+                self.answered += len(top_ups(self.server, [self.answered + 1]))
+
+    def __enter__(self):
+        self.start()
+        return self
+
+    def __exit__(self, kind, fault, trace):
+        self.over.set()
+        self.join(SECONDS)
+        assert not self.is_alive(), "a request has no end"
+
+
+def backup(program, copy):
+    """Runs deploy/backup on city.db."""
+    return ran(DEPLOY / "backup", "city.db", copy, cwd=program.folder, env={**os.environ, "BIKESHARE": program.file})
+
+
+def test_copies_while_it_serves(program):
+    """A copy holds what was answered before it was begun, nothing that was asked after its end, and is one sound file."""
+    serving.city(program)
+    here = Path(program.folder)
+    with serving.Server(program) as server, Sender(server) as sender:
+        for turn in range(5):
+            time.sleep(0.1)
+            before = sender.answered
+            status, said = backup(program, f"copy{turn}.db")
+            after = sender.answered + 1
+            assert status == 0 and re.fullmatch(r"stopped for \d+ ms\n", said), (status, said)
+            found = keys_in(here / f"copy{turn}.db")
+            assert found == list(range(1, len(found) + 1)) and before <= len(found) <= after, (before, len(found), after)
+    assert sender.answered > 0
+    for turn in range(5):
+        is_sound(program, f"copy{turn}.db")
+    is_sound(program, "city.db")
+    assert backup(program, "copy0.db")[0] == 1, "a copy was written over"
+    assert backup(program, "after.db") == (0, ""), "it told of a stop though none served"
+    assert keys_in(here / "after.db") == keys_in(here / "city.db")
+
+
+def test_a_copy_that_is_killed(program):
+    """The program goes on where the script is killed while it stands still."""
+    serving.city(program)
+    slow = Path(program.folder, "slow")
+    slow.mkdir()
+    (slow / "cp").write_text("#!/bin/sh\nsleep 1\n")
+    (slow / "cp").chmod(0o755)
+    with serving.Server(program) as server:
+        told = {**os.environ, "BIKESHARE": program.file, "PATH": f"{slow}:{os.environ['PATH']}"}
+        copying = subprocess.Popen([DEPLOY / "backup", "city.db", "copy.db"], cwd=program.folder, env=told, stdout=subprocess.DEVNULL)
+        status, until = Path(f"/proc/{server.child.pid}/status"), time.monotonic() + SECONDS
+        while not re.search(r"^State:\s*T", status.read_text(), re.M):
+            assert time.monotonic() < until and copying.poll() is None, "the program wasn't stopped"
+            time.sleep(0.005)
+        copying.kill()
+        copying.wait()
+        assert top_ups(server, [1]) == [1]
+
+
+def test_sqlite3_beside_it(program):
+    """While the program has the file, sqlite3 neither reads nor copies it, and after it was killed both do."""
+    serving.city(program)
+    here = Path(program.folder)
+    with serving.Server(program) as server:
+        assert top_ups(server, [1, 2, 3]) == [1, 2, 3]
+        for words in (["SELECT count(*) FROM kept"], [".backup beside.db"]):
+            for ways in ([], ["-readonly"]):
+                status, said = ran("sqlite3", *ways, "city.db", *words, cwd=here)
+                assert status and "database is locked" in said, (ways, words, status, said)
+        assert top_ups(server, [4]) == [4]
+    assert ran("sqlite3", "city.db", ".backup after.db", cwd=here) == (0, "")
+    is_sound(program, "after.db")
+    is_sound(program, "city.db")
+    assert keys_in(here / "after.db") == keys_in(here / "city.db") == [1, 2, 3, 4]
+
+
+def plain_copy(here, to, log=True):
+    """Copies city.db, with its log or without, as cp does."""
+    shutil.copy(here / "city.db", here / to)
+    if log and (here / "city.db-wal").exists():
+        shutil.copy(here / "city.db-wal", here / f"{to}-wal")
+
+
+def test_plain_copies_after_the_end(program):
+    """After a list that ended the file alone is whole. After a kill file and log are, and the file alone is an older city."""
+    serving.city(program)
+    here = Path(program.folder)
+    plain_copy(here, "ended.db", log=False)
+    is_sound(program, "ended.db")
+    assert rows(here / "ended.db", "SELECT count(*) FROM kept") == [(len(serving.CITY),)]
+    with serving.Server(program) as server:
+        top_ups(server, [1, 2, 3])
+    plain_copy(here, "both.db")
+    plain_copy(here, "alone.db", log=False)
+    is_sound(program, "both.db")
+    is_sound(program, "alone.db")
+    assert keys_in(here / "both.db") == [1, 2, 3] and keys_in(here / "alone.db") == []
+    assert program.run("lines", "city.db") == (0, b"", b"")
+    plain_copy(here, "settled.db", log=False)
+    is_sound(program, "settled.db")
+    assert keys_in(here / "settled.db") == [1, 2, 3]
+
+
+def removed(here, name="city.db"):
+    """Removes a file and its log."""
+    for part in name, f"{name}-wal":
+        (here / part).unlink(missing_ok=True)
+
+
+def test_restore(program):
+    """The log goes with the file that is replaced. What was accepted since the copy is gone, and is accepted when it is sent again."""
+    serving.city(program)
+    here = Path(program.folder)
+    with serving.Server(program) as server:
+        top_ups(server, [1, 2])
+        assert backup(program, "copy.db")[0] == 0
+        top_ups(server, [3, 4])
+    removed(here)
+    shutil.copy(here / "copy.db", here / "city.db")
+    is_sound(program, "city.db")
+    with serving.Server(program) as server:
+        assert serving.body_of(server.ask(serving.get("/riders/17"))) == b'{"rider":17,"state":"open","balance_cents":2502,"rental":0}'
+        assert top_ups(server, [1, 2, 3, 4]) == [1, 2, 3, 4]
+        assert serving.body_of(server.ask(serving.get("/riders/17"))) == b'{"rider":17,"state":"open","balance_cents":2504,"rental":0}'
+
+
+def test_a_standby(program):
+    """A second program isn't let at the file. A copy elsewhere goes on from its moment, and knows the requests before it."""
+    serving.city(program)
+    with serving.Server(program) as server:
+        first = server.ask(serving.office("n1", "top-up\t17\t1"))
+        assert serving.ended(program, "city.db", "--port", "0", "--count", "1") == (3, b"", b"store failed\n")
+        Path(program.folder, "standby").mkdir()
+        assert backup(program, "standby/city.db")[0] == 0
+        lost = server.ask(serving.office("n2", "top-up\t17\t1"))
+    with serving.Server(program, 3, "standby/city.db") as server:
+        assert server.ask(serving.office("n1", "top-up\t17\t1")) == first
+        assert server.ask(serving.office("n2", "top-up\t17\t1")) == lost
+        assert b'"balance_cents":2502' in server.ask(serving.get("/riders/17"))
+
+
+# ---- documents, release, unit files
+
+
+def test_every_fault_has_its_row(program):
+    """The fault lines of docs/OPERATOR.md stand in docs/OPERATING.md, each with its status."""
+    table = re.compile(r"^\| (\d) \| (.*?) \| ", re.M)
+    wanted = set()
+    for status, faults in table.findall((TOP / "docs/OPERATOR.md").read_text().split("## 12. Faults", 1)[1]):
+        wanted |= {(status, it) for it in re.findall(r"`([^`]+)`", faults)}
+    found = set()
+    for status, faults in table.findall((TOP / "docs/OPERATING.md").read_text()):
+        found |= {(status, it) for it in re.findall(r"`([^`]+)`", faults)}
+    assert len(wanted) >= 14 and wanted <= found, sorted(wanted - found)
+
+
+def released(program, folder):
+    """Makes a release of the program, and returns its folder."""
+    made = folder / "release"
+    status, said = ran(TOP / "tools/release", made, env={**os.environ, "BIKESHARE": program.file})
+    assert status == 0, said
+    return made
+
+
+def test_release(program):
+    """The folder is whole by its checksums, and is made neither over another one nor of a program that fails."""
+    made = released(program, Path(program.folder))
+    assert ran("sha256sum", "-c", "--quiet", "SHA256SUMS", cwd=made) == (0, "")
+    listed = {it.split("  ./", 1)[1] for it in (made / "SHA256SUMS").read_text().splitlines()}
+    assert listed == {str(it.relative_to(made)) for it in made.rglob("*") if it.is_file()} - {"SHA256SUMS"}
+    assert {"bikeshare", "README.md", "RELEASE", "docs/OPERATING.md", "deploy/nginx.conf", "deploy/bikeshare@.service"} <= listed
+    assert [it for it in sorted(listed) if os.access(made / it, os.X_OK) and (made / it).stat().st_mode & 0o111] == ["bikeshare", "deploy/backup"]
+    assert ran(TOP / "tools/release", made, env={**os.environ, "BIKESHARE": program.file})[0] == 2, "a release was written over"
+    (made / "docs/tour.txt").write_text("other\n")
+    assert ran("sha256sum", "-c", "--quiet", "SHA256SUMS", cwd=made)[0] == 1
+    bad = {**os.environ, "BIKESHARE": shutil.which("false")}
+    assert ran(TOP / "tools/release", Path(program.folder, "bad"), env=bad)[0] == 1 and not Path(program.folder, "bad").exists()
+
+
+def test_release_in_an_empty_root(program):
+    """In a root that holds the release and the C library, which the system's loader names, and nothing else, the program serves the tour."""
+    root = Path(program.folder, "root")
+    made = released(program, root)
+    if os.geteuid() or ran("chroot", "/", "true")[0]:
+        print("operating.test_release_in_an_empty_root: not tried, chroot needs the rights of root", flush=True)
+        return
+    status, said = ran("ldd", made / "bikeshare")
+    libraries = re.findall(r"(/\S+) \(0x", said)
+    assert status == 0 and {re.sub(r"[-.].*", "", Path(it).name) for it in libraries} <= {"libc", "ld"}, said
+    for it in libraries:
+        (root / it[1:]).parent.mkdir(parents=True, exist_ok=True)
+        shutil.copy(it, root / it[1:])
+    words = ["chroot", str(root), "/release/bikeshare"]
+    with open(TOP / "docs/tour.txt", "rb") as tour:
+        served = subprocess.run([*words, "lines", "/city.db"], stdin=tour, capture_output=True, timeout=SECONDS)
+    assert (served.returncode, served.stderr, served.stdout[-14:]) == (0, b"", b"fare\t125\t2375\n"), served
+    assert ran(*words, "check", "/city.db") == (0, "sound\n")
+
+
+def test_unit_files(program):
+    """systemd knows each line of the unit files, and finds the programs that they name."""
+    if not has("systemd-analyze", "test_unit_files"):
+        return
+    folder = Path(program.folder)
+    for name in ("bikeshare@.service", "bikeshare-gateway.service"):
+        text = (DEPLOY / name).read_text()
+        shown = text.replace("/opt/bikeshare/bikeshare", program.file).replace("/usr/sbin/nginx", "/bin/true")
+        (folder / name).write_text(shown)
+    status, said = ran("systemd-analyze", "verify", folder / "bikeshare@.service", folder / "bikeshare-gateway.service")
+    assert status == 0 and "Unknown" not in said, said
+
+
+# ---- the gateway
+
+TOKENS = {
+    "rider:17": "17" * 16, "rider:1": "01" * 16, "dock:a1": "a1" * 16, "crew:3": "c3" * 16, "office:anna": "0f" * 16,
+}
+UNAUTHORIZED, FORBIDDEN = (401, "unauthorized"), (403, "forbidden")
+
+
+def free_port():
+    """A port of 127.0.0.1 at which nobody listens."""
+    with socket.create_server(("127.0.0.1", 0)) as found:
+        return found.getsockname()[1]
+
+
+def configuration(port, cities):
+    """The text of deploy/nginx.conf on this port, with its city's lines once for each city, a name and its program's port."""
+    text = (DEPLOY / "nginx.conf").read_text()
+    before, city, after = re.fullmatch(r"(.*?)(    # Begin of the city metro.*?    # End of the city metro\.\n)(.*)", text, re.S).groups()
+    copies = [city.replace("metro", name).replace("127.0.0.1:8080", f"127.0.0.1:{at}") for name, at in cities.items()]
+    return (before + "".join(copies) + after).replace("127.0.0.1:8081", f"127.0.0.1:{port}")
+
+
+class Gateway:
+    """nginx with deploy/nginx.conf on a free port, as a user without rights, before the servers of these cities."""
+
+    def __init__(self, program, cities, tokens=None):
+        self.port = free_port()
+        self.folder = Path(program.folder, "gateway")
+        self.folder.mkdir()
+        (self.folder / "nginx.conf").write_text(configuration(self.port, cities))
+        for name in cities:
+            lines = (f'"Bearer {token}" {caller};\n' for caller, token in (tokens or {}).get(name, TOKENS).items())
+            (self.folder / f"{name}.callers").write_text("".join(lines))
+        how = {}
+        if not os.geteuid():
+            os.chmod(program.folder, 0o755)
+            for it in (self.folder, *self.folder.iterdir()):
+                os.chown(it, NOBODY, NOBODY)
+            how = {"user": NOBODY, "group": NOBODY, "extra_groups": []}
+        nginx = shutil.which("nginx") or "/usr/sbin/nginx"
+        words = [nginx, "-p", f"{self.folder}/", "-e", "error.log", "-c", self.folder / "nginx.conf", "-g", "daemon off;"]
+        self.child = subprocess.Popen(words, stdin=subprocess.DEVNULL, stdout=subprocess.PIPE, stderr=subprocess.STDOUT, **how)
+
+    def __enter__(self):
+        until = time.monotonic() + SECONDS
+        while True:
+            with contextlib.suppress(ConnectionRefusedError), socket.create_connection(("127.0.0.1", self.port)):
+                return self
+            if self.child.poll() is not None or time.monotonic() > until:
+                self.__exit__(None, None, None)
+                raise AssertionError(f"the gateway didn't begin: {(self.folder / 'error.log').read_text()}")
+            time.sleep(0.02)
+
+    def __exit__(self, kind, fault, trace):
+        self.child.terminate()
+        self.child.communicate(timeout=SECONDS)
+
+    def ask(self, method, path, caller=None, body=None, host="metro.example", **fields):
+        """Asks over a connection of its own: the status, the answer's head and the body, which is JSON."""
+        token = {"Authorization": f"Bearer {TOKENS.get(caller, caller)}"} if caller else {}
+        named = {name.replace("_", "-"): value for name, value in fields.items()}
+        with contextlib.closing(http.client.HTTPConnection("127.0.0.1", self.port, timeout=SECONDS)) as client:
+            client.request(method, path, body, {"Host": host, **token, **named}, encode_chunked="Transfer-Encoding" in named)
+            answer = client.getresponse()
+            text = answer.read()
+        return answer.status, answer.headers, json.loads(text) if text else None
+
+    def told(self, *asked, **how):
+        """The status, and the name where it is no success."""
+        status, _, body = self.ask(*asked, **how)
+        return status, (body or {}).get("name", "")
+
+
+ROUTES = [
+    ("POST", "/riders/17/start"), ("GET", "/riders/17"), ("POST", "/docks/a1/end"), ("POST", "/docks/a1/mark-dock"), ("POST", "/docks/a1/mark-bike"),
+    ("POST", "/crews/3/load"), ("POST", "/crews/3/unload"), ("POST", "/crews/3/mark-bike"), ("POST", "/office"), ("GET", "/bikes/7"),
+    ("GET", "/orders/1"), ("GET", "/rentals/1"),
+]
+MAY = {
+    "rider:17": {"/riders/17/start", "/riders/17"},
+    "rider:1": set(),
+    "dock:a1": {"/docks/a1/end", "/docks/a1/mark-dock", "/docks/a1/mark-bike"},
+    "crew:3": {"/crews/3/load", "/crews/3/unload", "/crews/3/mark-bike", "/bikes/7", "/orders/1"},
+    "office:anna": {"/riders/17", "/office", "/bikes/7", "/orders/1", "/rentals/1"},
+}
+NEVER = [
+    ("GET", "/riders/17/"), ("GET", "//riders/17"), ("GET", "/riders/17%0a"), ("GET", "/riders/1/../17/start"), ("PUT", "/office"),
+    ("GET", "/office"), ("GET", "/riders/17/start"), ("POST", "/docks/a1/start"), ("POST", "/docks/b2/end"), ("POST", "/crews/33/load"), ("GET", "/"),
+]
+
+
+def test_gateway_callers(program):
+    """Each caller gets to its own paths alone, and what isn't let through reaches no program."""
+    if not has("nginx", "test_gateway_callers"):
+        return
+    serving.city(program)
+    with serving.Server(program) as server, Gateway(program, {"metro": server.port}) as gateway:
+        for method, path in ROUTES:
+            body = "{}" if method == "POST" else None
+            assert gateway.told(method, path, body=body) == UNAUTHORIZED, (method, path)
+            assert gateway.told(method, path, "f" * 32, body) == UNAUTHORIZED, (method, path)
+            for caller, paths in MAY.items():
+                found = gateway.told(method, path, caller, body)
+                wanted = ({(400, "bad_field")} if body else {(200, ""), (404, "not_found")}) if path in paths else {FORBIDDEN}
+                assert found in wanted, (caller, method, path, found)
+        for method, path in NEVER:
+            assert gateway.told(method, path) == UNAUTHORIZED, (method, path)
+            for caller in TOKENS:
+                assert gateway.told(method, path, caller) == FORBIDDEN, (caller, method, path)
+        assert gateway.told("GET", "/riders/17", "office:anna", host="other.example")[0] == 421
+
+
+def test_gateway_requests(program):
+    """A request is done under its caller, and comes to the program with a length, whatever fields and pieces the client sent."""
+    if not has("nginx", "test_gateway_requests"):
+        return
+    serving.city(program)
+    with serving.Server(program) as server, Gateway(program, {"metro": server.port}) as gateway:
+        start = '{"key":"s1","station":"a1","dock":1}'
+        fields = {f"X_Field_{it}": "x" * 200 for it in range(40)}
+        for how in {}, fields, {"Transfer_Encoding": "chunked"}:
+            body = [start.encode()] if "Transfer_Encoding" in how else start
+            status, _, found = gateway.ask("POST", "/riders/17/start", "rider:17", body, **how)
+            assert (status, found) == (200, {"result": "ok", "rental": 1, "bike": 7}), (how, status, found)
+        assert gateway.told("GET", "/riders/1", "rider:1") == (404, "not_found")
+        assert gateway.told("POST", "/office", "office:anna", "{" + " " * 16383) == (400, "bad_request")
+        assert gateway.told("POST", "/office", "office:anna", "{" + " " * 16384) == (413, "too_large")
+        found = [gateway.told("GET", "/riders/17", "rider:17")[0] for _ in range(10)]
+        assert 200 in found and found[-1] == 429, found
+        assert gateway.told("GET", "/bikes/7", "crew:3") == (200, "")
+    log = [json.loads(it) for it in (gateway.folder / "access.log").read_text().splitlines()]
+    assert [it["caller"] for it in log[:3]] == ["rider:17"] * 3 and TOKENS["rider:17"] not in (gateway.folder / "access.log").read_text()
+
+
+def test_gateway_feeds(program):
+    """Everybody may read feeds, also while the program is down, and the program isn't asked for one again within its ttl."""
+    if not has("nginx", "test_gateway_feeds"):
+        return
+    serving.city(program)
+    with serving.Server(program) as server, Gateway(program, {"metro": server.port}) as gateway:
+        first = gateway.ask("GET", "/gbfs/3.0/station_status.json")
+        assert first[0] == 200 and first[2]["ttl"] == 30, first
+        server.stop()
+        for path in ("/gbfs/3.0/station_status.json", "/gbfs/3.0/station_status.json?x=1"):
+            again = gateway.ask("GET", path)
+            assert again[0] == 200 and again[2] == first[2], again
+        status, head, body = gateway.ask("HEAD", "/gbfs/3.0/station_status.json")
+        assert (status, head["Content-Length"], body) == (200, first[1]["Content-Length"], None)
+        for path, caller in (("/gbfs/3.0/gbfs.json", None), ("/riders/17", "rider:17")):
+            status, head, body = gateway.ask("GET", path, caller)
+            assert (status, head["Retry-After"], body) == (503, "5", {"result": "error", "name": "unavailable"})
+        assert gateway.told("POST", "/gbfs/3.0/gbfs.json", body="{}") == FORBIDDEN
+        assert gateway.told("GET", "/gbfs/3.0/system_regions.json") == gateway.told("GET", "/gbfs/3.0/gbfs.json%0a") == UNAUTHORIZED
+
+
+def test_gateway_slow_clients(program):
+    """Clients that are slow hold up nobody: the program hears of a request when the gateway has all of it."""
+    if not has("nginx", "test_gateway_slow_clients"):
+        return
+    serving.city(program)
+    with serving.Server(program) as server, Gateway(program, {"metro": server.port}) as gateway, contextlib.ExitStack() as slow:
+        body = b'{"key":"slow","command":"top-up\\t17\\t1"}'
+        head = f"POST /office HTTP/1.1\r\nHost: metro.example\r\nAuthorization: Bearer {TOKENS['office:anna']}\r\nContent-Length: {len(body)}\r\n\r\n"
+        clients = [slow.enter_context(socket.create_connection(("127.0.0.1", gateway.port), timeout=SECONDS)) for _ in range(20)]
+        for client in clients:
+            client.sendall(head.encode() + body[:10])
+        since = time.monotonic()
+        assert gateway.told("GET", "/riders/17", "office:anna") == (200, "")
+        assert time.monotonic() - since < 5, "clients that don't go on held up another"
+        clients[0].sendall(body[10:])
+        assert b'"balance_cents":2501' in clients[0].recv(65536)
+
+
+def test_gateway_of_two_cities(program):
+    """One gateway stands before two programs; a token is good for its city alone."""
+    if not has("nginx", "test_gateway_of_two_cities"):
+        return
+    serving.city(program)
+    plain_copy(Path(program.folder), "rome.db")
+    tokens = {"metro": TOKENS, "rome": {"office:bruno": "0b" * 16}}
+    with serving.Server(program) as one, serving.Server(program, file="rome.db") as two:
+        with Gateway(program, {"metro": one.port, "rome": two.port}, tokens) as gateway:
+            body = '{"key":"r1","command":"add-rider\\t18"}'
+            assert gateway.told("POST", "/office", "0b" * 16, body, "rome.example") == (200, "")
+            assert gateway.told("GET", "/riders/18", "0b" * 16, host="rome.example") == (200, "")
+            assert gateway.told("GET", "/riders/18", "office:anna") == (404, "not_found")
+            assert gateway.told("GET", "/riders/18", "0b" * 16) == UNAUTHORIZED
+            assert gateway.told("GET", "/riders/18", "office:anna", host="rome.example") == UNAUTHORIZED
+            for host in "metro.example", "rome.example":
+                assert gateway.told("GET", "/gbfs/3.0/gbfs.json", host=host) == (200, "")
