@@ -6,7 +6,7 @@ ghost use Rattle.bike_stream.specs.Writing.{AppendsFront};
 ghost use Rattle.bike_json.specs.Tree.{text_of};
 ghost use Rattle.bike_answers.specs.Bodies.{body_of};
 ghost use Rattle.bike_answers.specs.Status.{status_of};
-ghost use Rattle.bike_answers.specs.Sent.{answer_text, Sends, SendsFront};
+ghost use Rattle.bike_answers.specs.Sent.{answer_text, Sends};
 
 use crate::answer::Answer;
 use crate::body::write_body;
@@ -15,9 +15,6 @@ use bike_json::JsonState;
 use bike_stream::{WriteFault, write_whole};
 use std::io;
 use std::io::Write;
-
-/// The length of the body that says that there is no answer now.
-const UNAVAILABLE_LENGTH: u64 = 39;
 
 /// The length of an answer's body in bytes; none where it can't be counted.
 pub fn body_length(answer: &Answer) -> Option<u64>
@@ -47,14 +44,14 @@ fn send<W: Write>(out: &mut W, answer: &Answer, size: u64) -> Result<u16, WriteF
     }
 }
 
-/// Writes an answer, and gives its status; where the length of its body can't be counted, that there is none now. Fails
-/// where a write fails; then a front of what was to be sent is written.
+/// Writes an answer, and gives its status. Fails where a write fails, and then a front of the answer is written; so too where the
+/// length of its body can't be counted, which is told as a failed write: another answer is never sent in its place.
 pub fn write_answer<W: Write>(out: &mut W, answer: &Answer) -> Result<u16, WriteFault>
     ensures ok { IfOk result (λ status. Sends (W.contents out.old) (W.contents out.new) answer.now status) }
-    ensures err { OnErr result (SendsFront (W.contents out.old) (W.contents out.new) answer.now) }
+    ensures err { OnErr result (AppendsFront (W.contents out.old) (W.contents out.new) (answer_text answer.now)) }
 {
     match body_length(answer) {
         Some(length) => send(out, answer, length),
-        None => send(out, &Answer::Unavailable, UNAVAILABLE_LENGTH),
+        None => Err(WriteFault),
     }
 }

@@ -81,6 +81,6 @@ pub memory_refused : (first last : Held MemStore) → IsEmpty (state over_memory
 memory_refused first last empty input ahead old new end r =
     subst (FailsToBegin input ahead old new) (sym r.told) (not_begun r.fault (r.want no_operator (memory_begins first empty)) input ahead old new r.read r.written)
 
-pub in_memory : (first last : Held MemStore) → IsEmpty (state over_memory first) → (input ahead old new : Option (List ℕ)) (end : Result ℕ Fault) → Serves over_memory input ahead old new first last no_operator end → ServesInMemory input ahead old new end
+pub in_memory : (first last : Held MemStore) → IsEmpty (state over_memory first) → (input ahead old new : Option (List ℕ)) (end : Result ℕ Fault) → Serves over_memory input ahead old new first last end → ServesInMemory input ahead old new end
 in_memory first last empty input ahead old new end (inl r) = inl (memory_refused first last empty input ahead old new end r)
-in_memory first last empty input ahead old new end (inr r) = inr (last, r)
+in_memory first last empty input ahead old new end (inr r) = inr (last, r.served no_operator (memory_begins first empty))

@@ -9,7 +9,7 @@ use Rattle.sqlite_trees.specs.declared.memory.MemStore.{MemStore}
 use Rattle.bike_operator.specs.Operator.{Operator, no_operator}
 use Rattle.bike_operator.specs.Runs.{Call, after}
 use Rattle.bike_operator.specs.Sound.{AreCalls}
-use Rattle.bike_schema.specs.Stands.{TreesStandFor}
+use Rattle.bike_schema.specs.Stands.{IsOf, TreesStandFor}
 use Rattle.bike_exchange.specs.Desk.{DeskValue}
 use Rattle.bike_exchange.specs.AdoptFault.{AdoptFault}
 use Rattle.bike_exchange.specs.Adoption.{handed, IsToldOf, IsWant}
@@ -45,9 +45,15 @@ module _ {S : Type 0} (g : Ghosts S) (input ahead old new : Option (List ℕ)) w
     pub conn : last ≡ desk.conn
     pub ran : RanLines g desk s input ahead old new result
 
-  -- over this connection, which becomes that one
-  abbrev pub Serves : Held S → Held S → Operator → Result ℕ Fault → Type 0
-  Serves first last s end = Refuses first last end ⊎ ServesLines last s end
+  -- The database stood for an operator, or had none of the tables, and the input was served over a desk at him.
+  pub record ServesOver (first last : Held S) (end : Result ℕ Fault) : Type 0 where
+    pub operator : Operator
+    pub was : IsOf (state g first).now operator
+    pub served : (s : Operator) → TreesStandFor s (state g first).now.trees → ServesLines last s end
+
+  -- the connection couldn't be adopted, or the input was served
+  abbrev pub Serves : Held S → Held S → Result ℕ Fault → Type 0
+  Serves first last end = Refuses first last end ⊎ ServesOver first last end
 
 module _ (input ahead old new : Option (List ℕ)) where
   -- there was no memory, or the tables couldn't be made, and nothing was read or written

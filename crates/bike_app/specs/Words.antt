@@ -42,7 +42,7 @@ module _ {S : Type 0} (g : Ghosts S) (input ahead old new : Option (List ℕ)) w
   abbrev pub Does : Task → Option ℕ → Held S → Held S → Result ℕ Fault → Type 0
   Does Init clock first last end = TellsTakenUp first last (codes "ready\n") end
   Does Check clock first last end = TellsTakenUp first last (codes "sound\n") end
-  Does Lines clock first last end = (s : Operator) → TreesStandFor s (state g first).now.trees → Serves g input ahead old new first last s end
+  Does Lines clock first last end = Serves g input ahead old new first last end
   Does (Feed f at) clock first last end = TellsPublished g input ahead old new first last f (moment_of at clock) end
   Does (Day table date zone) clock first last end = TellsReported table date.now zone.now g input ahead old new first last end
   Does (Import name at) clock first last end = TellsImported g input ahead old new name.now first last (moment_of at clock) end

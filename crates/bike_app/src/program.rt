@@ -25,10 +25,9 @@ pub fn serve<S: Alter, R: Read, W: Write>(
 ) -> (Connection<S>, Result<u64, Fault>)
     requires { conn.in_transaction ≡ false }
     ensures clean { doubt (state S.Store conn).is_clean ≤ doubt (state S.Store result.0).is_clean }
-    ensures served { HasCleanDisk (state S.Store result.0) → (s : Operator)
-        → TreesStandFor s (state S.Store conn).now.trees
+    ensures served { HasCleanDisk (state S.Store result.0)
         → Serves S.Store (R.remaining reader.old) (R.remaining reader.new)
-        (W.contents writer.old) (W.contents writer.new) conn result.0 s result.1 }
+        (W.contents writer.old) (W.contents writer.new) conn result.0 result.1 }
     ensures kept { HasCleanDisk (state S.Store result.0) → (s : Operator)
         → TreesStandFor s (state S.Store conn).now.trees → IsTrue (state S.Store conn).is_open
         → AllLeft (state S.Store result.0) (StandsAfterSome s) }

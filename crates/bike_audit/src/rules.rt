@@ -36,10 +36,10 @@ pub(crate) fn judge_table<S: Alter>(
         TableName::Docks => judge_docks(conn),
         TableName::Bikes => judge_bikes(conn),
         TableName::Trucks => judge_trucks(conn),
-        TableName::Riders => judge_riders(conn),
-        TableName::Rentals => judge_rentals(conn),
+        TableName::Riders => judge_riders(alloc, conn),
+        TableName::Rentals => judge_rentals(alloc, conn),
         TableName::Orders => judge_orders(conn),
-        TableName::Entries => judge_entries(conn),
+        TableName::Entries => judge_entries(alloc, conn),
         TableName::Kept => judge_kept(alloc, conn),
         TableName::Counts => judge_counts(alloc, conn),
     }

@@ -16,7 +16,7 @@ use bike_fleet::{find_bike, find_order};
 use bike_operator::{Bike, MOST_TYPES, Order, Place};
 use bike_queries::{
     Counts, RentalInfo, RiderInfo, find_balance, find_place, find_rental_info, find_rider_info,
-    find_station_counts, find_system,
+    find_station_counts, find_system, find_type_ids,
 };
 use bike_schema::StatementFault;
 use sqlite::Alter;
@@ -124,6 +124,18 @@ impl<S: Alter> Desk<S> {
             return Err(DeskFault::Stopped);
         }
         let read = find_system(alloc, &mut self.conn);
+        self.answer(read)
+    }
+
+    /// The identifiers of all vehicle types, in byte order.
+    pub fn type_ids(&mut self, alloc: Global) -> Result<Vec<Ident>, DeskFault>
+        ensures query { Queries S.Store self.old self.new result (λ s x. x.items ≡ map.keys s.types) }
+        ensures takes_none { result ≢ Err DeskFault.NoMemory }
+    {
+        if self.stopped() {
+            return Err(DeskFault::Stopped);
+        }
+        let read = find_type_ids(alloc, &mut self.conn);
         self.answer(read)
     }
 

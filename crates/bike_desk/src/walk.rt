@@ -2,13 +2,18 @@
 
 ghost use Rattle.std.specs.Prelude.{◌≡◌, ◌≢◌, Err, option_map};
 ghost use Rattle.bike_queries.specs.After.{IsNext, IsNextStation, first_after};
+ghost use Rattle.bike_queries.specs.StationCounts.{IsNextStatus};
 ghost use Rattle.bike_desk.specs.Queries.{Queries};
 
 use crate::desk::Desk;
 use crate::fault::DeskFault;
 use bike_catalogue::{Plan, VehicleType};
 use bike_fields::Ident;
-use bike_queries::{StationInfo, find_plan_after, find_station_after, find_type_after};
+use bike_operator::MOST_TYPES;
+use bike_queries::{
+    StationInfo, StationStatus, find_plan_after, find_station_after, find_status_after,
+    find_type_after,
+};
 use sqlite::Alter;
 use std::alloc::Global;
 
@@ -47,6 +52,28 @@ impl<S: Alter> Desk<S> {
             return Err(DeskFault::Stopped);
         }
         let read = find_station_after(alloc, &mut self.conn, after);
+        self.answer(read)
+    }
+
+    /// The next station with its counts, as GBFS's `station_status` shows them, by the stored numbers. The counts are of the types
+    /// with these identifiers, which are to be those of all types, as `type_ids` answers them. Room for their list is taken
+    /// before the database is reached; where that is refused, `NoMemory` comes.
+    pub fn status_after(
+        &mut self,
+        alloc: Global,
+        after: Option<&Ident>,
+        type_ids: &[Ident],
+    ) -> Result<Option<StationStatus>, DeskFault>
+        ensures query { Queries S.Store self.old self.new result
+            (λ s x. IsNextStatus s type_ids.now (first_after (option_map (λ id. id.now) after.entry) s.stations) x) }
+    {
+        if self.stopped() {
+            return Err(DeskFault::Stopped);
+        }
+        let Ok(room) = Vec::with_capacity(alloc, MOST_TYPES as usize) else {
+            return Err(DeskFault::NoMemory);
+        };
+        let read = find_status_after(alloc, &mut self.conn, after, type_ids, room);
         self.answer(read)
     }
 

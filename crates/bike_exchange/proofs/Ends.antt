@@ -4,9 +4,7 @@ use Rattle.sqlite_trees.specs.declared.store.Store.{Ghosts}
 use Rattle.bike_operator.specs.Operator.{Operator}
 use Rattle.bike_http.specs.declared.asked.Asked.{Asked}
 use Rattle.bike_http.specs.Received.{Received}
-use Rattle.bike_answers.specs.declared.answer.Answer.{Answer}
 use Rattle.bike_answers.specs.declared.answer.Answer.TheVariants as answer
-use Rattle.bike_answers.specs.Sent.{IsSent}
 use Rattle.bike_feeds.specs.Desk.{DeskValue, IsAt}
 use Rattle.bike_exchange.specs.Exchange.{answered, response_of, operator_after, response_status, Answers}
 use Rattle.bike_exchange.specs.Telling.{SendsAnswer, Responds, Serves, Rests, Refuses, IsDone, ended, refusal_of}
@@ -15,10 +13,6 @@ use Rattle.bike_exchange.specs.declared.respond.SendFault.TheVariants as fault
 use Rattle.bike_exchange.specs.declared.exchange.Served.{Served}
 use Rattle.bike_exchange.specs.declared.exchange.Served.TheVariants.{Empty, Status}
 use Rattle.bike_exchange.specs.declared.exchange.ServeFault.{ServeFault}
-
-not_there : (a b : Answer) → IsSent a b → a ≡ answer.Unavailable → b ≡ answer.Unavailable
-not_there a b (inl same) is = same ∙ is
-not_there a b (inr none) is = none
 
 -- the status that is told, or 0
 abbrev told_status : Result Served ServeFault → ℕ
@@ -50,14 +44,12 @@ module _ {S : Type 0} (g : Ghosts S) (d : DeskValue S) (s : Operator) (t : ℕ) 
 
   -- memory was refused while it was read
   pub refuses : (r : Result ℕ SendFault) → IsAt g d s → SendsAnswer before after answer.Unavailable r → Serves g d s t input before after (ended r)
-  refuses (Ok status) at h = (answered h.0, inl (ap (λ (x : Answer). answered x) (not_there answer.Unavailable h.0 h.1 refl), at), h.2, h.3)
-  refuses (Err fault.Write) at h = (answered h.0, inl (ap (λ (x : Answer). answered x) (not_there answer.Unavailable h.0 h.1 refl), at), h.2)
+  refuses (Ok status) at h = (answered answer.Unavailable, inl (refl, at), h.0, h.1)
+  refuses (Err fault.Write) at h = (answered answer.Unavailable, inl (refl, at), h)
   refuses (Err fault.Cut) at h = absurd h
 
   pub never_done : (r : Result ℕ SendFault) → SendsAnswer before after answer.Unavailable r → ended r ≡ Ok (Status 200) → IsDone g d s t input
-  never_done (Ok status) h is = absurd (
-      let wrong : 200 ≡ 503 = sym (ap told_status is) ∙ h.2 ∙ ap (λ (x : Answer). response_status (answered x)) (not_there answer.Unavailable h.0 h.1 refl) in omega (arith, wrong)
-      )
+  never_done (Ok status) h is = absurd (let wrong : 200 ≡ 503 = sym (ap told_status is) ∙ h.0 in omega (arith, wrong))
   never_done (Err fault.Write) h is = absurd (let wrong : 0 ≡ 200 = ap told_status is in omega (arith, wrong))
   never_done (Err fault.Cut) h is = absurd (let wrong : 0 ≡ 200 = ap told_status is in omega (arith, wrong))
 

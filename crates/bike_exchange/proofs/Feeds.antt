@@ -19,7 +19,7 @@ use Rattle.bike_feeds.specs.declared.fault.FeedFault.TheVariants.{SystemMissing,
 use Rattle.bike_answers.specs.Head.{head_text}
 use Rattle.bike_answers.proofs.Sending.{front_then}
 use Rattle.bike_exchange.specs.Exchange.{published, feed_response, feed_head}
-use Rattle.bike_exchange.specs.Telling.{IsEither, Responds}
+use Rattle.bike_exchange.specs.Telling.{IsUndone, Responds}
 use Rattle.bike_exchange.specs.declared.respond.SendFault.TheVariants as fault
 use Rattle.bike_exchange.proofs.Told.{at_first}
 
@@ -48,14 +48,14 @@ unfolding or_other
 same_system o x y e f = ap (or_other x) (sym f ∙ e)
 
 -- the desk after a pass that failed
-pub feed_either : {S A : Type 0} (g : Ghosts S) (old new : DeskValue S) (s next : Operator) (e : FeedFault) → HasCleanDisk (shown g new) → IsAt g old s
-    → LeavesDesk g old new {A = A} (Err e) → IsEither g new s next
-feed_either g old new s next SystemMissing clean at h = at_first g new s next (h.missing clean s at refl).1
-feed_either g old new s next Write clean at h = at_first g new s next (h.write clean s at refl)
-feed_either g old new s next (Desk NoMemory) clean at h = at_first g new s next (h.no_memory clean s at refl)
-feed_either g old new s next (Desk StoreFailed) clean at h =
+pub feed_undone : {S A : Type 0} (g : Ghosts S) (old new : DeskValue S) (s next : Operator) (e : FeedFault) → HasCleanDisk (shown g new) → IsAt g old s
+    → LeavesDesk g old new {A = A} (Err e) → IsUndone g new s next
+feed_undone g old new s next SystemMissing clean at h = at_first g new s next (h.missing clean s at refl).1
+feed_undone g old new s next Write clean at h = at_first g new s next (h.write clean s at refl)
+feed_undone g old new s next (Desk NoMemory) clean at h = at_first g new s next (h.no_memory clean s at refl)
+feed_undone g old new s next (Desk StoreFailed) clean at h =
     record { goes_on = λ going. absurd (both_ways new.is_stopped going (h.stops refl)); left = λ db k. inl (at.keeps.left db (h.left clean s at db k)) }
-feed_either g old new s next (Desk Stopped) clean at h = absurd (both_ways old.is_stopped at.goes_on (h.stopped refl))
+feed_undone g old new s next (Desk Stopped) clean at h = absurd (both_ways old.is_stopped at.goes_on (h.stopped refl))
 
 -- a feed of which the length was told
 module _ {S : Type 0} (g : Ghosts S) (d : DeskValue S) (s : Operator) (feed : Feed) (t n : ℕ) (before : Option (List ℕ)) (counted : IsLength s feed t n) where
@@ -90,7 +90,7 @@ module _ {S : Type 0} (g : Ghosts S) (d : DeskValue S) (s : Operator) (feed : Fe
     pub front_feed : IsBegun s feed t mid after → IsAt g d s → Responds g d s (feed_response s t feed s.system) s before after (Err fault.Write)
     front_feed h at = (published text, inl (sym is_text, at), front_then before mid after (feed_head text) text begun (fronted h))
 
-    pub cut_feed : IsBegun s feed t mid after → IsEither g d s s → Responds g d s (feed_response s t feed s.system) s before after (Err fault.Cut)
+    pub cut_feed : IsBegun s feed t mid after → IsUndone g d s s → Responds g d s (feed_response s t feed s.system) s before after (Err fault.Cut)
     cut_feed h either =
         let front = fronted h in
         (text, is_text, (front.0, front.1, Appends-trans before mid after (feed_head text) (take front.0 text) begun front.2), either)

@@ -13,7 +13,7 @@ use Rattle.bike_answers.specs.declared.answer.Answer.TheVariants as answer
 use Rattle.bike_answers.specs.Head.{head_text}
 use Rattle.bike_answers.specs.Sent.{answer_text}
 use Rattle.bike_answers.specs.Status.{status_of}
-use Rattle.bike_exchange.specs.Shown.{feed_of, not_found, shown_of}
+use Rattle.bike_exchange.specs.Shown.{not_found, shown_of}
 
 -- what is sent: an answer, or a feed of that text
 pub data Response : Type 0 where
@@ -30,14 +30,14 @@ abbrev pub response_of : Operator → ℕ → Asked → Response
 response_of s t (Reject rejection) = answered (answer.Rejected rejection)
 response_of s t (Apply q) = answered (answer.Replied (step s t q).0)
 response_of s t (Show row) = answered (shown_of s row)
-response_of s t (Publish named) = feed_response s t (feed_of named) s.system
+response_of s t (Publish feed) = feed_response s t feed s.system
 
 -- .. and the operator after it
 abbrev pub operator_after : Operator → ℕ → Asked → Operator
 operator_after s t (Reject rejection) = s
 operator_after s t (Apply q) = (step s t q).1
 operator_after s t (Show row) = s
-operator_after s t (Publish named) = s
+operator_after s t (Publish feed) = s
 
 -- the head of a feed of that text
 abbrev pub feed_head : List ℕ → List ℕ

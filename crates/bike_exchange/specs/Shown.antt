@@ -1,4 +1,4 @@
--- What an operator shows: the feed and the row that are asked for.
+-- What an operator shows: the row that is asked for.
 use Rattle.std.specs.Prelude.{ℕ, ℤ, pos, Option, Some, None}
 use Rattle.std.specs.FinMap as map
 use Rattle.bike_ledger.specs.Ledger.{balance_of, refunded_of}
@@ -6,24 +6,11 @@ use Rattle.bike_operator.specs.declared.records.Closing.{Closing}
 use Rattle.bike_operator.specs.declared.records.Rental.{Rental}
 use Rattle.bike_operator.specs.Operator.{Operator, Rider, numbered}
 use Rattle.bike_queries.specs.Infos.{open_number}
-use Rattle.bike_feed_texts.specs.declared.feed.Feed.{Feed}
-use Rattle.bike_feed_texts.specs.declared.feed.Feed.TheVariants as feed
-use Rattle.bike_heads.specs.declared.feed.Feed.{Feed as Named}
-use Rattle.bike_heads.specs.declared.feed.Feed.TheVariants.{Gbfs, SystemInformation, VehicleTypes, StationInformation, StationStatus, SystemPricingPlans}
 use Rattle.bike_heads.specs.declared.aim.Rejection.TheVariants.{NotFound}
 use Rattle.bike_heads.specs.declared.resource.Shown.{Shown}
 use Rattle.bike_heads.specs.declared.resource.Shown.TheVariants as shown
 use Rattle.bike_answers.specs.declared.answer.Answer.{Answer}
 use Rattle.bike_answers.specs.declared.answer.Answer.TheVariants as answer
-
--- the feed of the same name
-abbrev pub feed_of : Named → Feed
-feed_of Gbfs = feed.Gbfs
-feed_of SystemInformation = feed.SystemInformation
-feed_of VehicleTypes = feed.VehicleTypes
-feed_of StationInformation = feed.StationInformation
-feed_of StationStatus = feed.StationStatus
-feed_of SystemPricingPlans = feed.SystemPricingPlans
 
 abbrev pub not_found : Answer
 not_found = answer.Rejected NotFound

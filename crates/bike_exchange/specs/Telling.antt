@@ -11,7 +11,7 @@ use Rattle.bike_http.specs.declared.asked.Asked.TheVariants.{Reject, Apply, Show
 use Rattle.bike_http.specs.Received.{Received}
 use Rattle.bike_answers.specs.declared.answer.Answer.{Answer}
 use Rattle.bike_answers.specs.declared.answer.Answer.TheVariants as answer
-use Rattle.bike_answers.specs.Sent.{Sends, SendsFront}
+use Rattle.bike_answers.specs.Sent.{answer_text, Sends}
 use Rattle.bike_exchange.specs.Exchange.{Response, answered, published, bytes_of, feed_head, response_status, Answers}
 use Rattle.bike_exchange.specs.declared.respond.SendFault.{SendFault}
 use Rattle.bike_exchange.specs.declared.respond.SendFault.TheVariants as fault
@@ -22,9 +22,9 @@ use Rattle.bike_exchange.specs.declared.exchange.ServeFault.TheVariants.{Read, W
 
 -- ---- the desk
 
--- It may be at either operator: it goes on at one of them, or it is stopped and a crash leaves one of them.
-pub record IsEither {S : Type 0} (g : Ghosts S) (d : DeskValue S) (s next : Operator) : Type 0 where
-  pub goes_on : d.is_stopped ≡ false → IsAt g d s ⊎ IsAt g d next
+-- A request failed: the desk goes on at the operator before it, or it is stopped, and a crash leaves him or the one after it.
+pub record IsUndone {S : Type 0} (g : Ghosts S) (d : DeskValue S) (s next : Operator) : Type 0 where
+  pub goes_on : d.is_stopped ≡ false → IsAt g d s
   pub left : AllLeft (shown g d) (TreesStandForEither s next)
 
 abbrev pub unavailable : Response
@@ -32,7 +32,7 @@ unavailable = answered answer.Unavailable
 
 -- WHAT IS TOLD: the response, and the desk is at the operator after the request; or that there is no answer now
 abbrev pub Tells : {S : Type 0} → Ghosts S → DeskValue S → Operator → Response → Operator → Response → Type 0
-Tells g d s response next sent = ((sent ≡ response) × IsAt g d next) ⊎ ((sent ≡ unavailable) × IsEither g d s next)
+Tells g d s response next sent = ((sent ≡ response) × IsAt g d next) ⊎ ((sent ≡ unavailable) × IsUndone g d s next)
 
 -- the same of an input; where memory was refused while it was read, the desk is asked nothing
 abbrev pub TellsFor : {S : Type 0} → Ghosts S → DeskValue S → Operator → ℕ → Option (List ℕ) → Response → Type 0
@@ -53,7 +53,7 @@ IsCut before after text = (k : ℕ) × (k < length text) × Appends before after
 -- how the sending of an answer ends
 abbrev pub SendsAnswer : Option (List ℕ) → Option (List ℕ) → Answer → Result ℕ SendFault → Type 0
 SendsAnswer before after a (Ok status) = Sends before after a status
-SendsAnswer before after a (Err fault.Write) = SendsFront before after a
+SendsAnswer before after a (Err fault.Write) = AppendsFront before after (answer_text a)
 SendsAnswer before after a (Err fault.Cut) = ⊥
 
 -- how the sending of a response ends
@@ -62,7 +62,7 @@ Responds g d s response next before after (Ok status) =
     (sent : Response) × Tells g d s response next sent × (status ≡ response_status sent) × Appends before after (bytes_of sent)
 Responds g d s response next before after (Err fault.Write) =
     (sent : Response) × Tells g d s response next sent × AppendsFront before after (bytes_of sent)
-Responds g d s response next before after (Err fault.Cut) = (text : List ℕ) × (response ≡ published text) × IsCut before after text × IsEither g d s s
+Responds g d s response next before after (Err fault.Cut) = (text : List ℕ) × (response ≡ published text) × IsCut before after text × IsUndone g d s s
 
 -- ---- the exchange
 
@@ -80,7 +80,7 @@ Serves g d s t input before after (Ok (Status status)) =
 Serves g d s t input before after (Err Read) = Unit {0}
 Serves g d s t input before after (Err Write) = (sent : Response) × TellsFor g d s t input sent × AppendsFront before after (bytes_of sent)
 Serves g d s t input before after (Err Cut) =
-    (text : List ℕ) × (next : Operator) × Answers input s t (published text) next × IsCut before after text × IsEither g d s s
+    (text : List ℕ) × (next : Operator) × Answers input s t (published text) next × IsCut before after text × IsUndone g d s s
 
 -- nothing was asked of the desk, and nothing was written, where the input is empty or a read failed
 abbrev pub Rests : {S : Type 0} → DeskValue S → DeskValue S → Option (List ℕ) → Option (List ℕ) → Result Served ServeFault → Type 0
@@ -108,5 +108,5 @@ abbrev pub Refuses : Option (List ℕ) → Option (List ℕ) → Option (List �
 Refuses input before after (Ok Empty) = IfSome input (λ bytes. bytes ≡ [])
 Refuses input before after (Ok (Status status)) = (a : Answer) × RefusesWith input a × Sends before after a status
 Refuses input before after (Err Read) = Unit {0}
-Refuses input before after (Err Write) = (a : Answer) × RefusesWith input a × SendsFront before after a
+Refuses input before after (Err Write) = (a : Answer) × RefusesWith input a × AppendsFront before after (answer_text a)
 Refuses input before after (Err Cut) = ⊥

@@ -6,7 +6,6 @@
 #![tactic(auto)]
 
 mod exchange;
-mod feed;
 mod laws;
 mod respond;
 mod rows;

@@ -12,7 +12,6 @@ ghost use Rattle.bike_exchange.specs.Shown.{shown_of};
 ghost use Rattle.bike_exchange.specs.Exchange.{answered, feed_response, response_of, operator_after};
 ghost use Rattle.bike_exchange.specs.Telling.{Tells, SendsAnswer, Responds, refusal_of};
 
-use crate::feed::feed_of;
 use crate::rows::{bike_answer, order_answer, rental_answer, rider_answer};
 use bike_answers::{Answer, head_text, write_answer};
 use bike_commands::Request;
@@ -35,7 +34,7 @@ pub(crate) enum SendFault {
     Cut,
 }
 
-/// Sends an answer, or that there is none now.
+/// Sends an answer.
 pub(crate) fn send<W: Write>(writer: &mut W, answer: &Answer) -> Result<u16, SendFault>
     ensures { SendsAnswer (W.contents writer.old) (W.contents writer.new) answer.now result }
 {
@@ -155,6 +154,6 @@ pub(crate) fn respond<S: Alter, W: Write>(
             let answer = show(alloc, desk, row);
             send(writer, &answer)
         }
-        Asked::Publish(feed) => publish(alloc, desk, feed_of(feed), moment, writer),
+        Asked::Publish(feed) => publish(alloc, desk, feed, moment, writer),
     }
 }

@@ -65,32 +65,28 @@ module _ {S X : Type 0} (g : Ghosts S) (id : X → List ℕ) (tree : Operator �
     pub round : to.round ≡ from.round
     pub behind : HasCleanDisk (shown g new) → (s : Operator) → IsAt g old s → IsBehind s x from to before after
 
-  -- the first answer
-  pub walk_begins : {A : Type 0} {says : Operator → A → Type 0} {d e : DeskValue S} {p : Place} {a : Option (List ℕ)} (answer : A) (next : Option X)
-      → d.is_stopped ≡ false → p.top ≡ EmptyArray → Queries g d e (Ok answer) says → ((s : Operator) → says s answer → IsNext id (first_after None (held s)) next)
-      → Walks next d e p p a a
-  walk_begins {p = p} {a = a} answer next going top q means = record {
-    stays = stays_asked g answer going q;
+  -- the first answer, behind other questions
+  pub walk_begins_behind : {A : Type 0} {says : Operator → A → Type 0} {d e f : DeskValue S} {p : Place} {a : Option (List ℕ)}
+      (answer : A) (next : Option X) → StaysAt g d e → p.top ≡ EmptyArray → Queries g e f (Ok answer) says
+      → ((s : Operator) → says s answer → IsNext id (first_after None (held s)) next) → Walks next d f p p a a
+  walk_begins_behind {e = e} {f = f} {p = p} {a = a} answer next stays top q means = record {
+    stays = stays_then g stays (stays_asked g answer stays.goes_on q);
     inside = rw top refl;
     round = refl;
     ahead = λ clean s at. record {
       front = [];
       rest = entries (held s);
       split = refl;
-      first = means s (q.ok clean s at).0;
+      first = means s (q.ok clean s (stays.same (earlier g e f q.clean clean) s at)).0;
       wrote = rows_start (tree s) p a (values (held s)) top;
     };
   }
 
-  -- a question besides
-  pub walk_asked : {A : Type 0} {says : Operator → A → Type 0} {d e f : DeskValue S} {p q : Place} {a b : Option (List ℕ)} {next : Option X} (answer : A)
-      → Walks next d e p q a b → Queries g e f (Ok answer) says → Walks next d f p q a b
-  walk_asked {e = e} {f = f} answer w query = record {
-    stays = stays_then g w.stays (stays_asked g answer w.stays.goes_on query);
-    inside = w.inside;
-    round = w.round;
-    ahead = λ clean s at. w.ahead (earlier g e f query.clean clean) s at;
-  }
+  -- the first answer of all
+  pub walk_begins : {A : Type 0} {says : Operator → A → Type 0} {d e : DeskValue S} {p : Place} {a : Option (List ℕ)} (answer : A) (next : Option X)
+      → d.is_stopped ≡ false → p.top ≡ EmptyArray → Queries g d e (Ok answer) says → ((s : Operator) → says s answer → IsNext id (first_after None (held s)) next)
+      → Walks next d e p p a a
+  walk_begins answer next going top q means = walk_begins_behind answer next (stays_still g _ going) top q means
 
   -- the element is written
   module _ {p q r : Place} {a b c : Option (List ℕ)} (x : X) (s : Operator) (w : WroteValue q r b c (tree s x)) (at : IsIn r (after_value q.top) q.round) where
@@ -173,33 +169,28 @@ module _ {S X : Type 0} (g : Ghosts S) (id : X → List ℕ) (tree : Operator �
     round = w.round;
   }
 
-  -- a fault of the desk at the first question
-  pub first_failed : {A B : Type 0} {says : Operator → A → Type 0} {d e : DeskValue S} {p : Place} {a : Option (List ℕ)} (fault : DeskFault)
-      → d.is_stopped ≡ false → p.top ≡ EmptyArray → Queries g d e (Err fault) says → WritesItems g d e p p a a {A = B} (Err (Desk fault)) tree rows
-  first_failed {p = p} {a = a} fault going top query = record {
-    desk = leaves_failed g fault (stays_still g _ going) query;
+  -- a fault of the desk at the first question, or behind others
+  pub first_failed_behind : {A B : Type 0} {says : Operator → A → Type 0} {d e f : DeskValue S} {p : Place} {a : Option (List ℕ)}
+      (fault : DeskFault) → StaysAt g d e → p.top ≡ EmptyArray → Queries g e f (Err fault) says → WritesItems g d f p p a a {A = B} (Err (Desk fault)) tree rows
+  first_failed_behind {p = p} {a = a} fault stays top query = record {
+    desk = leaves_failed g fault stays query;
     all = λ clean s at. tt;
     front = λ clean s at. rows_front (tree s) (rows_start (tree s) p a (rows s) top);
     inside = rw top refl;
     round = refl;
   }
 
-  -- behind an element, and at a question besides
+  pub first_failed : {A B : Type 0} {says : Operator → A → Type 0} {d e : DeskValue S} {p : Place} {a : Option (List ℕ)} (fault : DeskFault)
+      → d.is_stopped ≡ false → p.top ≡ EmptyArray → Queries g d e (Err fault) says → WritesItems g d e p p a a {A = B} (Err (Desk fault)) tree rows
+  first_failed fault going top query = first_failed_behind fault (stays_still g _ going) top query
+
+  -- behind an element
   module _ {A B : Type 0} {says : Operator → A → Type 0} {d e f : DeskValue S} {p q : Place} {a b : Option (List ℕ)} (fault : DeskFault) where
     pub next_failed : {x : X} → Passes x d e p q a b → Queries g e f (Err fault) says → WritesItems g d f p q a b {A = B} (Err (Desk fault)) tree rows
     next_failed w query = record {
       desk = leaves_failed g fault w.stays query;
       all = λ clean s at. tt;
       front = λ clean s at. rows_front (tree s) (w.behind (earlier g e f query.clean clean) s at).wrote;
-      inside = w.inside;
-      round = w.round;
-    }
-
-    pub walk_failed : {next : Option X} → Walks next d e p q a b → Queries g e f (Err fault) says → WritesItems g d f p q a b {A = B} (Err (Desk fault)) tree rows
-    walk_failed w query = record {
-      desk = leaves_failed g fault w.stays query;
-      all = λ clean s at. tt;
-      front = λ clean s at. rows_front (tree s) (w.ahead (earlier g e f query.clean clean) s at).wrote;
       inside = w.inside;
       round = w.round;
     }

@@ -14,7 +14,7 @@ use bike_catalogue::System;
 use bike_desk::Desk;
 use bike_feed_texts::{Counts, StationReport, write_plan, write_station, write_status, write_type};
 use bike_json::{JsonState, Level};
-use bike_queries::{Counts as StoredCounts, StationInfo};
+use bike_queries::StationStatus;
 use bike_stream::WriteFault;
 use sqlite::Alter;
 use std::alloc::Global;
@@ -70,20 +70,20 @@ pub(crate) fn write_stations<S: Alter, W: Write>(
     Err(FeedFault::Write)
 }
 
-/// Writes a station's status from its report and its counts.
+/// Writes a station's status.
 fn write_report<W: Write>(
     json: &mut JsonState,
     out: &mut W,
-    info: &StationInfo,
-    counts: &StoredCounts,
+    status: &StationStatus,
 ) -> Result<(), WriteFault>
     requires value { IsTrue (takes_value json.old.top) }
     requires room { length json.old.round < 14 }
     ensures wrote { WroteValue json.old json.new (W.contents out.old) (W.contents out.new)
-        (status_tree (report_of (station_of info.now)) (shown_counts counts.now)) }
+        (status_tree (report_of (station_of status.now.info)) (shown_counts status.now.counts)) }
     ensures place { IsIn json.new (after_value json.old.top) json.old.round }
     ensures outcome { is_ok result ≡ not json.new.failed }
 {
+    let StationStatus { info, counts } = status;
     let report = StationReport {
         station_id: info.station.station_id(),
         is_installed: info.is_installed,
@@ -101,7 +101,7 @@ fn write_report<W: Write>(
     write_status(json, out, &report, &shown)
 }
 
-/// Writes the stations' statuses as items, the counts of each read behind it.
+/// Writes the stations' statuses as items. The types' identifiers are read once, before the first station.
 pub(crate) fn write_statuses<S: Alter, W: Write>(
     alloc: Global,
     desk: &mut Desk<S>,
@@ -113,17 +113,15 @@ pub(crate) fn write_statuses<S: Alter, W: Write>(
     ensures { WritesItems S.Store desk.old desk.new json.old json.new (W.contents out.old) (W.contents out.new) result
         (λ s station. status_tree (report_of station) (counts_of s station)) (λ s. values s.stations) }
 {
-    let mut next = desk.station_after(alloc, None)?;
+    let type_ids = desk.type_ids(alloc)?;
+    let mut next = desk.status_after(alloc, None, type_ids.as_slice())?;
     'stations: for _ in 0..usize::MAX {
-        let Some(info) = next else {
+        let Some(status) = next else {
             return Ok(());
         };
-        let Some(counts) = desk.station_counts(alloc, info.station.station_id())? else {
-            // A station that was read has its counts.
-            return Err(FeedFault::Write);
-        };
-        write_report(json, out, &info, &counts)?;
-        next = desk.station_after(alloc, Some(info.station.station_id()))?;
+        write_report(json, out, &status)?;
+        let station = status.info.station.station_id();
+        next = desk.status_after(alloc, Some(station), type_ids.as_slice())?;
     }
     // No list is that long.
     Err(FeedFault::Write)

@@ -1,7 +1,8 @@
 //! The feeds of a desk: each is read from the stored tables, one element of a list at a time, and written as it is read.
 //!
 //! A feed's text is that of the operator for whom the desk stands, for the moment that is asked for, byte for byte. No more of a
-//! city is held than one element of a list: a station with its counts, a plan with its segments.
+//! city is held than one element of a list (a station with its counts, a plan with its segments) and the identifiers of the
+//! vehicle types.
 #![tactic(auto)]
 
 mod fault;

@@ -9,7 +9,7 @@ use Rattle.matchit.specs.Seek.{first}
 use Rattle.bike_fixed.specs.Whole.{number_of}
 use Rattle.bike_fields.specs.Bytes.{ident_of}
 use Rattle.bike_texts.specs.Reading.{◌>>=◌, part_at}
-use Rattle.bike_heads.specs.declared.feed.Feed.TheVariants.{Gbfs, SystemInformation, VehicleTypes, StationInformation, StationStatus, SystemPricingPlans}
+use Rattle.bike_feed_texts.specs.declared.feed.Feed.TheVariants.{Gbfs, SystemInformation, VehicleTypes, StationInformation, StationStatus, SystemPricingPlans}
 use Rattle.bike_heads.specs.declared.resource.Action.TheVariants as action
 use Rattle.bike_heads.specs.declared.resource.Shown.TheVariants as shown
 use Rattle.bike_heads.specs.declared.resource.Resource.{Resource}

@@ -6,7 +6,6 @@
 #![tactic(auto)]
 
 mod aim;
-mod feed;
 mod head;
 mod length;
 mod path;
@@ -14,7 +13,7 @@ mod resource;
 mod routes;
 
 pub use aim::{Allow, Rejection, aim_of};
-pub use feed::Feed;
+pub use bike_feed_texts::Feed;
 pub use head::{HEAD_LENGTH, Head, HeadReading, MOST_FIELDS, read_head};
 pub use length::{BODY_LENGTH, BodyLength};
 pub use resource::{Action, Resource, Shown};

@@ -3,7 +3,7 @@
 ghost use Rattle.std.specs.Prelude.{◌≡◌, OnOk, Some, None, map, codes};
 ghost use Rattle.bike_heads.specs.Table.{table, added, added_all, route_at};
 
-use crate::feed::Feed;
+use bike_feed_texts::Feed;
 use matchit::{InsertError, Router};
 use std::alloc::Global;
 

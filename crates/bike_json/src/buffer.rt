@@ -11,10 +11,10 @@ use std::io::{ErrorKind, Write};
 use std::marker::Model;
 
 /// How many bytes are held at most.
-const ROOM: usize = 4096;
+pub const ROOM: usize = 65_536;
 
 /// Gathers small writes into few large ones, in a fixed array and so without memory: a socket or a file
-/// takes a write for some KB in place of one for each token.
+/// takes a write for 64 KiB in place of one for each token.
 ///
 /// What it holds counts as written, and reaches the inner writer once the room is full and at `flush`, which the
 /// caller calls at the end; what isn't flushed is lost. A proof sees the bytes that are `held` and those that the
@@ -29,10 +29,11 @@ pub struct TokenBuffer<W: Write + Drop> {
 impl<W: Write + Drop> Model for TokenBuffer<W> {
     ghost use Rattle.std.specs.Prelude.{◌≤◌, ◌-◌, drop, length};
     ghost use Rattle.bike_json.specs.Buffered.{Buffered};
+    ghost use Rattle.bike_json.specs.declared.buffer.TheConstants.{ROOM};
 
     ghost Value = { Buffered };
 
-    ghost view = { λ b. record { held = drop b.start b.bytes.items; sent = W.contents b.inner; room = 4096 - length b.bytes.items } };
+    ghost view = { λ b. record { held = drop b.start b.bytes.items; sent = W.contents b.inner; room = ROOM - length b.bytes.items } };
 
     ghost invariant = { λ b. b.start ≤ length b.bytes.items };
 }
@@ -42,7 +43,7 @@ impl<W: Write + Drop> TokenBuffer<W> {
     pub fn new(inner: W) -> TokenBuffer<W>
         ensures held { result.held ≡ [] }
         ensures sent { result.sent ≡ W.contents inner }
-        ensures room { result.room ≡ 4096 }
+        ensures room { result.room ≡ ROOM }
     {
         TokenBuffer {
             inner,
@@ -89,7 +90,7 @@ impl<W: Write + Drop> TokenBuffer<W> {
     fn send(&mut self) -> io::Result<()>
         ensures kept { Keeps (contents_of self.old) (contents_of self.new) }
         ensures empty { OnOk result (self.new.held ≡ []) }
-        ensures room { OnOk result (self.new.room ≡ 4096) }
+        ensures room { OnOk result (self.new.room ≡ ROOM) }
     {
         while !self.is_empty() {
             self.send_some()?;
@@ -123,7 +124,7 @@ impl<W: Write + Drop> Write for TokenBuffer<W> {
     fn flush(&mut self) -> io::Result<()>
         ensures bytes { Keeps (contents_of self.old) (contents_of self.new) }
         ensures empty { OnOk result (self.new.held ≡ []) }
-        ensures room { OnOk result (self.new.room ≡ 4096) }
+        ensures room { OnOk result (self.new.room ≡ ROOM) }
     {
         self.send()?;
         self.inner.flush()

@@ -20,7 +20,7 @@ use Rattle.bike_rows.proofs.TreeLemmas.{by_key_total}
 use Rattle.bike_book.proofs.Keys.{value_cmp-number_value}
 use Rattle.bike_book.specs.Tables.{TableName, Tables, rows_in, keys_of, Stations, Docks, Bikes, Trucks, Riders, Rentals, Orders, Entries}
 use Rattle.bike_readings.specs.Rules.{AreInOrder}
-use Rattle.bike_judges.specs.Lines.{line, station_line, station_dock_line, station_bike_line, truck_line, truck_bike_line, rider_line, rider_rental_line, rider_entry_line, rental_line, rental_entry_line, order_line, order_bike_line}
+use Rattle.bike_judges.specs.Lines.{line, station_line, station_dock_line, station_bike_line, truck_line, truck_bike_line, order_line, order_bike_line}
 
 -- Each row has the columns of its key.
 abbrev pub AreWhole : Tables → Type 0
@@ -122,11 +122,6 @@ module _ (t : Tables) (up : AreInOrder t) (whole : AreWhole t) where
       apart_append (by_key_total 3) (map truck_line t.trucks) (map truck_bike_line t.bikes) (heads Trucks refl 6) (numbered Bikes refl (at 6) 1 0)
       (at_two (at 0) (at 6) zero_value (at 0) 0 1 6 0 t.trucks t.bikes (omega arith))
 
-  pub rental_entries_apart : AreApartAll (by_key_total 3) (map rental_line t.rentals ++ map rental_entry_line t.entries)
-  rental_entries_apart =
-      apart_append (by_key_total 3) (map rental_line t.rentals) (map rental_entry_line t.entries) (heads Rentals refl 0) (numbered Entries refl (at 3) 1 4)
-      (at_two (at 0) (at 3) zero_value (at 0) 0 1 0 4 t.rentals t.entries (omega arith))
-
   pub order_bikes_apart : AreApartAll (by_key_total 3) (map order_line t.orders ++ map order_bike_line t.bikes)
   order_bikes_apart =
       apart_append (by_key_total 3) (map order_line t.orders) (map order_bike_line t.bikes) (heads Orders refl 0) (numbered Bikes refl (at 7) 1 0)
@@ -140,15 +135,4 @@ module _ (t : Tables) (up : AreInOrder t) (whole : AreWhole t) where
       (λ x y h g. elim (has_append (map station_line t.stations) (map station_dock_line t.docks) x h) [
         | inl first ↦ at_two (at 0) (at 3) zero_value (at 0) 0 2 0 3 t.stations t.bikes (omega arith) x y first g
         | inr second ↦ at_two (at 0) (at 3) (at 1) (at 0) 1 2 8 3 t.docks t.bikes (omega arith) x y second g
-      ])
-
-  pub riders_apart : AreApartAll (by_key_total 3) ((map rider_line t.riders ++ map rider_rental_line t.rentals) ++ map rider_entry_line t.entries)
-  riders_apart =
-      apart_append (by_key_total 3) (map rider_line t.riders ++ map rider_rental_line t.rentals) (map rider_entry_line t.entries)
-      (apart_append (by_key_total 3) (map rider_line t.riders) (map rider_rental_line t.rentals) (heads Riders refl 7) (numbered Rentals refl (at 1) 1 0)
-      (at_two (at 0) (at 1) zero_value (at 0) 0 1 7 0 t.riders t.rentals (omega arith)))
-      (numbered Entries refl (at 2) 2 4)
-      (λ x y h g. elim (has_append (map rider_line t.riders) (map rider_rental_line t.rentals) x h) [
-        | inl first ↦ at_two (at 0) (at 2) zero_value (at 0) 0 2 7 4 t.riders t.entries (omega arith) x y first g
-        | inr second ↦ at_two (at 1) (at 2) (at 0) (at 0) 1 2 0 4 t.rentals t.entries (omega arith) x y second g
       ])

@@ -20,11 +20,11 @@ use Rattle.bike_schema.proofs.MakesLemmas.{rows_of_table}
 use Rattle.bike_readings.specs.Rules.{AreInOrder}
 use Rattle.bike_judges.specs.declared.pass.Opening.{Opening}
 use Rattle.bike_judges.specs.declared.query.Query.TheVariants as query
-use Rattle.bike_judges.specs.Lines.{lines_of, station_line, station_dock_line, station_bike_line, truck_line, truck_bike_line, rider_line, rider_rental_line, rider_entry_line, rental_line, rental_entry_line, order_line, order_bike_line}
+use Rattle.bike_judges.specs.Lines.{lines_of, station_line, station_dock_line, station_bike_line, truck_line, truck_bike_line, order_line, order_bike_line}
 use Rattle.bike_judges.specs.Passes.{pass, is_good_with, Demands}
 use Rattle.bike_judges.specs.Verdicts.{IsFirstFailing}
 use Rattle.bike_judges.proofs.StretchLaw.{HasOneKey, AreAccounts, AreItems, merged_verdict, merged_of_three_verdict}
-use Rattle.bike_judges.proofs.ApartLines.{AreWhole, first_column, stations_apart, trucks_apart, riders_apart, rental_entries_apart, order_bikes_apart}
+use Rattle.bike_judges.proofs.ApartLines.{AreWhole, first_column, stations_apart, trucks_apart, order_bikes_apart}
 
 -- ---- stored rows have all their columns
 
@@ -88,16 +88,6 @@ module _ {A : Type 0} (begins : Row → Opening A) (more : A → Row → A) (goo
   pub trucks_verdict : Accounts 6 → Items truck_bike_line → (verdict : Option Row) → run (lines_of query.Trucks t) ≡ verdict
       → IsFirstFailing t Trucks (Demands t Trucks (λ n row. with_all (map truck_bike_line t.bikes) n (begins (truck_line row)))) verdict
   trucks_verdict accounts bikes = merged_verdict begins more good key owner t Trucks up (one_key t whole Trucks refl) 6 accounts truck_bike_line t.bikes bikes (trucks_apart t up whole)
-
-  pub riders_verdict : Accounts 7 → Items rider_rental_line → Items rider_entry_line → (verdict : Option Row) → run (lines_of query.Riders t) ≡ verdict
-      → IsFirstFailing t Riders (Demands t Riders (λ n row. with_all (map rider_rental_line t.rentals ++ map rider_entry_line t.entries) n (begins (rider_line row)))) verdict
-  riders_verdict accounts rentals entries =
-      merged_of_three_verdict begins more good key owner t Riders up (one_key t whole Riders refl) 7 accounts rider_rental_line t.rentals rider_entry_line t.entries rentals entries (riders_apart t up whole)
-
-  pub rental_entries_verdict : Accounts 0 → Items rental_entry_line → (verdict : Option Row) → run (lines_of query.RentalEntries t) ≡ verdict
-      → IsFirstFailing t Rentals (Demands t Rentals (λ n row. with_all (map rental_entry_line t.entries) n (begins (rental_line row)))) verdict
-  rental_entries_verdict accounts entries =
-      merged_verdict begins more good key owner t Rentals up (one_key t whole Rentals refl) 0 accounts rental_entry_line t.entries entries (rental_entries_apart t up whole)
 
   pub order_bikes_verdict : Accounts 0 → Items order_bike_line → (verdict : Option Row) → run (lines_of query.OrderBikes t) ≡ verdict
       → IsFirstFailing t Orders (Demands t Orders (λ n row. with_all (map order_bike_line t.bikes) n (begins (order_line row)))) verdict

@@ -19,24 +19,9 @@ bike_uses_lines is db has =
     rows_joined_twice (table_key Bikes) (table_key Rentals) (table_key Orders) (has Bikes) (has Rentals) (has Orders) (5 ∷ []) (7 ∷ []) (columns_in 1 Bikes ++ columns_in 2 Rentals ++ columns_in 3 Orders) (with_two 10 8)
     is refl refl (λ r. refl) (λ r. refl) (λ r. refl) (λ r s. refl) (λ r t. refl) (λ r s t. refl)
 
-pub rental_names_lines : {text : List ℕ} → AreJoinsOf Rentals Riders (1 ∷ []) Bikes (2 ∷ []) text → AsksLines text query.RentalNames
-rental_names_lines is db has =
-    rows_joined_twice (table_key Rentals) (table_key Riders) (table_key Bikes) (has Rentals) (has Riders) (has Bikes) (1 ∷ []) (2 ∷ []) (columns_in 1 Rentals ++ columns_in 2 Riders ++ columns_in 3 Bikes) (with_two 3 8)
-    is refl refl (λ r. refl) (λ r. refl) (λ r. refl) (λ r s. refl) (λ r t. refl) (λ r s t. refl)
-
-pub rental_starts_lines : {text : List ℕ} → AreJoinsOf Rentals Plans (3 ∷ []) Stations (4 ∷ []) text → AsksLines text query.RentalStarts
-rental_starts_lines is db has =
-    rows_joined_twice (table_key Rentals) (table_key Plans) (table_key Stations) (has Rentals) (has Plans) (has Stations) (3 ∷ []) (4 ∷ []) (columns_in 1 Rentals ++ columns_in 2 Plans ++ columns_in 3 Stations) (with_two 5 11)
-    is refl refl (λ r. refl) (λ r. refl) (λ r. refl) (λ r s. refl) (λ r t. refl) (λ r s t. refl)
-
 pub order_names_lines : {text : List ℕ} → AreJoinsOf Orders Trucks (1 ∷ []) Types (4 ∷ []) text → AsksLines text query.OrderNames
 order_names_lines is db has =
     rows_joined_twice (table_key Orders) (table_key Trucks) (table_key Types) (has Orders) (has Trucks) (has Types) (1 ∷ []) (4 ∷ []) (columns_in 1 Orders ++ columns_in 2 Trucks ++ columns_in 3 Types) (with_two 2 6)
-    is refl refl (λ r. refl) (λ r. refl) (λ r. refl) (λ r s. refl) (λ r t. refl) (λ r s t. refl)
-
-pub entry_names_lines : {text : List ℕ} → AreJoinsOf Entries Riders (2 ∷ []) Rentals (3 ∷ []) text → AsksLines text query.EntryNames
-entry_names_lines is db has =
-    rows_joined_twice (table_key Entries) (table_key Riders) (table_key Rentals) (has Entries) (has Riders) (has Rentals) (2 ∷ []) (3 ∷ []) (columns_in 1 Entries ++ columns_in 2 Riders ++ columns_in 3 Rentals) (with_two 3 10)
     is refl refl (λ r. refl) (λ r. refl) (λ r. refl) (λ r s. refl) (λ r t. refl) (λ r s t. refl)
 
 pub count_names_lines : {text : List ℕ} → AreJoinsOf Counts Stations (0 ∷ []) Types (1 ∷ []) text → AsksLines text query.CountNames

@@ -5,7 +5,7 @@ use Rattle.sqlite_sql.specs.Term.{Term, lit, col}
 use Rattle.bike_rows.proofs.SelectLaws.{rows_merged_of_three, TiesOnlyByKey, NeverTies}
 use Rattle.bike_book.specs.Tables.{Stations, Docks, Bikes, Riders, Rentals, Entries, Counts}
 use Rattle.bike_schema.specs.Layouts.{layout_of}
-use Rattle.bike_judges.specs.Lines.{station_line, station_dock_line, station_bike_line, rider_line, rider_rental_line, rider_entry_line, count_dock_line, count_bike_line, count_line}
+use Rattle.bike_judges.specs.Lines.{station_line, station_dock_line, station_bike_line, count_dock_line, count_bike_line, count_line}
 use Rattle.bike_judges.specs.declared.query.Query.TheVariants as query
 use Rattle.bike_judges.specs.Texts.{AsksLines}
 use Rattle.bike_judges.proofs.Forms.{line_terms, IsMixOfThree}
@@ -42,38 +42,6 @@ pub stations_lines : {text : List ℕ} → IsMixOfThree Stations station_terms D
 stations_lines is db has =
     rows_merged_of_three (has Stations) (has Docks) (has Bikes) (1 ∷ 2 ∷ 3 ∷ []) station_terms station_dock_terms station_bike_terms station_line station_dock_line station_bike_line
     is (λ r. refl) (λ r. refl) (λ r. refl) (λ r. refl) station_ties station_dock_ties station_bike_ties station_and_station_dock station_and_station_bike station_dock_and_station_bike
-
-rider_ties : TiesOnlyByKey 3 1 (layout_of Riders) rider_line
-rider_ties r s tie = owner_ties _ _ _ _ _ tie
-
-rider_rental_ties : TiesOnlyByKey 3 1 (layout_of Rentals) rider_rental_line
-rider_rental_ties r s tie = number_ties _ _ _ _ _ tie
-
-rider_entry_ties : TiesOnlyByKey 3 1 (layout_of Entries) rider_entry_line
-rider_entry_ties r s tie = number_ties _ _ _ _ _ tie
-
-rider_and_rider_rental : NeverTies 3 rider_line rider_rental_line
-rider_and_rider_rental r s tie = places_apart _ _ _ _ _ _ zero_one tie
-
-rider_and_rider_entry : NeverTies 3 rider_line rider_entry_line
-rider_and_rider_entry r s tie = places_apart _ _ _ _ _ _ zero_two tie
-
-rider_rental_and_rider_entry : NeverTies 3 rider_rental_line rider_entry_line
-rider_rental_and_rider_entry r s tie = places_apart _ _ _ _ _ _ one_two tie
-
-abbrev pub rider_terms : List Term
-rider_terms = line_terms (col 1 0 ∷ lit (Int (pos 0)) ∷ lit (Int (pos 0)) ∷ []) Riders 7
-
-abbrev pub rider_rental_terms : List Term
-rider_rental_terms = line_terms (col 1 2 ∷ lit (Int (pos 1)) ∷ col 1 0 ∷ []) Rentals 0
-
-abbrev pub rider_entry_terms : List Term
-rider_entry_terms = line_terms (col 1 3 ∷ lit (Int (pos 2)) ∷ col 1 0 ∷ []) Entries 4
-
-pub riders_lines : {text : List ℕ} → IsMixOfThree Riders rider_terms Rentals rider_rental_terms Entries rider_entry_terms (1 ∷ 2 ∷ 3 ∷ []) text → AsksLines text query.Riders
-riders_lines is db has =
-    rows_merged_of_three (has Riders) (has Rentals) (has Entries) (1 ∷ 2 ∷ 3 ∷ []) rider_terms rider_rental_terms rider_entry_terms rider_line rider_rental_line rider_entry_line
-    is (λ r. refl) (λ r. refl) (λ r. refl) (λ r. refl) rider_ties rider_rental_ties rider_entry_ties rider_and_rider_rental rider_and_rider_entry rider_rental_and_rider_entry
 
 count_dock_ties : TiesOnlyByKey 5 2 (layout_of Docks) count_dock_line
 count_dock_ties r s tie = first_and_third_tie _ _ _ _ _ _ _ _ _ _ tie

@@ -5,7 +5,7 @@ use Rattle.sqlite_sql.specs.Term.{Term, lit, col}
 use Rattle.bike_rows.proofs.SelectLaws.{rows_merged, TiesOnlyByKey, NeverTies}
 use Rattle.bike_book.specs.Tables.{Docks, Bikes, Trucks, Rentals, Orders, Entries}
 use Rattle.bike_schema.specs.Layouts.{layout_of}
-use Rattle.bike_judges.specs.Lines.{dock_line, docked_line, truck_line, truck_bike_line, rental_line, rental_entry_line, order_line, order_bike_line}
+use Rattle.bike_judges.specs.Lines.{dock_line, docked_line, truck_line, truck_bike_line, order_line, order_bike_line}
 use Rattle.bike_judges.specs.declared.query.Query.TheVariants as query
 use Rattle.bike_judges.specs.Texts.{AsksLines}
 use Rattle.bike_judges.proofs.Forms.{line_terms, IsMixOf}
@@ -50,26 +50,6 @@ pub trucks_lines : {text : List ℕ} → IsMixOf Trucks truck_terms Bikes truck_
 trucks_lines is db has =
     rows_merged (has Trucks) (has Bikes) (1 ∷ 2 ∷ 3 ∷ []) truck_terms truck_bike_terms truck_line truck_bike_line
     is (λ r. refl) (λ r. refl) (λ r. refl) truck_ties truck_bike_ties truck_and_truck_bike
-
-rental_ties : TiesOnlyByKey 3 1 (layout_of Rentals) rental_line
-rental_ties r s tie = owner_ties _ _ _ _ _ tie
-
-rental_entry_ties : TiesOnlyByKey 3 1 (layout_of Entries) rental_entry_line
-rental_entry_ties r s tie = number_ties _ _ _ _ _ tie
-
-rental_and_rental_entry : NeverTies 3 rental_line rental_entry_line
-rental_and_rental_entry r s tie = places_apart _ _ _ _ _ _ zero_one tie
-
-abbrev pub rental_terms : List Term
-rental_terms = line_terms (col 1 0 ∷ lit (Int (pos 0)) ∷ lit (Int (pos 0)) ∷ []) Rentals 0
-
-abbrev pub rental_entry_terms : List Term
-rental_entry_terms = line_terms (col 1 4 ∷ lit (Int (pos 1)) ∷ col 1 0 ∷ []) Entries 4
-
-pub rental_entries_lines : {text : List ℕ} → IsMixOf Rentals rental_terms Entries rental_entry_terms (1 ∷ 2 ∷ 3 ∷ []) text → AsksLines text query.RentalEntries
-rental_entries_lines is db has =
-    rows_merged (has Rentals) (has Entries) (1 ∷ 2 ∷ 3 ∷ []) rental_terms rental_entry_terms rental_line rental_entry_line
-    is (λ r. refl) (λ r. refl) (λ r. refl) rental_ties rental_entry_ties rental_and_rental_entry
 
 order_ties : TiesOnlyByKey 3 1 (layout_of Orders) order_line
 order_ties r s tie = owner_ties _ _ _ _ _ tie

@@ -67,23 +67,6 @@ truck_line = head 6
 abbrev pub truck_bike_line : Row → Row
 truck_bike_line row = line (column row 6) (pos 1) (column row 0) 0 row
 
--- riders with their rentals and entries
-abbrev pub rider_line : Row → Row
-rider_line = head 7
-
-abbrev pub rider_rental_line : Row → Row
-rider_rental_line row = line (column row 1) (pos 1) (column row 0) 0 row
-
-abbrev pub rider_entry_line : Row → Row
-rider_entry_line row = line (column row 2) (pos 2) (column row 0) 4 row
-
--- rentals with their entries
-abbrev pub rental_line : Row → Row
-rental_line = head 0
-
-abbrev pub rental_entry_line : Row → Row
-rental_entry_line row = line (column row 3) (pos 1) (column row 0) 4 row
-
 -- orders with the bicycles on trucks for them
 abbrev pub order_line : Row → Row
 order_line = head 0
@@ -124,17 +107,19 @@ lines_of query.BikeNames t = twice_joined (with_two 6 11) (1 ∷ []) 1 t.types (
 lines_of query.BikeUses t = twice_joined (with_two 10 8) (5 ∷ []) 1 t.rentals (7 ∷ []) 1 t.orders t.bikes
 lines_of query.BikeDocks t = merged 4 dock_line t.docks docked_line t.bikes
 lines_of query.Trucks t = merged 3 truck_line t.trucks truck_bike_line t.bikes
-lines_of query.Riders t = merged_of_three 3 rider_line t.riders rider_rental_line t.rentals rider_entry_line t.entries
+lines_of query.RiderRows t = t.riders
 lines_of query.Rentals t = t.rentals
-lines_of query.RentalNames t = twice_joined (with_two 3 8) (1 ∷ []) 1 t.riders (2 ∷ []) 1 t.bikes t.rentals
-lines_of query.RentalStarts t = twice_joined (with_two 5 11) (3 ∷ []) 1 t.plans (4 ∷ []) 1 t.stations t.rentals
+lines_of query.RentalRiders t = left_joined (with_one 3) (1 ∷ []) 1 t.riders t.rentals
+lines_of query.RentalBikes t = left_joined (with_one 8) (2 ∷ []) 1 t.bikes t.rentals
+lines_of query.RentalPlans t = left_joined (with_one 5) (3 ∷ []) 1 t.plans t.rentals
+lines_of query.RentalStations t = left_joined (with_one 11) (4 ∷ []) 1 t.stations t.rentals
 lines_of query.RentalEnds t = left_joined (with_one 11) (6 ∷ []) 1 t.stations t.rentals
-lines_of query.RentalEntries t = merged 3 rental_line t.rentals rental_entry_line t.entries
 lines_of query.OrderNames t = twice_joined (with_two 2 6) (1 ∷ []) 1 t.trucks (4 ∷ []) 1 t.types t.orders
 lines_of query.OrderEnds t = twice_joined (with_two 11 11) (2 ∷ []) 1 t.stations (3 ∷ []) 1 t.stations t.orders
 lines_of query.OrderBikes t = merged 3 order_line t.orders order_bike_line t.bikes
 lines_of query.Entries t = t.entries
-lines_of query.EntryNames t = twice_joined (with_two 3 10) (2 ∷ []) 1 t.riders (3 ∷ []) 1 t.rentals t.entries
+lines_of query.EntryRiders t = left_joined (with_one 3) (2 ∷ []) 1 t.riders t.entries
+lines_of query.EntryRentals t = left_joined (with_one 10) (3 ∷ []) 1 t.rentals t.entries
 lines_of query.Kept t = t.kept
 lines_of query.CountNames t = twice_joined (with_two 11 6) (0 ∷ []) 1 t.stations (1 ∷ []) 1 t.types t.counts
 lines_of query.Counts t = merged_of_three 5 count_dock_line t.docks count_bike_line t.bikes count_line t.counts

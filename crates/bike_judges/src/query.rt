@@ -27,18 +27,20 @@ pub enum Query {
     BikeDocks,
     /// Trucks with the bicycles on them.
     Trucks,
-    /// Riders with their rentals and entries.
-    Riders,
+    /// The rows of `riders`.
+    RiderRows,
     /// The rows of `rentals`.
     Rentals,
-    /// Rentals, each with its rider and its bicycle.
-    RentalNames,
-    /// Rentals, each with its plan and the station at which it began.
-    RentalStarts,
+    /// Rentals, each with its rider.
+    RentalRiders,
+    /// Rentals, each with its bicycle.
+    RentalBikes,
+    /// Rentals, each with its plan.
+    RentalPlans,
+    /// Rentals, each with the station at which it began.
+    RentalStations,
     /// Rentals, each with the station at which it ended.
     RentalEnds,
-    /// Rentals with their entries.
-    RentalEntries,
     /// Orders, each with its truck and its vehicle type.
     OrderNames,
     /// Orders, each with the stations at its ends.
@@ -47,8 +49,10 @@ pub enum Query {
     OrderBikes,
     /// The rows of `entries`.
     Entries,
-    /// Entries, each with its rider and its rental.
-    EntryNames,
+    /// Entries, each with its rider.
+    EntryRiders,
+    /// Entries, each with its rental.
+    EntryRentals,
     /// The rows of `kept`.
     Kept,
     /// Counts, each with its station and its type.

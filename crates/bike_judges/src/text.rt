@@ -43,26 +43,23 @@ pub(crate) fn text(query: Query) -> &'static str
             "SELECT truck, 0, 0, trucks.*, NULL, NULL, NULL, NULL, NULL, NULL FROM trucks \
              UNION ALL SELECT truck, 1, bike, bikes.* FROM bikes \
              ORDER BY 1, 2, 3",
-        Query::Riders =>
-            "SELECT rider, 0, 0, riders.*, NULL, NULL, NULL, NULL, NULL, NULL, NULL FROM riders \
-             UNION ALL SELECT rider, 1, rental, rentals.* FROM rentals \
-             UNION ALL SELECT rider, 2, entry, entries.*, NULL, NULL, NULL, NULL FROM entries \
-             ORDER BY 1, 2, 3",
+        Query::RiderRows => "SELECT * FROM riders ORDER BY rider",
         Query::Rentals => "SELECT * FROM rentals ORDER BY rental",
-        Query::RentalNames => "SELECT rentals.*, riders.*, bikes.* FROM rentals \
+        Query::RentalRiders => "SELECT rentals.*, riders.* FROM rentals \
              LEFT JOIN riders ON riders.rider = rentals.rider \
+             ORDER BY rentals.rental",
+        Query::RentalBikes => "SELECT rentals.*, bikes.* FROM rentals \
              LEFT JOIN bikes ON bikes.bike = rentals.bike \
              ORDER BY rentals.rental",
-        Query::RentalStarts => "SELECT rentals.*, plans.*, stations.* FROM rentals \
+        Query::RentalPlans => "SELECT rentals.*, plans.* FROM rentals \
              LEFT JOIN plans ON plans.plan_id = rentals.plan_id \
+             ORDER BY rentals.rental",
+        Query::RentalStations => "SELECT rentals.*, stations.* FROM rentals \
              LEFT JOIN stations ON stations.station_id = rentals.from_station \
              ORDER BY rentals.rental",
         Query::RentalEnds => "SELECT rentals.*, stations.* FROM rentals \
              LEFT JOIN stations ON stations.station_id = rentals.to_station \
              ORDER BY rentals.rental",
-        Query::RentalEntries => "SELECT rental, 0, 0, rentals.* FROM rentals \
-             UNION ALL SELECT rental, 1, entry, entries.*, NULL, NULL, NULL, NULL FROM entries \
-             ORDER BY 1, 2, 3",
         Query::OrderNames => "SELECT orders.*, trucks.*, types.* FROM orders \
              LEFT JOIN trucks ON trucks.truck = orders.truck \
              LEFT JOIN types ON types.type_id = orders.type_id \
@@ -75,8 +72,10 @@ pub(crate) fn text(query: Query) -> &'static str
              UNION ALL SELECT ord, 1, bike, bikes.* FROM bikes \
              ORDER BY 1, 2, 3",
         Query::Entries => "SELECT * FROM entries ORDER BY entry",
-        Query::EntryNames => "SELECT entries.*, riders.*, rentals.* FROM entries \
+        Query::EntryRiders => "SELECT entries.*, riders.* FROM entries \
              LEFT JOIN riders ON riders.rider = entries.rider \
+             ORDER BY entries.entry",
+        Query::EntryRentals => "SELECT entries.*, rentals.* FROM entries \
              LEFT JOIN rentals ON rentals.rental = entries.rental \
              ORDER BY entries.entry",
         Query::Kept => "SELECT * FROM kept ORDER BY caller, req_key",

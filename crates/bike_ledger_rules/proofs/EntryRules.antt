@@ -1,4 +1,4 @@
--- The line of an entry passes exactly where what it is asked holds of the entry.
+-- The lines of an entry pass exactly where what they are asked holds of the entry.
 use Rattle.std.proofs.Common.{◌≡◌, ℕ, ℤ, ◌+◌, ◌<◌, ◌≤◌, ◌==◌, ◌&&◌, List, [], ◌∷◌, length, take, Bool, true, false, Option, Some, None, refl, sym, ap, subst, ◌∙◌, arith}
 use Rattle.std.specs.Prelude.{option_map, option_and_then, is_some, nat_lt, nat_le}
 use Rattle.std.specs.Bool.{Decides}
@@ -32,20 +32,23 @@ use Rattle.bike_readings.proofs.ByNumber.{at_number}
 use Rattle.bike_readings.proofs.ReadRows.{stored_part, AreRowsOfList, read_list}
 use Rattle.bike_readings.proofs.RowRules.{some_with}
 use Rattle.bike_judges.specs.Lines.{part, or_nulls}
-use Rattle.bike_ledger_rules.specs.declared.open_rentals.OpenRentals.{OpenRentals}
-use Rattle.bike_ledger_rules.specs.Entries.{with_open, is_paid, is_closed_for, is_of, is_booked, entry_holds, entry_names, entry_line}
-use Rattle.bike_ledger_rules.specs.Riders.{one_open}
+use Rattle.bike_ledger_rules.specs.declared.open_rentals.RentalCount.{RentalCount}
+use Rattle.bike_ledger_rules.specs.Entries.{one_open, one_rental_more, IsRentalCount, is_paid, is_closed_for, is_of, is_booked, line_rental, rider_holds, entry_rider, entry_rider_line, rental_holds, entry_rental, entry_rental_line}
 use Rattle.bike_ledger_rules.proofs.Earlier.{AreGood, rider_partner}
 use Rattle.bike_ledger_rules.proofs.Folds.{rental_of_row, rentals_read}
-use Rattle.bike_ledger_rules.proofs.Parts.{partner_wide, own_of_two, first_of_two, second_of_two}
+use Rattle.bike_ledger_rules.proofs.Parts.{partner_wide, own_of_one, partner_of_one}
 use Rattle.bike_ledger_rules.proofs.RiderFolds.{AreWide, count_option}
 
--- ---- how many rentals are open
+-- ---- how many rentals there are
 
-open_fold : (rows : List Row) (a : OpenRentals) → (fold with_open a rows).count ≡ a.count + count is_open (filter_map rental_of_row rows)
+rows_fold : (rows : List Row) (a : RentalCount) → (fold one_rental_more a rows).next ≡ a.next + length rows
+rows_fold [] a = omega arith
+rows_fold (r ∷ rows) a = let rest = rows_fold rows (one_rental_more a r) in rest ∙ (omega arith)
+
+open_fold : (rows : List Row) (a : RentalCount) → (fold one_rental_more a rows).riding ≡ a.riding + count is_open (filter_map rental_of_row rows)
 open_fold [] a = omega arith
 open_fold (r ∷ rows) a =
-    let rest = open_fold rows (with_open a r) in
+    let rest = open_fold rows (one_rental_more a r) in
     let c = count_option is_open (rental_of_row r) (filter_map rental_of_row rows) in
     let here = same (rental_read r) in
     rest ∙ (omega (arith, c, here))
@@ -54,11 +57,11 @@ open_fold (r ∷ rows) a =
     same None = refl
     same (Some e) = refl
 
-pub open_counted : (t : Tables) (a : OpenRentals) → a.count ≡ 0 → (fold with_open a t.rentals).count ≡ open_rentals (operator_of t)
-open_counted t a none =
-    let it = open_fold t.rentals a in
-    let same : count is_open (filter_map rental_of_row t.rentals) ≡ open_rentals (operator_of t) = ap (count is_open) (sym (rentals_read t.rentals)) in
-    it ∙ (omega (arith, none)) ∙ same
+pub rentals_counted : (t : Tables) → IsRentalCount t (fold one_rental_more (record { next = 1; riding = 0 }) t.rentals)
+rentals_counted t = record {
+  next_is = rows_fold t.rentals (record { next = 1; riding = 0 }) ∙ (omega arith);
+  riding_is = open_fold t.rentals (record { next = 1; riding = 0 }) ∙ (omega arith) ∙ ap (count is_open) (sym (rentals_read t.rentals));
+}
 
 -- ---- the rental of an entry
 
@@ -111,14 +114,13 @@ booked_decides s TopUp e = (λ h. tt, λ h. refl)
 booked_decides s Fare e = of_decides s Fare e
 booked_decides s Refund e = of_decides s Refund e
 
--- ---- what the line is asked
+-- ---- what the line with the rider is asked
 
-pub record NamesGood (s : Operator) (before : ℕ) (e : Entry) : Type 0 where
+pub record NumberGood (s : Operator) (before : ℕ) (e : Entry) : Type 0 where
   pub number_is : e.number ≡ before + 1
   pub room : before + open_rentals s < MOST_ENTRIES
   pub rider_is : fin.contains_key s.riders e.rider ≡ true
   pub by_now : e.at ≤ s.now
-  pub booked : Booked s e.kind e
 
 at_most : (a b : ℕ) → Decides (nat_le a b) (a ≤ b)
 at_most a b = (λ e. leb-true a b e, λ h. le-leb a b h)
@@ -126,67 +128,77 @@ at_most a b = (λ e. leb-true a b e, λ h. le-leb a b h)
 is_true : (b c : Bool) → b ≡ c → Decides b (c ≡ true)
 is_true b c e = (λ h. sym e ∙ h, λ h. e ∙ h)
 
-module _ (t : Tables) (up : AreInOrder t) (good_riders : AreGood t up Riders) (good_rentals : AreGood t up Rentals) (riders : AreWide 3 t.riders) (rentals : AreWide 10 t.rentals) where
+module _ (t : Tables) (up : AreInOrder t) where
   abbrev s : Operator
   s = operator_of t
 
-  rentals_are : AreRowsOfList (stored_rental s.entries) rental_in t.rentals s.rentals
-  rentals_are =
-      read_list (stored_rental s.entries) rental_in t.rentals (up Rentals)
-      (λ r has. stored_part rental_reading (λ e. (e.0, e.1)) (stored_rental s.entries) (IsGoodRental s (rows_below t Rentals (take 1 r))) r (good_rentals r has)
-      (λ a is fact. ap (λ (z : ℤ). rental_row a.0 a.1 z) fact.refunded_is))
-      (λ r has.
-      let it = some_with (IsGoodRental s (rows_below t Rentals (take 1 r))) (rental_read r) (good_rentals r has) in
-      (it.value.1, ap (option_map (λ (e : ℕ × Rental × ℤ). (e.0, e.1))) it.value_is ∙ ap (λ (n : ℕ). Some (n, it.value.1)) it.fact.number_is))
-
-  -- the rental under a number is that of its place
-  rental_partner : (k : ℕ) → option_map (λ r. r.1) (rental_read (or_nulls 10 (row_with 1 (number_key k) t.rentals))) ≡ numbered k s.rentals
-  rental_partner k =
-      read (row_with 1 (number_key k) t.rentals)
-      ∙ at_number (stored_rental s.entries) (λ e. refl) rental_in t.rentals s.rentals rentals_are.rows_are rentals_are.back k
-    where
-      parts : (o : Option (ℕ × Rental × ℤ)) → option_map (λ (r : ℕ × Rental × ℤ). r.1) o ≡ option_map (λ (e : ℕ × Rental). e.1) (option_map (λ (e : ℕ × Rental × ℤ). (e.0, e.1)) o)
-      parts None = refl
-      parts (Some e) = refl
-
-      read : (o : Option Row) → option_map (λ (r : ℕ × Rental × ℤ). r.1) (rental_read (or_nulls 10 o)) ≡ option_map (λ (e : ℕ × Rental). e.1) (option_and_then rental_in o)
-      read None = refl
-      read (Some r) = parts (rental_read r)
-
-  module _ (r : Row) (wide : length r ≡ 6) where
+  module _ (good : AreGood t up Riders) (riders : AreWide 3 t.riders) (r : Row) (wide : length r ≡ 6) where
     p_wide : length (or_nulls 3 (partner 1 (column r 2 ∷ []) t.riders)) ≡ 3
     p_wide = partner_wide 3 1 (column r 2 ∷ []) t.riders riders
 
-    q_wide : length (or_nulls 10 (partner 1 (column r 3 ∷ []) t.rentals)) ≡ 10
-    q_wide = partner_wide 10 1 (column r 3 ∷ []) t.rentals rentals
-
-    rider_there : (e : Entry) → entry_read r ≡ Some e → is_some (rider_read (part 6 3 (entry_line t r))) ≡ fin.contains_key s.riders e.rider
+    rider_there : (e : Entry) → entry_read r ≡ Some e → is_some (rider_read (part 6 3 (entry_rider_line t r))) ≡ fin.contains_key s.riders e.rider
     rider_there e is =
-        ap (λ (x : Row). is_some (rider_read x)) (first_of_two r 6 3 (partner 1 (column r 2 ∷ []) t.riders) wide p_wide 10 (partner 1 (column r 3 ∷ []) t.rentals) q_wide)
+        ap (λ (x : Row). is_some (rider_read x)) (partner_of_one r 6 3 (partner 1 (column r 2 ∷ []) t.riders) wide p_wide)
         ∙ ap (λ (x : Row). is_some (rider_read (or_nulls 3 (partner 1 (column x 2 ∷ []) t.riders)))) (entry_reading.sound r e is).0
-        ∙ rider_partner t up good_riders e.rider
+        ∙ rider_partner t up good e.rider
 
-    rental_there : (e : Entry) → entry_read r ≡ Some e → option_map (λ r. r.1) (rental_read (part 9 10 (entry_line t r))) ≡ numbered e.rental s.rentals
-    rental_there e is =
-        ap (λ (x : Row). option_map (λ (r : ℕ × Rental × ℤ). r.1) (rental_read x)) (second_of_two r 6 3 (partner 1 (column r 2 ∷ []) t.riders) wide p_wide 10 (partner 1 (column r 3 ∷ []) t.rentals) q_wide 9 refl)
-        ∙ ap (λ (x : Row). option_map (λ (r : ℕ × Rental × ℤ). r.1) (rental_read (or_nulls 10 (partner 1 (column x 3 ∷ []) t.rentals)))) (entry_reading.sound r e is).0
-        ∙ rental_partner e.rental
-
-    pub names_decide : (n : ℕ) → Decides (entry_names s.now (open_rentals s) n (entry_line t r)) (IsSomeAnd (entry_read r) (NamesGood s n))
-    names_decide n =
-        subst (λ (x : Row). Decides (entry_holds s.now (open_rentals s) n (entry_line t r) (entry_read x)) (IsSomeAnd (entry_read r) (NamesGood s n)))
-        (sym (own_of_two r 6 3 (partner 1 (column r 2 ∷ []) t.riders) wide p_wide 10 (partner 1 (column r 3 ∷ []) t.rentals) q_wide)) (go (entry_read r) refl)
+    pub number_decides : (n : ℕ) → Decides (entry_rider s.now (open_rentals s) n (entry_rider_line t r)) (IsSomeAnd (entry_read r) (NumberGood s n))
+    number_decides n =
+        subst (λ (x : Row). Decides (rider_holds s.now (open_rentals s) n (entry_rider_line t r) (entry_read x)) (IsSomeAnd (entry_read r) (NumberGood s n)))
+        (sym (own_of_one r 6 3 (partner 1 (column r 2 ∷ []) t.riders) wide p_wide)) (go (entry_read r) refl)
       where
-        go : (o : Option Entry) → entry_read r ≡ o → Decides (entry_holds s.now (open_rentals s) n (entry_line t r) o) (IsSomeAnd o (NamesGood s n))
+        go : (o : Option Entry) → entry_read r ≡ o → Decides (rider_holds s.now (open_rentals s) n (entry_rider_line t r) o) (IsSomeAnd o (NumberGood s n))
         go None is = (λ e. absurd cc, λ h. absurd h)
         go (Some e) is =
-            let rider = is_some (rider_read (part 6 3 (entry_line t r))) in
-            let book = is_booked e.kind e (option_map (λ (r : ℕ × Rental × ℤ). r.1) (rental_read (part 9 10 (entry_line t r)))) in
-            Decides-like ((e.number == n + 1) && (nat_lt (n + open_rentals s) MOST_ENTRIES && (rider && (nat_le e.at s.now && book))))
-            (λ h. record { number_is = h.0; room = h.1.0; rider_is = h.1.1.0; by_now = h.1.1.1.0; booked = h.1.1.1.1 })
-            (λ (g : NamesGood s n e). (g.number_is, (g.room, (g.rider_is, (g.by_now, g.booked)))))
-            (Decides-and (e.number == n + 1) (nat_lt (n + open_rentals s) MOST_ENTRIES && (rider && (nat_le e.at s.now && book))) (Decides-eqb e.number (n + 1))
-            (Decides-and (nat_lt (n + open_rentals s) MOST_ENTRIES) (rider && (nat_le e.at s.now && book)) (Decides-ltb (n + open_rentals s) MOST_ENTRIES)
-            (Decides-and rider (nat_le e.at s.now && book) (is_true rider (fin.contains_key s.riders e.rider) (rider_there e is))
-            (Decides-and (nat_le e.at s.now) book (at_most e.at s.now)
-            (subst (λ (o : Option Rental). Decides (is_booked e.kind e o) (Booked s e.kind e)) (sym (rental_there e is)) (booked_decides s e.kind e))))))
+            let rider = is_some (rider_read (part 6 3 (entry_rider_line t r))) in
+            Decides-like ((e.number == n + 1) && (nat_lt (n + open_rentals s) MOST_ENTRIES && (rider && nat_le e.at s.now)))
+            (λ h. record { number_is = h.0; room = h.1.0; rider_is = h.1.1.0; by_now = h.1.1.1 })
+            (λ (g : NumberGood s n e). (g.number_is, (g.room, (g.rider_is, g.by_now))))
+            (Decides-and (e.number == n + 1) (nat_lt (n + open_rentals s) MOST_ENTRIES && (rider && nat_le e.at s.now)) (Decides-eqb e.number (n + 1))
+            (Decides-and (nat_lt (n + open_rentals s) MOST_ENTRIES) (rider && nat_le e.at s.now) (Decides-ltb (n + open_rentals s) MOST_ENTRIES)
+            (Decides-and rider (nat_le e.at s.now) (is_true rider (fin.contains_key s.riders e.rider) (rider_there e is)) (at_most e.at s.now))))
+
+  -- ---- what the line with the rental is asked
+
+  module _ (good_rentals : AreGood t up Rentals) (rentals : AreWide 10 t.rentals) where
+    rentals_are : AreRowsOfList (stored_rental s.entries) rental_in t.rentals s.rentals
+    rentals_are =
+        read_list (stored_rental s.entries) rental_in t.rentals (up Rentals)
+        (λ r has. stored_part rental_reading (λ e. (e.0, e.1)) (stored_rental s.entries) (IsGoodRental s (rows_below t Rentals (take 1 r))) r (good_rentals r has)
+        (λ a is fact. ap (λ (z : ℤ). rental_row a.0 a.1 z) fact.refunded_is))
+        (λ r has.
+        let it = some_with (IsGoodRental s (rows_below t Rentals (take 1 r))) (rental_read r) (good_rentals r has) in
+        (it.value.1, ap (option_map (λ (e : ℕ × Rental × ℤ). (e.0, e.1))) it.value_is ∙ ap (λ (n : ℕ). Some (n, it.value.1)) it.fact.number_is))
+
+    -- the rental under a number is that of its place
+    rental_partner : (k : ℕ) → option_map (λ r. r.1) (rental_read (or_nulls 10 (row_with 1 (number_key k) t.rentals))) ≡ numbered k s.rentals
+    rental_partner k =
+        read (row_with 1 (number_key k) t.rentals)
+        ∙ at_number (stored_rental s.entries) (λ e. refl) rental_in t.rentals s.rentals rentals_are.rows_are rentals_are.back k
+      where
+        parts : (o : Option (ℕ × Rental × ℤ)) → option_map (λ (r : ℕ × Rental × ℤ). r.1) o ≡ option_map (λ (e : ℕ × Rental). e.1) (option_map (λ (e : ℕ × Rental × ℤ). (e.0, e.1)) o)
+        parts None = refl
+        parts (Some e) = refl
+
+        read : (o : Option Row) → option_map (λ (r : ℕ × Rental × ℤ). r.1) (rental_read (or_nulls 10 o)) ≡ option_map (λ (e : ℕ × Rental). e.1) (option_and_then rental_in o)
+        read None = refl
+        read (Some r) = parts (rental_read r)
+
+    module _ (r : Row) (wide : length r ≡ 6) where
+      q_wide : length (or_nulls 10 (partner 1 (column r 3 ∷ []) t.rentals)) ≡ 10
+      q_wide = partner_wide 10 1 (column r 3 ∷ []) t.rentals rentals
+
+      rental_there : (e : Entry) → entry_read r ≡ Some e → line_rental (entry_rental_line t r) ≡ numbered e.rental s.rentals
+      rental_there e is =
+          ap (λ (x : Row). option_map (λ (r : ℕ × Rental × ℤ). r.1) (rental_read x)) (partner_of_one r 6 10 (partner 1 (column r 3 ∷ []) t.rentals) wide q_wide)
+          ∙ ap (λ (x : Row). option_map (λ (r : ℕ × Rental × ℤ). r.1) (rental_read (or_nulls 10 (partner 1 (column x 3 ∷ []) t.rentals)))) (entry_reading.sound r e is).0
+          ∙ rental_partner e.rental
+
+      pub book_decides : (n : ℕ) → Decides (entry_rental n (entry_rental_line t r)) (IsSomeAnd (entry_read r) (λ e. Booked s e.kind e))
+      book_decides n =
+          subst (λ (x : Row). Decides (rental_holds (entry_rental_line t r) (entry_read x)) (IsSomeAnd (entry_read r) (λ e. Booked s e.kind e)))
+          (sym (own_of_one r 6 10 (partner 1 (column r 3 ∷ []) t.rentals) wide q_wide)) (go (entry_read r) refl)
+        where
+          go : (o : Option Entry) → entry_read r ≡ o → Decides (rental_holds (entry_rental_line t r) o) (IsSomeAnd o (λ e. Booked s e.kind e))
+          go None is = (λ e. absurd cc, λ h. absurd h)
+          go (Some e) is = subst (λ (o : Option Rental). Decides (is_booked e.kind e o) (Booked s e.kind e)) (sym (rental_there e is)) (booked_decides s e.kind e)

@@ -1,12 +1,13 @@
--- What the two passes over the lines of entries find is together the verdict on the table.
-use Rattle.std.proofs.Common.{◌≡◌, inl, inr, ℕ, zero, suc, ◌+◌, ◌<◌, ◌≤◌, List, [], ◌∷◌, ◌++◌, length, take, Bool, Option, Some, None, refl, sym, ap, subst, ◌∙◌, arith}
+-- What the three passes over the lines of entries find is together the verdict on the table.
+use Rattle.std.proofs.Common.{◌≡◌, inl, inr, ℕ, zero, suc, ℤ, pos, ◌+◌, ◌<◌, ◌≤◌, ◌==◌, List, [], ◌∷◌, ◌++◌, length, take, Bool, true, Option, Some, None, refl, sym, ap, subst, ◌∙◌, arith, replicate}
 use Rattle.std.specs.Prelude.{option_map}
-use Rattle.std.specs.List.{fold, filter_map, cons_option}
+use Rattle.std.specs.List.{filter_map, cons_option}
 use Rattle.std.specs.Option.{IsSomeAnd}
 use Rattle.std.specs.Ordering.{ordering_reverse}
-use Rattle.std.specs.Cmp.{ranked, nat_cmp_is}
 use Rattle.std.specs.declared.cmp.Ordering.TheVariants.{Less, Equal}
-use Rattle.std.proofs.lemmas.Cmp.{tied_itself}
+use Rattle.std.proofs.lemmas.Bool.{and_parts, and_from}
+use Rattle.std.proofs.lemmas.Bool.Decides.{Decides-eqb}
+use Rattle.std.proofs.lemmas.List.{take_at}
 use Rattle.std.proofs.lemmas.Option.{same_Some}
 use Rattle.sqlite_value.specs.Order.{Row, row_cmp}
 use Rattle.sqlite_value.proofs.OrderLemmas.{row_cmp_total}
@@ -18,40 +19,38 @@ use Rattle.bike_ledger.specs.declared.entry.EntryKind.TheVariants.{TopUp, Fare, 
 use Rattle.bike_operator.specs.declared.records.Rental.{Rental}
 use Rattle.bike_operator.specs.declared.records.Closing.{Closing}
 use Rattle.bike_operator.specs.Operator.{Operator, item_at, numbered}
-use Rattle.bike_operator.specs.Counts.{open_rentals}
-use Rattle.bike_operator.specs.Sound.{IsBooking, IsOfRental}
+use Rattle.bike_operator.specs.Counts.{open_rentals, count}
+use Rattle.bike_operator.specs.Sound.{IsBooking, IsOfRental, is_fare}
 use Rattle.bike_rows.specs.View.{by_key}
 use Rattle.bike_rows.proofs.OrderLemmas.{Rises, all_has}
 use Rattle.bike_rows.proofs.TreeLemmas.{by_key_total}
 use Rattle.bike_book.specs.Tables.{Tables, Riders, Rentals, Entries}
-use Rattle.bike_book.proofs.Keys.{numbers, number_key}
 use Rattle.bike_schema.specs.Tables.{tables_of, IsOurs}
 use Rattle.bike_readings.specs.Bounds.{IsStoredRentalOf, IsStoredAmount}
 use Rattle.bike_readings.specs.Readings.{entry_read}
 use Rattle.bike_readings.proofs.LedgerRows.{entry_reading}
 use Rattle.bike_readings.specs.ReadOff.{operator_of}
-use Rattle.bike_readings.specs.Demands.{IsGoodEntry, IsOneFare, IsFirstFare}
+use Rattle.bike_readings.specs.Demands.{IsGoodEntry, IsOneFare, IsFirstFare, IsFareOf}
 use Rattle.bike_readings.specs.Rules.{AreInOrder, IsGoodKey, IsGoodAt, rows_below, row_under}
 use Rattle.bike_readings.proofs.Places.{has_under, under_has, has_between, lesser_before}
-use Rattle.bike_readings.proofs.ReadLists.{read_of, has_read}
-use Rattle.bike_readings.proofs.RowRules.{some_with, some_and}
+use Rattle.bike_readings.proofs.RowRules.{some_with, some_is, some_and}
 use Rattle.bike_readings.proofs.RulesLaws.{stored_in_order}
 use Rattle.bike_judges.specs.declared.key.BadKey.{BadKey}
 use Rattle.bike_judges.specs.Judging.{key_row}
-use Rattle.bike_judges.specs.declared.query.Query.TheVariants as query
-use Rattle.bike_judges.specs.Lines.{lines_of}
 use Rattle.bike_judges.specs.Passes.{Demands}
 use Rattle.bike_judges.specs.Verdicts.{EarlierGood, IsFirstFailing, IsTableVerdict}
 use Rattle.bike_judges.specs.Least.{least_key}
 use Rattle.bike_judges.proofs.LeastLaw.{least_verdict}
 use Rattle.bike_judges.proofs.LineLaw.{below_tied}
 use Rattle.bike_ledger_rules.specs.Lines.{FindsFailing}
-use Rattle.bike_ledger_rules.specs.Entries.{entry_names, entry_line, fare_pairs, fares_more, FirstFare, IsFirstOf, FindsSecondFare}
-use Rattle.bike_ledger_rules.specs.declared.fares.Fares.{Fares}
+use Rattle.bike_ledger_rules.specs.Sums.{sum_at}
+use Rattle.bike_ledger_rules.specs.Entries.{entry_rider, entry_rider_line, entry_rental, entry_rental_line, with_fares, is_first, first_fare, IsRentalCount}
+use Rattle.bike_ledger_rules.specs.declared.open_rentals.RentalCount.{RentalCount}
 use Rattle.bike_ledger_rules.proofs.Earlier.{AreGood, earlier_good}
-use Rattle.bike_ledger_rules.proofs.EntryRules.{OfRental, Booked, NamesGood, names_decide}
-use Rattle.bike_ledger_rules.proofs.FareLines.{pair_row, row_pair, fares_failing}
-use Rattle.bike_ledger_rules.proofs.Folds.{entries_read}
+use Rattle.bike_ledger_rules.proofs.EntryRules.{OfRental, Booked, NumberGood, number_decides, book_decides}
+use Rattle.bike_ledger_rules.proofs.FirstFares.{is_fare_of, fares_counted, first_finds, finds_first, kind_of_fare}
+use Rattle.bike_ledger_rules.proofs.Folds.{entries_read, rentals_read, rental_of_row}
+use Rattle.bike_ledger_rules.proofs.Once.{passing_counts, counted_passes}
 use Rattle.bike_ledger_rules.proofs.RiderFolds.{AreWide}
 use Rattle.bike_ledger_rules.proofs.Rows.{demanded, demands, lacking}
 use Rattle.bike_ledger_rules.proofs.Widths.{riders_wide, rentals_wide, entries_wide}
@@ -86,22 +85,45 @@ first_of s e TopUp one is = absurd cc
 first_of s e Fare one is = one.1
 first_of s e Refund one is = absurd cc
 
+-- the rental of a fare
+fare_of : (s : Operator) (e : Entry) (k : EntryKind) → IsOneFare s e k → k ≡ Fare → IsFareOf s e.rental e.amount
+fare_of s e TopUp one is = absurd cc
+fare_of s e Fare one is = one.0
+fare_of s e Refund one is = absurd cc
+
+booked_rental : (s : Operator) (e : Entry) (k : EntryKind) → Booked s k e → k ≡ Fare → (r : Rental) × (numbered e.rental s.rentals ≡ Some r)
+booked_rental s e TopUp it is = absurd cc
+booked_rental s e Fare it is = (it.row, it.found)
+booked_rental s e Refund it is = absurd cc
+
+same_pos : (a b : ℕ) → pos a ≡ pos b → a ≡ b
+same_pos a b e = cc
+
 -- ---- places in lists
 
 module _ {A : Type 0} where
-  item_front : (i : ℕ) (xs ys : List A) (x : A) → item_at i (xs ++ ys) ≡ Some x → i < length xs → Has xs x
+  item_front : (i : ℕ) (xs ys : List A) (x : A) → item_at i (xs ++ ys) ≡ Some x → i < length xs → item_at i xs ≡ Some x
   item_front i [] ys x found low = absurd (omega (arith, low))
-  item_front zero (z ∷ xs) ys x found low = inl (let same : z ≡ x = cc in sym same)
-  item_front (suc i) (z ∷ xs) ys x found low = inr (item_front i xs ys x found (omega (arith, low)))
+  item_front zero (z ∷ xs) ys x found low = found
+  item_front (suc i) (z ∷ xs) ys x found low = item_front i xs ys x found (omega (arith, low))
 
-  numbered_front : (n : ℕ) (xs ys : List A) (x : A) → numbered n (xs ++ ys) ≡ Some x → n ≤ length xs → Has xs x
+  front_item : (i : ℕ) (xs ys : List A) (x : A) → item_at i xs ≡ Some x → item_at i (xs ++ ys) ≡ Some x
+  front_item i [] ys x found = absurd cc
+  front_item zero (z ∷ xs) ys x found = found
+  front_item (suc i) (z ∷ xs) ys x found = front_item i xs ys x found
+
+  item_low : (i : ℕ) (xs : List A) (x : A) → item_at i xs ≡ Some x → i < length xs
+  item_low i [] x found = absurd cc
+  item_low zero (z ∷ xs) x found = omega arith
+  item_low (suc i) (z ∷ xs) x found = let rest = item_low i xs x found in omega (arith, rest)
+
+  numbered_front : (n : ℕ) (xs ys : List A) (x : A) → numbered n (xs ++ ys) ≡ Some x → n ≤ length xs → (i : ℕ) × (item_at i xs ≡ Some x)
   numbered_front zero xs ys x found low = absurd cc
-  numbered_front (suc n) xs ys x found low = item_front n xs ys x found (omega (arith, low))
+  numbered_front (suc n) xs ys x found low = (n, item_front n xs ys x found (omega (arith, low)))
 
-  front_item : (xs ys : List A) (x : A) → Has xs x → (i : ℕ) × (item_at i (xs ++ ys) ≡ Some x) × (i < length xs)
-  front_item [] ys x has = elim has [ ]
-  front_item (z ∷ xs) ys x (inl is) = (zero, ap (λ (y : A). Some y) (sym is), omega arith)
-  front_item (z ∷ xs) ys x (inr later) = let it = front_item xs ys x later in let low = it.2 in (suc it.0, it.1, omega (arith, low))
+  numbered_low : (n : ℕ) (xs : List A) (x : A) → numbered n xs ≡ Some x → n ≤ length xs
+  numbered_low zero xs x found = absurd cc
+  numbered_low (suc n) xs x found = let low = item_low n xs x found in omega (arith, low)
 
   split : (xs : List A) (x : A) → Has xs x → (before : List A) × (behind : List A) × (xs ≡ before ++ x ∷ behind)
   split [] x has = elim has [ ]
@@ -140,14 +162,24 @@ module _ (t : Tables) (up : AreInOrder t) (riders : AreWide 3 t.riders) (rentals
   abbrev s : Operator
   s = operator_of t
 
-  abbrev names : ℕ → Row → Bool
-  names n row = entry_names s.now (open_rentals s) n (entry_line t row)
+  abbrev numbers : ℕ → Row → Bool
+  numbers n row = entry_rider s.now (open_rentals s) n (entry_rider_line t row)
 
-  abbrev Named : Row → Type 0
-  Named = Demands t Entries names
+  abbrev books : ℕ → Row → Bool
+  books n row = entry_rental n (entry_rental_line t row)
 
-  abbrev First : Row → Type 0
-  First key = FirstFare t (row_under t Entries key)
+  -- rentals are numbered from 1
+  abbrev none : List ℤ
+  none = replicate (length t.rentals + 1) (pos 0)
+
+  abbrev fares : ℕ → Row → Bool
+  fares n row = first_fare none t n row
+
+  abbrev Numbered : Row → Type 0
+  Numbered = Demands t Entries numbers
+
+  abbrev Asked : Row → Type 0
+  Asked key = (Numbered key × Demands t Entries books key) × Demands t Entries fares key
 
   good_riders : AreGood t up Riders
   good_riders = earlier_good t up Entries earlier Riders (omega arith)
@@ -156,19 +188,19 @@ module _ (t : Tables) (up : AreInOrder t) (riders : AreWide 3 t.riders) (rentals
   good_rentals = earlier_good t up Entries earlier Rentals (omega arith)
 
   -- what holds of a row under a key of which it was asked
-  named : (key r : Row) → row_under t Entries key ≡ Some r → Has t.entries r → Named key → IsSomeAnd (entry_read r) (NamesGood s (rows_below t Entries key))
-  named key r is has p = (names_decide t up good_riders good_rentals riders rentals r (entries r has) (rows_below t Entries key)).0 (demanded t Entries names key r is p)
+  number_good : (key r : Row) → row_under t Entries key ≡ Some r → Has t.entries r → Numbered key → IsSomeAnd (entry_read r) (NumberGood s (rows_below t Entries key))
+  number_good key r is has p = (number_decides t up good_riders riders r (entries r has) (rows_below t Entries key)).0 (demanded t Entries numbers key r is p)
 
-  key_of : (r : Row) (e : Entry) → entry_read r ≡ Some e → take 1 r ≡ number_key e.number
-  key_of r e is = ap (take 1) (entry_reading.sound r e is).0
+  book_good : (key r : Row) → row_under t Entries key ≡ Some r → Has t.entries r → Demands t Entries books key → IsSomeAnd (entry_read r) (λ e. Booked s e.kind e)
+  book_good key r is has p = (book_decides t up good_rentals rentals r (entries r has) (rows_below t Entries key)).0 (demanded t Entries books key r is p)
 
-  numbers_rise : (a b : Row) (x y : Entry) → entry_read a ≡ Some x → entry_read b ≡ Some y → by_key 1 a b ≡ Less → x.number < y.number
-  numbers_rise a b x y p q low =
-      ranked x.number y.number Less (sym (sym (numbers.compares x.number y.number tt tt) ∙ sym (λ i. row_cmp (key_of a x p i) (key_of b y q i)) ∙ low))
-
-  keys_rise : (a b : Row) (x y : Entry) → entry_read a ≡ Some x → entry_read b ≡ Some y → x.number < y.number → by_key 1 a b ≡ Less
-  keys_rise a b x y p q low =
-      (λ i. row_cmp (key_of a x p i) (key_of b y q i)) ∙ numbers.compares x.number y.number tt tt ∙ sym (nat_cmp_is x.number y.number Less low)
+  -- a rental that is there has a number below the length
+  low_rental : (n : ℕ) (r : Rental) → numbered n s.rentals ≡ Some r → n < length t.rentals + 1
+  low_rental n r found =
+      let low = numbered_low n s.rentals r found in
+      let read : length s.rentals ≡ length (filter_map rental_of_row t.rentals) = ap (λ (rs : List Rental). length rs) (rentals_read t.rentals) in
+      let rows = read_few rental_of_row t.rentals in
+      omega (arith, low, read, rows)
 
   -- ---- a row among those before and behind it
 
@@ -187,17 +219,6 @@ module _ (t : Tables) (up : AreInOrder t) (riders : AreWide 3 t.riders) (rentals
     from_before (z ∷ xs) order x (inl same) = ap (λ (y : Row). by_key 1 y r) same ∙ all_has (λ y. by_key 1 z y ≡ Less) (xs ++ r ∷ behind) r order.0 (has_between 1 xs r behind)
     from_before (z ∷ xs) order x (inr later) = from_before xs order.1 x later
 
-    to_before : (xs : List Row) → Rises (by_key_total 1) (xs ++ r ∷ behind) → (x : Row) → Has (xs ++ r ∷ behind) x → by_key 1 x r ≡ Less → Has xs x
-    to_before [] order x (inl same) low = absurd (let tie : by_key 1 x r ≡ Equal = ap (λ (y : Row). by_key 1 y r) same ∙ tied_itself (by_key_total 1) r in let both = sym low ∙ tie in cc)
-    to_before [] order x (inr later) low =
-        absurd (
-        let above : by_key 1 r x ≡ Less = all_has (λ y. by_key 1 r y ≡ Less) behind x order.0 later in
-        let tie = (by_key_total 1).trans x r x low above in
-        let both = sym tie ∙ tied_itself (by_key_total 1) x in
-        cc)
-    to_before (z ∷ xs) order x (inl same) low = inl same
-    to_before (z ∷ xs) order x (inr later) low = inr (to_before xs order.1 x later low)
-
     abbrev front : List Entry
     front = filter_map entry_read before
 
@@ -205,7 +226,7 @@ module _ (t : Tables) (up : AreInOrder t) (riders : AreWide 3 t.riders) (rentals
     entries_are = entries_read t.entries ∙ ap (filter_map entry_read) parts ∙ read_append entry_read before (r ∷ behind)
 
     -- where all before it are asked, so many are read
-    front_length : ((other : Row) → row_cmp other key ≡ Less → Named other) → length front ≡ length before
+    front_length : ((other : Row) → row_cmp other key ≡ Less → Numbered other) → length front ≡ length before
     front_length all = read_all entry_read before each where
       each : (x : Row) → Has before x → (e : Entry) × (entry_read x ≡ Some e)
       each x has =
@@ -213,104 +234,124 @@ module _ (t : Tables) (up : AreInOrder t) (riders : AreWide 3 t.riders) (rentals
           let under_key : row_cmp (take 1 x) key ≡ Less =
           row_cmp_total.antisymm (take 1 x) key ∙ ap ordering_reverse (sym (row_cmp_total.congr (take 1 r) key (take 1 x) at.1)) ∙ sym (row_cmp_total.antisymm (take 1 x) (take 1 r)) ∙ low in
           let there : Has t.entries x = subst (λ (rows : List Row). Has rows x) (sym parts) (has_front before (r ∷ behind) x has) in
-          let good = named (take 1 x) x (has_under 1 t.entries x (up Entries) there) there (all (take 1 x) under_key) in
-          let it = some_with (NamesGood s (rows_below t Entries (take 1 x))) (entry_read x) good in
+          let good = number_good (take 1 x) x (has_under 1 t.entries x (up Entries) there) there (all (take 1 x) under_key) in
+          let it = some_with (NumberGood s (rows_below t Entries (take 1 x))) (entry_read x) good in
           (it.value, it.value_is)
 
+    -- the fares before it
+    abbrev sums : List ℤ
+    sums = with_fares none (take (rows_below t Entries key) t.entries)
+
+    rows_before : take (rows_below t Entries key) t.entries ≡ before
+    rows_before = ap (λ (n : ℕ). take n t.entries) so_many ∙ ap (take (length before)) parts ∙ take_at before (r ∷ behind) (length before) refl
+
+    sum_is : (n : ℕ) → n < length t.rentals + 1 → sum_at sums n ≡ pos (count (is_fare_of n) front)
+    sum_is n low = ap (λ (rows : List Row). sum_at (with_fares none rows) n) rows_before ∙ fares_counted (length t.rentals + 1) before n low
+
     -- no lesser entry is a fare of the same rental
-    first_fare : ((other : Row) → row_cmp other key ≡ Less → Named other) → (e : Entry) → entry_read r ≡ Some e → e.number ≡ rows_below t Entries key + 1 → e.kind ≡ Fare
-        → ((m : ℕ) → Has (fare_pairs t) (e.rental, m) → m < e.number → ⊥) → IsFirstFare s e.number e.rental
-    first_fare all e read number kind none other x low found fare same =
+    none_before : ((other : Row) → row_cmp other key ≡ Less → Numbered other) → (e : Entry) → e.number ≡ rows_below t Entries key + 1
+        → e.rental < length t.rentals + 1 → sum_at sums e.rental ≡ pos 0 → IsFirstFare s e.number e.rental
+    none_before all e number low zero_is other x less found fare same =
         let few = front_length all in
         let many = so_many in
-        let here = numbered_front other front (filter_map entry_read (r ∷ behind)) x (sym (ap (numbered other) entries_are) ∙ found) (omega (arith, low, number, many, few)) in
-        let row = read_of entry_read before x here in
-        let there : Has t.entries row.item = subst (λ (rows : List Row). Has rows row.item) (sym parts) (has_front before (r ∷ behind) row.item row.has) in
-        let pair = row_pair t up rentals entries row.item x there row.read_is fare in
-        none x.number (subst (λ (n : ℕ). Has (fare_pairs t) (n, x.number)) same pair) (numbers_rise row.item r x e row.read_is read (from_before before rising row.item row.has))
+        let here = numbered_front other front (filter_map entry_read (r ∷ behind)) x (sym (ap (numbered other) entries_are) ∙ found) (omega (arith, less, number, many, few)) in
+        let some = passing_counts (is_fare_of e.rental) front here.0
+        (record { item = x; found = here.1; passes = and_from (x.rental == e.rental) (is_fare x.kind) ((Decides-eqb x.rental e.rental).1 same) (ap is_fare fare) }) in
+        let no : count (is_fare_of e.rental) front ≡ 0 = same_pos (count (is_fare_of e.rental) front) 0 (sym (sum_is e.rental low) ∙ zero_is) in
+        omega (arith, some, no)
 
-    no_pair : (e : Entry) → entry_read r ≡ Some e → e.number ≡ rows_below t Entries key + 1 → IsFirstFare s e.number e.rental → (m : ℕ) → Has (fare_pairs t) (e.rental, m) → m < e.number → ⊥
-    no_pair e read number first m has low =
-        let pair = pair_row t up rentals entries (e.rental, m) has in
-        let fare = pair.1.fare in
-        let rental : e.rental ≡ fare.entry.rental = ap (λ (p : ℕ × ℕ). p.0) fare.pair_is in
-        let entry : m ≡ fare.entry.number = ap (λ (p : ℕ × ℕ). p.1) fare.pair_is in
-        let order = keys_rise pair.1.row r fare.entry e fare.read_is read (omega (arith, low, entry)) in
-        let there = to_before before rising pair.1.row (subst (λ (rows : List Row). Has rows pair.1.row) parts pair.1.has) order in
-        let here = front_item front (filter_map entry_read (r ∷ behind)) fare.entry (has_read entry_read before pair.1.row fare.entry there fare.read_is) in
-        let few = read_few entry_read before in
-        let many = so_many in
-        let place = here.2 in
-        first (suc here.0) fare.entry (omega (arith, place, few, many, number)) (ap (numbered (suc here.0)) entries_are ∙ here.1) fare.kind_is (sym rental)
+    before_none : (e : Entry) → e.number ≡ rows_below t Entries key + 1 → e.rental < length t.rentals + 1 → IsFirstFare s e.number e.rental → sum_at sums e.rental ≡ pos 0
+    before_none e number low first = sum_is e.rental low ∙ ap pos (go (count (is_fare_of e.rental) front) refl) where
+      go : (n : ℕ) → count (is_fare_of e.rental) front ≡ n → n ≡ 0
+      go zero so = refl
+      go (suc n) so =
+          let it = counted_passes (is_fare_of e.rental) front (omega (arith, so)) in
+          let x = it.1.item in
+          let tests = and_parts (x.rental == e.rental) (is_fare x.kind) it.1.passes in
+          let low = item_low it.0 front x it.1.found in
+          let few = read_few entry_read before in
+          let many = so_many in
+          absurd (first (suc it.0) x (omega (arith, low, few, many, number)) (ap (numbered (suc it.0)) entries_are ∙ front_item it.0 front (filter_map entry_read (r ∷ behind)) x it.1.found)
+          (kind_of_fare x.kind tests.1) ((Decides-eqb x.rental e.rental).0 tests.0))
 
   -- ---- a key
 
-  good_key : (key : Row) → ((other : Row) → row_cmp other key ≡ Less → Named other) → Named key → First key → IsGoodKey t Entries key
-  good_key key all p q = go (row_under t Entries key) refl q where
-    go : (o : Option Row) → row_under t Entries key ≡ o → FirstFare t o → IsGoodAt t s Entries key (rows_below t Entries key) o
-    go None is first = tt
-    go (Some r) is first =
+  good_key : (key : Row) → ((other : Row) → row_cmp other key ≡ Less → Numbered other) → Asked key → IsGoodKey t Entries key
+  good_key key all p = go (row_under t Entries key) refl where
+    go : (o : Option Row) → row_under t Entries key ≡ o → IsGoodAt t s Entries key (rows_below t Entries key) o
+    go None is = tt
+    go (Some r) is =
         let has = (under_has 1 key t.entries r is).0 in
         let parts = split t.entries r has in
-        let it = some_with (NamesGood s (rows_below t Entries key)) (entry_read r) (named key r is has p) in
+        let it = some_with (NumberGood s (rows_below t Entries key)) (entry_read r) (number_good key r is has p.0.0) in
         let e = it.value in
+        let booked = some_is (λ e. Booked s e.kind e) (entry_read r) e (book_good key r is has p.0.1) it.value_is in
         let stored = (entry_reading.sound r e it.value_is).1 in
-        let none = subst (IsFirstOf t) it.value_is first in
+        let asked : is_first (sums key r is parts.0 parts.1 parts.2) (Some e) ≡ true = subst (λ (o : Option Entry). is_first (sums key r is parts.0 parts.1 parts.2) o ≡ true) it.value_is (demanded t Entries fares key r is p.1) in
         some_and (IsGoodEntry s (rows_below t Entries key)) (entry_read r) e it.value_is (record {
           number_is = it.fact.number_is;
           room = it.fact.room;
-          good = record { number_is = refl; rider_is = it.fact.rider_is; booking = booking s e e.kind stored.rental stored.amount it.fact.booked; by_now = it.fact.by_now };
-          fare = one_fare s e e.kind it.fact.booked (λ kind. first_fare key r is parts.0 parts.1 parts.2 all e it.value_is it.fact.number_is kind (none kind));
+          good = record { number_is = refl; rider_is = it.fact.rider_is; booking = booking s e e.kind stored.rental stored.amount booked; by_now = it.fact.by_now };
+          fare = one_fare s e e.kind booked (λ kind.
+              let rental = booked_rental s e e.kind booked kind in
+              none_before key r is parts.0 parts.1 parts.2 all e it.fact.number_is (low_rental e.rental rental.0 rental.1) (first_finds e.kind _ asked kind));
         })
 
-  key_good : (key : Row) → IsGoodKey t Entries key → Named key × First key
+  key_good : (key : Row) → IsGoodKey t Entries key → Asked key
   key_good key good = go (row_under t Entries key) refl good where
-    go : (o : Option Row) → row_under t Entries key ≡ o → IsGoodAt t s Entries key (rows_below t Entries key) o → Named key × FirstFare t (row_under t Entries key)
-    go None is h = (lacking t Entries names key is, subst (FirstFare t) (sym is) tt)
+    go : (o : Option Row) → row_under t Entries key ≡ o → IsGoodAt t s Entries key (rows_below t Entries key) o → Asked key
+    go None is h = ((lacking t Entries numbers key is, lacking t Entries books key is), lacking t Entries fares key is)
     go (Some r) is h =
         let has = (under_has 1 key t.entries r is).0 in
         let parts = split t.entries r has in
         let it = some_with (IsGoodEntry s (rows_below t Entries key)) (entry_read r) h in
         let e = it.value in
-        let asked : NamesGood s (rows_below t Entries key) e = record {
-          number_is = it.fact.number_is;
-          room = it.fact.room;
-          rider_is = it.fact.good.rider_is;
-          by_now = it.fact.good.by_now;
-          booked = booked_of s e e.kind it.fact.good.booking it.fact.fare;
-        } in (
-          demands t Entries names key r is ((names_decide t up good_riders good_rentals riders rentals r (entries r has) (rows_below t Entries key)).1 (some_and (NamesGood s (rows_below t Entries key)) (entry_read r) e it.value_is asked)),
-          subst (FirstFare t) (sym is) (subst (IsFirstOf t) (sym it.value_is) (λ kind. no_pair key r is parts.0 parts.1 parts.2 e it.value_is it.fact.number_is (first_of s e e.kind it.fact.fare kind))),
+        let asked : NumberGood s (rows_below t Entries key) e = record { number_is = it.fact.number_is; room = it.fact.room; rider_is = it.fact.good.rider_is; by_now = it.fact.good.by_now } in
+        let first : is_first (sums key r is parts.0 parts.1 parts.2) (Some e) ≡ true = finds_first e.kind _ (λ kind.
+        let fare = fare_of s e e.kind it.fact.fare kind in
+        before_none key r is parts.0 parts.1 parts.2 e it.fact.number_is (low_rental e.rental fare.row fare.found) (first_of s e e.kind it.fact.fare kind)) in (
+          (
+            demands t Entries numbers key r is ((number_decides t up good_riders riders r (entries r has) (rows_below t Entries key)).1 (some_and (NumberGood s (rows_below t Entries key)) (entry_read r) e it.value_is asked)),
+            demands t Entries books key r is ((book_decides t up good_rentals rentals r (entries r has) (rows_below t Entries key)).1
+                (some_and (λ e. Booked s e.kind e) (entry_read r) e it.value_is (booked_of s e e.kind it.fact.good.booking it.fact.fare))),
+          ),
+          demands t Entries fares key r is (subst (λ (o : Option Entry). is_first (sums key r is parts.0 parts.1 parts.2) o ≡ true) (sym it.value_is) first),
         )
 
-  verdict : (v : Option Row) → IsFirstFailing t Entries (λ key. Named key × First key) v → IsTableVerdict t Entries v
-  verdict None all = λ key. good_key key (λ other low. (all other).0) (all key).0 (all key).1
+  verdict : (v : Option Row) → IsFirstFailing t Entries Asked v → IsTableVerdict t Entries v
+  verdict None all = λ key. good_key key (λ other low. (all other).0.0) (all key)
   verdict (Some k) it = record {
     bad = λ good. it.bad (key_good k good);
     own = it.own;
-    before = λ other low. good_key other (λ less under. (it.before less (row_cmp_total.trans less other k under low)).0) (it.before other low).0 (it.before other low).1;
+    before = λ other low. good_key other (λ less under. (it.before less (row_cmp_total.trans less other k under low)).0.0) (it.before other low);
   }
 
-  pub entries_verdict : (a b : Option Row) → IsFirstFailing t Entries Named a → IsFirstFailing t Entries First b → IsTableVerdict t Entries (least_key a b)
-  entries_verdict a b p q = verdict (least_key a b) (least_verdict t Entries Named First a b p q)
+  pub entries_verdict : (a b c : Option Row) → IsFirstFailing t Entries Numbered a → IsFirstFailing t Entries (Demands t Entries books) b → IsFirstFailing t Entries (Demands t Entries fares) c
+      → IsTableVerdict t Entries (least_key (least_key a b) c)
+  entries_verdict a b c p q u =
+      verdict (least_key (least_key a b) c)
+      (least_verdict t Entries (λ key. Numbered key × Demands t Entries books key) (Demands t Entries fares) (least_key a b) c (least_verdict t Entries Numbered (Demands t Entries books) a b p q) u)
 
-pub entries_judged : (db : Database) → IsOurs db → (moment riding : ℕ) → moment ≡ (operator_of (tables_of db)).now → riding ≡ open_rentals (operator_of (tables_of db)) → EarlierGood (tables_of db) Entries → (a b : Option BadKey)
-    → FindsFailing Entries (λ t n row. entry_names moment riding n (entry_line t row)) db a → FindsSecondFare db b → (found : Option BadKey) → option_map key_row found ≡ least_key (option_map key_row a) (option_map key_row b)
+pub entries_judged : (db : Database) → IsOurs db → (moment : ℕ) → moment ≡ (operator_of (tables_of db)).now → (rentals : RentalCount) → IsRentalCount (tables_of db) rentals
+    → (fares : List ℤ) → fares ≡ replicate rentals.next (pos 0) → EarlierGood (tables_of db) Entries → (a b c : Option BadKey)
+    → FindsFailing Entries (λ t n row. entry_rider moment rentals.riding n (entry_rider_line t row)) db a
+    → FindsFailing Entries (λ t n row. entry_rental n (entry_rental_line t row)) db b
+    → FindsFailing Entries (λ t n row. first_fare fares t n row) db c
+    → (found : Option BadKey) → option_map key_row found ≡ least_key (least_key (option_map key_row a) (option_map key_row b)) (option_map key_row c)
     → IsTableVerdict (tables_of db) Entries (option_map key_row found)
-entries_judged db ours moment riding now many earlier a b p q found is =
+entries_judged db ours moment now rentals are fares zeros earlier a b c p q u found is =
     subst (IsTableVerdict (tables_of db) Entries) (sym is)
-    (entries_verdict (tables_of db) (stored_in_order db) (riders_wide db ours.has) (rentals_wide db ours.has) (entries_wide db ours.has) earlier (option_map key_row a) (option_map key_row b)
-    (subst (λ (n : ℕ). FindsFailing Entries (λ t m row. entry_names n (open_rentals (operator_of (tables_of db))) m (entry_line t row)) db a) now
-    (subst (λ (n : ℕ). FindsFailing Entries (λ t m row. entry_names moment n m (entry_line t row)) db a) many p)) q)
+    (entries_verdict (tables_of db) (stored_in_order db) (riders_wide db ours.has) (rentals_wide db ours.has) (entries_wide db ours.has) earlier (option_map key_row a) (option_map key_row b) (option_map key_row c)
+    (subst (λ (n : ℕ). FindsFailing Entries (λ t m row. entry_rider n (open_rentals (operator_of (tables_of db))) m (entry_rider_line t row)) db a) now
+    (subst (λ (n : ℕ). FindsFailing Entries (λ t m row. entry_rider moment n m (entry_rider_line t row)) db a) are.riding_is p)) q
+    (subst (λ (zs : List ℤ). FindsFailing Entries (λ t m row. first_fare zs t m row) db c) (zeros ∙ ap (λ (n : ℕ). replicate n (pos 0)) are.next_is) u))
 
 -- ---- the passes
 
-pub entry_begins : (t : Tables) (r : Row) → length r ≡ 6 → take 1 (entry_line t r) ≡ take 1 r
-entry_begins t [] wide = absurd cc
-entry_begins t (v ∷ r) wide = refl
+pub rider_line_begins : (t : Tables) (r : Row) → length r ≡ 6 → take 1 (entry_rider_line t r) ≡ take 1 r
+rider_line_begins t [] wide = absurd cc
+rider_line_begins t (v ∷ r) wide = refl
 
-pub fares_judged : (db : Database) → IsOurs db → (first : Fares) → first.last ≡ None → first.bad ≡ None → (found : Option BadKey)
-    → ((v : Option Row) → option_map number_key (fold fares_more first (lines_of query.RentalEntries (tables_of db))).bad ≡ v → option_map key_row found ≡ v) → FindsSecondFare db found
-fares_judged db ours first last bad found says =
-    subst (IsFirstFailing (tables_of db) Entries (λ key. FirstFare (tables_of db) (row_under (tables_of db) Entries key))) (sym (says _ refl))
-    (fares_failing (tables_of db) (stored_in_order db) (rentals_wide db ours.has) (entries_wide db ours.has) first last bad)
+pub rental_line_begins : (t : Tables) (r : Row) → length r ≡ 6 → take 1 (entry_rental_line t r) ≡ take 1 r
+rental_line_begins t [] wide = absurd cc
+rental_line_begins t (v ∷ r) wide = refl

@@ -1,22 +1,16 @@
--- What the lines of a table add up to.
-use Rattle.std.proofs.Common.{◌≡◌, ℕ, ℤ, List, [], ◌∷◌, ◌++◌, length, map, take, Option, Some, None, refl, ap}
+-- What the rows of a table spell.
+use Rattle.std.proofs.Common.{◌≡◌, ℕ, ℤ, List, [], ◌∷◌, ◌++◌, map, Option, Some, None, refl, ap}
 use Rattle.std.specs.Prelude.{option_map}
 use Rattle.std.specs.List.{fold, filter_map, cons_option}
-use Rattle.std.proofs.lemmas.List.{take_at}
 use Rattle.sqlite_value.specs.Order.{Row}
 use Rattle.bike_ledger.specs.Entries.{Entry}
 use Rattle.bike_operator.specs.declared.records.Rental.{Rental}
 use Rattle.bike_readings.specs.Readings.{rental_read, entry_read}
 use Rattle.bike_readings.specs.ReadOff.{rental_in, entry_in}
-use Rattle.bike_judges.specs.Lines.{nulls}
 
 pub fold_append : {A B : Type 0} (f : B → A → B) (b : B) (xs ys : List A) → fold f b (xs ++ ys) ≡ fold f (fold f b xs) ys
 fold_append f b [] ys = refl
 fold_append f b (x ∷ xs) ys = fold_append f (f b x) xs ys
-
--- the row of a line
-pub row_of_line : (width spare : ℕ) (row : Row) → length row ≡ width → take width (row ++ nulls spare) ≡ row
-row_of_line width spare row wide = take_at row (nulls spare) width wide
 
 -- the rental of a row, without what is stored beside it
 abbrev pub rental_of_row : Row → Option Rental

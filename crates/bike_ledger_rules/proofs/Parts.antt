@@ -1,12 +1,12 @@
 -- The parts of a line: a row, and its partners or NULLs.
-use Rattle.std.proofs.Common.{◌≡◌, ℕ, zero, suc, ◌+◌, List, ◌++◌, append_assoc, length, length-append, take, drop, Bool, true, false, cond, Option, Some, None, refl, sym, ap, ◌∙◌, arith}
+use Rattle.std.proofs.Common.{◌≡◌, ℕ, zero, suc, List, ◌++◌, length, take, drop, Bool, true, false, cond, Option, Some, None, refl, ap, ◌∙◌, arith}
 use Rattle.std.specs.List.{list_any}
 use Rattle.std.proofs.lemmas.List.{take_at, drop_at, take_all}
 use Rattle.sqlite_value.specs.Order.{Row}
 use Rattle.sqlite_sql.specs.Ops.{is_null}
 use Rattle.bike_rows.specs.View.{partner, row_with}
 use Rattle.bike_readings.proofs.Places.{under_has}
-use Rattle.bike_judges.specs.Lines.{nulls, or_nulls, with_one, with_two, part}
+use Rattle.bike_judges.specs.Lines.{nulls, or_nulls, with_one, part}
 use Rattle.bike_ledger_rules.proofs.RiderFolds.{AreWide}
 
 pub nulls_wide : (n : ℕ) → length (nulls n) ≡ n
@@ -21,10 +21,6 @@ partner_wide width keys key rows wide = go (list_any is_null key) (row_with keys
   go false None is = nulls_wide width
   go false (Some r) is = wide r (under_has keys key rows r is).0
 
--- what stands behind a list of this length, where it is the last or something follows
-behind : (n m : ℕ) (xs ys zs : Row) → length xs ≡ n → length ys ≡ m → take m (drop n (xs ++ (ys ++ zs))) ≡ ys
-behind n m xs ys zs a b = ap (take m) (drop_at xs (ys ++ zs) n a) ∙ take_at ys zs m b
-
 last : (n m : ℕ) (xs ys : Row) → length xs ≡ n → length ys ≡ m → take m (drop n (xs ++ ys)) ≡ ys
 last n m xs ys a b = ap (take m) (drop_at xs ys n a) ∙ take_all m ys (omega (arith, b))
 
@@ -34,15 +30,3 @@ module _ (row : Row) (width first : ℕ) (p : Option Row) (wide : length row ≡
 
   pub partner_of_one : part width first (with_one first row p) ≡ or_nulls first p
   partner_of_one = last width first row (or_nulls first p) wide p_wide
-
-  module _ (second : ℕ) (q : Option Row) (q_wide : length (or_nulls second q) ≡ second) where
-    pub own_of_two : part 0 width (with_two first second row p q) ≡ row
-    own_of_two = take_at row (or_nulls first p ++ or_nulls second q) width wide
-
-    pub first_of_two : part width first (with_two first second row p q) ≡ or_nulls first p
-    first_of_two = behind width first row (or_nulls first p) (or_nulls second q) wide p_wide
-
-    pub second_of_two : (at : ℕ) → at ≡ width + first → part at second (with_two first second row p q) ≡ or_nulls second q
-    second_of_two at is =
-        ap (λ (line : Row). take second (drop at line)) (sym (append_assoc row (or_nulls first p) (or_nulls second q)))
-        ∙ last at second (row ++ or_nulls first p) (or_nulls second q) (length-append row (or_nulls first p) ∙ omega (arith, wide, p_wide, is)) q_wide

@@ -1,144 +1,133 @@
--- What the entries of a rental add up to.
-use Rattle.std.proofs.Common.{◌≡◌, inl, inr, ℕ, ℤ, pos, ◌+ℤ◌, ◌+◌, ◌≤ℤ◌, ◌==◌, ◌&&◌, ◌||◌, List, [], ◌∷◌, length, map, take, filter, Bool, true, false, cond, Option, Some, None, refl, sym, ap, ◌∙◌, subst, arith}
-use Rattle.std.specs.Prelude.{option_map, is_none, unwrap_or, nat_le, int_le}
-use Rattle.std.specs.Bool.{Decides}
-use Rattle.std.specs.List.{fold, filter_map, cons_option}
-use Rattle.std.specs.Option.{IsSomeAnd}
-use Rattle.std.specs.Ordering.{int_eq}
-use Rattle.std.proofs.lemmas.Bool.{le-leb, leb-true}
-use Rattle.std.proofs.lemmas.Bool.Decides.{Decides-int_eq, Decides-and, Decides-like}
-use Rattle.std.proofs.lemmas.Int.{ints}
+-- What the entries of rentals come to by their numbers is what the ledger says.
+use Rattle.std.proofs.Common.{◌≡◌, ℕ, ℤ, pos, ◌+◌, ◌<◌, ◌≤◌, ◌==◌, ◌&&◌, List, length, filter, replicate, Bool, true, false, cond, Option, Some, None, refl, sym, ap, ap₂, subst, ◌∙◌, arith}
+use Rattle.std.specs.Prelude.{option_map, take}
+use Rattle.std.specs.List.{fold, filter_map}
+use Rattle.std.proofs.lemmas.Bool.Decides.{Decides-eqb}
 use Rattle.std.proofs.lemmas.List.{length-map}
-use Rattle.sqlite_value.specs.Order.{Row, column}
+use Rattle.sqlite_value.specs.Order.{Row}
+use Rattle.sqlite.specs.Effect.{Database}
 use Rattle.bike_ledger.specs.Entries.{Entry}
-use Rattle.bike_ledger.specs.Ledger.{total, given_back, given_back_of, refunded_of}
-use Rattle.bike_operator.specs.declared.records.Closing.{Closing}
+use Rattle.bike_ledger.specs.Ledger.{given_back, refunded_of}
 use Rattle.bike_operator.specs.declared.records.Rental.{Rental}
-use Rattle.bike_operator.specs.Operator.{Operator}
 use Rattle.bike_operator.specs.Counts.{count}
-use Rattle.bike_operator.specs.Sound.{is_fare, fares_of, most_refunded}
-use Rattle.bike_places.proofs.CountLemmas.{one, weight}
-use Rattle.bike_book.specs.Tables.{Tables}
+use Rattle.bike_operator.specs.Sound.{is_fare, fares_of}
+use Rattle.bike_book.specs.Tables.{Tables, Rentals}
+use Rattle.bike_schema.specs.Tables.{tables_of}
 use Rattle.bike_readings.specs.Readings.{entry_read, rental_read}
-use Rattle.bike_readings.proofs.LedgerRows.{entry_reading}
-use Rattle.bike_readings.specs.ReadOff.{operator_of}
-use Rattle.bike_readings.specs.Demands.{HasFare}
+use Rattle.bike_readings.specs.Rules.{row_under, rows_below}
 use Rattle.bike_readings.proofs.Fares.{is_fare_of}
-use Rattle.bike_judges.specs.Lines.{rental_entry_line}
-use Rattle.bike_judges.specs.Passes.{is_good_with}
-use Rattle.bike_ledger_rules.specs.declared.rental_entries.RentalAccount.{RentalAccount}
-use Rattle.bike_ledger_rules.specs.Lines.{holds}
-use Rattle.bike_ledger_rules.specs.Rentals.{rental_begins, opened_rental, rental_more, rental_good, rental_key, given_of, fare_of, books_test}
-use Rattle.bike_ledger_rules.proofs.Holds.{holds_number}
-use Rattle.bike_ledger_rules.proofs.Folds.{row_of_line, entries_read}
-use Rattle.bike_ledger_rules.proofs.RiderFolds.{AreWide, count_option}
+use Rattle.bike_readings.proofs.Places.{under_has, lesser_fewer}
+use Rattle.bike_readings.proofs.RulesLaws.{stored_in_order}
+use Rattle.bike_judges.specs.declared.key.BadKey.{BadKey}
+use Rattle.bike_judges.specs.Judging.{key_row}
+use Rattle.bike_judges.specs.Passes.{first_failing, OfRow, Demands}
+use Rattle.bike_judges.specs.Verdicts.{IsFirstFailing}
+use Rattle.bike_judges.proofs.LineLaw.{below_tied, rows_verdict}
+use Rattle.bike_ledger_rules.specs.declared.rental_entries.RentalEntries.{RentalEntries}
+use Rattle.bike_ledger_rules.specs.Lines.{FindsFailing, first_column}
+use Rattle.bike_ledger_rules.specs.Sums.{sum_at, with_added}
+use Rattle.bike_ledger_rules.specs.Rentals.{is_booked, books_hold, fare_count, refund_sum, books_test, sums_test, with_entry, with_line, AreSums}
+use Rattle.bike_ledger_rules.proofs.Folds.{entries_read}
+use Rattle.bike_ledger_rules.proofs.Rows.{failing_same}
+use Rattle.bike_ledger_rules.proofs.SumLemmas.{with_all, fold_read, fold_held, sum_of_entries, count_of_items}
 
-abbrev given_to : ℕ → Option Entry → ℤ
-given_to rental None = pos 0
-given_to rental (Some e) = given_back_of rental e
+-- ---- the sums of all entries
 
-total_option : (rental : ℕ) (o : Option Entry) (es : List Entry) → total (given_back_of rental) (cons_option o es) ≡ given_to rental o +ℤ total (given_back_of rental) es
-total_option rental None es = omega (arith, ints)
-total_option rental (Some e) es = refl
+abbrev owner : Entry → ℕ
+owner e = e.rental
 
-same_account : (a : RentalAccount) (z y : ℤ) (m n : ℕ) → z ≡ y → m ≡ n → ◌≡◌ {A = RentalAccount} (record a { refunded = z; fares = m }) (record a { refunded = y; fares = n })
-same_account a z y m n p q i = record a { refunded = p i; fares = q i }
+abbrev fare_in : Entry → ℤ
+fare_in e = cond (is_fare e.kind) (pos 1) (pos 0)
 
-unchanged : (a : RentalAccount) (z : ℤ) (n : ℕ) → z ≡ a.refunded → n ≡ a.fares → ◌≡◌ {A = RentalAccount} a (record a { refunded = z; fares = n })
-unchanged a z n p q i = record a { refunded = sym p i; fares = sym q i }
+abbrev refund_in : Entry → ℤ
+refund_in e = given_back e.kind e.amount
 
--- one entry more
-entry_step : (a : RentalAccount) (r : Row) → length r ≡ 6
-    → rental_more a (rental_entry_line r) ≡ record a { refunded = a.refunded +ℤ given_to a.rental (entry_read r); fares = a.fares + weight (is_fare_of a.rental) (entry_read r) }
-entry_step a r wide =
-    ap (λ (x : Row). cond (holds (pos a.rental) (column r 3)) (record a { refunded = a.refunded +ℤ given_of (entry_read x); fares = a.fares + fare_of (entry_read x) }) a) (row_of_line 6 4 r wide)
-    ∙ go (entry_read r) (holds (pos a.rental) (column r 3)) (λ e is. ap (λ (x : Row). holds (pos a.rental) (column x 3)) (entry_reading.sound r e is).0 ∙ holds_number a.rental e.rental)
-  where
-    own : (b c : Bool) (z : ℤ) → cond b (record a { refunded = a.refunded +ℤ z; fares = a.fares + cond c 1 0 }) a ≡ record a { refunded = a.refunded +ℤ cond b z (pos 0); fares = a.fares + one (c && b) }
-    own true true z = refl
-    own true false z = refl
-    own false true z = unchanged a (a.refunded +ℤ pos 0) (a.fares + 0) (omega (arith, ints)) (omega arith)
-    own false false z = unchanged a (a.refunded +ℤ pos 0) (a.fares + 0) (omega (arith, ints)) (omega arith)
+turned : (a b : Bool) → (a && b) ≡ (b && a)
+turned true true = refl
+turned true false = refl
+turned false true = refl
+turned false false = refl
 
-    go : (o : Option Entry) (b : Bool) → ((e : Entry) → o ≡ Some e → b ≡ (e.rental == a.rental))
-        → cond b (record a { refunded = a.refunded +ℤ given_of o; fares = a.fares + fare_of o }) a ≡ record a { refunded = a.refunded +ℤ given_to a.rental o; fares = a.fares + weight (is_fare_of a.rental) o }
-    go None true link = refl
-    go None false link = unchanged a (a.refunded +ℤ pos 0) (a.fares + 0) (omega (arith, ints)) (omega arith)
-    go (Some e) b link =
-        own b (is_fare e.kind) (given_back e.kind e.amount)
-        ∙ ap (λ (c : Bool). record a { refunded = a.refunded +ℤ cond c (given_back e.kind e.amount) (pos 0); fares = a.fares + one (is_fare e.kind && c) }) (link e refl)
+-- so many fares, counted by the owner first
+fares_counted : (number : ℕ) (es : List Entry)
+    → pos (count (λ e. (owner e == number) && is_fare e.kind) es) ≡ pos (length (fares_of number es))
+fares_counted number es =
+    (λ i. pos (count (λ (e : Entry). turned (owner e == number) (is_fare e.kind) i) es))
+    ∙ ap pos (sym (length-map (filter (is_fare_of number) es) (λ e. e.amount)))
 
-pub entries_fold : (rows : List Row) (a : RentalAccount) → AreWide 6 rows → fold rental_more a (map rental_entry_line rows)
-    ≡ record a { refunded = a.refunded +ℤ total (given_back_of a.rental) (filter_map entry_read rows); fares = a.fares + count (is_fare_of a.rental) (filter_map entry_read rows) }
-entries_fold [] a wide = unchanged a (a.refunded +ℤ pos 0) (a.fares + 0) (omega (arith, ints)) (omega arith)
-entries_fold (r ∷ rows) a wide =
-    let es = filter_map entry_read rows in
-    let o = entry_read r in
-    let c = count_option (is_fare_of a.rental) o es in
-    ap (λ (b : RentalAccount). fold rental_more b (map rental_entry_line rows)) (entry_step a r (wide r (inl refl)))
-    ∙ entries_fold rows (record a { refunded = a.refunded +ℤ given_to a.rental o; fares = a.fares + weight (is_fare_of a.rental) o }) (λ x has. wide x (inr has))
-    ∙ same_account a ((a.refunded +ℤ given_to a.rental o) +ℤ total (given_back_of a.rental) es) (a.refunded +ℤ total (given_back_of a.rental) (cons_option o es))
-    ((a.fares + weight (is_fare_of a.rental) o) + count (is_fare_of a.rental) es) (a.fares + count (is_fare_of a.rental) (cons_option o es))
-    (sums a.refunded (given_to a.rental o) (total (given_back_of a.rental) es) ∙ ap (λ (z : ℤ). a.refunded +ℤ z) (sym (total_option a.rental o es))) (omega (arith, c))
-  where
-    sums : (x y z : ℤ) → (x +ℤ y) +ℤ z ≡ x +ℤ (y +ℤ z)
-    sums x y z = omega (arith, ints)
+module _ (t : Tables) where
+  abbrev es : List Entry
+  es = filter_map entry_read t.entries
 
--- ---- what is asked of a rental with its entries
+  -- from nothing on
+  module _ (next : ℕ) (next_is : next ≡ length t.rentals + 1)
+      (none : RentalEntries) (fares : none.fares ≡ replicate next (pos 0)) (refunds : none.refunds ≡ replicate next (pos 0)) where
+    all : fold with_line none t.entries ≡ fold with_entry none es
+    all = fold_read entry_read with_entry t.entries none
 
-pub record BooksGood (s : Operator) (e : ℕ × Rental × ℤ) : Type 0 where
-  pub booked : HasFare s e.0 e.1.closing
-  pub refunded_is : e.2 ≡ refunded_of e.0 s.entries
-  pub refunded : refunded_of e.0 s.entries ≤ℤ most_refunded e.1.closing
+    all_fares : (fold with_entry none es).fares ≡ with_all owner fare_in (replicate next (pos 0)) es
+    all_fares =
+        fold_held (λ (a : RentalEntries). a.fares) with_entry (λ sums e. with_added sums (owner e) (fare_in e)) (λ a e. refl) es none
+        ∙ ap (λ (sums : List ℤ). with_all owner fare_in sums es) fares
 
-at_most_z : (a b : ℤ) → Decides (int_le a b) (a ≤ℤ b)
-at_most_z a b = (λ e. grind (arith, ints, e), λ h. grind (arith, ints, h))
+    all_refunds : (fold with_entry none es).refunds ≡ with_all owner refund_in (replicate next (pos 0)) es
+    all_refunds =
+        fold_held (λ (a : RentalEntries). a.refunds) with_entry (λ sums e. with_added sums (owner e) (refund_in e)) (λ a e. refl) es none
+        ∙ ap (λ (sums : List ℤ). with_all owner refund_in sums es) refunds
 
-module _ (t : Tables) (entries : AreWide 6 t.entries) where
-  abbrev s : Operator
-  s = operator_of t
+    -- THE SUMS of all entries are those of the ledger
+    pub sums_are : AreSums t (fold with_line none t.entries)
+    sums_are = record {
+      fares = λ number low.
+          ap (λ (a : RentalEntries). sum_at a.fares number) all ∙ ap (λ (sums : List ℤ). sum_at sums number) all_fares
+          ∙ count_of_items owner (λ e. is_fare e.kind) next es number (omega (arith, low, next_is)) ∙ fares_counted number es
+          ∙ ap (λ (xs : List Entry). pos (length (fares_of number xs))) (sym (entries_read t.entries));
+      refunds = λ number low.
+          ap (λ (a : RentalEntries). sum_at a.refunds number) all ∙ ap (λ (sums : List ℤ). sum_at sums number) all_refunds
+          ∙ sum_of_entries owner refund_in next es number (omega (arith, low, next_is)) ∙ ap (refunded_of number) (sym (entries_read t.entries));
+    }
 
-  -- how many fares there are
-  fares_are : (n : ℕ) → length (fares_of n s.entries) ≡ count (is_fare_of n) s.entries
-  fares_are n = length-map (filter (is_fare_of n) s.entries) (λ e. e.amount)
+  -- ---- what is asked by them
 
-  all_lines : (a : RentalAccount) → a.refunded ≡ pos 0 → a.fares ≡ 0
-      → fold rental_more a (map rental_entry_line t.entries) ≡ record a { refunded = refunded_of a.rental s.entries; fares = length (fares_of a.rental s.entries) }
-  all_lines a none still =
-      let es = filter_map entry_read t.entries in
-      entries_fold t.entries a entries
-      ∙ same_account a (a.refunded +ℤ total (given_back_of a.rental) es) (refunded_of a.rental s.entries) (a.fares + count (is_fare_of a.rental) es) (length (fares_of a.rental s.entries))
-      (first a.refunded (total (given_back_of a.rental) es) none ∙ ap (total (given_back_of a.rental)) (sym (entries_read t.entries)))
-      (second a.fares (count (is_fare_of a.rental) es) still ∙ ap (count (is_fare_of a.rental)) (sym (entries_read t.entries)) ∙ sym (fares_are a.rental))
-    where
-      first : (x y : ℤ) → x ≡ pos 0 → x +ℤ y ≡ y
-      first x y e = omega (arith, ints, e)
+  module _ (a : RentalEntries) (are : AreSums t a) where
+    same_test : (n : ℕ) (r : Row) → n < length t.rentals → sums_test a n r ≡ books_test t n r
+    same_test n r low = go (rental_read r) where
+      by : (e : ℕ × Rental × ℤ) (next : Bool) → (next ≡ true → e.0 ≤ length t.rentals)
+          → (next && is_booked (sum_at a.fares e.0) (sum_at a.refunds e.0) e.1 e.2)
+          ≡ (next && is_booked (fare_count t e.0) (refund_sum t e.0) e.1 e.2)
+      by e false within = refl
+      by e true within = ap₂ (λ (x y : ℤ). is_booked x y e.1 e.2) (are.fares e.0 (within refl)) (are.refunds e.0 (within refl))
 
-      second : (x y : ℕ) → x ≡ 0 → x + y ≡ y
-      second x y e = omega (arith, e)
+      go : (o : Option (ℕ × Rental × ℤ)) → books_hold n (sum_at a.fares) (sum_at a.refunds) o ≡ books_hold n (fare_count t) (refund_sum t) o
+      go None = refl
+      go (Some e) = by e (e.0 == n + 1) (λ next. let is = (Decides-eqb e.0 (n + 1)).0 next in omega (arith, is, low))
 
-  booked : (n : ℕ) (o : Option Closing) → Decides (is_none (option_map (λ c. c.fare) o) || nat_le 1 (length (fares_of n s.entries))) (HasFare s n o)
-  booked n None = (λ e. tt, λ h. refl)
-  booked n (Some c) = (λ e. leb-true 1 (length (fares_of n s.entries)) e, λ h. le-leb 1 (length (fares_of n s.entries)) h)
+    below : (key r : Row) → row_under t Rentals key ≡ Some r → rows_below t Rentals key < length t.rentals
+    below key r is =
+        let there = under_has 1 key t.rentals r is in
+        subst (λ (n : ℕ). n < length t.rentals) (below_tied 1 (take 1 r) key there.1 t.rentals) (lesser_fewer 1 t.rentals r there.0)
 
-  most : (o : Option Closing) → unwrap_or (option_map (λ c. c.fare) o) (pos 0) ≡ most_refunded o
-  most None = refl
-  most (Some c) = refl
+    to : (key : Row) → Demands t Rentals (sums_test a) key → Demands t Rentals (books_test t) key
+    to key = go (rows_below t Rentals key) (row_under t Rentals key) (below key) where
+      go : (n : ℕ) (o : Option Row) → ((r : Row) → o ≡ Some r → n < length t.rentals) → OfRow (sums_test a) n o → OfRow (books_test t) n o
+      go n None low h = tt
+      go n (Some r) low h = sym (same_test n r (low r refl)) ∙ h
 
-  pub books_decide : (n : ℕ) (row : Row) → length row ≡ 10 → Decides (books_test t n row) (IsSomeAnd (rental_read row) (BooksGood s))
-  books_decide n row wide =
-      subst (λ (x : Row). Decides (is_good_with rental_begins rental_more rental_good rental_key (take 1) (map rental_entry_line t.entries) n (opened_rental (rental_read x))) (IsSomeAnd (rental_read row) (BooksGood s)))
-      (sym (row_of_line 10 0 row wide)) (go (rental_read row))
-    where
-      go : (o : Option (ℕ × Rental × ℤ)) → Decides (is_good_with rental_begins rental_more rental_good rental_key (take 1) (map rental_entry_line t.entries) n (opened_rental o)) (IsSomeAnd o (BooksGood s))
-      go None = (λ e. absurd cc, λ h. absurd h)
-      go (Some e) =
-          let a : RentalAccount = record { rental = e.0; fare = option_map (λ (c : Closing). c.fare) e.1.closing; stored = e.2; refunded = pos 0; fares = 0 } in
-          let sum = refunded_of e.0 s.entries in
-          let fares = length (fares_of e.0 s.entries) in
-          subst (λ (b : RentalAccount). Decides (rental_good n b) (BooksGood s e)) (sym (all_lines a refl refl))
-          (Decides-like ((is_none a.fare || nat_le 1 fares) && (int_eq e.2 sum && int_le sum (unwrap_or a.fare (pos 0))))
-          (λ h. record { booked = h.0; refunded_is = h.1.0; refunded = h.1.1 }) (λ (g : BooksGood s e). (g.booked, (g.refunded_is, g.refunded)))
-          (Decides-and (is_none a.fare || nat_le 1 fares) (int_eq e.2 sum && int_le sum (unwrap_or a.fare (pos 0))) (booked e.0 e.1.closing)
-          (Decides-and (int_eq e.2 sum) (int_le sum (unwrap_or a.fare (pos 0))) (Decides-int_eq e.2 sum)
-          (subst (λ (z : ℤ). Decides (int_le sum (unwrap_or a.fare (pos 0))) (sum ≤ℤ z)) (most e.1.closing) (at_most_z sum (unwrap_or a.fare (pos 0)))))))
+    back : (key : Row) → Demands t Rentals (books_test t) key → Demands t Rentals (sums_test a) key
+    back key = go (rows_below t Rentals key) (row_under t Rentals key) (below key) where
+      go : (n : ℕ) (o : Option Row) → ((r : Row) → o ≡ Some r → n < length t.rentals) → OfRow (books_test t) n o → OfRow (sums_test a) n o
+      go n None low h = tt
+      go n (Some r) low h = same_test n r (low r refl) ∙ h
+
+    pub books_same : (v : Option Row) → IsFirstFailing t Rentals (Demands t Rentals (sums_test a)) v
+        → IsFirstFailing t Rentals (Demands t Rentals (books_test t)) v
+    books_same = failing_same t Rentals (Demands t Rentals (sums_test a)) (Demands t Rentals (books_test t)) to back
+
+pub books_failing : (db : Database) (a : RentalEntries) → AreSums (tables_of db) a → (found : Option BadKey)
+    → ((v : Option Row) → first_failing (sums_test a) first_column 0 (tables_of db).rentals ≡ v → option_map key_row found ≡ v)
+    → FindsFailing Rentals books_test db found
+books_failing db a are found says =
+    let t = tables_of db in
+    books_same t a are (option_map key_row found)
+    (rows_verdict t Rentals (stored_in_order db) (sums_test a) first_column (λ row has. refl) (option_map key_row found)
+    (sym (says (first_failing (sums_test a) first_column 0 t.rentals) refl)))

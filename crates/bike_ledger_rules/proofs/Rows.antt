@@ -1,13 +1,24 @@
 -- What fails first on the rows of a table is its verdict, where each row passes exactly where it is good.
-use Rattle.std.proofs.Common.{◌≡◌, ℕ, Bool, true, Option, Some, None, refl, sym, subst}
+use Rattle.std.proofs.Common.{◌≡◌, ℕ, ◌&&◌, map, length, take, Bool, true, false, Option, Some, None, refl, sym, ap₂, subst}
+use Rattle.std.specs.Prelude.{option_map}
 use Rattle.sqlite_value.specs.Order.{Row}
 use Rattle.sqlite_rules.specs.Lists.{Has}
+use Rattle.sqlite.specs.Effect.{Database}
 use Rattle.bike_book.specs.Tables.{TableName, Tables, rows_in, keys_of}
+use Rattle.bike_schema.specs.Tables.{tables_of}
 use Rattle.bike_readings.specs.ReadOff.{operator_of}
 use Rattle.bike_readings.specs.Rules.{row_under, rows_below, IsGoodRow, MayLack, IsGoodAt, IsGoodKey}
 use Rattle.bike_readings.proofs.Places.{under_has}
-use Rattle.bike_judges.specs.Passes.{OfRow, Demands}
+use Rattle.bike_readings.proofs.RulesLaws.{stored_in_order}
+use Rattle.bike_judges.specs.declared.key.BadKey.{BadKey}
+use Rattle.bike_judges.specs.Judging.{key_row}
+use Rattle.bike_judges.specs.Least.{least_key}
+use Rattle.bike_judges.specs.Passes.{first_failing, OfRow, Demands}
 use Rattle.bike_judges.specs.Verdicts.{IsFirstFailing, IsTableVerdict}
+use Rattle.bike_judges.proofs.LeastLaw.{least_verdict}
+use Rattle.bike_judges.proofs.LineLaw.{lines_verdict}
+use Rattle.bike_ledger_rules.specs.Lines.{first_column, FindsFailing}
+use Rattle.bike_ledger_rules.proofs.RiderFolds.{AreWide}
 
 module _ (t : Tables) (name : TableName) where
   -- demands that are made of the same keys fail first at the same
@@ -39,3 +50,58 @@ module _ (t : Tables) (name : TableName) where
     back : (key : Row) (o : Option Row) → row_under t name key ≡ o → IsGoodAt t (operator_of t) name key (rows_below t name key) o → P key
     back key None is good = it.none key is
     back key (Some r) is good = it.from key r is (under_has (keys_of name) key (rows_in t name) r is).0 good
+
+-- ---- one pass over each line by itself
+
+-- a line begins with its row's key
+abbrev pub BeginsLine : TableName → (Tables → Row → Row) → ℕ → Type 0
+BeginsLine name line width = (t : Tables) (r : Row) → length r ≡ width → take 1 (line t r) ≡ take (keys_of name) r
+
+pub lines_failing : (name : TableName) (line : Tables → Row → Row) (test : ℕ → Row → Bool) (width : ℕ) → BeginsLine name line width
+    → (db : Database) → AreWide width (rows_in (tables_of db) name) → (found : Option BadKey)
+    → ((v : Option Row) → first_failing test first_column 0 (map (line (tables_of db)) (rows_in (tables_of db) name)) ≡ v
+    → option_map key_row found ≡ v)
+    → FindsFailing name (λ t n row. test n (line t row)) db found
+lines_failing name line test width begins db wide found says =
+    let t = tables_of db in
+    lines_verdict t name (stored_in_order db) (line t) test first_column (λ row has. begins t row (wide row has)) (option_map key_row found)
+    (sym (says (first_failing test first_column 0 (map (line t) (rows_in t name))) refl))
+
+-- ---- two tests of the same rows
+
+-- both tests of a row
+abbrev pub both : (Tables → ℕ → Row → Bool) → (Tables → ℕ → Row → Bool) → Tables → ℕ → Row → Bool
+both f g t n row = f t n row && g t n row
+
+module _ (name : TableName) (f g : Tables → ℕ → Row → Bool) where
+  parts : (a b : Bool) → (a && b) ≡ true → (a ≡ true) × (b ≡ true)
+  parts true b e = (refl, e)
+  parts false b e = absurd cc
+
+  module _ (t : Tables) where
+    abbrev P : Row → Type 0
+    P = Demands t name (f t)
+
+    abbrev Q : Row → Type 0
+    Q = Demands t name (g t)
+
+    join : (key : Row) → P key × Q key → Demands t name (both f g t) key
+    join key = go (rows_below t name key) (row_under t name key) where
+      go : (n : ℕ) (o : Option Row) → OfRow (f t) n o × OfRow (g t) n o → OfRow (both f g t) n o
+      go n None h = tt
+      go n (Some r) h = ap₂ (λ (a b : Bool). a && b) h.0 h.1
+
+    split : (key : Row) → Demands t name (both f g t) key → P key × Q key
+    split key = go (rows_below t name key) (row_under t name key) where
+      go : (n : ℕ) (o : Option Row) → OfRow (both f g t) n o → OfRow (f t) n o × OfRow (g t) n o
+      go n None h = (tt, tt)
+      go n (Some r) h = parts (f t n r) (g t n r) h
+
+  -- the lesser of what two passes found fails both tests first
+  pub both_failing : (db : Database) (a b found : Option BadKey) → FindsFailing name f db a → FindsFailing name g db b
+      → option_map key_row found ≡ least_key (option_map key_row a) (option_map key_row b) → FindsFailing name (both f g) db found
+  both_failing db a b found p q is =
+      let t = tables_of db in
+      failing_same t name (λ key. P t key × Q t key) (Demands t name (both f g t)) (join t) (split t) (option_map key_row found)
+      (subst (IsFirstFailing t name (λ key. P t key × Q t key)) (sym is)
+      (least_verdict t name (P t) (Q t) (option_map key_row a) (option_map key_row b) p q))

@@ -1,8 +1,5 @@
--- What the columns before the row of a line say, and what a judge finds in the lines of a query.
-use Rattle.std.specs.Prelude.{ℕ, ℤ, Bool, false, Option, option_map}
-use Rattle.std.specs.Ordering.{int_eq}
-use Rattle.sqlite_value.specs.declared.value.Value.{Value}
-use Rattle.sqlite_value.specs.declared.value.Value.TheVariants.{Int}
+-- What a judge finds in the lines of a query.
+use Rattle.std.specs.Prelude.{ℕ, Bool, take, Option, option_map}
 use Rattle.sqlite_value.specs.Order.{Row}
 use Rattle.sqlite.specs.Effect.{Database}
 use Rattle.bike_book.specs.Tables.{TableName, Tables, Meta}
@@ -13,12 +10,9 @@ use Rattle.bike_judges.specs.Judging.{key_row}
 use Rattle.bike_judges.specs.Passes.{Demands}
 use Rattle.bike_judges.specs.Verdicts.{IsFirstFailing}
 
--- the column holds this whole number
-abbrev pub holds : ℤ → Value → Bool
-holds n (Int z) = int_eq z n
-holds n _ = false
-
--- ---- what is judged
+-- the key of a line
+abbrev pub first_column : Row → Row
+first_column = take 1
 
 -- all keys of meta are good
 abbrev pub MetaGood : Tables → Type 0

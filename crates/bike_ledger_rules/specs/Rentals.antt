@@ -1,28 +1,47 @@
--- What is asked of the lines of rentals: of each with its rider and bicycle, with its plan and station, with the station where it ended, and with its entries.
-use Rattle.std.specs.Prelude.{ℕ, ℤ, pos, ◌+◌, ◌+ℤ◌, ◌==◌, ◌&&◌, ◌||◌, nat_le, int_le, Bool, true, false, if◌then◌else◌, List, [], ◌∷◌, take, map, Option, Some, None, is_some, is_none, option_map, unwrap_or}
+-- What is asked of the lines of rentals: of each with a row that it names, and of each with what its entries come to.
+use Rattle.std.specs.Prelude.{◌≡◌, ◌≤◌, ℕ, ℤ, pos, ◌+◌, ◌==◌, ◌&&◌, ◌||◌, nat_le, int_le, Bool, true, false, if◌then◌else◌, List, [], ◌∷◌, length, Option, Some, None, is_some}
 use Rattle.std.specs.Ordering.{int_eq}
 use Rattle.sqlite_value.specs.Order.{Row, column}
 use Rattle.bike_ledger.specs.Entries.{Entry}
-use Rattle.bike_ledger.specs.Ledger.{given_back}
+use Rattle.bike_ledger.specs.Ledger.{given_back, refunded_of}
 use Rattle.bike_operator.specs.declared.records.Bike.{Bike}
 use Rattle.bike_operator.specs.declared.records.Place.{Place}
 use Rattle.bike_operator.specs.declared.records.Place.TheVariants as place
 use Rattle.bike_operator.specs.declared.records.Rental.{Rental}
 use Rattle.bike_operator.specs.declared.records.Closing.{Closing}
 use Rattle.bike_operator.specs.Counts.{is_open}
-use Rattle.bike_operator.specs.Sound.{is_fare}
-use Rattle.bike_book.specs.Rows.{number_value}
+use Rattle.bike_operator.specs.Sound.{fares_of, most_refunded}
 use Rattle.bike_readings.specs.Readings.{rider_read, bike_read, plan_read, station_read, rental_read, entry_read}
+use Rattle.bike_readings.specs.ReadOff.{operator_of}
 use Rattle.bike_rows.specs.View.{partner}
 use Rattle.bike_book.specs.Tables.{Tables}
-use Rattle.bike_judges.specs.Lines.{part, with_one, with_two, rental_line, rental_entry_line}
-use Rattle.bike_judges.specs.Passes.{is_good_with}
-use Rattle.bike_judges.specs.declared.pass.Opening.{Opening}
-use Rattle.bike_judges.specs.declared.pass.Opening.TheVariants.{Head, Unread, Item}
-use Rattle.bike_ledger_rules.specs.declared.rental_entries.RentalAccount.{RentalAccount}
-use Rattle.bike_ledger_rules.specs.Lines.{holds}
+use Rattle.bike_judges.specs.Lines.{part, with_one}
+use Rattle.bike_ledger_rules.specs.declared.rental_entries.RentalEntries.{RentalEntries}
+use Rattle.bike_ledger_rules.specs.declared.rentals.Named.{Named}
+use Rattle.bike_ledger_rules.specs.declared.rentals.Named.TheVariants as named
+use Rattle.bike_ledger_rules.specs.Entries.{with_fare}
+use Rattle.bike_ledger_rules.specs.Sums.{sum_at, with_added, with_read}
 
--- ---- a rental with its rider and its bicycle
+-- ---- a rental with its rider, its plan or the station where it began
+
+abbrev pub named_line : Named → Tables → Row → Row
+named_line named.Rider t row = with_one 3 row (partner 1 (column row 1 ∷ []) t.riders)
+named_line named.Plan t row = with_one 5 row (partner 1 (column row 3 ∷ []) t.plans)
+named_line named.Station t row = with_one 11 row (partner 1 (column row 4 ∷ []) t.stations)
+
+-- it is there
+abbrev pub has_named : Named → ℕ → Row → Bool
+has_named named.Rider before line = is_some (rider_read (part 10 3 line))
+has_named named.Plan before line = is_some (plan_read (part 10 5 line))
+has_named named.Station before line = is_some (station_read (part 10 11 line))
+
+abbrev pub named_test : Named → Tables → ℕ → Row → Bool
+named_test it t before row = has_named it before (named_line it t row)
+
+-- ---- with its bicycle
+
+abbrev pub bike_line : Tables → Row → Row
+bike_line t row = with_one 8 row (partner 1 (column row 2 ∷ []) t.bikes)
 
 -- in this rental
 abbrev pub is_in : ℕ → Place → Bool
@@ -36,24 +55,27 @@ abbrev pub is_out : ℕ → Rental → Option (ℕ × Bike) → Bool
 is_out number r None = false
 is_out number r (Some b) = if is_open r then is_in number b.1.place else true
 
--- of so many rentals before it it is the next one, and its rider and bicycle are there
-abbrev pub names_hold : ℕ → Row → Option (ℕ × Rental × ℤ) → Bool
-names_hold before line None = false
-names_hold before line (Some e) = (e.0 == before + 1) && (is_some (rider_read (part 10 3 line)) && is_out e.0 e.1 (bike_read (part 13 8 line)))
+abbrev pub bike_holds : Row → Option (ℕ × Rental × ℤ) → Bool
+bike_holds line None = false
+bike_holds line (Some e) = is_out e.0 e.1 (bike_read (part 10 8 line))
 
-abbrev pub rental_names : ℕ → Row → Bool
-rental_names before line = names_hold before line (rental_read (part 0 10 line))
+abbrev pub rental_bike : ℕ → Row → Bool
+rental_bike before line = bike_holds line (rental_read (part 0 10 line))
 
--- ---- with its plan and the station where it began
+abbrev pub bike_test : Tables → ℕ → Row → Bool
+bike_test t before row = rental_bike before (bike_line t row)
 
-abbrev pub starts_hold : Row → Option (ℕ × Rental × ℤ) → Bool
-starts_hold line None = false
-starts_hold line (Some e) = is_some (plan_read (part 10 5 line)) && is_some (station_read (part 15 11 line))
+-- ---- with all that it names
 
-abbrev pub rental_starts : ℕ → Row → Bool
-rental_starts before line = starts_hold line (rental_read (part 0 10 line))
+abbrev pub names_test : Tables → ℕ → Row → Bool
+names_test t before row =
+    (named_test named.Rider t before row && named_test named.Plan t before row)
+    && (named_test named.Station t before row && bike_test t before row)
 
 -- ---- with the station where it ended
+
+abbrev pub ends_line : Tables → Row → Row
+ends_line t row = with_one 11 row (partner 1 (column row 6 ∷ []) t.stations)
 
 abbrev pub stops : Row → Option (List ℕ) → Bool
 stops line None = true
@@ -71,52 +93,47 @@ ends_hold now line (Some e) = nat_le e.1.start now && closes now line e.1.start 
 abbrev pub rental_ends : ℕ → ℕ → Row → Bool
 rental_ends now before line = ends_hold now line (rental_read (part 0 10 line))
 
--- ---- with its entries
+abbrev pub ends_test : ℕ → Tables → ℕ → Row → Bool
+ends_test now t before row = rental_ends now before (ends_line t row)
 
-abbrev pub opened_rental : Option (ℕ × Rental × ℤ) → Opening RentalAccount
-opened_rental None = Unread
-opened_rental (Some e) = Head (record { rental = e.0; fare = option_map (λ c. c.fare) e.1.closing; stored = e.2; refunded = pos 0; fares = 0 })
-
-abbrev pub rental_begins : Row → Opening RentalAccount
-rental_begins line = if holds (pos 0) (column line 1) then opened_rental (rental_read (part 3 10 line)) else Item
-
--- what an entry gives back, and 1 for a fare
-abbrev pub given_of : Option Entry → ℤ
-given_of None = pos 0
-given_of (Some e) = given_back e.kind e.amount
-
-abbrev pub fare_of : Option Entry → ℕ
-fare_of None = 0
-fare_of (Some e) = if is_fare e.kind then 1 else 0
-
--- one more line, which changes nothing where it is another's
-abbrev pub rental_more : RentalAccount → Row → RentalAccount
-rental_more a line =
-    if holds (pos a.rental) (column line 0) then record a { refunded = a.refunded +ℤ given_of (entry_read (part 3 6 line)); fares = a.fares + fare_of (entry_read (part 3 6 line)) } else a
+-- ---- by itself, with what its entries come to
 
 -- A closed rental has a fare, what is stored as refunded is the sum of its refunds, and that is its fare at most.
-abbrev pub rental_good : ℕ → RentalAccount → Bool
-rental_good before a = (is_none a.fare || nat_le 1 a.fares) && (int_eq a.stored a.refunded && int_le a.refunded (unwrap_or a.fare (pos 0)))
+abbrev pub is_booked : ℤ → ℤ → Rental → ℤ → Bool
+is_booked fares refunded r stored =
+    (is_open r || int_le (pos 1) fares) && (int_eq stored refunded && int_le refunded (most_refunded r.closing))
 
-abbrev pub rental_key : RentalAccount → Row
-rental_key a = number_value a.rental ∷ []
+-- of so many rentals before it it is the next one, and it is booked with the fares and refunds of its number
+abbrev pub books_hold : ℕ → (ℕ → ℤ) → (ℕ → ℤ) → Option (ℕ × Rental × ℤ) → Bool
+books_hold before fares refunds None = false
+books_hold before fares refunds (Some e) = (e.0 == before + 1) && is_booked (fares e.0) (refunds e.0) e.1 e.2
 
--- ---- its key
+-- how many fares a rental has in the ledger, and what was refunded of it
+abbrev pub fare_count : Tables → ℕ → ℤ
+fare_count t number = pos (length (fares_of number (operator_of t).entries))
 
-abbrev pub first_column : Row → Row
-first_column = take 1
+abbrev pub refund_sum : Tables → ℕ → ℤ
+refund_sum t number = refunded_of number (operator_of t).entries
 
--- ---- the lines
-
-abbrev pub names_line : Tables → Row → Row
-names_line t row = with_two 3 8 row (partner 1 (column row 1 ∷ []) t.riders) (partner 1 (column row 2 ∷ []) t.bikes)
-
-abbrev pub starts_line : Tables → Row → Row
-starts_line t row = with_two 5 11 row (partner 1 (column row 3 ∷ []) t.plans) (partner 1 (column row 4 ∷ []) t.stations)
-
-abbrev pub ends_line : Tables → Row → Row
-ends_line t row = with_one 11 row (partner 1 (column row 6 ∷ []) t.stations)
-
--- a rental with all entries
 abbrev pub books_test : Tables → ℕ → Row → Bool
-books_test t before row = is_good_with rental_begins rental_more rental_good rental_key (take 1) (map rental_entry_line t.entries) before (rental_begins (rental_line row))
+books_test t before row = books_hold before (fare_count t) (refund_sum t) (rental_read row)
+
+-- ---- the same by sums
+
+abbrev pub sums_test : RentalEntries → ℕ → Row → Bool
+sums_test a before row = books_hold before (sum_at a.fares) (sum_at a.refunds) (rental_read row)
+
+-- one more entry, in the sums of its rental
+abbrev pub with_entry : RentalEntries → Entry → RentalEntries
+with_entry a e = record {
+  fares = with_fare a.fares e;
+  refunds = with_added a.refunds e.rental (given_back e.kind e.amount);
+}
+
+abbrev pub with_line : RentalEntries → Row → RentalEntries
+with_line a line = with_read with_entry a (entry_read line)
+
+-- the sums are those of the ledger, for each number that a good rental has
+pub record AreSums (t : Tables) (a : RentalEntries) : Type 0 where
+  pub fares : (number : ℕ) → number ≤ length t.rentals → sum_at a.fares number ≡ fare_count t number
+  pub refunds : (number : ℕ) → number ≤ length t.rentals → sum_at a.refunds number ≡ refund_sum t number

@@ -12,6 +12,7 @@ mod open_rentals;
 mod rental_entries;
 mod rentals;
 mod riders;
+mod sums;
 
 pub use entries::judge_entries;
 pub use rentals::judge_rentals;

@@ -1,42 +1,50 @@
-//! How many rentals are open.
+//! How many rentals there are, and how many of them are open.
 
-ghost use Rattle.std.specs.Prelude.{◌≡◌};
+ghost use Rattle.std.specs.Prelude.{◌≡◌, length};
 ghost use Rattle.bike_operator.specs.Counts.{open_rentals};
 ghost use Rattle.bike_rows.specs.Calls.{ReadsWhere};
 ghost use Rattle.bike_readings.specs.ReadOff.{operator_of};
 ghost use Rattle.bike_schema.specs.Tables.{IsOurs, tables_of};
-ghost use Rattle.bike_ledger_rules.specs.Entries.{with_open};
+ghost use Rattle.bike_ledger_rules.specs.Entries.{one_rental_more, IsRentalCount};
 
 use bike_judges::{LineFold, Query, fold_lines};
 use bike_readings::{Part, read_rental};
 use bike_schema::StatementFault;
 use sqlite::{Alter, Connection, Row};
 
-/// How many rentals so far are open.
+/// The rentals so far, where they are numbered from 1 with no gap.
 #[derive(Debug, Drop)]
-pub struct OpenRentals {
-    count: u64,
+pub(crate) struct RentalCount {
+    /// The number of the next one.
+    pub(crate) next: usize,
+    /// How many are open.
+    pub(crate) riding: u64,
 }
 
-impl LineFold for OpenRentals {
-    ghost after = { with_open };
+impl LineFold for RentalCount {
+    ghost after = { one_rental_more };
 
     fn add(&mut self, line: &Row) -> Result<(), StatementFault> {
-        match read_rental(Part::whole(line)) {
-            Some(rental) if rental.closing.is_none() => match self.count.checked_add(1) {
-                Some(count) => self.count = count,
-                None => return Err(StatementFault::StoreFailed),
-            },
-            _ => {}
-        }
+        let is_open = match read_rental(Part::whole(line)) {
+            Some(rental) => rental.closing.is_none(),
+            None => false,
+        };
+        let next = self.next.checked_add(1);
+        let riding = self.riding.checked_add(u64::from(is_open));
+        let (Some(next), Some(riding)) = (next, riding) else {
+            return Err(StatementFault::StoreFailed);
+        };
+        self.next = next;
+        self.riding = riding;
         Ok(())
     }
 }
 
-/// How many rentals are open.
-pub(crate) fn count_open<S: Alter>(conn: &mut Connection<S>) -> Result<u64, StatementFault>
-    ensures { ReadsWhere S.Store IsOurs conn.old conn.new result (λ db n. n ≡ open_rentals (operator_of (tables_of db))) }
+/// How many rentals there are. `NoMemory` where memory is refused, `StoreFailed` where the database fails.
+pub(crate) fn count_rentals<S: Alter>(
+    conn: &mut Connection<S>,
+) -> Result<RentalCount, StatementFault>
+    ensures { ReadsWhere S.Store IsOurs conn.old conn.new result (λ db n. IsRentalCount (tables_of db) n) }
 {
-    let counted = fold_lines(conn, Query::Rentals, OpenRentals { count: 0 })?;
-    Ok(counted.count)
+    fold_lines(conn, Query::Rentals, RentalCount { next: 1, riding: 0 })
 }

@@ -1,97 +1,113 @@
-//! Rentals with their entries.
+//! What the entries of rentals come to, by the rental's number.
 
-ghost use Rattle.std.specs.Prelude.{◌≡◌, option_map};
-ghost use Rattle.bike_ledger_rules.specs.Rentals.{rental_begins, rental_more, rental_good, rental_key};
+ghost use Rattle.std.specs.Prelude.{◌≡◌, IfOk, replicate, pos};
+ghost use Rattle.bike_book.specs.Tables.{Rentals};
+ghost use Rattle.bike_rows.specs.Calls.{ReadsWhere};
+ghost use Rattle.bike_schema.specs.Tables.{IsOurs, tables_of};
 ghost use Rattle.bike_readings.specs.Views.{rental_of};
+ghost use Rattle.bike_ledger_rules.specs.Lines.{FindsFailing, first_column};
+ghost use Rattle.bike_ledger_rules.specs.Rentals.{is_booked, books_test, sums_test, with_line, AreSums};
 
-use crate::columns::holds;
-use bike_fields::RentalNumber;
-use bike_fixed::Cents;
-use bike_judges::{Account, BadKey, Opening};
+use crate::columns::number_key;
+use crate::open_rentals::count_rentals;
+use crate::sums::Sums;
+use bike_judges::{BadKey, LineFold, LineJudge, LineTest, Query, fold_lines, judge_lines};
 use bike_ledger::EntryKind;
 use bike_readings::{Part, StoredRental, read_entry, read_rental};
 use bike_schema::StatementFault;
-use sqlite::Row;
+use sqlite::{Alter, Connection, Row};
+use std::alloc::Global;
 
-/// What the entries of a rental come to.
+/// What the entries of each rental come to, by its number.
 #[derive(Debug, Drop)]
-pub struct RentalAccount {
-    rental: RentalNumber,
-    /// Its fare in hundredths; none while it is open.
-    fare: Option<i64>,
-    /// What the row has as refunded, in hundredths.
-    stored: Cents,
-    /// The sum of its refunds so far, in hundredths.
-    refunded: i64,
-    /// How many of its entries so far are fares.
-    fares: u64,
+pub struct RentalEntries {
+    /// How many of them are fares.
+    fares: Sums,
+    /// The sum of its refunds, in hundredths.
+    refunds: Sums,
 }
 
-/// The fare of a closed rental, in hundredths.
-fn fare_of(rental: &StoredRental<'_>) -> Option<i64>
-    ensures { result ≡ option_map (λ c. c.fare) (rental_of rental.now).1.closing }
-{
-    match &rental.closing {
-        Some(closing) => Some(closing.fare),
-        None => None,
-    }
-}
-
-impl Account for RentalAccount {
-    ghost begins = { rental_begins };
-
-    ghost more = { rental_more };
-
-    ghost good = { rental_good };
-
-    ghost key = { rental_key };
-
-    fn begin(line: &Row) -> Result<Opening<RentalAccount>, StatementFault> {
-        if !holds(line, 1, 0) {
-            return Ok(Opening::Item);
-        }
-        match read_rental(Part::of(line, 3, 10)) {
-            Some(row) => Ok(Opening::Head(RentalAccount {
-                rental: row.rental,
-                fare: fare_of(&row),
-                stored: row.refunded,
-                refunded: 0,
-                fares: 0,
-            })),
-            None => Ok(Opening::Unread),
-        }
-    }
+impl LineFold for RentalEntries {
+    ghost after = { with_line };
 
     fn add(&mut self, line: &Row) -> Result<(), StatementFault> {
-        if !holds(line, 0, i64::from(self.rental.get())) {
-            return Ok(());
-        }
-        let Some(entry) = read_entry(Part::of(line, 3, 6)) else {
+        let Some(entry) = read_entry(Part::whole(line)) else {
             return Ok(());
         };
-        match entry.kind {
-            EntryKind::TopUp => {}
-            EntryKind::Fare => match self.fares.checked_add(1) {
-                Some(fares) => self.fares = fares,
-                None => return Err(StatementFault::StoreFailed),
-            },
-            EntryKind::Refund => match self.refunded.checked_add(entry.amount) {
-                Some(refunded) => self.refunded = refunded,
-                None => return Err(StatementFault::StoreFailed),
-            },
-        }
-        Ok(())
-    }
-
-    fn is_good(&self, _before: u64) -> bool {
-        let (is_booked, most) = match self.fare {
-            Some(fare) => (self.fares >= 1, fare),
-            None => (true, 0),
+        let (fares, refunded) = match entry.kind {
+            EntryKind::TopUp => (0, 0),
+            EntryKind::Fare => (1, 0),
+            EntryKind::Refund => (0, entry.amount),
         };
-        is_booked && self.stored.hundredths() == self.refunded && self.refunded <= most
+        let rental = entry.rental as usize;
+        self.fares.add(rental, fares)?;
+        self.refunds.add(rental, refunded)
+    }
+}
+
+/// Whether a rental is booked well with so many fares and so much refunded, in hundredths.
+fn is_booked(rental: &StoredRental<'_>, fares: i64, refunded: i64) -> bool
+    ensures { result ≡ is_booked fares refunded (rental_of rental.now).1 (rental_of rental.now).2 }
+{
+    let (has_fare, most) = match &rental.closing {
+        Some(closing) => (fares >= 1, closing.fare),
+        None => (true, 0),
+    };
+    has_fare && rental.refunded.hundredths() == refunded && refunded <= most
+}
+
+impl LineTest for RentalEntries {
+    ghost test = { sums_test };
+
+    ghost key = { λ this. first_column };
+
+    fn is_good(&self, before: u64, line: &Row) -> Result<bool, StatementFault> {
+        let Some(rental) = read_rental(Part::whole(line)) else {
+            return Ok(false);
+        };
+        let number = rental.rental.get();
+        let is_next = u64::from(number).checked_sub(1) == Some(before);
+        let fares = self.fares.at(number as usize);
+        let refunded = self.refunds.at(number as usize);
+        Ok(is_next && is_booked(&rental, fares, refunded))
     }
 
-    fn bad_key(self) -> BadKey {
-        BadKey::Number(i64::from(self.rental.get()))
+    fn bad_key(&self, line: &Row) -> Result<BadKey, StatementFault> {
+        number_key(line)
     }
+}
+
+/// Sums of no entries, for rentals whose numbers are below `next`. `NoMemory` where memory is refused.
+fn no_entries(alloc: Global, next: usize) -> Result<RentalEntries, StatementFault>
+    ensures fares { IfOk result (λ sums. sums.fares ≡ replicate next (pos 0)) }
+    ensures refunds { IfOk result (λ sums. sums.refunds ≡ replicate next (pos 0)) }
+{
+    let fares = Sums::zeros(alloc, next)?;
+    let refunds = Sums::zeros(alloc, next)?;
+    Ok(RentalEntries { fares, refunds })
+}
+
+/// What the entries of each rental come to, for each number that a good rental has. `NoMemory` where memory is refused, `StoreFailed`
+/// where the database fails or a sum passes 64 bits.
+fn sum_entries<S: Alter>(
+    alloc: Global,
+    conn: &mut Connection<S>,
+) -> Result<RentalEntries, StatementFault>
+    ensures { ReadsWhere S.Store IsOurs conn.old conn.new result (λ db sums. AreSums (tables_of db) sums) }
+{
+    let rentals = count_rentals(conn)?;
+    let none = no_entries(alloc, rentals.next)?;
+    fold_lines(conn, Query::Entries, none)
+}
+
+/// The first rental whose number isn't the next, that is closed with no fare, or whose refunds are not what is stored or over its
+/// fare. `NoMemory` where memory is refused, `StoreFailed` where the database fails or a sum passes 64 bits.
+pub(crate) fn judge_books<S: Alter>(
+    alloc: Global,
+    conn: &mut Connection<S>,
+) -> Result<Option<BadKey>, StatementFault>
+    ensures { ReadsWhere S.Store IsOurs conn.old conn.new result (FindsFailing Rentals books_test) }
+{
+    let sums = sum_entries(alloc, conn)?;
+    judge_lines(conn, Query::Rentals, LineJudge::new(sums))
 }

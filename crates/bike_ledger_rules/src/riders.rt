@@ -1,115 +1,168 @@
-//! Riders with their rentals and entries.
+//! Riders with the sums of their entries and the counts of their open rentals.
 
-ghost use Rattle.std.specs.Prelude.{◌≡◌, ◌+ℤ◌, IfOk};
-ghost use Rattle.bike_ledger_rules.specs.Riders.{rider_begins, riding_in, credit_in, rider_more, rider_good, rider_key};
+ghost use Rattle.std.specs.Prelude.{◌≡◌, fold};
 ghost use Rattle.bike_book.specs.Tables.{Riders};
 ghost use Rattle.bike_rows.specs.Calls.{ReadsWhere};
-ghost use Rattle.bike_schema.specs.Tables.{IsOurs};
+ghost use Rattle.bike_schema.specs.Tables.{IsOurs, tables_of};
+ghost use Rattle.bike_readings.specs.ReadOff.{operator_of};
 ghost use Rattle.bike_judges.specs.Verdicts.{JudgesTable};
+ghost use Rattle.bike_ledger_rules.specs.Lines.{FindsFailing, first_column};
+ghost use Rattle.bike_ledger_rules.specs.Riders.{with_number, with_entry, with_rental, with_credit, with_ride, rider_test, ArePast};
 
-use crate::columns::holds;
-use bike_fields::RiderNumber;
-use bike_fixed::Cents;
-use bike_judges::{Account, BadKey, Opening, Query, StretchJudge, judge_lines};
+use crate::columns::number_key;
+use crate::sums::Sums;
+use bike_judges::{BadKey, LineFold, LineJudge, LineTest, Query, fold_lines, judge_lines};
 use bike_ledger::EntryKind;
 use bike_operator::MOST_RIDERS;
 use bike_readings::{Part, read_entry, read_rental, read_rider};
 use bike_schema::StatementFault;
 use sqlite::{Alter, Connection, Row};
+use std::alloc::Global;
 
-/// What the rentals and entries of a rider come to.
+/// How far the numbers of riders go.
 #[derive(Debug, Drop)]
-pub struct RiderAccount {
-    rider: RiderNumber,
-    /// His balance as the row has it, in hundredths.
-    stored: Cents,
-    /// The sum of his entries so far, in hundredths.
-    sum: i64,
-    /// How many of his rentals so far are open.
-    riding: u64,
+struct RiderNumbers {
+    /// One more than the greatest so far.
+    past: usize,
 }
 
-/// 1 where the line is that of an open rental.
-fn riding_in(line: &Row) -> u64
-    ensures { result ≡ riding_in line.now }
-{
-    if !holds(line, 1, 1) {
-        return 0;
-    }
-    match read_rental(Part::of(line, 3, 10)) {
-        Some(rental) if rental.closing.is_none() => 1,
-        _ => 0,
-    }
-}
-
-/// The sum with what the line adds to it, in hundredths. `StoreFailed` where it passes 64 bits.
-fn with_credit(sum: i64, line: &Row) -> Result<i64, StatementFault>
-    ensures { IfOk result (λ total. total ≡ sum +ℤ credit_in line.now) }
-{
-    if !holds(line, 1, 2) {
-        return Ok(sum);
-    }
-    let Some(entry) = read_entry(Part::of(line, 3, 6)) else {
-        return Ok(sum);
-    };
-    let total = match entry.kind {
-        EntryKind::TopUp | EntryKind::Refund => sum.checked_add(entry.amount),
-        EntryKind::Fare => sum.checked_sub(entry.amount),
-    };
-    total.ok_or(StatementFault::StoreFailed)
-}
-
-impl Account for RiderAccount {
-    ghost begins = { rider_begins };
-
-    ghost more = { rider_more };
-
-    ghost good = { rider_good };
-
-    ghost key = { rider_key };
-
-    fn begin(line: &Row) -> Result<Opening<RiderAccount>, StatementFault> {
-        if !holds(line, 1, 0) {
-            return Ok(Opening::Item);
-        }
-        match read_rider(Part::of(line, 3, 3)) {
-            Some(row) => Ok(Opening::Head(RiderAccount {
-                rider: row.rider,
-                stored: row.balance,
-                sum: 0,
-                riding: 0,
-            })),
-            None => Ok(Opening::Unread),
-        }
-    }
+impl LineFold for RiderNumbers {
+    ghost after = { with_number };
 
     fn add(&mut self, line: &Row) -> Result<(), StatementFault> {
-        if !holds(line, 0, i64::from(self.rider.get())) {
-            return Ok(());
+        if let Some(row) = read_rider(Part::whole(line)) {
+            self.past = self.past.max(row.rider.get() as usize + 1);
         }
-        let sum = with_credit(self.sum, line)?;
-        let Some(riding) = self.riding.checked_add(riding_in(line)) else {
-            return Err(StatementFault::StoreFailed);
-        };
-        self.sum = sum;
-        self.riding = riding;
         Ok(())
     }
+}
 
-    fn is_good(&self, before: u64) -> bool {
-        before < u64::from(MOST_RIDERS) && self.stored.hundredths() == self.sum && self.riding <= 1
+/// What the entries of each rider come to.
+#[derive(Debug, Drop)]
+struct Balances {
+    /// By the rider's number, in hundredths.
+    sums: Sums,
+}
+
+impl LineFold for Balances {
+    ghost after = { with_entry };
+
+    fn add(&mut self, line: &Row) -> Result<(), StatementFault> {
+        let Some(entry) = read_entry(Part::whole(line)) else {
+            return Ok(());
+        };
+        let credit = match entry.kind {
+            EntryKind::TopUp | EntryKind::Refund => Some(entry.amount),
+            EntryKind::Fare => entry.amount.checked_neg(),
+        };
+        let credit = credit.ok_or(StatementFault::StoreFailed)?;
+        self.sums.add(entry.rider.get() as usize, credit)
+    }
+}
+
+/// How many rentals of each rider are open.
+#[derive(Debug, Drop)]
+struct OpenRides {
+    /// By the rider's number.
+    counts: Sums,
+}
+
+impl LineFold for OpenRides {
+    ghost after = { with_rental };
+
+    fn add(&mut self, line: &Row) -> Result<(), StatementFault> {
+        let Some(rental) = read_rental(Part::whole(line)) else {
+            return Ok(());
+        };
+        let rides = if rental.closing.is_none() { 1 } else { 0 };
+        self.counts.add(rental.rider.get() as usize, rides)
+    }
+}
+
+/// What a rider's row is tested with.
+#[derive(Debug, Drop)]
+struct RiderTest {
+    /// What the entries of each rider come to, in hundredths.
+    balances: Sums,
+    /// How many rentals of each rider are open.
+    rides: Sums,
+}
+
+impl LineTest for RiderTest {
+    ghost test = { λ this. rider_test this.balances this.rides };
+
+    ghost key = { λ this. first_column };
+
+    fn is_good(&self, before: u64, line: &Row) -> Result<bool, StatementFault> {
+        let Some(row) = read_rider(Part::whole(line)) else {
+            return Ok(false);
+        };
+        let rider = row.rider.get() as usize;
+        Ok(
+            before < u64::from(MOST_RIDERS)
+                && row.balance.hundredths() == self.balances.at(rider)
+                && self.rides.at(rider) <= 1,
+        )
     }
 
-    fn bad_key(self) -> BadKey {
-        BadKey::Number(i64::from(self.rider.get()))
+    fn bad_key(&self, line: &Row) -> Result<BadKey, StatementFault> {
+        number_key(line)
     }
+}
+
+/// One more than the greatest number of a rider, and 0 where there is none.
+fn past_riders<S: Alter>(conn: &mut Connection<S>) -> Result<usize, StatementFault>
+    ensures { ReadsWhere S.Store IsOurs conn.old conn.new result (λ db past. ArePast past (tables_of db).riders) }
+{
+    let numbers = fold_lines(conn, Query::RiderRows, RiderNumbers { past: 0 })?;
+    Ok(numbers.past)
+}
+
+/// The sums with what each entry adds to its rider's.
+fn add_entries<S: Alter>(conn: &mut Connection<S>, sums: Sums) -> Result<Sums, StatementFault>
+    ensures { ReadsWhere S.Store IsOurs conn.old conn.new result
+        (λ db balances. balances ≡ fold with_credit sums (operator_of (tables_of db)).entries) }
+{
+    let added = fold_lines(conn, Query::Entries, Balances { sums })?;
+    Ok(added.sums)
+}
+
+/// The counts with one more of its rider for each open rental.
+fn count_rides<S: Alter>(conn: &mut Connection<S>, counts: Sums) -> Result<Sums, StatementFault>
+    ensures { ReadsWhere S.Store IsOurs conn.old conn.new result
+        (λ db rides. rides ≡ fold with_ride counts (operator_of (tables_of db)).rentals) }
+{
+    let counted = fold_lines(conn, Query::Rentals, OpenRides { counts })?;
+    Ok(counted.counts)
+}
+
+/// The first rider that fails the test with these sums and counts.
+fn judge_rows<S: Alter>(
+    conn: &mut Connection<S>,
+    balances: Sums,
+    rides: Sums,
+) -> Result<Option<BadKey>, StatementFault>
+    ensures { ReadsWhere S.Store IsOurs conn.old conn.new result
+        (FindsFailing Riders (λ t n row. rider_test balances rides n row)) }
+{
+    judge_lines(
+        conn,
+        Query::RiderRows,
+        LineJudge::new(RiderTest { balances, rides }),
+    )
 }
 
 /// The first bad key of `riders`: a row that spells no rider, a rider past the limit, one whose stored balance isn't the sum of his
 /// entries, or one with two open rentals. `NoMemory` where memory is refused, `StoreFailed` where the database fails or a sum
 /// passes 64 bits.
-pub fn judge_riders<S: Alter>(conn: &mut Connection<S>) -> Result<Option<BadKey>, StatementFault>
+pub fn judge_riders<S: Alter>(
+    alloc: Global,
+    conn: &mut Connection<S>,
+) -> Result<Option<BadKey>, StatementFault>
     ensures { ReadsWhere S.Store IsOurs conn.old conn.new result (JudgesTable Riders) }
 {
-    judge_lines(conn, Query::Riders, StretchJudge::<RiderAccount>::new())
+    let past = past_riders(conn)?;
+    let balances = add_entries(conn, Sums::zeros(alloc, past)?)?;
+    let rides = count_rides(conn, Sums::zeros(alloc, past)?)?;
+    judge_rows(conn, balances, rides)
 }

@@ -2,6 +2,8 @@ mod SumLaw
 mod TextLemmas
 mod InfoLemmas
 mod TypeLemmas
+mod TallyLemmas
+mod StatusLemmas
 mod CountRows
 mod AfterLaw
 mod SpanLaw

@@ -1,5 +1,5 @@
 -- A station's counts are the sums of those of its types, since each bicycle is of one type.
-use Rattle.std.proofs.Common.{◌≡◌, ◌+◌, ◌++◌, inl, inr, ℕ, List, [], ◌∷◌, Bool, true, false, cond, T, ◌&&◌, not, Some, refl, sym, ap, subst, ◌∙◌, arith}
+use Rattle.std.proofs.Common.{◌≡◌, ◌+◌, ◌++◌, inl, inr, ℕ, List, [], ◌∷◌, map, Bool, true, false, cond, T, ◌&&◌, not, Some, refl, sym, ap, subst, ◌∙◌, arith}
 use Rattle.std.specs.List.{sum_by}
 use Rattle.std.specs.Ordering.{eq_by_cmp, is_eq}
 use Rattle.std.specs.Cmp.{eq_by_cmp_equiv}
@@ -53,6 +53,14 @@ module _ {X : Type 0} where
       let here = same x in
       let rest = sum_same f g xs same in
       omega (arith, a, b, here, rest)
+
+sum_map : {X Y : Type 0} (g : X → Y) (f : Y → ℕ) (xs : List X) → sum_by f (map g xs) ≡ sum_by (λ x. f (g x)) xs
+sum_map g f [] = refl
+sum_map g f (x ∷ xs) =
+    let a = sum_cons f (g x) (map g xs) in
+    let b = sum_cons (λ y. f (g y)) x xs in
+    let rest = sum_map g f xs in
+    omega (arith, a, b, rest)
 
 -- ---- how often a type stands among others
 
@@ -131,9 +139,13 @@ module _ (s : Operator) (sound : IsSound s) where
       times_once b.1.type_id (fin.entries s.types) there.0 (fin.entries_sorted s.types) (sym (fin.get-entries s.types b.1.type_id) ∙ there.1)
 
   -- AVAILABLE: the sum over the types
-  pub available_sum : (station : List ℕ) → sum_by (λ e. available_of s station e.0) (fin.entries s.types) ≡ available s station
-  available_sum station = by_types (is_available s station) (fin.entries s.types) (fin.entries s.bikes) typed
+  pub available_sum : (station : List ℕ) → sum_by (available_of s station) (fin.keys s.types) ≡ available s station
+  available_sum station =
+      sum_map (λ (e : List ℕ × TypeRow). e.0) (available_of s station) (fin.entries s.types)
+      ∙ by_types (is_available s station) (fin.entries s.types) (fin.entries s.bikes) typed
 
   -- DISABLED: the sum over the types
-  pub disabled_sum : (station : List ℕ) → sum_by (λ e. disabled_of s station e.0) (fin.entries s.types) ≡ disabled s station
-  disabled_sum station = by_types (λ b. is_at station b.place && not (is_available s station b)) (fin.entries s.types) (fin.entries s.bikes) typed
+  pub disabled_sum : (station : List ℕ) → sum_by (disabled_of s station) (fin.keys s.types) ≡ disabled s station
+  disabled_sum station =
+      sum_map (λ (e : List ℕ × TypeRow). e.0) (disabled_of s station) (fin.entries s.types)
+      ∙ by_types (λ b. is_at station b.place && not (is_available s station b)) (fin.entries s.types) (fin.entries s.bikes) typed

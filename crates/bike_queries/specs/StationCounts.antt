@@ -1,26 +1,27 @@
 -- The counts of a station, as GBFS's `station_status` has them.
-use Rattle.std.specs.Prelude.{◌≡◌, ◌+◌, ◌++◌, [], ◌∷◌, ℕ, List, Bool, false, map, find, unwrap_or, Option, Some, None}
+use Rattle.std.specs.Prelude.{◌≡◌, ◌+◌, ◌++◌, [], ◌∷◌, ℕ, List, Bool, false, map, find, unwrap_or, Option, Some, None, IfSome, option_map}
 use Rattle.std.specs.List.{sum_by}
 use Rattle.std.specs.Str.{bytes_eq}
 use Rattle.std.specs.FinMap as fin
 use Rattle.sqlite_value.specs.declared.value.Value.{Value}
 use Rattle.sqlite_value.specs.declared.value.Value.TheVariants.{Text}
 use Rattle.sqlite_value.specs.Order.{Row, column}
-use Rattle.bike_catalogue.specs.Rows.{TypeRow}
 use Rattle.bike_operator.specs.Operator.{Operator, Station}
 use Rattle.bike_operator.specs.Counts.{available, available_of, disabled, docks_available, docks_broken}
 use Rattle.bike_places.specs.Numbers.{disabled_of}
-use Rattle.bike_book.specs.Stored.{stored_type}
 use Rattle.bike_fleet.specs.declared.counts.TypeCounts.{TypeCounts}
+use Rattle.bike_fleet.specs.declared.stations.DockNumbers.{DockNumbers}
 use Rattle.bike_fleet.specs.Fleet.{no_counts, type_counts_of}
 use Rattle.bike_fleet.specs.Holds.{HoldsAny, HoldsCounts}
 use Rattle.bike_feed_texts.specs.declared.status.TypeCount.{TypeCount}
 use Rattle.bike_queries.specs.declared.counts.Counts.{Counts}
 use Rattle.bike_queries.specs.declared.counts.Tally.{Tally}
+use Rattle.bike_queries.specs.declared.status.StationStatus.{StationStatus}
+use Rattle.bike_queries.specs.After.{IsNextStation}
 
 -- a vehicle type, with its bicycles that are available at a station
-abbrev pub type_count : Operator → List ℕ → List ℕ × TypeRow → TypeCount
-type_count s station e = record { type_id = e.0; count = available_of s station e.0 }
+abbrev pub type_count : Operator → List ℕ → List ℕ → TypeCount
+type_count s station type_id = record { type_id = type_id; count = available_of s station type_id }
 
 -- the text, and no other value
 abbrev pub is_text : List ℕ → Value → Bool
@@ -36,18 +37,10 @@ abbrev pub AreCountRows : Operator → List ℕ → List Row → Type 0
 AreCountRows s station rows = (type_id : List ℕ) (x : Option TypeCounts) → HoldsAny HoldsCounts (find (is_of type_id) rows) x → unwrap_or x no_counts ≡ type_counts_of s station type_id
 
 -- a station's bicycles of some types
-pub record IsTally (s : Operator) (station : List ℕ) (types : List (List ℕ × TypeRow)) (t : Tally) : Type 0 where
-  pub available : t.available ≡ sum_by (λ e. available_of s station e.0) types
-  pub disabled : t.disabled ≡ sum_by (λ e. disabled_of s station e.0) types
-  pub by_type : t.by_type.items ≡ map (type_count s station) types
-
--- The first of the operator's types are counted, and these are the rows of the others.
-pub record IsSoFar (s : Operator) (station : List ℕ) (left : List Row) (t : Tally) : Type 0 where
-  pub front : List (List ℕ × TypeRow)
-  pub rest : List (List ℕ × TypeRow)
-  pub split : fin.entries s.types ≡ front ++ rest
-  pub rows : left ≡ map stored_type rest
-  pub tally : IsTally s station front t
+pub record IsTally (s : Operator) (station : List ℕ) (type_ids : List (List ℕ)) (t : Tally) : Type 0 where
+  pub available : t.available ≡ sum_by (available_of s station) type_ids
+  pub disabled : t.disabled ≡ sum_by (disabled_of s station) type_ids
+  pub by_type : t.by_type.items ≡ map (type_count s station) type_ids
 
 -- one more type is counted
 pub record Adds (old : Tally) (type_id : List ℕ) (counts : TypeCounts) (new : Tally) : Type 0 where
@@ -55,10 +48,20 @@ pub record Adds (old : Tally) (type_id : List ℕ) (counts : TypeCounts) (new : 
   pub disabled : new.disabled ≡ old.disabled + counts.disabled
   pub by_type : new.by_type.items ≡ old.by_type.items ++ record { type_id = type_id; count = counts.available } ∷ []
 
+-- the counts of a station with these numbers of docks and these bicycles
+abbrev pub counts_with : DockNumbers → Tally → Counts
+counts_with docks t = record {
+  available = t.available;
+  by_type = t.by_type;
+  disabled = t.disabled;
+  docks_available = docks.free;
+  docks_disabled = docks.broken;
+}
+
 -- The counts of a station that is there, each type's in the order of the types' identifiers.
 pub record AreCountsOf (s : Operator) (station : List ℕ) (x : Station) (c : Counts) : Type 0 where
   pub available : c.available ≡ available s station
-  pub by_type : c.by_type.items ≡ map (type_count s station) (fin.entries s.types)
+  pub by_type : c.by_type.items ≡ map (type_count s station) (fin.keys s.types)
   pub disabled : c.disabled ≡ disabled s station
   pub docks_available : c.docks_available ≡ docks_available s station x.row.docks
   pub docks_disabled : c.docks_disabled ≡ docks_broken s station x.row.docks
@@ -72,3 +75,9 @@ AreCountsFor s station (Some x) None = ⊥
 
 abbrev pub AreCountsAt : Operator → List ℕ → Option Counts → Type 0
 AreCountsAt s station = AreCountsFor s station (fin.get s.stations station)
+
+-- The next station was answered, and its counts beside, where these are the identifiers of the types.
+abbrev pub IsNextStatus : Operator → List (List ℕ) → Option (List ℕ × Station) → Option StationStatus → Type 0
+IsNextStatus s type_ids next x =
+    IsNextStation next (option_map (λ y. y.info) x)
+    × IfSome x (λ y. type_ids ≡ fin.keys s.types → AreCountsAt s y.info.station.station_id (Some y.counts))

@@ -1,21 +1,20 @@
 //! The counts of a station, by the numbers that its tables keep.
 
-ghost use Rattle.std.specs.Prelude.{◌≡◌, [], ◌∷◌, IfOk, OnOk, find, map};
-ghost use Rattle.std.specs.FinMap.{entries};
+ghost use Rattle.std.specs.Prelude.{◌≡◌, [], ◌∷◌, IfOk, OnOk, find};
 ghost use Rattle.sqlite_value.specs.declared.value.Value.TheVariants.{Text};
-ghost use Rattle.bike_book.specs.Tables.{Counts as CountRows, Types};
-ghost use Rattle.bike_book.specs.Stored.{stored_type};
-ghost use Rattle.bike_book.specs.Found.{rows_by, rows_of};
+ghost use Rattle.bike_book.specs.Tables.{Counts as CountRows};
+ghost use Rattle.bike_book.specs.Found.{rows_by};
 ghost use Rattle.bike_schema.specs.Answers.{Answers};
 ghost use Rattle.bike_fleet.specs.Fleet.{type_counts_of};
 ghost use Rattle.bike_fleet.specs.Holds.{HoldsAny, HoldsCounts};
-ghost use Rattle.bike_queries.specs.StationCounts.{Adds, AreCountRows, AreCountsAt, IsTally, is_of};
+ghost use Rattle.bike_queries.specs.StationCounts.{Adds, AreCountRows, AreCountsAt, IsTally, counts_with, is_of};
 
 use crate::columns::{str_at, whole_at};
+use crate::types::find_type_ids;
 use bike_feed_texts::TypeCount;
 use bike_fields::Ident;
-use bike_fleet::{TypeCounts, find_dock_numbers};
-use bike_schema::{StatementFault, ident_at};
+use bike_fleet::{DockNumbers, TypeCounts, find_dock_numbers};
+use bike_schema::StatementFault;
 use sqlite::{Alter, Connection, Row, params};
 use std::alloc::Global;
 
@@ -36,18 +35,10 @@ pub struct Counts {
 
 /// The counts of a station's bicycles so far.
 #[derive(Drop)]
-struct Tally {
+pub(crate) struct Tally {
     available: u32,
     disabled: u32,
     by_type: Vec<TypeCount>,
-}
-
-/// The rows of all vehicle types, of which there are at most 32, in byte order of their identifiers.
-fn select_types<S: Alter>(conn: &mut Connection<S>) -> Result<Vec<Row>, StatementFault>
-    ensures { Answers S.Store conn.old conn.new result (λ s m rows. rows.items ≡ rows_of s m Types) }
-{
-    let rows = conn.query_all("SELECT * FROM types ORDER BY type_id", &[])?;
-    Ok(rows)
 }
 
 /// The rows of the station's counts, at most one a vehicle type, in byte order of the types' identifiers.
@@ -125,52 +116,68 @@ impl Tally {
         self.disabled = disabled;
         Ok(())
     }
+    /// The counts of a station with these bicycles, whose docks have these numbers.
+    pub(crate) fn with_docks(self, docks: DockNumbers) -> Counts
+        ensures { result ≡ counts_with docks self }
+    {
+        let Tally {
+            available,
+            disabled,
+            by_type,
+        } = self;
+        Counts {
+            available,
+            by_type,
+            disabled,
+            docks_available: docks.free,
+            docks_disabled: docks.broken,
+        }
+    }
 }
 
-/// A station's bicycles of the types in these rows, by the rows of its counts. The list of types is put together in the
-/// room.
+/// A station's bicycles of the types with these identifiers, by the rows of its counts. The list of types is put together in
+/// the room.
 fn tally_rows(
     alloc: Global,
-    types: &[Row],
+    type_ids: &[Ident],
     counts: &[Row],
     room: Vec<TypeCount>,
 ) -> Result<Tally, StatementFault>
     requires { room.items ≡ [] }
-    ensures { IfOk result (λ x. (s : _) (station : _) → types.now ≡ map stored_type (entries s.types) → AreCountRows s station counts.now
-        → IsTally s station (entries s.types) x) }
+    ensures { IfOk result (λ x. (s : _) (station : _) → AreCountRows s station counts.now → IsTally s station type_ids.now x) }
 {
     let mut tally = Tally {
         available: 0,
         disabled: 0,
         by_type: room,
     };
-    for row in types {
-        let type_id = ident_at(alloc, row, 0)?;
-        let counted = type_counts(counts, &type_id)?;
-        tally.add(type_id, counted)?;
+    for type_id in type_ids {
+        let counted = type_counts(counts, type_id)?;
+        let copy = type_id.try_clone(alloc)?;
+        tally.add(copy, counted)?;
     }
     Ok(tally)
 }
 
-/// A station's bicycles, by one walk over the vehicle types and one over the station's counts. The list of types is put
+/// A station's bicycles of the types with these identifiers, by one walk over the station's counts. The list of types is put
 /// together in the room.
-fn tally_types<S: Alter>(
+pub(crate) fn find_tally<S: Alter>(
     alloc: Global,
     conn: &mut Connection<S>,
     station: &Ident,
+    type_ids: &[Ident],
     room: Vec<TypeCount>,
 ) -> Result<Tally, StatementFault>
     requires { room.items ≡ [] }
-    ensures { Answers S.Store conn.old conn.new result (λ s m x. IsTally s station.now (entries s.types) x) }
+    ensures { Answers S.Store conn.old conn.new result (λ s m x. IsTally s station.now type_ids.now x) }
 {
-    let types = select_types(conn)?;
     let counts = select_counts(conn, station)?;
-    tally_rows(alloc, types.as_slice(), counts.as_slice(), room)
+    tally_rows(alloc, type_ids, counts.as_slice(), room)
 }
 
 /// The counts of the station, if it is there, by three statements: a look-up of the station, a walk over the types and a
-/// walk over the station's counts. The list of types is put together in the room, which best has a place for each of the `MOST_TYPES` types.
-/// `NoMemory` where an identifier finds none; every other fault is the database's.
+/// walk over the station's counts. The list of types is put together in the room, which best has a place for each of the
+/// `MOST_TYPES` types. `NoMemory` where an identifier finds none; every other fault is the database's.
 pub fn find_station_counts<S: Alter>(
     alloc: Global,
     conn: &mut Connection<S>,
@@ -183,17 +190,7 @@ pub fn find_station_counts<S: Alter>(
     let Some(docks) = find_dock_numbers(conn, station)? else {
         return Ok(None);
     };
-    let tally = tally_types(alloc, conn, station, room)?;
-    let Tally {
-        available,
-        disabled,
-        by_type,
-    } = tally;
-    Ok(Some(Counts {
-        available,
-        by_type,
-        disabled,
-        docks_available: docks.free,
-        docks_disabled: docks.broken,
-    }))
+    let type_ids = find_type_ids(alloc, conn)?;
+    let tally = find_tally(alloc, conn, station, type_ids.as_slice(), room)?;
+    Ok(Some(tally.with_docks(docks)))
 }

@@ -16,6 +16,7 @@ mod rentals;
 mod riders;
 mod span;
 mod stations;
+mod status;
 mod system;
 mod types;
 
@@ -27,5 +28,6 @@ pub use plans::find_plan_after;
 pub use rentals::{ClosingInfo, RentalInfo, find_ended_after, find_rental_info};
 pub use riders::{RiderInfo, find_balance, find_rider_info};
 pub use stations::{StationInfo, find_station_after};
+pub use status::{StationStatus, find_status_after};
 pub use system::find_system;
-pub use types::find_type_after;
+pub use types::{find_type_after, find_type_ids};

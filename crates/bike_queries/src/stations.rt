@@ -31,7 +31,7 @@ pub struct StationInfo {
 }
 
 /// The row of the first station whose identifier comes after this one, or of the first of all.
-fn select_station<S: Alter>(
+pub(crate) fn select_station<S: Alter>(
     conn: &mut Connection<S>,
     after: Option<&Ident>,
 ) -> Result<Option<Row>, StatementFault>
@@ -58,7 +58,7 @@ fn read_station(alloc: Global, row: &Row) -> Result<Station, StatementFault>
 }
 
 /// The station that stands in a row of `stations`.
-fn read_info(alloc: Global, row: &Row) -> Result<StationInfo, StatementFault>
+pub(crate) fn read_info(alloc: Global, row: &Row) -> Result<StationInfo, StatementFault>
     ensures { IfOk result (λ x. (y : _) → HoldsStation row.now y → station_of x ≡ y) }
 {
     let station = read_station(alloc, row)?;

@@ -1,11 +1,15 @@
-//! The vehicle types in byte order of their identifiers, one after another.
+//! The vehicle types in byte order of their identifiers, one after another, and their identifiers alone.
 
-ghost use Rattle.std.specs.Prelude.{◌≡◌, IfOk, option_map};
+ghost use Rattle.std.specs.Prelude.{◌≡◌, IfOk, Some, map, option_map};
+ghost use Rattle.std.specs.FinMap.{keys};
 ghost use Rattle.sqlite_value.specs.declared.value.Value.TheVariants.{Text};
 ghost use Rattle.sqlite_value.specs.Order.{column};
 ghost use Rattle.bike_catalogue.specs.Vehicle.{form_text, propulsion_text};
+ghost use Rattle.bike_book.specs.Tables.{Types};
 ghost use Rattle.bike_book.specs.Rows.{type_row};
 ghost use Rattle.bike_book.specs.Stored.{stored_type};
+ghost use Rattle.bike_book.specs.Found.{rows_of};
+ghost use Rattle.bike_schema.specs.Columns.{ident_in};
 ghost use Rattle.bike_schema.specs.Answers.{Answers, IsReadOf};
 ghost use Rattle.bike_queries.specs.After.{IsNext, first_after};
 
@@ -79,4 +83,38 @@ pub fn find_type_after<S: Alter>(
         Some(row) => Ok(Some(read_type(alloc, &row)?)),
         None => Ok(None),
     }
+}
+
+/// The rows of all vehicle types, of which there are at most 32, in byte order of their identifiers.
+fn select_types<S: Alter>(conn: &mut Connection<S>) -> Result<Vec<Row>, StatementFault>
+    ensures { Answers S.Store conn.old conn.new result (λ s m rows. rows.items ≡ rows_of s m Types) }
+{
+    let rows = conn.query_all("SELECT * FROM types ORDER BY type_id", &[])?;
+    Ok(rows)
+}
+
+/// The identifiers with which the rows begin.
+fn read_type_ids(alloc: Global, rows: &[Row]) -> Result<Vec<Ident>, StatementFault>
+    ensures { IfOk result (λ x. map Some x.items ≡ map (λ row. ident_in (column row 0)) rows.now) }
+{
+    let mut type_ids = Vec::new(alloc);
+    for row in rows {
+        let type_id = ident_at(alloc, row, 0)?;
+        if type_ids.push(type_id).is_err() {
+            return Err(StatementFault::NoMemory);
+        }
+    }
+    Ok(type_ids)
+}
+
+/// The identifiers of all vehicle types, of which there are at most 32, in byte order. `NoMemory` where they find no room; every
+/// other fault is the database's.
+pub fn find_type_ids<S: Alter>(
+    alloc: Global,
+    conn: &mut Connection<S>,
+) -> Result<Vec<Ident>, StatementFault>
+    ensures { Answers S.Store conn.old conn.new result (λ s m x. x.items ≡ keys s.types) }
+{
+    let rows = select_types(conn)?;
+    read_type_ids(alloc, rows.as_slice())
 }

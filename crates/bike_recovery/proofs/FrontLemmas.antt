@@ -1,6 +1,6 @@
 -- The operator after a front of a list is sound, and is read.
-use Rattle.std.proofs.Common.{◌≡◌, [], inl, inr, Option, Some, None, codes, sym, ap, subst}
-use Rattle.std.specs.Prelude.{IfSome}
+use Rattle.std.proofs.Common.{◌≡◌, [], inl, inr, Some, None, Result, Ok, Err, codes, sym, ap, subst}
+use Rattle.std.specs.Prelude.{IfOk}
 use Rattle.sqlite_trees.specs.declared.store.Store.{Ghosts}
 use Rattle.sqlite_trees.specs.declared.memory.MemStore.{MemStore}
 use Rattle.sqlite_schema.specs.declared.schema.Schema.{Schema}
@@ -33,7 +33,7 @@ nobody db s empty (inr h) =
     absurd (cc)
 
 -- over memory nothing has to be supposed of a disk
-pub in_memory : {R : Type 0} (P : DeskValue MemStore × R → Type 0) (o : Option (DeskValue MemStore × R))
-    → IfSome o (λ r. HasCleanDisk (shown over_memory r.0) → P r) → IfSome o P
-in_memory P None h = tt
-in_memory P (Some r) h = h (memory_is_clean r.0.conn)
+pub in_memory : {R E : Type 0} (P : DeskValue MemStore × R → Type 0) (o : Result (DeskValue MemStore × R) E)
+    → IfOk o (λ r. HasCleanDisk (shown over_memory r.0) → P r) → IfOk o P
+in_memory P (Err e) h = tt
+in_memory P (Ok r) h = h (memory_is_clean r.0.conn)

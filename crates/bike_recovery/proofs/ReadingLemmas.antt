@@ -1,5 +1,5 @@
 -- What the reading of a desk tells.
-use Rattle.std.proofs.Common.{◌≡◌, ℕ, List, Option, Result, Ok, Err, OnErr, OnOk, refl, ap}
+use Rattle.std.proofs.Common.{◌≡◌, ℕ, List, Option, Result, Ok, Err, OnErr, OnOk, refl, sym, ap, subst}
 use Rattle.std.proofs.lemmas.Bool.{both_ways}
 use Rattle.std.specs.Prelude.{◌≢◌, IsTrue}
 use Rattle.std.specs.Io.KnownBytes.{Keeps}
@@ -9,6 +9,7 @@ use Rattle.bike_operator.specs.declared.records.Place.{Place}
 use Rattle.bike_operator.specs.Operator.{Operator}
 use Rattle.bike_queries.specs.Infos.{place_at}
 use Rattle.bike_feed_texts.specs.declared.feed.Feed.TheVariants.{StationStatus}
+use Rattle.bike_schema.specs.Stands.{AllLeft, TreesStandFor}
 use Rattle.bike_feeds.specs.DeskFault.{DeskFault}
 use Rattle.bike_feeds.specs.DeskFault.TheVariants.{NoMemory, StoreFailed, Stopped}
 use Rattle.bike_feeds.specs.Desk.{DeskValue, shown, IsAt}
@@ -28,12 +29,29 @@ module _ {S : Type 0} (g : Ghosts S) (old mid new : DeskValue S) (s : Operator) 
   fails_stopped StoreFailed none at q = q.stops refl
   fails_stopped Stopped none at q = absurd (both_ways old.is_stopped at.goes_on (q.stopped refl))
 
+  -- only a failed store does
+  fails_stored : (e : DeskFault) → e ≢ NoMemory → IsAt g old s → Asked (Err e) → e ≡ StoreFailed
+  fails_stored NoMemory none at q = absurd (none refl)
+  fails_stored StoreFailed none at q = refl
+  fails_stored Stopped none at q = absurd (both_ways old.is_stopped at.goes_on (q.stopped refl))
+
   -- after that nothing is written
-  reads_nothing : (e : DeskFault) (status : Result (Unit {0}) FeedFault) → status ≡ Err (Desk Stopped) → Keeps before written
-      → ReadsOf g new s bike moment before written (record { place = Err e; status = status })
-  reads_nothing e (Ok x) ends keeps = absurd (let a = ends in cc)
-  reads_nothing e (Err f) ends keeps =
-      record { place = tt; feed = tt; missing = λ missing. absurd (let a = ends in let b = missing in cc); begun = tt; nothing = keeps; goes_on = tt }
+  reads_nothing : (e : DeskFault) (status : Result (Unit {0}) FeedFault) → e ≡ StoreFailed → status ≡ Err (Desk Stopped) → Keeps before written
+      → AllLeft (shown g new) (TreesStandFor s) → ReadsOf g new s bike moment before written (record { place = Err e; status = status })
+  reads_nothing e (Ok x) stored ends keeps left = absurd (let a = ends in cc)
+  reads_nothing e (Err f) stored ends keeps left =
+      record {
+        place = tt;
+        feed = tt;
+        missing = λ missing. absurd (let a = ends in let b = missing in cc);
+        begun = tt;
+        nothing = keeps;
+        goes_on = tt;
+        failed = stored;
+        stopped = ends;
+        unstopped = tt;
+        left = left;
+      }
 
   -- what is read of a desk that is at the operator
   pub reads : (place : Result (Option Place) DeskFault) (status : Result (Unit {0}) FeedFault) → HasCleanDisk (shown g mid) → HasCleanDisk (shown g new)
@@ -51,7 +69,13 @@ module _ {S : Type 0} (g : Ghosts S) (old mid new : DeskValue S) (s : Operator) 
         begun = front here.1;
         nothing = tt;
         goes_on = leaves.same clean s here.1;
+        failed = tt;
+        stopped = tt;
+        unstopped = λ is. both_ways mid.is_stopped (q.goes_on) (leaves.stopped is);
+        left = λ db h. here.1.keeps.left db (leaves.left clean s here.1 db h);
       }
   reads (Err e) status early clean at none q leaves whole front nothing =
       let stopped = fails_stopped e (λ is. none (ap Err is)) at q in
-      reads_nothing e status (leaves.stays stopped).0 (nothing stopped)
+      let left : AllLeft (shown g mid) (TreesStandFor s) = λ db h. at.keeps.left db (q.left early s at db h) in
+      reads_nothing e status (fails_stored e (λ is. none (ap Err is)) at q) (leaves.stays stopped).0 (nothing stopped)
+      (subst (λ (d : DeskValue S). AllLeft (shown g d) (TreesStandFor s)) (sym (leaves.stays stopped).1) left)

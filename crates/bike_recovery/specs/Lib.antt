@@ -1,1 +1,2 @@
 pub mod Recovery
+pub mod Losses

@@ -8,9 +8,10 @@ ghost use Rattle.sqlite_trees.specs.View.{doubt};
 ghost use Rattle.bike_operator.specs.Operator.{Operator, no_operator};
 ghost use Rattle.bike_feeds.specs.Desk.{shown, IsAt};
 ghost use Rattle.bike_feeds.specs.Adoption.{handed, IsWant};
-ghost use Rattle.bike_feeds.specs.Runs.{IsAfterFront, IsAtFront};
+ghost use Rattle.bike_feeds.specs.Runs.{IsAfterFront, IsAtFront, Ran, StopsBy};
 ghost use Rattle.bike_schema.specs.Stands.{AllLeft};
-ghost use Rattle.bike_recovery.specs.Recovery.{ReadsFront};
+ghost use Rattle.bike_recovery.specs.Recovery.{ReadsFront, AreReplies};
+ghost use Rattle.bike_recovery.specs.Losses.{IsOnlyWant};
 
 use crate::reading::{Reading, read_again};
 use bike_commands::{Reply, Request};
@@ -35,7 +36,8 @@ pub struct Acknowledged {
 /// reads it: where the bicycle is, and the feed `station_status` for a moment.
 ///
 /// What is read is that of the operator after the accepted commands of a front of the list, which holds every acknowledged
-/// request and at most one more. Adopting what is left is refused for memory or storage alone.
+/// request and at most one more. The replies are those to a front of the list, and the desk is as `run_list` leaves it. Adopting what
+/// is left is refused for memory or storage alone.
 pub fn run_adopt_and_read<S: Alter, T: Alter, W: Write>(
     alloc: Global,
     desk: &mut Desk<S>,
@@ -53,13 +55,16 @@ pub fn run_adopt_and_read<S: Alter, T: Alter, W: Write>(
     ensures refused { HasCleanDisk (shown S.Store desk.new) → (s : Operator) → IsAt S.Store desk.old s
         → (shown S.Store desk.new).may_leave (state T.Store left).now.trees
         → IfErr result.1 (λ e. HasCleanDisk (state T.Store (handed e)) → IsWant e) }
+    ensures ran { HasCleanDisk (shown S.Store desk.new) → (s : Operator) → IsAt S.Store desk.old s
+        → Ran S.Store desk.new s calls.now result.0.replies.items result.0.end }
+    ensures stops { StopsBy desk.old desk.new result.0.end }
 {
-    let (run, adopted) = desk.run_and_adopt(alloc, calls, left);
+    let run = desk.run_list(alloc, calls);
     let told = Acknowledged {
         replies: run.replies,
         end: run.end,
     };
-    match adopted {
+    match Desk::adopt(alloc, left) {
         Ok(mut again) => {
             let reading = read_again(alloc, &mut again, bike, moment, out);
             (told, Ok((again, reading)))
@@ -68,30 +73,41 @@ pub fn run_adopt_and_read<S: Alter, T: Alter, W: Write>(
     }
 }
 
-/// A crash of the desk's store at this moment, and an adoption of what it leaves; none where the store can't be opened again or
-/// what it holds is refused.
-fn resume<S: Alter + Reopen + Drop>(alloc: Global, desk: Desk<S>) -> Option<Desk<S>>
-    ensures clean { IfSome result (λ again. doubt (shown S.Store desk).is_clean ≤ doubt (shown S.Store again).is_clean) }
-    ensures front { IfSome result (λ again. HasCleanDisk (shown S.Store again) → (s : Operator) (calls : _) (k : _)
+/// Why a store wasn't taken into service again.
+#[derive(Drop)]
+pub enum Lost<S: Alter> {
+    /// The store can't be opened again, or memory for that was refused.
+    Closed,
+    /// What it holds is refused.
+    Refused(AdoptFault<S>),
+}
+
+/// A crash of the desk's store at this moment, and an adoption of what it leaves.
+fn resume<S: Alter + Reopen + Drop>(alloc: Global, desk: Desk<S>) -> Result<Desk<S>, Lost<S>>
+    ensures clean { IfOk result (λ again. doubt (shown S.Store desk).is_clean ≤ doubt (shown S.Store again).is_clean) }
+    ensures front { IfOk result (λ again. HasCleanDisk (shown S.Store again) → (s : Operator) (calls : _) (k : _)
         → AllLeft (shown S.Store desk) (IsAfterFront s calls k) → IsAtFront S.Store again s calls k) }
+    ensures refused { (s : Operator) (calls : _) (k : _) → (HasCleanDisk (shown S.Store desk) → AllLeft (shown S.Store desk) (IsAfterFront s calls k))
+        → IfErr result (IsOnlyWant S.Store) }
 {
     let mut store = desk.close().into_store();
     match store.crash_and_reopen() {
         Ok(()) => {}
-        Err(_) => return None,
+        Err(_) => return Err(Lost::Closed),
     }
     let conn = match Connection::over(alloc, store) {
         Ok(conn) => conn,
-        Err(_) => return None,
+        Err(_) => return Err(Lost::Closed),
     };
     match Desk::adopt(alloc, conn) {
-        Ok(desk) => Some(desk),
-        Err(_) => None,
+        Ok(desk) => Ok(desk),
+        Err(fault) => Err(Lost::Refused(fault)),
     }
 }
 
-/// Serves a list of requests, crashes, takes what the crash left into service again, and reads it as `run_adopt_and_read` does;
-/// no reading where the store can't be opened again or what it holds is refused.
+/// Serves a list of requests, crashes, takes what the crash left into service again, and reads it as `run_adopt_and_read` does.
+///
+/// `Closed` where the store can't be opened again or memory for that is refused; what it holds is refused for memory or storage alone.
 pub fn run_crash_and_read<S: Alter + Reopen + Drop, W: Write>(
     alloc: Global,
     mut desk: Desk<S>,
@@ -99,34 +115,45 @@ pub fn run_crash_and_read<S: Alter + Reopen + Drop, W: Write>(
     bike: BicycleNumber,
     moment: Moment,
     out: &mut W,
-) -> (Acknowledged, Option<(Desk<S>, Reading)>)
+) -> (Acknowledged, Result<(Desk<S>, Reading), Lost<S>>)
     ensures headline { (s : Operator) → IsAt S.Store desk s
-        → IfSome result.1 (λ r. HasCleanDisk (shown S.Store r.0)
+        → IfOk result.1 (λ r. HasCleanDisk (shown S.Store r.0)
         → ReadsFront S.Store r.0 s calls.now (length result.0.replies.items) bike moment (W.contents out.old) (W.contents out.new) r.1) }
+    ensures replies { (s : Operator) → IsAt S.Store desk s
+        → IfOk result.1 (λ r. HasCleanDisk (shown S.Store r.0) → AreReplies s calls.now result.0.replies.items) }
+    ensures refused { (s : Operator) → IsAt S.Store desk s → IfErr result.1 (IsOnlyWant S.Store) }
 {
     let run = desk.run_list(alloc, calls);
     let told = Acknowledged {
         replies: run.replies,
         end: run.end,
     };
-    let Some(mut again) = resume(alloc, desk) else {
-        return (told, None);
-    };
-    let reading = read_again(alloc, &mut again, bike, moment, out);
-    (told, Some((again, reading)))
+    match resume(alloc, desk) {
+        Ok(mut again) => {
+            let reading = read_again(alloc, &mut again, bike, moment, out);
+            (told, Ok((again, reading)))
+        }
+        Err(lost) => (told, Err(lost)),
+    }
 }
 
 /// The same from nothing, over a database in memory: nothing has to be supposed of a disk, so that the promise's premises can be
-/// met together. None where memory is refused.
+/// met together. None where memory is refused before the first request.
 pub fn run_in_memory<W: Write>(
     alloc: Global,
     calls: &[(Moment, Request)],
     bike: BicycleNumber,
     moment: Moment,
     out: &mut W,
-) -> Option<(Acknowledged, Option<(Desk<MemStore>, Reading)>)>
-    ensures headline { IfSome result (λ r. IfSome r.1 (λ read. ReadsFront over_memory read.0 no_operator calls.now (length r.0.replies.items)
+) -> Option<
+    (
+        Acknowledged,
+        Result<(Desk<MemStore>, Reading), Lost<MemStore>>,
+    ),
+>
+    ensures headline { IfSome result (λ r. IfOk r.1 (λ read. ReadsFront over_memory read.0 no_operator calls.now (length r.0.replies.items)
         bike moment (W.contents out.old) (W.contents out.new) read.1)) }
+    ensures replies { IfSome result (λ r. IfOk r.1 (λ read. AreReplies no_operator calls.now r.0.replies.items)) }
 {
     let Ok(conn) = Connection::open_in_memory(alloc) else {
         return None;

@@ -6,5 +6,5 @@
 mod crash;
 mod reading;
 
-pub use crash::{Acknowledged, run_adopt_and_read, run_crash_and_read, run_in_memory};
+pub use crash::{Acknowledged, Lost, run_adopt_and_read, run_crash_and_read, run_in_memory};
 pub use reading::{Reading, read_again};

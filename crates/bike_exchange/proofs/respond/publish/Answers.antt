@@ -5,7 +5,7 @@ use Rattle.bike_answers.specs.declared.answer.Answer.TheVariants as answer
 use Rattle.bike_exchange.specs.Shown.{not_found}
 use Rattle.bike_exchange.specs.Exchange.{feed_response}
 use Rattle.bike_exchange.proofs.Told.{responds}
-use Rattle.bike_exchange.proofs.Feeds.{feed_either}
+use Rattle.bike_exchange.proofs.Feeds.{feed_undone}
 use Rattle.bike_exchange.proofs.respond.publish.Goals as goal
 
 pub returns-in-Ok-clause-sent : goal.returns-in-Ok-clause-sent
@@ -25,7 +25,7 @@ returns-in-Err g c =
     record {
       clean = h.desk.clean;
       sent = λ clean s at. responds g.S.Store c.feed_length.new.desk s s _ answer.Unavailable _ _ c.send-in-Err.result
-          (inr (refl, feed_either g.S.Store c.args.desk.now c.feed_length.new.desk s s c.in-Err.field-0 clean at h.desk)) c.send-in-Err.ensures;
+          (inr (refl, feed_undone g.S.Store c.args.desk.now c.feed_length.new.desk s s c.in-Err.field-0 clean at h.desk)) c.send-in-Err.ensures;
       stays = λ is_stopped. (h.desk.stays is_stopped).1;
       refuses = λ is_stopped. c.send-in-Err.ensures;
     }

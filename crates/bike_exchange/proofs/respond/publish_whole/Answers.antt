@@ -1,6 +1,6 @@
 use Rattle.std.proofs.Common.{◌∙◌, None, sym, refl}
 use Rattle.bike_answers.specs.Head.{head_text}
-use Rattle.bike_exchange.proofs.Feeds.{head_whole, head_front, no_head, whole_feed, front_feed, cut_feed, feed_either}
+use Rattle.bike_exchange.proofs.Feeds.{head_whole, head_front, no_head, whole_feed, front_feed, cut_feed, feed_undone}
 use Rattle.bike_exchange.proofs.respond.publish_whole.Goals as goal
 
 pub returns-then-is_err-clause-sent : goal.returns-then-is_err-clause-sent
@@ -31,6 +31,6 @@ returns-in-Err g c =
     record {
       clean = h.desk.clean;
       sent = λ clean s at counted. cut_feed g.S.Store c.write_feed.new.desk s c.args.feed c.args.moment c.args.length _ counted _ _ head (h.front clean s at)
-          (feed_either g.S.Store c.args.desk.now c.write_feed.new.desk s s c.in-Err.field-0 clean at h.desk);
+          (feed_undone g.S.Store c.args.desk.now c.write_feed.new.desk s s c.in-Err.field-0 clean at h.desk);
       stays = λ is_stopped. (h.desk.stays is_stopped).1;
     }

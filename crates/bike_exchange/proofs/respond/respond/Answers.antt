@@ -27,7 +27,7 @@ returns-in-Show-clause-sent g c clean s at =
 pub returns-in-Publish-clause-sent : goal.returns-in-Publish-clause-sent
 returns-in-Publish-clause-sent g c clean s at =
     responds_to g.S.Store c.publish.new.desk s c.args.moment _ _ _ _ c.publish.result c.in-Publish.is
-    (rw c.feed_of.ensures at (c.publish.ensures.sent clean s at))
+    (c.publish.ensures.sent clean s at)
 
 pub returns-in-Reject-clause-refuses : goal.returns-in-Reject-clause-refuses
 returns-in-Reject-clause-refuses g c stopped =

@@ -1,11 +1,11 @@
 use Rattle.std.proofs.Common.{refl}
 use Rattle.sqlite_tied.specs.Compute.{everything}
-use Rattle.bike_book.specs.Tables.{Meta, System, Plans, Stations, Rentals, Entries, Kept}
+use Rattle.bike_book.specs.Tables.{Meta, System, Plans, Stations, Riders, Rentals, Entries, Kept}
 use Rattle.bike_judges.proofs.RowTexts.{table_lines}
-use Rattle.bike_judges.proofs.JoinTexts.{segments_lines, types_lines, docks_lines, rental_ends_lines}
-use Rattle.bike_judges.proofs.TwoJoinTexts.{bike_names_lines, bike_uses_lines, rental_names_lines, rental_starts_lines, order_names_lines, entry_names_lines, count_names_lines, order_ends_lines}
-use Rattle.bike_judges.proofs.UnionTexts.{bike_docks_lines, trucks_lines, rental_entries_lines, order_bikes_lines}
-use Rattle.bike_judges.proofs.UnionOfThreeTexts.{stations_lines, riders_lines, counts_lines}
+use Rattle.bike_judges.proofs.JoinTexts.{segments_lines, types_lines, docks_lines, rental_riders_lines, rental_bikes_lines, rental_plans_lines, rental_stations_lines, rental_ends_lines, entry_riders_lines, entry_rentals_lines}
+use Rattle.bike_judges.proofs.TwoJoinTexts.{bike_names_lines, bike_uses_lines, order_names_lines, count_names_lines, order_ends_lines}
+use Rattle.bike_judges.proofs.UnionTexts.{bike_docks_lines, trucks_lines, order_bikes_lines}
+use Rattle.bike_judges.proofs.UnionOfThreeTexts.{stations_lines, counts_lines}
 use Rattle.bike_judges.proofs.text.text.Goals as goal
 
 pub returns-in-Meta : goal.returns-in-Meta
@@ -56,29 +56,33 @@ pub returns-in-Trucks : goal.returns-in-Trucks
 unfolding everything
 returns-in-Trucks c = rw c.in-Trucks.is (trucks_lines (λ tree more. (refl, refl), refl))
 
-pub returns-in-Riders : goal.returns-in-Riders
+pub returns-in-RiderRows : goal.returns-in-RiderRows
 unfolding everything
-returns-in-Riders c = rw c.in-Riders.is (riders_lines (λ tree more last. (refl, refl), refl))
+returns-in-RiderRows c = rw c.in-RiderRows.is (table_lines Riders (λ tree. refl, refl))
 
 pub returns-in-Rentals : goal.returns-in-Rentals
 unfolding everything
 returns-in-Rentals c = rw c.in-Rentals.is (table_lines Rentals (λ tree. refl, refl))
 
-pub returns-in-RentalNames : goal.returns-in-RentalNames
+pub returns-in-RentalRiders : goal.returns-in-RentalRiders
 unfolding everything
-returns-in-RentalNames c = rw c.in-RentalNames.is (rental_names_lines (λ tree more last. refl, refl))
+returns-in-RentalRiders c = rw c.in-RentalRiders.is (rental_riders_lines (λ tree more. refl, refl))
 
-pub returns-in-RentalStarts : goal.returns-in-RentalStarts
+pub returns-in-RentalBikes : goal.returns-in-RentalBikes
 unfolding everything
-returns-in-RentalStarts c = rw c.in-RentalStarts.is (rental_starts_lines (λ tree more last. refl, refl))
+returns-in-RentalBikes c = rw c.in-RentalBikes.is (rental_bikes_lines (λ tree more. refl, refl))
+
+pub returns-in-RentalPlans : goal.returns-in-RentalPlans
+unfolding everything
+returns-in-RentalPlans c = rw c.in-RentalPlans.is (rental_plans_lines (λ tree more. refl, refl))
+
+pub returns-in-RentalStations : goal.returns-in-RentalStations
+unfolding everything
+returns-in-RentalStations c = rw c.in-RentalStations.is (rental_stations_lines (λ tree more. refl, refl))
 
 pub returns-in-RentalEnds : goal.returns-in-RentalEnds
 unfolding everything
 returns-in-RentalEnds c = rw c.in-RentalEnds.is (rental_ends_lines (λ tree more. refl, refl))
-
-pub returns-in-RentalEntries : goal.returns-in-RentalEntries
-unfolding everything
-returns-in-RentalEntries c = rw c.in-RentalEntries.is (rental_entries_lines (λ tree more. (refl, refl), refl))
 
 pub returns-in-OrderNames : goal.returns-in-OrderNames
 unfolding everything
@@ -96,9 +100,13 @@ pub returns-in-Entries : goal.returns-in-Entries
 unfolding everything
 returns-in-Entries c = rw c.in-Entries.is (table_lines Entries (λ tree. refl, refl))
 
-pub returns-in-EntryNames : goal.returns-in-EntryNames
+pub returns-in-EntryRiders : goal.returns-in-EntryRiders
 unfolding everything
-returns-in-EntryNames c = rw c.in-EntryNames.is (entry_names_lines (λ tree more last. refl, refl))
+returns-in-EntryRiders c = rw c.in-EntryRiders.is (entry_riders_lines (λ tree more. refl, refl))
+
+pub returns-in-EntryRentals : goal.returns-in-EntryRentals
+unfolding everything
+returns-in-EntryRentals c = rw c.in-EntryRentals.is (entry_rentals_lines (λ tree more. refl, refl))
 
 pub returns-in-Kept : goal.returns-in-Kept
 unfolding everything

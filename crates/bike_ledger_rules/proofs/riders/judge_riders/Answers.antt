@@ -1,16 +1,15 @@
-use Rattle.std.proofs.Common.{◌∙◌, take}
+use Rattle.std.proofs.Common.{◌∙◌, ap}
+use Rattle.std.specs.List.{fold}
 use Rattle.bike_schema.specs.Tables.{tables_of}
-use Rattle.bike_judges.specs.declared.query.Query.TheVariants as query
-use Rattle.bike_judges.specs.Lines.{lines_of}
-use Rattle.bike_judges.specs.Passes.{pass}
-use Rattle.bike_ledger_rules.specs.Riders.{rider_begins, rider_more, rider_good, rider_key}
+use Rattle.bike_readings.specs.ReadOff.{operator_of}
+use Rattle.bike_rows.proofs.ChainLaws.{reads_both}
+use Rattle.bike_ledger_rules.specs.Riders.{with_credit, with_ride}
 use Rattle.bike_ledger_rules.proofs.ReadLaws.{reads_ours}
-use Rattle.bike_ledger_rules.proofs.RiderVerdict.{riders_judged}
+use Rattle.bike_ledger_rules.proofs.RiderRules.{riders_judged}
 use Rattle.bike_ledger_rules.proofs.riders.judge_riders.Goals as goal
 
--- src/riders.rt:116:1
 pub returns : goal.returns
-returns g c = reads_ours c.judge_lines.ensures (λ db ours found says. riders_judged db ours found (λ v is.
-    let none = c.new.ensures.account in
-    let zero = c.new.ensures.closed in
-    says v ((λ i. pass rider_begins rider_more rider_good rider_key (take 1) (none i) (zero i) (lines_of query.Riders (tables_of db))) ∙ is)))
+returns g c =
+    reads_ours (reads_both c.in_ok-past.ensures (reads_both c.in_ok-balances.ensures (reads_both c.in_ok-rides.ensures c.judge_rows.ensures)))
+    (λ db ours found it. riders_judged db c.in_ok-past.past it.0 c.in_ok-balances.balances (it.1.0 ∙ ap (λ sums. fold with_credit sums (operator_of (tables_of db)).entries) c.in_ok-zeros.ensures)
+    c.in_ok-rides.rides (it.1.1.0 ∙ ap (λ sums. fold with_ride sums (operator_of (tables_of db)).rentals) c.in_ok-zeros-2.ensures) found it.1.1.1)

@@ -1,14 +1,17 @@
 use Rattle.std.proofs.Common.{refl}
-use Rattle.bike_queries.proofs.TypeLemmas.{none_counted, next_counted, all_counted}
+use Rattle.bike_queries.proofs.TallyLemmas.{none_counted, next_counted, all_counted}
 use Rattle.bike_queries.proofs.counts.tally_rows.Goals as goal
 
-pub loop-row-init : goal.loop-row-init
-loop-row-init c = λ s station is are. none_counted s station _ _ is refl refl c.requires
+pub loop-type_id-init : goal.loop-type_id-init
+loop-type_id-init c = λ s station are. none_counted s station c.args.type_ids.now _ refl refl c.requires
 
-pub loop-row-preserved : goal.loop-row-preserved
-loop-row-preserved c = λ s station is are.
-    next_counted s station c.args.types.now c.loop-row.row-index c.row-item.result c.loop-row.tally c.add.new.self c.in_ok-type_id.type_id c.in_ok-counted.counted
-    c.loop-row-test.true c.row-item.is c.in_ok-type_id.ensures.ok (c.in_ok-counted.ensures s station are) c.in_ok-add.ensures (c.loop-row.invariant s station is are)
+pub loop-type_id-preserved : goal.loop-type_id-preserved
+loop-type_id-preserved c = λ s station are.
+    next_counted s station c.args.type_ids.now c.loop-type_id.type_id-index c.type_id-item.result c.in_ok-copy.copy
+    c.loop-type_id.tally c.add.new.self c.in_ok-counted.counted c.loop-type_id-test.true c.type_id-item.is c.in_ok-copy.ensures
+    (c.in_ok-counted.ensures s station are) c.in_ok-add.ensures (c.loop-type_id.invariant s station are)
 
 pub returns : goal.returns
-returns c = λ s station is are. all_counted s station c.args.types.now c.loop-row.row-index c.loop-row.tally c.loop-row-test.false (c.loop-row.invariant s station is are)
+returns c = λ s station are.
+    all_counted s station c.args.type_ids.now c.loop-type_id.type_id-index c.loop-type_id.tally c.loop-type_id-test.false
+    (c.loop-type_id.invariant s station are)

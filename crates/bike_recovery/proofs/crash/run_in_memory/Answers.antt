@@ -12,4 +12,5 @@ returns g c =
     let desk = c.in-Ok-adopt.desk in
     let it = c.in-Ok-adopt.ensures.only (memory_is_clean desk.conn) in
     let is = nobody (state over_memory conn).now it.0 (c.in-Ok.ensures.empty).2 it.1 in
-    record { headline = in_memory _ _ (c.run_crash_and_read.ensures.headline _ (subst (IsAt over_memory desk) is it.2)) }
+    let at = subst (IsAt over_memory desk) is it.2 in
+    record { headline = in_memory _ _ (c.run_crash_and_read.ensures.headline _ at); replies = in_memory _ _ (c.run_crash_and_read.ensures.replies _ at) }

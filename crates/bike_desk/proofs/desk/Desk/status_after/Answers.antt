@@ -1,0 +1,19 @@
+use Rattle.std.proofs.Common.{sym, ap, ◌∙◌, subst}
+use Rattle.std.specs.Prelude.{option_map}
+use Rattle.bike_queries.specs.After.{first_after}
+use Rattle.bike_queries.specs.StationCounts.{IsNextStatus}
+use Rattle.bike_desk.specs.Desk.{DeskValue}
+use Rattle.bike_desk.specs.Queries.{Queries}
+use Rattle.bike_desk.proofs.QueryLemmas.{queries}
+use Rattle.bike_desk.proofs.desk.Desk.status_after.Goals as goal
+
+pub returns : goal.returns
+returns g c =
+    let going = ap (λ (d : DeskValue g.row.S.Denot). d.is_stopped) c.self.view_is ∙ sym c.stopped.ensures ∙ c.if-stopped.false in
+    let told = queries g.S.Store c.self.inside.conn c.find_status_after-read.new.conn c.self.inside.stopped
+    (λ s x. IsNextStatus s c.args.type_ids.now (first_after (option_map (λ id. id.now) c.args.after) s.stations) x) going
+    c.find_status_after-read.result c.answer.new.self c.answer.result c.find_status_after-read.ensures c.answer.ensures in
+    record {
+      query = subst (λ (d : DeskValue g.row.S.Denot). Queries g.S.Store d c.answer.new.self c.answer.result
+          (λ s x. IsNextStatus s c.args.type_ids.now (first_after (option_map (λ id. id.now) c.args.after) s.stations) x)) c.self.view_is told;
+    }

@@ -1,0 +1,14 @@
+use Rattle.std.proofs.Common.{map}
+use Rattle.bike_book.specs.Tables.{Rentals}
+use Rattle.bike_schema.specs.Tables.{tables_of}
+use Rattle.bike_ledger_rules.specs.Rentals.{rental_bike, bike_line}
+use Rattle.bike_ledger_rules.proofs.ReadLaws.{reads_ours}
+use Rattle.bike_ledger_rules.proofs.RentalVerdict.{bike_begins}
+use Rattle.bike_ledger_rules.proofs.Rows.{lines_failing}
+use Rattle.bike_ledger_rules.proofs.Widths.{rentals_wide}
+use Rattle.bike_ledger_rules.proofs.rentals.judge_bikes.Goals as goal
+
+pub returns : goal.returns
+returns g c = reads_ours c.judge_lines.ensures (λ db ours found says.
+    lines_failing Rentals bike_line rental_bike 10 bike_begins db (rentals_wide db ours.has) found (λ v is.
+    says v (c.new.ensures.says (map (bike_line (tables_of db)) (tables_of db).rentals) v is)))
