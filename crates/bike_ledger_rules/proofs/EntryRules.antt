@@ -45,7 +45,8 @@ rows_fold : (rows : List Row) (a : RentalCount) → (fold one_rental_more a rows
 rows_fold [] a = omega arith
 rows_fold (r ∷ rows) a = let rest = rows_fold rows (one_rental_more a r) in rest ∙ (omega arith)
 
-open_fold : (rows : List Row) (a : RentalCount) → (fold one_rental_more a rows).riding ≡ a.riding + count is_open (filter_map rental_of_row rows)
+open_fold : (rows : List Row) (a : RentalCount)
+    → (fold one_rental_more a rows).riding ≡ a.riding + count is_open (filter_map rental_of_row rows)
 open_fold [] a = omega arith
 open_fold (r ∷ rows) a =
     let rest = open_fold rows (one_rental_more a r) in
@@ -86,7 +87,8 @@ pub record OfRental (s : Operator) (k : EntryKind) (e : Entry) : Type 0 where
 
 of_decides : (s : Operator) (k : EntryKind) (e : Entry) → Decides (is_of k e (numbered e.rental s.rentals)) (OfRental s k e)
 of_decides s k e = go (numbered e.rental s.rentals) refl where
-  closes : (r : Rental) → numbered e.rental s.rentals ≡ Some r → (o : Option Closing) → r.closing ≡ o → Decides ((r.rider == e.rider) && is_closed_for k e.amount o) (OfRental s k e)
+  closes : (r : Rental) → numbered e.rental s.rentals ≡ Some r → (o : Option Closing) → r.closing ≡ o
+      → Decides ((r.rider == e.rider) && is_closed_for k e.amount o) (OfRental s k e)
   closes r is None still = (
     λ h. absurd (let f = and_right (r.rider == e.rider) false refl in let g = sym h ∙ f in cc),
     λ h. absurd (let same = same_Some r h.row (sym is ∙ h.found) in let c = sym still ∙ ap (λ (x : Rental). x.closing) same ∙ h.closed in cc),
@@ -133,72 +135,99 @@ module _ (t : Tables) (up : AreInOrder t) where
   s = operator_of t
 
   module _ (good : AreGood t up Riders) (riders : AreWide 3 t.riders) (r : Row) (wide : length r ≡ 6) where
-    p_wide : length (or_nulls 3 (partner 1 (column r 2 ∷ []) t.riders)) ≡ 3
-    p_wide = partner_wide 3 1 (column r 2 ∷ []) t.riders riders
+    abbrev rider_of_it : Option Row
+    rider_of_it = partner 1 (column r 2 ∷ []) t.riders
 
-    rider_there : (e : Entry) → entry_read r ≡ Some e → is_some (rider_read (part 6 3 (entry_rider_line t r))) ≡ fin.contains_key s.riders e.rider
+    rider_wide : length (or_nulls 3 rider_of_it) ≡ 3
+    rider_wide = partner_wide 3 1 (column r 2 ∷ []) t.riders riders
+
+    abbrev has_rider : Bool
+    has_rider = is_some (rider_read (part 6 3 (entry_rider_line t r)))
+
+    rider_there : (e : Entry) → entry_read r ≡ Some e → has_rider ≡ fin.contains_key s.riders e.rider
     rider_there e is =
-        ap (λ (x : Row). is_some (rider_read x)) (partner_of_one r 6 3 (partner 1 (column r 2 ∷ []) t.riders) wide p_wide)
+        ap (λ (x : Row). is_some (rider_read x)) (partner_of_one r 6 3 rider_of_it wide rider_wide)
         ∙ ap (λ (x : Row). is_some (rider_read (or_nulls 3 (partner 1 (column x 2 ∷ []) t.riders)))) (entry_reading.sound r e is).0
         ∙ rider_partner t up good e.rider
 
-    pub number_decides : (n : ℕ) → Decides (entry_rider s.now (open_rentals s) n (entry_rider_line t r)) (IsSomeAnd (entry_read r) (NumberGood s n))
+    abbrev holds_of : ℕ → Option Entry → Bool
+    holds_of n = rider_holds s.now (open_rentals s) n (entry_rider_line t r)
+
+    pub number_decides : (n : ℕ)
+        → Decides (entry_rider s.now (open_rentals s) n (entry_rider_line t r)) (IsSomeAnd (entry_read r) (NumberGood s n))
     number_decides n =
-        subst (λ (x : Row). Decides (rider_holds s.now (open_rentals s) n (entry_rider_line t r) (entry_read x)) (IsSomeAnd (entry_read r) (NumberGood s n)))
-        (sym (own_of_one r 6 3 (partner 1 (column r 2 ∷ []) t.riders) wide p_wide)) (go (entry_read r) refl)
+        subst (λ (x : Row). Decides (holds_of n (entry_read x)) (IsSomeAnd (entry_read r) (NumberGood s n)))
+        (sym (own_of_one r 6 3 rider_of_it wide rider_wide)) (go (entry_read r) refl)
       where
-        go : (o : Option Entry) → entry_read r ≡ o → Decides (rider_holds s.now (open_rentals s) n (entry_rider_line t r) o) (IsSomeAnd o (NumberGood s n))
+        go : (o : Option Entry) → entry_read r ≡ o → Decides (holds_of n o) (IsSomeAnd o (NumberGood s n))
         go None is = (λ e. absurd cc, λ h. absurd h)
         go (Some e) is =
-            let rider = is_some (rider_read (part 6 3 (entry_rider_line t r))) in
-            Decides-like ((e.number == n + 1) && (nat_lt (n + open_rentals s) MOST_ENTRIES && (rider && nat_le e.at s.now)))
+            let next = e.number == n + 1 in
+            let room = nat_lt (n + open_rentals s) MOST_ENTRIES in
+            let past = nat_le e.at s.now in
+            Decides-like (next && (room && (has_rider && past)))
             (λ h. record { number_is = h.0; room = h.1.0; rider_is = h.1.1.0; by_now = h.1.1.1 })
             (λ (g : NumberGood s n e). (g.number_is, (g.room, (g.rider_is, g.by_now))))
-            (Decides-and (e.number == n + 1) (nat_lt (n + open_rentals s) MOST_ENTRIES && (rider && nat_le e.at s.now)) (Decides-eqb e.number (n + 1))
-            (Decides-and (nat_lt (n + open_rentals s) MOST_ENTRIES) (rider && nat_le e.at s.now) (Decides-ltb (n + open_rentals s) MOST_ENTRIES)
-            (Decides-and rider (nat_le e.at s.now) (is_true rider (fin.contains_key s.riders e.rider) (rider_there e is)) (at_most e.at s.now))))
+            (Decides-and next (room && (has_rider && past)) (Decides-eqb e.number (n + 1))
+            (Decides-and room (has_rider && past) (Decides-ltb (n + open_rentals s) MOST_ENTRIES)
+            (Decides-and has_rider past (is_true has_rider (fin.contains_key s.riders e.rider) (rider_there e is)) (at_most e.at s.now))))
 
   -- ---- what the line with the rental is asked
 
   module _ (good_rentals : AreGood t up Rentals) (rentals : AreWide 10 t.rentals) where
+    abbrev below : Row → ℕ
+    below r = rows_below t Rentals (take 1 r)
+
     rentals_are : AreRowsOfList (stored_rental s.entries) rental_in t.rentals s.rentals
     rentals_are =
         read_list (stored_rental s.entries) rental_in t.rentals (up Rentals)
-        (λ r has. stored_part rental_reading (λ e. (e.0, e.1)) (stored_rental s.entries) (IsGoodRental s (rows_below t Rentals (take 1 r))) r (good_rentals r has)
+        (λ r has. stored_part rental_reading (λ e. (e.0, e.1)) (stored_rental s.entries) (IsGoodRental s (below r)) r (good_rentals r has)
         (λ a is fact. ap (λ (z : ℤ). rental_row a.0 a.1 z) fact.refunded_is))
         (λ r has.
-        let it = some_with (IsGoodRental s (rows_below t Rentals (take 1 r))) (rental_read r) (good_rentals r has) in
-        (it.value.1, ap (option_map (λ (e : ℕ × Rental × ℤ). (e.0, e.1))) it.value_is ∙ ap (λ (n : ℕ). Some (n, it.value.1)) it.fact.number_is))
+        let it = some_with (IsGoodRental s (below r)) (rental_read r) (good_rentals r has) in
+        let parts = ap (option_map (λ (e : ℕ × Rental × ℤ). (e.0, e.1))) it.value_is in
+        (it.value.1, parts ∙ ap (λ (n : ℕ). Some (n, it.value.1)) it.fact.number_is))
+
+    -- the rental that a row spells, or NULLs
+    abbrev rental_of : Option Row → Option Rental
+    rental_of o = rental_of_row (or_nulls 10 o)
 
     -- the rental under a number is that of its place
-    rental_partner : (k : ℕ) → option_map (λ r. r.1) (rental_read (or_nulls 10 (row_with 1 (number_key k) t.rentals))) ≡ numbered k s.rentals
+    rental_partner : (k : ℕ) → rental_of (row_with 1 (number_key k) t.rentals) ≡ numbered k s.rentals
     rental_partner k =
         read (row_with 1 (number_key k) t.rentals)
         ∙ at_number (stored_rental s.entries) (λ e. refl) rental_in t.rentals s.rentals rentals_are.rows_are rentals_are.back k
       where
-        parts : (o : Option (ℕ × Rental × ℤ)) → option_map (λ (r : ℕ × Rental × ℤ). r.1) o ≡ option_map (λ (e : ℕ × Rental). e.1) (option_map (λ (e : ℕ × Rental × ℤ). (e.0, e.1)) o)
+        parts : (o : Option (ℕ × Rental × ℤ))
+            → option_map (λ (e : ℕ × Rental × ℤ). e.1) o ≡ option_map (λ (e : ℕ × Rental). e.1) (option_map (λ (e : ℕ × Rental × ℤ). (e.0, e.1)) o)
         parts None = refl
         parts (Some e) = refl
 
-        read : (o : Option Row) → option_map (λ (r : ℕ × Rental × ℤ). r.1) (rental_read (or_nulls 10 o)) ≡ option_map (λ (e : ℕ × Rental). e.1) (option_and_then rental_in o)
+        read : (o : Option Row) → rental_of o ≡ option_map (λ (e : ℕ × Rental). e.1) (option_and_then rental_in o)
         read None = refl
         read (Some r) = parts (rental_read r)
 
     module _ (r : Row) (wide : length r ≡ 6) where
-      q_wide : length (or_nulls 10 (partner 1 (column r 3 ∷ []) t.rentals)) ≡ 10
-      q_wide = partner_wide 10 1 (column r 3 ∷ []) t.rentals rentals
+      abbrev rental_of_it : Option Row
+      rental_of_it = partner 1 (column r 3 ∷ []) t.rentals
+
+      rental_wide : length (or_nulls 10 rental_of_it) ≡ 10
+      rental_wide = partner_wide 10 1 (column r 3 ∷ []) t.rentals rentals
 
       rental_there : (e : Entry) → entry_read r ≡ Some e → line_rental (entry_rental_line t r) ≡ numbered e.rental s.rentals
       rental_there e is =
-          ap (λ (x : Row). option_map (λ (r : ℕ × Rental × ℤ). r.1) (rental_read x)) (partner_of_one r 6 10 (partner 1 (column r 3 ∷ []) t.rentals) wide q_wide)
-          ∙ ap (λ (x : Row). option_map (λ (r : ℕ × Rental × ℤ). r.1) (rental_read (or_nulls 10 (partner 1 (column x 3 ∷ []) t.rentals)))) (entry_reading.sound r e is).0
-          ∙ rental_partner e.rental
+          ap rental_of_row (partner_of_one r 6 10 rental_of_it wide rental_wide)
+          ∙ ap (λ (x : Row). rental_of (partner 1 (column x 3 ∷ []) t.rentals)) (entry_reading.sound r e is).0 ∙ rental_partner e.rental
 
-      pub book_decides : (n : ℕ) → Decides (entry_rental n (entry_rental_line t r)) (IsSomeAnd (entry_read r) (λ e. Booked s e.kind e))
+      abbrev BookedOf : Entry → Type 0
+      BookedOf e = Booked s e.kind e
+
+      pub book_decides : (n : ℕ) → Decides (entry_rental n (entry_rental_line t r)) (IsSomeAnd (entry_read r) BookedOf)
       book_decides n =
-          subst (λ (x : Row). Decides (rental_holds (entry_rental_line t r) (entry_read x)) (IsSomeAnd (entry_read r) (λ e. Booked s e.kind e)))
-          (sym (own_of_one r 6 10 (partner 1 (column r 3 ∷ []) t.rentals) wide q_wide)) (go (entry_read r) refl)
+          subst (λ (x : Row). Decides (rental_holds (entry_rental_line t r) (entry_read x)) (IsSomeAnd (entry_read r) BookedOf))
+          (sym (own_of_one r 6 10 rental_of_it wide rental_wide)) (go (entry_read r) refl)
         where
-          go : (o : Option Entry) → entry_read r ≡ o → Decides (rental_holds (entry_rental_line t r) o) (IsSomeAnd o (λ e. Booked s e.kind e))
+          go : (o : Option Entry) → entry_read r ≡ o → Decides (rental_holds (entry_rental_line t r) o) (IsSomeAnd o BookedOf)
           go None is = (λ e. absurd cc, λ h. absurd h)
-          go (Some e) is = subst (λ (o : Option Rental). Decides (is_booked e.kind e o) (Booked s e.kind e)) (sym (rental_there e is)) (booked_decides s e.kind e)
+          go (Some e) is =
+              subst (λ (o : Option Rental). Decides (is_booked e.kind e o) (BookedOf e)) (sym (rental_there e is)) (booked_decides s e.kind e)

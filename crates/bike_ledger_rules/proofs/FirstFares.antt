@@ -20,29 +20,36 @@ use Rattle.bike_ledger_rules.proofs.SumLemmas.{fold_read, count_of_items}
 -- ---- the pass
 
 module _ (fares : List ℤ) where
+  -- one more row, after those that stand before it
+  abbrev next : List ℤ → Row → List ℤ
+  next sums row = with_read with_fare sums (entry_read row)
+
   abbrev of_all : List Row → ℕ → Row → Bool
   of_all all n row = is_first (with_fares fares (take n all)) (entry_read row)
 
-  -- from a row on, where these stand before it
-  passes : (before rows : List Row) → second_fare (with_fares fares before) rows ≡ first_failing (of_all (before ++ rows)) (take 1) (length before) rows
+  -- the pass over these rows, which stand behind those
+  abbrev Passes : List Row → List Row → Type 0
+  Passes before rows = second_fare (with_fares fares before) rows ≡ first_failing (of_all (before ++ rows)) (take 1) (length before) rows
+
+  passes : (before rows : List Row) → Passes before rows
   unfolding first_failing
   passes before [] = refl
   passes before (row ∷ rows) = go (passes (before ++ row ∷ []) rows) where
     here : before ≡ take (length before) (before ++ row ∷ rows)
     here = sym (take_at before (row ∷ rows) (length before) refl)
 
-    go : second_fare (with_fares fares (before ++ row ∷ [])) rows ≡ first_failing (of_all ((before ++ row ∷ []) ++ rows)) (take 1) (length (before ++ row ∷ [])) rows
-        → second_fare (with_fares fares before) (row ∷ rows) ≡ first_failing (of_all (before ++ row ∷ rows)) (take 1) (length before) (row ∷ rows)
+    go : Passes (before ++ row ∷ []) rows → Passes before (row ∷ rows)
     go later =
-        let rest : second_fare (with_read with_fare (with_fares fares before) (entry_read row)) rows ≡ first_failing (of_all (before ++ row ∷ rows)) (take 1) (suc (length before)) rows =
-        ap (λ (sums : List ℤ). second_fare sums rows) (sym (fold_append (λ sums x. with_read with_fare sums (entry_read x)) fares before (row ∷ [])))
-        ∙ later
-        ∙ ap (λ (all : List Row). first_failing (of_all all) (take 1) (length (before ++ row ∷ [])) rows) (append_assoc before (row ∷ []) rows)
-        ∙ ap (λ (n : ℕ). first_failing (of_all (before ++ row ∷ rows)) (take 1) n rows) (length-append before (row ∷ []) ∙ (omega arith)) in
+        let all = before ++ row ∷ rows in
+        let front = before ++ row ∷ [] in
+        let rest : second_fare (next (with_fares fares before) row) rows ≡ first_failing (of_all all) (take 1) (suc (length before)) rows =
+        ap (λ (sums : List ℤ). second_fare sums rows) (sym (fold_append next fares before (row ∷ []))) ∙ later
+        ∙ ap (λ (xs : List Row). first_failing (of_all xs) (take 1) (length front) rows) (append_assoc before (row ∷ []) rows)
+        ∙ ap (λ (n : ℕ). first_failing (of_all all) (take 1) n rows) (length-append before (row ∷ []) ∙ (omega arith)) in
         λ i. cond (is_first (with_fares fares (here i)) (entry_read row)) (rest i) (Some (take 1 row))
 
   -- THE PASS over all rows
-  pub fares_pass : (rows : List Row) → second_fare fares rows ≡ first_failing (λ n row. is_first (with_fares fares (take n rows)) (entry_read row)) (take 1) 0 rows
+  pub fares_pass : (rows : List Row) → second_fare fares rows ≡ first_failing (of_all rows) (take 1) 0 rows
   fares_pass rows = passes [] rows
 
 -- ---- how many fares there are

@@ -16,4 +16,5 @@ pub mod RentalFolds
 pub mod RentalVerdict
 pub mod EntryRules
 pub mod FirstFares
+pub mod FirstItems
 pub mod EntryVerdict

@@ -84,7 +84,8 @@ module _ (t : Tables) where
           ∙ ap (λ (xs : List Entry). pos (length (fares_of number xs))) (sym (entries_read t.entries));
       refunds = λ number low.
           ap (λ (a : RentalEntries). sum_at a.refunds number) all ∙ ap (λ (sums : List ℤ). sum_at sums number) all_refunds
-          ∙ sum_of_entries owner refund_in next es number (omega (arith, low, next_is)) ∙ ap (refunded_of number) (sym (entries_read t.entries));
+          ∙ sum_of_entries owner refund_in next es number (omega (arith, low, next_is))
+          ∙ ap (refunded_of number) (sym (entries_read t.entries));
     }
 
   -- ---- what is asked by them

@@ -182,7 +182,8 @@ module _ (t : Tables) (up : AreInOrder t) (are : AreNamed t up)
 
   from_there : is_some (station_read (part 10 11 (named_line named.Station t r))) ≡ fin.contains_key s.stations e.1.from_station
   from_there =
-      ap (λ (x : Row). is_some (station_read x)) (beside_is 11 4 t.stations are.wide_stations) ∙ station_partner t up are.stations e.1.from_station
+      ap (λ (x : Row). is_some (station_read x)) (beside_is 11 4 t.stations are.wide_stations)
+      ∙ station_partner t up are.stations e.1.from_station
 
   bike_there : bike_read (part 10 8 (bike_line t r)) ≡ bike_under s e.1.bike
   bike_there = ap (λ (x : Row). bike_read x) (beside_is 8 2 t.bikes are.wide_bikes) ∙ bike_partner t up are.bikes e.1.bike

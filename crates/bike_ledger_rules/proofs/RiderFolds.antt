@@ -13,7 +13,8 @@ use Rattle.bike_ledger_rules.specs.Riders.{past_of, with_number, ArePast}
 abbrev pub AreWide : ℕ → List Row → Type 0
 AreWide width rows = (r : Row) → Has rows r → length r ≡ width
 
-pub count_option : {A : Type 0} (test : A → Bool) (o : Option A) (xs : List A) → count test (cons_option o xs) ≡ weight test o + count test xs
+pub count_option : {A : Type 0} (test : A → Bool) (o : Option A) (xs : List A)
+    → count test (cons_option o xs) ≡ weight test o + count test xs
 count_option test None xs = omega arith
 count_option test (Some x) xs = count-cons test x xs
 

@@ -18,6 +18,7 @@ use Rattle.bike_operator.specs.Operator.{Operator, Rider}
 use Rattle.bike_operator.specs.Counts.{is_open, count}
 use Rattle.bike_book.specs.Tables.{Tables, Riders}
 use Rattle.bike_schema.specs.Tables.{tables_of}
+use Rattle.bike_readings.specs.Bounds.{IsNumbered}
 use Rattle.bike_readings.specs.Readings.{rider_read}
 use Rattle.bike_readings.proofs.LedgerRows.{rider_reading}
 use Rattle.bike_readings.specs.ReadOff.{operator_of}
@@ -80,45 +81,70 @@ module _ (t : Tables) (past : ℕ) (below : ArePast past t.riders) where
   abbrev rides : List ℤ
   rides = fold with_ride (replicate past (pos 0)) s.rentals
 
+  abbrev test : ℕ → Row → Bool
+  test = rider_test balances rides
+
   -- a rider who was read
-  reads_rider : (n : ℕ) (row : Row) → Has t.riders row → (e : ℕ × Rider × ℤ) → rider_read row ≡ Some e → Decides (rider_holds balances rides n (Some e)) (IsGoodRider s n e)
-  reads_rider n row has e is =
-      Decides-like (nat_lt n MOST_RIDERS && (int_eq e.2 (sum_at balances e.0) && int_le (sum_at rides e.0) (pos 1)))
-      (λ h. record { room = h.0; good = record { low = number.0; high = number.1 }; balance_is = h.1.0 ∙ balance; riding_once = once_rides s e.0 (counted_once (is_his e.0) s.rentals h.1.1) })
-      (λ (g : IsGoodRider s n e). (g.room, (g.balance_is ∙ sym balance, once_counted (is_his e.0) s.rentals (rides_once s e.0 g.riding_once))))
-      (Decides-and (nat_lt n MOST_RIDERS) (int_eq e.2 (sum_at balances e.0) && int_le (sum_at rides e.0) (pos 1)) (Decides-ltb n MOST_RIDERS)
-      (Decides-and (int_eq e.2 (sum_at balances e.0)) (int_le (sum_at rides e.0) (pos 1)) (Decides-int_eq e.2 (sum_at balances e.0)) (few (sum_at rides e.0) (count (is_his e.0) s.rentals) count_is)))
-    where
-      low : e.0 < past
-      low = below row e has is
+  module _ (n : ℕ) (row : Row) (has : Has t.riders row) (e : ℕ × Rider × ℤ) (is : rider_read row ≡ Some e) where
+    low : e.0 < past
+    low = below row e has is
 
-      balance : sum_at balances e.0 ≡ balance_of e.0 s.entries
-      balance = sum_of_entries (λ x. x.rider) (λ x. credit x.kind x.amount) past s.entries e.0 low
+    balance : sum_at balances e.0 ≡ balance_of e.0 s.entries
+    balance = sum_of_entries (λ x. x.rider) (λ x. credit x.kind x.amount) past s.entries e.0 low
 
-      count_is : sum_at rides e.0 ≡ pos (count (is_his e.0) s.rentals)
-      count_is = count_of_items (λ r. r.rider) is_open past s.rentals e.0 low
+    count_is : sum_at rides e.0 ≡ pos (count (is_his e.0) s.rentals)
+    count_is = count_of_items (λ r. r.rider) is_open past s.rentals e.0 low
 
-      number : (1 ≤ e.0) × (e.0 ≤ 999999)
-      number = let it = (rider_reading.sound row e is).1 in (it.0, it.1)
+    number : IsNumbered e.0
+    number = (rider_reading.sound row e is).1
 
-  rider_decides : (n : ℕ) (row : Row) → Has t.riders row → Decides (rider_test balances rides n row) (IsGoodRow t s n Riders row)
+    abbrev his_balance : Bool
+    his_balance = int_eq e.2 (sum_at balances e.0)
+
+    abbrev rides_one : Bool
+    rides_one = int_le (sum_at rides e.0) (pos 1)
+
+    good_of : (n < MOST_RIDERS) × ((e.2 ≡ sum_at balances e.0) × (count (is_his e.0) s.rentals ≤ 1)) → IsGoodRider s n e
+    good_of h = record {
+      room = h.0;
+      good = record { low = number.0; high = number.1 };
+      balance_is = h.1.0 ∙ balance;
+      riding_once = once_rides s e.0 (counted_once (is_his e.0) s.rentals h.1.1);
+    }
+
+    of_good : IsGoodRider s n e → (n < MOST_RIDERS) × ((e.2 ≡ sum_at balances e.0) × (count (is_his e.0) s.rentals ≤ 1))
+    of_good g = (g.room, (g.balance_is ∙ sym balance, once_counted (is_his e.0) s.rentals (rides_once s e.0 g.riding_once)))
+
+    reads_rider : Decides (rider_holds balances rides n (Some e)) (IsGoodRider s n e)
+    reads_rider =
+        Decides-like (nat_lt n MOST_RIDERS && (his_balance && rides_one)) good_of of_good
+        (Decides-and (nat_lt n MOST_RIDERS) (his_balance && rides_one) (Decides-ltb n MOST_RIDERS)
+        (Decides-and his_balance rides_one (Decides-int_eq e.2 (sum_at balances e.0))
+        (few (sum_at rides e.0) (count (is_his e.0) s.rentals) count_is)))
+
+  rider_decides : (n : ℕ) (row : Row) → Has t.riders row → Decides (test n row) (IsGoodRow t s n Riders row)
   rider_decides n row has = go (rider_read row) refl where
     go : (o : Option (ℕ × Rider × ℤ)) → rider_read row ≡ o → Decides (rider_holds balances rides n o) (IsSomeAnd o (IsGoodRider s n))
     go None is = (λ e. absurd cc, λ h. absurd h)
     go (Some e) is = reads_rider n row has e is
 
-  pub riders_verdict : (v : Option Row) → IsFirstFailing t Riders (Demands t Riders (rider_test balances rides)) v → IsTableVerdict t Riders v
-  riders_verdict = verdict_of t Riders (λ key. tt) (Demands t Riders (rider_test balances rides)) (record {
-    good = λ key r is has h. (rider_decides _ r has).0 (demanded t Riders (rider_test balances rides) key r is h);
-    from = λ key r is has h. demands t Riders (rider_test balances rides) key r is ((rider_decides _ r has).1 h);
-    none = λ key is. lacking t Riders (rider_test balances rides) key is;
+  pub riders_verdict : (v : Option Row) → IsFirstFailing t Riders (Demands t Riders test) v → IsTableVerdict t Riders v
+  riders_verdict = verdict_of t Riders (λ key. tt) (Demands t Riders test) (record {
+    good = λ key r is has h. (rider_decides _ r has).0 (demanded t Riders test key r is h);
+    from = λ key r is has h. demands t Riders test key r is ((rider_decides _ r has).1 h);
+    none = λ key is. lacking t Riders test key is;
   })
 
-pub riders_judged : (db : Database) (past : ℕ) → ArePast past (tables_of db).riders
-    → (sums : List ℤ) → sums ≡ fold with_credit (replicate past (pos 0)) (operator_of (tables_of db)).entries
-    → (counts : List ℤ) → counts ≡ fold with_ride (replicate past (pos 0)) (operator_of (tables_of db)).rentals
-    → (found : Option BadKey) → FindsFailing Riders (λ t n row. rider_test sums counts n row) db found → JudgesTable Riders db found
-riders_judged db past below sums sums_are counts counts_are found it earlier =
-    riders_verdict (tables_of db) past below _
-    (subst (λ (zs : List ℤ). FindsFailing Riders (λ t n row. rider_test zs (fold with_ride (replicate past (pos 0)) (operator_of (tables_of db)).rentals) n row) db found) sums_are
-    (subst (λ (zs : List ℤ). FindsFailing Riders (λ t n row. rider_test sums zs n row) db found) counts_are it))
+module _ (db : Database) (past : ℕ) (low : ArePast past (tables_of db).riders) where
+  abbrev all_balances : List ℤ
+  all_balances = fold with_credit (replicate past (pos 0)) (operator_of (tables_of db)).entries
+
+  abbrev all_rides : List ℤ
+  all_rides = fold with_ride (replicate past (pos 0)) (operator_of (tables_of db)).rentals
+
+  pub riders_judged : (sums : List ℤ) → sums ≡ all_balances → (counts : List ℤ) → counts ≡ all_rides
+      → (found : Option BadKey) → FindsFailing Riders (λ t. rider_test sums counts) db found → JudgesTable Riders db found
+  riders_judged sums sums_are counts counts_are found it earlier =
+      riders_verdict (tables_of db) past low _
+      (subst (λ (zs : List ℤ). FindsFailing Riders (λ t. rider_test zs all_rides) db found) sums_are
+      (subst (λ (zs : List ℤ). FindsFailing Riders (λ t. rider_test sums zs) db found) counts_are it))

@@ -18,16 +18,16 @@ length-with_added sums number amount = length-set sums number (sum_at sums numbe
 pub sum_at-with_added : (sums : List ℤ) (owner : ℕ) (amount : ℤ) (n : ℕ) → n < length sums
     → sum_at (with_added sums owner amount) n ≡ sum_at sums n +ℤ cond (owner == n) amount (pos 0)
 sum_at-with_added sums owner amount n low = go (owner == n) refl where
+  none : (z : ℤ) → z ≡ z +ℤ pos 0
+  none z = omega (arith, ints)
+
   go : (b : Bool) → (owner == n) ≡ b → sum_at (with_added sums owner amount) n ≡ sum_at sums n +ℤ cond b amount (pos 0)
   go true e =
-      let same : owner ≡ n = (Decides-eqb owner n).0 e in
-      ap (λ (m : ℕ). get_or (set sums m (sum_at sums m +ℤ amount)) n (pos 0)) same ∙ get_or-set_same sums n (sum_at sums n +ℤ amount) (pos 0) low
+      ap (λ (m : ℕ). get_or (set sums m (sum_at sums m +ℤ amount)) n (pos 0)) ((Decides-eqb owner n).0 e)
+      ∙ get_or-set_same sums n (sum_at sums n +ℤ amount) (pos 0) low
   go false e =
       let other = not_from_Decides (owner == n) (Decides-eqb owner n) e in
       get_or-set_other sums owner n (sum_at sums owner +ℤ amount) (pos 0) (λ same. other (sym same)) ∙ none (sum_at sums n)
-    where
-      none : (z : ℤ) → z ≡ z +ℤ pos 0
-      none z = omega (arith, ints)
 
 -- ---- the items that rows spell
 
@@ -44,7 +44,7 @@ fold_read {R} {X} {A} read step (r ∷ rows) a = go (read r) (fold_read read ste
 pub fold_held : {R A B : Type 0} (get : A → B) (after : A → R → A) (step : B → R → B) → ((a : A) (r : R) → get (after a r) ≡ step (get a) r)
     → (rows : List R) (a : A) → get (fold after a rows) ≡ fold step (get a) rows
 fold_held get after step same [] a = refl
-fold_held {R} get after step same (r ∷ rows) a = fold_held get after step same rows (after a r) ∙ ap (λ b. fold step b rows) (same a r)
+fold_held get after step same (r ∷ rows) a = fold_held get after step same rows (after a r) ∙ ap (λ b. fold step b rows) (same a r)
 
 -- ---- all items
 
@@ -58,47 +58,52 @@ module _ {X : Type 0} (owner : X → ℕ) (amount : X → ℤ) where
   share_of n x = cond (owner x == n) (amount x) (pos 0)
 
   -- THE SUM OF A NUMBER is the total of what the items add to it
-  pub sum_at-with_all : (n : ℕ) (total : List X → ℤ) → total [] ≡ pos 0 → ((x : X) (xs : List X) → total (x ∷ xs) ≡ share_of n x +ℤ total xs)
-      → (xs : List X) (sums : List ℤ) → n < length sums → sum_at (with_all sums xs) n ≡ sum_at sums n +ℤ total xs
-  sum_at-with_all n total none more [] sums low = add_none (sum_at sums n) (total []) none where
+  module _ (n : ℕ) (total_of : List X → ℤ) (none : total_of [] ≡ pos 0)
+      (more : (x : X) (xs : List X) → total_of (x ∷ xs) ≡ share_of n x +ℤ total_of xs) where
     add_none : (z t : ℤ) → t ≡ pos 0 → z ≡ z +ℤ t
     add_none z t e = omega (arith, ints, e)
-  sum_at-with_all n total none more (x ∷ xs) sums low =
-      sum_at-with_all n total none more xs (with_added sums (owner x) (amount x)) (let long = length-with_added sums (owner x) (amount x) in omega (arith, long, low))
-      ∙ ap (λ (z : ℤ). z +ℤ total xs) (sum_at-with_added sums (owner x) (amount x) n low)
-      ∙ regroup (sum_at sums n) (share_of n x) (total xs) ∙ ap (λ (z : ℤ). sum_at sums n +ℤ z) (sym (more x xs))
-    where
-      regroup : (a b c : ℤ) → (a +ℤ b) +ℤ c ≡ a +ℤ (b +ℤ c)
-      regroup a b c = omega (arith, ints)
 
--- from sums of nothing
-nothing : (length_of n : ℕ) → n < length_of → sum_at (replicate length_of (pos 0)) n ≡ pos 0
-nothing length_of n low = get_or-replicate length_of n (pos 0) (pos 0) low
+    regroup : (a b c : ℤ) → (a +ℤ b) +ℤ c ≡ a +ℤ (b +ℤ c)
+    regroup a b c = omega (arith, ints)
 
-add_to_none : (z t : ℤ) → z ≡ pos 0 → z +ℤ t ≡ t
-add_to_none z t e = omega (arith, ints, e)
+    pub sum_at-with_all : (xs : List X) (sums : List ℤ) → n < length sums → sum_at (with_all sums xs) n ≡ sum_at sums n +ℤ total_of xs
+    sum_at-with_all [] sums low = add_none (sum_at sums n) (total_of []) none
+    sum_at-with_all (x ∷ xs) sums low =
+        let next = with_added sums (owner x) (amount x) in
+        sum_at-with_all xs next (let long = length-with_added sums (owner x) (amount x) in omega (arith, long, low))
+        ∙ ap (λ (z : ℤ). z +ℤ total_of xs) (sum_at-with_added sums (owner x) (amount x) n low)
+        ∙ regroup (sum_at sums n) (share_of n x) (total_of xs) ∙ ap (λ (z : ℤ). sum_at sums n +ℤ z) (sym (more x xs))
 
-long_enough : (length_of n : ℕ) → n < length_of → n < length (replicate length_of (pos 0))
-long_enough length_of n low = let long = length-replicate length_of (pos 0) in omega (arith, long, low)
+    -- from sums of nothing
+    pub sum_from_none : (size : ℕ) (xs : List X) → n < size → sum_at (with_all (replicate size (pos 0)) xs) n ≡ total_of xs
+    sum_from_none size xs low =
+        sum_at-with_all xs (replicate size (pos 0)) (let long = length-replicate size (pos 0) in omega (arith, long, low))
+        ∙ add_to_none (sum_at (replicate size (pos 0)) n) (total_of xs) (get_or-replicate size n (pos 0) (pos 0) low)
+      where
+        add_to_none : (z t : ℤ) → z ≡ pos 0 → z +ℤ t ≡ t
+        add_to_none z t e = omega (arith, ints, e)
 
 -- THE SUM OVER ENTRIES: the total of the amounts of those whose owner it is
-pub sum_of_entries : (owner : Entry → ℕ) (amount : Entry → ℤ) (length_of : ℕ) (entries : List Entry) (n : ℕ) → n < length_of
-    → sum_at (with_all owner amount (replicate length_of (pos 0)) entries) n ≡ total (share_of owner amount n) entries
-sum_of_entries owner amount length_of entries n low =
-    sum_at-with_all owner amount n (total (share_of owner amount n)) refl (λ e es. refl) entries (replicate length_of (pos 0)) (long_enough length_of n low)
-    ∙ add_to_none (sum_at (replicate length_of (pos 0)) n) (total (share_of owner amount n) entries) (nothing length_of n low)
+pub sum_of_entries : (owner : Entry → ℕ) (amount : Entry → ℤ) (size : ℕ) (entries : List Entry) (n : ℕ) → n < size
+    → sum_at (with_all owner amount (replicate size (pos 0)) entries) n ≡ total (share_of owner amount n) entries
+sum_of_entries owner amount size entries n low =
+    sum_from_none owner amount n (total (share_of owner amount n)) refl (λ e es. refl) size entries low
 
 -- THE COUNT OF ITEMS that pass a test, of each owner
-pub count_of_items : {X : Type 0} (owner : X → ℕ) (test : X → Bool) (length_of : ℕ) (items : List X) (n : ℕ) → n < length_of
-    → sum_at (with_all owner (λ x. cond (test x) (pos 1) (pos 0)) (replicate length_of (pos 0)) items) n ≡ pos (count (λ x. (owner x == n) && test x) items)
-count_of_items {X} owner test length_of items n low =
-    sum_at-with_all owner (λ x. cond (test x) (pos 1) (pos 0)) n (λ xs. pos (count (λ x. (owner x == n) && test x) xs)) refl more items (replicate length_of (pos 0)) (long_enough length_of n low)
-    ∙ add_to_none (sum_at (replicate length_of (pos 0)) n) (pos (count (λ x. (owner x == n) && test x) items)) (nothing length_of n low)
-  where
+module _ {X : Type 0} (owner : X → ℕ) (test : X → Bool) where
+  abbrev count_for : ℕ → List X → ℕ
+  count_for n = count (λ x. (owner x == n) && test x)
+
+  abbrev one_if : X → ℤ
+  one_if x = cond (test x) (pos 1) (pos 0)
+
+  pub count_of_items : (size : ℕ) (items : List X) (n : ℕ) → n < size
+      → sum_at (with_all owner one_if (replicate size (pos 0)) items) n ≡ pos (count_for n items)
+  count_of_items size items n low = sum_from_none owner one_if n (λ xs. pos (count_for n xs)) refl more size items low where
     both : (b c : Bool) (k m : ℕ) → k ≡ one (b && c) + m → pos k ≡ cond b (cond c (pos 1) (pos 0)) (pos 0) +ℤ pos m
     both true true k m e = ap pos e
     both true false k m e = ap pos e
     both false c k m e = ap pos e
 
-    more : (x : X) (xs : List X) → pos (count (λ x. (owner x == n) && test x) (x ∷ xs)) ≡ cond (owner x == n) (cond (test x) (pos 1) (pos 0)) (pos 0) +ℤ pos (count (λ x. (owner x == n) && test x) xs)
+    more : (x : X) (xs : List X) → pos (count_for n (x ∷ xs)) ≡ share_of owner one_if n x +ℤ pos (count_for n xs)
     more x xs = both (owner x == n) (test x) _ _ (count-cons (λ x. (owner x == n) && test x) x xs)

@@ -35,7 +35,7 @@ pub record IsRentalCount (t : Tables) (n : RentalCount) : Type 0 where
 
 -- ---- an entry with its rider
 
--- of so many entries before it it is the next one, and there is room for it beside the open rentals; its rider is there, and it is of the past
+-- Of so many entries before it it is the next one, there is room for it beside the open rentals, its rider is there, and it is of the past.
 abbrev pub rider_holds : ℕ → ℕ → ℕ → Row → Option Entry → Bool
 rider_holds now riding before line None = false
 rider_holds now riding before line (Some e) =
@@ -105,4 +105,5 @@ first_fare fares t before row = is_first (with_fares fares (take before t.entrie
 -- the key of the first fare of a rental that had one
 abbrev pub second_fare : List ℤ → List Row → Option Row
 second_fare fares [] = None
-second_fare fares (row ∷ rows) = if is_first fares (entry_read row) then second_fare (with_read with_fare fares (entry_read row)) rows else Some (take 1 row)
+second_fare fares (row ∷ rows) =
+    if is_first fares (entry_read row) then second_fare (with_read with_fare fares (entry_read row)) rows else Some (take 1 row)

@@ -50,7 +50,8 @@ with_rental a row = record a { counts = with_read with_ride a.counts (option_map
 -- There is room for him, his stored balance is the sum of his entries, and one rental of his is open at most.
 abbrev pub rider_holds : List ℤ → List ℤ → ℕ → Option (ℕ × Rider × ℤ) → Bool
 rider_holds balances rides before None = false
-rider_holds balances rides before (Some e) = nat_lt before MOST_RIDERS && (int_eq e.2 (sum_at balances e.0) && int_le (sum_at rides e.0) (pos 1))
+rider_holds balances rides before (Some e) =
+    nat_lt before MOST_RIDERS && (int_eq e.2 (sum_at balances e.0) && int_le (sum_at rides e.0) (pos 1))
 
 abbrev pub rider_test : List ℤ → List ℤ → ℕ → Row → Bool
 rider_test balances rides before row = rider_holds balances rides before (rider_read row)

@@ -133,7 +133,7 @@ fn judge_fares<S: Alter>(
     fares: Sums,
 ) -> Result<Option<BadKey>, StatementFault>
     ensures { ReadsWhere S.Store IsOurs conn.old conn.new result
-        (FindsFailing Entries (λ t n row. first_fare fares t n row)) }
+        (FindsFailing Entries (first_fare fares)) }
 {
     judge_lines(conn, Query::Entries, Fares::new(fares))
 }

@@ -2,6 +2,9 @@
 //!
 //! `specs/Riders`, `specs/Rentals` and `specs/Entries` say what is asked of the lines of the audit's queries; each function answers
 //! by `JudgesTable` of bike_judges.
+//!
+//! Each query walks one table in the order of its key, alone or with one partner beside each row, so the database holds no table
+//! in memory. What is summed over another table stands in `Sums`, an array by number.
 #![tactic(auto)]
 
 mod columns;

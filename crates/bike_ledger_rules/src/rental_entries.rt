@@ -45,7 +45,8 @@ impl LineFold for RentalEntries {
     }
 }
 
-/// Whether a rental is booked well with so many fares and so much refunded, in hundredths.
+/// Whether a rental has a fare where it is closed, and what its row has as refunded is what its entries give back, in hundredths, and
+/// its fare at most.
 fn is_booked(rental: &StoredRental<'_>, fares: i64, refunded: i64) -> bool
     ensures { result ≡ is_booked fares refunded (rental_of rental.now).1 (rental_of rental.now).2 }
 {
@@ -100,8 +101,9 @@ fn sum_entries<S: Alter>(
     fold_lines(conn, Query::Entries, none)
 }
 
-/// The first rental whose number isn't the next, that is closed with no fare, or whose refunds are not what is stored or over its
-/// fare. `NoMemory` where memory is refused, `StoreFailed` where the database fails or a sum passes 64 bits.
+/// The first row that spells no rental, or a rental whose number isn't the next, that is closed with no fare, or whose refunds are not
+/// what is stored or over its fare. It takes 16 bytes of memory for each rental. `NoMemory` where memory is refused, `StoreFailed`
+/// where the database fails or a sum passes 64 bits.
 pub(crate) fn judge_books<S: Alter>(
     alloc: Global,
     conn: &mut Connection<S>,

@@ -25,7 +25,7 @@ use sqlite::{Alter, Connection, Row};
 use std::alloc::Global;
 
 /// What a rental names by one of its columns.
-#[derive(Clone, Copy, Debug, PartialEq, Eq)]
+#[derive(Clone, Copy, Debug)]
 pub enum Named {
     /// Its rider.
     Rider,

@@ -143,7 +143,7 @@ fn judge_rows<S: Alter>(
     rides: Sums,
 ) -> Result<Option<BadKey>, StatementFault>
     ensures { ReadsWhere S.Store IsOurs conn.old conn.new result
-        (FindsFailing Riders (λ t n row. rider_test balances rides n row)) }
+        (FindsFailing Riders (λ t. rider_test balances rides)) }
 {
     judge_lines(
         conn,

@@ -13,5 +13,7 @@ use Rattle.bike_ledger_rules.proofs.entries.judge_fares.Goals as goal
 
 pub returns : goal.returns
 returns g c = reads_ours c.judge_lines.ensures (λ db ours found says.
-    rows_verdict (tables_of db) Entries (stored_in_order db) (first_fare c.args.fares (tables_of db)) first_column (λ row has. refl) (option_map key_row found)
-    (sym (says _ (ap (λ (fares : List ℤ). second_fare fares (tables_of db).entries) c.new.ensures ∙ fares_pass c.args.fares (tables_of db).entries))))
+    let rows = (tables_of db).entries in
+    let pass = ap (λ (fares : List ℤ). second_fare fares rows) c.new.ensures ∙ fares_pass c.args.fares rows in
+    rows_verdict (tables_of db) Entries (stored_in_order db) (first_fare c.args.fares (tables_of db)) first_column (λ row has. refl)
+    (option_map key_row found) (sym (says _ pass)))

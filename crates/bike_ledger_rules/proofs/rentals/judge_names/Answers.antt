@@ -16,12 +16,14 @@ returns-in_err-stations g c =
 
 pub returns-in_err-bikes : goal.returns-in_err-bikes
 returns-in_err-bikes g c =
-    reads_failed (reads_both c.in_ok-riders.ensures (reads_both c.in_ok-plans.ensures (reads_both c.in_ok-stations.ensures c.in_err-bikes.ensures)))
+    reads_failed (reads_both c.in_ok-riders.ensures
+    (reads_both c.in_ok-plans.ensures (reads_both c.in_ok-stations.ensures c.in_err-bikes.ensures)))
     c.from_residual-in_err-bikes.ensures.0
 
 pub returns : goal.returns
 returns g c =
-    reads_ours_as (reads_both c.in_ok-riders.ensures (reads_both c.in_ok-plans.ensures (reads_both c.in_ok-stations.ensures c.in_ok-bikes.ensures)))
+    reads_ours_as (reads_both c.in_ok-riders.ensures
+    (reads_both c.in_ok-plans.ensures (reads_both c.in_ok-stations.ensures c.in_ok-bikes.ensures)))
     (λ db ours it.
     both_failing Rentals (both (named_test named.Rider) (named_test named.Plan)) (both (named_test named.Station) bike_test) db
     c.least-first.result c.least-second.result c.least.result

@@ -17,13 +17,15 @@ returns-in_err-ends g c =
 
 pub returns-in_err-books : goal.returns-in_err-books
 returns-in_err-books g c =
-    reads_failed (reads_both c.in_ok-moment.ensures (reads_both c.in_ok-names.ensures (reads_both c.in_ok-ends.ensures c.in_err-books.ensures)))
+    reads_failed (reads_both c.in_ok-moment.ensures
+    (reads_both c.in_ok-names.ensures (reads_both c.in_ok-ends.ensures c.in_err-books.ensures)))
     c.from_residual-in_err-books.ensures.0
 
 pub returns : goal.returns
 returns g c =
     let ends = ends_test c.in_ok-moment.moment in
-    reads_ours_as (reads_both c.in_ok-moment.ensures (reads_both c.in_ok-names.ensures (reads_both c.in_ok-ends.ensures c.in_ok-books.ensures)))
+    reads_ours_as (reads_both c.in_ok-moment.ensures
+    (reads_both c.in_ok-names.ensures (reads_both c.in_ok-ends.ensures c.in_ok-books.ensures)))
     (λ db ours it earlier.
     rentals_judged db ours earlier c.in_ok-moment.moment (it.0 (λ key. earlier Meta key (omega arith))) c.least.result
     (both_failing Rentals names_test (both ends books_test) db c.in_ok-names.names c.least-rest.result c.least.result it.1.0

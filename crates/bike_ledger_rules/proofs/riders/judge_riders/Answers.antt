@@ -10,6 +10,9 @@ use Rattle.bike_ledger_rules.proofs.riders.judge_riders.Goals as goal
 
 pub returns : goal.returns
 returns g c =
-    reads_ours (reads_both c.in_ok-past.ensures (reads_both c.in_ok-balances.ensures (reads_both c.in_ok-rides.ensures c.judge_rows.ensures)))
-    (λ db ours found it. riders_judged db c.in_ok-past.past it.0 c.in_ok-balances.balances (it.1.0 ∙ ap (λ sums. fold with_credit sums (operator_of (tables_of db)).entries) c.in_ok-zeros.ensures)
-    c.in_ok-rides.rides (it.1.1.0 ∙ ap (λ sums. fold with_ride sums (operator_of (tables_of db)).rentals) c.in_ok-zeros-2.ensures) found it.1.1.1)
+    reads_ours
+    (reads_both c.in_ok-past.ensures (reads_both c.in_ok-balances.ensures (reads_both c.in_ok-rides.ensures c.judge_rows.ensures)))
+    (λ db ours found it.
+    let sums = ap (λ sums. fold with_credit sums (operator_of (tables_of db)).entries) c.in_ok-zeros.ensures in
+    let counts = ap (λ counts. fold with_ride counts (operator_of (tables_of db)).rentals) c.in_ok-zeros-2.ensures in
+    riders_judged db c.in_ok-past.past it.0 _ (it.1.0 ∙ sums) _ (it.1.1.0 ∙ counts) found it.1.1.1)

@@ -12,5 +12,5 @@ use Rattle.bike_ledger_rules.proofs.riders.judge_rows.Goals as goal
 
 pub returns : goal.returns
 returns g c = reads_ours c.judge_lines.ensures (λ db ours found says.
-    rows_verdict (tables_of db) Riders (stored_in_order db) (rider_test c.args.balances c.args.rides) first_column (λ row has. refl) (option_map key_row found)
-    (sym (says _ (c.new.ensures.says (tables_of db).riders _ refl))))
+    rows_verdict (tables_of db) Riders (stored_in_order db) (rider_test c.args.balances c.args.rides) first_column (λ row has. refl)
+    (option_map key_row found) (sym (says _ (c.new.ensures.says (tables_of db).riders _ refl))))

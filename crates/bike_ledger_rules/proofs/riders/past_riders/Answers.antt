@@ -7,4 +7,6 @@ use Rattle.bike_ledger_rules.proofs.RiderFolds.{all_past}
 use Rattle.bike_ledger_rules.proofs.riders.past_riders.Goals as goal
 
 pub returns : goal.returns
-returns g c = reads_as c.in_ok-numbers.ensures (λ db is. subst (λ (a : RiderNumbers). ArePast a.past (tables_of db).riders) (sym is) (all_past (tables_of db).riders (record { past = 0 })))
+returns g c = reads_as c.in_ok-numbers.ensures (λ db is.
+    let rows = (tables_of db).riders in
+    subst (λ (a : RiderNumbers). ArePast a.past rows) (sym is) (all_past rows (record { past = 0 })))
