@@ -612,7 +612,7 @@ def test_answer_lines_that_fail_behind_each_byte(program):
 
 @quickly
 def test_texts_that_fail_behind_each_byte(program):
-    """So it is with a feed, a day's table, and the one line of other words; what stands doesn't depend on it."""
+    """So it is with a feed, a day's table, and the one line of other words: after one write that fails none comes. What stands doesn't depend on it."""
     days.ask(program, days.CITY)
     before = adoption.held(Path(program.folder, "city.db"))
     feed, day = ["feed", "city.db", "station_status", "--at", AT], ["day", "city.db", "entries", "2023-11-14", UTC]
@@ -620,7 +620,7 @@ def test_texts_that_fail_behind_each_byte(program):
         whole = program.run(*words)
         assert whole[0] == 0 and whole[1] and not whole[2], whole
         for size in some(len(whole[1]), stride):
-            found = faulty(program, words, ONLY_ENDS=2, SHORT_FROM=1, FAIL_FROM=size + 1)
+            found = faulty(program, words, ONLY_ENDS=2, SHORT_FROM=1, FAIL_AT=size + 1)
             assert found == (6, whole[1][:size], b"write failed\n"), (words, size, found)
         assert adoption.held(Path(program.folder, "city.db")) == before, words
     for size in range(len(b"rows 3\n")):
