@@ -1,0 +1,204 @@
+"""Starts programs and takes their figures: processor and wall time in seconds, memory in bytes, and what they answer. Linux alone."""
+
+import ctypes
+import fcntl
+import os
+import shlex
+import signal
+import subprocess
+import time
+
+SUBREAPER = 36  # of prctl: this process becomes the parent of its children's children
+PIPE_SIZE = 1 << 20  # bytes
+PAUSE = 0.002  # seconds between two looks at what was answered
+PATIENCE = 600  # seconds without an answer
+# A shell starts another, which tells its number and becomes the program; then the first ends, and the program is a child of this
+# process. So the greatest memory that the system tells of it is its own. Of a direct child it would be at least this process's.
+START = """exec 3<&0; sh -c 'echo $$ >&2; exec "$@"' sh "$@" <&3 3<&- &"""
+
+
+class Failed(Exception):
+    """A program didn't end or answer as it should have."""
+
+
+class Program:
+    """A program under its name in the table. It takes the words of docs/FORMATS.md, section 9."""
+
+    def __init__(self, text):
+        """Reads NAME=COMMAND, or COMMAND alone."""
+        name, named, command = text.partition("=")
+        self.words = [os.path.abspath(it) if os.path.exists(it) else it for it in shlex.split(command if named else text)]
+        self.name = name if named else os.path.basename(self.words[-1])
+
+
+class Usage:
+    """What a process took that has ended."""
+
+    def __init__(self, status, used, wall, said):
+        """From what the system tells of the process, its wall seconds and what it wrote to standard error."""
+        self.status, self.wall, self.said, self.output = os.waitstatus_to_exitcode(status), wall, said, b""
+        self.processor, self.memory = used.ru_utime + used.ru_stime, used.ru_maxrss * 1024
+
+
+class Process:
+    """A process that runs."""
+
+    running = set()  # those that weren't waited for yet
+
+    def __init__(self, words, given, taken):
+        """Starts it with its input and output."""
+        ctypes.CDLL(None).prctl(SUBREAPER, 1, 0, 0, 0)
+        environment = {**os.environ, "PYTHONUNBUFFERED": "1"}  # a program in Python too answers before it waits for more
+        self.began = time.monotonic()
+        shell = subprocess.Popen(["sh", "-c", START, "sh", *words], stdin=given, stdout=taken, stderr=subprocess.PIPE, env=environment)
+        self.said, self.number = shell.stderr, int(shell.stderr.readline())
+        Process.running.add(self)
+        shell.wait()
+
+    def processor(self):
+        """Processor seconds of all its threads up to now."""
+        return sum(self.of_thread(it) for it in os.listdir(f"/proc/{self.number}/task"))
+
+    def of_thread(self, thread):
+        """Processor seconds of one thread."""
+        with open(f"/proc/{self.number}/task/{thread}/schedstat", encoding="ascii") as file:
+            return int(file.read().split()[0]) / 1e9
+
+    def memory(self, kind="VmRSS"):
+        """Bytes of memory that it has now, or, with VmHWM, had at most."""
+        with open(f"/proc/{self.number}/status", encoding="ascii") as file:
+            return next(int(it.split()[1]) * 1024 for it in file if it.startswith(kind + ":"))
+
+    def has_ended(self):
+        """Whether it has ended and wasn't waited for yet."""
+        with open(f"/proc/{self.number}/stat", encoding="ascii", errors="replace") as file:
+            return file.read().rpartition(")")[2].split()[0] == "Z"
+
+    def end(self):
+        """Waits for its end."""
+        said = self.said.read().decode(errors="replace")
+        self.said.close()
+        _, status, used = os.wait4(self.number, 0)
+        Process.running.discard(self)
+        return Usage(status, used, time.monotonic() - self.began, said)
+
+
+def stop_all():
+    """Kills what still runs, after a fault."""
+    for process in list(Process.running):
+        os.kill(process.number, signal.SIGKILL)
+        process.end()
+
+
+def in_memory(data=b""):
+    """A file without a name, in memory, that holds data."""
+    file = os.fdopen(os.memfd_create("bench"), "w+b")
+    file.write(data)
+    file.seek(0)
+    return file
+
+
+def run(program, *words, given=b""):
+    """Runs a program to its end on an input, and returns what it took, with its output."""
+    with in_memory(given) as source, in_memory() as target:
+        used = Process([*program.words, *words], source, target).end()
+        target.seek(0)
+        used.output = target.read()
+    if used.status:
+        raise Failed(f"{program.name} {words[0]}: status {used.status}; it said {used.said.strip()[:200]}")
+    return used
+
+
+def from_first_byte(program, *words):
+    """Runs a program on no input, and returns what it took, but the wall seconds are those behind the first byte of its output."""
+    reading, writing = os.pipe()
+    process = Process([*program.words, *words], subprocess.DEVNULL, writing)
+    os.close(writing)
+    with os.fdopen(reading, "rb") as output:
+        first = output.read(1)
+        begin = time.monotonic()
+        rest = output.read()
+        took = time.monotonic() - begin
+    used = process.end()
+    used.wall, used.output = took, first + rest
+    if used.status:
+        raise Failed(f"{program.name} {words[0]}: status {used.status}; it said {used.said.strip()[:200]}")
+    return used
+
+
+class Lines:
+    """A program that runs by the words `lines FILE` and is sent block after block."""
+
+    def __init__(self, program, file):
+        """Starts it over a file, or `:memory:`."""
+        self.name, self.answers, self.taken = program.name, in_memory(), 0
+        source, self.input = os.pipe()
+        fcntl.fcntl(self.input, fcntl.F_SETPIPE_SZ, PIPE_SIZE)
+        os.set_blocking(self.input, False)
+        self.process = Process([*program.words, "lines", file], source, self.answers)
+        os.close(source)
+
+    def write(self, rest):
+        """Sends what there is room for, and returns the rest."""
+        try:
+            return rest[os.write(self.input, rest) :] if rest else rest
+        except BlockingIOError:
+            return rest
+        except BrokenPipeError:
+            raise Failed(f"{self.name} lines: it doesn't read") from None
+
+    def ask(self, lines):
+        """Sends lines, and returns the processor seconds and wall seconds until all were answered, and the answers."""
+        rest, wanted, answers = memoryview(b"".join(lines)), len(lines), []
+        processor = self.process.processor()
+        begin = late = time.monotonic()
+        while wanted:
+            rest = self.write(rest)
+            time.sleep(PAUSE)
+            some = os.pread(self.answers.fileno(), PIPE_SIZE, self.taken)
+            self.taken, wanted = self.taken + len(some), wanted - some.count(b"\n")
+            answers.append(some)
+            late = time.monotonic() if some else late
+            if not some and (self.process.has_ended() or time.monotonic() - late > PATIENCE):
+                raise Failed(f"{self.name} lines: {wanted} lines aren't answered")
+        return self.process.processor() - processor, time.monotonic() - begin, b"".join(answers)
+
+    def end(self):
+        """Ends its input, and returns what it took."""
+        os.close(self.input)
+        used = self.process.end()
+        self.answers.close()
+        if used.status:
+            raise Failed(f"{self.name} lines: status {used.status}; it said {used.said.strip()[:200]}")
+        return used
+
+
+class Server:
+    """A program that runs by the words `serve FILE --port 0 --count N`."""
+
+    def __init__(self, program, file, count, client):
+        """Starts it for so many connections, and waits until it listens; `client` is the built client.c."""
+        reading, writing = os.pipe()
+        self.name, self.client, self.left, self.output = program.name, client, count, os.fdopen(reading, "rb")
+        self.process = Process([*program.words, "serve", file, "--port", "0", "--count", str(count)], subprocess.DEVNULL, writing)
+        os.close(writing)
+        told = self.output.readline().decode()
+        if not told.startswith("listening 127.0.0.1:"):
+            raise Failed(f"{program.name} serve: it said {told.strip() or self.process.said.read().decode()[:200]}")
+        self.port = told.strip().rpartition(":")[2]
+
+    def ask(self, requests):
+        """Sends requests in turn, and returns the server's processor seconds and the wall seconds, status, length and hash of each."""
+        processor = self.process.processor()
+        told = subprocess.run([self.client, self.port], input=b"\0".join(requests) + b"\0", capture_output=True, check=True).stdout
+        self.left -= len(requests)
+        rows = [it.split() for it in told.decode().splitlines()]
+        used = self.process.processor() - processor if self.left else None
+        return used, [(int(wall) / 1e9, int(status), int(length), hash_) for wall, status, length, hash_ in rows]
+
+    def end(self):
+        """Sends what is left of the connections that were told, and returns what it took."""
+        self.ask([b"GET / HTTP/1.1\r\n\r\n"] * self.left)
+        used = self.process.end()
+        self.output.close()
+        return used
