@@ -41,7 +41,8 @@ module _ (table : DayTable) (date zone : List ℕ) where
       pub reported : (s : Operator) → TreesStandFor s (state g first).now.trees → ReportsAt desk s old new end
 
     -- the connection couldn't be adopted, or the table is written; the input before and after, and what was written before and after
-    abbrev pub TellsReported : Option (List ℕ) → Option (List ℕ) → Option (List ℕ) → Option (List ℕ) → Held S → Held S → Result ℕ Fault → Type 0
+    abbrev pub TellsReported : Option (List ℕ) → Option (List ℕ) → Option (List ℕ) → Option (List ℕ) → Held S → Held S → Result ℕ Fault
+        → Type 0
     TellsReported input ahead old new first last end = Refuses g input ahead old new first last end ⊎ Reports first last old new end
 
   -- over a database in memory, of which no operator was asked anything

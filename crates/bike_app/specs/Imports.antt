@@ -52,7 +52,8 @@ module _ {S : Type 0} (g : Ghosts S) (input ahead old new : Option (List ℕ)) (
   TellsImported first last moment end = Refuses g input ahead old new first last end ⊎ ImportsOver first last moment end
 
 -- over a database in memory, which begins with nothing
-abbrev pub ImportsInMemory : Option (List ℕ) → Option (List ℕ) → Option (List ℕ) → Option (List ℕ) → List ℕ → Option ℕ → Result ℕ Fault → Type 0
+abbrev pub ImportsInMemory : Option (List ℕ) → Option (List ℕ) → Option (List ℕ) → Option (List ℕ) → List ℕ → Option ℕ → Result ℕ Fault
+    → Type 0
 ImportsInMemory input ahead old new name moment end =
     FailsToBegin input ahead old new end
     ⊎ ((desk : DeskValue MemStore) × TellsImport over_memory input ahead old new name moment desk no_operator end)

@@ -57,7 +57,8 @@ SendsAnswer before after a (Err fault.Write) = AppendsFront before after (answer
 SendsAnswer before after a (Err fault.Cut) = ⊥
 
 -- how the sending of a response ends
-abbrev pub Responds : {S : Type 0} → Ghosts S → DeskValue S → Operator → Response → Operator → Option (List ℕ) → Option (List ℕ) → Result ℕ SendFault → Type 0
+abbrev pub Responds : {S : Type 0} → Ghosts S → DeskValue S → Operator → Response → Operator → Option (List ℕ) → Option (List ℕ)
+    → Result ℕ SendFault → Type 0
 Responds g d s response next before after (Ok status) =
     (sent : Response) × Tells g d s response next sent × (status ≡ response_status sent) × Appends before after (bytes_of sent)
 Responds g d s response next before after (Err fault.Write) =
@@ -73,7 +74,8 @@ ended (Err fault.Write) = Err Write
 ended (Err fault.Cut) = Err Cut
 
 -- HOW AN EXCHANGE ENDS over an input
-abbrev pub Serves : {S : Type 0} → Ghosts S → DeskValue S → Operator → ℕ → Option (List ℕ) → Option (List ℕ) → Option (List ℕ) → Result Served ServeFault → Type 0
+abbrev pub Serves : {S : Type 0} → Ghosts S → DeskValue S → Operator → ℕ → Option (List ℕ) → Option (List ℕ) → Option (List ℕ)
+    → Result Served ServeFault → Type 0
 Serves g d s t input before after (Ok Empty) = IfSome input (λ bytes. bytes ≡ [])
 Serves g d s t input before after (Ok (Status status)) =
     (sent : Response) × TellsFor g d s t input sent × (status ≡ response_status sent) × Appends before after (bytes_of sent)

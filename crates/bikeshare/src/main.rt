@@ -65,6 +65,20 @@ fn run_on<W: Write>(rt: &HostRuntime, words: &Words<'_>, out: &mut W) -> Result<
     end
 }
 
+/// Writes what the buffer holds, and tells how the task ended. After a fault nothing more is written: a buffer that is let go would
+/// write what it holds.
+fn finish<W: Write + Drop>(mut out: BufWriter<W>, end: Result<u64, Fault>) -> Result<u64, Fault> {
+    let told = match end {
+        Ok(count) => match out.flush() {
+            Ok(()) => Ok(count),
+            Err(_) => Err(Fault::WriteFailed),
+        },
+        Err(fault) => Err(fault),
+    };
+    let _ = out.into_parts();
+    told
+}
+
 /// Does the task of words that ask for a long text, and writes that in large pieces.
 fn publish(rt: &HostRuntime, words: &Words<'_>) -> Result<u64, Fault>
     requires streams { ServesSockets words.now.task → ⊥ }
@@ -73,11 +87,8 @@ fn publish(rt: &HostRuntime, words: &Words<'_>) -> Result<u64, Fault>
     let Ok(mut out) = BufWriter::with_capacity(rt.alloc(), PIECE, rt.stdout()) else {
         return Err(Fault::OutOfMemory);
     };
-    let end = run_on(rt, words, &mut out)?;
-    match out.flush() {
-        Ok(()) => Ok(end),
-        Err(_) => Err(Fault::WriteFailed),
-    }
+    let end = run_on(rt, words, &mut out);
+    finish(out, end)
 }
 
 /// Answers HTTP requests over the database.
