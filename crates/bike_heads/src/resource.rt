@@ -3,9 +3,9 @@
 ghost use Rattle.std.specs.Prelude.{◌≡◌, IfOk};
 ghost use Rattle.bike_heads.specs.Table.{resource_at};
 
-use bike_feed_texts::Feed;
 use crate::path::{ident_in, number_in};
 use crate::routes::Route;
+use bike_feed_texts::Feed;
 use bike_fields::{BicycleNumber, Ident, OrderNumber, RentalNumber, RiderNumber, TruckNumber};
 use std::alloc::{AllocError, Global};
 

@@ -18,7 +18,8 @@ const LINES: [&str; 4] = [
 ];
 
 /// The feed `station_status` of that city for the moment 1700000600.
-const STATUS: &str = "{\"last_updated\":\"2023-11-14T22:23:20Z\",\"ttl\":30,\"version\":\"3.0\",\"data\":{\"stations\":[]}}";
+const STATUS: &str =
+    "{\"last_updated\":\"2023-11-14T22:23:20Z\",\"ttl\":30,\"version\":\"3.0\",\"data\":{\"stations\":[]}}";
 
 /// The requests that the lines spell.
 fn requests(alloc: Global) -> Result<Vec<(Moment, Request)>, Fail> {
