@@ -34,14 +34,14 @@ TellsFeed s f (Some moment) old new (Ok count) = (count ≡ 0) × IsPublished s 
 TellsFeed s f (Some moment) old new (Err fault) = BreaksOff s f moment old new fault
 
 -- The feed of a desk at an operator, who stays; only a store that fails stops the desk.
-pub record PublishesAt {S : Type 0} (g : Ghosts S) (desk : DeskValue S) (s : Operator) (f : Feed) (moment : Option ℕ) (old new : Option
-    (List ℕ)) (end : Result ℕ Fault) : Type 0 where
+pub record PublishesAt {S : Type 0} (g : Ghosts S) (desk : DeskValue S) (s : Operator) (f : Feed) (moment : Option ℕ)
+    (old new : Option (List ℕ)) (end : Result ℕ Fault) : Type 0 where
   pub told : TellsFeed s f moment old new end
   pub at : (end ≡ Err StoreFailed → ⊥) → IsAt g desk s
 
 -- The database stood for an operator, or had none of the tables, and over a desk at him his feed was written.
-pub record Publishes {S : Type 0} (g : Ghosts S) (first last : Held S) (f : Feed) (moment : Option ℕ) (old new : Option (List ℕ)) (end
-    : Result ℕ Fault) : Type 0 where
+pub record Publishes {S : Type 0} (g : Ghosts S) (first last : Held S) (f : Feed) (moment : Option ℕ)
+    (old new : Option (List ℕ)) (end : Result ℕ Fault) : Type 0 where
   pub desk : DeskValue S
   pub conn : last ≡ desk.conn
   pub operator : Operator
