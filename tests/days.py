@@ -1,14 +1,13 @@
-"""A day's tables, as `day` writes them: the worked day, days of many time zones beside Python's zoneinfo, a made city whose sums are
-those of plain SQL, and the days and zones that are refused."""
+"""A day's tables, as `day` writes them: the worked day, days of many time zones beside a table of facts that Python's zoneinfo made,
+a made city whose sums are those of plain SQL, and the days and zones that are refused."""
 
 import csv
 import io
 import random
 import sqlite3
-import struct
+import subprocess
+import sys
 from datetime import date, datetime, timedelta, timezone
-from zoneinfo import ZoneInfo
-
 from pathlib import Path
 
 ROME = "CET-1CEST,M3.5.0,M10.5.0/3"
@@ -29,21 +28,7 @@ CITY = [
     "top-up\t17\t2500",
 ]
 
-# Rules with a change of the clock at midnight, at other hours, over the new year, of half an hour, and with none.
-ZONES = {
-    "UTC0": (2024, 2023),
-    ROME: (2024, 2025),
-    "EST5EDT,M3.2.0,M11.1.0": (2024, 2031),
-    "AAA3BBB,M10.3.0/0,M2.3.0/1": (2024, 2018),
-    "<-03>3<-02>,M10.3.0/0,M2.3.0/0": (2023, 2024),
-    "AEST-10AEDT,M10.1.0,M4.1.0/3": (2024, 2026),
-    "<+1030>-10:30<+11>-11,M10.1.0,M4.1.0": (2024, 2029),
-    "IST-5:30": (2024, 1999),
-    "<-04>4<-03>,M9.1.6/24,M4.1.6/24": (2024, 2022),
-    "EET-2EEST,M3.5.5/0,M10.5.5/0": (2022, 2024),
-    "<+0545>-5:45": (2024, 2100),
-    "NZST-12NZDT,M9.5.0,M4.1.0/3": (2024, 2027),
-}
+FACTS = Path(__file__).resolve().parent / "facts"
 
 
 def ask(program, commands, at=1699999200, first=1, caller="office"):
@@ -126,55 +111,37 @@ def test_refused_days(program):
         assert (status, out) == (2, b"") and said, (words, status, out)
 
 
-def zone_of(rule):
-    """The time zone of a POSIX rule, by Python: a file of the tz database with no transition and this rule behind it."""
-    counts = struct.pack(">6l", 0, 0, 0, 0, 1, 4)
-    block = struct.pack(">lBB", 0, 0, 0) + b"UTC\0"
-    head = b"TZif2" + bytes(15)
-    return ZoneInfo.from_file(io.BytesIO(head + counts + block + head + counts + block + b"\n" + rule.encode() + b"\n"))
-
-
-def begin_of(day, zone):
-    """The moment of the local midnight: of two the earlier, and where there is none, as the offset before the gap has it."""
-    return int((datetime(day.year, day.month, day.day, tzinfo=zone) - datetime(1970, 1, 1, tzinfo=timezone.utc)).total_seconds())
-
-
-def days_of(zone, years, few):
-    """Days of a zone: those whose length isn't a day's and their neighbours, then others up to the number."""
-    found = set()
-    for year in years:
-        for number in range(364):
-            day = date(year, 1, 1) + timedelta(number)
-            if begin_of(day + timedelta(1), zone) - begin_of(day, zone) != 86400:
-                found |= {day - timedelta(1), day, day + timedelta(1)}
-    draw = random.Random(few)
-    while len(found) < few:
-        found.add(date(draw.choice(years), 1, 1) + timedelta(draw.randrange(364)))
-    return sorted(found)
+def facts():
+    """When days of a dozen time zones begin and end, as a stored table has it: zone, date, begin, end."""
+    with open(FACTS / "day_bounds.tsv", encoding="utf-8", newline="") as rows:
+        for zone, day, begin, end in csv.reader(rows, delimiter="\t", quoting=csv.QUOTE_NONE):
+            yield zone, day, int(begin), int(end)
 
 
 def test_days_of_many_zones(program):
-    days = []
-    for rule, years in ZONES.items():
-        zone = zone_of(rule)
-        days += [(rule, day, begin_of(day, zone), begin_of(day + timedelta(1), zone)) for day in days_of(zone, years, 34)]
-    assert len(days) >= 400, len(days)
+    days = list(facts())
+    assert len(days) >= 400 and len({zone for zone, *_ in days}) == 12, len(days)
     moments = sorted({at for _, _, begin, end in days for at in (begin - 1, begin, end - 1, end)})
     given = "".join(f"{at}\toffice\tz{number}\ttop-up\t17\t1\n" for number, at in enumerate(moments))
     assert moments[0] > 900000000
     assert ask(program, ["add-rider\t17"], at=900000000) == ["ok"]
     status, out, said = program.run("lines", "city.db", given=given.encode())
     assert (status, said) == (0, b"") and out.count(b"balance") == len(moments)
-    for rule, day, begin, end in days:
-        rows = list(csv.DictReader(io.StringIO(table(program, "entries", day.isoformat(), rule))))
+    for zone, day, begin, end in days:
+        rows = list(csv.DictReader(io.StringIO(table(program, "entries", day, zone))))
         wanted = [text_of(at) for at in moments if begin <= at < end]
-        assert [row["at"] for row in rows] == wanted, (rule, day, begin, end)
+        assert [row["at"] for row in rows] == wanted, (zone, day, begin, end)
+
+
+def test_the_facts_are_those_of_zoneinfo(program):
+    made = subprocess.run([sys.executable, FACTS / "day_bounds.py"], capture_output=True, check=True).stdout
+    assert made == (FACTS / "day_bounds.tsv").read_bytes()
 
 
 def test_days_whose_midnight_is_skipped_or_comes_twice(program):
-    zone = zone_of("AAA3BBB,M10.3.0/0,M2.3.0/1")
-    assert begin_of(date(2024, 10, 20), zone) == 1729393200 and begin_of(date(2024, 10, 21), zone) == 1729476000
-    assert begin_of(date(2024, 2, 18), zone) == 1708221600 and begin_of(date(2024, 2, 19), zone) == 1708311600
+    begins = {day: begin for zone, day, begin, _ in facts() if zone == "AAA3BBB,M10.3.0/0,M2.3.0/1"}
+    assert (begins["2024-10-20"], begins["2024-10-21"]) == (1729393200, 1729476000)
+    assert (begins["2024-02-18"], begins["2024-02-19"]) == (1708221600, 1708311600)
 
 
 def made_city(program, seed):
@@ -207,6 +174,12 @@ def made_city(program, seed):
     return memory
 
 
+def midnight(day):
+    """When a day of March 2024 begins in Rome, whose summer time begins on the 31st at two."""
+    since = (datetime(day.year, day.month, day.day, tzinfo=timezone.utc) - datetime(1970, 1, 1, tzinfo=timezone.utc)).total_seconds()
+    return int(since) - (3600 if day <= date(2024, 3, 31) else 7200)
+
+
 def hundredths(text):
     whole, part = text.split(".")
     assert len(part) == 2
@@ -215,12 +188,12 @@ def hundredths(text):
 
 def test_sums_are_those_of_plain_sql(program):
     stored = made_city(program, 7)
-    zone = zone_of(ROME)
     kinds = {"topup": 1, "fare": 2, "refund": 3}
     seen = 0
     for number in range(12):
         day = date(2024, 3, 20) + timedelta(number)
-        begin, end = begin_of(day, zone), begin_of(day + timedelta(1), zone)
+        begin = midnight(day)
+        end = midnight(day + timedelta(1))
         rows = list(csv.DictReader(io.StringIO(table(program, "entries", day.isoformat(), ROME))))
         for name, kind in kinds.items():
             wanted = stored.execute("SELECT count(*), coalesce(sum(amount), 0) FROM entries WHERE kind = ? AND at >= ? AND at < ?", (kind, begin, end)).fetchone()

@@ -37,13 +37,14 @@ SECONDS = 60
 
 def by_path(name):
     """Returns the module of another file of tests."""
-    spec = importlib.util.spec_from_file_location(f"tests_{name}", HERE / f"{name}.py")
+    spec = importlib.util.spec_from_file_location(f"tests_{Path(name).name}", HERE / f"{name}.py")
     module = importlib.util.module_from_spec(spec)
     spec.loader.exec_module(module)
     return module
 
 
 adoption, days, imports, model, stops = (by_path(it) for it in ("adoption", "days", "imports", "model", "stops"))
+day_bounds = by_path("facts/day_bounds")
 formats, serving = model.formats, stops.serving
 HEADER, AT = imports.HEADER, imports.AT
 IMPORT = ["import", "city.db", "spring", "--at", AT]
@@ -151,8 +152,8 @@ def holds_days(program, found, where):
 
 def days_of(rule, year, few):
     """Days of a year in a zone, with their bounds: those that aren't 24 hours long, some of their neighbours, and others up to the number."""
-    zone, found = days.zone_of(rule), set()
-    bounds = [days.begin_of(date(year, 1, 1) + timedelta(number), zone) for number in range(366)]
+    zone, found = day_bounds.zone_of(rule), set()
+    bounds = [day_bounds.begin_of(date(year, 1, 1) + timedelta(number), zone) for number in range(366)]
     for number in range(1, 364):
         if bounds[number + 1] - bounds[number] != 86400:
             found |= {number, number + 1}

@@ -9,3 +9,4 @@ pub mod Feeds
 pub mod Words
 pub mod Days
 pub mod Imports
+pub mod Files

@@ -14,7 +14,7 @@ use crate::end::Fault;
 use crate::feed::{moment_of, publish};
 use crate::import::import_from;
 use crate::program::serve;
-use bike_exchange::Desk;
+use bike_exchange::{Desk, Unwatched, Watch};
 use bike_fixed::Moment;
 use bike_stream::write_whole;
 use bike_words::Task;
@@ -33,12 +33,13 @@ fn write_line<W: Write>(writer: &mut W, line: &str) -> Result<u64, Fault>
 }
 
 /// Takes the connection into service, and tells that by this line.
-fn take_up<S: Alter, R: Read, W: Write>(
+fn take_up<S: Alter, R: Read, W: Write, P: Watch>(
     alloc: Global,
     line: &str,
     conn: Connection<S>,
     reader: &mut R,
     writer: &mut W,
+    watch: &mut P,
 ) -> (Connection<S>, Result<u64, Fault>)
     requires { conn.in_transaction ≡ false }
     ensures clean { doubt (state S.Store conn).is_clean ≤ doubt (state S.Store result.0).is_clean }
@@ -49,7 +50,7 @@ fn take_up<S: Alter, R: Read, W: Write>(
         → TreesStandFor s (state S.Store conn).now.trees → IsTrue (state S.Store conn).is_open
         → AllLeft (state S.Store result.0) (TreesStandFor s) }
 {
-    match Desk::adopt(alloc, conn) {
+    match Desk::adopt_watched(alloc, conn, watch) {
         Ok(desk) => (desk.close(), write_line(writer, line)),
         Err(fault) => {
             let (conn, told) = Fault::taken_from(fault);
@@ -62,13 +63,15 @@ fn take_up<S: Alter, R: Read, W: Write>(
 /// and tell that by the line `ready` or `sound`, `Lines` serves the input, as `serve` does, `Feed` writes a feed, as `publish` does, `Day`
 /// a table, as `report_day`, and `Import` takes the input's stations in, as `import_from`; where a feed or an import is asked for at no
 /// moment, it is the clock's. Gives the connection back with the number of lines or rows served, or with the fault at which that ended.
-pub fn run_words<S: Alter, R: Read, W: Write>(
+/// `watch` is told how far `Init` and `Check` are.
+pub fn run_words<S: Alter, R: Read, W: Write, P: Watch>(
     alloc: Global,
     task: &Task<'_>,
     clock: Option<Moment>,
     conn: Connection<S>,
     reader: &mut R,
     writer: &mut W,
+    watch: &mut P,
 ) -> (Connection<S>, Result<u64, Fault>)
     requires outside { conn.in_transaction ≡ false }
     requires streams { ServesSockets task.now → ⊥ }
@@ -82,8 +85,8 @@ pub fn run_words<S: Alter, R: Read, W: Write>(
         → AllLeft (state S.Store result.0) (MayStand task.now s) }
 {
     match task {
-        Task::Init => take_up(alloc, "ready\n", conn, reader, writer),
-        Task::Check => take_up(alloc, "sound\n", conn, reader, writer),
+        Task::Init => take_up(alloc, "ready\n", conn, reader, writer, watch),
+        Task::Check => take_up(alloc, "sound\n", conn, reader, writer, watch),
         Task::Lines => serve(alloc, conn, reader, writer),
         Task::Feed { feed, at } => {
             let moment = moment_of(*at, clock);
@@ -115,6 +118,6 @@ pub fn run_words_in_memory<R: Read, W: Write>(
         (W.contents writer.old) (W.contents writer.new) task.now clock result }
 {
     let conn = Connection::open_in_memory(alloc)?;
-    let (_, end) = run_words(alloc, task, clock, conn, reader, writer);
+    let (_, end) = run_words(alloc, task, clock, conn, reader, writer, &mut Unwatched);
     end
 }

@@ -30,6 +30,7 @@ use Rattle.bike_recognition.specs.declared.recognition.Recognition.TheVariants a
 use Rattle.bike_book.specs.declared.version.TheConstants.{NEWEST}
 use Rattle.bike_recognition.proofs.LookLemmas.{reads_known, reads_once}
 use Rattle.bike_judges.specs.declared.key.BadKey.{BadKey}
+use Rattle.bike_judges.specs.Judging.{key_row}
 use Rattle.bike_judges.specs.Verdicts.{EarlierGood, JudgesTable}
 use Rattle.bike_audit.specs.Audit.{IsAfter, IsFoundIn, IsVerdictOn, IsByRules, IsAudited, named}
 use Rattle.bike_audit.specs.declared.finding.Finding.{Finding}
@@ -141,6 +142,14 @@ pub found_after : (tables : List code.TableName) (table : code.TableName) (rest 
     → IsFoundIn (map table_named tables) db (option_map named bad)
 found_after tables table rest found split none db bad both =
     subst (λ (names : List code.TableName). IsFoundIn (map table_named names) db (option_map named bad)) (sym split) (found, both.0, subst (IsAfter (table_named table) (option_map named bad) (IsFoundIn (map table_named rest) db (option_map named bad))) (sym none) both.1)
+
+pub found_here : (tables : List code.TableName) (table : code.TableName) (rest : List code.TableName) (found : Option BadKey) (key : BadKey)
+    → tables ≡ table ∷ rest → found ≡ Some key → (db : Database) → JudgesTable (table_named table) db found
+    → IsFoundIn (map table_named tables) db (option_map named (Some (record { table = table; key = key })))
+found_here tables table rest found key split some db judged =
+    let bad = Some (table_named table, key_row key) in
+    let after = subst (IsAfter (table_named table) bad (IsFoundIn (map table_named rest) db bad)) (sym some) refl in
+    subst (λ (names : List code.TableName). IsFoundIn (map table_named names) db bad) (sym split) (found, judged, after)
 
 -- ---- what is known of an open database
 

@@ -6,6 +6,7 @@ ghost use Rattle.bike_recognition.specs.Recognition.{ReadsAny};
 ghost use Rattle.bike_audit.specs.Audit.{IsAudited, IsByRules};
 
 use crate::tables::{BadRow, first_bad_row};
+use crate::watch::Watch;
 use bike_recognition::{Recognition, check_open, recognise};
 use bike_schema::StatementFault;
 use sqlite::{Alter, Connection};
@@ -29,23 +30,29 @@ pub enum Finding {
 }
 
 /// What the rules find in a database in which all tables stand.
-fn audit_tables<S: Alter>(
+fn audit_tables<S: Alter, P: Watch>(
     alloc: Global,
     conn: &mut Connection<S>,
+    watch: &mut P,
 ) -> Result<Finding, StatementFault>
     ensures { ReadsWhere S.Store HasTables conn.old conn.new result (λ db found. HasTables db × IsByRules db found) }
 {
     check_open(conn)?;
     // This tells the prover that the database obeys its schema.
     let _ = conn.schema();
-    match first_bad_row(alloc, conn)? {
+    match first_bad_row(alloc, conn, watch)? {
         Some(bad) => Ok(Finding::Unsound(bad)),
         None => Ok(Finding::Sound),
     }
 }
 
-/// What the database is; it stays as it is. `NoMemory` where memory is refused, `StoreFailed` where the store fails.
-pub fn audit<S: Alter>(alloc: Global, conn: &mut Connection<S>) -> Result<Finding, StatementFault>
+/// What the database is; it stays as it is. `NoMemory` where memory is refused, `StoreFailed` where the store fails. `watch` is
+/// told of each table before it is judged.
+pub fn audit<S: Alter, P: Watch>(
+    alloc: Global,
+    conn: &mut Connection<S>,
+    watch: &mut P,
+) -> Result<Finding, StatementFault>
     ensures { ReadsAny S.Store conn.old conn.new result IsAudited }
 {
     match recognise(alloc, conn)? {
@@ -53,6 +60,6 @@ pub fn audit<S: Alter>(alloc: Global, conn: &mut Connection<S>) -> Result<Findin
         Recognition::Foreign => Ok(Finding::Foreign),
         Recognition::Older(version) => Ok(Finding::Older(version)),
         Recognition::Newer(version) => Ok(Finding::Newer(version)),
-        Recognition::Ours => audit_tables(alloc, conn),
+        Recognition::Ours => audit_tables(alloc, conn, watch),
     }
 }

@@ -7,6 +7,7 @@ ghost use Rattle.bike_recognition.specs.Names.{table_named};
 ghost use Rattle.bike_audit.specs.Audit.{IsFoundIn, IsVerdictOn, named};
 
 use crate::rules::judge_table;
+use crate::watch::Watch;
 use bike_judges::BadKey;
 use bike_recognition::{EVERY_TABLE, TableName, check_open};
 use bike_schema::StatementFault;
@@ -21,10 +22,11 @@ pub struct BadRow {
 }
 
 /// The first bad row of these tables, in their order.
-fn first_bad_of<S: Alter>(
+fn first_bad_of<S: Alter, P: Watch>(
     alloc: Global,
     conn: &mut Connection<S>,
     tables: &[TableName],
+    watch: &mut P,
 ) -> Result<Option<BadRow>, StatementFault>
     ensures { ReadsWhere S.Store IsOurs conn.old conn.new result
         (λ db bad. IsFoundIn (map table_named tables.now) db (option_map named bad)) }
@@ -34,20 +36,24 @@ fn first_bad_of<S: Alter>(
             check_open(conn)?;
             Ok(None)
         }
-        [table, more @ ..] => match judge_table(alloc, conn, *table)? {
-            Some(key) => Ok(Some(BadRow { table: *table, key })),
-            None => first_bad_of(alloc, conn, more),
-        },
+        [table, more @ ..] => {
+            watch.reached(*table);
+            match judge_table(alloc, conn, *table)? {
+                Some(key) => Ok(Some(BadRow { table: *table, key })),
+                None => first_bad_of(alloc, conn, more, watch),
+            }
+        }
     }
 }
 
 /// The first row of the tables that is not an operator's, by the order of the tables and of their keys, and `None`
-/// where the tables stand for an operator.
-pub fn first_bad_row<S: Alter>(
+/// where the tables stand for an operator. `watch` is told of each table before it is judged.
+pub fn first_bad_row<S: Alter, P: Watch>(
     alloc: Global,
     conn: &mut Connection<S>,
+    watch: &mut P,
 ) -> Result<Option<BadRow>, StatementFault>
     ensures { ReadsWhere S.Store IsOurs conn.old conn.new result IsVerdictOn }
 {
-    first_bad_of(alloc, conn, &EVERY_TABLE)
+    first_bad_of(alloc, conn, &EVERY_TABLE, watch)
 }

@@ -1,13 +1,15 @@
 -- What an adoption that fails hands back.
-use Rattle.std.specs.Prelude.{◌≡◌, ℕ, List, codes, Result, Ok, Err, IsTrue}
+use Rattle.std.specs.Prelude.{◌≡◌, ◌≤◌, ℕ, false, List, codes, Result, Ok, Err, IfOk, IfErr, MatchResult, IsTrue}
+use Rattle.sqlite_trees.specs.View.{doubt}
 use Rattle.sqlite_trees.specs.declared.store.Store.{Ghosts}
 use Rattle.sqlite_trees.specs.Tree.{Trees}
 use Rattle.sqlite.specs.Held.{Held, state}
 use Rattle.sqlite.specs.Effect.{Database}
-use Rattle.sqlite.specs.State.{IsUnchanged}
-use Rattle.bike_operator.specs.Operator.{no_operator}
+use Rattle.sqlite.specs.State.{HasCleanDisk, IsUnchanged}
+use Rattle.bike_operator.specs.Operator.{Operator, no_operator}
 use Rattle.bike_schema.specs.Makes.{OthersStay}
 use Rattle.bike_schema.specs.Creates.{IsFresh}
+use Rattle.bike_schema.specs.Stands.{AllLeft, IsOf, TreesStandFor}
 use Rattle.bike_schema.specs.declared.fault.StatementFault.{StatementFault}
 use Rattle.bike_schema.specs.declared.fault.StatementFault.TheVariants as statement
 use Rattle.bike_desk.specs.declared.adopt.AdoptFault.{AdoptFault}
@@ -82,3 +84,21 @@ module _ {S : Type 0} where
   IsWant (NoMemory c) = Unit {0}
   IsWant (StoreFailed c) = Unit {0}
   IsWant _ = ⊥
+
+  -- WHAT AN ADOPTION OWES: a desk at the operator for whom the database stands, or a fault that hands the connection back
+  pub record Adopts (g : Ghosts S) (old : Held S) (result : Result (DeskValue S) (AdoptFault S)) : Type 0 where
+    pub clean : MatchResult result (λ d. doubt (state g old).is_clean ≤ doubt (shown g d).is_clean)
+        (λ e. doubt (state g old).is_clean ≤ doubt (state g (handed e)).is_clean)
+    pub only : IfOk result (λ d. HasCleanDisk (shown g d) → (s : Operator) × IsOf (state g old).now s × IsAt g d s)
+    pub others : IfOk result (λ d. HasCleanDisk (shown g d) → OthersStay (state g old).now (shown g d).now)
+    pub found : (s : Operator) → TreesStandFor s (state g old).now.trees → IfOk result (λ d. HasCleanDisk (shown g d) → IsAt g d s)
+    -- tables that stand for an operator are refused for memory or storage alone
+    pub refused : (s : Operator) → TreesStandFor s (state g old).now.trees
+        → IfErr result (λ e. HasCleanDisk (state g (handed e)) → IsWant e)
+    pub told : IfErr result (λ e. HasCleanDisk (state g (handed e)) → IsToldOf g old e)
+    pub autocommit : IfErr result (λ e. (handed e).in_transaction ≡ false)
+    -- what a crash may leave after a fault
+    pub left : (s : Operator) → TreesStandFor s (state g old).now.trees → IsTrue (state g old).is_open
+        → IfErr result (λ e. HasCleanDisk (state g (handed e)) → AllLeft (state g (handed e)) (TreesStandFor s))
+    pub stays : ((s : Operator) → ¬ IsOf (state g old).now s)
+        → IfErr result (λ e. HasCleanDisk (state g (handed e)) → AllLeft (state g (handed e)) (state g old).may_leave)

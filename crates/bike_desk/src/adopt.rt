@@ -6,14 +6,13 @@ ghost use Rattle.sqlite.specs.Held.{state};
 ghost use Rattle.sqlite_trees.specs.View.{doubt};
 ghost use Rattle.bike_operator.specs.Operator.{Operator};
 ghost use Rattle.bike_schema.specs.Tables.{HasNone};
-ghost use Rattle.bike_schema.specs.Makes.{OthersStay};
-ghost use Rattle.bike_schema.specs.Stands.{AllLeft, IsOf, TreesStandFor};
-ghost use Rattle.bike_desk.specs.Desk.{shown, IsAt};
-ghost use Rattle.bike_desk.specs.Adoption.{handed, failed, found_as, Begins, IsOfStatement, IsToldOf, IsWant};
+ghost use Rattle.bike_schema.specs.Stands.{AllLeft, TreesStandFor};
+ghost use Rattle.bike_desk.specs.Desk.{shown};
+ghost use Rattle.bike_desk.specs.Adoption.{handed, failed, found_as, Adopts, Begins, IsOfStatement};
 
 use crate::desk::Desk;
 use crate::transaction::make_tables;
-use bike_audit::{BadRow, Finding, audit};
+use bike_audit::{BadRow, Finding, Unwatched, Watch, audit};
 use bike_schema::{StatementFault, has_none};
 use sqlite::{Alter, Connection};
 use std::alloc::Global;
@@ -132,32 +131,22 @@ impl<S: Alter> Desk<S> {
     /// Takes a connection outside a transaction into service. A database with none of the product's tables, and no
     /// foreign key that names one, gets them in one transaction, and the desk begins with the operator of whom nothing was
     /// asked. Of any other database the tables are audited, and the desk stands for their operator, if there is one. Tables
-    /// of other names stay.
-    pub fn adopt(alloc: Global, mut conn: Connection<S>) -> Result<Desk<S>, AdoptFault<S>>
+    /// of other names stay. A fault tells what the database is, or that memory or the store failed, and hands the connection back.
+    pub fn adopt(alloc: Global, conn: Connection<S>) -> Result<Desk<S>, AdoptFault<S>>
         requires { conn.in_transaction ≡ false }
-        ensures clean { MatchResult result
-            (λ d. doubt (state S.Store conn).is_clean ≤ doubt (shown S.Store d).is_clean)
-            (λ e. doubt (state S.Store conn).is_clean ≤ doubt (state S.Store (handed e)).is_clean) }
-        ensures only { IfOk result (λ d. HasCleanDisk (shown S.Store d)
-            → (s : Operator) × IsOf (state S.Store conn).now s × IsAt S.Store d s) }
-        ensures others { IfOk result (λ d. HasCleanDisk (shown S.Store d)
-            → OthersStay (state S.Store conn).now (shown S.Store d).now) }
-        ensures found { (s : Operator) → TreesStandFor s (state S.Store conn).now.trees
-            → IfOk result (λ d. HasCleanDisk (shown S.Store d) → IsAt S.Store d s) }
+        ensures { Adopts S.Store conn result }
+    {
+        Desk::adopt_watched(alloc, conn, &mut Unwatched)
+    }
 
-        // Tables that stand for an operator are refused for memory or storage alone.
-        ensures refused { (s : Operator) → TreesStandFor s (state S.Store conn).now.trees
-            → IfErr result (λ e. HasCleanDisk (state S.Store (handed e)) → IsWant e) }
-
-        // Each fault hands the connection back outside a transaction.
-        ensures told { IfErr result (λ e. HasCleanDisk (state S.Store (handed e)) → IsToldOf S.Store conn e) }
-        ensures autocommit { IfErr result (λ e. (handed e).in_transaction ≡ false) }
-        ensures left { (s : Operator) → TreesStandFor s (state S.Store conn).now.trees
-            → IsTrue (state S.Store conn).is_open → IfErr result (λ e. HasCleanDisk (state S.Store (handed e))
-            → AllLeft (state S.Store (handed e)) (TreesStandFor s)) }
-        ensures stays { ((s : Operator) → ¬ IsOf (state S.Store conn).now s)
-            → IfErr result (λ e. HasCleanDisk (state S.Store (handed e))
-            → AllLeft (state S.Store (handed e)) (state S.Store conn).may_leave) }
+    /// The same, and `watch` is told of each table before it is audited: for who shows how far that is.
+    pub fn adopt_watched<P: Watch>(
+        alloc: Global,
+        mut conn: Connection<S>,
+        watch: &mut P,
+    ) -> Result<Desk<S>, AdoptFault<S>>
+        requires { conn.in_transaction ≡ false }
+        ensures { Adopts S.Store conn result }
     {
         // These two tell the prover that nothing is pending and that the database obeys its schema.
         let _ = conn.is_autocommit();
@@ -165,7 +154,7 @@ impl<S: Alter> Desk<S> {
         if has_none(&conn) {
             return Desk::begin(conn);
         }
-        match audit(alloc, &mut conn) {
+        match audit(alloc, &mut conn, watch) {
             Ok(finding) => Desk::found(conn, finding),
             Err(fault) => Err(AdoptFault::failed(fault, conn)),
         }

@@ -16,7 +16,7 @@ mod transaction;
 mod walk;
 
 pub use adopt::AdoptFault;
-pub use bike_audit::BadRow;
+pub use bike_audit::{BadRow, Unwatched, Watch};
 pub use desk::Desk;
 pub use fault::DeskFault;
 pub use run::Run;

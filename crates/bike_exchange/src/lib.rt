@@ -10,6 +10,8 @@ mod laws;
 mod respond;
 mod rows;
 
-pub use bike_feeds::{AdoptFault, BadRow, Desk, DeskFault, Feed, FeedFault, write_feed};
+pub use bike_feeds::{
+    AdoptFault, BadRow, Desk, DeskFault, Feed, FeedFault, Unwatched, Watch, write_feed,
+};
 pub use exchange::{ServeFault, Served, serve_one};
 pub use laws::answered_once;

@@ -1,2 +1,4 @@
 pub mod ReadingLemmas
 pub mod FrontLemmas
+pub mod FileLemmas
+pub mod StopLemmas

@@ -1,2 +1,4 @@
 pub mod Recovery
 pub mod Losses
+pub mod Reopening
+pub mod Files

@@ -14,6 +14,7 @@ ghost use Rattle.bike_recovery.specs.Recovery.{ReadsFront, AreReplies};
 ghost use Rattle.bike_recovery.specs.Losses.{IsOnlyWant};
 
 use crate::reading::{Reading, read_again};
+use crate::reopening::{Shut, open_again};
 use bike_commands::{Reply, Request};
 use bike_feeds::{AdoptFault, Desk, DeskFault};
 use bike_fields::BicycleNumber;
@@ -76,8 +77,8 @@ pub fn run_adopt_and_read<S: Alter, T: Alter, W: Write>(
 /// Why a store wasn't taken into service again.
 #[derive(Drop)]
 pub enum Lost<S: Alter> {
-    /// The store can't be opened again, or memory for that was refused.
-    Closed,
+    /// It couldn't be opened again.
+    Shut(Shut<S>),
     /// What it holds is refused.
     Refused(AdoptFault<S>),
 }
@@ -90,14 +91,9 @@ fn resume<S: Alter + Reopen + Drop>(alloc: Global, desk: Desk<S>) -> Result<Desk
     ensures refused { (s : Operator) (calls : _) (k : _) → (HasCleanDisk (shown S.Store desk) → AllLeft (shown S.Store desk) (IsAfterFront s calls k))
         → IfErr result (IsOnlyWant S.Store) }
 {
-    let mut store = desk.close().into_store();
-    match store.crash_and_reopen() {
-        Ok(()) => {}
-        Err(_) => return Err(Lost::Closed),
-    }
-    let conn = match Connection::over(alloc, store) {
+    let conn = match open_again(alloc, desk.close()) {
         Ok(conn) => conn,
-        Err(_) => return Err(Lost::Closed),
+        Err(shut) => return Err(Lost::Shut(shut)),
     };
     match Desk::adopt(alloc, conn) {
         Ok(desk) => Ok(desk),
@@ -106,8 +102,7 @@ fn resume<S: Alter + Reopen + Drop>(alloc: Global, desk: Desk<S>) -> Result<Desk
 }
 
 /// Serves a list of requests, crashes, takes what the crash left into service again, and reads it as `run_adopt_and_read` does.
-///
-/// `Closed` where the store can't be opened again or memory for that is refused; what it holds is refused for memory or storage alone.
+/// The store isn't open again for want of memory or a fault of the disk alone, and what it holds is refused for memory or storage alone.
 pub fn run_crash_and_read<S: Alter + Reopen + Drop, W: Write>(
     alloc: Global,
     mut desk: Desk<S>,
@@ -154,6 +149,7 @@ pub fn run_in_memory<W: Write>(
     ensures headline { IfSome result (λ r. IfOk r.1 (λ read. ReadsFront over_memory read.0 no_operator calls.now (length r.0.replies.items)
         bike moment (W.contents out.old) (W.contents out.new) read.1)) }
     ensures replies { IfSome result (λ r. IfOk r.1 (λ read. AreReplies no_operator calls.now r.0.replies.items)) }
+    ensures refused { IfSome result (λ r. IfErr r.1 (IsOnlyWant over_memory)) }
 {
     let Ok(conn) = Connection::open_in_memory(alloc) else {
         return None;

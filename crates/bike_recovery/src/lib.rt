@@ -1,10 +1,17 @@
 //! The promise of the whole: a list of requests is served, the program stops, and what is left is taken into service again.
 //!
-//! What is read then is that of the operator after a front of the list, which holds every acknowledged request and at most one more.
+//! What is read then is that of the operator after a front of the list, which holds every acknowledged request and at most one more. It
+//! is said of any two stores, of one that crashes, and of files: those that a process leaves, and those that the next one opens.
 #![tactic(auto)]
 
 mod crash;
+mod files;
 mod reading;
+mod reopening;
+mod stop;
 
 pub use crash::{Acknowledged, Lost, run_adopt_and_read, run_crash_and_read, run_in_memory};
+pub use files::{NotOpened, stop_and_open};
 pub use reading::{Reading, read_again};
+pub use reopening::{Shut, open_again};
+pub use stop::{LostFiles, run_stop_and_read};

@@ -4,12 +4,15 @@
 ghost use Rattle.bike_words.specs.Program.{IsWithin};
 ghost use Rattle.bike_app.specs.Words.{ServesSockets};
 
-use bike_app::{Fault, clock_moment, exit_code, listen, run_words, run_words_in_memory};
+use bike_app::{
+    Counted, Fault, Progress, clock_moment, exit_code, listen, open_file, run_file,
+    run_words_in_memory,
+};
 use bike_words::{Task, Words, WordsFault, read_words, usage};
-use sqlite::Connection;
+use sqlite::{Connection, Start, Unknown};
 use std::alloc::{AllocError, Global};
 use std::env;
-use std::io::{BufWriter, ErrorKind, Write};
+use std::io::{BufWriter, ErrorKind, IsTerminal, Write};
 use std::process::ExitCode;
 
 /// The status of words that aren't the program's.
@@ -46,23 +49,62 @@ fn is_settled(task: &Task<'_>, end: &Result<u64, Fault>) -> bool {
     }
 }
 
-/// Does a task over the database, with this output.
-fn run_on<W: Write>(rt: &HostRuntime, words: &Words<'_>, out: &mut W) -> Result<u64, Fault>
+/// Whether a person looks on while the task is done: it is long work, and standard error is a terminal.
+fn is_looked_on(rt: &HostRuntime, task: &Task<'_>) -> bool {
+    match task {
+        Task::Check | Task::Import { .. } => rt.stderr().is_terminal(),
+        Task::Init | Task::Lines | Task::Feed { .. } | Task::Day { .. } | Task::Serve { .. } => {
+            false
+        }
+    }
+}
+
+/// Does a task over the file, whose bytes `F` stands for, with this output.
+fn run_on_file<F: Start, W: Write>(
+    rt: &HostRuntime,
+    words: &Words<'_>,
+    start: F,
+    out: &mut W,
+) -> Result<u64, Fault>
     requires streams { ServesSockets words.now.task → ⊥ }
     requires within { IsWithin words.now.task }
 {
     let clock = clock_moment(rt);
     let task = &words.task;
-    if words.file == ":memory:" {
-        return run_words_in_memory(rt.alloc(), task, clock, &mut rt.stdin(), out);
-    }
-    let conn = Connection::open(rt, words.file)?;
-    let (conn, end) = run_words(rt.alloc(), task, clock, conn, &mut rt.stdin(), out);
-    if is_settled(task, &end) {
-        // Where this fails the log stays, and is read at the next start.
-        let _ = conn.close();
+    let is_shown = is_looked_on(rt, task);
+    let mut input = Counted::new(rt.stdin(), Progress::new(rt.stderr(), is_shown));
+    let mut progress = Progress::new(rt.stderr(), is_shown);
+    progress.opening();
+    let (conn, end) = run_file(
+        rt,
+        task,
+        clock,
+        words.file,
+        start,
+        &mut input,
+        out,
+        &mut progress,
+    );
+    progress.end();
+    if let Some(conn) = conn {
+        if is_settled(task, &end) {
+            // Where this fails the log stays, and is read at the next start.
+            let _ = conn.close();
+        }
     }
     end
+}
+
+/// Does a task over the database, with this output.
+fn run_on<W: Write>(rt: &HostRuntime, words: &Words<'_>, out: &mut W) -> Result<u64, Fault>
+    requires streams { ServesSockets words.now.task → ⊥ }
+    requires within { IsWithin words.now.task }
+{
+    if words.file == ":memory:" {
+        let clock = clock_moment(rt);
+        return run_words_in_memory(rt.alloc(), &words.task, clock, &mut rt.stdin(), out);
+    }
+    run_on_file(rt, words, Unknown, out)
 }
 
 /// Writes what the buffer holds, and tells how the task ended. After a fault nothing more is written: a buffer that is let go would
@@ -97,7 +139,7 @@ fn answer(rt: &HostRuntime, file: &str, port: u16, count: Option<u32>) -> Result
         let conn = Connection::open_in_memory(rt.alloc())?;
         return listen(rt, port, count, conn, &mut rt.stdout());
     }
-    let conn = Connection::open(rt, file)?;
+    let conn = open_file(rt, file, Unknown)?;
     listen(rt, port, count, conn, &mut rt.stdout())
 }
 

@@ -13,4 +13,4 @@ returns g c =
     let it = c.in-Ok-adopt.ensures.only (memory_is_clean desk.conn) in
     let is = nobody (state over_memory conn).now it.0 (c.in-Ok.ensures.empty).2 it.1 in
     let at = subst (IsAt over_memory desk) is it.2 in
-    record { headline = in_memory _ _ (c.run_crash_and_read.ensures.headline _ at); replies = in_memory _ _ (c.run_crash_and_read.ensures.replies _ at) }
+    record { headline = in_memory _ _ (c.run_crash_and_read.ensures.headline _ at); replies = in_memory _ _ (c.run_crash_and_read.ensures.replies _ at); refused = c.run_crash_and_read.ensures.refused _ at }

@@ -1,0 +1,17 @@
+use Rattle.std.proofs.Common.{sym, subst, arith}
+use Rattle.sqlite.specs.State.{HasCleanDisk}
+use Rattle.sqlite.specs.Files.{file_state}
+use Rattle.bike_schema.specs.Stands.{TreesStandFor}
+use Rattle.bike_app.proofs.file.run_file.Goals as goal
+
+pub returns-in-Ok-clause-done : goal.returns-in-Ok-clause-done
+returns-in-Ok-clause-done g c clean =
+    let early : HasCleanDisk (file_state c.in-Ok.conn) = omega (arith, clean, c.run_words-conn.ensures.clean) in
+    record { first = c.in-Ok.conn; opened = c.in-Ok.ensures.opened early; found = c.in-Ok.ensures.found early; does = c.run_words-conn.ensures.done clean }
+
+pub returns-in-Ok-clause-kept : goal.returns-in-Ok-clause-kept
+returns-in-Ok-clause-kept g c clean s holds =
+    let early : HasCleanDisk (file_state c.in-Ok.conn) = omega (arith, clean, c.run_words-conn.ensures.clean) in
+    let opened = c.in-Ok.ensures.opened early in
+    let there = subst (TreesStandFor s) (sym ((c.in-Ok.ensures.found early).holds holds.0 holds.1)) holds.2 in
+    c.run_words-conn.ensures.kept clean s (subst (λ db. TreesStandFor s db.trees) (sym (opened.0).clean) there) (opened.0).is_open

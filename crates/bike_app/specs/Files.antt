@@ -1,0 +1,38 @@
+-- What the program does over a file, by the bytes that the file and its log held.
+use Rattle.std.specs.Prelude.{◌≡◌, ◌⊎◌, ℕ, List, Option, Result, Ok, Err}
+use Rattle.std.specs.Io.KnownBytes.{Keeps}
+use Rattle.sqlite_disk.specs.declared.Disk as disk
+use Rattle.sqlite_wal.specs.Recovery.{Image}
+use Rattle.sqlite_trees.specs.Tree.{Trees}
+use Rattle.sqlite_store.specs.declared.store.FileStore.{FileStore}
+use Rattle.sqlite.specs.Held.{Held}
+use Rattle.sqlite.specs.Start.{FindsIn}
+use Rattle.sqlite.specs.Files.{over_files, file_state, HoldsDatabase, IsOpened}
+use Rattle.bike_operator.specs.Operator.{Operator}
+use Rattle.bike_schema.specs.Stands.{TreesStandFor}
+use Rattle.bike_words.specs.declared.task.Task.{Task}
+use Rattle.bike_app.specs.declared.end.Fault.{Fault}
+use Rattle.bike_app.specs.declared.end.Fault.TheVariants.{OutOfMemory, StoreFailed}
+use Rattle.bike_app.specs.Words.{Does}
+
+-- the bytes hold a database that stands for the operator
+abbrev pub HoldsOperator : Image → Operator → Type 0
+HoldsOperator image s = (db : Trees) × HoldsDatabase image db × TreesStandFor s db
+
+-- why a file isn't open
+abbrev pub IsOpeningFault : Fault → Type 0
+IsOpeningFault fault = (fault ≡ OutOfMemory) ⊎ (fault ≡ StoreFailed)
+
+-- nothing was read, and nothing written
+pub record IsUntouched (input ahead old new : Option (List ℕ)) (end : Result ℕ Fault) : Type 0 where
+  pub read : Keeps input ahead
+  pub wrote : Keeps old new
+  pub fault : (told : Fault) × IsOpeningFault told × (end ≡ Err told)
+
+-- WHAT THE PROGRAM DOES OVER A FILE: what its task does over a connection that was opened on what the bytes hold
+pub record DoesOverFile {E : Type 0} {e : disk.Ghosts E} (image : Image) (input ahead old new : Option (List ℕ))
+    (task : Task) (clock : Option ℕ) (last : Held (FileStore E e)) (end : Result ℕ Fault) : Type 0 where
+  pub first : Held (FileStore E e)
+  pub opened : IsOpened first
+  pub found : FindsIn image (file_state first)
+  pub does : Does over_files input ahead old new task clock first last end

@@ -1,0 +1,74 @@
+"""How far long work is: told on standard error where that is a terminal, on one line that is written anew and taken away."""
+
+import os
+import pty
+import subprocess
+from pathlib import Path
+
+ANEW = b"\r\x1b[K"
+TABLES = "meta system plans segments types stations docks bikes trucks riders rentals orders entries kept counts".split()
+SYSTEM = "1700000000\toffice\tk1\tset-system\tmetro\ten\tMetro\t24/7\tfeeds@example.org\tEtc/UTC\tEUR\thttp://127.0.0.1:8080\t30\n"
+HEADER = "station_id,name,lat,lon,docks\n"
+
+
+def looked_on(program, *words, given=b""):
+    """Runs the program with a terminal as standard error, and returns its status, its output and what that terminal was told."""
+    above, below = pty.openpty()
+    try:
+        started = subprocess.Popen([program.file, *words], cwd=program.folder, stdin=subprocess.PIPE, stdout=subprocess.PIPE, stderr=below)
+        os.close(below)
+        out, _ = started.communicate(given, timeout=60)
+        told = b""
+        while True:
+            try:
+                piece = os.read(above, 65536)
+            except OSError:
+                break
+            if not piece:
+                break
+            told += piece
+    finally:
+        os.close(above)
+    return started.returncode, out, told
+
+
+def made(program):
+    assert program.run("lines", "city.db", given=SYSTEM.encode()) == (0, b"ok\n", b"")
+
+
+def test_a_check_tells_its_tables(program):
+    made(program)
+    steps = [b"opening the file", *(f"checking {name}, table {place} of 15".encode() for place, name in enumerate(TABLES, 1))]
+    assert looked_on(program, "check", "city.db") == (0, b"sound\n", b"".join(ANEW + step for step in steps) + ANEW)
+
+
+def test_a_check_that_fails_tells_up_to_the_table(program):
+    made(program)
+    subprocess.run(["sqlite3", Path(program.folder, "city.db"), "INSERT INTO riders VALUES (17, 0, 5)"], check=True)
+    status, out, told = looked_on(program, "check", "city.db")
+    assert (status, out) == (5, b"")
+    assert told.endswith(b"checking riders, table 10 of 15" + ANEW + b"unsound riders 17\r\n"), told
+
+
+def test_an_import_tells_its_lines(program):
+    made(program)
+    rows = "".join(f"s{number},Place {number},41.89{number:04},12.49{number:04},3\n" for number in range(600))
+    status, out, told = looked_on(program, "import", "city.db", "spring", "--at", "1700000000", given=(HEADER + rows).encode())
+    assert (status, out) == (0, b"rows 600\n")
+    steps = told.split(ANEW)
+    assert steps[:2] == [b"", b"opening the file"] and steps[-2:] == [b"lines read: 601", b""], told
+    assert len(steps) > 4 and all(step.startswith(b"lines read: ") for step in steps[2:-1])
+
+
+def test_nobody_is_told_otherwise(program):
+    made(program)
+    assert program.run("check", "city.db") == (0, b"sound\n", b"")
+    given = (HEADER + "s1,One,41.0,12.0,3\n").encode()
+    assert program.run("import", "city.db", "spring", "--at", "1700000000", given=given) == (0, b"rows 1\n", b"")
+    for words in (["init", "city.db"], ["feed", "city.db", "system_information", "--at", "1700000000"], ["day", "city.db", "entries", "2023-11-14", "UTC0"]):
+        status, _, told = looked_on(program, *words)
+        assert (status, told) == (0, b""), words
+
+
+def test_a_memory_is_not_told(program):
+    assert looked_on(program, "check", ":memory:") == (0, b"sound\n", b"")
