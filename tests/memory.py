@@ -7,9 +7,10 @@ the request or after it, and the same request, sent again, has its answer. A wra
 A sample of the requests for memory stands in the gate. By hand more of them, from the environment:
 
     BIKESHARE_MEMORY=2500 BIKESHARE_SEED=7 tests/run memory.
+    BIKESHARE_MEMORY=all BIKESHARE_JOBS=4 TMPDIR=/dev/shm tests/run memory.
 
-BIKESHARE_MEMORY is how many of them each test draws, and `all` are some 36,000 (18,000, each alone and with all after it), which takes hours;
-BIKESHARE_SEED is what they are drawn from.
+BIKESHARE_MEMORY is how many of them each test draws, and `all` are each one, alone and with all after it; BIKESHARE_SEED is what they are
+drawn from; BIKESHARE_JOBS is how many are tried at a time; BIKESHARE_MEMORY_TOLD names a file to which each test adds how many it tried.
 """
 
 import importlib.util
@@ -18,11 +19,15 @@ import random
 import re
 import socket
 import subprocess
+import tempfile
+from concurrent.futures import ThreadPoolExecutor
 from pathlib import Path
 
 HERE = Path(__file__).resolve().parent
 TRIED = os.environ.get("BIKESHARE_MEMORY", "8")
 SEED = int(os.environ.get("BIKESHARE_SEED", "1"))
+JOBS = int(os.environ.get("BIKESHARE_JOBS", "1"))
+TOLD = os.environ.get("BIKESHARE_MEMORY_TOLD")
 SECONDS = 60
 
 # REFUSE_FROM and REFUSE_TO are the first and the last request that is refused; the count of all stands in the file REFUSE_COUNT at the end.
@@ -92,13 +97,17 @@ WANTS = {3: b"store failed\n", 4: b"out of memory\n"}
 class Refusing:
     """The wrapper, and what the program does under it."""
 
-    def __init__(self, program):
+    def __init__(self, program, wrapper=None):
         self.program = program
         self.counted = Path(program.folder, "count")
-        source = Path(program.folder, "refuse.c")
+        self.wrapper = wrapper or self.built()
+
+    def built(self):
+        source = Path(self.program.folder, "refuse.c")
         source.write_text(WRAPPER)
-        self.wrapper = source.with_suffix(".so")
-        subprocess.run(["cc", "-shared", "-fPIC", "-O1", "-o", self.wrapper, source, "-ldl"], check=True)
+        wrapper = source.with_suffix(".so")
+        subprocess.run(["cc", "-shared", "-fPIC", "-O1", "-o", wrapper, source, "-ldl"], check=True)
+        return wrapper
 
     def how(self, first, last):
         told = {"LD_PRELOAD": str(self.wrapper), "REFUSE_FROM": str(first), "REFUSE_TO": str(last), "REFUSE_COUNT": str(self.counted)}
@@ -116,6 +125,23 @@ class Refusing:
         turns = [(first, last) for first in range(1, total + 1) for last in (first, 10**9)]
         return turns if TRIED == "all" else random.Random(SEED).sample(turns, min(len(turns), int(TRIED)))
 
+    def try_each(self, total, tried):
+        """Tries the refusals of a run with so many requests for memory, JOBS at a time, each of these in a folder of its own."""
+        turns = self.turns(total)
+
+        def work(job):
+            with tempfile.TemporaryDirectory(dir=self.program.folder) as folder:
+                mine = Refusing(type(self.program)(self.program.file, folder), self.wrapper)
+                for first, last in turns[job::JOBS]:
+                    tried(mine, first, last)
+
+        with ThreadPoolExecutor(JOBS) as pool:
+            for job in [pool.submit(work, job) for job in range(JOBS)]:
+                job.result()
+        if TOLD:
+            with open(TOLD, "a", encoding="utf-8") as told:
+                told.write(f"{len(turns)}\n")
+
 
 def fresh(program, count):
     """The file after the first so many requests."""
@@ -124,6 +150,19 @@ def fresh(program, count):
     ended = program.run("lines", "city.db", given=b"".join(LINES[:count]))
     assert ended == (0, b"".join(ANSWERS[:count]), b""), ended
     return adoption.held(Path(program.folder, "city.db"))
+
+
+def kept(program):
+    """The file with its log, as bytes."""
+    return {part.name: part.read_bytes() for part in Path(program.folder).glob("city.db*")}
+
+
+def put_back(program, parts):
+    """Puts the file and its log back as they were kept."""
+    for part in Path(program.folder).glob("city.db*"):
+        part.unlink()
+    for name, data in parts.items():
+        Path(program.folder, name).write_bytes(data)
 
 
 def goes_on(program, states, where):
@@ -139,43 +178,56 @@ def test_lines(program):
     begun = len(LINES) - 4
     fronts = [fresh(program, count) for count in range(begun, len(LINES) + 1)]
     fresh(program, begun)
+    parts = kept(program)
     assert refusing.run(["lines", "city.db"], b"".join(LINES)) == (0, b"".join(ANSWERS), b"")
-    for first, last in refusing.turns(refusing.count()):
-        fresh(program, begun)
-        status, out, said = refusing.run(["lines", "city.db"], b"".join(LINES), first, last)
+
+    def tried(mine, first, last):
+        put_back(mine.program, parts)
+        status, out, said = mine.run(["lines", "city.db"], b"".join(LINES), first, last)
         found = out.splitlines(keepends=True)
         where = f"memory refused from {first} to {last}: {status, said}, {len(found)} answers"
         assert found == ANSWERS[: len(found)], where
         assert (status, said, len(found)) == (0, b"", len(LINES)) or (len(found) < len(LINES) and said == WANTS.get(status)), where
         least = max(0, len(found) - begun)
-        goes_on(program, fronts[least : least + 2], where)
-        assert program.run("lines", "city.db", given=b"".join(LINES)) == (0, b"".join(ANSWERS), b""), where
+        goes_on(mine.program, fronts[least : least + 2], where)
+        assert mine.program.run("lines", "city.db", given=b"".join(LINES)) == (0, b"".join(ANSWERS), b""), where
+
+    refusing.try_each(refusing.count(), tried)
 
 
 def test_a_new_file(program):
     refusing = Refusing(program)
     assert refusing.run(["init", "first.db"], b"") == (0, b"ready\n", b"")
-    for number, (first, last) in enumerate(refusing.turns(refusing.count())):
-        file = f"new{number}.db"
-        status, out, said = refusing.run(["init", file], b"", first, last)
+
+    def tried(mine, first, last):
+        status, out, said = mine.run(["init", "new.db"], b"", first, last)
         where = f"memory refused from {first} to {last}: {status, out, said}"
         assert (status, out, said) == (0, b"ready\n", b"") or (out == b"" and said == WANTS.get(status)), where
-        assert program.run("lines", file, given=b"".join(LINES[:3])) == (0, b"".join(ANSWERS[:3]), b""), where
-        for part in Path(program.folder).glob(f"{file}*"):
+        assert mine.program.run("lines", "new.db", given=b"".join(LINES[:3])) == (0, b"".join(ANSWERS[:3]), b""), where
+        for part in Path(mine.program.folder).glob("new.db*"):
             part.unlink()
+
+    refusing.try_each(refusing.count(), tried)
 
 
 def test_checks_and_feeds(program):
     refusing = Refusing(program)
     state = fresh(program, len(LINES))
+    parts = kept(program)
     for words in ["check", "city.db"], ["feed", "city.db", "station_status", "--at", "1700000000"], ["feed", "city.db", "system_pricing_plans", "--at", "0"]:
         right = refusing.run(words, b"")
         assert right[0] == 0 and right[1] and not right[2], right
-        for first, last in refusing.turns(refusing.count()):
-            status, out, said = refusing.run(words, b"", first, last)
+
+        def tried(mine, first, last, words=words, right=right):
+            if not Path(mine.program.folder, "city.db").exists():
+                put_back(mine.program, parts)
+            status, out, said = mine.run(words, b"", first, last)
             where = f"{words}: memory refused from {first} to {last}: {status, out, said}"
             front = out == b"" or (words[0] == "feed" and right[1].startswith(out))
             assert (status, out, said) == right or (front and said == WANTS.get(status)), where
+            assert adoption.held(Path(mine.program.folder, "city.db")) == state, where
+
+        refusing.try_each(refusing.count(), tried)
     goes_on(program, [state], "after all")
 
 
@@ -209,19 +261,23 @@ def test_http(program):
     start = serving.post("/riders/18/start", '{"key":"s1","station":"b2","dock":1}')
     for request in start, serving.get("/riders/17"), serving.get("/gbfs/3.0/station_status.json"), serving.office("o1", "add-rider\t21"):
         before = fresh(program, len(LINES))
+        parts = kept(program)
         right = served(refusing, request)
         assert right[0].startswith(b"HTTP/1.1 200 OK\r\n") and right[1:] == (0, b"", b""), right
-        for first, last in refusing.turns(refusing.count()):
-            fresh(program, len(LINES))
-            found, status, out, said = served(refusing, request, first, last)
+
+        def tried(mine, first, last, request=request, before=before, parts=parts, right=right):
+            put_back(mine.program, parts)
+            found, status, out, said = served(mine, request, first, last)
             where = f"{request[:40]}: memory refused from {first} to {last}: {found, status, out, said}"
             same = serving.timeless(found) == serving.timeless(right[0])
             cut = request.startswith(b"GET /gbfs") and found and serving.timeless(right[0]).startswith(serving.timeless(found))
             assert same or cut or found in (b"", UNAVAILABLE), where
             assert (status, out, said) == (0, b"", b"") or (out == b"" and said == WANTS.get(status)), where
-            ended = program.run("check", "city.db")
+            ended = mine.program.run("check", "city.db")
             assert ended == (0, b"sound\n", b""), f"{where}: check: {ended}"
             if not request.startswith(b"POST"):
-                assert adoption.held(Path(program.folder, "city.db")) == before, where
-            again = served(refusing, request)
+                assert adoption.held(Path(mine.program.folder, "city.db")) == before, where
+            again = served(mine, request)
             assert serving.timeless(again[0]) == serving.timeless(right[0]) and again[1:] == (0, b"", b""), f"{where}: again {again}"
+
+        refusing.try_each(refusing.count(), tried)
