@@ -9,8 +9,8 @@ A sample of the requests for memory stands in the gate. By hand more of them, fr
     BIKESHARE_MEMORY=2500 BIKESHARE_SEED=7 tests/run memory.
     BIKESHARE_MEMORY=all BIKESHARE_JOBS=4 TMPDIR=/dev/shm tests/run memory.
 
-BIKESHARE_MEMORY is how many of them each test draws, and `all` are each one, alone and with all after it; BIKESHARE_SEED is what they are
-drawn from; BIKESHARE_JOBS is how many are tried at a time; BIKESHARE_MEMORY_TOLD names a file to which each test adds how many it tried.
+BIKESHARE_MEMORY is how many of them each test draws, and `all` are each one, alone and with all after it, where those of opening the file,
+which is alike for all words, are tried with `check` alone; BIKESHARE_SEED is what they are drawn from; BIKESHARE_JOBS is how many are tried at a time; BIKESHARE_MEMORY_TOLD names a file to which each test adds how many it tried.
 """
 
 import importlib.util
@@ -29,6 +29,7 @@ SEED = int(os.environ.get("BIKESHARE_SEED", "1"))
 JOBS = int(os.environ.get("BIKESHARE_JOBS", "1"))
 TOLD = os.environ.get("BIKESHARE_MEMORY_TOLD")
 SECONDS = 60
+SPARED = 300
 
 # REFUSE_FROM and REFUSE_TO are the first and the last request that is refused; the count of all stands in the file REFUSE_COUNT at the end.
 WRAPPER = r"""
@@ -120,14 +121,21 @@ class Refusing:
     def count(self):
         return int(self.counted.read_text())
 
-    def turns(self, total):
+    def opened(self):
+        """How many requests for memory the opening of the file makes, or somewhat fewer."""
+        assert self.run(["lines", "city.db"], b"")[0] == 0
+        return max(0, self.count() - SPARED)
+
+    def turns(self, total, begin):
         """Which requests for memory are refused, the first and the last of them."""
-        turns = [(first, last) for first in range(1, total + 1) for last in (first, 10**9)]
+        begin = begin if TRIED == "all" else 0
+        turns = [(first, last) for first in range(begin + 1, total + 1) for last in (first, 10**9)]
         return turns if TRIED == "all" else random.Random(SEED).sample(turns, min(len(turns), int(TRIED)))
 
-    def try_each(self, total, tried):
-        """Tries the refusals of a run with so many requests for memory, JOBS at a time, each of these in a folder of its own."""
-        turns = self.turns(total)
+    def try_each(self, total, tried, begin=0):
+        """Tries the refusals of a run with so many requests for memory, JOBS at a time, each of these in a folder of its own. Where all are
+        tried, those up to `begin` are left to another test."""
+        turns = self.turns(total, begin)
 
         def work(job):
             with tempfile.TemporaryDirectory(dir=self.program.folder) as folder:
@@ -179,6 +187,7 @@ def test_lines(program):
     fronts = [fresh(program, count) for count in range(begun, len(LINES) + 1)]
     fresh(program, begun)
     parts = kept(program)
+    opened = refusing.opened()
     assert refusing.run(["lines", "city.db"], b"".join(LINES)) == (0, b"".join(ANSWERS), b"")
 
     def tried(mine, first, last):
@@ -192,7 +201,7 @@ def test_lines(program):
         goes_on(mine.program, fronts[least : least + 2], where)
         assert mine.program.run("lines", "city.db", given=b"".join(LINES)) == (0, b"".join(ANSWERS), b""), where
 
-    refusing.try_each(refusing.count(), tried)
+    refusing.try_each(refusing.count(), tried, opened)
 
 
 def test_a_new_file(program):
@@ -214,6 +223,7 @@ def test_checks_and_feeds(program):
     refusing = Refusing(program)
     state = fresh(program, len(LINES))
     parts = kept(program)
+    opened = refusing.opened()
     for words in ["check", "city.db"], ["feed", "city.db", "station_status", "--at", "1700000000"], ["feed", "city.db", "system_pricing_plans", "--at", "0"]:
         right = refusing.run(words, b"")
         assert right[0] == 0 and right[1] and not right[2], right
@@ -227,7 +237,7 @@ def test_checks_and_feeds(program):
             assert (status, out, said) == right or (front and said == WANTS.get(status)), where
             assert adoption.held(Path(mine.program.folder, "city.db")) == state, where
 
-        refusing.try_each(refusing.count(), tried)
+        refusing.try_each(refusing.count(), tried, 0 if words[0] == "check" else opened)
     goes_on(program, [state], "after all")
 
 
@@ -262,6 +272,7 @@ def test_http(program):
     for request in start, serving.get("/riders/17"), serving.get("/gbfs/3.0/station_status.json"), serving.office("o1", "add-rider\t21"):
         before = fresh(program, len(LINES))
         parts = kept(program)
+        opened = refusing.opened()
         right = served(refusing, request)
         assert right[0].startswith(b"HTTP/1.1 200 OK\r\n") and right[1:] == (0, b"", b""), right
 
@@ -280,4 +291,4 @@ def test_http(program):
             again = served(mine, request)
             assert serving.timeless(again[0]) == serving.timeless(right[0]) and again[1:] == (0, b"", b""), f"{where}: again {again}"
 
-        refusing.try_each(refusing.count(), tried)
+        refusing.try_each(refusing.count(), tried, opened)
