@@ -1,11 +1,12 @@
-"""How far long work is: told on standard error where that is a terminal, on one line that is written anew and taken away."""
+"""How far long work is: told on standard error where that is a terminal, on one line below that of the
+answers, which is written anew and taken away."""
 
 import os
 import pty
 import subprocess
 from pathlib import Path
 
-ANEW = b"\r\x1b[K"
+ANEW, BACK, ERASED = b"\r\r\n\x1b[K", b"\x1b[A\r", b"\r\x1b[J"
 TABLES = "meta system plans segments types stations docks bikes trucks riders rentals orders entries kept counts".split()
 SYSTEM = "1700000000\toffice\tk1\tset-system\tmetro\ten\tMetro\t24/7\tfeeds@example.org\tEtc/UTC\tEUR\thttp://127.0.0.1:8080\t30\n"
 HEADER = "station_id,name,lat,lon,docks\n"
@@ -39,7 +40,7 @@ def made(program):
 def test_a_check_tells_its_tables(program):
     made(program)
     steps = [b"opening the file", *(f"checking {name}, table {place} of 15".encode() for place, name in enumerate(TABLES, 1))]
-    assert looked_on(program, "check", "city.db") == (0, b"sound\n", b"".join(ANEW + step for step in steps) + ANEW)
+    assert looked_on(program, "check", "city.db") == (0, b"sound\n", b"".join(ANEW + step + BACK for step in steps) + ERASED)
 
 
 def test_a_check_that_fails_tells_up_to_the_table(program):
@@ -47,7 +48,7 @@ def test_a_check_that_fails_tells_up_to_the_table(program):
     subprocess.run(["sqlite3", Path(program.folder, "city.db"), "INSERT INTO riders VALUES (17, 0, 5)"], check=True)
     status, out, told = looked_on(program, "check", "city.db")
     assert (status, out) == (5, b"")
-    assert told.endswith(b"checking riders, table 10 of 15" + ANEW + b"unsound riders 17\r\n"), told
+    assert told.endswith(b"checking riders, table 10 of 15" + BACK + ERASED + b"unsound riders 17\r\n"), told
 
 
 def test_an_import_tells_its_lines(program):
@@ -56,8 +57,8 @@ def test_an_import_tells_its_lines(program):
     status, out, told = looked_on(program, "import", "city.db", "spring", "--at", "1700000000", given=(HEADER + rows).encode())
     assert (status, out) == (0, b"rows 600\n")
     steps = told.split(ANEW)
-    assert steps[:2] == [b"", b"opening the file"] and steps[-2:] == [b"lines read: 601", b""], told
-    assert len(steps) > 4 and all(step.startswith(b"lines read: ") for step in steps[2:-1])
+    assert steps[:2] == [b"", b"opening the file" + BACK] and steps[-1] == b"lines read: 601" + BACK + ERASED, told
+    assert len(steps) > 3 and all(step.startswith(b"lines read: ") and BACK in step for step in steps[2:])
 
 
 def test_nobody_is_told_otherwise(program):

@@ -6,10 +6,17 @@ use bike_recognition::{EVERY_TABLE, TableName};
 use std::io;
 use std::io::{Read, Write};
 
-/// What begins a terminal's line anew: a return, and the erasure of the line's rest (ECMA-48, EL).
-const ANEW: &[u8] = b"\r\x1b[K";
+/// What begins the line below a terminal's own anew: its begin, and the erasure of its rest (ECMA-48, EL).
+const ANEW: &[u8] = b"\r\n\x1b[K";
 
-/// One line on an output, written anew at each step of long work, and taken away at the end. Where nobody looks nothing is written;
+/// What goes back to the begin of the line above (ECMA-48, CUU), where an answer is written as if nobody had been told anything.
+const BACK: &[u8] = b"\x1b[A\r";
+
+/// What erases this line and all below it (ECMA-48, ED).
+const ERASED: &[u8] = b"\r\x1b[J";
+
+/// One line on an output, below the one that answers are written to, written anew at each step of long work, and taken away at the
+/// end. Where nobody looks nothing is written;
 /// that a step can't be written changes nothing.
 #[derive(Drop)]
 pub struct Progress<W> {
@@ -32,7 +39,8 @@ impl<W: Write> Progress<W> {
     pub fn opening(&mut self) {
         if self.is_shown {
             let going = put(&mut self.out, true, ANEW);
-            put(&mut self.out, going, b"opening the file");
+            let going = put(&mut self.out, going, b"opening the file");
+            put(&mut self.out, going, BACK);
         }
     }
 
@@ -41,13 +49,14 @@ impl<W: Write> Progress<W> {
         self.steps = self.steps.saturating_add(lines);
         let going = put(&mut self.out, true, ANEW);
         let going = put(&mut self.out, going, b"lines read: ");
-        put_number(&mut self.out, going, self.steps);
+        let going = put_number(&mut self.out, going, self.steps);
+        put(&mut self.out, going, BACK);
     }
 
     /// Takes the line away.
     pub fn end(&mut self) {
         if self.is_shown {
-            put(&mut self.out, true, ANEW);
+            put(&mut self.out, true, ERASED);
         }
     }
 }
@@ -65,7 +74,8 @@ impl<W: Write> Watch for Progress<W> {
         let going = put(&mut self.out, going, b", table ");
         let going = put_number(&mut self.out, going, self.steps);
         let going = put(&mut self.out, going, b" of ");
-        put_number(&mut self.out, going, EVERY_TABLE.len() as u64);
+        let going = put_number(&mut self.out, going, EVERY_TABLE.len() as u64);
+        put(&mut self.out, going, BACK);
     }
 }
 
