@@ -1,6 +1,6 @@
 //! A list of requests is served, the program stops, and what is left is taken into service again and read.
 
-ghost use Rattle.std.specs.Prelude.{◌≡◌, ◌≤◌, false, IfOk, IfErr, IfSome, length};
+ghost use Rattle.std.specs.Prelude.{◌≡◌, ◌≤◌, false, IfOk, IfErr, IfSome, IsNone, length};
 ghost use Rattle.sqlite.specs.State.{HasCleanDisk};
 ghost use Rattle.sqlite.specs.Held.{state};
 ghost use Rattle.sqlite.specs.Steps.{over_memory};
@@ -117,6 +117,7 @@ pub fn run_crash_and_read<S: Alter + Reopen + Drop, W: Write>(
     ensures replies { (s : Operator) → IsAt S.Store desk s
         → IfOk result.1 (λ r. HasCleanDisk (shown S.Store r.0) → AreReplies s calls.now result.0.replies.items) }
     ensures refused { (s : Operator) → IsAt S.Store desk s → IfErr result.1 (IsOnlyWant S.Store) }
+    ensures whole { IsNone result.0.end → length result.0.replies.items ≡ length calls.now }
 {
     let run = desk.run_list(alloc, calls);
     let told = Acknowledged {

@@ -1,6 +1,6 @@
 //! A list of requests is served over files, the process stops, and another one opens what it left.
 
-ghost use Rattle.std.specs.Prelude.{◌≡◌, ◌≤◌, IfOk, IfErr, length};
+ghost use Rattle.std.specs.Prelude.{◌≡◌, ◌≤◌, IfOk, IfErr, IsNone, length};
 ghost use Rattle.sqlite.specs.State.{HasCleanDisk};
 ghost use Rattle.sqlite.specs.Files.{file_state, over_files};
 ghost use Rattle.sqlite_trees.specs.View.{doubt, IsClean};
@@ -87,6 +87,7 @@ pub fn run_stop_and_read<D: Disk + Drop, F: Start, W: Write>(
     ensures replies { (s : Operator) → IsAt over_files desk s → IsClean (store.view result.1)
         → AreReplies s calls.now result.0.replies.items }
     ensures refused { (s : Operator) → IsAt over_files desk s → MayHold result.1 (image_at F.Start) → IfErr result.2 IsOnlyStorage }
+    ensures whole { IsNone result.0.end → length result.0.replies.items ≡ length calls.now }
 {
     let run = desk.run_list(rt.alloc(), calls);
     let told = Acknowledged {
