@@ -3,8 +3,8 @@ use Rattle.std.proofs.Common.{◌≡◌, ℕ, List, [], ◌∷◌, ◌++◌, Opt
 use Rattle.sqlite_trees.specs.declared.store.Store.{Ghosts}
 use Rattle.bike_operator.specs.Operator.{Operator}
 use Rattle.bike_schema.specs.Stands.{AllLeft, TreesStandFor}
-use Rattle.bike_exchange.specs.Desk.{DeskValue, shown}
-use Rattle.bike_exchange.specs.DeskFault.TheVariants.{NoMemory, StoreFailed, Stopped}
+use Rattle.bike_http.specs.Desk.{DeskValue, shown}
+use Rattle.bike_http.specs.DeskFault.TheVariants.{NoMemory, StoreFailed, Stopped}
 use Rattle.bike_imports.specs.declared.fault.ImportFault.{ImportFault}
 use Rattle.bike_imports.specs.declared.fault.ImportFault.TheVariants.{BadHeader, Unreadable, Row, Read, Desk}
 use Rattle.bike_imports.specs.Imports.{Imports}

@@ -11,9 +11,9 @@ use Rattle.bike_commands.specs.Requests.{IsRequest, IsLine}
 use Rattle.bike_operator.specs.Operator.{Operator}
 use Rattle.bike_operator.specs.Runs.{Call, step}
 use Rattle.bike_schema.specs.Stands.{AllLeft}
-use Rattle.bike_exchange.specs.Desk.{DeskValue, shown, IsAt, TreesStandForEither}
-use Rattle.bike_exchange.specs.DeskFault.{DeskFault}
-use Rattle.bike_exchange.specs.DeskFault.TheVariants.{NoMemory, StoreFailed, Stopped}
+use Rattle.bike_http.specs.Desk.{DeskValue, shown, IsAt, TreesStandForEither}
+use Rattle.bike_http.specs.DeskFault.{DeskFault}
+use Rattle.bike_http.specs.DeskFault.TheVariants.{NoMemory, StoreFailed, Stopped}
 use Rattle.bike_app.specs.Answers.{IsReadAs}
 use Rattle.bike_app.specs.Serving.{RepliesAt, GoesOn}
 

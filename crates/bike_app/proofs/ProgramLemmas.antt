@@ -14,12 +14,12 @@ use Rattle.bike_operator.specs.Runs.{Call}
 use Rattle.bike_operator.specs.Sound.{IsCall, AreCalls}
 use Rattle.bike_schema.specs.Tables.{HasNone}
 use Rattle.bike_schema.specs.Stands.{AllLeft, TreesStandFor}
-use Rattle.bike_exchange.specs.Desk.{DeskValue, shown}
-use Rattle.bike_exchange.specs.DeskFault.{DeskFault}
-use Rattle.bike_exchange.specs.DeskFault.TheVariants.{NoMemory, StoreFailed, Stopped}
-use Rattle.bike_exchange.specs.AdoptFault.{AdoptFault}
-use Rattle.bike_exchange.specs.AdoptFault.TheVariants as adopt
-use Rattle.bike_exchange.specs.Adoption.{IsWant}
+use Rattle.bike_http.specs.Desk.{DeskValue, shown}
+use Rattle.bike_http.specs.DeskFault.{DeskFault}
+use Rattle.bike_http.specs.DeskFault.TheVariants.{NoMemory, StoreFailed, Stopped}
+use Rattle.bike_http.specs.AdoptFault.{AdoptFault}
+use Rattle.bike_http.specs.AdoptFault.TheVariants as adopt
+use Rattle.bike_http.specs.Adoption.{IsWant}
 use Rattle.bike_app.specs.declared.fault.LinesFault.{LinesFault}
 use Rattle.bike_app.specs.declared.end.Fault.{Fault}
 use Rattle.bike_app.specs.Ends.{lines_fault, adopt_fault, end_of}

@@ -11,9 +11,9 @@ use Rattle.bike_commands.specs.declared.reply.Reply.{Reply}
 use Rattle.bike_commands.specs.Replies.{reply_text}
 use Rattle.bike_commands.specs.Requests.{IsLine, line_length}
 use Rattle.bike_schema.specs.Stands.{AllLeft}
-use Rattle.bike_exchange.specs.Desk.{DeskValue, shown, IsAt, TreesStandForEither}
-use Rattle.bike_exchange.specs.DeskFault.{DeskFault}
-use Rattle.bike_exchange.specs.DeskFault.TheVariants.{NoMemory, StoreFailed, Stopped}
+use Rattle.bike_http.specs.Desk.{DeskValue, shown, IsAt, TreesStandForEither}
+use Rattle.bike_http.specs.DeskFault.{DeskFault}
+use Rattle.bike_http.specs.DeskFault.TheVariants.{NoMemory, StoreFailed, Stopped}
 use Rattle.bike_stream.specs.Lines.{lines_of, first_line, IsFree}
 use Rattle.bike_stream.specs.Taking.{Takes, Interrupts}
 use Rattle.bike_stream.specs.Reads.{ReadsBytes, idle_reads}

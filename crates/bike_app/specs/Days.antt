@@ -4,7 +4,7 @@ use Rattle.sqlite.specs.Store.{Ghosts}
 use Rattle.sqlite.specs.Held.{Held, state}
 use Rattle.bike_operator.specs.Operator.{Operator, no_operator}
 use Rattle.bike_schema.specs.Stands.{IsOf, TreesStandFor}
-use Rattle.bike_exchange.specs.Desk.{DeskValue, IsAt}
+use Rattle.bike_http.specs.Desk.{DeskValue, IsAt}
 use Rattle.bike_day_texts.specs.declared.table.DayTable.{DayTable}
 use Rattle.bike_days.specs.declared.fault.DayTableFault.{DayTableFault}
 use Rattle.bike_days.specs.Ends.{EndsByDay, WritesDay}

@@ -10,12 +10,12 @@ use Rattle.bike_judges.specs.Judging.{key_row}
 use Rattle.bike_fixed.specs.declared.day.DayFault.{DayFault}
 use Rattle.bike_fixed.specs.declared.day.DayFault.TheVariants as day
 use Rattle.bike_commands.specs.Refusals.{name_of as refusal_name}
-use Rattle.bike_exchange.specs.DeskFault.{DeskFault}
-use Rattle.bike_exchange.specs.DeskFault.TheVariants as desk
-use Rattle.bike_exchange.specs.AdoptFault.{AdoptFault}
-use Rattle.bike_exchange.specs.AdoptFault.TheVariants as adopt
-use Rattle.bike_exchange.specs.FeedFault.{FeedFault}
-use Rattle.bike_exchange.specs.FeedFault.TheVariants as feed
+use Rattle.bike_http.specs.DeskFault.{DeskFault}
+use Rattle.bike_http.specs.DeskFault.TheVariants as desk
+use Rattle.bike_http.specs.AdoptFault.{AdoptFault}
+use Rattle.bike_http.specs.AdoptFault.TheVariants as adopt
+use Rattle.bike_http.specs.FeedFault.{FeedFault}
+use Rattle.bike_http.specs.FeedFault.TheVariants as feed
 use Rattle.bike_days.specs.declared.fault.DayTableFault.{DayTableFault}
 use Rattle.bike_days.specs.declared.fault.DayTableFault.TheVariants as table
 use Rattle.bike_imports.specs.declared.fault.ImportFault.{ImportFault}

@@ -6,10 +6,10 @@ use Rattle.sqlite.specs.Held.{Held, state}
 use Rattle.bike_operator.specs.Operator.{Operator, no_operator}
 use Rattle.bike_feed_texts.specs.declared.feed.Feed.{Feed}
 use Rattle.bike_schema.specs.Stands.{IsOf, TreesStandFor}
-use Rattle.bike_exchange.specs.Desk.{DeskValue, IsAt}
-use Rattle.bike_exchange.specs.FeedFault.{FeedFault}
-use Rattle.bike_exchange.specs.FeedFault.TheVariants as feed
-use Rattle.bike_exchange.specs.Publishing.{IsPublished, IsBegun}
+use Rattle.bike_http.specs.Desk.{DeskValue, IsAt}
+use Rattle.bike_http.specs.FeedFault.{FeedFault}
+use Rattle.bike_http.specs.FeedFault.TheVariants as feed
+use Rattle.bike_http.specs.Publishing.{IsPublished, IsBegun}
 use Rattle.bike_app.specs.declared.end.Fault.{Fault}
 use Rattle.bike_app.specs.declared.end.Fault.TheVariants.{ReadFailed, StoreFailed}
 use Rattle.bike_app.specs.Ends.{feed_fault}

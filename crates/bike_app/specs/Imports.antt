@@ -7,7 +7,7 @@ use Rattle.sqlite.specs.Held.{Held, state}
 use Rattle.sqlite_trees.specs.declared.memory.MemStore.{MemStore}
 use Rattle.bike_operator.specs.Operator.{Operator, no_operator}
 use Rattle.bike_schema.specs.Stands.{IsOf, TreesStandFor}
-use Rattle.bike_exchange.specs.Desk.{DeskValue, IsAt}
+use Rattle.bike_http.specs.Desk.{DeskValue, IsAt}
 use Rattle.bike_imports.specs.declared.fault.ImportFault.{ImportFault}
 use Rattle.bike_imports.specs.Imports.{Imports}
 use Rattle.bike_app.specs.declared.end.Fault.{Fault}

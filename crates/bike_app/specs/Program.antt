@@ -10,9 +10,9 @@ use Rattle.bike_operator.specs.Operator.{Operator, no_operator}
 use Rattle.bike_operator.specs.Runs.{Call, after}
 use Rattle.bike_operator.specs.Sound.{AreCalls}
 use Rattle.bike_schema.specs.Stands.{IsOf, TreesStandFor}
-use Rattle.bike_exchange.specs.Desk.{DeskValue}
-use Rattle.bike_exchange.specs.AdoptFault.{AdoptFault}
-use Rattle.bike_exchange.specs.Adoption.{handed, IsToldOf, IsWant}
+use Rattle.bike_http.specs.Desk.{DeskValue}
+use Rattle.bike_http.specs.AdoptFault.{AdoptFault}
+use Rattle.bike_http.specs.Adoption.{handed, IsToldOf, IsWant}
 use Rattle.bike_stream.specs.Lines.{lines_of}
 use Rattle.bike_app.specs.declared.fault.LinesFault.{LinesFault}
 use Rattle.bike_app.specs.declared.end.Fault.{Fault}

@@ -7,9 +7,9 @@ use Rattle.bike_operator.specs.Operator.{Operator}
 use Rattle.bike_operator.specs.Runs.{Call, step, after}
 use Rattle.bike_operator.specs.Sound.{IsCall, AreCalls}
 use Rattle.bike_schema.specs.Stands.{AllLeft}
-use Rattle.bike_exchange.specs.Desk.{DeskValue, shown, IsAt, TreesStandForEither}
-use Rattle.bike_exchange.specs.DeskFault.{DeskFault}
-use Rattle.bike_exchange.specs.DeskFault.TheVariants.{NoMemory, StoreFailed, Stopped}
+use Rattle.bike_http.specs.Desk.{DeskValue, shown, IsAt, TreesStandForEither}
+use Rattle.bike_http.specs.DeskFault.{DeskFault}
+use Rattle.bike_http.specs.DeskFault.TheVariants.{NoMemory, StoreFailed, Stopped}
 use Rattle.bike_stream.specs.Lines.{lines_of, IsFree}
 use Rattle.bike_app.specs.declared.fault.LinesFault.{LinesFault}
 use Rattle.bike_app.specs.declared.fault.LinesFault.TheVariants.{Read, TooManyReads, Write, Desk}

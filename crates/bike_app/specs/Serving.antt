@@ -8,9 +8,9 @@ use Rattle.bike_commands.specs.Requests.{line_length}
 use Rattle.bike_operator.specs.Operator.{Operator}
 use Rattle.bike_operator.specs.Runs.{Call, step}
 use Rattle.bike_schema.specs.Stands.{AllLeft}
-use Rattle.bike_exchange.specs.Desk.{DeskValue, shown, IsAt, TreesStandForEither}
-use Rattle.bike_exchange.specs.DeskFault.{DeskFault}
-use Rattle.bike_exchange.specs.DeskFault.TheVariants.{NoMemory, StoreFailed, Stopped}
+use Rattle.bike_http.specs.Desk.{DeskValue, shown, IsAt, TreesStandForEither}
+use Rattle.bike_http.specs.DeskFault.{DeskFault}
+use Rattle.bike_http.specs.DeskFault.TheVariants.{NoMemory, StoreFailed, Stopped}
 use Rattle.bike_app.specs.Answers.{IsReadAs, reply_to, after_line}
 
 module _ {S : Type 0} (g : Ghosts S) (old new : DeskValue S) where

@@ -1,6 +1,6 @@
 //! Why a run over lines ended early.
 
-use bike_exchange::DeskFault;
+use bike_http::DeskFault;
 use bike_stream::{ReadFault, WriteFault};
 use std::alloc::AllocError;
 use thiserror::Error;
@@ -24,7 +24,7 @@ pub enum LinesFault {
 
 impl From<AllocError> for LinesFault {
     ghost use Rattle.std.specs.Prelude.{◌≡◌};
-    ghost use Rattle.bike_exchange.specs.DeskFault.TheVariants.{NoMemory};
+    ghost use Rattle.bike_http.specs.DeskFault.TheVariants.{NoMemory};
     ghost use Rattle.bike_app.specs.declared.fault.LinesFault.TheVariants.{Desk};
 
     ghost from_gives = { λ _ fault. fault ≡ Desk NoMemory };

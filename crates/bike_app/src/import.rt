@@ -7,7 +7,7 @@ ghost use Rattle.sqlite_trees.specs.View.{doubt};
 ghost use Rattle.bike_fields.specs.Bytes.{is_ident};
 ghost use Rattle.bike_operator.specs.Operator.{Operator};
 ghost use Rattle.bike_schema.specs.Stands.{AllLeft, TreesStandFor};
-ghost use Rattle.bike_exchange.specs.Desk.{shown, IsAt};
+ghost use Rattle.bike_http.specs.Desk.{shown, IsAt};
 ghost use Rattle.bike_imports.specs.Imports.{Imports};
 ghost use Rattle.bike_app.specs.Pieces.{Puts};
 ghost use Rattle.bike_app.specs.Program.{StandsAfterSome};
@@ -15,9 +15,9 @@ ghost use Rattle.bike_app.specs.Imports.{TellsImport, TellsImported, TellsRows, 
 
 use crate::end::Fault;
 use crate::pieces::{put, put_number};
-use bike_exchange::{Desk, DeskFault};
 use bike_fields::Ident;
 use bike_fixed::Moment;
+use bike_http::{Desk, DeskFault};
 use bike_imports::{ImportFault, import_stations};
 use sqlite::{Alter, Connection};
 use std::alloc::Global;

@@ -15,7 +15,7 @@ mod progress;
 mod server;
 mod words;
 
-pub use bike_exchange::{Feed, Unwatched, Watch};
+pub use bike_http::{Feed, Unwatched, Watch};
 pub use day::report_day;
 pub use end::{Fault, exit_code};
 pub use fault::LinesFault;

@@ -6,15 +6,15 @@ ghost use Rattle.sqlite.specs.State.{HasCleanDisk};
 ghost use Rattle.sqlite_trees.specs.View.{doubt};
 ghost use Rattle.bike_commands.specs.Replies.{reply_text};
 ghost use Rattle.bike_operator.specs.Operator.{Operator};
-ghost use Rattle.bike_exchange.specs.Desk.{shown, IsAt};
-ghost use Rattle.bike_exchange.specs.Runs.{StopsBy};
+ghost use Rattle.bike_http.specs.Desk.{shown, IsAt};
+ghost use Rattle.bike_http.specs.Runs.{StopsBy};
 ghost use Rattle.bike_app.specs.Serving.{RepliesTo};
 ghost use Rattle.bike_app.specs.Runs.{desk_fault, RanLines, ServesSome};
 
 use crate::fault::LinesFault;
 use arrayvec::ArrayString;
 use bike_commands::{REPLY_LENGTH, Refusal, Reply};
-use bike_exchange::{Desk, DeskFault};
+use bike_http::{Desk, DeskFault};
 use bike_requests::{LINE_LENGTH, read_line};
 use bike_stream::{Line, LineBuffer, write_whole};
 use sqlite::Alter;

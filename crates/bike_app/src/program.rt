@@ -10,7 +10,7 @@ ghost use Rattle.bike_app.specs.Program.{Serves, StandsAfterSome, ServesInMemory
 
 use crate::end::Fault;
 use crate::lines::run_lines;
-use bike_exchange::Desk;
+use bike_http::Desk;
 use sqlite::{Alter, Connection};
 use std::alloc::Global;
 use std::io::{Read, Write};

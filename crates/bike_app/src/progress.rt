@@ -1,7 +1,7 @@
 //! How far long work is, told to a person who looks.
 
 use crate::pieces::{put, put_number};
-use bike_exchange::Watch;
+use bike_http::Watch;
 use bike_recognition::{EVERY_TABLE, TableName};
 use std::io;
 use std::io::{Read, Write};
@@ -15,9 +15,8 @@ const BACK: &[u8] = b"\x1b[A\r";
 /// What erases this line and all below it (ECMA-48, ED).
 const ERASED: &[u8] = b"\r\x1b[J";
 
-/// One line on an output, below the one that answers are written to, written anew at each step of long work, and taken away at the
-/// end. Where nobody looks nothing is written;
-/// that a step can't be written changes nothing.
+/// One line on an output, below the one that answers are written to, written anew at each step of long work and taken away at the
+/// end. Where nobody looks nothing is written, and a step that can't be written changes nothing.
 #[derive(Drop)]
 pub struct Progress<W> {
     out: W,

@@ -3,9 +3,9 @@
 ghost use Rattle.std.specs.Prelude.{◌≡◌, false};
 
 use crate::end::Fault;
-use bike_exchange::{Desk, ServeFault, Served, serve_one};
 use bike_fixed::Moment;
 use bike_heads::Routes;
+use bike_http::{Desk, ServeFault, Served, serve_one};
 use bike_json::TokenBuffer;
 use bike_stream::write_whole;
 use sqlite::{Alter, Connection};

@@ -8,7 +8,7 @@ use Rattle.std.specs.FinMap as fin
 use Rattle.std.proofs.lemmas.Int.{ints}
 use Rattle.sqlite_value.specs.Order.{Row, row_cmp}
 use Rattle.bike_rows.specs.View.{put_row_by}
-use Rattle.bike_catalogue.specs.Rows.{SystemRow}
+use Rattle.bike_operator.specs.Rows.{SystemRow}
 use Rattle.bike_operator.specs.declared.change.Change.TheVariants as change
 use Rattle.bike_operator.specs.Operator.{Operator, Station}
 use Rattle.bike_operator.specs.Steps.{key_changed, new_station}

@@ -14,7 +14,7 @@ use Rattle.sqlite_value.specs.Order.{Row, column, row_cmp, value_cmp}
 use Rattle.sqlite_value.proofs.OrderLemmas.{value_cmp-Text, value_cmp-Null, then-Equal}
 use Rattle.sqlite_rules.specs.Lists.{Has}
 use Rattle.bike_rows.specs.View.{rows_where}
-use Rattle.bike_catalogue.specs.Rows.{SegmentRow, PlanRow}
+use Rattle.bike_operator.specs.Rows.{SegmentRow, PlanRow}
 use Rattle.bike_ledger.specs.Entries.{Entry}
 use Rattle.bike_operator.specs.declared.records.Place.{Place}
 use Rattle.bike_operator.specs.declared.records.Place.TheVariants as place

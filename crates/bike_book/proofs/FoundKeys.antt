@@ -4,7 +4,7 @@ use Rattle.std.specs.Prelude.{option_map}
 use Rattle.std.specs.FinMap as fin
 use Rattle.sqlite_value.specs.declared.value.Value.TheVariants.{Text}
 use Rattle.bike_rows.specs.View.{row_with}
-use Rattle.bike_catalogue.specs.Rows.{SystemRow}
+use Rattle.bike_operator.specs.Rows.{SystemRow}
 use Rattle.bike_ledger.specs.Ledger.{cash_of, revenue_of}
 use Rattle.bike_operator.specs.Operator.{Operator, Key, DockKey, key_of, dock_key}
 use Rattle.bike_operator.specs.Counts.{is_broken, available_of}

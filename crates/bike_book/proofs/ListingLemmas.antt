@@ -4,7 +4,7 @@ use Rattle.std.specs.Ordering.{nat_cmp}
 use Rattle.std.specs.FinMap as fin
 use Rattle.std.specs.FinMap.{FinMap}
 use Rattle.std.specs.FinSet as set
-use Rattle.bike_catalogue.specs.Rows.{TypeRow}
+use Rattle.bike_operator.specs.Rows.{TypeRow}
 use Rattle.bike_operator.specs.declared.records.Bike.{Bike}
 use Rattle.bike_operator.specs.Operator.{Operator, Station, Key, DockKey, text_cmp, texts_cmp}
 use Rattle.bike_operator.specs.Counts.{available_of}

@@ -2,9 +2,9 @@
 use Rattle.std.specs.Prelude.{◌≡◌, ◌+◌, ℕ, suc, ℤ, pos, length, List, [], ◌∷◌, ◌++◌, Bool, true, false, Option, Some, None}
 use Rattle.std.specs.Borrow.{Bor}
 use Rattle.std.specs.FinMap as fin
-use Rattle.bike_catalogue.specs.Rows.{SegmentRow, PlanRow, TypeRow, StationRow, SystemRow}
+use Rattle.bike_operator.specs.Rows.{SegmentRow, PlanRow, TypeRow, StationRow, SystemRow}
 use Rattle.bike_ledger.specs.Ledger.{balance_of, refunded_of}
-use Rattle.bike_texts.specs.declared.ends.OrderEnd.{OrderEnd}
+use Rattle.bike_commands.specs.OrderEnd.{OrderEnd}
 use Rattle.bike_operator.specs.declared.records.Order.{Order}
 use Rattle.bike_operator.specs.declared.change.Change.{Change}
 use Rattle.bike_operator.specs.declared.change.Change.TheVariants as change

@@ -2,7 +2,7 @@
 use Rattle.std.specs.Prelude.{◌≡◌, ◌+◌, ◌+ℤ◌, ℕ, ℤ, pos, length, List, [], ◌∷◌, Some, Ok}
 use Rattle.std.specs.Borrow.{Bor}
 use Rattle.std.specs.FinMap as fin
-use Rattle.bike_fields.specs.Caller.{caller_text}
+use Rattle.bike_commands.specs.Caller.{caller_text}
 use Rattle.bike_ledger.specs.Entries.{Entry}
 use Rattle.bike_ledger.specs.Ledger.{credit, cash_in, earned, given_back, balance_of, cash_of, revenue_of, refunded_of}
 use Rattle.bike_commands.specs.declared.reply.Reply.{Reply}

@@ -6,7 +6,7 @@ use Rattle.sqlite_value.specs.declared.value.Value.TheVariants.{Text}
 use Rattle.sqlite_value.specs.Order.{Row, column}
 use Rattle.sqlite_sql.specs.Ops.{is_null}
 use Rattle.bike_rows.specs.View.{row_with, rows_where, last_of}
-use Rattle.bike_catalogue.specs.Rows.{PlanRow}
+use Rattle.bike_operator.specs.Rows.{PlanRow}
 use Rattle.bike_commands.specs.Commands.{text_of}
 use Rattle.bike_commands.specs.Replies.{reply_text}
 use Rattle.bike_ledger.specs.Ledger.{balance_of, cash_of, revenue_of, refunded_of}

@@ -1,11 +1,9 @@
 //! Changes of one row each. Their numbers and texts are those of an operator's records.
 
-use bike_catalogue::{Plan, Segment, Station, System, VehicleType};
-use bike_fields::Ident;
+use bike_commands::{Ident, OrderEnd, Plan, Segment, Station, System, VehicleType};
 use bike_fixed::{Cents, Moment};
 use bike_ledger::Entry;
 use bike_operator::{BikeState, NewPlace};
-use bike_texts::OrderEnd;
 
 /// One row that is added, under a key that is free, or columns that are set in the row of a key. Money is in
 /// hundredths, moments in seconds.

@@ -1,6 +1,6 @@
 -- The records of the catalogue, as contracts see them.
 use Rattle.std.specs.Prelude.{◌≡◌, ℕ, ℤ, pos, neg_ℤ, ◌≤◌, ◌<◌, ◌≤ℤ◌, List, length, Bool, true, Option, None, Some, nat_lt, nat_le, int_le, ◌==◌, ◌&&◌, if◌then◌else◌}
-use Rattle.bike_fixed.specs.Coordinate.{IsMicro}
+use Rattle.bike_fields.specs.Coordinate.{IsMicro}
 use Rattle.bike_catalogue.specs.declared.vehicle.Form.{Form}
 use Rattle.bike_catalogue.specs.declared.vehicle.Propulsion.{Propulsion}
 use Rattle.bike_catalogue.specs.declared.vehicle.Propulsion.TheVariants.{Human, ElectricAssist}

@@ -5,8 +5,7 @@ ghost use Rattle.bike_fields.specs.Fault.{at_field};
 ghost use Rattle.bike_catalogue.specs.RowFaults.{checked, range_fault, signed_fault};
 
 use crate::rate::Rate;
-use bike_fields::{Bound, Field, FieldFault};
-use bike_fixed::{Micro, Within};
+use bike_fields::{Bound, Field, FieldFault, Micro, Within};
 
 /// The number as that field.
 pub fn in_range<const LO: u32, const HI: u32>(

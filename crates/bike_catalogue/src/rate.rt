@@ -1,10 +1,10 @@
 //! Rates.
 
 ghost use Rattle.std.specs.Prelude.{◌≡◌, pos, neg_ℤ, int_le, ◌&&◌, if◌then◌else◌, Some, None};
-ghost use Rattle.bike_fixed.specs.Whole.{signed_of};
+ghost use Rattle.bike_fields.specs.Whole.{signed_of};
 ghost use Rattle.bike_catalogue.specs.Rows.{IsRate};
 
-use bike_fixed::read_signed;
+use bike_fields::read_signed;
 use std::marker::Model;
 
 /// What a segment charges each time: -100,000 to 100,000 hundredths.

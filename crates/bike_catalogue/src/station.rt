@@ -5,8 +5,7 @@ ghost use Rattle.bike_catalogue.specs.RowFaults.{MakesStation};
 ghost use Rattle.bike_catalogue.specs.Rows.{IsStation, station_within};
 
 use crate::range::{coordinate, in_range};
-use bike_fields::{DockCount, Field, FieldFault, Ident, Name};
-use bike_fixed::Micro;
+use bike_fields::{DockCount, Field, FieldFault, Ident, Micro, Name};
 use std::alloc::Global;
 use std::marker::Model;
 

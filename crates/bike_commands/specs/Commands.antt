@@ -1,6 +1,6 @@
 -- How a command is spelled.
 use Rattle.std.specs.Prelude.{ℕ, List, [], ◌∷◌, ◌++◌, codes}
-use Rattle.bike_catalogue.specs.Vehicle.{form_text, propulsion_text}
+use Rattle.bike_texts.specs.Vehicle.{form_text, propulsion_text}
 use Rattle.bike_texts.specs.Fields.{Field, Number, Fixed, Id, Language, Currency, Name, Ascii, Degrees, Metres, Segments, End, Choice, Flag, Numbered, Dock, DockOrDepot, Serial, Payment, side_text, AreGood, IsSpelled, IsWritten, fields_text}
 use Rattle.bike_commands.specs.declared.command.Command.{Command}
 use Rattle.bike_commands.specs.declared.command.Command.TheVariants as command

@@ -3,3 +3,11 @@ pub mod Commands
 pub mod Replies
 pub mod ReplyReaders
 pub mod Requests
+pub use Rattle.bike_texts.specs.Rows
+pub use Rattle.bike_texts.specs.Vehicle
+pub use Rattle.bike_texts.specs.Bytes
+pub use Rattle.bike_texts.specs.Caller
+pub use Rattle.bike_texts.specs.CallerType
+pub use Rattle.bike_texts.specs.Fields
+pub use Rattle.bike_texts.specs.declared.ends.OrderEnd
+pub use Rattle.bike_texts.specs.declared.ends.Side

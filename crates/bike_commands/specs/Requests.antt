@@ -1,8 +1,8 @@
 -- How a request line is spelled.
 use Rattle.std.specs.Prelude.{◌≡◌, ℕ, ◌≤◌, List, ◌∷◌, ◌++◌, length, true, decimal}
 use Rattle.std.specs.Str.{IsUtf8}
-use Rattle.bike_fields.specs.Bytes.{is_key}
-use Rattle.bike_fields.specs.Caller.{IsCaller, caller_text}
+use Rattle.bike_texts.specs.Bytes.{is_key}
+use Rattle.bike_texts.specs.Caller.{IsCaller, caller_text}
 use Rattle.bike_commands.specs.declared.request.Request.{Request}
 use Rattle.bike_commands.specs.Commands.{IsCommand, IsSpelling}
 

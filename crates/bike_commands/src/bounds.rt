@@ -1,7 +1,7 @@
 //! The bounds that requests and replies keep by their types, told to a proof.
 
 ghost use Rattle.std.specs.Prelude.{◌≡◌, pos, neg_ℤ, ◌≤ℤ◌, true};
-ghost use Rattle.bike_fields.specs.Caller.{IsCaller};
+ghost use Rattle.bike_texts.specs.Caller.{IsCaller};
 ghost use Rattle.bike_commands.specs.Commands.{IsCommand};
 ghost use Rattle.bike_commands.specs.Replies.{IsReply};
 ghost use Rattle.bike_commands.specs.Requests.{IsRequest};
@@ -9,8 +9,7 @@ ghost use Rattle.bike_commands.specs.Requests.{IsRequest};
 use crate::command::Command;
 use crate::reply::Reply;
 use crate::request::Request;
-use bike_fields::Caller;
-use bike_texts::{tell_end, tell_segments};
+use bike_texts::{Caller, tell_end, tell_segments};
 
 fn tell_number(number: i64)
     ensures low { neg_ℤ (pos 9223372036854775808) ≤ℤ number }

@@ -1,11 +1,10 @@
 //! Commands: what a request asks the operator to do.
 
-use bike_catalogue::{Plan, Station, System, VehicleType};
-use bike_fields::{
-    BicycleNumber, DockNumber, Ident, OrderNumber, OrderQuantity, Payment, RentalNumber,
-    RiderNumber, TruckCapacity, TruckNumber,
+use bike_texts::{
+    BicycleNumber, DockNumber, Ident, OrderEnd, OrderNumber, OrderQuantity, Payment, Plan,
+    RentalNumber, RiderNumber, Side, Station, System, TruckCapacity, TruckNumber, UnloadDock,
+    VehicleType,
 };
-use bike_texts::{OrderEnd, Side, UnloadDock};
 
 /// What a request asks for. Its fields keep their bounds by their types.
 #[derive(Debug, Drop)]

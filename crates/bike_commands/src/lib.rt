@@ -10,6 +10,11 @@ mod refusal;
 mod reply;
 mod request;
 
+pub use bike_texts::{
+    BicycleNumber, DockCount, DockNumber, Ident, OrderEnd, OrderNumber, OrderQuantity, Plan,
+    RentalNumber, RiderNumber, Segment, Station, System, TruckCapacity, TruckNumber, UnloadDock,
+    VehicleType,
+};
 pub use command::Command;
 pub use refusal::Refusal;
 pub use reply::{REPLY_LENGTH, Reply};

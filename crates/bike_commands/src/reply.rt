@@ -10,9 +10,8 @@ ghost use Rattle.bike_commands.specs.Refusals.{number_of, name_of, refusal_of};
 
 use crate::refusal::Refusal;
 use arrayvec::ArrayString;
-use bike_fields::{BicycleNumber, OrderNumber, RentalNumber};
 use bike_fixed::{Within, signed_text};
-use bike_texts::{Fare, Fields};
+use bike_texts::{BicycleNumber, Fare, Fields, OrderNumber, RentalNumber};
 use itoa::Buffer;
 
 /// Room in bytes for every reply: the longest word before two numbers is `fare`, and a number of

@@ -1,7 +1,7 @@
 //! Requests.
 
 use crate::command::Command;
-use bike_fields::{Caller, RequestKey};
+use bike_texts::{Caller, RequestKey};
 
 /// A command, by whom it is sent and under which key. A caller that sends the same command again under
 /// the same key is answered as before.

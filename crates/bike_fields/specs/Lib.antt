@@ -2,3 +2,5 @@ pub mod Bytes
 pub mod Fault
 pub mod Reads
 pub mod Caller
+pub use Rattle.bike_fixed.specs.Whole
+pub use Rattle.bike_fixed.specs.Coordinate

@@ -16,6 +16,7 @@ mod name;
 mod numbers;
 
 pub use ascii::Ascii;
+pub use bike_fixed::{Micro, Within, read_signed};
 pub use caller::{Caller, CallerName, caller_laws};
 pub use currency::Currency;
 pub use fault::{Bound, Field, FieldFault};

@@ -1,4 +1,4 @@
-pub mod Once
-pub mod Receiving
-pub mod Spelled
-pub mod Objects
+pub mod Shows
+pub mod Told
+pub mod Feeds
+pub mod Ends

@@ -1,12 +1,13 @@
-//! What the definition of an input's question means.
+//! What the definition of an input's response means.
 
-ghost use Rattle.std.specs.Prelude.{◌≡◌, ℕ, List};
-ghost use Rattle.bike_http.specs.Asked.{Asks};
-ghost use Rattle.bike_http.specs.declared.asked.Asked.{Asked as AskedValue};
+ghost use Rattle.std.specs.Prelude.{◌≡◌, ℕ, List, Some};
+ghost use Rattle.bike_operator.specs.Operator.{Operator};
+ghost use Rattle.bike_http.specs.Exchange.{Response, Answers};
 
-use bike_heads::Feed;
+use bike_feed_texts::Feed;
 
-/// An input asks for one thing alone: it is settled by the bytes, and not by how they were cut into reads.
-pub fn asked_once(_example: Feed)
-    ensures { (input : List ℕ) (asked other : AskedValue) → Asks input asked → Asks input other → asked ≡ other }
+/// An input has one response, and one operator is after it: they are settled by its bytes, the operator and the moment.
+pub fn answered_once(_example: Feed)
+    ensures { (input : List ℕ) (s : Operator) (t : ℕ) (response other : Response) (next then : Operator)
+        → Answers (Some input) s t response next → Answers (Some input) s t other then → (response ≡ other) × (next ≡ then) }
 {}

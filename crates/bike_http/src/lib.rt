@@ -1,18 +1,18 @@
-//! What an exchange of HTTP/1.1 asks for, read from its bytes alone.
+//! One exchange of HTTP/1.1 over a desk: a request is read, the desk is asked, and the answer is written.
 //!
-//! A request is answered at once, asks the operator to act, or wants something shown. Which of these, and what,
-//! is a function of the input's bytes: how they were cut into reads doesn't matter. Nothing here knows the
-//! operator.
+//! What is answered is a function of the input's bytes, the operator for whom the desk stands and the moment. Once
+//! an answer with status 200 is written, the desk and all that a crash may leave stand for the operator after
+//! the request.
 #![tactic(auto)]
 
-mod asked;
-mod body;
-mod incoming;
-mod input;
+mod exchange;
 mod laws;
-mod members;
+mod respond;
+mod rows;
 
-pub use asked::{Asked, ask};
-pub use incoming::{ReceiveFault, receive};
-pub use input::MOST_READS;
-pub use laws::asked_once;
+pub use bike_feeds::{
+    AdoptFault, BadRow, Desk, DeskFault, Feed, FeedFault, Unwatched, Watch, write_feed,
+};
+pub use bike_heads::Routes;
+pub use exchange::{ServeFault, Served, serve_one};
+pub use laws::answered_once;

@@ -10,7 +10,7 @@ use Rattle.bike_operator.specs.Counts.{docks_broken}
 use Rattle.bike_operator.specs.Changes.{place_of}
 use Rattle.bike_operator.specs.Steps.{key_changed, dock_marked}
 use Rattle.bike_operator.specs.Sound.{AreBikesSound}
-use Rattle.bike_catalogue.specs.Rows.{StationRow}
+use Rattle.bike_operator.specs.Rows.{StationRow}
 use Rattle.bike_places.proofs.MapLemmas.{number_order, text_order, IsKept, Same, Turned, kept_changed, known_changed}
 use Rattle.bike_places.specs.Laws.{place_shares, IsAway}
 use Rattle.bike_book.specs.Between.{docks_left}

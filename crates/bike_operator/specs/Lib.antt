@@ -6,3 +6,10 @@ pub mod Runs
 pub mod Changes
 pub mod Sound
 pub mod Bounds
+pub use Rattle.bike_commands.specs.Rows
+pub use Rattle.bike_commands.specs.Bytes
+pub use Rattle.bike_commands.specs.Commands
+pub use Rattle.bike_commands.specs.OrderEnd
+pub use Rattle.bike_commands.specs.Side
+pub use Rattle.bike_commands.specs.declared.command.Command
+pub use Rattle.bike_commands.specs.declared.refusal.Refusal

@@ -8,7 +8,7 @@ use Rattle.std.specs.FinMap as map
 use Rattle.std.specs.FinMap.{FinMap}
 use Rattle.std.specs.FinSet as set
 use Rattle.std.specs.FinSet.{FinSet}
-use Rattle.bike_catalogue.specs.Rows.{PlanRow, TypeRow, StationRow, SystemRow}
+use Rattle.bike_commands.specs.Rows.{PlanRow, TypeRow, StationRow, SystemRow}
 use Rattle.bike_ledger.specs.Entries.{Entry}
 use Rattle.bike_commands.specs.declared.command.Command.{Command}
 use Rattle.bike_commands.specs.declared.reply.Reply.{Reply}

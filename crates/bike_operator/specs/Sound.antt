@@ -3,16 +3,16 @@ use Rattle.std.specs.Prelude.{◌≡◌, ℕ, ℤ, ◌+◌, ◌≤◌, ◌≤ℤ
 use Rattle.std.specs.FinMap as finmap
 use Rattle.std.specs.FinSet as finset
 use Rattle.bike_fixed.specs.Whole.{last_moment}
-use Rattle.bike_fields.specs.Bytes.{is_key}
-use Rattle.bike_fields.specs.declared.caller.Caller.{Caller}
-use Rattle.bike_fields.specs.Caller.{IsCaller, caller_text}
-use Rattle.bike_catalogue.specs.Rows.{PlanRow, TypeRow, SystemRow, IsPlan, IsType, IsStation, IsSystem}
+use Rattle.bike_commands.specs.Bytes.{is_key}
+use Rattle.bike_commands.specs.CallerType.{Caller}
+use Rattle.bike_commands.specs.Caller.{IsCaller, caller_text}
+use Rattle.bike_commands.specs.Rows.{PlanRow, TypeRow, SystemRow, IsPlan, IsType, IsStation, IsSystem}
 use Rattle.bike_ledger.specs.Entries.{Entry}
 use Rattle.bike_ledger.specs.declared.entry.EntryKind.{EntryKind}
 use Rattle.bike_ledger.specs.declared.entry.EntryKind.TheVariants.{TopUp, Fare, Refund}
 use Rattle.bike_ledger.specs.Ledger.{refunded_of}
 use Rattle.bike_ledger.specs.Entries.{greatest_amount}
-use Rattle.bike_texts.specs.Fields.{AreSegments}
+use Rattle.bike_commands.specs.Fields.{AreSegments}
 use Rattle.bike_commands.specs.Commands.{IsCommand}
 use Rattle.bike_commands.specs.declared.reply.Reply.{Reply}
 use Rattle.bike_commands.specs.declared.reply.Reply.TheVariants.{Done, Balance, Started, Ended, Ordered, Refused}

@@ -4,15 +4,15 @@ use Rattle.std.specs.Str.{bytes_eq}
 use Rattle.std.specs.FinMap as map
 use Rattle.std.specs.FinSet as set
 use Rattle.std.specs.declared.cmp.Ordering.{Ordering}
-use Rattle.bike_catalogue.specs.Rows.{StationRow}
+use Rattle.bike_commands.specs.Rows.{StationRow}
 use Rattle.bike_fares.specs.Pricing.{fare_of}
 use Rattle.bike_ledger.specs.declared.entry.EntryKind.{EntryKind}
 use Rattle.bike_ledger.specs.declared.entry.EntryKind.TheVariants as kind
 use Rattle.bike_ledger.specs.Ledger.{balance_of}
-use Rattle.bike_texts.specs.declared.ends.OrderEnd.{OrderEnd}
-use Rattle.bike_texts.specs.declared.ends.OrderEnd.TheVariants as end
-use Rattle.bike_texts.specs.declared.ends.Side.{Side}
-use Rattle.bike_texts.specs.declared.ends.Side.TheVariants.{From, To}
+use Rattle.bike_commands.specs.OrderEnd.{OrderEnd}
+use Rattle.bike_commands.specs.OrderEnd.TheVariants as end
+use Rattle.bike_commands.specs.Side.{Side}
+use Rattle.bike_commands.specs.Side.TheVariants.{From, To}
 use Rattle.bike_commands.specs.declared.command.Command.{Command}
 use Rattle.bike_commands.specs.declared.command.Command.TheVariants as command
 use Rattle.bike_commands.specs.declared.reply.Reply.{Reply}

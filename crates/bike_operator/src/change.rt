@@ -3,11 +3,8 @@
 ghost use Rattle.std.specs.Prelude.{◌≡◌, ◌∷◌, []};
 
 use crate::records::BikeState;
-use bike_catalogue::{Plan, Station, System, VehicleType};
-use bike_commands::{Refusal, Reply};
-use bike_fields::Ident;
+use bike_commands::{Ident, OrderEnd, Plan, Refusal, Reply, Station, System, VehicleType};
 use bike_ledger::Entry;
-use bike_texts::OrderEnd;
 
 /// Where a bicycle is put.
 #[derive(Clone, Copy, Debug)]

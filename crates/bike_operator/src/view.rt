@@ -1,8 +1,7 @@
 //! The view of an operator for a command: what its tests ask, and the records that its changes touch.
 
 use crate::records::{Bike, BikeState, Order, Rental};
-use bike_catalogue::Plan;
-use bike_fields::{BicycleNumber, DockCount, Ident, RentalNumber, TruckCapacity};
+use bike_commands::{BicycleNumber, DockCount, Ident, Plan, RentalNumber, TruckCapacity};
 
 /// What a decision needs to know of a station.
 #[derive(Clone, Copy, Debug)]

@@ -5,8 +5,8 @@ use Rattle.std.specs.FinMap as map
 use Rattle.std.specs.FinMap.{FinMap}
 use Rattle.std.specs.FinSet as set
 use Rattle.std.specs.FinSet.{FinSet}
-use Rattle.bike_fields.specs.Bytes.{is_ident}
-use Rattle.bike_catalogue.specs.Rows.{PlanRow, TypeRow, StationRow, SystemRow, IsStation, IsSystem}
+use Rattle.bike_operator.specs.Bytes.{is_ident}
+use Rattle.bike_operator.specs.Rows.{PlanRow, TypeRow, StationRow, SystemRow, IsStation, IsSystem}
 use Rattle.bike_operator.specs.Operator.{Operator, Station, text_cmp, texts_cmp, DockKey, dock_key}
 use Rattle.bike_operator.specs.declared.limits.TheConstants.{MOST_PLANS, MOST_TYPES, MOST_STATIONS}
 use Rattle.bike_operator.specs.Steps.{key_changed, reported, dock_marked}

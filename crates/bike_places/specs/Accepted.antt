@@ -1,8 +1,8 @@
 -- What stays true of a sound operator when a command is accepted.
 use Rattle.std.specs.Prelude.{◌≡◌, ◌≤◌, ℕ, None}
 use Rattle.std.specs.FinMap.{FinMap}
-use Rattle.bike_commands.specs.declared.command.Command.{Command}
-use Rattle.bike_commands.specs.Commands.{IsCommand}
+use Rattle.bike_operator.specs.Command.{Command}
+use Rattle.bike_operator.specs.Commands.{IsCommand}
 use Rattle.bike_operator.specs.Operator.{Operator, Kept, texts_cmp}
 use Rattle.bike_operator.specs.Steps.{refused, effect}
 use Rattle.bike_operator.specs.Sound.{IsSound}

@@ -14,6 +14,11 @@ mod fields;
 mod segments;
 mod values;
 
+pub use bike_catalogue::{Plan, Segment, Station, System, VehicleType};
+pub use bike_fields::{
+    BicycleNumber, Caller, DockCount, DockNumber, Ident, OrderNumber, OrderQuantity, Payment,
+    RentalNumber, RequestKey, RiderNumber, TruckCapacity, TruckNumber,
+};
 pub use bounds::{tell_end, tell_segments};
 pub use ends::{EndName, OrderEnd, Side, UnloadDock};
 pub use escapes::{AsciiText, NameText};

@@ -1,7 +1,7 @@
 use Rattle.std.proofs.Common.{◌≡◌, ℕ, List, Ok, ◌++◌, ◌∷◌, [], Err, arith, ap, sym, subst, ◌∙◌}
 use Rattle.sqlite.specs.State.{HasCleanDisk}
 use Rattle.bike_commands.specs.Replies.{reply_text}
-use Rattle.bike_exchange.specs.Desk.{shown}
+use Rattle.bike_http.specs.Desk.{shown}
 use Rattle.bike_app.specs.declared.lines.TheConstants.{MOST_READS}
 use Rattle.bike_app.specs.Answers.{after_lines}
 use Rattle.bike_app.specs.Serving.{RepliesAt}

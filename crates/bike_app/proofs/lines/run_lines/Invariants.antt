@@ -3,7 +3,7 @@ use Rattle.std.specs.Io.KnownBytes.{prepend_known}
 use Rattle.sqlite.specs.State.{HasCleanDisk}
 use Rattle.sqlite_trees.specs.View.{doubt}
 use Rattle.bike_operator.specs.Operator.{Operator}
-use Rattle.bike_exchange.specs.Desk.{shown, IsAt}
+use Rattle.bike_http.specs.Desk.{shown, IsAt}
 use Rattle.bike_stream.specs.declared.buffer.TheConstants.{READ_LENGTH}
 use Rattle.bike_stream.specs.Reads.{most_ahead}
 use Rattle.bike_app.specs.declared.lines.TheConstants.{MOST_READS}

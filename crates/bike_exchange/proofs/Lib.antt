@@ -1,4 +1,0 @@
-pub mod Shows
-pub mod Told
-pub mod Feeds
-pub mod Ends

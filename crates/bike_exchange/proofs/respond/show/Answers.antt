@@ -1,8 +1,0 @@
-use Rattle.std.proofs.Common.{◌≡◌, inr, refl}
-use Rattle.bike_exchange.specs.Shown.{shown_of}
-use Rattle.bike_exchange.proofs.Told.{query_undone}
-use Rattle.bike_exchange.proofs.respond.show.Goals as goal
-
-pub returns-in-Err-clause-told : goal.returns-in-Err-clause-told
-returns-in-Err-clause-told g c clean s at =
-    inr (refl, query_undone g.S.Store c.args.desk.now c.find_row.new.desk s s clean at (λ s answer. answer ≡ shown_of s c.args.row) c.in-Err.field-0 c.in-Err.ensures)

@@ -1,0 +1,47 @@
+-- What is told of a request, after a call of the desk and the sending of an answer.
+use Rattle.std.proofs.Common.{◌≡◌, inl, ℕ, List, Option, IsTrue, Result, Ok, Err, refl, sym, subst}
+use Rattle.std.proofs.lemmas.Bool.{both_ways}
+use Rattle.sqlite_trees.specs.declared.store.Store.{Ghosts}
+use Rattle.sqlite.specs.State.{HasCleanDisk}
+use Rattle.bike_operator.specs.Operator.{Operator}
+use Rattle.bike_schema.specs.Stands.{AllLeft}
+use Rattle.bike_incoming.specs.declared.asked.Asked.{Asked}
+use Rattle.bike_answers.specs.declared.answer.Answer.{Answer}
+use Rattle.bike_feeds.specs.DeskFault.{DeskFault}
+use Rattle.bike_feeds.specs.DeskFault.TheVariants.{NoMemory, StoreFailed, Stopped}
+use Rattle.bike_feeds.specs.Desk.{DeskValue, shown, IsAt, TreesStandForEither}
+use Rattle.bike_feeds.specs.Queries.{Queries}
+use Rattle.bike_http.specs.Exchange.{Response, answered, response_of, operator_after}
+use Rattle.bike_http.specs.Telling.{IsUndone, Tells, SendsAnswer, Responds}
+use Rattle.bike_http.specs.declared.respond.SendFault.{SendFault}
+use Rattle.bike_http.specs.declared.respond.SendFault.TheVariants as fault
+
+module _ {S : Type 0} (g : Ghosts S) (d : DeskValue S) (s next : Operator) where
+  pub at_first : IsAt g d s → IsUndone g d s next
+  at_first at = record { goes_on = λ going. at; left = λ db h. inl (at.keeps.left db h) }
+
+  pub responds : (response : Response) (a : Answer) (before after : Option (List ℕ)) (r : Result ℕ SendFault) → Tells g d s response next (answered a)
+      → SendsAnswer before after a r → Responds g d s response next before after r
+  responds response a before after (Ok status) told h = (answered a, told, h.0, h.1)
+  responds response a before after (Err fault.Write) told h = (answered a, told, h)
+  responds response a before after (Err fault.Cut) told h = absurd h
+
+module _ {S : Type 0} (g : Ghosts S) (old new : DeskValue S) (s next : Operator) (clean : HasCleanDisk (shown g new)) (at : IsAt g old s) where
+  -- a request failed
+  pub act_undone : (e : DeskFault) → (e ≡ NoMemory → new ≡ old) → (e ≡ StoreFailed → AllLeft (shown g new) (TreesStandForEither s next))
+      → (e ≡ StoreFailed → IsTrue new.is_stopped) → (e ≡ Stopped → IsTrue old.is_stopped) → IsUndone g new s next
+  act_undone NoMemory same failed stops stopped = at_first g new s next (subst (λ (d : DeskValue S). IsAt g d s) (sym (same refl)) at)
+  act_undone StoreFailed same failed stops stopped = record { goes_on = λ going. absurd (both_ways new.is_stopped going (stops refl)); left = failed refl }
+  act_undone Stopped same failed stops stopped = absurd (both_ways old.is_stopped at.goes_on (stopped refl))
+
+  -- a query failed
+  pub query_undone : {A : Type 0} (says : Operator → A → Type 0) (e : DeskFault) → Queries g old new {A = A} (Err e) says → IsUndone g new s next
+  query_undone says NoMemory q = at_first g new s next (subst (λ (d : DeskValue S). IsAt g d s) (sym (q.no_memory refl)) at)
+  query_undone says StoreFailed q =
+      record { goes_on = λ going. absurd (both_ways new.is_stopped going (q.stops refl)); left = λ db h. inl (at.keeps.left db (q.left clean s at db h)) }
+  query_undone says Stopped q = absurd (both_ways old.is_stopped at.goes_on (q.stopped refl))
+
+-- what is told of a request is told of what was asked
+pub responds_to : {S : Type 0} (g : Ghosts S) (d : DeskValue S) (s : Operator) (t : ℕ) (asked a : Asked) (before after : Option (List ℕ)) (r : Result ℕ SendFault) → asked ≡ a
+    → Responds g d s (response_of s t a) (operator_after s t a) before after r → Responds g d s (response_of s t asked) (operator_after s t asked) before after r
+responds_to g d s t asked a before after r is h = subst (λ (x : Asked). Responds g d s (response_of s t x) (operator_after s t x) before after r) (sym is) h

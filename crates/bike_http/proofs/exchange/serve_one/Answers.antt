@@ -1,0 +1,51 @@
+use Rattle.std.proofs.Common.{◌∙◌, IfSome, Option, Result, sym, subst}
+use Rattle.bike_incoming.specs.declared.asked.Asked.{Asked}
+use Rattle.bike_incoming.specs.Received.{Received}
+use Rattle.bike_http.specs.Telling.{Serves, Rests, Refuses}
+use Rattle.bike_http.specs.declared.exchange.Served.{Served}
+use Rattle.bike_http.specs.declared.exchange.ServeFault.{ServeFault}
+use Rattle.bike_http.proofs.Ends.{serves, is_done, refuses, never_done, rests, stopped_refuses, stopped_unread}
+use Rattle.bike_http.proofs.exchange.serve_one.Goals as goal
+
+pub returns-in-Ok-Some-clause-served : goal.returns-in-Ok-Some-clause-served
+returns-in-Ok-Some-clause-served g c clean s at =
+    let received = subst (λ (o : Option Asked). IfSome (g.R.Read.remaining c.args.reader.now) (λ bytes. Received bytes o)) c.in-Ok-Some.field-0-is c.in-Ok-Some.ensures in
+    let d = c.respond.new.desk in
+    subst (λ (r : Result Served ServeFault). Serves g.S.Store d s c.args.moment (g.R.Read.remaining c.args.reader.now) (g.W.Write.contents c.args.writer.now) (g.W.Write.contents c.respond.new.writer) r)
+    (sym c.ended.ensures) (serves g.S.Store c.respond.new.desk s c.args.moment _ _ _ c.in-Ok-Some.asked received c.respond.result (c.respond.ensures.sent clean s at))
+
+pub returns-in-Ok-Some-clause-done : goal.returns-in-Ok-Some-clause-done
+returns-in-Ok-Some-clause-done g c clean s at is =
+    let received = subst (λ (o : Option Asked). IfSome (g.R.Read.remaining c.args.reader.now) (λ bytes. Received bytes o)) c.in-Ok-Some.field-0-is c.in-Ok-Some.ensures in
+    is_done g.S.Store c.respond.new.desk s c.args.moment _ _ _ c.in-Ok-Some.asked received c.respond.result (c.respond.ensures.sent clean s at) (sym c.ended.ensures ∙ is)
+
+pub returns-in-Ok-Some-clause-rests : goal.returns-in-Ok-Some-clause-rests
+returns-in-Ok-Some-clause-rests g c =
+    subst (λ (r : Result Served ServeFault). Rests c.args.desk.now c.respond.new.desk (g.W.Write.contents c.args.writer.now) (g.W.Write.contents c.respond.new.writer) r)
+    (sym c.ended.ensures) (rests _ _ _ _ c.respond.result)
+
+pub returns-in-Err-NoMemory-clause-served : goal.returns-in-Err-NoMemory-clause-served
+returns-in-Err-NoMemory-clause-served g c clean s at =
+    let d = c.args.desk.now in
+    subst (λ (r : Result Served ServeFault). Serves g.S.Store d s c.args.moment (g.R.Read.remaining c.args.reader.now) (g.W.Write.contents c.args.writer.now) (g.W.Write.contents c.send.new.writer) r)
+    (sym c.ended-in-Err-NoMemory.ensures) (refuses g.S.Store d s c.args.moment _ _ _ c.send.result at c.send.ensures)
+
+pub returns-in-Err-NoMemory-clause-done : goal.returns-in-Err-NoMemory-clause-done
+returns-in-Err-NoMemory-clause-done g c clean s at is =
+    never_done g.S.Store c.args.desk.now s c.args.moment _ _ _ c.send.result c.send.ensures (sym c.ended-in-Err-NoMemory.ensures ∙ is)
+
+pub returns-in-Err-NoMemory-clause-rests : goal.returns-in-Err-NoMemory-clause-rests
+returns-in-Err-NoMemory-clause-rests g c =
+    subst (λ (r : Result Served ServeFault). Rests c.args.desk.now c.args.desk.now (g.W.Write.contents c.args.writer.now) (g.W.Write.contents c.send.new.writer) r)
+    (sym c.ended-in-Err-NoMemory.ensures) (rests _ _ _ _ c.send.result)
+
+pub returns-in-Ok-Some-clause-refuses : goal.returns-in-Ok-Some-clause-refuses
+returns-in-Ok-Some-clause-refuses g c stopped =
+    let received = subst (λ (o : Option Asked). IfSome (g.R.Read.remaining c.args.reader.now) (λ bytes. Received bytes o)) c.in-Ok-Some.field-0-is c.in-Ok-Some.ensures in
+    subst (λ (r : Result Served ServeFault). Refuses (g.R.Read.remaining c.args.reader.now) (g.W.Write.contents c.args.writer.now) (g.W.Write.contents c.respond.new.writer) r)
+    (sym c.ended.ensures) (stopped_refuses _ _ _ c.in-Ok-Some.asked received c.respond.result (c.respond.ensures.refuses stopped))
+
+pub returns-in-Err-NoMemory-clause-refuses : goal.returns-in-Err-NoMemory-clause-refuses
+returns-in-Err-NoMemory-clause-refuses g c stopped =
+    subst (λ (r : Result Served ServeFault). Refuses (g.R.Read.remaining c.args.reader.now) (g.W.Write.contents c.args.writer.now) (g.W.Write.contents c.send.new.writer) r)
+    (sym c.ended-in-Err-NoMemory.ensures) (stopped_unread _ _ _ c.send.result c.send.ensures)

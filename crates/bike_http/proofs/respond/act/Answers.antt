@@ -1,0 +1,13 @@
+use Rattle.std.proofs.Common.{Err, inr, refl, ap}
+use Rattle.bike_feeds.specs.DeskFault.{DeskFault}
+use Rattle.bike_http.proofs.Told.{act_undone}
+use Rattle.bike_http.proofs.respond.act.Goals as goal
+
+pub returns-in-Err-clause-told : goal.returns-in-Err-clause-told
+returns-in-Err-clause-told g c clean s at =
+    let h = c.in-Err.ensures in
+    inr (
+      refl,
+      act_undone g.S.Store c.args.desk.now c.apply.new.self s _ clean at c.in-Err.field-0 (λ e. h.no_memory (ap (λ (x : DeskFault). Err x) e))
+          (λ e. h.store_failed clean s at (ap (λ (x : DeskFault). Err x) e)) (λ e. h.stops (ap (λ (x : DeskFault). Err x) e)) (λ e. h.stopped (ap (λ (x : DeskFault). Err x) e)),
+    )

@@ -1,0 +1,61 @@
+-- What an input is answered, and the operator after it.
+use Rattle.std.specs.Prelude.{◌≡◌, ℕ, List, ◌++◌, length, Option, Some, None, IfSome}
+use Rattle.bike_catalogue.specs.Rows.{SystemRow}
+use Rattle.bike_operator.specs.Operator.{Operator}
+use Rattle.bike_operator.specs.Runs.{step}
+use Rattle.bike_feed_texts.specs.declared.feed.Feed.{Feed}
+use Rattle.bike_feeds.specs.Publishing.{feed_text}
+use Rattle.bike_incoming.specs.declared.asked.Asked.{Asked}
+use Rattle.bike_incoming.specs.declared.asked.Asked.TheVariants.{Reject, Apply, Show, Publish}
+use Rattle.bike_incoming.specs.Received.{Received}
+use Rattle.bike_answers.specs.declared.answer.Answer.{Answer}
+use Rattle.bike_answers.specs.declared.answer.Answer.TheVariants as answer
+use Rattle.bike_answers.specs.Head.{head_text}
+use Rattle.bike_answers.specs.Sent.{answer_text}
+use Rattle.bike_answers.specs.Status.{status_of}
+use Rattle.bike_http.specs.Shown.{not_found, shown_of}
+
+-- what is sent: an answer, or a feed of that text
+pub data Response : Type 0 where
+  answered : Answer → Response
+  published : List ℕ → Response
+
+-- an operator without a system has no feed
+abbrev pub feed_response : Operator → ℕ → Feed → Option SystemRow → Response
+feed_response s t feed None = answered not_found
+feed_response s t feed (Some x) = published (feed_text s x feed t)
+
+-- THE TABLE: the response to what is asked of an operator at a moment ..
+abbrev pub response_of : Operator → ℕ → Asked → Response
+response_of s t (Reject rejection) = answered (answer.Rejected rejection)
+response_of s t (Apply q) = answered (answer.Replied (step s t q).0)
+response_of s t (Show row) = answered (shown_of s row)
+response_of s t (Publish feed) = feed_response s t feed s.system
+
+-- .. and the operator after it
+abbrev pub operator_after : Operator → ℕ → Asked → Operator
+operator_after s t (Reject rejection) = s
+operator_after s t (Apply q) = (step s t q).1
+operator_after s t (Show row) = s
+operator_after s t (Publish feed) = s
+
+-- the head of a feed of that text
+abbrev pub feed_head : List ℕ → List ℕ
+feed_head text = head_text 200 None (length text)
+
+-- the bytes of a response, and its status
+abbrev pub bytes_of : Response → List ℕ
+bytes_of (answered a) = answer_text a
+bytes_of (published text) = feed_head text ++ text
+
+abbrev pub response_status : Response → ℕ
+response_status (answered a) = status_of a
+response_status (published text) = 200
+
+-- WHAT AN INPUT ASKS OF AN OPERATOR at a moment: its response, and the operator after it. An input that isn't known asks for
+-- something.
+pub record Answers (input : Option (List ℕ)) (s : Operator) (t : ℕ) (response : Response) (next : Operator) : Type 0 where
+  pub asked : Asked
+  pub received : IfSome input (λ bytes. Received bytes (Some asked))
+  pub gives : response ≡ response_of s t asked
+  pub leads : next ≡ operator_after s t asked

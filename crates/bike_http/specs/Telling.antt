@@ -1,0 +1,114 @@
+-- What is told of a request, and where the desk is then.
+use Rattle.std.specs.Prelude.{◌≡◌, ◌⊎◌, ℕ, ◌<◌, List, [], ◌++◌, length, take, false, Option, Some, IfSome, Result, Ok, Err}
+use Rattle.std.specs.Io.KnownBytes.{Appends, Keeps}
+use Rattle.sqlite_trees.specs.declared.store.Store.{Ghosts}
+use Rattle.bike_stream.specs.Writing.{AppendsFront}
+use Rattle.bike_operator.specs.Operator.{Operator}
+use Rattle.bike_schema.specs.Stands.{AllLeft}
+use Rattle.bike_feeds.specs.Desk.{DeskValue, shown, IsAt, TreesStandForEither}
+use Rattle.bike_incoming.specs.declared.asked.Asked.{Asked}
+use Rattle.bike_incoming.specs.declared.asked.Asked.TheVariants.{Reject, Apply, Show, Publish}
+use Rattle.bike_incoming.specs.Received.{Received}
+use Rattle.bike_answers.specs.declared.answer.Answer.{Answer}
+use Rattle.bike_answers.specs.declared.answer.Answer.TheVariants as answer
+use Rattle.bike_answers.specs.Sent.{answer_text, Sends}
+use Rattle.bike_http.specs.Exchange.{Response, answered, published, bytes_of, feed_head, response_status, Answers}
+use Rattle.bike_http.specs.declared.respond.SendFault.{SendFault}
+use Rattle.bike_http.specs.declared.respond.SendFault.TheVariants as fault
+use Rattle.bike_http.specs.declared.exchange.Served.{Served}
+use Rattle.bike_http.specs.declared.exchange.Served.TheVariants.{Empty, Status}
+use Rattle.bike_http.specs.declared.exchange.ServeFault.{ServeFault}
+use Rattle.bike_http.specs.declared.exchange.ServeFault.TheVariants.{Read, Write, Cut}
+
+-- ---- the desk
+
+-- A request failed: the desk goes on at the operator before it, or it is stopped, and a crash leaves him or the one after it.
+pub record IsUndone {S : Type 0} (g : Ghosts S) (d : DeskValue S) (s next : Operator) : Type 0 where
+  pub goes_on : d.is_stopped ≡ false → IsAt g d s
+  pub left : AllLeft (shown g d) (TreesStandForEither s next)
+
+abbrev pub unavailable : Response
+unavailable = answered answer.Unavailable
+
+-- WHAT IS TOLD: the response, and the desk is at the operator after the request; or that there is no answer now
+abbrev pub Tells : {S : Type 0} → Ghosts S → DeskValue S → Operator → Response → Operator → Response → Type 0
+Tells g d s response next sent = ((sent ≡ response) × IsAt g d next) ⊎ ((sent ≡ unavailable) × IsUndone g d s next)
+
+-- the same of an input; where memory was refused while it was read, the desk is asked nothing
+abbrev pub TellsFor : {S : Type 0} → Ghosts S → DeskValue S → Operator → ℕ → Option (List ℕ) → Response → Type 0
+TellsFor g d s t input sent =
+    ((sent ≡ unavailable) × IsAt g d s)
+    ⊎ ((response : Response) × (next : Operator) × Answers input s t response next × Tells g d s response next sent)
+
+-- the input asks for something, and the desk is at the operator after it
+abbrev pub IsDone : {S : Type 0} → Ghosts S → DeskValue S → Operator → ℕ → Option (List ℕ) → Type 0
+IsDone g d s t input = (response : Response) × (next : Operator) × Answers input s t response next × IsAt g d next
+
+-- ---- the bytes
+
+-- the head of a feed was written, and of its text a front, and not all
+abbrev pub IsCut : Option (List ℕ) → Option (List ℕ) → List ℕ → Type 0
+IsCut before after text = (k : ℕ) × (k < length text) × Appends before after (feed_head text ++ take k text)
+
+-- how the sending of an answer ends
+abbrev pub SendsAnswer : Option (List ℕ) → Option (List ℕ) → Answer → Result ℕ SendFault → Type 0
+SendsAnswer before after a (Ok status) = Sends before after a status
+SendsAnswer before after a (Err fault.Write) = AppendsFront before after (answer_text a)
+SendsAnswer before after a (Err fault.Cut) = ⊥
+
+-- how the sending of a response ends
+abbrev pub Responds : {S : Type 0} → Ghosts S → DeskValue S → Operator → Response → Operator → Option (List ℕ) → Option (List ℕ)
+    → Result ℕ SendFault → Type 0
+Responds g d s response next before after (Ok status) =
+    (sent : Response) × Tells g d s response next sent × (status ≡ response_status sent) × Appends before after (bytes_of sent)
+Responds g d s response next before after (Err fault.Write) =
+    (sent : Response) × Tells g d s response next sent × AppendsFront before after (bytes_of sent)
+Responds g d s response next before after (Err fault.Cut) = (text : List ℕ) × (response ≡ published text) × IsCut before after text × IsUndone g d s s
+
+-- ---- the exchange
+
+-- how it ends, as the sending of its response ended
+abbrev pub ended : Result ℕ SendFault → Result Served ServeFault
+ended (Ok status) = Ok (Status status)
+ended (Err fault.Write) = Err Write
+ended (Err fault.Cut) = Err Cut
+
+-- HOW AN EXCHANGE ENDS over an input
+abbrev pub Serves : {S : Type 0} → Ghosts S → DeskValue S → Operator → ℕ → Option (List ℕ) → Option (List ℕ) → Option (List ℕ)
+    → Result Served ServeFault → Type 0
+Serves g d s t input before after (Ok Empty) = IfSome input (λ bytes. bytes ≡ [])
+Serves g d s t input before after (Ok (Status status)) =
+    (sent : Response) × TellsFor g d s t input sent × (status ≡ response_status sent) × Appends before after (bytes_of sent)
+Serves g d s t input before after (Err Read) = Unit {0}
+Serves g d s t input before after (Err Write) = (sent : Response) × TellsFor g d s t input sent × AppendsFront before after (bytes_of sent)
+Serves g d s t input before after (Err Cut) =
+    (text : List ℕ) × (next : Operator) × Answers input s t (published text) next × IsCut before after text × IsUndone g d s s
+
+-- nothing was asked of the desk, and nothing was written, where the input is empty or a read failed
+abbrev pub Rests : {S : Type 0} → DeskValue S → DeskValue S → Option (List ℕ) → Option (List ℕ) → Result Served ServeFault → Type 0
+Rests old new before after (Ok Empty) = (new ≡ old) × Keeps before after
+Rests old new before after (Ok (Status status)) = Unit {0}
+Rests old new before after (Err Read) = (new ≡ old) × Keeps before after
+Rests old new before after (Err Write) = Unit {0}
+Rests old new before after (Err Cut) = Unit {0}
+
+-- ---- a stopped desk
+
+-- what is sent where a stopped desk is asked: an input that asks for nothing is rejected as ever, and all else has no answer now
+abbrev pub refusal_of : Asked → Answer
+refusal_of (Reject rejection) = answer.Rejected rejection
+refusal_of (Apply q) = answer.Unavailable
+refusal_of (Show row) = answer.Unavailable
+refusal_of (Publish named) = answer.Unavailable
+
+-- the same of an input; where memory was refused while it was read, there is no answer now
+abbrev pub RefusesWith : Option (List ℕ) → Answer → Type 0
+RefusesWith input a = (a ≡ answer.Unavailable) ⊎ ((asked : Asked) × IfSome input (λ bytes. Received bytes (Some asked)) × (a ≡ refusal_of asked))
+
+-- HOW AN EXCHANGE WITH A STOPPED DESK ENDS over an input
+abbrev pub Refuses : Option (List ℕ) → Option (List ℕ) → Option (List ℕ) → Result Served ServeFault → Type 0
+Refuses input before after (Ok Empty) = IfSome input (λ bytes. bytes ≡ [])
+Refuses input before after (Ok (Status status)) = (a : Answer) × RefusesWith input a × Sends before after a status
+Refuses input before after (Err Read) = Unit {0}
+Refuses input before after (Err Write) = (a : Answer) × RefusesWith input a × AppendsFront before after (answer_text a)
+Refuses input before after (Err Cut) = ⊥

@@ -1,0 +1,86 @@
+//! One exchange.
+
+ghost use Rattle.std.specs.Prelude.{◌≡◌, ◌≤◌, IsTrue, Ok};
+ghost use Rattle.sqlite.specs.State.{HasCleanDisk};
+ghost use Rattle.sqlite_trees.specs.View.{doubt};
+ghost use Rattle.bike_operator.specs.Operator.{Operator};
+ghost use Rattle.bike_feeds.specs.Desk.{shown, IsAt};
+ghost use Rattle.bike_http.specs.Telling.{ended, Serves, Rests, Refuses, IsDone};
+
+use crate::respond::{SendFault, respond, send};
+use bike_answers::Answer;
+use bike_feeds::Desk;
+use bike_fixed::Moment;
+use bike_heads::Routes;
+use bike_incoming::{ReceiveFault, receive};
+use sqlite::Alter;
+use std::alloc::Global;
+use std::io::{Read, Write};
+use thiserror::Error;
+
+/// How an exchange ended whose answer was written.
+#[derive(Clone, Copy, Debug, PartialEq, Eq)]
+pub enum Served {
+    /// The input has no byte, and nothing was written.
+    Empty,
+    /// An answer of this status was written whole.
+    Status(u16),
+}
+
+/// Why an exchange has no answer, or only a front of one.
+#[derive(Clone, Copy, Debug, PartialEq, Eq, Error)]
+pub enum ServeFault {
+    /// The input failed, or more reads than 20,000 were needed; nothing was written.
+    #[error("read failed")]
+    Read,
+    /// A write failed before the answer was whole.
+    #[error("write failed")]
+    Write,
+    /// A feed's head and a front of its body were written, then the desk failed.
+    #[error("feed cut off")]
+    Cut,
+}
+
+/// How an exchange ends, as the sending of its response ended.
+fn ended(sent: Result<u16, SendFault>) -> Result<Served, ServeFault>
+    ensures { result ≡ ended sent }
+{
+    match sent {
+        Ok(status) => Ok(Served::Status(status)),
+        Err(SendFault::Write) => Err(ServeFault::Write),
+        Err(SendFault::Cut) => Err(ServeFault::Cut),
+    }
+}
+
+/// Serves one exchange: reads what the input asks for, asks the desk once, and writes the response.
+///
+/// The answer is 503 where memory is refused or the desk fails before the response's head; the desk then goes on at the operator
+/// before the request, or it is stopped and a crash leaves him or the one after it. `Read` comes where a read fails or more
+/// than 20,000 are needed, and then nothing is asked of the desk; `Write` where a write fails, after a front of the response or of
+/// the 503; `Cut` where the desk fails behind a feed's head. A stopped desk stays as it is: what asks for nothing is rejected as ever,
+/// and all else is answered 503.
+pub fn serve_one<S: Alter, R: Read, W: Write>(
+    alloc: Global,
+    desk: &mut Desk<S>,
+    routes: &Routes,
+    moment: Moment,
+    reader: &mut R,
+    writer: &mut W,
+) -> Result<Served, ServeFault>
+    ensures clean { doubt (shown S.Store desk.old).is_clean ≤ doubt (shown S.Store desk.new).is_clean }
+    ensures served { HasCleanDisk (shown S.Store desk.new) → (s : Operator) → IsAt S.Store desk.old s
+        → Serves S.Store desk.new s moment (R.remaining reader.old) (W.contents writer.old) (W.contents writer.new) result }
+    ensures done { HasCleanDisk (shown S.Store desk.new) → (s : Operator) → IsAt S.Store desk.old s
+        → result ≡ Ok (Served.Status 200) → IsDone S.Store desk.new s moment (R.remaining reader.old) }
+    ensures rests { Rests desk.old desk.new (W.contents writer.old) (W.contents writer.new) result }
+    ensures stays { IsTrue desk.old.is_stopped → desk.new ≡ desk.old }
+    ensures refuses { IsTrue desk.old.is_stopped
+        → Refuses (R.remaining reader.old) (W.contents writer.old) (W.contents writer.new) result }
+{
+    match receive(alloc, routes, reader) {
+        Ok(None) => Ok(Served::Empty),
+        Ok(Some(asked)) => ended(respond(alloc, desk, moment, asked, writer)),
+        Err(ReceiveFault::NoMemory) => ended(send(writer, &Answer::Unavailable)),
+        Err(ReceiveFault::Read) => Err(ServeFault::Read),
+    }
+}

@@ -1,0 +1,159 @@
+//! Asking the desk, and sending the response.
+
+ghost use Rattle.std.specs.Prelude.{◌≡◌, ◌≤◌, IsTrue};
+ghost use Rattle.sqlite.specs.State.{HasCleanDisk};
+ghost use Rattle.sqlite_trees.specs.View.{doubt};
+ghost use Rattle.bike_operator.specs.Operator.{Operator};
+ghost use Rattle.bike_operator.specs.Runs.{step};
+ghost use Rattle.bike_feeds.specs.Desk.{shown, IsAt};
+ghost use Rattle.bike_feeds.specs.Queries.{Queries};
+ghost use Rattle.bike_feeds.specs.Publishing.{IsLength};
+ghost use Rattle.bike_http.specs.Shown.{shown_of};
+ghost use Rattle.bike_http.specs.Exchange.{answered, feed_response, response_of, operator_after};
+ghost use Rattle.bike_http.specs.Telling.{Tells, SendsAnswer, Responds, refusal_of};
+
+use crate::rows::{bike_answer, order_answer, rental_answer, rider_answer};
+use bike_answers::{Answer, head_text, write_answer};
+use bike_commands::Request;
+use bike_feed_texts::Feed;
+use bike_feeds::{Desk, DeskFault, FeedFault, feed_length, write_feed};
+use bike_fixed::Moment;
+use bike_heads::{Rejection, Shown};
+use bike_incoming::Asked;
+use bike_stream::write_whole;
+use sqlite::Alter;
+use std::alloc::Global;
+use std::io::Write;
+
+/// Why a response wasn't sent whole.
+#[derive(Clone, Copy, Debug, PartialEq, Eq)]
+pub(crate) enum SendFault {
+    /// A write failed.
+    Write,
+    /// The desk failed behind a feed's head.
+    Cut,
+}
+
+/// Sends an answer.
+pub(crate) fn send<W: Write>(writer: &mut W, answer: &Answer) -> Result<u16, SendFault>
+    ensures { SendsAnswer (W.contents writer.old) (W.contents writer.new) answer.now result }
+{
+    match write_answer(writer, answer) {
+        Ok(status) => Ok(status),
+        Err(_) => Err(SendFault::Write),
+    }
+}
+
+/// Asks the desk to act.
+fn act<S: Alter>(alloc: Global, desk: &mut Desk<S>, moment: Moment, request: &Request) -> Answer
+    ensures clean { doubt (shown S.Store desk.old).is_clean ≤ doubt (shown S.Store desk.new).is_clean }
+    ensures told { HasCleanDisk (shown S.Store desk.new) → (s : Operator) → IsAt S.Store desk.old s
+        → Tells S.Store desk.new s (answered (Answer.Replied (step s moment request.now).0)) (step s moment request.now).1 (answered result) }
+    ensures stays { IsTrue desk.old.is_stopped → desk.new ≡ desk.old }
+    ensures refuses { IsTrue desk.old.is_stopped → result ≡ Answer.Unavailable }
+{
+    match desk.apply(alloc, moment, request) {
+        Ok(reply) => Answer::Replied(reply),
+        Err(_) => Answer::Unavailable,
+    }
+}
+
+/// Asks the desk for a row.
+fn find_row<S: Alter>(alloc: Global, desk: &mut Desk<S>, row: Shown) -> Result<Answer, DeskFault>
+    ensures { Queries S.Store desk.old desk.new result (λ s answer. answer ≡ shown_of s row) }
+{
+    match row {
+        Shown::Rider(rider) => Ok(rider_answer(rider, desk.rider(rider)?)),
+        Shown::Bike(bike) => Ok(bike_answer(bike, desk.bike(alloc, bike)?)),
+        Shown::Rental(rental) => Ok(rental_answer(rental, desk.rental(alloc, rental)?)),
+        Shown::Order(order) => Ok(order_answer(order, desk.order(alloc, order)?)),
+    }
+}
+
+/// Asks the desk to show a row.
+fn show<S: Alter>(alloc: Global, desk: &mut Desk<S>, row: Shown) -> Answer
+    ensures clean { doubt (shown S.Store desk.old).is_clean ≤ doubt (shown S.Store desk.new).is_clean }
+    ensures told { HasCleanDisk (shown S.Store desk.new) → (s : Operator) → IsAt S.Store desk.old s
+        → Tells S.Store desk.new s (answered (shown_of s row)) s (answered result) }
+    ensures stays { IsTrue desk.old.is_stopped → desk.new ≡ desk.old }
+    ensures refuses { IsTrue desk.old.is_stopped → result ≡ Answer.Unavailable }
+{
+    match find_row(alloc, desk, row) {
+        Ok(answer) => answer,
+        Err(_) => Answer::Unavailable,
+    }
+}
+
+/// Publishes a feed whose length is known.
+fn publish_whole<S: Alter, W: Write>(
+    alloc: Global,
+    desk: &mut Desk<S>,
+    feed: Feed,
+    length: u64,
+    moment: Moment,
+    writer: &mut W,
+) -> Result<u16, SendFault>
+    ensures clean { doubt (shown S.Store desk.old).is_clean ≤ doubt (shown S.Store desk.new).is_clean }
+    ensures sent { HasCleanDisk (shown S.Store desk.new) → (s : Operator) → IsAt S.Store desk.old s → IsLength s feed moment length
+        → Responds S.Store desk.new s (feed_response s moment feed s.system) s (W.contents writer.old) (W.contents writer.new) result }
+    ensures stays { IsTrue desk.old.is_stopped → desk.new ≡ desk.old }
+{
+    let head = head_text(200, None, length);
+    if write_whole(writer, head.as_str().as_bytes()).is_err() {
+        return Err(SendFault::Write);
+    }
+    match write_feed(alloc, desk, feed, moment, writer) {
+        Ok(()) => Ok(200),
+        Err(FeedFault::Write) => Err(SendFault::Write),
+        Err(_) => Err(SendFault::Cut),
+    }
+}
+
+/// Publishes a feed: its length is counted first, for the head.
+fn publish<S: Alter, W: Write>(
+    alloc: Global,
+    desk: &mut Desk<S>,
+    feed: Feed,
+    moment: Moment,
+    writer: &mut W,
+) -> Result<u16, SendFault>
+    ensures clean { doubt (shown S.Store desk.old).is_clean ≤ doubt (shown S.Store desk.new).is_clean }
+    ensures sent { HasCleanDisk (shown S.Store desk.new) → (s : Operator) → IsAt S.Store desk.old s
+        → Responds S.Store desk.new s (feed_response s moment feed s.system) s (W.contents writer.old) (W.contents writer.new) result }
+    ensures stays { IsTrue desk.old.is_stopped → desk.new ≡ desk.old }
+    ensures refuses { IsTrue desk.old.is_stopped → SendsAnswer (W.contents writer.old) (W.contents writer.new) Answer.Unavailable result }
+{
+    match feed_length(alloc, desk, feed, moment) {
+        Ok(length) => publish_whole(alloc, desk, feed, length, moment, writer),
+        Err(FeedFault::SystemMissing) => send(writer, &Answer::Rejected(Rejection::NotFound)),
+        Err(_) => send(writer, &Answer::Unavailable),
+    }
+}
+
+/// Asks the desk, and sends the response.
+pub(crate) fn respond<S: Alter, W: Write>(
+    alloc: Global,
+    desk: &mut Desk<S>,
+    moment: Moment,
+    asked: Asked,
+    writer: &mut W,
+) -> Result<u16, SendFault>
+    ensures clean { doubt (shown S.Store desk.old).is_clean ≤ doubt (shown S.Store desk.new).is_clean }
+    ensures sent { HasCleanDisk (shown S.Store desk.new) → (s : Operator) → IsAt S.Store desk.old s
+        → Responds S.Store desk.new s (response_of s moment asked) (operator_after s moment asked) (W.contents writer.old) (W.contents writer.new) result }
+    ensures stays { IsTrue desk.old.is_stopped → desk.new ≡ desk.old }
+    ensures refuses { IsTrue desk.old.is_stopped → SendsAnswer (W.contents writer.old) (W.contents writer.new) (refusal_of asked) result }
+{
+    match asked {
+        Asked::Reject(rejection) => send(writer, &Answer::Rejected(rejection)),
+        Asked::Apply(request) => {
+            let answer = act(alloc, desk, moment, &request);
+            send(writer, &answer)
+        }
+        Asked::Show(row) => {
+            let answer = show(alloc, desk, row);
+            send(writer, &answer)
+        }
+        Asked::Publish(feed) => publish(alloc, desk, feed, moment, writer),
+    }
+}

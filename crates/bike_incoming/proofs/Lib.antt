@@ -1,0 +1,4 @@
+pub mod Once
+pub mod Receiving
+pub mod Spelled
+pub mod Objects

@@ -1,0 +1,4 @@
+pub mod Members
+pub mod Bodies
+pub mod Asked
+pub mod Received

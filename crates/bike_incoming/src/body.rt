@@ -1,0 +1,180 @@
+//! The request that a body makes, by what its path asks for.
+
+ghost use Rattle.std.specs.Prelude.{◌≡◌, ◌==◌, IfOk};
+ghost use Rattle.std.specs.List.{slice_split};
+ghost use Rattle.bike_requests.specs.Readers.{command_at};
+ghost use Rattle.serde_json.specs.View.{view};
+ghost use Rattle.bike_incoming.specs.Bodies.{start_of, end_of, mark_dock_of, mark_bike_of, load_of, unload_of, office_command, command_of, caller_of, request_of};
+
+use crate::members::{choice_in, ident_in, key_in, number_in, side_in, text_in};
+use bike_commands::{Command, Request};
+use bike_fields::{Caller, Ident, RiderNumber, TruckNumber};
+use bike_heads::Action;
+use bike_requests::read_command;
+use serde_json::Value;
+use std::alloc::{AllocError, Global};
+
+#[tactic(auto, unfolding(crate::specs::Bodies::start_of))]
+fn read_start(
+    alloc: Global,
+    rider: RiderNumber,
+    body: &Value,
+) -> Result<Option<Command>, AllocError>
+    ensures { IfOk result (λ o. o ≡ start_of rider (view body.now)) }
+{
+    let Some(station) = ident_in(alloc, body, "station")? else {
+        return Ok(None);
+    };
+    let Some(dock) = number_in(body, "dock") else {
+        return Ok(None);
+    };
+    Ok(Some(Command::Start {
+        rider,
+        station,
+        dock,
+    }))
+}
+
+#[tactic(auto, unfolding(crate::specs::Bodies::end_of))]
+fn read_end(alloc: Global, station: &Ident, body: &Value) -> Result<Option<Command>, AllocError>
+    ensures { IfOk result (λ o. o ≡ end_of station.now (view body.now)) }
+{
+    let Some(bike) = number_in(body, "bike") else {
+        return Ok(None);
+    };
+    let Some(dock) = number_in(body, "dock") else {
+        return Ok(None);
+    };
+    Ok(Some(Command::End {
+        bike,
+        station: station.try_clone(alloc)?,
+        dock,
+    }))
+}
+
+#[tactic(auto, unfolding(crate::specs::Bodies::mark_dock_of))]
+fn read_mark_dock(
+    alloc: Global,
+    station: &Ident,
+    body: &Value,
+) -> Result<Option<Command>, AllocError>
+    ensures { IfOk result (λ o. o ≡ mark_dock_of station.now (view body.now)) }
+{
+    let Some(dock) = number_in(body, "dock") else {
+        return Ok(None);
+    };
+    let Some(broken) = choice_in(body, "state", "broken", "working") else {
+        return Ok(None);
+    };
+    Ok(Some(Command::MarkDock {
+        station: station.try_clone(alloc)?,
+        dock,
+        broken,
+    }))
+}
+
+#[tactic(auto, unfolding(crate::specs::Bodies::mark_bike_of))]
+fn read_mark_bike(body: &Value) -> Option<Command>
+    ensures { result ≡ mark_bike_of (view body.now) }
+{
+    let bike = number_in(body, "bike")?;
+    let disabled = choice_in(body, "state", "disabled", "fit")?;
+    Some(Command::MarkBike { bike, disabled })
+}
+
+#[tactic(auto, unfolding(crate::specs::Bodies::load_of))]
+fn read_load(truck: TruckNumber, body: &Value) -> Option<Command>
+    ensures { result ≡ load_of truck (view body.now) }
+{
+    let order = number_in(body, "order")?;
+    let bike = number_in(body, "bike")?;
+    Some(Command::Load { truck, order, bike })
+}
+
+#[tactic(auto, unfolding(crate::specs::Bodies::unload_of))]
+fn read_unload(truck: TruckNumber, body: &Value) -> Option<Command>
+    ensures { result ≡ unload_of truck (view body.now) }
+{
+    let order = number_in(body, "order")?;
+    let bike = number_in(body, "bike")?;
+    let side = side_in(body, "side")?;
+    let dock = number_in(body, "dock")?;
+    Some(Command::Unload {
+        truck,
+        order,
+        bike,
+        side,
+        dock,
+    })
+}
+
+/// The command that the text spells.
+fn read_spelled(alloc: Global, text: &str) -> Result<Option<Command>, AllocError>
+    ensures { IfOk result (λ o. o ≡ command_at (slice_split (λ b. b == 9) text.now)) }
+{
+    read_command(alloc, text)
+}
+
+#[tactic(auto, unfolding(crate::specs::Bodies::office_command))]
+fn read_office(alloc: Global, body: &Value) -> Result<Option<Command>, AllocError>
+    ensures { IfOk result (λ o. o ≡ office_command (view body.now)) }
+{
+    let Some(text) = text_in(body, "command") else {
+        return Ok(None);
+    };
+    read_spelled(alloc, text)
+}
+
+/// The command that the body gives to the action.
+fn read_given(alloc: Global, action: &Action, body: &Value) -> Result<Option<Command>, AllocError>
+    ensures { IfOk result (λ o. o ≡ command_of action.now (view body.now)) }
+{
+    match action {
+        Action::Start(rider) => read_start(alloc, *rider, body),
+        Action::End(station) => read_end(alloc, station, body),
+        Action::MarkDock(station) => read_mark_dock(alloc, station, body),
+        Action::MarkStationBike(_) | Action::MarkTruckBike(_) => Ok(read_mark_bike(body)),
+        Action::Load(truck) => Ok(read_load(*truck, body)),
+        Action::Unload(truck) => Ok(read_unload(*truck, body)),
+        Action::Office => read_office(alloc, body),
+    }
+}
+
+/// Who sends the action.
+fn caller_of(action: Action) -> Caller
+    ensures { result ≡ caller_of action }
+{
+    match action {
+        Action::Start(rider) => Caller::Rider(rider),
+        Action::End(station) | Action::MarkDock(station) | Action::MarkStationBike(station) => {
+            Caller::Dock(station)
+        }
+        Action::Load(truck) | Action::Unload(truck) | Action::MarkTruckBike(truck) => {
+            Caller::Crew(truck)
+        }
+        Action::Office => Caller::Office,
+    }
+}
+
+/// The request that the body makes; none where a member is missing, of another kind or out of its bounds. An error is
+/// a want of memory.
+#[tactic(auto, unfolding(crate::specs::Bodies::request_of))]
+pub(crate) fn read_request(
+    alloc: Global,
+    action: Action,
+    body: &Value,
+) -> Result<Option<Request>, AllocError>
+    ensures { IfOk result (λ o. o ≡ request_of action (view body.now)) }
+{
+    let Some(key) = key_in(alloc, body)? else {
+        return Ok(None);
+    };
+    let Some(command) = read_given(alloc, &action, body)? else {
+        return Ok(None);
+    };
+    Ok(Some(Request {
+        caller: caller_of(action),
+        key,
+        command,
+    }))
+}

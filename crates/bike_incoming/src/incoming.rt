@@ -1,0 +1,155 @@
+//! Reading what an input asks for.
+
+ghost use Rattle.std.specs.Prelude.{◌≡◌, ◌≤◌, ◌++◌, [], length, IfOk, IfSome, OnOk};
+ghost use Rattle.bike_heads.specs.Aim.{aim_of as aimed};
+ghost use Rattle.bike_incoming.specs.Asked.{Asks};
+ghost use Rattle.bike_incoming.specs.Received.{Grew, IsOpened, Opens, Fills, Received};
+
+use crate::asked::{Asked, ask};
+use crate::input::{Input, ReadFailed};
+use bike_heads::{
+    BodyLength, HEAD_LENGTH, Head, HeadReading, Rejection, Resource, Routes, aim_of, read_head,
+};
+use std::alloc::{AllocError, Global};
+use std::io::Read;
+use thiserror::Error;
+
+/// Why nothing is known of what an input asks for.
+#[derive(Clone, Copy, Debug, PartialEq, Eq, Error)]
+pub enum ReceiveFault {
+    /// A read failed, or one more was needed than 20,000.
+    #[error("read failed")]
+    Read,
+    /// Memory was refused.
+    #[error("out of memory")]
+    NoMemory,
+}
+
+impl From<AllocError> for ReceiveFault {
+    fn from(_: AllocError) -> ReceiveFault {
+        ReceiveFault::NoMemory
+    }
+}
+
+impl From<ReadFailed> for ReceiveFault {
+    fn from(_: ReadFailed) -> ReceiveFault {
+        ReceiveFault::Read
+    }
+}
+
+/// What a head tells.
+#[derive(Drop)]
+struct Opened {
+    /// What it asks for; an error is a want of memory.
+    aim: Result<Result<Resource, Rejection>, AllocError>,
+    /// How many bytes it has.
+    length: usize,
+    /// How long its body is.
+    body: BodyLength,
+}
+
+/// What an input begins with.
+#[derive(Drop)]
+enum Opening {
+    /// It has no byte.
+    Empty,
+    /// It has no head.
+    Unreadable,
+    /// It has a head.
+    Whole(Opened),
+}
+
+/// What a head tells.
+fn open_head(alloc: Global, routes: &Routes, head: Head) -> Opened
+    ensures aim { IfOk result.aim (λ aim. aim ≡ aimed head.entry.method.now head.entry.target.now) }
+    ensures length { result.length ≡ head.entry.length }
+    ensures body { result.body ≡ head.entry.body }
+{
+    Opened {
+        aim: aim_of(alloc, routes, head.method, head.target),
+        length: head.length,
+        body: head.body,
+    }
+}
+
+/// Reads until the input's head is whole, or no head can come.
+#[tactic(auto, using(crate::proofs::Receiving::grew_then, crate::proofs::Receiving::told_opened, crate::proofs::Receiving::ended_opens))]
+fn receive_head<R: Read>(
+    alloc: Global,
+    routes: &Routes,
+    reader: &mut R,
+    input: &mut Input,
+) -> Result<Opening, ReadFailed>
+    requires { input.old ≡ [] }
+    ensures grew { OnOk result (Grew (R.remaining reader.old) (R.remaining reader.new) input.old input.new) }
+    ensures opens { IfOk result (Opens input.new (R.remaining reader.new)) }
+    ensures short { length input.new ≤ 8192 }
+{
+    loop {
+        if !input.read_more(reader, HEAD_LENGTH)? {
+            if input.as_slice().is_empty() {
+                return Ok(Opening::Empty);
+            }
+            return Ok(Opening::Unreadable);
+        }
+        match read_head(input.as_slice()) {
+            HeadReading::Incomplete => {}
+            HeadReading::Unreadable => return Ok(Opening::Unreadable),
+            HeadReading::Whole(head) => return Ok(Opening::Whole(open_head(alloc, routes, head))),
+        }
+    }
+}
+
+/// Reads until so many bytes are there; false where the input ends before.
+#[tactic(auto, using(crate::proofs::Receiving::grew_then))]
+fn receive_until<R: Read>(reader: &mut R, input: &mut Input, end: usize) -> Result<bool, ReadFailed>
+    requires { end ≤ 24576 }
+    ensures { IfOk result (Fills (R.remaining reader.old) (R.remaining reader.new) input.old input.new end) }
+{
+    while input.as_slice().len() < end {
+        if !input.read_more(reader, end)? {
+            return Ok(false);
+        }
+    }
+    Ok(true)
+}
+
+/// What the head asks for, with the body behind it.
+fn receive_body<R: Read>(
+    alloc: Global,
+    reader: &mut R,
+    input: &mut Input,
+    opened: Opened,
+) -> Result<Asked, ReceiveFault>
+    requires { IsOpened input.old opened }
+    ensures { IfOk result (λ asked. IfSome (R.remaining reader.old) (λ left. Asks (input.old ++ left) asked)) }
+{
+    let size = match opened.body {
+        BodyLength::Malformed => return Ok(Asked::Reject(Rejection::BadRequest)),
+        BodyLength::TooLong => return Ok(Asked::Reject(Rejection::TooLarge)),
+        BodyLength::Of(size) => size,
+    };
+    let end = opened.length + size;
+    if !receive_until(reader, input, end)? {
+        return Ok(Asked::Reject(Rejection::BadRequest));
+    }
+    let aim = opened.aim?;
+    Ok(ask(alloc, aim, &input.as_slice()[opened.length..end])?)
+}
+
+/// Reads one input, until what it asks for is known: none where it ends before its first byte. No byte behind the body is
+/// waited for.
+pub fn receive<R: Read>(
+    alloc: Global,
+    routes: &Routes,
+    reader: &mut R,
+) -> Result<Option<Asked>, ReceiveFault>
+    ensures { IfOk result (λ asked. IfSome (R.remaining reader.old) (λ input. Received input asked)) }
+{
+    let mut input = Input::new();
+    match receive_head(alloc, routes, reader, &mut input)? {
+        Opening::Empty => Ok(None),
+        Opening::Unreadable => Ok(Some(Asked::Reject(Rejection::BadRequest))),
+        Opening::Whole(opened) => Ok(Some(receive_body(alloc, reader, &mut input, opened)?)),
+    }
+}
