@@ -1,6 +1,7 @@
 """The words of the program: what it does with a file, and what it says where the words are none of its own."""
 
 import os
+import sqlite3
 
 ADD = b"1700000000\toffice\tk0\tadd-rider\t17\n"
 ADD_AGAIN = b"1700000000\toffice\tk1\tadd-rider\t17\n"
@@ -27,6 +28,42 @@ def test_init(program):
     assert program.run("init", "city.db") == (0, b"ready\n", b"")
     with open(os.path.join(program.folder, "city.db"), "rb") as file:
         assert file.read(16) == b"SQLite format 3\0"
+
+
+def page_length(path):
+    """The length of a database's pages, as its header tells it."""
+    with open(path, "rb") as file:
+        return int.from_bytes(file.read(18)[16:], "big")
+
+
+def test_a_file_keeps_its_pages(program):
+    for length in 512, 1024, 2048, 4096, 8192, 32768:
+        path = os.path.join(program.folder, f"{length}.db")
+        base = sqlite3.connect(path)
+        base.execute(f"PRAGMA page_size = {length}")
+        base.execute("VACUUM")
+        base.close()
+        assert program.run("init", path) == (0, b"ready\n", b""), length
+        assert program.run("lines", path, given=ADD) == (0, b"ok\n", b""), length
+        assert program.run("lines", path, given=ADD_AGAIN) == (0, b"refused\t10\talready_there\n", b""), length
+        assert page_length(path) == length, (length, page_length(path))
+        base = sqlite3.connect(path)
+        assert base.execute("PRAGMA integrity_check").fetchall() == [("ok",)], length
+        base.close()
+
+
+def test_an_empty_file_becomes_a_database(program):
+    path = os.path.join(program.folder, "city.db")
+    with open(path, "wb"):
+        pass
+    assert program.run("init", path) == (0, b"ready\n", b"")
+    assert program.run("check", path) == (0, b"sound\n", b"")
+
+
+def test_what_names_no_file_makes_none(program):
+    for name in "file:city.db", os.path.join("missing", "city.db"):
+        assert program.run("init", name) == (3, b"", b"store failed\n"), name
+    assert not os.listdir(program.folder), os.listdir(program.folder)
 
 
 def test_init_reads_no_lines(program):

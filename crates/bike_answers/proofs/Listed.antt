@@ -1,6 +1,7 @@
 -- An object whose members are those of a list, written one after the other.
-use Rattle.std.proofs.Common.{◌≡◌, ℕ, zero, suc, ◌+◌, ◌<◌, ◌≤◌, List, [], ◌∷◌, ◌++◌, Bool, true, false, IsTrue, Option, length, drop, get_or, refl, sym, ap, ◌∙◌, arith, append_assoc, append-nil}
+use Rattle.std.proofs.Common.{◌≡◌, ℕ, zero, suc, ◌+◌, ◌<◌, ◌≤◌, List, [], ◌∷◌, ◌++◌, Bool, true, false, IsTrue, length, drop, get_or, refl, sym, ap, ◌∙◌, arith, append_assoc, append-nil}
 use Rattle.bike_json.specs.Escapes.{quoted}
+use Rattle.bike_json.specs.Outputs.{OutputState}
 use Rattle.bike_json.specs.Tree.{Tree, Members, object, comma, text_of, members_text}
 use Rattle.bike_json.specs.State.{Place, Wrote, IsAt, takes_name, has_more}
 use Rattle.bike_json.specs.declared.level.Level.{Level}
@@ -10,21 +11,21 @@ use Rattle.bike_json.proofs.Rows.{wrote_nothing}
 use Rattle.bike_answers.specs.Bodies.{members, member_text}
 
 -- what was written, with the text of the members that are left, is the text of all
-pub record SoFar (from to : Place) (old new : Option (List ℕ)) (all left : List (List ℕ × Tree)) : Type 0 where
+pub record SoFar (from to : Place) (old new : OutputState) (all left : List (List ℕ × Tree)) : Type 0 where
   pub front : List ℕ
   pub wrote : Wrote from to old new front
   pub split : members_text false (members all) ≡ front ++ members_text (has_more to.top) (members left)
   pub inside : IsTrue (takes_name to.top)
   pub round : to.round ≡ from.round
 
-pub members_start : (p : Place) (a : Option (List ℕ)) (all : List (List ℕ × Tree)) → p.top ≡ EmptyObject → SoFar p p a a all all
+pub members_start : (p : Place) (a : OutputState) (all : List (List ℕ × Tree)) → p.top ≡ EmptyObject → SoFar p p a a all all
 members_start p a all at = record { front = []; wrote = wrote_nothing p a; split = rw at refl; inside = rw at refl; round = refl }
 
 one_more : (front name text : List ℕ) (more : Bool) (rest : List ℕ)
     → front ++ (comma more ++ (quoted name ++ 58 ∷ (text ++ rest))) ≡ (front ++ (comma more ++ (quoted name ++ 58 ∷ text))) ++ rest
 one_more front name text more rest = simp append_assoc
 
-pub members_next : {p q r : Place} {a b c : Option (List ℕ)} {all left rest : List (List ℕ × Tree)} {m : List ℕ × Tree}
+pub members_next : {p q r : Place} {a b c : OutputState} {all left rest : List (List ℕ × Tree)} {m : List ℕ × Tree}
     → SoFar p q a b all left → left ≡ m ∷ rest → Wrote q r b c (member_text (has_more q.top) m.0 m.1) → IsAt r FilledObject q.round
     → SoFar p r a c all rest
 members_next {p} {q} {r} {a} {b} {c} {all} {left} {rest} {m} s e w at = record {
@@ -37,7 +38,7 @@ members_next {p} {q} {r} {a} {b} {c} {all} {left} {rest} {m} s e w at = record {
   round = at.1 ∙ s.round;
 }
 
-pub members_end : {p q : Place} {a b : Option (List ℕ)} {all left : List (List ℕ × Tree)} → SoFar p q a b all left → left ≡ []
+pub members_end : {p q : Place} {a b : OutputState} {all left : List (List ℕ × Tree)} → SoFar p q a b all left → left ≡ []
     → Wrote p q a b (members_text false (members all))
 members_end {p} {q} {a} {b} {all} {left} s e =
     Wrote_as (sym (s.split ∙ (ap (λ l. s.front ++ members_text (has_more q.top) (members l)) e ∙ append-nil s.front))) s.wrote

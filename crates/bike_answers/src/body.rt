@@ -10,10 +10,9 @@ use crate::members::{Scalar, signed, whole, write_object};
 use crate::rows::{write_bike, write_order, write_rental, write_rider};
 use bike_commands::{Refusal, Reply};
 use bike_heads::Rejection;
-use bike_json::JsonState;
-use std::io::Write;
+use bike_json::{JsonState, Output};
 
-fn write_error<W: Write>(json: &mut JsonState, out: &mut W, name: &str)
+fn write_error<W: Output>(json: &mut JsonState, out: &mut W, name: &str)
     requires value { IsTrue (takes_value json.old.top) }
     requires room { length json.old.round < 16 }
     ensures wrote { Wrote json.old json.new (W.contents out.old) (W.contents out.new) (comma (has_more json.old.top) ++ text_of (error_tree name.now)) }
@@ -29,7 +28,7 @@ fn write_error<W: Write>(json: &mut JsonState, out: &mut W, name: &str)
     );
 }
 
-fn write_refused<W: Write>(json: &mut JsonState, out: &mut W, refusal: Refusal)
+fn write_refused<W: Output>(json: &mut JsonState, out: &mut W, refusal: Refusal)
     requires value { IsTrue (takes_value json.old.top) }
     requires room { length json.old.round < 16 }
     ensures wrote { Wrote json.old json.new (W.contents out.old) (W.contents out.new) (comma (has_more json.old.top) ++ text_of (refused_tree refusal)) }
@@ -46,7 +45,7 @@ fn write_refused<W: Write>(json: &mut JsonState, out: &mut W, refusal: Refusal)
     );
 }
 
-fn write_rejected<W: Write>(json: &mut JsonState, out: &mut W, rejection: Rejection)
+fn write_rejected<W: Output>(json: &mut JsonState, out: &mut W, rejection: Rejection)
     requires value { IsTrue (takes_value json.old.top) }
     requires room { length json.old.round < 16 }
     ensures wrote { Wrote json.old json.new (W.contents out.old) (W.contents out.new) (comma (has_more json.old.top) ++ text_of (rejected_tree rejection)) }
@@ -61,7 +60,7 @@ fn write_rejected<W: Write>(json: &mut JsonState, out: &mut W, rejection: Reject
     }
 }
 
-fn write_replied<W: Write>(json: &mut JsonState, out: &mut W, reply: &Reply)
+fn write_replied<W: Output>(json: &mut JsonState, out: &mut W, reply: &Reply)
     requires value { IsTrue (takes_value json.old.top) }
     requires room { length json.old.round < 16 }
     ensures wrote { Wrote json.old json.new (W.contents out.old) (W.contents out.new) (comma (has_more json.old.top) ++ text_of (replied_tree reply.now)) }
@@ -95,7 +94,7 @@ fn write_replied<W: Write>(json: &mut JsonState, out: &mut W, reply: &Reply)
 }
 
 /// Writes the body of an answer as the next value.
-pub fn write_body<W: Write>(json: &mut JsonState, out: &mut W, answer: &Answer)
+pub fn write_body<W: Output>(json: &mut JsonState, out: &mut W, answer: &Answer)
     requires value { IsTrue (takes_value json.old.top) }
     requires room { length json.old.round < 16 }
     ensures wrote { Wrote json.old json.new (W.contents out.old) (W.contents out.new) (comma (has_more json.old.top) ++ text_of (body_of answer.now)) }

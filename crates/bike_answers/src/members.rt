@@ -6,8 +6,7 @@ ghost use Rattle.bike_json.specs.Tree.{comma, text_of, members_text, object};
 ghost use Rattle.bike_answers.specs.Bodies.{scalar_tree, member_text, members};
 
 use bike_fixed::Within;
-use bike_json::{JsonState, Level};
-use std::io::Write;
+use bike_json::{JsonState, Level, Output};
 
 /// The value of a member.
 #[derive(Clone, Copy, Debug)]
@@ -34,7 +33,7 @@ pub(crate) fn signed(number: i64) -> Scalar<'static>
     Scalar::Whole(number)
 }
 
-fn write_scalar<W: Write>(json: &mut JsonState, out: &mut W, scalar: Scalar)
+fn write_scalar<W: Output>(json: &mut JsonState, out: &mut W, scalar: Scalar)
     requires { IsTrue (takes_value json.old.top) }
     ensures wrote { Wrote json.old json.new (W.contents out.old) (W.contents out.new) (comma (has_more json.old.top) ++ text_of (scalar_tree scalar.entry)) }
     ensures place { IsAt json.new (after_value json.old.top) json.old.round }
@@ -46,7 +45,7 @@ fn write_scalar<W: Write>(json: &mut JsonState, out: &mut W, scalar: Scalar)
     };
 }
 
-fn write_member<W: Write>(json: &mut JsonState, out: &mut W, name: &str, value: Scalar)
+fn write_member<W: Output>(json: &mut JsonState, out: &mut W, name: &str, value: Scalar)
     requires { IsTrue (takes_name json.old.top) }
     ensures wrote { Wrote json.old json.new (W.contents out.old) (W.contents out.new) (member_text (has_more json.old.top) name.now (scalar_tree value.entry)) }
     ensures place { IsAt json.new Level.FilledObject json.old.round }
@@ -55,7 +54,7 @@ fn write_member<W: Write>(json: &mut JsonState, out: &mut W, name: &str, value: 
     write_scalar(json, out, value);
 }
 
-fn write_members<W: Write>(json: &mut JsonState, out: &mut W, fields: &[(&str, Scalar)])
+fn write_members<W: Output>(json: &mut JsonState, out: &mut W, fields: &[(&str, Scalar)])
     requires { json.old.top ≡ Level.EmptyObject }
     ensures wrote { Wrote json.old json.new (W.contents out.old) (W.contents out.new) (members_text false (members (map (λ m. (m.0.now, scalar_tree m.1)) fields.now))) }
     ensures name { IsTrue (takes_name json.new.top) }
@@ -67,7 +66,7 @@ fn write_members<W: Write>(json: &mut JsonState, out: &mut W, fields: &[(&str, S
 }
 
 /// Writes an object of these members, in this order.
-pub(crate) fn write_object<W: Write>(json: &mut JsonState, out: &mut W, fields: &[(&str, Scalar)])
+pub(crate) fn write_object<W: Output>(json: &mut JsonState, out: &mut W, fields: &[(&str, Scalar)])
     requires value { IsTrue (takes_value json.old.top) }
     requires room { length json.old.round < 16 }
     ensures wrote { Wrote json.old json.new (W.contents out.old) (W.contents out.new)

@@ -8,10 +8,9 @@ ghost use Rattle.bike_answers.specs.Bodies.{rider_state, open_rental, rider_tree
 use crate::answer::RiderRow;
 use crate::members::{Scalar, signed, whole, write_object};
 use bike_fields::{BicycleNumber, Ident, OrderNumber, RentalNumber};
-use bike_json::JsonState;
+use bike_json::{JsonState, Output};
 use bike_operator::{Bike, BikeState, Order, Place, Rental};
 use bike_texts::OrderEnd;
-use std::io::Write;
 
 fn rider_state(blocked: bool) -> &'static str
     ensures { result.now ≡ rider_state blocked }
@@ -28,7 +27,7 @@ fn open_rental(rental: Option<RentalNumber>) -> Scalar<'static>
     }
 }
 
-pub(crate) fn write_rider<W: Write>(json: &mut JsonState, out: &mut W, row: &RiderRow)
+pub(crate) fn write_rider<W: Output>(json: &mut JsonState, out: &mut W, row: &RiderRow)
     requires value { IsTrue (takes_value json.old.top) }
     requires room { length json.old.round < 16 }
     ensures wrote { Wrote json.old json.new (W.contents out.old) (W.contents out.new) (comma (has_more json.old.top) ++ text_of (rider_tree row.now)) }
@@ -56,7 +55,7 @@ fn state_name(state: BikeState) -> &'static str
     }
 }
 
-pub(crate) fn write_bike<W: Write>(
+pub(crate) fn write_bike<W: Output>(
     json: &mut JsonState,
     out: &mut W,
     number: BicycleNumber,
@@ -132,7 +131,7 @@ struct Closed<'a> {
     refunded: i64,
 }
 
-fn write_open<'a, W: Write>(
+fn write_open<'a, W: Output>(
     json: &mut JsonState,
     out: &mut W,
     number: RentalNumber,
@@ -160,7 +159,7 @@ fn write_open<'a, W: Write>(
     );
 }
 
-fn write_closed<'a, W: Write>(
+fn write_closed<'a, W: Output>(
     json: &mut JsonState,
     out: &mut W,
     number: RentalNumber,
@@ -194,7 +193,7 @@ fn write_closed<'a, W: Write>(
     );
 }
 
-pub(crate) fn write_rental<W: Write>(
+pub(crate) fn write_rental<W: Output>(
     json: &mut JsonState,
     out: &mut W,
     number: RentalNumber,
@@ -232,7 +231,7 @@ fn end_name(end: &OrderEnd) -> &str
     }
 }
 
-pub(crate) fn write_order<W: Write>(
+pub(crate) fn write_order<W: Output>(
     json: &mut JsonState,
     out: &mut W,
     number: OrderNumber,

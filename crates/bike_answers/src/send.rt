@@ -1,8 +1,9 @@
 //! Writing an answer.
 
-ghost use Rattle.std.specs.Prelude.{◌≡◌, length, IfSome, IfOk, OnErr};
+ghost use Rattle.std.specs.Prelude.{◌≡◌, ◌<◌, length, None, IfSome, IfOk, OnErr};
 ghost use Rattle.std.specs.Io.KnownBytes.{Appends};
 ghost use Rattle.bike_stream.specs.Writing.{AppendsFront};
+ghost use Rattle.bike_json.specs.State.{greatest_count};
 ghost use Rattle.bike_json.specs.Tree.{text_of};
 ghost use Rattle.bike_answers.specs.Bodies.{body_of};
 ghost use Rattle.bike_answers.specs.Status.{status_of};
@@ -11,17 +12,17 @@ ghost use Rattle.bike_answers.specs.Sent.{answer_text, Sends};
 use crate::answer::Answer;
 use crate::body::write_body;
 use crate::head::head_text;
-use bike_json::JsonState;
+use bike_json::{Discard, JsonState};
 use bike_stream::{WriteFault, write_whole};
-use std::io;
 use std::io::Write;
 
-/// The length of an answer's body in bytes; none where it can't be counted.
+/// The length of an answer's body in bytes; none only where it is beyond every count.
 pub fn body_length(answer: &Answer) -> Option<u64>
-    ensures { IfSome result (λ n. n ≡ length (text_of (body_of answer.now))) }
+    ensures some { IfSome result (λ n. n ≡ length (text_of (body_of answer.now))) }
+    ensures none { result ≡ None → greatest_count < length (text_of (body_of answer.now)) }
 {
     let mut json = JsonState::new();
-    write_body(&mut json, &mut io::sink(), answer);
+    write_body(&mut json, &mut Discard, answer);
     match json.outcome() {
         Ok(()) => Some(json.count()),
         Err(_) => None,

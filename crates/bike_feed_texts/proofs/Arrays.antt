@@ -1,6 +1,7 @@
 -- Arrays that are written item by item.
-use Rattle.std.proofs.Common.{◌≡◌, ℕ, ◌+◌, ◌<◌, ◌≤◌, List, [], ◌∷◌, ◌++◌, IsTrue, Option, length, drop, get_or, refl, sym, ap, ◌∙◌, append_assoc, append-nil, false}
+use Rattle.std.proofs.Common.{◌≡◌, ℕ, ◌+◌, ◌<◌, ◌≤◌, List, [], ◌∷◌, ◌++◌, IsTrue, length, drop, get_or, refl, sym, ap, ◌∙◌, append_assoc, append-nil, false}
 use Rattle.std.proofs.lemmas.List.{drop_more, drop_all}
+use Rattle.bike_json.specs.Outputs.{OutputState}
 use Rattle.bike_json.specs.Tree.{Tree, Items, array, item, no_items, comma, text_of, items_text}
 use Rattle.bike_json.specs.Rows.{items}
 use Rattle.bike_json.specs.State.{Place, Wrote, IsAt, takes_value, takes_array_end, has_more, after_value}
@@ -21,7 +22,7 @@ takes_item FilledObject h = absurd (cc h)
 takes_item NamedObject h = refl
 
 -- an array with its items
-pub array_then : {p q r t : Place} {a b c d : Option (List ℕ)} {all : Items}
+pub array_then : {p q r t : Place} {a b c d : OutputState} {all : Items}
     → Wrote p q a b (comma (has_more p.top) ++ 91 ∷ []) → Wrote q r b c (items_text false all) → Wrote r t c d (93 ∷ []) → WroteValue p t a d (array all)
 array_then {p} {q} {r} {t} {a} {b} {c} {d} {all} one two three = record {
   are =
@@ -30,17 +31,17 @@ array_then {p} {q} {r} {t} {a} {b} {c} {d} {all} one two three = record {
 }
 
 -- the only item of an array
-pub only_item : {p q : Place} {a b : Option (List ℕ)} {value : Tree} → WroteValue p q a b value → p.top ≡ EmptyArray → Wrote p q a b (items_text false (item value no_items))
+pub only_item : {p q : Place} {a b : OutputState} {value : Tree} → WroteValue p q a b value → p.top ≡ EmptyArray → Wrote p q a b (items_text false (item value no_items))
 only_item {p} {q} {a} {b} {value} w e = Wrote_as (ap (λ l. comma (has_more l) ++ text_of value) e ∙ sym (append-nil (text_of value))) w.are
 
-module _ {X : Type 0} (tree : X → Tree) {p q : Place} {a b : Option (List ℕ)} {all : List X} where
+module _ {X : Type 0} (tree : X → Tree) {p q : Place} {a b : OutputState} {all : List X} where
   -- a loop's turn, at an index of the list
-  pub turn : {r : Place} {c : Option (List ℕ)} (i : ℕ) (x : X) → SoFar tree p q a b all (drop i all) → i < length all → x ≡ get_or all i x
+  pub turn : {r : Place} {c : OutputState} (i : ℕ) (x : X) → SoFar tree p q a b all (drop i all) → i < length all → x ≡ get_or all i x
       → WroteValue q r b c (tree x) → IsAt r (after_value q.top) q.round → SoFar tree p r a c all (drop (i + 1) all)
   turn i x s lt is w at = rows_next tree s (drop_more all i x lt ∙ ap (λ y. y ∷ drop (i + 1) all) (sym is)) w.are at
 
   -- the same where the item has no name of its own
-  pub turn_at : {r : Place} {c : Option (List ℕ)} (i : ℕ) (d : X) → SoFar tree p q a b all (drop i all) → i < length all
+  pub turn_at : {r : Place} {c : OutputState} (i : ℕ) (d : X) → SoFar tree p q a b all (drop i all) → i < length all
       → WroteValue q r b c (tree (get_or all i d)) → IsAt r (after_value q.top) q.round → SoFar tree p r a c all (drop (i + 1) all)
   turn_at i d s lt w at = rows_next tree s (drop_more all i d lt) w.are at
 

@@ -1,7 +1,8 @@
 -- The text of a feed, from its parts.
-use Rattle.std.proofs.Common.{◌≡◌, ℕ, List, [], ◌∷◌, ◌++◌, false, Option, sym, ap, ◌∙◌, append_assoc, append-nil}
+use Rattle.std.proofs.Common.{◌≡◌, ℕ, List, [], ◌∷◌, ◌++◌, false, sym, ap, ◌∙◌, append_assoc, append-nil}
 use Rattle.std.specs.Prelude.{codes}
 use Rattle.bike_catalogue.specs.Rows.{SystemRow}
+use Rattle.bike_json.specs.Outputs.{OutputState}
 use Rattle.bike_json.specs.Escapes.{quoted}
 use Rattle.bike_json.specs.Tree.{Tree, Items, comma, text_of, items_text, members_text}
 use Rattle.bike_json.specs.State.{Place, Wrote, has_more}
@@ -34,7 +35,7 @@ list_text x seconds name list =
     ∙ sym (append_assoc (head_text x seconds) (123 ∷ (quoted name ++ 58 ∷ 91 ∷ [])) (items_text false list ++ list_end_text)))
 
 -- a feed up to its data
-pub head_then : {p q r t : Place} {a b c d : Option (List ℕ)} (x : SystemRow) (seconds : ℕ) → p.top ≡ Start → Wrote p q a b (comma (has_more p.top) ++ 123 ∷ [])
+pub head_then : {p q r t : Place} {a b c d : OutputState} (x : SystemRow) (seconds : ℕ) → p.top ≡ Start → Wrote p q a b (comma (has_more p.top) ++ 123 ∷ [])
     → q.top ≡ EmptyObject → WroteMembers q r b c (members (head_members x seconds))
     → r.top ≡ FilledObject → Wrote r t c d (comma (has_more r.top) ++ quoted (codes "data") ++ 58 ∷ [])
     → Wrote p t a d (head_text x seconds)
@@ -48,7 +49,7 @@ head_then {p} {q} {r} {t} x seconds at one e two f three =
     ) (Wrote_then (Wrote_then one two.are) three)
 
 -- a feed up to the first item of its list
-pub list_head_then : {p q r t u : Place} {a b c d f : Option (List ℕ)} (x : SystemRow) (seconds : ℕ) (name : List ℕ) → Wrote p q a b (head_text x seconds)
+pub list_head_then : {p q r t u : Place} {a b c d f : OutputState} (x : SystemRow) (seconds : ℕ) (name : List ℕ) → Wrote p q a b (head_text x seconds)
     → q.top ≡ NamedObject → Wrote q r b c (comma (has_more q.top) ++ 123 ∷ []) → r.top ≡ EmptyObject → Wrote r t c d (comma (has_more r.top) ++ quoted name ++ 58 ∷ [])
     → t.top ≡ NamedObject → Wrote t u d f (comma (has_more t.top) ++ 91 ∷ []) → Wrote p u a f (list_head_text x seconds name)
 list_head_then {p} {q} {r} {t} x seconds name one e two f three g four =
@@ -63,7 +64,7 @@ list_head_then {p} {q} {r} {t} x seconds name one e two f three g four =
     ) (Wrote_then one (Wrote_then two (Wrote_then three four)))
 
 -- a whole feed
-pub feed_then : {p q r t : Place} {a b c d : Option (List ℕ)} (x : SystemRow) (seconds : ℕ) {tree : Tree} → p.top ≡ Start
+pub feed_then : {p q r t : Place} {a b c d : OutputState} (x : SystemRow) (seconds : ℕ) {tree : Tree} → p.top ≡ Start
     → Wrote p q a b (head_text x seconds) → q.top ≡ NamedObject → WroteValue q r b c tree → Wrote r t c d (125 ∷ [])
     → WroteValue p t a d (feed_frame x seconds tree)
 feed_then {p} {q} {r} {t} {a} {b} {c} {d} x seconds {tree} at one e two three = record {
@@ -75,7 +76,7 @@ feed_then {p} {q} {r} {t} {a} {b} {c} {d} x seconds {tree} at one e two three = 
 }
 
 -- a whole feed whose data are a list
-pub list_then : {p q r t : Place} {a b c d : Option (List ℕ)} (x : SystemRow) (seconds : ℕ) (name : List ℕ) (list : Items) → p.top ≡ Start
+pub list_then : {p q r t : Place} {a b c d : OutputState} (x : SystemRow) (seconds : ℕ) (name : List ℕ) (list : Items) → p.top ≡ Start
     → Wrote p q a b (list_head_text x seconds name) → Wrote q r b c (items_text false list) → Wrote r t c d list_end_text
     → WroteValue p t a d (feed_frame x seconds (listing name list))
 list_then {p} {q} {r} {t} {a} {b} {c} {d} x seconds name list at one two three = record {

@@ -1,5 +1,6 @@
 -- Objects that are written part by part.
-use Rattle.std.proofs.Common.{◌≡◌, ℕ, List, [], ◌∷◌, ◌++◌, Bool, true, Option, refl, sym, ap, ◌∙◌, append_assoc, append-nil}
+use Rattle.std.proofs.Common.{◌≡◌, ℕ, List, [], ◌∷◌, ◌++◌, Bool, true, refl, sym, ap, ◌∙◌, append_assoc, append-nil}
+use Rattle.bike_json.specs.Outputs.{OutputState}
 use Rattle.bike_json.specs.Escapes.{quoted}
 use Rattle.bike_json.specs.Tree.{Tree, object, Members, no_members, member, comma, text_of, members_text}
 use Rattle.bike_json.specs.State.{Place, Wrote, has_more}
@@ -17,7 +18,7 @@ named_text : (more : Bool) (name value : List ℕ) → (comma more ++ quoted nam
 named_text more name value = append_assoc (comma more ++ quoted name) (58 ∷ []) value ∙ append_assoc (comma more) (quoted name) (58 ∷ value)
 
 -- a name and then its value
-pub name_then : {p q r : Place} {a b c : Option (List ℕ)} {name : List ℕ} {value : Tree}
+pub name_then : {p q r : Place} {a b c : OutputState} {name : List ℕ} {value : Tree}
     → Wrote p q a b (comma (has_more p.top) ++ quoted name ++ 58 ∷ []) → q.top ≡ NamedObject → Wrote q r b c (comma (has_more q.top) ++ text_of value)
     → WroteMember p r a c name value
 name_then {p} {q} {r} {a} {b} {c} {name} {value} w e v = record {
@@ -27,12 +28,12 @@ name_then {p} {q} {r} {a} {b} {c} {name} {value} w e v = record {
 }
 
 -- a name and then its value, which was written by a call of its own
-pub name_value : {p q r : Place} {a b c : Option (List ℕ)} {name : List ℕ} {value : Tree}
+pub name_value : {p q r : Place} {a b c : OutputState} {name : List ℕ} {value : Tree}
     → Wrote p q a b (comma (has_more p.top) ++ quoted name ++ 58 ∷ []) → q.top ≡ NamedObject → WroteValue q r b c value → WroteMember p r a c name value
 name_value w e v = name_then w e v.are
 
 -- one member before others
-pub member_then : {p q r : Place} {a b c : Option (List ℕ)} {name : List ℕ} {value : Tree} {rest : Members}
+pub member_then : {p q r : Place} {a b c : OutputState} {name : List ℕ} {value : Tree} {rest : Members}
     → WroteMember p q a b name value → q.top ≡ FilledObject → WroteMembers q r b c rest → WroteMembers p r a c (member name value rest)
 member_then {p} {q} {r} {a} {b} {c} {name} {value} {rest} w e more = record {
   are =
@@ -41,13 +42,13 @@ member_then {p} {q} {r} {a} {b} {c} {name} {value} {rest} w e more = record {
 }
 
 -- the last member
-pub member_last : {p q : Place} {a b : Option (List ℕ)} {name : List ℕ} {value : Tree}
+pub member_last : {p q : Place} {a b : OutputState} {name : List ℕ} {value : Tree}
     → WroteMember p q a b name value → WroteMembers p q a b (member name value no_members)
 member_last {p} {q} {a} {b} {name} {value} w = record {
   are = Wrote_as (ap (λ l. comma (has_more p.top) ++ (quoted name ++ 58 ∷ l)) (sym (append-nil (text_of value)))) w.are;
 }
 
-pub members_none : (p : Place) (a : Option (List ℕ)) → WroteMembers p p a a no_members
+pub members_none : (p : Place) (a : OutputState) → WroteMembers p p a a no_members
 members_none p a = record { are = wrote_nothing p a }
 
 members_text-append : (ms ns : List NamedTree) → members_text true (members (ms ++ ns)) ≡ members_text true (members ms) ++ members_text true (members ns)
@@ -59,7 +60,7 @@ members_text-append (m ∷ ms) ns =
     ∙ sym (member_text true m.0 (text_of m.1 ++ rest) (members_text true (members ns)))
 
 -- members, of which there may be none, before others
-pub members_then : {p q r : Place} {a b c : Option (List ℕ)} (ms ns : List NamedTree)
+pub members_then : {p q r : Place} {a b c : OutputState} (ms ns : List NamedTree)
     → WroteMembers p q a b (members ms) → p.top ≡ FilledObject → q.top ≡ FilledObject → WroteMembers q r b c (members ns) → WroteMembers p r a c (members (ms ++ ns))
 members_then {p} {q} {r} {a} {b} {c} ms ns one d e two = record {
   are =
@@ -71,7 +72,7 @@ members_then {p} {q} {r} {a} {b} {c} ms ns one d e two = record {
 }
 
 -- an object with its members
-pub object_then : {p q r t : Place} {a b c d : Option (List ℕ)} {all : Members}
+pub object_then : {p q r t : Place} {a b c d : OutputState} {all : Members}
     → Wrote p q a b (comma (has_more p.top) ++ 123 ∷ []) → q.top ≡ EmptyObject → WroteMembers q r b c all → Wrote r t c d (125 ∷ [])
     → WroteValue p t a d (object all)
 object_then {p} {q} {r} {t} {a} {b} {c} {d} {all} one e two three = record {

@@ -1,6 +1,7 @@
 -- What the writing functions write, and the texts between which the elements of a feed's list stand.
-use Rattle.std.specs.Prelude.{ℕ, List, [], ◌∷◌, ◌++◌, false, Option, codes}
+use Rattle.std.specs.Prelude.{ℕ, List, [], ◌∷◌, ◌++◌, false, codes}
 use Rattle.bike_catalogue.specs.Rows.{SystemRow}
+use Rattle.bike_json.specs.Outputs.{OutputState}
 use Rattle.bike_json.specs.Escapes.{quoted}
 use Rattle.bike_json.specs.Tree.{Tree, Members, comma, text_of, members_text}
 use Rattle.bike_json.specs.State.{Place, Wrote, has_more}
@@ -12,15 +13,15 @@ use Rattle.bike_feed_texts.specs.Elements.{members, CountsRow, ReportRow}
 use Rattle.bike_feed_texts.specs.Trees.{head_members}
 
 -- a value was written, behind a comma where it isn't the first
-pub record WroteValue (from to : Place) (old new : Option (List ℕ)) (value : Tree) : Type 0 where
+pub record WroteValue (from to : Place) (old new : OutputState) (value : Tree) : Type 0 where
   pub are : Wrote from to old new (comma (has_more from.top) ++ text_of value)
 
 -- a member was written
-pub record WroteMember (from to : Place) (old new : Option (List ℕ)) (name : List ℕ) (value : Tree) : Type 0 where
+pub record WroteMember (from to : Place) (old new : OutputState) (name : List ℕ) (value : Tree) : Type 0 where
   pub are : Wrote from to old new (comma (has_more from.top) ++ (quoted name ++ 58 ∷ text_of value))
 
 -- members were written
-pub record WroteMembers (from to : Place) (old new : Option (List ℕ)) (all : Members) : Type 0 where
+pub record WroteMembers (from to : Place) (old new : OutputState) (all : Members) : Type 0 where
   pub are : Wrote from to old new (members_text (has_more from.top) all)
 
 -- a feed up to its data

@@ -7,12 +7,11 @@ ghost use Rattle.bike_feed_texts.specs.Writing.{head_text, list_head_text, list_
 use crate::members::{moment_member, text_member, whole_member};
 use bike_catalogue::System;
 use bike_fixed::Moment;
-use bike_json::{JsonState, Level};
+use bike_json::{JsonState, Level, Output};
 use bike_stream::WriteFault;
-use std::io::Write;
 
 /// Begins a feed, up to its data.
-pub(crate) fn open_feed<W: Write>(
+pub(crate) fn open_feed<W: Output>(
     json: &mut JsonState,
     out: &mut W,
     system: &System,
@@ -31,7 +30,7 @@ pub(crate) fn open_feed<W: Write>(
 
 /// Begins the feed of a system for a moment whose data are a list of that name (`vehicle_types`, `stations` or `plans`), up to the
 /// list's first element.
-pub fn open_list<W: Write>(
+pub fn open_list<W: Output>(
     json: &mut JsonState,
     out: &mut W,
     system: &System,
@@ -50,7 +49,7 @@ pub fn open_list<W: Write>(
 }
 
 /// Ends a feed behind the last element of its list.
-pub fn close_list<W: Write>(json: &mut JsonState, out: &mut W) -> Result<(), WriteFault>
+pub fn close_list<W: Output>(json: &mut JsonState, out: &mut W) -> Result<(), WriteFault>
     requires array { IsTrue (takes_array_end json.old.top) }
     requires round { json.old.round ≡ in_list }
     ensures wrote { Wrote json.old json.new (W.contents out.old) (W.contents out.new) list_end_text }

@@ -16,9 +16,8 @@ use crate::members::text_member;
 use arrayvec::ArrayString;
 use bike_catalogue::System;
 use bike_fixed::Moment;
-use bike_json::{JsonState, Level};
+use bike_json::{JsonState, Level, Output};
 use bike_stream::WriteFault;
-use std::io::Write;
 
 /// The feeds that are listed.
 const LISTED: [Feed; 5] = [
@@ -44,7 +43,7 @@ fn url_of(system: &System, feed: Feed) -> ArrayString<URL_ROOM>
     url
 }
 
-fn write_link<W: Write>(json: &mut JsonState, out: &mut W, system: &System, feed: &Feed)
+fn write_link<W: Output>(json: &mut JsonState, out: &mut W, system: &System, feed: &Feed)
     requires value { IsTrue (takes_value json.old.top) }
     requires room { length json.old.round < 16 }
     ensures wrote { WroteValue json.old json.new (W.contents out.old) (W.contents out.new) (link_tree system.now feed.now) }
@@ -58,7 +57,7 @@ fn write_link<W: Write>(json: &mut JsonState, out: &mut W, system: &System, feed
 }
 
 /// The links to feeds as items.
-fn write_links<W: Write>(json: &mut JsonState, out: &mut W, system: &System, feeds: &[Feed])
+fn write_links<W: Output>(json: &mut JsonState, out: &mut W, system: &System, feeds: &[Feed])
     requires top { json.old.top ≡ Level.EmptyArray }
     requires room { length json.old.round < 16 }
     ensures wrote { Wrote json.old json.new (W.contents out.old) (W.contents out.new) (items_text false (items (link_tree system.now) feeds.now)) }
@@ -70,7 +69,7 @@ fn write_links<W: Write>(json: &mut JsonState, out: &mut W, system: &System, fee
 }
 
 /// Writes the feed `gbfs` of a system, which depends on no more of the operator.
-pub fn write_gbfs<W: Write>(
+pub fn write_gbfs<W: Output>(
     json: &mut JsonState,
     out: &mut W,
     system: &System,

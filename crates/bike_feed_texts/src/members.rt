@@ -9,11 +9,10 @@ ghost use Rattle.bike_feed_texts.specs.Writing.{WroteMember, WroteValue};
 use bike_catalogue::System;
 use bike_fields::Name;
 use bike_fixed::{Cents, Micro, Moment};
-use bike_json::{JsonState, Level};
-use std::io::Write;
+use bike_json::{JsonState, Level, Output};
 
 /// A text.
-pub(crate) fn text_member<W: Write>(json: &mut JsonState, out: &mut W, name: &str, value: &str)
+pub(crate) fn text_member<W: Output>(json: &mut JsonState, out: &mut W, name: &str, value: &str)
     requires { IsTrue (takes_name json.old.top) }
     ensures wrote { WroteMember json.old json.new (W.contents out.old) (W.contents out.new) name.now (text value.now) }
     ensures place { IsAt json.new Level.FilledObject json.old.round }
@@ -23,7 +22,7 @@ pub(crate) fn text_member<W: Write>(json: &mut JsonState, out: &mut W, name: &st
 }
 
 /// A whole number.
-pub(crate) fn whole_member<W: Write>(json: &mut JsonState, out: &mut W, name: &str, number: u32)
+pub(crate) fn whole_member<W: Output>(json: &mut JsonState, out: &mut W, name: &str, number: u32)
     requires { IsTrue (takes_name json.old.top) }
     ensures wrote { WroteMember json.old json.new (W.contents out.old) (W.contents out.new) name.now (whole (pos number)) }
     ensures place { IsAt json.new Level.FilledObject json.old.round }
@@ -33,7 +32,7 @@ pub(crate) fn whole_member<W: Write>(json: &mut JsonState, out: &mut W, name: &s
 }
 
 /// An amount, in units with two decimals.
-pub(crate) fn cents_member<W: Write>(json: &mut JsonState, out: &mut W, name: &str, amount: Cents)
+pub(crate) fn cents_member<W: Output>(json: &mut JsonState, out: &mut W, name: &str, amount: Cents)
     requires { IsTrue (takes_name json.old.top) }
     ensures wrote { WroteMember json.old json.new (W.contents out.old) (W.contents out.new) name.now (cents amount) }
     ensures place { IsAt json.new Level.FilledObject json.old.round }
@@ -43,7 +42,7 @@ pub(crate) fn cents_member<W: Write>(json: &mut JsonState, out: &mut W, name: &s
 }
 
 /// A coordinate, in degrees with six decimals.
-pub(crate) fn micro_member<W: Write>(
+pub(crate) fn micro_member<W: Output>(
     json: &mut JsonState,
     out: &mut W,
     name: &str,
@@ -58,7 +57,7 @@ pub(crate) fn micro_member<W: Write>(
 }
 
 /// `true` or `false`.
-pub(crate) fn flag_member<W: Write>(json: &mut JsonState, out: &mut W, name: &str, value: bool)
+pub(crate) fn flag_member<W: Output>(json: &mut JsonState, out: &mut W, name: &str, value: bool)
     requires { IsTrue (takes_name json.old.top) }
     ensures wrote { WroteMember json.old json.new (W.contents out.old) (W.contents out.new) name.now (flag value) }
     ensures place { IsAt json.new Level.FilledObject json.old.round }
@@ -68,7 +67,12 @@ pub(crate) fn flag_member<W: Write>(json: &mut JsonState, out: &mut W, name: &st
 }
 
 /// A moment, as RFC 3339 writes it.
-pub(crate) fn moment_member<W: Write>(json: &mut JsonState, out: &mut W, name: &str, moment: Moment)
+pub(crate) fn moment_member<W: Output>(
+    json: &mut JsonState,
+    out: &mut W,
+    name: &str,
+    moment: Moment,
+)
     requires { IsTrue (takes_name json.old.top) }
     ensures wrote { WroteMember json.old json.new (W.contents out.old) (W.contents out.new) name.now (moment_tree moment) }
     ensures place { IsAt json.new Level.FilledObject json.old.round }
@@ -78,7 +82,7 @@ pub(crate) fn moment_member<W: Write>(json: &mut JsonState, out: &mut W, name: &
 }
 
 /// A text with its language, as an object.
-fn write_translation<W: Write>(json: &mut JsonState, out: &mut W, system: &System, value: &str)
+fn write_translation<W: Output>(json: &mut JsonState, out: &mut W, system: &System, value: &str)
     requires value { IsTrue (takes_value json.old.top) }
     requires room { length json.old.round < 16 }
     ensures wrote { WroteValue json.old json.new (W.contents out.old) (W.contents out.new) (translation system.now value.now) }
@@ -91,7 +95,7 @@ fn write_translation<W: Write>(json: &mut JsonState, out: &mut W, system: &Syste
 }
 
 /// A localized text, in the system's language.
-pub(crate) fn localized_member<W: Write>(
+pub(crate) fn localized_member<W: Output>(
     json: &mut JsonState,
     out: &mut W,
     name: &str,

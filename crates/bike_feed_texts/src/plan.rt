@@ -10,12 +10,11 @@ ghost use Rattle.bike_feed_texts.specs.Writing.{WroteMember, WroteMembers, Wrote
 use crate::members::{cents_member, flag_member, localized_member, text_member, whole_member};
 use bike_catalogue::{Plan, Segment, System};
 use bike_fixed::Cents;
-use bike_json::{JsonState, Level};
+use bike_json::{JsonState, Level, Output};
 use bike_stream::WriteFault;
-use std::io::Write;
 
 /// The minute at which a segment ends, where it does.
-fn end_member<W: Write>(json: &mut JsonState, out: &mut W, end: Option<u32>)
+fn end_member<W: Output>(json: &mut JsonState, out: &mut W, end: Option<u32>)
     requires { json.old.top ≡ Level.FilledObject }
     ensures wrote { WroteMembers json.old json.new (W.contents out.old) (W.contents out.new) (members (end_members end)) }
     ensures place { IsAt json.new Level.FilledObject json.old.round }
@@ -26,7 +25,7 @@ fn end_member<W: Write>(json: &mut JsonState, out: &mut W, end: Option<u32>)
     }
 }
 
-fn write_segment<W: Write>(json: &mut JsonState, out: &mut W, segment: &Segment)
+fn write_segment<W: Output>(json: &mut JsonState, out: &mut W, segment: &Segment)
     requires value { IsTrue (takes_value json.old.top) }
     requires room { length json.old.round < 16 }
     ensures wrote { WroteValue json.old json.new (W.contents out.old) (W.contents out.new) (segment_tree segment.now) }
@@ -41,7 +40,7 @@ fn write_segment<W: Write>(json: &mut JsonState, out: &mut W, segment: &Segment)
 }
 
 /// The segments as items.
-fn write_segments<W: Write>(json: &mut JsonState, out: &mut W, segments: &[Segment])
+fn write_segments<W: Output>(json: &mut JsonState, out: &mut W, segments: &[Segment])
     requires top { json.old.top ≡ Level.EmptyArray }
     requires room { length json.old.round < 16 }
     ensures wrote { Wrote json.old json.new (W.contents out.old) (W.contents out.new) (items_text false (items segment_tree segments.now)) }
@@ -53,7 +52,7 @@ fn write_segments<W: Write>(json: &mut JsonState, out: &mut W, segments: &[Segme
 }
 
 /// The segments as a member.
-fn segments_member<W: Write>(json: &mut JsonState, out: &mut W, name: &str, segments: &[Segment])
+fn segments_member<W: Output>(json: &mut JsonState, out: &mut W, name: &str, segments: &[Segment])
     requires name { IsTrue (takes_name json.old.top) }
     requires room { length json.old.round < 15 }
     ensures wrote { WroteMember json.old json.new (W.contents out.old) (W.contents out.new) name.now (array (items segment_tree segments.now)) }
@@ -66,7 +65,7 @@ fn segments_member<W: Write>(json: &mut JsonState, out: &mut W, name: &str, segm
 }
 
 /// The segments as a member, where there are any.
-fn pricing_member<W: Write>(json: &mut JsonState, out: &mut W, segments: &[Segment])
+fn pricing_member<W: Output>(json: &mut JsonState, out: &mut W, segments: &[Segment])
     requires top { json.old.top ≡ Level.FilledObject }
     requires room { length json.old.round < 15 }
     ensures wrote { WroteMembers json.old json.new (W.contents out.old) (W.contents out.new) (members (pricing_members segments.now)) }
@@ -78,7 +77,7 @@ fn pricing_member<W: Write>(json: &mut JsonState, out: &mut W, segments: &[Segme
 }
 
 /// Writes a pricing plan, with its segments where it has any.
-pub fn write_plan<W: Write>(
+pub fn write_plan<W: Output>(
     json: &mut JsonState,
     out: &mut W,
     system: &System,

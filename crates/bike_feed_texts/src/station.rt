@@ -7,12 +7,11 @@ ghost use Rattle.bike_feed_texts.specs.Writing.{WroteValue};
 
 use crate::members::{localized_member, micro_member, text_member, whole_member};
 use bike_catalogue::{Station, System};
-use bike_json::JsonState;
+use bike_json::{JsonState, Output};
 use bike_stream::WriteFault;
-use std::io::Write;
 
 /// Writes a station: its name, its place and how many docks it has.
-pub fn write_station<W: Write>(
+pub fn write_station<W: Output>(
     json: &mut JsonState,
     out: &mut W,
     system: &System,

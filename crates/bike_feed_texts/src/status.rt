@@ -10,9 +10,8 @@ ghost use Rattle.bike_feed_texts.specs.Writing.{WroteMember, WroteMembers, Wrote
 use crate::members::{flag_member, moment_member, text_member, whole_member};
 use bike_fields::Ident;
 use bike_fixed::Moment;
-use bike_json::{JsonState, Level};
+use bike_json::{JsonState, Level, Output};
 use bike_stream::WriteFault;
-use std::io::Write;
 
 /// How many bicycles of a vehicle type are available at a station.
 #[derive(Debug, Drop)]
@@ -53,7 +52,7 @@ pub struct StationReport<'a> {
     pub reported: Moment,
 }
 
-fn write_type_count<W: Write>(json: &mut JsonState, out: &mut W, count: &TypeCount)
+fn write_type_count<W: Output>(json: &mut JsonState, out: &mut W, count: &TypeCount)
     requires value { IsTrue (takes_value json.old.top) }
     requires room { length json.old.round < 16 }
     ensures wrote { WroteValue json.old json.new (W.contents out.old) (W.contents out.new) (type_count_tree count.now) }
@@ -66,7 +65,7 @@ fn write_type_count<W: Write>(json: &mut JsonState, out: &mut W, count: &TypeCou
 }
 
 /// The counts by type as items.
-fn write_type_counts<W: Write>(json: &mut JsonState, out: &mut W, counts: &[TypeCount])
+fn write_type_counts<W: Output>(json: &mut JsonState, out: &mut W, counts: &[TypeCount])
     requires top { json.old.top ≡ Level.EmptyArray }
     requires room { length json.old.round < 16 }
     ensures wrote { Wrote json.old json.new (W.contents out.old) (W.contents out.new) (items_text false (items type_count_tree counts.now)) }
@@ -78,7 +77,12 @@ fn write_type_counts<W: Write>(json: &mut JsonState, out: &mut W, counts: &[Type
 }
 
 /// The counts by type as a member.
-fn type_counts_member<W: Write>(json: &mut JsonState, out: &mut W, name: &str, counts: &[TypeCount])
+fn type_counts_member<W: Output>(
+    json: &mut JsonState,
+    out: &mut W,
+    name: &str,
+    counts: &[TypeCount],
+)
     requires name { IsTrue (takes_name json.old.top) }
     requires room { length json.old.round < 15 }
     ensures wrote { WroteMember json.old json.new (W.contents out.old) (W.contents out.new) name.now (array (items type_count_tree counts.now)) }
@@ -90,7 +94,7 @@ fn type_counts_member<W: Write>(json: &mut JsonState, out: &mut W, name: &str, c
     let _ = json.end_array(out);
 }
 
-fn counts_members<W: Write>(json: &mut JsonState, out: &mut W, counts: &Counts<'_>)
+fn counts_members<W: Output>(json: &mut JsonState, out: &mut W, counts: &Counts<'_>)
     requires top { json.old.top ≡ Level.FilledObject }
     requires room { length json.old.round < 15 }
     ensures wrote { WroteMembers json.old json.new (W.contents out.old) (W.contents out.new) (members (counts_members (counts_row counts.now))) }
@@ -110,7 +114,7 @@ fn while_installed(station: &StationReport<'_>, flag: bool) -> bool
     station.is_installed && flag
 }
 
-fn report_members<W: Write>(json: &mut JsonState, out: &mut W, station: &StationReport<'_>)
+fn report_members<W: Output>(json: &mut JsonState, out: &mut W, station: &StationReport<'_>)
     requires { json.old.top ≡ Level.FilledObject }
     ensures wrote { WroteMembers json.old json.new (W.contents out.old) (W.contents out.new) (members (report_members (report_row station.now))) }
     ensures place { IsAt json.new Level.FilledObject json.old.round }
@@ -132,7 +136,7 @@ fn report_members<W: Write>(json: &mut JsonState, out: &mut W, station: &Station
 }
 
 /// Writes the status of a station. It rents bicycles and takes them back only while it is installed.
-pub fn write_status<W: Write>(
+pub fn write_status<W: Output>(
     json: &mut JsonState,
     out: &mut W,
     station: &StationReport<'_>,

@@ -12,12 +12,11 @@ use crate::frame::open_feed;
 use crate::members::{localized_member, text_member};
 use bike_catalogue::System;
 use bike_fixed::Moment;
-use bike_json::{JsonState, Level};
+use bike_json::{JsonState, Level, Output};
 use bike_stream::WriteFault;
-use std::io::Write;
 
 /// A list of one text.
-fn texts_member<W: Write>(json: &mut JsonState, out: &mut W, name: &str, value: &str)
+fn texts_member<W: Output>(json: &mut JsonState, out: &mut W, name: &str, value: &str)
     requires name { IsTrue (takes_name json.old.top) }
     requires room { length json.old.round < 16 }
     ensures wrote { WroteMember json.old json.new (W.contents out.old) (W.contents out.new) name.now (array (item (text value.now) no_items)) }
@@ -29,7 +28,7 @@ fn texts_member<W: Write>(json: &mut JsonState, out: &mut W, name: &str, value: 
     let _ = json.end_array(out);
 }
 
-fn write_information<W: Write>(json: &mut JsonState, out: &mut W, system: &System)
+fn write_information<W: Output>(json: &mut JsonState, out: &mut W, system: &System)
     requires value { IsTrue (takes_value json.old.top) }
     requires room { length json.old.round < 14 }
     ensures wrote { WroteValue json.old json.new (W.contents out.old) (W.contents out.new) (information_tree system.now) }
@@ -51,7 +50,7 @@ fn write_information<W: Write>(json: &mut JsonState, out: &mut W, system: &Syste
 }
 
 /// Writes the feed `system_information` of a system, which depends on no more of the operator.
-pub fn write_system_information<W: Write>(
+pub fn write_system_information<W: Output>(
     json: &mut JsonState,
     out: &mut W,
     system: &System,

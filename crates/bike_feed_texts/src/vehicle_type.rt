@@ -7,12 +7,11 @@ ghost use Rattle.bike_feed_texts.specs.Writing.{WroteMembers, WroteValue};
 
 use crate::members::{localized_member, text_member, whole_member};
 use bike_catalogue::{Propulsion, System, VehicleType};
-use bike_json::{JsonState, Level};
+use bike_json::{JsonState, Level, Output};
 use bike_stream::WriteFault;
-use std::io::Write;
 
 /// The greatest range in metres, where the propulsion has one.
-fn range_member<W: Write>(json: &mut JsonState, out: &mut W, propulsion: Propulsion, metres: u32)
+fn range_member<W: Output>(json: &mut JsonState, out: &mut W, propulsion: Propulsion, metres: u32)
     requires { json.old.top ≡ Level.FilledObject }
     ensures wrote { WroteMembers json.old json.new (W.contents out.old) (W.contents out.new) (members (range_members propulsion metres)) }
     ensures place { IsAt json.new Level.FilledObject json.old.round }
@@ -24,7 +23,7 @@ fn range_member<W: Write>(json: &mut JsonState, out: &mut W, propulsion: Propuls
 }
 
 /// Writes a vehicle type.
-pub fn write_type<W: Write>(
+pub fn write_type<W: Output>(
     json: &mut JsonState,
     out: &mut W,
     system: &System,

@@ -13,7 +13,7 @@ use Rattle.bike_feeds.specs.Publishing.{LeavesDesk}
 use Rattle.bike_feeds.specs.Walking.{StaysAt}
 
 -- the same fault as the end of another function
-same_fault : {A B : Type 0} {x y : FeedFault} → ◌≡◌ {A = Result A FeedFault} (Err x) (Err y) → ◌≡◌ {A = Result B FeedFault} (Err x) (Err y)
+pub same_fault : {A B : Type 0} {x y : FeedFault} → ◌≡◌ {A = Result A FeedFault} (Err x) (Err y) → ◌≡◌ {A = Result B FeedFault} (Err x) (Err y)
 same_fault is = cc
 
 told : {A B : Type 0} {x y : DeskFault} → ◌≡◌ {A = Result B FeedFault} (Err (Desk x)) (Err (Desk y)) → ◌≡◌ {A = Result A DeskFault} (Err x) (Err y)

@@ -1,5 +1,5 @@
 -- A feed of the system that the desk has.
-use Rattle.std.proofs.Common.{◌≡◌, ℕ, List, ◌++◌, length, Bool, true, false, not, Option, Some, None, Result, Ok, Err, OnOk, OnErr, refl, sym, ap, ◌∙◌, subst, arith}
+use Rattle.std.proofs.Common.{◌≡◌, ℕ, List, ◌++◌, length, Bool, true, false, not, Option, Some, None, Result, Ok, Err, OnOk, OnErr, inl, inr, refl, sym, ap, ◌∙◌, subst, arith}
 use Rattle.std.specs.Prelude.{MatchOption}
 use Rattle.std.specs.Result.{IsErrAnd}
 use Rattle.std.specs.Io.KnownBytes.{Keeps, Appends}
@@ -8,8 +8,9 @@ use Rattle.sqlite_trees.specs.declared.store.Store.{Ghosts}
 use Rattle.sqlite.specs.State.{HasCleanDisk}
 use Rattle.bike_stream.specs.Writing.{AppendsFront}
 use Rattle.bike_catalogue.specs.Rows.{SystemRow}
+use Rattle.bike_json.specs.Outputs.{OutputState}
 use Rattle.bike_json.specs.Tree.{Tree, comma, text_of}
-use Rattle.bike_json.specs.State.{Place, Wrote, outset, has_more}
+use Rattle.bike_json.specs.State.{Place, Wrote, MayFail, outset, has_more}
 use Rattle.bike_json.proofs.Series.{Wrote_as}
 use Rattle.bike_feed_texts.specs.declared.feed.Feed.{Feed}
 use Rattle.bike_feed_texts.specs.Trees.{feed_tree}
@@ -19,23 +20,23 @@ use Rattle.bike_desk.specs.Desk.{DeskValue, shown, IsAt}
 use Rattle.bike_desk.specs.Queries.{Queries}
 use Rattle.bike_feeds.specs.declared.fault.FeedFault.{FeedFault}
 use Rattle.bike_feeds.specs.declared.fault.FeedFault.TheVariants.{SystemMissing, Write}
-use Rattle.bike_feeds.specs.Publishing.{LeavesDesk, feed_text, IsPublished, IsBegun}
+use Rattle.bike_feeds.specs.Publishing.{LeavesDesk, feed_text, IsPublished, IsBegun, IsTooLong, MayFailToWrite}
 use Rattle.bike_feeds.specs.Walking.{StaysAt, WritesText, IsCounted}
-use Rattle.bike_feeds.proofs.DeskLemmas.{earlier, stays_still, stays_asked, leaves_ok, leaves_missing, leaves_then, leaves_same}
+use Rattle.bike_feeds.proofs.DeskLemmas.{same_fault, earlier, stays_still, stays_asked, leaves_ok, leaves_missing, leaves_then, leaves_same}
 use Rattle.bike_feeds.proofs.TextLemmas.{text_told, text_cut, text_passed}
 
 -- ---- one feed of a system
 
-value_wrote : {p t : Place} {a b : Option (List ℕ)} {v : Tree} → p ≡ outset → WroteValue p t a b v → Wrote p t a b (text_of v)
+value_wrote : {p t : Place} {a b : OutputState} {v : Tree} → p ≡ outset → WroteValue p t a b v → Wrote p t a b (text_of v)
 value_wrote {p} {t} {a} {b} {v} start w = Wrote_as (ap (λ (y : Place). comma (has_more y.top) ++ text_of v) start) w.are
 
 module _ {S : Type 0} (g : Ghosts S) (x : SystemRow) (moment : ℕ) {feed : Feed} (kind : Feed) (is : feed ≡ kind) where
-  pub feed_as : {A : Type 0} {d e : DeskValue S} {a b : Option (List ℕ)} {count : ℕ} {result : Result A FeedFault}
+  pub feed_as : {A : Type 0} {d e : DeskValue S} {a b : OutputState} {count : ℕ} {result : Result A FeedFault}
       → WritesText g d e a b count result (λ s. feed_text s x kind moment) → WritesText g d e a b count result (λ s. feed_text s x feed moment)
   feed_as {A} {d} {e} {a} {b} {count} {result} w = subst (λ (f : Feed). WritesText g d e a b count result (λ s. feed_text s x f moment)) (sym is) w
 
   -- a feed that depends on no more than the system
-  module _ {d : DeskValue S} {p t : Place} {a b : Option (List ℕ)} (start : p ≡ outset) (going : d.is_stopped ≡ false)
+  module _ {d : DeskValue S} {p t : Place} {a b : OutputState} (start : p ≡ outset) (going : d.is_stopped ≡ false)
       (wrote : (s : Operator) → WroteValue p t a b (feed_tree s x kind moment)) where
     pub value_done : {A : Type 0} (v : A) → true ≡ not t.failed → WritesText g d d a b t.count (Ok v) (λ s. feed_text s x feed moment)
     value_done v well =
@@ -77,6 +78,23 @@ begun : {A : Type 0} (s : Operator) (x : SystemRow) (feed : Feed) (moment : ℕ)
 begun s x feed moment a b (Ok y) set h = tt
 begun s x feed moment a b (Err e) set h = subst (λ (o : Option SystemRow). MatchOption o (Keeps a b) (λ y. AppendsFront a b (feed_text s y feed moment))) (sym set) h
 
+why_failed : (s : Operator) (x : SystemRow) (feed : Feed) (moment : ℕ) (a : OutputState) → s.system ≡ Some x → MayFail a 0 (feed_text s x feed moment) → MayFailToWrite a s feed moment
+why_failed s x feed moment a set (inl refuses) = inl refuses
+why_failed s x feed moment a set (inr longer) = inr (x, set, omega (arith, longer))
+
+-- an output that refuses nothing fails only where the feed is too long
+pub only_too_long : (s : Operator) (feed : Feed) (moment : ℕ) (a : OutputState) → a.may_refuse ≡ false → MayFailToWrite a s feed moment → IsTooLong s feed moment
+only_too_long s feed moment a never (inl refuses) = let e : true ≡ false = sym refuses ∙ never in absurd (cc e)
+only_too_long s feed moment a never (inr longer) = longer
+
+-- so what hands its fault on does
+pub told_too_long : {A B : Type 0} (s : Operator) (feed : Feed) (moment : ℕ) (a : OutputState) (fault : FeedFault) (result : Result B FeedFault) → a.may_refuse ≡ false
+    → IsErrAnd result (λ told. told ≡ fault) → (◌≡◌ {A = Result A FeedFault} (Err fault) (Err Write) → MayFailToWrite a s feed moment)
+    → result ≡ Err Write → IsTooLong s feed moment
+told_too_long s feed moment a fault (Ok x) never is cause e = absurd is
+told_too_long {A} s feed moment a fault (Err told) never is cause e =
+    only_too_long s feed moment a never (cause (ap (λ f. Err f) (sym is) ∙ same_fault e))
+
 module _ {S : Type 0} (g : Ghosts S) {d e : DeskValue S} (o : Option SystemRow) (q : Queries g d e (Ok o) (λ s x. x ≡ s.system)) where
   asked : StaysAt g d e
   asked = stays_asked g o (was_going g o q) q
@@ -87,21 +105,26 @@ module _ {S : Type 0} (g : Ghosts S) {d e : DeskValue S} (o : Option SystemRow) 
   has : (x : SystemRow) → o ≡ Some x → HasCleanDisk (shown g e) → (s : Operator) → IsAt g d s → s.system ≡ Some x
   has x is clean s at = sym (q.ok clean s at).0 ∙ is
 
-  pub publish_leaves : {A : Type 0} {f : DeskValue S} {a b : Option (List ℕ)} {count : ℕ} {result : Result A FeedFault} {text : Operator → List ℕ}
+  pub publish_leaves : {A : Type 0} {f : DeskValue S} {a b : OutputState} {count : ℕ} {result : Result A FeedFault} {text : Operator → List ℕ}
       → WritesText g e f a b count result text → LeavesDesk g d f result
   publish_leaves w = leaves_then g asked w.desk
 
-  module _ {A : Type 0} {f : DeskValue S} (x : SystemRow) (is : o ≡ Some x) (feed : Feed) (moment : ℕ) {a b : Option (List ℕ)} {count : ℕ} (result : Result A FeedFault)
+  module _ {A : Type 0} {f : DeskValue S} (x : SystemRow) (is : o ≡ Some x) (feed : Feed) (moment : ℕ) {a b : OutputState} {count : ℕ} (result : Result A FeedFault)
       (w : WritesText g e f a b count result (λ s. feed_text s x feed moment)) where
-    pub publish_whole : HasCleanDisk (shown g f) → (s : Operator) → IsAt g d s → OnOk result (IsCounted s feed moment a b count)
+    pub publish_whole : HasCleanDisk (shown g f) → (s : Operator) → IsAt g d s → OnOk result (IsCounted s feed moment a.bytes b.bytes count)
     publish_whole clean s at =
         let before = earlier g e f w.desk.clean clean in
-        counted s x feed moment a b count result (has x is before s at) (w.whole clean s (asked.same before s at))
+        counted s x feed moment a.bytes b.bytes count result (has x is before s at) (w.whole clean s (asked.same before s at))
 
-    pub publish_front : HasCleanDisk (shown g f) → (s : Operator) → IsAt g d s → OnErr result (IsBegun s feed moment a b)
+    pub publish_front : HasCleanDisk (shown g f) → (s : Operator) → IsAt g d s → OnErr result (IsBegun s feed moment a.bytes b.bytes)
     publish_front clean s at =
         let before = earlier g e f w.desk.clean clean in
-        begun s x feed moment a b result (has x is before s at) (w.front clean s (asked.same before s at))
+        begun s x feed moment a.bytes b.bytes result (has x is before s at) (w.front clean s (asked.same before s at))
+
+    pub publish_cause : HasCleanDisk (shown g f) → (s : Operator) → IsAt g d s → result ≡ Err Write → MayFailToWrite a s feed moment
+    publish_cause clean s at failed =
+        let before = earlier g e f w.desk.clean clean in
+        why_failed s x feed moment a (has x is before s at) (w.cause clean s (asked.same before s at) failed)
 
 -- ---- what callers are told
 

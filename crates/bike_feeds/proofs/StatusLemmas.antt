@@ -6,6 +6,7 @@ use Rattle.std.specs.FinMap.{entries, get, keys}
 use Rattle.sqlite_trees.specs.declared.store.Store.{Ghosts}
 use Rattle.sqlite.specs.State.{HasCleanDisk}
 use Rattle.bike_catalogue.specs.Rows.{TypeRow}
+use Rattle.bike_json.specs.Outputs.{OutputState}
 use Rattle.bike_json.specs.Tree.{Tree}
 use Rattle.bike_json.specs.State.{Place, IsAt as IsIn, after_value}
 use Rattle.bike_operator.specs.Operator.{Operator, Station}
@@ -88,7 +89,7 @@ module _ {S : Type 0} (g : Ghosts S) where
       }
 
   -- a status is written from what was read of the station
-  pub status_writes : {d e : DeskValue S} {p q r : Place} {a b c : Option (List ℕ)} {ids : List (List ℕ)} (x : StationStatus)
+  pub status_writes : {d e : DeskValue S} {p q r : Place} {a b c : OutputState} {ids : List (List ℕ)} (x : StationStatus)
       → Walks g id tree (λ s. s.stations) (Some (station_of x.info)) d e p q a b → HasCounts ids (Some x) d e
       → WroteValue q r b c (status_tree (report_of (station_of x.info)) (shown_counts x.counts)) → IsIn r (after_value q.top) q.round
       → Passes g id tree (λ s. s.stations) (station_of x.info) d e p r a c

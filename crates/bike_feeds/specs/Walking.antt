@@ -1,13 +1,14 @@
 -- What the functions owe of which a feed is made, and what holds between two questions to the desk.
-use Rattle.std.specs.Prelude.{◌≡◌, ◌≤◌, ℕ, List, length, false, IsTrue, Option, Some, Result, OnOk, OnErr}
+use Rattle.std.specs.Prelude.{◌≡◌, ◌≤◌, ◌+◌, ◌⊎◌, ℕ, List, length, false, IsTrue, Option, Some, Result, Err, OnOk, OnErr}
 use Rattle.std.specs.Io.KnownBytes.{Appends}
 use Rattle.sqlite_trees.specs.View.{doubt}
 use Rattle.sqlite_trees.specs.declared.store.Store.{Ghosts}
 use Rattle.sqlite.specs.State.{HasCleanDisk}
 use Rattle.bike_stream.specs.Writing.{AppendsFront}
+use Rattle.bike_json.specs.Outputs.{OutputState}
 use Rattle.bike_json.specs.Tree.{Tree, items_text}
 use Rattle.bike_json.specs.Rows.{items, WroteFront}
-use Rattle.bike_json.specs.State.{Place, Wrote, takes_array_end}
+use Rattle.bike_json.specs.State.{Place, Wrote, MayFail, greatest_count, takes_array_end}
 use Rattle.bike_catalogue.specs.Rows.{SystemRow}
 use Rattle.bike_operator.specs.Operator.{Operator}
 use Rattle.bike_feed_texts.specs.declared.feed.Feed.{Feed}
@@ -16,6 +17,7 @@ use Rattle.bike_queries.specs.declared.counts.Counts.{Counts}
 use Rattle.bike_schema.specs.Stands.{AllLeft}
 use Rattle.bike_desk.specs.Desk.{DeskValue, shown, IsAt}
 use Rattle.bike_feeds.specs.declared.fault.FeedFault.{FeedFault}
+use Rattle.bike_feeds.specs.declared.fault.FeedFault.TheVariants.{Write}
 use Rattle.bike_feeds.specs.Publishing.{LeavesDesk, feed_text}
 
 -- the desk was asked, goes on, and is at the operator at whom it was
@@ -26,21 +28,28 @@ pub record StaysAt {S : Type 0} (g : Ghosts S) (old new : DeskValue S) : Type 0 
   pub went_on : old.is_stopped ≡ false
   pub goes_on : new.is_stopped ≡ false
 
+-- why the writing of a list may end: the output may refuse bytes, or with these the count reaches its greatest
+abbrev pub MayEnd : OutputState → ℕ → List ℕ → Type 0
+MayEnd output count bytes = IsTrue output.may_refuse ⊎ (greatest_count ≤ count + length bytes)
+
 -- THE ELEMENTS OF A LIST were written as items, or at a fault a front of their text
-pub record WritesItems {S X : Type 0} (g : Ghosts S) (old new : DeskValue S) (from to : Place) (before after : Option (List ℕ)) {A : Type 0} (result : Result A FeedFault)
+pub record WritesItems {S X : Type 0} (g : Ghosts S) (old new : DeskValue S) (from to : Place) (before after : OutputState) {A : Type 0} (result : Result A FeedFault)
     (tree : Operator → X → Tree) (rows : Operator → List X) : Type 0 where
   pub desk : LeavesDesk g old new result
   pub all : HasCleanDisk (shown g new) → (s : Operator) → IsAt g old s → OnOk result (Wrote from to before after (items_text false (items (tree s) (rows s))))
   pub front : HasCleanDisk (shown g new) → (s : Operator) → IsAt g old s → OnErr result (WroteFront from to before after (items_text false (items (tree s) (rows s))))
+  pub cause : HasCleanDisk (shown g new) → (s : Operator) → IsAt g old s → from.failed ≡ false → result ≡ Err Write
+      → MayEnd before from.count (items_text false (items (tree s) (rows s)))
   pub inside : IsTrue (takes_array_end to.top)
   pub round : to.round ≡ from.round
 
 -- A WHOLE TEXT was written and counted, or at a fault a front of it and not all
-pub record WritesText {S : Type 0} (g : Ghosts S) (old new : DeskValue S) (before after : Option (List ℕ)) (count : ℕ) {A : Type 0} (result : Result A FeedFault)
+pub record WritesText {S : Type 0} (g : Ghosts S) (old new : DeskValue S) (before after : OutputState) (count : ℕ) {A : Type 0} (result : Result A FeedFault)
     (text : Operator → List ℕ) : Type 0 where
   pub desk : LeavesDesk g old new result
-  pub whole : HasCleanDisk (shown g new) → (s : Operator) → IsAt g old s → OnOk result (Appends before after (text s) × (count ≡ length (text s)))
-  pub front : HasCleanDisk (shown g new) → (s : Operator) → IsAt g old s → OnErr result (AppendsFront before after (text s))
+  pub whole : HasCleanDisk (shown g new) → (s : Operator) → IsAt g old s → OnOk result (Appends before.bytes after.bytes (text s) × (count ≡ length (text s)))
+  pub front : HasCleanDisk (shown g new) → (s : Operator) → IsAt g old s → OnErr result (AppendsFront before.bytes after.bytes (text s))
+  pub cause : HasCleanDisk (shown g new) → (s : Operator) → IsAt g old s → result ≡ Err Write → MayFail before 0 (text s)
 
 -- the whole feed was written, and counted
 abbrev pub IsCounted : Operator → Feed → ℕ → Option (List ℕ) → Option (List ℕ) → ℕ → Type 0

@@ -1,12 +1,13 @@
 //! Whole feeds.
 
-ghost use Rattle.std.specs.Prelude.{◌≡◌, false, IsTrue, IfOk, OnOk, OnErr};
+ghost use Rattle.std.specs.Prelude.{◌≡◌, false, IsTrue, Err, IfOk, OnOk, OnErr};
 ghost use Rattle.std.specs.Io.KnownBytes.{Keeps};
 ghost use Rattle.sqlite.specs.State.{HasCleanDisk};
 ghost use Rattle.bike_json.specs.State.{outset};
 ghost use Rattle.bike_operator.specs.Operator.{Operator};
 ghost use Rattle.bike_desk.specs.Desk.{shown, IsAt};
-ghost use Rattle.bike_feeds.specs.Publishing.{feed_text, IsPublished, IsBegun, IsLength, LeavesDesk};
+ghost use Rattle.bike_feeds.specs.declared.fault.FeedFault.TheVariants.{Write as WriteFailed};
+ghost use Rattle.bike_feeds.specs.Publishing.{feed_text, IsPublished, IsBegun, IsLength, IsTooLong, MayFailToWrite, LeavesDesk};
 ghost use Rattle.bike_feeds.specs.Walking.{IsCounted, WritesText};
 
 use crate::fault::FeedFault;
@@ -17,14 +18,13 @@ use bike_catalogue::System;
 use bike_desk::Desk;
 use bike_feed_texts::{Feed, write_gbfs, write_system_information};
 use bike_fixed::Moment;
-use bike_json::JsonState;
+use bike_json::{Discard, JsonState, Output};
 use sqlite::Alter;
 use std::alloc::Global;
-use std::io;
 use std::io::Write;
 
 /// Writes the feed of a system.
-fn write_of_system<S: Alter, W: Write>(
+fn write_of_system<S: Alter, W: Output>(
     alloc: Global,
     desk: &mut Desk<S>,
     system: &System,
@@ -54,7 +54,7 @@ fn write_of_system<S: Alter, W: Write>(
 }
 
 /// Writes the feed of the system that the desk has, and counts what it writes.
-fn publish<S: Alter, W: Write>(
+fn publish<S: Alter, W: Output>(
     alloc: Global,
     desk: &mut Desk<S>,
     feed: Feed,
@@ -65,10 +65,12 @@ fn publish<S: Alter, W: Write>(
     requires { json.old ≡ outset }
     ensures desk { LeavesDesk S.Store desk.old desk.new result }
     ensures whole { HasCleanDisk (shown S.Store desk.new) → (s : Operator) → IsAt S.Store desk.old s
-        → OnOk result (IsCounted s feed moment (W.contents out.old) (W.contents out.new) json.new.count) }
+        → OnOk result (IsCounted s feed moment (W.contents out.old).bytes (W.contents out.new).bytes json.new.count) }
     ensures front { HasCleanDisk (shown S.Store desk.new) → (s : Operator) → IsAt S.Store desk.old s
-        → OnErr result (IsBegun s feed moment (W.contents out.old) (W.contents out.new)) }
-    ensures nothing { IsTrue desk.old.is_stopped → Keeps (W.contents out.old) (W.contents out.new) }
+        → OnErr result (IsBegun s feed moment (W.contents out.old).bytes (W.contents out.new).bytes) }
+    ensures cause { HasCleanDisk (shown S.Store desk.new) → (s : Operator) → IsAt S.Store desk.old s
+        → result ≡ Err WriteFailed → MayFailToWrite (W.contents out.old) s feed moment }
+    ensures nothing { IsTrue desk.old.is_stopped → Keeps (W.contents out.old).bytes (W.contents out.new).bytes }
 {
     let Some(system) = desk.system(alloc)? else {
         return Err(FeedFault::SystemMissing);
@@ -99,7 +101,8 @@ pub fn write_feed<S: Alter, W: Write>(
     publish(alloc, desk, feed, moment, &mut json, out)
 }
 
-/// The length in bytes of what `write_feed` writes. Fails as that does.
+/// The length in bytes of what `write_feed` writes. Fails as that does, but that `Write` comes only where the text is longer than any
+/// count tells.
 pub fn feed_length<S: Alter>(
     alloc: Global,
     desk: &mut Desk<S>,
@@ -109,8 +112,10 @@ pub fn feed_length<S: Alter>(
     ensures desk { LeavesDesk S.Store desk.old desk.new result }
     ensures length { HasCleanDisk (shown S.Store desk.new) → (s : Operator) → IsAt S.Store desk.old s
         → IfOk result (λ n. IsLength s feed moment n) }
+    ensures too_long { HasCleanDisk (shown S.Store desk.new) → (s : Operator) → IsAt S.Store desk.old s
+        → result ≡ Err WriteFailed → IsTooLong s feed moment }
 {
     let mut json = JsonState::new();
-    publish(alloc, desk, feed, moment, &mut json, &mut io::sink())?;
+    publish(alloc, desk, feed, moment, &mut json, &mut Discard)?;
     Ok(json.count())
 }

@@ -13,15 +13,14 @@ use crate::fault::FeedFault;
 use bike_catalogue::System;
 use bike_desk::Desk;
 use bike_feed_texts::{Counts, StationReport, write_plan, write_station, write_status, write_type};
-use bike_json::{JsonState, Level};
+use bike_json::{JsonState, Level, Output};
 use bike_queries::StationStatus;
 use bike_stream::WriteFault;
 use sqlite::Alter;
 use std::alloc::Global;
-use std::io::Write;
 
 /// Writes the vehicle types as items.
-pub(crate) fn write_types<S: Alter, W: Write>(
+pub(crate) fn write_types<S: Alter, W: Output>(
     alloc: Global,
     desk: &mut Desk<S>,
     system: &System,
@@ -34,19 +33,19 @@ pub(crate) fn write_types<S: Alter, W: Write>(
         (λ s. type_tree system.now) (λ s. values s.types) }
 {
     let mut next = desk.type_after(alloc, None)?;
-    'types: for _ in 0..usize::MAX {
+    'types: while json.count() < u64::MAX {
         let Some(vehicle_type) = next else {
             return Ok(());
         };
         write_type(json, out, system, &vehicle_type)?;
         next = desk.type_after(alloc, Some(vehicle_type.type_id()))?;
     }
-    // No list is that long.
+    // No count is greater.
     Err(FeedFault::Write)
 }
 
 /// Writes the stations as items.
-pub(crate) fn write_stations<S: Alter, W: Write>(
+pub(crate) fn write_stations<S: Alter, W: Output>(
     alloc: Global,
     desk: &mut Desk<S>,
     system: &System,
@@ -59,19 +58,19 @@ pub(crate) fn write_stations<S: Alter, W: Write>(
         (λ s station. station_tree system.now station.row) (λ s. values s.stations) }
 {
     let mut next = desk.station_after(alloc, None)?;
-    'stations: for _ in 0..usize::MAX {
+    'stations: while json.count() < u64::MAX {
         let Some(info) = next else {
             return Ok(());
         };
         write_station(json, out, system, &info.station)?;
         next = desk.station_after(alloc, Some(info.station.station_id()))?;
     }
-    // No list is that long.
+    // No count is greater.
     Err(FeedFault::Write)
 }
 
 /// Writes a station's status.
-fn write_report<W: Write>(
+fn write_report<W: Output>(
     json: &mut JsonState,
     out: &mut W,
     status: &StationStatus,
@@ -102,7 +101,7 @@ fn write_report<W: Write>(
 }
 
 /// Writes the stations' statuses as items. The types' identifiers are read once, before the first station.
-pub(crate) fn write_statuses<S: Alter, W: Write>(
+pub(crate) fn write_statuses<S: Alter, W: Output>(
     alloc: Global,
     desk: &mut Desk<S>,
     json: &mut JsonState,
@@ -115,7 +114,7 @@ pub(crate) fn write_statuses<S: Alter, W: Write>(
 {
     let type_ids = desk.type_ids(alloc)?;
     let mut next = desk.status_after(alloc, None, type_ids.as_slice())?;
-    'stations: for _ in 0..usize::MAX {
+    'stations: while json.count() < u64::MAX {
         let Some(status) = next else {
             return Ok(());
         };
@@ -123,12 +122,12 @@ pub(crate) fn write_statuses<S: Alter, W: Write>(
         let station = status.info.station.station_id();
         next = desk.status_after(alloc, Some(station), type_ids.as_slice())?;
     }
-    // No list is that long.
+    // No count is greater.
     Err(FeedFault::Write)
 }
 
 /// Writes the pricing plans as items.
-pub(crate) fn write_plans<S: Alter, W: Write>(
+pub(crate) fn write_plans<S: Alter, W: Output>(
     alloc: Global,
     desk: &mut Desk<S>,
     system: &System,
@@ -141,13 +140,13 @@ pub(crate) fn write_plans<S: Alter, W: Write>(
         (λ s. plan_tree system.now) (λ s. values s.plans) }
 {
     let mut next = desk.plan_after(alloc, None)?;
-    'plans: for _ in 0..usize::MAX {
+    'plans: while json.count() < u64::MAX {
         let Some(plan) = next else {
             return Ok(());
         };
         write_plan(json, out, system, &plan)?;
         next = desk.plan_after(alloc, Some(plan.plan_id()))?;
     }
-    // No list is that long.
+    // No count is greater.
     Err(FeedFault::Write)
 }

@@ -11,13 +11,12 @@ use bike_catalogue::System;
 use bike_desk::Desk;
 use bike_feed_texts::{Feed, close_list, open_list};
 use bike_fixed::Moment;
-use bike_json::JsonState;
+use bike_json::{JsonState, Output};
 use sqlite::Alter;
 use std::alloc::Global;
-use std::io::Write;
 
 /// Writes the feed `vehicle_types`.
-pub(crate) fn write_vehicle_types<S: Alter, W: Write>(
+pub(crate) fn write_vehicle_types<S: Alter, W: Output>(
     alloc: Global,
     desk: &mut Desk<S>,
     system: &System,
@@ -37,7 +36,7 @@ pub(crate) fn write_vehicle_types<S: Alter, W: Write>(
 }
 
 /// Writes the feed `station_information`.
-pub(crate) fn write_station_information<S: Alter, W: Write>(
+pub(crate) fn write_station_information<S: Alter, W: Output>(
     alloc: Global,
     desk: &mut Desk<S>,
     system: &System,
@@ -57,7 +56,7 @@ pub(crate) fn write_station_information<S: Alter, W: Write>(
 }
 
 /// Writes the feed `station_status`.
-pub(crate) fn write_station_status<S: Alter, W: Write>(
+pub(crate) fn write_station_status<S: Alter, W: Output>(
     alloc: Global,
     desk: &mut Desk<S>,
     system: &System,
@@ -77,7 +76,7 @@ pub(crate) fn write_station_status<S: Alter, W: Write>(
 }
 
 /// Writes the feed `system_pricing_plans`.
-pub(crate) fn write_pricing_plans<S: Alter, W: Write>(
+pub(crate) fn write_pricing_plans<S: Alter, W: Output>(
     alloc: Global,
     desk: &mut Desk<S>,
     system: &System,

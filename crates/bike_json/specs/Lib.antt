@@ -2,6 +2,7 @@ pub mod Escapes
 pub mod Front
 pub mod Strings
 pub mod Tree
+pub mod Outputs
 pub mod State
 pub mod Rows
 pub mod Buffered

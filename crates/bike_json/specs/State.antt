@@ -1,7 +1,8 @@
 -- Where a writer of JSON stands, and what a series of calls writes.
-use Rattle.std.specs.Prelude.{◌≡◌, ℕ, zero, suc, ◌+◌, List, [], ◌∷◌, length, Bool, true, false, Option, get_or}
+use Rattle.std.specs.Prelude.{◌≡◌, ◌<◌, ◌⊎◌, ℕ, zero, suc, ◌+◌, List, [], ◌∷◌, length, Bool, true, false, IsTrue, get_or}
 use Rattle.std.specs.Io.KnownBytes.{Keeps, Appends}
 use Rattle.bike_stream.specs.Writing.{AppendsFront}
+use Rattle.bike_json.specs.Outputs.{OutputState, IsSameOutput}
 use Rattle.bike_json.specs.declared.level.Level.{Level}
 use Rattle.bike_json.specs.declared.level.Level.TheVariants.{Start, Done, EmptyArray, FilledArray, EmptyObject, FilledObject, NamedObject}
 
@@ -17,10 +18,10 @@ pub record Place : Type 0 where
   pub failed : Bool
   pub count : ℕ
 
--- a text that is being written: where it stands, and the bytes that its writer holds, where those are known
+-- a text that is being written: where it stands, and the output that it goes to
 pub record Text : Type 0 where
   pub place : Place
-  pub contents : Option (List ℕ)
+  pub contents : OutputState
 
 -- where every text begins
 abbrev pub outset : Place
@@ -76,16 +77,25 @@ after_value EmptyObject = FilledObject
 after_value FilledObject = FilledObject
 after_value NamedObject = FilledObject
 
--- what calls do to the failure, the count and the bytes that the writer holds: after a failure nothing is
--- written; at one a front of the bytes, and not all; without one all of them, which the count gains
-abbrev pub Writes : Bool → Bool → ℕ → ℕ → Option (List ℕ) → Option (List ℕ) → List ℕ → Type 0
-Writes true failed before after old new bytes = (failed ≡ true) × (after ≡ before) × Keeps old new
-Writes false true before after old new bytes = AppendsFront old new bytes
-Writes false false before after old new bytes = Appends old new bytes × (after ≡ before + length bytes)
+-- the greatest count, that of a u64
+abbrev pub greatest_count : ℕ
+greatest_count = 18446744073709551615
+
+-- why a call may fail: the output may refuse bytes, or with these the count would pass its bound
+abbrev pub MayFail : OutputState → ℕ → List ℕ → Type 0
+MayFail output count bytes = IsTrue output.may_refuse ⊎ (greatest_count < count + length bytes)
+
+-- what calls do to the failure, the count and the bytes that the output holds: after a failure nothing is
+-- written; at one, for which there is a cause, a front of the bytes, and not all; without one all of them, which the count gains
+abbrev pub Writes : Bool → Bool → ℕ → ℕ → OutputState → OutputState → List ℕ → Type 0
+Writes true failed before after old new bytes = (failed ≡ true) × (after ≡ before) × Keeps old.bytes new.bytes
+Writes false true before after old new bytes = AppendsFront old.bytes new.bytes bytes × MayFail old before bytes
+Writes false false before after old new bytes = Appends old.bytes new.bytes bytes × (after ≡ before + length bytes)
 
 -- calls went from one place to the other and wrote these bytes, or at a failure a front of them
-pub record Wrote (from to : Place) (old new : Option (List ℕ)) (bytes : List ℕ) : Type 0 where
+pub record Wrote (from to : Place) (old new : OutputState) (bytes : List ℕ) : Type 0 where
   pub are : Writes from.failed to.failed from.count to.count old new bytes
+  pub same : IsSameOutput old new
 
 -- the open level and those round it
 abbrev pub IsAt : Place → Level → List Level → Type 0

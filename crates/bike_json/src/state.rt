@@ -9,9 +9,9 @@ ghost use Rattle.bike_json.specs.State.{Wrote, IsAt, outset, takes_value, takes_
 
 use crate::escape::escape;
 use crate::level::Level;
+use crate::output::Output;
 use bike_fixed::{Cents, Micro};
-use bike_stream::{WriteFault, write_whole};
-use std::io::Write;
+use bike_stream::WriteFault;
 use std::marker::Model;
 
 /// How many arrays and objects may be open at once.
@@ -19,10 +19,10 @@ const MOST_LEVELS: usize = 16;
 
 /// Where a JSON text stands; takes no memory.
 ///
-/// Each call writes its part to the writer that it is given, which is to be the same one for one text. A
-/// failed write (an error, 0 bytes taken, or a count that would pass a `u64`) fails the call, and every
-/// later call fails too and writes nothing; the levels go on as if the calls had succeeded, so a caller may
-/// ask for the outcome once, at the end.
+/// Each call writes its part to the output that it is given, which is to be the same one for one text. It fails
+/// where the output refuses bytes or the count would pass a `u64`, and for no other reason; every later call
+/// fails too and writes nothing. The levels go on as if the calls had succeeded, so a caller may ask for the
+/// outcome once, at the end.
 #[derive(Drop)]
 pub struct JsonState {
     top: Level,
@@ -72,7 +72,7 @@ impl JsonState {
     }
 
     /// Begins an object, as a value.
-    pub fn begin_object<W: Write>(&mut self, out: &mut W) -> Result<(), WriteFault>
+    pub fn begin_object<W: Output>(&mut self, out: &mut W) -> Result<(), WriteFault>
         requires value { IsTrue (takes_value self.old.top) }
         requires room { length self.old.round < 16 }
         ensures wrote { Wrote self.old self.new (W.contents out.old) (W.contents out.new) (comma (has_more self.old.top) ++ 123 ∷ []) }
@@ -84,7 +84,7 @@ impl JsonState {
     }
 
     /// Ends the object that is open, where no name waits for its value.
-    pub fn end_object<W: Write>(&mut self, out: &mut W) -> Result<(), WriteFault>
+    pub fn end_object<W: Output>(&mut self, out: &mut W) -> Result<(), WriteFault>
         requires name { IsTrue (takes_name self.old.top) }
         requires round { 0 < length self.old.round }
         ensures wrote { Wrote self.old self.new (W.contents out.old) (W.contents out.new) (125 ∷ []) }
@@ -96,7 +96,7 @@ impl JsonState {
     }
 
     /// Begins an array, as a value.
-    pub fn begin_array<W: Write>(&mut self, out: &mut W) -> Result<(), WriteFault>
+    pub fn begin_array<W: Output>(&mut self, out: &mut W) -> Result<(), WriteFault>
         requires value { IsTrue (takes_value self.old.top) }
         requires room { length self.old.round < 16 }
         ensures wrote { Wrote self.old self.new (W.contents out.old) (W.contents out.new) (comma (has_more self.old.top) ++ 91 ∷ []) }
@@ -108,7 +108,7 @@ impl JsonState {
     }
 
     /// Ends the array that is open.
-    pub fn end_array<W: Write>(&mut self, out: &mut W) -> Result<(), WriteFault>
+    pub fn end_array<W: Output>(&mut self, out: &mut W) -> Result<(), WriteFault>
         requires array { IsTrue (takes_array_end self.old.top) }
         requires round { 0 < length self.old.round }
         ensures wrote { Wrote self.old self.new (W.contents out.old) (W.contents out.new) (93 ∷ []) }
@@ -120,7 +120,7 @@ impl JsonState {
     }
 
     /// A member's name; its value comes next.
-    pub fn name<W: Write>(&mut self, out: &mut W, name: &str) -> Result<(), WriteFault>
+    pub fn name<W: Output>(&mut self, out: &mut W, name: &str) -> Result<(), WriteFault>
         requires name { IsTrue (takes_name self.old.top) }
         ensures wrote { Wrote self.old self.new (W.contents out.old) (W.contents out.new)
             (comma (has_more self.old.top) ++ quoted name.now ++ 58 ∷ []) }
@@ -137,7 +137,7 @@ impl JsonState {
     }
 
     /// A string.
-    pub fn text<W: Write>(&mut self, out: &mut W, text: &str) -> Result<(), WriteFault>
+    pub fn text<W: Output>(&mut self, out: &mut W, text: &str) -> Result<(), WriteFault>
         requires { IsTrue (takes_value self.old.top) }
         ensures wrote { Wrote self.old self.new (W.contents out.old) (W.contents out.new) (comma (has_more self.old.top) ++ quoted text.now) }
         ensures place { IsAt self.new (after_value self.old.top) self.old.round }
@@ -152,7 +152,7 @@ impl JsonState {
     }
 
     /// A whole number, with a `-` exactly below zero and no leading zero.
-    pub fn whole<W: Write>(&mut self, out: &mut W, number: i64) -> Result<(), WriteFault>
+    pub fn whole<W: Output>(&mut self, out: &mut W, number: i64) -> Result<(), WriteFault>
         requires { IsTrue (takes_value self.old.top) }
         ensures wrote { Wrote self.old self.new (W.contents out.old) (W.contents out.new) (comma (has_more self.old.top) ++ signed_decimal number) }
         ensures place { IsAt self.new (after_value self.old.top) self.old.round }
@@ -165,7 +165,7 @@ impl JsonState {
     }
 
     /// An amount, in units with two decimals.
-    pub fn cents<W: Write>(&mut self, out: &mut W, amount: Cents) -> Result<(), WriteFault>
+    pub fn cents<W: Output>(&mut self, out: &mut W, amount: Cents) -> Result<(), WriteFault>
         requires { IsTrue (takes_value self.old.top) }
         ensures wrote { Wrote self.old self.new (W.contents out.old) (W.contents out.new) (comma (has_more self.old.top) ++ cents_text amount) }
         ensures place { IsAt self.new (after_value self.old.top) self.old.round }
@@ -177,7 +177,7 @@ impl JsonState {
     }
 
     /// A coordinate, in degrees with six decimals.
-    pub fn micro<W: Write>(&mut self, out: &mut W, coordinate: Micro) -> Result<(), WriteFault>
+    pub fn micro<W: Output>(&mut self, out: &mut W, coordinate: Micro) -> Result<(), WriteFault>
         requires { IsTrue (takes_value self.old.top) }
         ensures wrote { Wrote self.old self.new (W.contents out.old) (W.contents out.new) (comma (has_more self.old.top) ++ micro_text coordinate) }
         ensures place { IsAt self.new (after_value self.old.top) self.old.round }
@@ -189,7 +189,7 @@ impl JsonState {
     }
 
     /// `true` or `false`.
-    pub fn flag<W: Write>(&mut self, out: &mut W, flag: bool) -> Result<(), WriteFault>
+    pub fn flag<W: Output>(&mut self, out: &mut W, flag: bool) -> Result<(), WriteFault>
         requires { IsTrue (takes_value self.old.top) }
         ensures wrote { Wrote self.old self.new (W.contents out.old) (W.contents out.new) (comma (has_more self.old.top) ++ flag_text flag) }
         ensures place { IsAt self.new (after_value self.old.top) self.old.round }
@@ -200,7 +200,7 @@ impl JsonState {
     }
 
     /// A value whose text needs no quotation marks.
-    fn scalar<W: Write>(&mut self, out: &mut W, text: &str) -> Result<(), WriteFault>
+    fn scalar<W: Output>(&mut self, out: &mut W, text: &str) -> Result<(), WriteFault>
         ensures wrote { Wrote self.old self.new (W.contents out.old) (W.contents out.new) (comma (has_more self.old.top) ++ text.now) }
         ensures place { IsAt self.new (after_value self.old.top) self.old.round }
         ensures count { self.new.failed ≡ true → self.new.count ≡ self.old.count }
@@ -213,7 +213,7 @@ impl JsonState {
         self.settle(before)
     }
 
-    fn begin<W: Write>(&mut self, out: &mut W, token: &[u8], top: Level) -> Result<(), WriteFault>
+    fn begin<W: Output>(&mut self, out: &mut W, token: &[u8], top: Level) -> Result<(), WriteFault>
         requires { length self.old.round < 16 }
         ensures wrote { Wrote self.old self.new (W.contents out.old) (W.contents out.new) (comma (has_more self.old.top) ++ token.now) }
         ensures place { IsAt self.new top (after_value self.old.top ∷ self.old.round) }
@@ -228,7 +228,7 @@ impl JsonState {
         self.settle(before)
     }
 
-    fn end<W: Write>(&mut self, out: &mut W, token: &[u8]) -> Result<(), WriteFault>
+    fn end<W: Output>(&mut self, out: &mut W, token: &[u8]) -> Result<(), WriteFault>
         requires { 0 < length self.old.round }
         ensures wrote { Wrote self.old self.new (W.contents out.old) (W.contents out.new) token.now }
         ensures place { self.old.round ≡ self.new.top ∷ self.new.round }
@@ -242,7 +242,7 @@ impl JsonState {
     }
 
     /// The comma before a part that isn't the first.
-    fn separate<W: Write>(&mut self, out: &mut W)
+    fn separate<W: Output>(&mut self, out: &mut W)
         ensures wrote { Wrote self.old self.new (W.contents out.old) (W.contents out.new) (comma (has_more self.old.top)) }
         ensures place { IsAt self.new self.old.top self.old.round }
     {
@@ -252,7 +252,7 @@ impl JsonState {
         }
     }
 
-    fn quoted<W: Write>(&mut self, out: &mut W, text: &str)
+    fn quoted<W: Output>(&mut self, out: &mut W, text: &str)
         ensures wrote { Wrote self.old self.new (W.contents out.old) (W.contents out.new) (quoted text.now) }
         ensures place { IsAt self.new self.old.top self.old.round }
     {
@@ -262,7 +262,7 @@ impl JsonState {
     }
 
     /// The bytes with their escapes; those that stand for themselves are written in as few runs as there are.
-    fn escaped<W: Write>(&mut self, out: &mut W, bytes: &[u8])
+    fn escaped<W: Output>(&mut self, out: &mut W, bytes: &[u8])
         ensures wrote { Wrote self.old self.new (W.contents out.old) (W.contents out.new) (escaped bytes.now) }
         ensures place { IsAt self.new self.old.top self.old.round }
     {
@@ -280,7 +280,7 @@ impl JsonState {
     }
 
     /// Writes bytes, unless a write failed before or the count would pass a `u64`.
-    fn emit<W: Write>(&mut self, out: &mut W, bytes: &[u8])
+    fn emit<W: Output>(&mut self, out: &mut W, bytes: &[u8])
         ensures wrote { Wrote self.old self.new (W.contents out.old) (W.contents out.new) bytes.now }
         ensures place { IsAt self.new self.old.top self.old.round }
     {
@@ -289,7 +289,7 @@ impl JsonState {
             self.failed = true;
             return;
         }
-        match write_whole(out, bytes) {
+        match out.put(bytes) {
             Ok(()) => self.count += length,
             Err(_) => self.failed = true,
         }

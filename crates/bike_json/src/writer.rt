@@ -8,23 +8,23 @@ ghost use Rattle.bike_json.specs.Tree.{comma, flag_text};
 ghost use Rattle.bike_json.specs.State.{Wrote, IsAt, outset, takes_value, takes_name, takes_array_end, has_more, after_value};
 
 use crate::level::Level;
+use crate::output::Output;
 use crate::state::JsonState;
 use bike_fixed::{Cents, Micro};
 use bike_stream::WriteFault;
-use std::io::Write;
 use std::marker::Model;
 
-/// Writes one JSON text to the writer that it holds, a token at a time and without memory.
+/// Writes one JSON text to the output that it holds, a token at a time and without memory.
 ///
-/// A proof sees where the text stands (`place`) and the bytes that the writer holds (`contents`). Each
+/// A proof sees where the text stands (`place`) and what is known of the output (`contents`). Each
 /// call is that of `JsonState`, and fails as that does.
 #[derive(Drop)]
-pub struct JsonWriter<W: Write + Drop> {
+pub struct JsonWriter<W: Output + Drop> {
     state: JsonState,
     out: W,
 }
 
-impl<W: Write + Drop> Model for JsonWriter<W> {
+impl<W: Output + Drop> Model for JsonWriter<W> {
     ghost use Rattle.bike_json.specs.State.{Text};
 
     ghost Value = { Text };
@@ -32,7 +32,7 @@ impl<W: Write + Drop> Model for JsonWriter<W> {
     ghost view = { λ w. record { place = w.state; contents = W.contents w.out } };
 }
 
-impl<W: Write + Drop> JsonWriter<W> {
+impl<W: Output + Drop> JsonWriter<W> {
     /// Nothing is written yet.
     pub fn new(out: W) -> JsonWriter<W>
         ensures place { result.place ≡ outset }
@@ -51,7 +51,7 @@ impl<W: Write + Drop> JsonWriter<W> {
         self.state.count()
     }
 
-    /// The writer.
+    /// The output.
     pub fn into_inner(self) -> W
         ensures { W.contents result ≡ self.contents }
     {

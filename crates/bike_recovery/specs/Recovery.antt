@@ -1,5 +1,5 @@
 -- What is read of a database that is taken into service again.
-use Rattle.std.specs.Prelude.{◌≡◌, ◌≢◌, ◌≤◌, ◌+◌, ℕ, List, length, take, Option, None, Err, IfOk, IfErr, OnOk, OnErr}
+use Rattle.std.specs.Prelude.{◌≡◌, ◌≢◌, ◌≤◌, ◌+◌, ℕ, List, length, take, Bool, IsTrue, Option, Some, None, Err, IfOk, IfErr, OnOk, OnErr}
 use Rattle.std.specs.Io.KnownBytes.{Keeps}
 use Rattle.sqlite_trees.specs.declared.store.Store.{Ghosts}
 use Rattle.bike_commands.specs.declared.reply.Reply.{Reply}
@@ -9,6 +9,7 @@ use Rattle.bike_operator.specs.Sound.{IsSound}
 use Rattle.bike_schema.specs.Stands.{AllLeft, TreesStandFor}
 use Rattle.bike_queries.specs.Infos.{place_at}
 use Rattle.bike_feed_texts.specs.declared.feed.Feed.TheVariants.{StationStatus}
+use Rattle.bike_feeds.specs.DeskFault.{DeskFault}
 use Rattle.bike_feeds.specs.DeskFault.TheVariants.{StoreFailed, Stopped}
 use Rattle.bike_feeds.specs.Desk.{DeskValue, shown, IsAt}
 use Rattle.bike_feeds.specs.Publishing.{IsPublished, IsBegun}
@@ -36,6 +37,10 @@ abbrev pub ReadsFront : {S : Type 0} → Ghosts S → DeskValue S → Operator �
 ReadsFront g d s calls k bike moment before written reading =
     (j : ℕ) × (k ≤ j) × (j ≤ k + 1) × (j ≤ length calls) × IsSound (after s (take j calls))
     × ReadsOf g d (after s (take j calls)) bike moment before written reading
+
+-- a desk that is stopped serves nothing and says so, and no other desk says that
+abbrev pub TellsStopped : Bool → Option DeskFault → Type 0
+TellsStopped is_stopped end = (IsTrue is_stopped → end ≡ Some Stopped) × (end ≡ Some Stopped → IsTrue is_stopped)
 
 -- what was acknowledged are the replies to a front of the list
 pub record AreReplies (s : Operator) (calls : List Call) (told : List Reply) : Type 0 where

@@ -10,7 +10,7 @@ ghost use Rattle.bike_feeds.specs.Desk.{shown, IsAt};
 ghost use Rattle.bike_feeds.specs.Adoption.{handed, IsWant};
 ghost use Rattle.bike_feeds.specs.Runs.{IsAfterFront, IsAtFront, Ran, StopsBy};
 ghost use Rattle.bike_schema.specs.Stands.{AllLeft};
-ghost use Rattle.bike_recovery.specs.Recovery.{ReadsFront, AreReplies};
+ghost use Rattle.bike_recovery.specs.Recovery.{ReadsFront, AreReplies, TellsStopped};
 ghost use Rattle.bike_recovery.specs.Losses.{IsOnlyWant};
 
 use crate::reading::{Reading, read_again};
@@ -103,6 +103,7 @@ fn resume<S: Alter + Reopen + Drop>(alloc: Global, desk: Desk<S>) -> Result<Desk
 
 /// Serves a list of requests, crashes, takes what the crash left into service again, and reads it as `run_adopt_and_read` does.
 /// The store isn't open again for want of memory or a fault of the disk alone, and what it holds is refused for memory or storage alone.
+/// The list ends with `Stopped` exactly where the desk was stopped before.
 pub fn run_crash_and_read<S: Alter + Reopen + Drop, W: Write>(
     alloc: Global,
     mut desk: Desk<S>,
@@ -118,6 +119,7 @@ pub fn run_crash_and_read<S: Alter + Reopen + Drop, W: Write>(
         → IfOk result.1 (λ r. HasCleanDisk (shown S.Store r.0) → AreReplies s calls.now result.0.replies.items) }
     ensures refused { (s : Operator) → IsAt S.Store desk s → IfErr result.1 (IsOnlyWant S.Store) }
     ensures whole { IsNone result.0.end → length result.0.replies.items ≡ length calls.now }
+    ensures stopped { TellsStopped desk.is_stopped result.0.end }
 {
     let run = desk.run_list(alloc, calls);
     let told = Acknowledged {

@@ -10,7 +10,7 @@ ghost use Rattle.bike_operator.specs.Operator.{Operator};
 ghost use Rattle.bike_feeds.specs.Desk.{shown, IsAt};
 ghost use Rattle.bike_feeds.specs.Runs.{IsAfterFront};
 ghost use Rattle.bike_schema.specs.Stands.{AllLeft};
-ghost use Rattle.bike_recovery.specs.Recovery.{AreReplies};
+ghost use Rattle.bike_recovery.specs.Recovery.{AreReplies, TellsStopped};
 ghost use Rattle.bike_recovery.specs.Files.{MayHold, IsAtSomeFront, IsOnlyStorage, ReadsSomeFront};
 
 use crate::crash::Acknowledged;
@@ -88,6 +88,7 @@ pub fn run_stop_and_read<D: Disk + Drop, F: Start, W: Write>(
         → AreReplies s calls.now result.0.replies.items }
     ensures refused { (s : Operator) → IsAt over_files desk s → MayHold result.1 (image_at F.Start) → IfErr result.2 IsOnlyStorage }
     ensures whole { IsNone result.0.end → length result.0.replies.items ≡ length calls.now }
+    ensures stopped { TellsStopped desk.is_stopped result.0.end }
 {
     let run = desk.run_list(rt.alloc(), calls);
     let told = Acknowledged {

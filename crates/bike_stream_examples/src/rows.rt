@@ -7,7 +7,7 @@ ghost use Rattle.bike_json.specs.Rows.{items, WroteFront};
 ghost use Rattle.bike_json.specs.State.{Wrote, IsAt, takes_value, takes_array_end, has_more, after_value};
 ghost use Rattle.bike_json.specs.Tree.{comma, text_of, items_text, array};
 
-use bike_json::{JsonState, Level};
+use bike_json::{JsonState, Level, Output};
 use std::io;
 use std::io::Write;
 
@@ -31,7 +31,7 @@ pub trait RowSource {
         ensures rows { IfOk result (λ row. MatchOption row (left self.old ≡ []) (λ number. left self.old ≡ number ∷ left self.new)) };
 }
 
-fn write_row<W: Write>(json: &mut JsonState, out: &mut W, number: i64)
+fn write_row<W: Output>(json: &mut JsonState, out: &mut W, number: i64)
     requires value { IsTrue (takes_value json.old.top) }
     requires room { length json.old.round < 16 }
     ensures wrote { Wrote json.old json.new (W.contents out.old) (W.contents out.new) (comma (has_more json.old.top) ++ text_of (numbered number)) }
@@ -44,7 +44,7 @@ fn write_row<W: Write>(json: &mut JsonState, out: &mut W, number: i64)
 }
 
 /// Writes an item for each row. Where the source fails, the items of the rows before are written.
-fn write_rows<W: Write, S: RowSource>(
+fn write_rows<W: Output, S: RowSource>(
     json: &mut JsonState,
     out: &mut W,
     source: &mut S,

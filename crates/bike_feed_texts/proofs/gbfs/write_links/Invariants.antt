@@ -5,4 +5,4 @@ use Rattle.bike_feed_texts.proofs.gbfs.write_links.Given as goal
 
 abbrev pub invariant-loop-feed : goal.invariant-loop-feed
 invariant-loop-feed g l =
-    SoFar (link_tree l.fn.system) l.fn.json l.json (g.W.Write.contents l.fn.out) (g.W.Write.contents l.out) l.feeds (drop l.feed-index l.feeds)
+    SoFar (link_tree l.fn.system) l.fn.json l.json (g.W.Output.contents l.fn.out) (g.W.Output.contents l.out) l.feeds (drop l.feed-index l.feeds)

@@ -5,4 +5,4 @@ use Rattle.bike_feed_texts.proofs.plan.write_segments.Given as goal
 
 abbrev pub invariant-loop-segment : goal.invariant-loop-segment
 invariant-loop-segment g l =
-    SoFar segment_tree l.fn.json l.json (g.W.Write.contents l.fn.out) (g.W.Write.contents l.out) l.segments (drop l.segment-index l.segments)
+    SoFar segment_tree l.fn.json l.json (g.W.Output.contents l.fn.out) (g.W.Output.contents l.out) l.segments (drop l.segment-index l.segments)

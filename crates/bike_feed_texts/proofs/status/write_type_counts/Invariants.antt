@@ -5,4 +5,4 @@ use Rattle.bike_feed_texts.proofs.status.write_type_counts.Given as goal
 
 abbrev pub invariant-loop-count : goal.invariant-loop-count
 invariant-loop-count g l =
-    SoFar type_count_tree l.fn.json l.json (g.W.Write.contents l.fn.out) (g.W.Write.contents l.out) l.counts (drop l.count-index l.counts)
+    SoFar type_count_tree l.fn.json l.json (g.W.Output.contents l.fn.out) (g.W.Output.contents l.out) l.counts (drop l.count-index l.counts)

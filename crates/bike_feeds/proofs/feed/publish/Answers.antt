@@ -1,14 +1,14 @@
-use Rattle.bike_feeds.proofs.FeedLemmas.{nothing_begun, on_err, publish_missing, publish_leaves, publish_whole, publish_front}
+use Rattle.bike_feeds.proofs.FeedLemmas.{nothing_begun, on_err, publish_missing, publish_leaves, publish_whole, publish_front, publish_cause}
 use Rattle.bike_feeds.proofs.feed.publish.Goals as goal
 
 pub returns-in_err-system-clause-front : goal.returns-in_err-system-clause-front
-returns-in_err-system-clause-front g c clean s at = on_err _ (nothing_begun s c.args.feed c.args.moment (g.W.Write.contents c.args.out.now))
+returns-in_err-system-clause-front g c clean s at = on_err _ (nothing_begun s c.args.feed c.args.moment (g.W.Output.contents c.args.out.now).bytes)
 
 pub returns-in_default-clause-desk : goal.returns-in_default-clause-desk
 returns-in_default-clause-desk g c = publish_missing g.S.Store _ c.in_ok-system.ensures.query c.in_default.is
 
 pub returns-in_default-clause-front : goal.returns-in_default-clause-front
-returns-in_default-clause-front g c clean s at = nothing_begun s c.args.feed c.args.moment (g.W.Write.contents c.args.out.now)
+returns-in_default-clause-front g c clean s at = nothing_begun s c.args.feed c.args.moment (g.W.Output.contents c.args.out.now).bytes
 
 pub returns-clause-desk : goal.returns-clause-desk
 returns-clause-desk g c = publish_leaves g.S.Store _ c.in_ok-system.ensures.query c.write_of_system.ensures
@@ -18,3 +18,6 @@ returns-clause-whole g c = publish_whole g.S.Store _ c.in_ok-system.ensures.quer
 
 pub returns-clause-front : goal.returns-clause-front
 returns-clause-front g c = publish_front g.S.Store _ c.in_ok-system.ensures.query _ c.in-Some.is c.args.feed c.args.moment _ c.write_of_system.ensures
+
+pub returns-clause-cause : goal.returns-clause-cause
+returns-clause-cause g c = publish_cause g.S.Store _ c.in_ok-system.ensures.query _ c.in-Some.is c.args.feed c.args.moment _ c.write_of_system.ensures

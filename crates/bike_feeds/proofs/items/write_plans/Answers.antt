@@ -1,3 +1,4 @@
+use Rattle.std.proofs.Common.{arith}
 use Rattle.bike_feed_texts.specs.Elements.{plan_tree}
 use Rattle.bike_feeds.proofs.WalkLemmas.{walk_begins, walk_writes, walk_goes, walk_ends, walk_cut, passes_cut, first_failed, next_failed, items_told}
 use Rattle.bike_feeds.proofs.items.write_plans.Goals as goal
@@ -21,7 +22,7 @@ returns-in_err-write_plan g c =
     items_told g.S.Store (λ x. x.plan_id) (λ s. plan_tree c.args.system.now) (λ s. s.plans) _ _ c.from_residual-in_err-write_plan.ensures.1
     (passes_cut g.S.Store (λ x. x.plan_id) (λ s. plan_tree c.args.system.now) (λ s. s.plans)
     (walk_writes g.S.Store (λ x. x.plan_id) (λ s. plan_tree c.args.system.now) (λ s. s.plans) c.in-Some.plan (rw c.in-Some.is at c.plans.invariant)
-    (λ clean s at. c.in_err-write_plan.ensures.wrote) c.in_err-write_plan.ensures.place))
+    (λ clean s at. c.in_err-write_plan.ensures.wrote) c.in_err-write_plan.ensures.place) c.in_err-write_plan.ensures.outcome)
 
 pub returns-in_err-next-2 : goal.returns-in_err-next-2
 returns-in_err-next-2 g c =
@@ -38,4 +39,4 @@ plans-preserved g c =
     c.in_ok-next-2.ensures.query c.plan_id.ensures (λ s h. h)
 
 pub returns : goal.returns
-returns g c = walk_cut g.S.Store (λ x. x.plan_id) (λ s. plan_tree c.args.system.now) (λ s. s.plans) c.plans.invariant
+returns g c = walk_cut g.S.Store (λ x. x.plan_id) (λ s. plan_tree c.args.system.now) (λ s. s.plans) c.plans.invariant (omega (arith, c.plans-test.false, c.count.ensures))

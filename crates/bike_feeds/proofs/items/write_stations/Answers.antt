@@ -1,3 +1,4 @@
+use Rattle.std.proofs.Common.{arith}
 use Rattle.std.specs.Prelude.{option_map}
 use Rattle.bike_feed_texts.specs.Elements.{station_tree}
 use Rattle.bike_queries.specs.After.{station_of}
@@ -22,7 +23,7 @@ returns-in_err-write_station g c =
     items_told g.S.Store (λ x. x.row.station_id) (λ s x. station_tree c.args.system.now x.row) (λ s. s.stations) _ _ c.from_residual-in_err-write_station.ensures.1
     (passes_cut g.S.Store (λ x. x.row.station_id) (λ s x. station_tree c.args.system.now x.row) (λ s. s.stations)
     (walk_writes g.S.Store (λ x. x.row.station_id) (λ s x. station_tree c.args.system.now x.row) (λ s. s.stations) (station_of c.in-Some.info)
-    (rw c.in-Some.is at c.stations.invariant) (λ clean s at. c.in_err-write_station.ensures.wrote) c.in_err-write_station.ensures.place))
+    (rw c.in-Some.is at c.stations.invariant) (λ clean s at. c.in_err-write_station.ensures.wrote) c.in_err-write_station.ensures.place) c.in_err-write_station.ensures.outcome)
 
 pub returns-in_err-next-2 : goal.returns-in_err-next-2
 returns-in_err-next-2 g c =
@@ -39,4 +40,4 @@ stations-preserved g c =
     c.in_ok-next-2.ensures.query c.station_id.ensures (λ s h. h)
 
 pub returns : goal.returns
-returns g c = walk_cut g.S.Store (λ x. x.row.station_id) (λ s x. station_tree c.args.system.now x.row) (λ s. s.stations) c.stations.invariant
+returns g c = walk_cut g.S.Store (λ x. x.row.station_id) (λ s x. station_tree c.args.system.now x.row) (λ s. s.stations) c.stations.invariant (omega (arith, c.stations-test.false, c.count.ensures))

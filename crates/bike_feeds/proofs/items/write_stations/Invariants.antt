@@ -1,4 +1,5 @@
-use Rattle.std.specs.Prelude.{option_map}
+use Rattle.std.specs.Prelude.{◌-◌, option_map}
+use Rattle.bike_json.specs.State.{greatest_count}
 use Rattle.bike_feed_texts.specs.Elements.{station_tree}
 use Rattle.bike_queries.specs.After.{station_of}
 use Rattle.bike_feeds.proofs.WalkLemmas.{Walks}
@@ -7,4 +8,7 @@ use Rattle.bike_feeds.proofs.items.write_stations.Given as goal
 abbrev pub invariant-stations : goal.invariant-stations
 invariant-stations g l =
     Walks g.S.Store (λ x. x.row.station_id) (λ s x. station_tree l.fn.system x.row) (λ s. s.stations) (option_map station_of l.next) l.fn.desk l.desk l.fn.json l.json
-    (g.W.Write.contents l.fn.out) (g.W.Write.contents l.out)
+    (g.W.Output.contents l.fn.out) (g.W.Output.contents l.out)
+
+abbrev pub decreases-stations : goal.decreases-stations
+decreases-stations g l = greatest_count - l.json.count

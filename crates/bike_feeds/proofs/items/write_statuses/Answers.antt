@@ -1,3 +1,4 @@
+use Rattle.std.proofs.Common.{arith}
 use Rattle.std.specs.Prelude.{None, Some, option_map}
 use Rattle.bike_queries.specs.After.{station_of}
 use Rattle.bike_feeds.proofs.DeskLemmas.{stays_asked}
@@ -34,7 +35,7 @@ pub returns-in_err-write_report : goal.returns-in_err-write_report
 returns-in_err-write_report g c =
     items_told g.S.Store id tree (λ s. s.stations) _ _ c.from_residual-in_err-write_report.ensures.1 (passes_cut g.S.Store id tree (λ s. s.stations)
     (status_writes g.S.Store c.in-Some.status (rw c.in-Some.is at c.stations.invariant.0) (rw c.in-Some.is at c.stations.invariant.1)
-    c.in_err-write_report.ensures.wrote c.in_err-write_report.ensures.place))
+    c.in_err-write_report.ensures.wrote c.in_err-write_report.ensures.place) c.in_err-write_report.ensures.outcome)
 
 pub returns-in_err-next-2 : goal.returns-in_err-next-2
 returns-in_err-next-2 g c =
@@ -54,4 +55,4 @@ stations-preserved g c = (
 )
 
 pub returns : goal.returns
-returns g c = walk_cut g.S.Store id tree (λ s. s.stations) c.stations.invariant.0
+returns g c = walk_cut g.S.Store id tree (λ s. s.stations) c.stations.invariant.0 (omega (arith, c.stations-test.false, c.count.ensures))

@@ -1,3 +1,4 @@
+use Rattle.std.proofs.Common.{arith}
 use Rattle.bike_feed_texts.specs.Elements.{type_tree}
 use Rattle.bike_feeds.proofs.WalkLemmas.{walk_begins, walk_writes, walk_goes, walk_ends, walk_cut, passes_cut, first_failed, next_failed, items_told}
 use Rattle.bike_feeds.proofs.items.write_types.Goals as goal
@@ -21,7 +22,7 @@ returns-in_err-write_type g c =
     items_told g.S.Store (λ x. x.type_id) (λ s. type_tree c.args.system.now) (λ s. s.types) _ _ c.from_residual-in_err-write_type.ensures.1
     (passes_cut g.S.Store (λ x. x.type_id) (λ s. type_tree c.args.system.now) (λ s. s.types)
     (walk_writes g.S.Store (λ x. x.type_id) (λ s. type_tree c.args.system.now) (λ s. s.types) c.in-Some.vehicle_type (rw c.in-Some.is at c.types.invariant)
-    (λ clean s at. c.in_err-write_type.ensures.wrote) c.in_err-write_type.ensures.place))
+    (λ clean s at. c.in_err-write_type.ensures.wrote) c.in_err-write_type.ensures.place) c.in_err-write_type.ensures.outcome)
 
 pub returns-in_err-next-2 : goal.returns-in_err-next-2
 returns-in_err-next-2 g c =
@@ -38,4 +39,4 @@ types-preserved g c =
     c.in_ok-next-2.ensures.query c.type_id.ensures (λ s h. h)
 
 pub returns : goal.returns
-returns g c = walk_cut g.S.Store (λ x. x.type_id) (λ s. type_tree c.args.system.now) (λ s. s.types) c.types.invariant
+returns g c = walk_cut g.S.Store (λ x. x.type_id) (λ s. type_tree c.args.system.now) (λ s. s.types) c.types.invariant (omega (arith, c.types-test.false, c.count.ensures))

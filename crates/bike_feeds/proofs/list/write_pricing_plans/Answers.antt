@@ -7,12 +7,12 @@ use Rattle.bike_feeds.proofs.list.write_pricing_plans.Goals as goal
 pub returns-in_err-open_list : goal.returns-in_err-open_list
 returns-in_err-open_list g c =
     head_cut g.S.Store c.args.system.now c.args.moment (codes "plans") (λ s. plan_tree c.args.system.now) (λ s. values s.plans)
-    _ c.from_residual.ensures.1 c.requires.start c.open_list.ensures.wrote c.requires.going
+    _ c.from_residual.ensures.1 c.requires.start c.open_list.ensures.wrote c.requires.going c.in_err-open_list.ensures.outcome
 
 pub returns-in_err-write_plans : goal.returns-in_err-write_plans
 returns-in_err-write_plans g c =
     list_failed g.S.Store c.args.system.now c.args.moment (codes "plans") (λ s. plan_tree c.args.system.now) (λ s. values s.plans) _
-    _ c.from_residual-in_err-write_plans.ensures.1 c.requires.start c.open_list.ensures.wrote c.in_err-write_plans.ensures
+    _ c.from_residual-in_err-write_plans.ensures.1 c.requires.start c.open_list.ensures.wrote c.in_err-write_plans.ensures c.in_ok-open_list.ensures.outcome
 
 pub returns-in_err-close_list : goal.returns-in_err-close_list
 returns-in_err-close_list g c =

@@ -7,12 +7,12 @@ use Rattle.bike_feeds.proofs.list.write_vehicle_types.Goals as goal
 pub returns-in_err-open_list : goal.returns-in_err-open_list
 returns-in_err-open_list g c =
     head_cut g.S.Store c.args.system.now c.args.moment (codes "vehicle_types") (λ s. type_tree c.args.system.now) (λ s. values s.types)
-    _ c.from_residual.ensures.1 c.requires.start c.open_list.ensures.wrote c.requires.going
+    _ c.from_residual.ensures.1 c.requires.start c.open_list.ensures.wrote c.requires.going c.in_err-open_list.ensures.outcome
 
 pub returns-in_err-write_types : goal.returns-in_err-write_types
 returns-in_err-write_types g c =
     list_failed g.S.Store c.args.system.now c.args.moment (codes "vehicle_types") (λ s. type_tree c.args.system.now) (λ s. values s.types) _
-    _ c.from_residual-in_err-write_types.ensures.1 c.requires.start c.open_list.ensures.wrote c.in_err-write_types.ensures
+    _ c.from_residual-in_err-write_types.ensures.1 c.requires.start c.open_list.ensures.wrote c.in_err-write_types.ensures c.in_ok-open_list.ensures.outcome
 
 pub returns-in_err-close_list : goal.returns-in_err-close_list
 returns-in_err-close_list g c =

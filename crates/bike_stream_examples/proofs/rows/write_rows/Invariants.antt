@@ -5,7 +5,7 @@ use Rattle.bike_stream_examples.proofs.rows.write_rows.Given as goal
 
 abbrev pub invariant-loop-row : goal.invariant-loop-row
 invariant-loop-row g l =
-    SoFar numbered l.fn.json l.json (g.W.Write.contents l.fn.out) (g.W.Write.contents l.out) (g.S.RowSource.left l.fn.source) (g.S.RowSource.left l.source)
+    SoFar numbered l.fn.json l.json (g.W.Output.contents l.fn.out) (g.W.Output.contents l.out) (g.S.RowSource.left l.fn.source) (g.S.RowSource.left l.source)
 
 abbrev pub decreases-loop-row : goal.decreases-loop-row
 decreases-loop-row g l = length (g.S.RowSource.left l.source)

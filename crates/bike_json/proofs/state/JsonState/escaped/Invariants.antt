@@ -6,6 +6,6 @@ use Rattle.bike_json.proofs.state.JsonState.escaped.Given as goal
 abbrev pub invariant-loop-i : goal.invariant-loop-i
 invariant-loop-i g l =
     (l.start ≤ l.i)
-    × Wrote l.fn.self l.self (g.W.Write.contents l.fn.out) (g.W.Write.contents l.out) (escaped (take l.start l.bytes))
+    × Wrote l.fn.self l.self (g.W.Output.contents l.fn.out) (g.W.Output.contents l.out) (escaped (take l.start l.bytes))
     × IsAt l.self l.fn.self.top l.fn.self.round
     × (escaped (slice_range l.bytes l.start l.i) ≡ slice_range l.bytes l.start l.i)
