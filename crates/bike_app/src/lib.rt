@@ -2,6 +2,7 @@
 //! tells at its end.
 #![tactic(auto)]
 
+mod blank;
 mod day;
 mod end;
 mod fault;
@@ -16,6 +17,7 @@ mod server;
 mod words;
 
 pub use bike_http::{Feed, Unwatched, Watch};
+pub use blank::make_file;
 pub use day::report_day;
 pub use end::{Fault, exit_code};
 pub use fault::LinesFault;

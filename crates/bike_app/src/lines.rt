@@ -51,7 +51,10 @@ fn reply_to<S: Alter>(alloc: Global, desk: &mut Desk<S>, line: &[u8]) -> Result<
     let Some(call) = read_line(alloc, line)? else {
         return Ok(Reply::Refused(Refusal::BadField));
     };
-    desk.apply(alloc, call.0, &call.1)
+    let reply = desk.apply(alloc, call.0, &call.1);
+    // At a way out of the function its letting go would be long to prove.
+    drop(call);
+    reply
 }
 
 /// Serves the input line by line: each line gets one line of the output, its reply's text and a line feed,

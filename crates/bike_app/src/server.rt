@@ -101,6 +101,68 @@ pub fn serve_count<S: Alter>(
     Ok(())
 }
 
+/// A listener on this port of 127.0.0.1.
+fn bind(rt: &HostRuntime, port: u16) -> Result<TcpListener, Fault> {
+    let address = format!(in rt.alloc(); "127.0.0.1:{port}")?;
+    match TcpListener::bind(rt, address.as_str()) {
+        Ok(listener) => Ok(listener),
+        Err(_) => Err(Fault::ReadFailed),
+    }
+}
+
+/// Tells the port.
+fn tell_port<W: Write>(
+    rt: &HostRuntime,
+    listener: &TcpListener,
+    writer: &mut W,
+) -> Result<(), Fault> {
+    let Ok(bound) = listener.local_addr() else {
+        return Err(Fault::ReadFailed);
+    };
+    let line = format!(in rt.alloc(); "listening {bound}\n")?;
+    match write_whole(writer, line.as_bytes()) {
+        Ok(()) => Ok(()),
+        Err(_) => Err(Fault::WriteFailed),
+    }
+}
+
+/// Listens on this port of 127.0.0.1 and tells it, and serves so many connections, or without end.
+fn listen_at<S: Alter, W: Write>(
+    rt: &HostRuntime,
+    desk: &mut Desk<S>,
+    routes: &Routes,
+    port: u16,
+    count: Option<u32>,
+    writer: &mut W,
+) -> Result<(), Fault> {
+    let listener = bind(rt, port)?;
+    tell_port(rt, &listener, writer)?;
+    let count = match count {
+        Some(count) => u64::from(count),
+        None => u64::MAX,
+    };
+    serve_count(rt, desk, routes, &listener, count)
+}
+
+/// Listens with all routes, and serves.
+fn listen_all<S: Alter, W: Write>(
+    rt: &HostRuntime,
+    desk: &mut Desk<S>,
+    port: u16,
+    count: Option<u32>,
+    writer: &mut W,
+) -> Result<u64, Fault> {
+    let Ok(routes) = Routes::new(rt.alloc()) else {
+        return Err(Fault::OutOfMemory);
+    };
+    let served = listen_at(rt, desk, &routes, port, count, writer);
+    drop(routes);
+    match served {
+        Ok(()) => Ok(0),
+        Err(fault) => Err(fault),
+    }
+}
+
 /// Takes the connection, which is outside a transaction, into service, listens on this port of 127.0.0.1 (0: a free one), tells that by
 /// the line `listening 127.0.0.1:PORT`, and serves so many connections, or without end. A port that can't be bound is `ReadFailed`.
 pub fn listen<S: Alter + Drop, W: Write>(
@@ -112,28 +174,12 @@ pub fn listen<S: Alter + Drop, W: Write>(
 ) -> Result<u64, Fault>
     requires { conn.in_transaction ≡ false }
 {
-    let mut desk = match Desk::adopt(rt.alloc(), conn) {
-        Ok(desk) => desk,
-        Err(fault) => return Err(Fault::taken_from(fault).1),
-    };
-    let Ok(routes) = Routes::new(rt.alloc()) else {
-        return Err(Fault::OutOfMemory);
-    };
-    let address = format!(in rt.alloc(); "127.0.0.1:{port}")?;
-    let Ok(listener) = TcpListener::bind(rt, address.as_str()) else {
-        return Err(Fault::ReadFailed);
-    };
-    let Ok(bound) = listener.local_addr() else {
-        return Err(Fault::ReadFailed);
-    };
-    let line = format!(in rt.alloc(); "listening {bound}\n")?;
-    if write_whole(writer, line.as_bytes()).is_err() {
-        return Err(Fault::WriteFailed);
+    match Desk::adopt(rt.alloc(), conn) {
+        Ok(mut desk) => {
+            let served = listen_all(rt, &mut desk, port, count, writer);
+            drop(desk);
+            served
+        }
+        Err(fault) => Err(Fault::taken_from(fault).1),
     }
-    let count = match count {
-        Some(count) => u64::from(count),
-        None => u64::MAX,
-    };
-    serve_count(rt, &mut desk, &routes, &listener, count)?;
-    Ok(0)
 }

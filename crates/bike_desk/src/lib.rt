@@ -5,7 +5,6 @@
 #![tactic(auto)]
 
 mod adopt;
-mod crash;
 mod day;
 mod desk;
 mod fault;

@@ -99,7 +99,9 @@ fn answers<S: Alter>(
     let Ok(Some((moment, request))) = read_line(alloc, line.as_bytes()) else {
         return Ok(false);
     };
-    is_reply(alloc, desk, moment, &request, wanted)
+    let is_reply = is_reply(alloc, desk, moment, &request, wanted);
+    drop(request);
+    is_reply
 }
 
 /// Whether the desk answers all lines as they are answered here.

@@ -1,5 +1,5 @@
 -- What is told of a feed, after each of its two passes.
-use Rattle.std.proofs.Common.{◌≡◌, inl, ℕ, ◌<◌, ◌++◌, List, Option, Some, None, true, false, Result, Ok, Err, OnOk, OnErr, length, take, refl, sym, ap, ◌∙◌, subst, arith, length-append}
+use Rattle.std.proofs.Common.{◌≡◌, inl, ℕ, ◌<◌, ◌++◌, List, [], Option, Some, None, true, false, Result, Ok, Err, OnOk, OnErr, length, take, refl, sym, ap, ◌∙◌, subst, arith, length-append}
 use Rattle.std.proofs.lemmas.Bool.{both_ways}
 use Rattle.std.proofs.lemmas.List.{take-append-le}
 use Rattle.std.proofs.KnownBytes.{Appends-trans}
@@ -19,11 +19,12 @@ use Rattle.bike_feeds.specs.declared.fault.FeedFault.TheVariants.{SystemMissing,
 use Rattle.bike_answers.specs.Head.{head_text}
 use Rattle.bike_answers.proofs.Sending.{front_then}
 use Rattle.bike_http.specs.Exchange.{published, feed_response, feed_head}
-use Rattle.bike_http.specs.Telling.{IsUndone, Responds}
+use Rattle.bike_http.specs.Telling.{IsUndone, SendsText, Responds}
+use Rattle.bike_http.specs.declared.respond.SendFault.{SendFault}
 use Rattle.bike_http.specs.declared.respond.SendFault.TheVariants as fault
 use Rattle.bike_http.proofs.Told.{at_first}
 
-front_of_first : (a b : Option (List ℕ)) (x y : List ℕ) → AppendsFront a b x → AppendsFront a b (x ++ y)
+pub front_of_first : (a b : Option (List ℕ)) (x y : List ℕ) → AppendsFront a b x → AppendsFront a b (x ++ y)
 front_of_first a b x y h =
     let low : h.0 < length (x ++ y) = omega (arith, length-append x y, h.1) in
     let same : take h.0 (x ++ y) ≡ take h.0 x = take-append-le h.0 x y (omega (arith, h.1)) in
@@ -94,3 +95,17 @@ module _ {S : Type 0} (g : Ghosts S) (d : DeskValue S) (s : Operator) (feed : Fe
     cut_feed h either =
         let front = fronted h in
         (text, is_text, (front.0, front.1, Appends-trans before mid after (feed_head text) (take front.0 text) begun front.2), either)
+
+-- a feed whose text was held: what is held is its text, and it was sent behind its head
+module _ {S : Type 0} (g : Ghosts S) (d : DeskValue S) (s : Operator) (feed : Feed) (t : ℕ) (held : List ℕ) (published_to : IsPublished s feed t (Some []) (Some held)) where
+  is_held : held ≡ feed_text s published_to.0 feed t
+  is_held = published_to.2
+
+  is_response : feed_response s t feed s.system ≡ published held
+  is_response = ap (feed_response s t feed) published_to.1 ∙ ap published (sym is_held)
+
+  pub held_feed : (before after : Option (List ℕ)) (r : Result ℕ SendFault) → SendsText before after held r → IsAt g d s
+      → Responds g d s (feed_response s t feed s.system) s before after r
+  held_feed before after (Ok status) h at = (published held, inl (sym is_response, at), h.0, h.1)
+  held_feed before after (Err fault.Write) h at = (published held, inl (sym is_response, at), h)
+  held_feed before after (Err fault.Cut) h at = absurd h

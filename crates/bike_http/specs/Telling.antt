@@ -56,6 +56,12 @@ SendsAnswer before after a (Ok status) = Sends before after a status
 SendsAnswer before after a (Err fault.Write) = AppendsFront before after (answer_text a)
 SendsAnswer before after a (Err fault.Cut) = ⊥
 
+-- how the sending of a feed's text ends
+abbrev pub SendsText : Option (List ℕ) → Option (List ℕ) → List ℕ → Result ℕ SendFault → Type 0
+SendsText before after text (Ok status) = (status ≡ 200) × Appends before after (feed_head text ++ text)
+SendsText before after text (Err fault.Write) = AppendsFront before after (feed_head text ++ text)
+SendsText before after text (Err fault.Cut) = ⊥
+
 -- how the sending of a response ends
 abbrev pub Responds : {S : Type 0} → Ghosts S → DeskValue S → Operator → Response → Operator → Option (List ℕ) → Option (List ℕ)
     → Result ℕ SendFault → Type 0

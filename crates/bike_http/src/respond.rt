@@ -10,9 +10,10 @@ ghost use Rattle.bike_feeds.specs.Queries.{Queries};
 ghost use Rattle.bike_feeds.specs.Publishing.{IsLength};
 ghost use Rattle.bike_http.specs.Shown.{shown_of};
 ghost use Rattle.bike_http.specs.Exchange.{answered, feed_response, response_of, operator_after};
-ghost use Rattle.bike_http.specs.Telling.{Tells, SendsAnswer, Responds, refusal_of};
+ghost use Rattle.bike_http.specs.Telling.{Tells, SendsAnswer, SendsText, Responds, refusal_of};
 
 use crate::rows::{bike_answer, order_answer, rental_answer, rider_answer};
+use arrayvec::ArrayVec;
 use bike_answers::{Answer, head_text, write_answer};
 use bike_commands::Request;
 use bike_feed_texts::Feed;
@@ -24,6 +25,9 @@ use bike_stream::write_whole;
 use sqlite::Alter;
 use std::alloc::Global;
 use std::io::Write;
+
+/// How many bytes of a feed's text are held, so that it is made once. A longer one is made twice, first to count its length.
+const HELD_TEXT: usize = 524_288;
 
 /// Why a response wasn't sent whole.
 #[derive(Clone, Copy, Debug, PartialEq, Eq)]
@@ -109,8 +113,8 @@ fn publish_whole<S: Alter, W: Write>(
     }
 }
 
-/// Publishes a feed: its length is counted first, for the head.
-fn publish<S: Alter, W: Write>(
+/// Publishes a feed whose text isn't held: its length is counted first, for the head.
+fn publish_counted<S: Alter, W: Write>(
     alloc: Global,
     desk: &mut Desk<S>,
     feed: Feed,
@@ -125,6 +129,44 @@ fn publish<S: Alter, W: Write>(
 {
     match feed_length(alloc, desk, feed, moment) {
         Ok(length) => publish_whole(alloc, desk, feed, length, moment, writer),
+        Err(FeedFault::SystemMissing) => send(writer, &Answer::Rejected(Rejection::NotFound)),
+        Err(_) => send(writer, &Answer::Unavailable),
+    }
+}
+
+/// Sends a feed's text behind its head.
+fn send_text<W: Write>(writer: &mut W, text: &[u8]) -> Result<u16, SendFault>
+    ensures { SendsText (W.contents writer.old) (W.contents writer.new) text.now result }
+{
+    let head = head_text(200, None, text.len() as u64);
+    if write_whole(writer, head.as_str().as_bytes()).is_err() {
+        return Err(SendFault::Write);
+    }
+    match write_whole(writer, text) {
+        Ok(()) => Ok(200),
+        Err(_) => Err(SendFault::Write),
+    }
+}
+
+/// Publishes a feed: its text is held as it is made, and sent once its length is known.
+fn publish<S: Alter, W: Write>(
+    alloc: Global,
+    desk: &mut Desk<S>,
+    feed: Feed,
+    moment: Moment,
+    writer: &mut W,
+) -> Result<u16, SendFault>
+    ensures clean { doubt (shown S.Store desk.old).is_clean ≤ doubt (shown S.Store desk.new).is_clean }
+    ensures sent { HasCleanDisk (shown S.Store desk.new) → (s : Operator) → IsAt S.Store desk.old s
+        → Responds S.Store desk.new s (feed_response s moment feed s.system) s (W.contents writer.old) (W.contents writer.new) result }
+    ensures stays { IsTrue desk.old.is_stopped → desk.new ≡ desk.old }
+    ensures refuses { IsTrue desk.old.is_stopped → SendsAnswer (W.contents writer.old) (W.contents writer.new) Answer.Unavailable result }
+{
+    let mut text = ArrayVec::<u8, HELD_TEXT>::new();
+    match write_feed(alloc, desk, feed, moment, &mut text) {
+        Ok(()) => send_text(writer, text.as_slice()),
+        // No more is held.
+        Err(FeedFault::Write) => publish_counted(alloc, desk, feed, moment, writer),
         Err(FeedFault::SystemMissing) => send(writer, &Answer::Rejected(Rejection::NotFound)),
         Err(_) => send(writer, &Answer::Unavailable),
     }
@@ -148,6 +190,7 @@ pub(crate) fn respond<S: Alter, W: Write>(
         Asked::Reject(rejection) => send(writer, &Answer::Rejected(rejection)),
         Asked::Apply(request) => {
             let answer = act(alloc, desk, moment, &request);
+            drop(request);
             send(writer, &answer)
         }
         Asked::Show(row) => {

@@ -55,5 +55,7 @@ pub fn import_row<S: Alter>(
 {
     let _ = moment.seconds();
     let request = row_request(alloc, name, number, row)?;
-    serve_request(alloc, desk, moment, number, &request)
+    let served = serve_request(alloc, desk, moment, number, &request);
+    drop(request);
+    served
 }

@@ -1,7 +1,10 @@
 //! The rows of kept requests.
 
-ghost use Rattle.std.specs.Prelude.{◌≡◌, IfOk, IfErr, option_map};
+ghost use Rattle.std.specs.Prelude.{◌≡◌, IfOk, IfErr, IfSome, MatchOption, None, option_map};
+ghost use Rattle.std.specs.Bool.{then_some};
+ghost use Rattle.std.specs.Str.{bytes_eq};
 ghost use Rattle.sqlite_value.specs.Order.{column};
+ghost use Rattle.bike_commands.specs.Commands.{text_of};
 ghost use Rattle.bike_operator.specs.Sound.{is_refused};
 ghost use Rattle.bike_schema.specs.declared.fault.StatementFault.TheVariants.{NoMemory};
 ghost use Rattle.bike_readings.specs.ColumnReaders.{one_command_of, accepted_of, caller_in, key_in, command_in, reply_in};
@@ -25,20 +28,34 @@ pub struct StoredKept {
     pub reply: Reply,
 }
 
+/// Whether the text is the command's own, where there is a command; an error is a want of memory.
+fn is_own_text(alloc: Global, command: &Option<Command>, text: &str) -> Result<bool, AllocError>
+    ensures { IfOk result (λ is. IfSome command.now (λ c. is ≡ bytes_eq text.now (text_of c))) }
+{
+    match command {
+        Some(command) => {
+            let written = command_text(alloc, command)?;
+            Ok(text == written.as_str())
+        }
+        None => Ok(false),
+    }
+}
+
+/// The command, where it is kept.
+fn command_where(command: Option<Command>, is_kept: bool) -> Option<Command>
+    ensures { MatchOption command (result ≡ None) (λ c. result ≡ then_some is_kept c) }
+{
+    command.filter(move |_| is_kept)
+}
+
 /// The command whose one text this is; an error is a want of memory.
-#[tactic(auto, using(crate::proofs::KeptLemmas::no_command, crate::proofs::KeptLemmas::this_command))]
 fn one_command_of(alloc: Global, text: &str) -> Result<Option<Command>, AllocError>
     ensures { IfOk result (λ o. o ≡ one_command_of text.now) }
 {
-    let Some(command) = read_command(alloc, text)? else {
-        return Ok(None);
-    };
-    let written = command_text(alloc, &command)?;
-    let is_same = text == written.as_str();
-    if is_same {
-        return Ok(Some(command));
-    }
-    Ok(None)
+    let command = read_command(alloc, text)?;
+    let is_own = is_own_text(alloc, &command, text);
+    // A closure, since a way out that lets the command go would be long to prove.
+    is_own.map(move |is_own| command_where(command, is_own))
 }
 
 /// Whether the reply is a refusal.
@@ -113,19 +130,17 @@ pub fn read_kept(alloc: Global, part: Part<'_>) -> Result<Option<StoredKept>, St
     if part.column_count() != 4 {
         return Ok(None);
     }
+    let Some(reply) = reply_in(&part) else {
+        return Ok(None);
+    };
     let Some(caller) = caller_in(alloc, &part)? else {
         return Ok(None);
     };
     let Some(key) = key_in(alloc, &part)? else {
         return Ok(None);
     };
-    let Some(command) = command_in(alloc, &part)? else {
-        return Ok(None);
-    };
-    let Some(reply) = reply_in(&part) else {
-        return Ok(None);
-    };
-    Ok(Some(StoredKept {
+    let command = command_in(alloc, &part)?;
+    Ok(command.map(move |command| StoredKept {
         caller,
         key,
         command,

@@ -1,22 +1,55 @@
 //! Request lines.
 
-ghost use Rattle.std.specs.Prelude.{◌≡◌, ◌≤◌, ℕ, IfOk, IfErr, IfSome, Some};
+ghost use Rattle.std.specs.Prelude.{◌≡◌, ◌≤◌, ℕ, IfOk, IfErr, IfSome, Some, Ok, true};
 ghost use Rattle.bike_fixed.specs.Whole.{last_moment};
 ghost use Rattle.bike_commands.specs.declared.request.Request.{Request};
 ghost use Rattle.bike_commands.specs.Requests.{IsRequest, IsLine};
 ghost use Rattle.bike_requests.specs.RequestReaders.{request_at};
 ghost use Rattle.bike_requests.specs.Spelling.{SpellsRequest};
+ghost use Rattle.bike_fields.specs.Bytes.{is_key};
 ghost use Rattle.bike_fields.specs.Reads.{IsReadAs};
 
 use crate::reading::read_rest;
-use bike_commands::Request;
-use bike_fields::RequestKey;
+use bike_commands::{Command, Request};
+use bike_fields::{Caller, RequestKey};
 use bike_fixed::Moment;
 use bike_texts::Fields;
 use std::alloc::{AllocError, Global};
 
 /// The greatest length of a request line in bytes, its LF not counted.
 pub const LINE_LENGTH: usize = 4096;
+
+/// The caller, and the key with memory of its own.
+fn keep_names(
+    alloc: Global,
+    caller: Result<Caller, AllocError>,
+    key: &str,
+) -> Result<(Caller, RequestKey), AllocError>
+    requires { is_key key.now ≡ true }
+    ensures { IfOk result (λ names. (caller ≡ Ok names.0) × (names.1 ≡ key.now)) }
+{
+    let caller = caller?;
+    let key = RequestKey::of(alloc, key)?;
+    Ok((caller, key))
+}
+
+/// The command as a request of this caller under this key.
+fn keep_request(
+    alloc: Global,
+    caller: Result<Caller, AllocError>,
+    key: &str,
+    command: Command,
+) -> Result<Request, AllocError>
+    requires { is_key key.now ≡ true }
+    ensures { IfOk result (λ q. (caller ≡ Ok q.caller) × (q.key ≡ key.now) × (q.command ≡ command)) }
+{
+    let names = keep_names(alloc, caller, key);
+    names.map(move |(caller, key)| Request {
+        caller,
+        key,
+        command,
+    })
+}
 
 #[tactic(auto, unfolding(crate::specs::RequestReaders::request_at))]
 fn read_request(alloc: Global, mut fields: Fields) -> Result<Option<(Moment, Request)>, AllocError>
@@ -34,16 +67,9 @@ fn read_request(alloc: Global, mut fields: Fields) -> Result<Option<(Moment, Req
     let Some(command) = read_rest(alloc, fields)? else {
         return Ok(None);
     };
-    let caller = caller.keep(alloc)?;
-    let key = RequestKey::of(alloc, key)?;
-    Ok(Some((
-        moment,
-        Request {
-            caller,
-            key,
-            command,
-        },
-    )))
+    let caller = caller.keep(alloc);
+    let request = keep_request(alloc, caller, key, command)?;
+    Ok(Some((moment, request)))
 }
 
 /// The request that the line spells, and the moment at which it comes: `MOMENT⇥CALLER⇥KEY⇥COMMAND`,

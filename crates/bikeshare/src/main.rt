@@ -5,7 +5,7 @@ ghost use Rattle.bike_words.specs.Program.{IsWithin};
 ghost use Rattle.bike_app.specs.Words.{ServesSockets};
 
 use bike_app::{
-    Counted, Fault, Progress, clock_moment, exit_code, listen, open_file, run_file,
+    Counted, Fault, Progress, clock_moment, exit_code, listen, make_file, open_file, run_file,
     run_words_in_memory,
 };
 use bike_words::{Task, Words, WordsFault, read_words, usage};
@@ -104,6 +104,7 @@ fn run_on<W: Write>(rt: &HostRuntime, words: &Words<'_>, out: &mut W) -> Result<
         let clock = clock_moment(rt);
         return run_words_in_memory(rt.alloc(), &words.task, clock, &mut rt.stdin(), out);
     }
+    make_file(rt, words.file);
     run_on_file(rt, words, Unknown, out)
 }
 
@@ -139,6 +140,7 @@ fn answer(rt: &HostRuntime, file: &str, port: u16, count: Option<u32>) -> Result
         let conn = Connection::open_in_memory(rt.alloc())?;
         return listen(rt, port, count, conn, &mut rt.stdout());
     }
+    make_file(rt, file);
     let conn = open_file(rt, file, Unknown)?;
     listen(rt, port, count, conn, &mut rt.stdout())
 }

@@ -11,9 +11,9 @@ returns-in_default g c =
 pub returns : goal.returns
 returns g c =
     let read : IsReadAs c.args.line.now (Some c.in-Some.call) = rw c.in-Some.is at (read_as c.args.line.now c.in_ok-call.field-0 c.in_ok-call.ensures.found c.in_ok-call.ensures.only) in
-    let it = c.apply.ensures in
+    let it = c.apply-reply.ensures in
     record {
       clean = it.clean;
-      goes_on = λ on. goes_on g.S.Store c.args.desk.now c.apply.new.self c.apply.result on it.goes_on it.no_memory it.stops it.stopped;
-      replied = λ clean s at. replies_at g.S.Store c.args.desk.now c.apply.new.self c.args.line.now c.in-Some.call s c.apply.result read at (it.ok clean s at) it.no_memory (it.store_failed clean s at) it.stopped;
+      goes_on = λ on. goes_on g.S.Store c.args.desk.now c.apply-reply.new.self c.apply-reply.result on it.goes_on it.no_memory it.stops it.stopped;
+      replied = λ clean s at. replies_at g.S.Store c.args.desk.now c.apply-reply.new.self c.args.line.now c.in-Some.call s c.apply-reply.result read at (it.ok clean s at) it.no_memory (it.store_failed clean s at) it.stopped;
     }

@@ -1,17 +1,14 @@
-use Rattle.std.proofs.Common.{rules, ◌≡◌, true, false}
+use Rattle.std.proofs.Common.{rules, ◌≡◌, Ok, refl, subst, IfOk, IfSome, MatchOption, None, sym}
+use Rattle.std.specs.Bool.{then_some}
 use Rattle.std.specs.Str.{bytes_eq}
-use Rattle.bike_commands.specs.Commands.{IsCommand, IsSpelling, text_of}
-use Rattle.bike_readings.proofs.KeptLemmas.{this_command}
+use Rattle.bike_commands.specs.Commands.{text_of}
+use Rattle.bike_readings.proofs.KeptLemmas.{own_command, made_of}
+use Rattle.bike_readings.specs.ColumnReaders.{one_command_of}
 use Rattle.bike_readings.proofs.kept.one_command_of.Goals as goal
-
-pub returns-then-is_same : goal.returns-then-is_same
-returns-then-is_same c =
-    let found : IsSpelling c.args.text.now c.in-Some.command × IsCommand c.in-Some.command = search rules in
-    let same : bytes_eq c.args.text.now (text_of c.in-Some.command) ≡ true = search rules in
-    this_command c.args.text.now c.in-Some.command true found same
 
 pub returns : goal.returns
 returns c =
-    let found : IsSpelling c.args.text.now c.in-Some.command × IsCommand c.in-Some.command = search rules in
-    let other : bytes_eq c.args.text.now (text_of c.in-Some.command) ≡ false = search rules in
-    this_command c.args.text.now c.in-Some.command false found other
+    made_of c.is_own_text-is_own.result c.map.result _ (λ o. o ≡ one_command_of c.args.text.now) c.map.ensures.cases (λ b o is post.
+    let same : IfSome c.in_ok-command.command (λ x. b ≡ bytes_eq c.args.text.now (text_of x)) = rw is at c.is_own_text-is_own.ensures in
+    let kept : MatchOption c.in_ok-command.command (o ≡ None) (λ x. o ≡ then_some b x) = search rules in
+    own_command c.args.text.now c.in_ok-command.command b o c.in_ok-command.ensures.found c.in_ok-command.ensures.only same kept)
