@@ -356,6 +356,39 @@ def test_every_feed_is_the_text_of_feed(program):
         assert program.run("feed", "city.db", name, "--at", str(at)) == (0, body, b""), (name, body)
 
 
+HELD = 524_288
+
+
+def city_of(program, file, longer):
+    """A city with five types and stations whose identifiers are as many characters longer than one letter and four digits."""
+    types = [f"add-type\tt{it}\tType\tbicycle\thuman\t0\tbasic" for it in range(5)]
+    stations = [f"add-station\ts{it:04}{'x' * more}\tStation\t0\t0\t1" for it, more in enumerate(longer)]
+    lines = [f"1699999200\toffice\tf{it}\t{command}\n" for it, command in enumerate([*CITY[:2], *types, *stations])]
+    status, out, said = program.run("lines", file, given="".join(lines).encode())
+    assert (status, out, said) == (0, b"ok\n" * len(lines), b""), (status, said)
+    status, text, said = program.run("feed", file, "station_status", "--at", "1700000000")
+    assert (status, said) == (0, b""), (status, said)
+    return text
+
+
+def test_feeds_at_the_length_that_is_held(program):
+    """A text of at most 512 KiB is made once, a longer one twice; both are the text of `feed`."""
+    ten, eleven = (len(city_of(program, f"{it}.db", [0] * it)) for it in (10, 11))
+    each = eleven - ten
+    count, more = divmod(HELD - ten, each)
+    for length in (HELD - 1, HELD, HELD + 1, HELD + 200):
+        left = more + length - HELD
+        longer = [min(20, max(0, left - 20 * it)) for it in range(10 + count)]
+        text = city_of(program, f"{length}.db", longer)
+        assert len(text) == length, (len(text), length)
+        with Server(program, 2, f"{length}.db") as server:
+            for target in ("/gbfs/3.0/station_status.json", "/gbfs/3.0/gbfs.json"):
+                head, body = server.ask(get(target)).split(b"\r\n\r\n", 1)
+                assert f"Content-Length: {len(body)}\r\n".encode() in head, (head, len(body))
+                if "status" in target:
+                    assert timeless(body) == timeless(text), (length, len(body))
+
+
 def test_the_worked_status_feed(program):
     city(program)
     holds(program, [(get("/gbfs/3.0/station_status.json"), answer(
