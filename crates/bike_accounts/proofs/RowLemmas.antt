@@ -20,7 +20,7 @@ use Rattle.bike_ledger.specs.Entries.{Entry}
 use Rattle.bike_ledger.specs.Ledger.{balance_of, refunded_of}
 use Rattle.bike_operator.specs.declared.records.Rental.{Rental}
 use Rattle.bike_operator.specs.declared.records.Closing.{Closing}
-use Rattle.bike_operator.specs.Operator.{Rider, Kept, numbered}
+use Rattle.bike_operator.specs.Operator.{Rider, Kept, item_numbered}
 use Rattle.bike_operator.specs.View.{rider_view, rider_at}
 use Rattle.bike_operator.specs.declared.view.RiderView.{RiderView}
 use Rattle.bike_book.specs.Tables.{Riders, Rentals}
@@ -92,7 +92,7 @@ not_full most n last few below = by (nat_le most n) refl
 
 -- the row of a rental with its refunds
 pub rental_found : (rental : ℕ) → WhereListed (λ s m. row_under s m Rentals (number_value rental ∷ []) ≡ option_map (λ (x : StoredRental). rental_row rental x.rental x.refunded) (stored_rental_at s rental))
-rental_found rental s m sound listing = (found_by_key s m sound listing).rentals rental ∙ shown (numbered rental s.rentals)
+rental_found rental s m sound listing = (found_by_key s m sound listing).rentals rental ∙ shown (item_numbered rental s.rentals)
   where
     shown : (o : Option Rental) → option_map (λ (r : Rental). rental_row rental r (refunded_of rental s.entries)) o
         ≡ option_map (λ (x : StoredRental). rental_row rental x.rental x.refunded) (option_map (λ (r : Rental). record { rental = r; refunded = refunded_of rental s.entries }) o)

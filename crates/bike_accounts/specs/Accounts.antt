@@ -2,7 +2,7 @@
 use Rattle.std.specs.Prelude.{◌≡◌, ℕ, Option, Some, None, option_map, string_bytes}
 use Rattle.bike_ledger.specs.Ledger.{cash_of, revenue_of, refunded_of}
 use Rattle.bike_commands.specs.Commands.{text_of}
-use Rattle.bike_operator.specs.Operator.{Operator, Kept, numbered}
+use Rattle.bike_operator.specs.Operator.{Operator, Kept, item_numbered}
 use Rattle.bike_accounts.specs.declared.meta.MetaRow.{MetaRow}
 use Rattle.bike_accounts.specs.declared.kept.KeptRow.{KeptRow}
 use Rattle.bike_accounts.specs.declared.rentals.StoredRental.{StoredRental}
@@ -20,4 +20,4 @@ KeepsSame (Some k) (Some row) = (string_bytes row.command ≡ text_of k.command)
 
 -- a rental, if it is there, with the sum of its refunds
 abbrev pub stored_rental_at : Operator → ℕ → Option StoredRental
-stored_rental_at s rental = option_map (λ r. record { rental = r; refunded = refunded_of rental s.entries }) (numbered rental s.rentals)
+stored_rental_at s rental = option_map (λ r. record { rental = r; refunded = refunded_of rental s.entries }) (item_numbered rental s.rentals)

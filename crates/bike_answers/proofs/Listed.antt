@@ -1,6 +1,6 @@
 -- An object whose members are those of a list, written one after the other.
 use Rattle.std.proofs.Common.{◌≡◌, ℕ, zero, suc, ◌+◌, ◌<◌, ◌≤◌, List, [], ◌∷◌, ◌++◌, Bool, true, false, IsTrue, length, drop, get_or, refl, sym, ap, ◌∙◌, arith, append_assoc, append-nil}
-use Rattle.bike_json.specs.Escapes.{quoted}
+use Rattle.bike_json.specs.Escapes.{string_text}
 use Rattle.bike_json.specs.Outputs.{OutputState}
 use Rattle.bike_json.specs.Tree.{Tree, Members, object, comma, text_of, members_text}
 use Rattle.bike_json.specs.State.{Place, Wrote, IsAt, takes_name, has_more}
@@ -22,7 +22,7 @@ pub members_start : (p : Place) (a : OutputState) (all : List (List ℕ × Tree)
 members_start p a all at = record { front = []; wrote = wrote_nothing p a; split = rw at refl; inside = rw at refl; round = refl }
 
 one_more : (front name text : List ℕ) (more : Bool) (rest : List ℕ)
-    → front ++ (comma more ++ (quoted name ++ 58 ∷ (text ++ rest))) ≡ (front ++ (comma more ++ (quoted name ++ 58 ∷ text))) ++ rest
+    → front ++ (comma more ++ (string_text name ++ 58 ∷ (text ++ rest))) ≡ (front ++ (comma more ++ (string_text name ++ 58 ∷ text))) ++ rest
 one_more front name text more rest = simp append_assoc
 
 pub members_next : {p q r : Place} {a b c : OutputState} {all left rest : List (List ℕ × Tree)} {m : List ℕ × Tree}
@@ -54,9 +54,9 @@ pub object_text : (more : List ℕ) (ms : Members) → ((more ++ 123 ∷ []) ++ 
 object_text more ms = append_assoc (more ++ 123 ∷ []) (members_text false ms) (125 ∷ []) ∙ append_assoc more (123 ∷ []) (members_text false ms ++ 125 ∷ [])
 
 -- a member's name and its value
-pub member_parts : (more : Bool) (name text : List ℕ) → (comma more ++ quoted name ++ 58 ∷ []) ++ text ≡ comma more ++ (quoted name ++ 58 ∷ text)
+pub member_parts : (more : Bool) (name text : List ℕ) → (comma more ++ string_text name ++ 58 ∷ []) ++ text ≡ comma more ++ (string_text name ++ 58 ∷ text)
 member_parts more name text =
-    append_assoc (comma more ++ quoted name) (58 ∷ []) text ∙ append_assoc (comma more) (quoted name) (58 ∷ text)
+    append_assoc (comma more ++ string_text name) (58 ∷ []) text ∙ append_assoc (comma more) (string_text name) (58 ∷ text)
 
 pub drop_none : {X : Type 0} (xs : List X) (i : ℕ) → length xs ≤ i → drop i xs ≡ []
 drop_none [] zero le = refl

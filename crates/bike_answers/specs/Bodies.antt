@@ -1,7 +1,7 @@
 -- The JSON bodies of answers.
 use Rattle.std.specs.Prelude.{ℕ, ℤ, pos, List, [], ◌∷◌, ◌++◌, Bool, true, false, codes, Option, Some, None}
 use Rattle.bike_fixed.specs.Text.{moment_text}
-use Rattle.bike_json.specs.Escapes.{quoted}
+use Rattle.bike_json.specs.Escapes.{string_text}
 use Rattle.bike_json.specs.Tree.{Tree, object, text, whole, flag, Members, no_members, member, comma, text_of}
 use Rattle.bike_texts.specs.declared.ends.OrderEnd.{OrderEnd}
 use Rattle.bike_texts.specs.declared.ends.OrderEnd.TheVariants.{Depot, Station}
@@ -39,7 +39,7 @@ members (m ∷ ms) = member m.0 m.1 (members ms)
 
 -- one member, with whether others stand before it
 abbrev pub member_text : Bool → List ℕ → Tree → List ℕ
-member_text more name value = comma more ++ (quoted name ++ 58 ∷ text_of value)
+member_text more name value = comma more ++ (string_text name ++ 58 ∷ text_of value)
 
 -- ---- errors and replies
 

@@ -4,7 +4,7 @@ use Rattle.sqlite_trees.specs.declared.store.Store.{Ghosts}
 use Rattle.sqlite.specs.State.{HasCleanDisk}
 use Rattle.bike_operator.specs.Operator.{Operator}
 use Rattle.bike_schema.specs.Stands.{AllLeft, TreesStandFor}
-use Rattle.bike_http.specs.Desk.{DeskValue, shown, IsAt}
+use Rattle.bike_http.specs.Desk.{DeskValue, desk_state, IsAt}
 use Rattle.bike_http.specs.DeskFault.TheVariants.{NoMemory, StoreFailed, Stopped}
 use Rattle.bike_day_texts.specs.declared.table.DayTable.{DayTable}
 use Rattle.bike_days.specs.declared.fault.DayTableFault.{DayTableFault}
@@ -13,7 +13,7 @@ use Rattle.bike_days.specs.Ends.{EndsByDay, WritesDay, LeavesDesk}
 use Rattle.bike_app.specs.declared.end.Fault.TheVariants as fault
 use Rattle.bike_app.specs.Days.{ReportsAt, table_end}
 
-module _ {S : Type 0} (g : Ghosts S) (old new : DeskValue S) (s : Operator) (clean : HasCleanDisk (shown g new)) (at : IsAt g old s) where
+module _ {S : Type 0} (g : Ghosts S) (old new : DeskValue S) (s : Operator) (clean : HasCleanDisk (desk_state g new)) (at : IsAt g old s) where
   desk_at : (result : Result (Unit {0}) DayTableFault) → LeavesDesk g old new result → (table_end result ≡ Err fault.StoreFailed → ⊥) → IsAt g new s
   desk_at (Ok u) leaves other = leaves.same clean s at
   desk_at (Err (Day refused)) leaves other = subst (λ (d : DeskValue S). IsAt g d s) (sym (leaves.day refused refl)) at
@@ -27,5 +27,5 @@ module _ {S : Type 0} (g : Ghosts S) (old new : DeskValue S) (s : Operator) (cle
   reported_at table date zone a b result leaves day wrote =
       record { told = record { result = result; told = refl; day = day; written = wrote }; at = desk_at result leaves }
 
-  pub table_left : (result : Result (Unit {0}) DayTableFault) → LeavesDesk g old new result → AllLeft (shown g new) (TreesStandFor s)
+  pub table_left : (result : Result (Unit {0}) DayTableFault) → LeavesDesk g old new result → AllLeft (desk_state g new) (TreesStandFor s)
   table_left result leaves db h = at.keeps.left db (leaves.left clean s at db h)

@@ -7,13 +7,13 @@ use Rattle.bike_operator.specs.Operator.{Operator}
 use Rattle.bike_feed_texts.specs.declared.feed.Feed.{Feed}
 use Rattle.bike_schema.specs.Stands.{AllLeft, TreesStandFor}
 use Rattle.bike_http.specs.DeskFault.TheVariants.{NoMemory, StoreFailed, Stopped}
-use Rattle.bike_http.specs.Desk.{DeskValue, shown, IsAt}
+use Rattle.bike_http.specs.Desk.{DeskValue, desk_state, IsAt}
 use Rattle.bike_http.specs.FeedFault.{FeedFault}
 use Rattle.bike_http.specs.FeedFault.TheVariants.{SystemMissing, Write, Desk}
 use Rattle.bike_http.specs.Publishing.{IsPublished, IsBegun, LeavesDesk}
 use Rattle.bike_app.specs.Feeds.{PublishesAt, feed_end}
 
-module _ {S A : Type 0} (g : Ghosts S) (old new : DeskValue S) (s : Operator) (f : Feed) (moment : ℕ) (a b : Option (List ℕ)) (clean : HasCleanDisk (shown g new)) (at : IsAt g old s) where
+module _ {S A : Type 0} (g : Ghosts S) (old new : DeskValue S) (s : Operator) (f : Feed) (moment : ℕ) (a b : Option (List ℕ)) (clean : HasCleanDisk (desk_state g new)) (at : IsAt g old s) where
   pub published_at : (result : Result A FeedFault) → LeavesDesk g old new result → OnOk result (IsPublished s f moment a b) → OnErr result (IsBegun s f moment a b)
       → PublishesAt g new s f (Some moment) a b (feed_end result)
   published_at (Ok u) leaves whole front = record { told = (refl, whole); at = λ other. leaves.same clean s at }
@@ -29,5 +29,5 @@ module _ {S A : Type 0} (g : Ghosts S) (old new : DeskValue S) (s : Operator) (f
   published_at (Err (Desk Stopped)) leaves whole front =
       record { told = record { fault = Desk Stopped; is = refl; missing = λ is. absurd cc; begun = front }; at = λ other. absurd (other refl) }
 
-  pub still_left : (result : Result A FeedFault) → LeavesDesk g old new result → AllLeft (shown g new) (TreesStandFor s)
+  pub still_left : (result : Result A FeedFault) → LeavesDesk g old new result → AllLeft (desk_state g new) (TreesStandFor s)
   still_left result leaves db h = at.keeps.left db (leaves.left clean s at db h)

@@ -3,7 +3,7 @@ use Rattle.std.proofs.Common.{◌≡◌, ℕ, List, [], ◌∷◌, ◌++◌, Opt
 use Rattle.sqlite_trees.specs.declared.store.Store.{Ghosts}
 use Rattle.bike_operator.specs.Operator.{Operator}
 use Rattle.bike_schema.specs.Stands.{AllLeft, TreesStandFor}
-use Rattle.bike_http.specs.Desk.{DeskValue, shown}
+use Rattle.bike_http.specs.Desk.{DeskValue, desk_state}
 use Rattle.bike_http.specs.DeskFault.TheVariants.{NoMemory, StoreFailed, Stopped}
 use Rattle.bike_imports.specs.declared.fault.ImportFault.{ImportFault}
 use Rattle.bike_imports.specs.declared.fault.ImportFault.TheVariants.{BadHeader, Unreadable, Row, Read, Desk}
@@ -17,7 +17,7 @@ use Rattle.bike_app.proofs.RunLemmas.{after_one}
 module _ {S : Type 0} (g : Ghosts S) (desk : DeskValue S) (s : Operator) where
   -- a crash may leave the operator after a front of the rows
   imports_left : (moment : ℕ) (name : List ℕ) (input : Option (List ℕ)) (result : Result ℕ ImportFault)
-      → Imports g desk s moment name input result → AllLeft (shown g desk) (StandsAfterSome s)
+      → Imports g desk s moment name input result → AllLeft (desk_state g desk) (StandsAfterSome s)
   imports_left moment name input (Ok count) r db h = (r.calls, r.accepts.good, r.at.keeps.left db h)
   imports_left moment name input (Err BadHeader) r db h = ([], tt, r.at.keeps.left db h)
   imports_left moment name input (Err (Unreadable number)) r db h = (r.calls, r.accepts.good, r.at.keeps.left db h)
@@ -35,6 +35,6 @@ module _ {S : Type 0} (g : Ghosts S) (desk : DeskValue S) (s : Operator) where
   imports_left moment name input (Err (Desk Stopped)) r db h = absurd r
 
   pub told_left : (input ahead old new : Option (List ℕ)) (name : List ℕ) (moment : Option ℕ) (end : Result ℕ Fault)
-      → TellsImport g input ahead old new name moment desk s end → AllLeft (shown g desk) (StandsAfterSome s)
+      → TellsImport g input ahead old new name moment desk s end → AllLeft (desk_state g desk) (StandsAfterSome s)
   told_left input ahead old new name None end told db h = ([], tt, told.1.keeps.left db h)
   told_left input ahead old new name (Some moment) end told db h = imports_left moment name input told.result told.ran db h

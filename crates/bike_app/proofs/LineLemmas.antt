@@ -11,7 +11,7 @@ use Rattle.bike_commands.specs.Requests.{IsRequest, IsLine}
 use Rattle.bike_operator.specs.Operator.{Operator}
 use Rattle.bike_operator.specs.Runs.{Call, step}
 use Rattle.bike_schema.specs.Stands.{AllLeft}
-use Rattle.bike_http.specs.Desk.{DeskValue, shown, IsAt, TreesStandForEither}
+use Rattle.bike_http.specs.Desk.{DeskValue, desk_state, IsAt, TreesStandForEither}
 use Rattle.bike_http.specs.DeskFault.{DeskFault}
 use Rattle.bike_http.specs.DeskFault.TheVariants.{NoMemory, StoreFailed, Stopped}
 use Rattle.bike_app.specs.Answers.{IsReadAs}
@@ -33,7 +33,7 @@ module _ {S : Type 0} (g : Ghosts S) (old new : DeskValue S) where
   -- the reply to a line is that to the request which it spells
   pub replies_at : (line : List ℕ) (c : Call) (s : Operator) (result : Result Reply DeskFault) → IsReadAs line (Some c) → IsAt g old s
       → IfOk result (λ reply. (reply ≡ (step s c.0 c.1).0) × IsAt g new (step s c.0 c.1).1) → (result ≡ Err NoMemory → new ≡ old)
-      → (result ≡ Err StoreFailed → AllLeft (shown g new) (TreesStandForEither s (step s c.0 c.1).1)) → (result ≡ Err Stopped → IsTrue old.is_stopped) → RepliesAt g old new line s result
+      → (result ≡ Err StoreFailed → AllLeft (desk_state g new) (TreesStandForEither s (step s c.0 c.1).1)) → (result ≡ Err Stopped → IsTrue old.is_stopped) → RepliesAt g old new line s result
   replies_at line c s (Ok reply) read at ok same failed stopped = (Some c, read, ok.0, ok.1)
   replies_at line c s (Err NoMemory) read at ok same failed stopped = (read.0.short, subst (λ (d : DeskValue S). IsAt g d s) (sym (same refl)) at)
   replies_at line c s (Err StoreFailed) read at ok same failed stopped = (c, read, failed refl)

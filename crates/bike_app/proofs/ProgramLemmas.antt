@@ -14,7 +14,7 @@ use Rattle.bike_operator.specs.Runs.{Call}
 use Rattle.bike_operator.specs.Sound.{IsCall, AreCalls}
 use Rattle.bike_schema.specs.Tables.{HasNone}
 use Rattle.bike_schema.specs.Stands.{AllLeft, TreesStandFor}
-use Rattle.bike_http.specs.Desk.{DeskValue, shown}
+use Rattle.bike_http.specs.Desk.{DeskValue, desk_state}
 use Rattle.bike_http.specs.DeskFault.{DeskFault}
 use Rattle.bike_http.specs.DeskFault.TheVariants.{NoMemory, StoreFailed, Stopped}
 use Rattle.bike_http.specs.AdoptFault.{AdoptFault}
@@ -38,7 +38,7 @@ pub calls_push : (calls : List Call) (c : Call) → AreCalls calls → IsCall c 
 calls_push [] c good more = (more, tt)
 calls_push (d ∷ calls) c good more = (good.0, calls_push calls c good.1 more)
 
-pub some_left : {S : Type 0} (g : Ghosts S) (desk : DeskValue S) (s : Operator) (fault : Option DeskFault) → ServesSome g desk s fault → AllLeft (shown g desk) (StandsAfterSome s)
+pub some_left : {S : Type 0} (g : Ghosts S) (desk : DeskValue S) (s : Operator) (fault : Option DeskFault) → ServesSome g desk s fault → AllLeft (desk_state g desk) (StandsAfterSome s)
 some_left g desk s None r db h = (r.calls, r.good, r.ends.keeps.left db h)
 some_left g desk s (Some NoMemory) r db h = (r.calls, r.good, r.ends.keeps.left db h)
 some_left g desk s (Some StoreFailed) r db h = elim (r.ends.3 db h) [

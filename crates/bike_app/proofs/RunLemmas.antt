@@ -11,7 +11,7 @@ use Rattle.bike_commands.specs.declared.reply.Reply.{Reply}
 use Rattle.bike_commands.specs.Replies.{reply_text}
 use Rattle.bike_commands.specs.Requests.{IsLine, line_length}
 use Rattle.bike_schema.specs.Stands.{AllLeft}
-use Rattle.bike_http.specs.Desk.{DeskValue, shown, IsAt, TreesStandForEither}
+use Rattle.bike_http.specs.Desk.{DeskValue, desk_state, IsAt, TreesStandForEither}
 use Rattle.bike_http.specs.DeskFault.{DeskFault}
 use Rattle.bike_http.specs.DeskFault.TheVariants.{NoMemory, StoreFailed, Stopped}
 use Rattle.bike_stream.specs.Lines.{lines_of, first_line, IsFree}
@@ -227,7 +227,7 @@ module _ {S : Type 0} (g : Ghosts S) (s : Operator) (input w0 : Option (List ℕ
       }
 
       -- the store failed at the next line
-      running_fails : (c : Call) → IsReadAs line (Some c) → IsTrue next.is_stopped → AllLeft (shown g next) (TreesStandForEither (after_lines s r.calls) (step (after_lines s r.calls) c.0 c.1).1)
+      running_fails : (c : Call) → IsReadAs line (Some c) → IsTrue next.is_stopped → AllLeft (desk_state g next) (TreesStandForEither (after_lines s r.calls) (step (after_lines s r.calls) c.0 c.1).1)
           → (ahead : Option (List ℕ)) → FailsAt g next s input ahead w0 w
       running_fails c read stopped all ahead = record {
         done = r.done;
@@ -366,6 +366,6 @@ module _ {S : Type 0} (g : Ghosts S) (desk : DeskValue S) (s : Operator) where
       record {
         calls = asked r.calls;
         good = asked_good r.done r.calls r.read;
-        ends = (r.stopped, r.call, record { moment = r.next.2; request = r.next.1 }, rw (after_one s (asked r.calls) r.call) (subst (λ (o : Operator). AllLeft (shown g desk) (TreesStandForEither o (step o r.call.0 r.call.1).1)) same r.left));
+        ends = (r.stopped, r.call, record { moment = r.next.2; request = r.next.1 }, rw (after_one s (asked r.calls) r.call) (subst (λ (o : Operator). AllLeft (desk_state g desk) (TreesStandForEither o (step o r.call.0 r.call.1).1)) same r.left));
       }
   kept_of input ahead w0 w (Err (Desk Stopped)) r = absurd r

@@ -7,7 +7,7 @@ use Rattle.bike_operator.specs.Operator.{Operator}
 use Rattle.bike_operator.specs.Runs.{Call, step, after}
 use Rattle.bike_operator.specs.Sound.{IsCall, AreCalls}
 use Rattle.bike_schema.specs.Stands.{AllLeft}
-use Rattle.bike_http.specs.Desk.{DeskValue, shown, IsAt, TreesStandForEither}
+use Rattle.bike_http.specs.Desk.{DeskValue, desk_state, IsAt, TreesStandForEither}
 use Rattle.bike_http.specs.DeskFault.{DeskFault}
 use Rattle.bike_http.specs.DeskFault.TheVariants.{NoMemory, StoreFailed, Stopped}
 use Rattle.bike_stream.specs.Lines.{lines_of, IsFree}
@@ -55,7 +55,7 @@ module _ {S : Type 0} (g : Ghosts S) (desk : DeskValue S) (s : Operator) where
   abbrev pub EndsAfter : List Call → Option DeskFault → Type 0
   EndsAfter calls None = IsAt g desk (after s calls)
   EndsAfter calls (Some NoMemory) = IsAt g desk (after s calls)
-  EndsAfter calls (Some StoreFailed) = IsTrue desk.is_stopped × (c : Call) × IsCall c × AllLeft (shown g desk) (TreesStandForEither (after s calls) (after s (calls ++ c ∷ [])))
+  EndsAfter calls (Some StoreFailed) = IsTrue desk.is_stopped × (c : Call) × IsCall c × AllLeft (desk_state g desk) (TreesStandForEither (after s calls) (after s (calls ++ c ∷ [])))
   EndsAfter calls (Some Stopped) = ⊥
 
   -- some requests were served
@@ -131,7 +131,7 @@ module _ {S : Type 0} (g : Ghosts S) (desk : DeskValue S) (s : Operator) where
       pub read : AreReadAs done calls
       pub next : IsReadAs line (Some call)
       pub stopped : IsTrue desk.is_stopped
-      pub left : AllLeft (shown g desk) (TreesStandForEither (after_lines s calls) (step (after_lines s calls) call.0 call.1).1)
+      pub left : AllLeft (desk_state g desk) (TreesStandForEither (after_lines s calls) (step (after_lines s calls) call.0 call.1).1)
       pub written : Appends old new (answers s calls)
 
     -- what stands after each fault; the buffers want memory before the first line

@@ -8,7 +8,7 @@ use Rattle.bike_commands.specs.Requests.{line_length}
 use Rattle.bike_operator.specs.Operator.{Operator}
 use Rattle.bike_operator.specs.Runs.{Call, step}
 use Rattle.bike_schema.specs.Stands.{AllLeft}
-use Rattle.bike_http.specs.Desk.{DeskValue, shown, IsAt, TreesStandForEither}
+use Rattle.bike_http.specs.Desk.{DeskValue, desk_state, IsAt, TreesStandForEither}
 use Rattle.bike_http.specs.DeskFault.{DeskFault}
 use Rattle.bike_http.specs.DeskFault.TheVariants.{NoMemory, StoreFailed, Stopped}
 use Rattle.bike_app.specs.Answers.{IsReadAs, reply_to, after_line}
@@ -18,7 +18,7 @@ module _ {S : Type 0} (g : Ghosts S) (old new : DeskValue S) where
   abbrev pub RepliesAt : List ℕ → Operator → Result Reply DeskFault → Type 0
   RepliesAt line s (Ok reply) = (c : Option Call) × IsReadAs line c × (reply ≡ reply_to s c) × IsAt g new (after_line s c)
   RepliesAt line s (Err NoMemory) = (length line ≤ line_length) × IsAt g new s
-  RepliesAt line s (Err StoreFailed) = (c : Call) × IsReadAs line (Some c) × AllLeft (shown g new) (TreesStandForEither s (step s c.0 c.1).1)
+  RepliesAt line s (Err StoreFailed) = (c : Call) × IsReadAs line (Some c) × AllLeft (desk_state g new) (TreesStandForEither s (step s c.0 c.1).1)
   RepliesAt line s (Err Stopped) = ⊥
 
   -- whatever the disk: only a failed store stops a desk, and only a stopped desk tells that
@@ -30,6 +30,6 @@ module _ {S : Type 0} (g : Ghosts S) (old new : DeskValue S) where
 
   -- A line is served.
   pub record RepliesTo (line : List ℕ) (result : Result Reply DeskFault) : Type 0 where
-    pub clean : doubt (shown g old).is_clean ≤ doubt (shown g new).is_clean
+    pub clean : doubt (desk_state g old).is_clean ≤ doubt (desk_state g new).is_clean
     pub goes_on : old.is_stopped ≡ false → GoesOn result
-    pub replied : HasCleanDisk (shown g new) → (s : Operator) → IsAt g old s → RepliesAt line s result
+    pub replied : HasCleanDisk (desk_state g new) → (s : Operator) → IsAt g old s → RepliesAt line s result

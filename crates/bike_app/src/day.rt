@@ -6,7 +6,7 @@ ghost use Rattle.sqlite.specs.Held.{state};
 ghost use Rattle.sqlite_trees.specs.View.{doubt};
 ghost use Rattle.bike_operator.specs.Operator.{Operator};
 ghost use Rattle.bike_schema.specs.Stands.{AllLeft, TreesStandFor};
-ghost use Rattle.bike_http.specs.Desk.{shown, IsAt};
+ghost use Rattle.bike_http.specs.Desk.{desk_state, IsAt};
 ghost use Rattle.bike_app.specs.Days.{ReportsAt, TellsReported, table_end};
 
 use crate::end::Fault;
@@ -35,11 +35,11 @@ fn report_at<S: Alter, W: Write>(
     zone: &str,
     writer: &mut W,
 ) -> Result<u64, Fault>
-    ensures clean { doubt (shown S.Store desk.old).is_clean ≤ doubt (shown S.Store desk.new).is_clean }
-    ensures told { HasCleanDisk (shown S.Store desk.new) → (s : Operator) → IsAt S.Store desk.old s
+    ensures clean { doubt (desk_state S.Store desk.old).is_clean ≤ doubt (desk_state S.Store desk.new).is_clean }
+    ensures told { HasCleanDisk (desk_state S.Store desk.new) → (s : Operator) → IsAt S.Store desk.old s
         → ReportsAt table date.now zone.now S.Store desk.new s (W.contents writer.old) (W.contents writer.new) result }
-    ensures left { HasCleanDisk (shown S.Store desk.new) → (s : Operator) → IsAt S.Store desk.old s
-        → AllLeft (shown S.Store desk.new) (TreesStandFor s) }
+    ensures left { HasCleanDisk (desk_state S.Store desk.new) → (s : Operator) → IsAt S.Store desk.old s
+        → AllLeft (desk_state S.Store desk.new) (TreesStandFor s) }
 {
     let written = day_csv(alloc, desk, date, zone, table, writer);
     told(written)

@@ -6,7 +6,7 @@ ghost use Rattle.sqlite.specs.Held.{state};
 ghost use Rattle.sqlite_trees.specs.View.{doubt};
 ghost use Rattle.bike_operator.specs.Operator.{Operator};
 ghost use Rattle.bike_schema.specs.Stands.{AllLeft, TreesStandFor};
-ghost use Rattle.bike_http.specs.Desk.{shown, IsAt};
+ghost use Rattle.bike_http.specs.Desk.{desk_state, IsAt};
 ghost use Rattle.bike_app.specs.Feeds.{PublishesAt, TellsPublished, feed_end, moment_of};
 
 use crate::end::Fault;
@@ -44,11 +44,11 @@ fn publish_for<S: Alter, W: Write>(
     moment: Moment,
     writer: &mut W,
 ) -> Result<u64, Fault>
-    ensures clean { doubt (shown S.Store desk.old).is_clean ≤ doubt (shown S.Store desk.new).is_clean }
-    ensures told { HasCleanDisk (shown S.Store desk.new) → (s : Operator) → IsAt S.Store desk.old s
+    ensures clean { doubt (desk_state S.Store desk.old).is_clean ≤ doubt (desk_state S.Store desk.new).is_clean }
+    ensures told { HasCleanDisk (desk_state S.Store desk.new) → (s : Operator) → IsAt S.Store desk.old s
         → PublishesAt S.Store desk.new s feed (Some moment) (W.contents writer.old) (W.contents writer.new) result }
-    ensures left { HasCleanDisk (shown S.Store desk.new) → (s : Operator) → IsAt S.Store desk.old s
-        → AllLeft (shown S.Store desk.new) (TreesStandFor s) }
+    ensures left { HasCleanDisk (desk_state S.Store desk.new) → (s : Operator) → IsAt S.Store desk.old s
+        → AllLeft (desk_state S.Store desk.new) (TreesStandFor s) }
 {
     let published = write_feed(alloc, desk, feed, moment, writer);
     told(published)
@@ -62,11 +62,11 @@ fn publish_at<S: Alter, W: Write>(
     moment: Option<Moment>,
     writer: &mut W,
 ) -> Result<u64, Fault>
-    ensures clean { doubt (shown S.Store desk.old).is_clean ≤ doubt (shown S.Store desk.new).is_clean }
-    ensures told { HasCleanDisk (shown S.Store desk.new) → (s : Operator) → IsAt S.Store desk.old s
+    ensures clean { doubt (desk_state S.Store desk.old).is_clean ≤ doubt (desk_state S.Store desk.new).is_clean }
+    ensures told { HasCleanDisk (desk_state S.Store desk.new) → (s : Operator) → IsAt S.Store desk.old s
         → PublishesAt S.Store desk.new s feed moment (W.contents writer.old) (W.contents writer.new) result }
-    ensures left { HasCleanDisk (shown S.Store desk.new) → (s : Operator) → IsAt S.Store desk.old s
-        → AllLeft (shown S.Store desk.new) (TreesStandFor s) }
+    ensures left { HasCleanDisk (desk_state S.Store desk.new) → (s : Operator) → IsAt S.Store desk.old s
+        → AllLeft (desk_state S.Store desk.new) (TreesStandFor s) }
 {
     match moment {
         Some(moment) => publish_for(alloc, desk, feed, moment, writer),

@@ -7,7 +7,7 @@ ghost use Rattle.sqlite_trees.specs.View.{doubt};
 ghost use Rattle.bike_fields.specs.Bytes.{is_ident};
 ghost use Rattle.bike_operator.specs.Operator.{Operator};
 ghost use Rattle.bike_schema.specs.Stands.{AllLeft, TreesStandFor};
-ghost use Rattle.bike_http.specs.Desk.{shown, IsAt};
+ghost use Rattle.bike_http.specs.Desk.{desk_state, IsAt};
 ghost use Rattle.bike_imports.specs.Imports.{Imports};
 ghost use Rattle.bike_app.specs.Pieces.{Puts};
 ghost use Rattle.bike_app.specs.Program.{StandsAfterSome};
@@ -57,8 +57,8 @@ fn import_named<S: Alter, R: Read>(
     reader: &mut R,
 ) -> Result<u64, ImportFault>
     requires { is_ident name.now ≡ true }
-    ensures clean { doubt (shown S.Store desk.old).is_clean ≤ doubt (shown S.Store desk.new).is_clean }
-    ensures imports { HasCleanDisk (shown S.Store desk.new) → (s : Operator) → IsAt S.Store desk.old s
+    ensures clean { doubt (desk_state S.Store desk.old).is_clean ≤ doubt (desk_state S.Store desk.new).is_clean }
+    ensures imports { HasCleanDisk (desk_state S.Store desk.new) → (s : Operator) → IsAt S.Store desk.old s
         → Imports S.Store desk.new s moment name.now (R.remaining reader.old) result }
 {
     let Ok(name) = Ident::of(alloc, name) else {
@@ -77,8 +77,8 @@ fn import_at<S: Alter, R: Read, W: Write>(
     writer: &mut W,
 ) -> Result<u64, Fault>
     requires { is_ident name.now ≡ true }
-    ensures clean { doubt (shown S.Store desk.old).is_clean ≤ doubt (shown S.Store desk.new).is_clean }
-    ensures told { HasCleanDisk (shown S.Store desk.new) → (s : Operator) → IsAt S.Store desk.old s
+    ensures clean { doubt (desk_state S.Store desk.old).is_clean ≤ doubt (desk_state S.Store desk.new).is_clean }
+    ensures told { HasCleanDisk (desk_state S.Store desk.new) → (s : Operator) → IsAt S.Store desk.old s
         → TellsImport S.Store (R.remaining reader.old) (R.remaining reader.new)
         (W.contents writer.old) (W.contents writer.new) name.now moment desk.new s result }
 {

@@ -32,7 +32,7 @@ use Rattle.bike_recognition.proofs.LookLemmas.{reads_known, reads_once}
 use Rattle.bike_judges.specs.declared.key.BadKey.{BadKey}
 use Rattle.bike_judges.specs.Judging.{key_row}
 use Rattle.bike_judges.specs.Verdicts.{EarlierGood, JudgesTable}
-use Rattle.bike_audit.specs.Audit.{IsAfter, IsFoundIn, IsVerdictOn, IsByRules, IsAudited, named}
+use Rattle.bike_audit.specs.Audit.{IsAfter, IsFoundIn, IsVerdictOn, IsByRules, IsAudited, row_name}
 use Rattle.bike_audit.specs.declared.finding.Finding.{Finding}
 use Rattle.bike_audit.specs.declared.finding.Finding.TheVariants as finding
 use Rattle.bike_audit.specs.declared.tables.BadRow.{BadRow}
@@ -128,8 +128,8 @@ module _ (db : Database) where
   found_from place [] bad from good none = subst (IsVerdict t) (sym none) (λ table other. good table other (subst (λ (n : ℕ). table_place table < n) (sym from) (last_place table)))
   found_from place (name ∷ names) bad from good it = one_table place name from.0 good bad (IsFoundIn names db bad) (λ up rest. found_from (suc place) names bad from.1 up rest) it.0 it.1 it.2
 
-  pub found_verdict : (bad : Option BadRow) → IsFoundIn every_table db (option_map named bad) → IsVerdictOn db bad
-  found_verdict bad it = found_from 0 every_table (option_map named bad) every_from (λ table other less. absurd (omega (arith, less))) it
+  pub found_verdict : (bad : Option BadRow) → IsFoundIn every_table db (option_map row_name bad) → IsVerdictOn db bad
+  found_verdict bad it = found_from 0 every_table (option_map row_name bad) every_from (λ table other less. absurd (omega (arith, less))) it
 
 -- ---- a list of tables, the first of which has no bad row
 
@@ -138,14 +138,14 @@ pub split_first : (tables : List code.TableName) (other : code.TableName) → 1 
 split_first [] other some = absurd (omega (arith, some))
 split_first (table ∷ rest) other some = ap (λ (xs : List code.TableName). table ∷ xs) (sym (take_all (length (table ∷ rest) - 1) rest (omega arith)))
 
-pub found_after : (tables : List code.TableName) (table : code.TableName) (rest : List code.TableName) (found : Option BadKey) → tables ≡ table ∷ rest → found ≡ None → (db : Database) (bad : Option BadRow) → JudgesTable (table_named table) db found × IsFoundIn (map table_named rest) db (option_map named bad)
-    → IsFoundIn (map table_named tables) db (option_map named bad)
+pub found_after : (tables : List code.TableName) (table : code.TableName) (rest : List code.TableName) (found : Option BadKey) → tables ≡ table ∷ rest → found ≡ None → (db : Database) (bad : Option BadRow) → JudgesTable (table_named table) db found × IsFoundIn (map table_named rest) db (option_map row_name bad)
+    → IsFoundIn (map table_named tables) db (option_map row_name bad)
 found_after tables table rest found split none db bad both =
-    subst (λ (names : List code.TableName). IsFoundIn (map table_named names) db (option_map named bad)) (sym split) (found, both.0, subst (IsAfter (table_named table) (option_map named bad) (IsFoundIn (map table_named rest) db (option_map named bad))) (sym none) both.1)
+    subst (λ (names : List code.TableName). IsFoundIn (map table_named names) db (option_map row_name bad)) (sym split) (found, both.0, subst (IsAfter (table_named table) (option_map row_name bad) (IsFoundIn (map table_named rest) db (option_map row_name bad))) (sym none) both.1)
 
 pub found_here : (tables : List code.TableName) (table : code.TableName) (rest : List code.TableName) (found : Option BadKey) (key : BadKey)
     → tables ≡ table ∷ rest → found ≡ Some key → (db : Database) → JudgesTable (table_named table) db found
-    → IsFoundIn (map table_named tables) db (option_map named (Some (record { table = table; key = key })))
+    → IsFoundIn (map table_named tables) db (option_map row_name (Some (record { table = table; key = key })))
 found_here tables table rest found key split some db judged =
     let bad = Some (table_named table, key_row key) in
     let after = subst (IsAfter (table_named table) bad (IsFoundIn (map table_named rest) db bad)) (sym some) refl in

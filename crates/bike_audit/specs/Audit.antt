@@ -18,12 +18,12 @@ use Rattle.bike_audit.specs.declared.finding.Finding.TheVariants as finding
 -- ---- the first bad row
 
 -- the table and the key of a bad row
-abbrev pub named : BadRow → TableName × Row
-named bad = (table_named bad.table, key_row bad.key)
+abbrev pub row_name : BadRow → TableName × Row
+row_name bad = (table_named bad.table, key_row bad.key)
 
 -- the verdict on the tables of a database
 abbrev pub IsVerdictOn : Database → Option BadRow → Type 0
-IsVerdictOn db bad = IsVerdict (tables_of db) (option_map named bad)
+IsVerdictOn db bad = IsVerdict (tables_of db) (option_map row_name bad)
 
 -- a table's bad key was found, or the rest decides
 abbrev pub IsAfter : TableName → Option (TableName × Row) → Type 0 → Option BadKey → Type 0
@@ -40,7 +40,7 @@ IsFoundIn (name ∷ names) db bad = (found : Option BadKey) × JudgesTable name 
 -- of a database in which all tables stand, in the newest version
 abbrev pub IsByRules : Database → Finding → Type 0
 IsByRules db finding.Sound = IsVerdict (tables_of db) None
-IsByRules db (finding.Unsound bad) = IsVerdict (tables_of db) (Some (named bad))
+IsByRules db (finding.Unsound bad) = IsVerdict (tables_of db) (Some (row_name bad))
 IsByRules db _ = ⊥
 
 -- WHAT THE AUDIT FINDS: what the database is recognised as, and by the rules where that is the product's newest version

@@ -4,7 +4,7 @@ ghost use Rattle.std.specs.Prelude.{map, option_map};
 ghost use Rattle.bike_rows.specs.Calls.{ReadsWhere};
 ghost use Rattle.bike_schema.specs.Tables.{IsOurs};
 ghost use Rattle.bike_recognition.specs.Names.{table_named};
-ghost use Rattle.bike_audit.specs.Audit.{IsFoundIn, IsVerdictOn, named};
+ghost use Rattle.bike_audit.specs.Audit.{IsFoundIn, IsVerdictOn, row_name};
 
 use crate::rules::judge_table;
 use crate::watch::Watch;
@@ -29,7 +29,7 @@ fn first_bad_of<S: Alter, P: Watch>(
     watch: &mut P,
 ) -> Result<Option<BadRow>, StatementFault>
     ensures { ReadsWhere S.Store IsOurs conn.old conn.new result
-        (λ db bad. IsFoundIn (map table_named tables.now) db (option_map named bad)) }
+        (λ db bad. IsFoundIn (map table_named tables.now) db (option_map row_name bad)) }
 {
     match tables {
         [] => {

@@ -12,7 +12,7 @@ use Rattle.bike_operator.specs.Rows.{SystemRow}
 use Rattle.bike_operator.specs.declared.change.Change.TheVariants as change
 use Rattle.bike_operator.specs.Operator.{Operator, Station}
 use Rattle.bike_operator.specs.Steps.{key_changed, new_station}
-use Rattle.bike_operator.specs.Changes.{changed}
+use Rattle.bike_operator.specs.Changes.{with_change}
 use Rattle.bike_places.proofs.MapLemmas.{number_order, text_order, known_added, known_changed}
 use Rattle.bike_places.proofs.CatalogueLemmas.{same_docks, docks_changed, docks_added}
 use Rattle.bike_book.specs.Rows.{system_row, station_row}
@@ -36,7 +36,7 @@ system_put x (Some y) = rw one_key refl
 pub set_system : Everywhere SetSystemLaw
 set_system s m now listing x = record {
   leads = λ i. record (tables_between s m) { system = system_put x.now s.system i };
-  listing = listing_same s (changed now (change.SetSystem x) s) m (names_same s (changed now (change.SetSystem x) s) refl refl) refl refl listing;
+  listing = listing_same s (with_change now (change.SetSystem x) s) m (names_same s (with_change now (change.SetSystem x) s) refl refl) refl refl listing;
 }
 
 -- ---- types
@@ -46,7 +46,7 @@ types_known s n stations types = let same = names_same s (record n { types = s.t
 
 pub add_type : Everywhere AddTypeLaw
 add_type s m now listing t =
-    let n = changed now (change.AddType t) s in
+    let n = with_change now (change.AddType t) s in
     let types = put_entries texts stored_type stored_type (λ e. refl) (λ e. refl) s.types t.now.type_id t.now tt (λ q y found. (tt, λ apart. refl)) in
     record {
       leads = λ i. record (tables_between s m) { types = types i };
@@ -55,7 +55,7 @@ add_type s m now listing t =
 
 pub set_plan : Everywhere SetPlanLaw
 set_plan s m now listing type_id plan =
-    let n = changed now (change.SetPlan type_id plan) s in
+    let n = with_change now (change.SetPlan type_id plan) s in
     let types = changed_entries texts stored_type stored_type (λ e. refl) (λ e. refl) s.types type_id.now tt _ (λ t. record t { plan_id = plan.now }) (λ v found. refl) (λ q y found. (tt, λ apart. refl)) in
     record {
       leads = λ i. record (tables_between s m) { types = types i };
@@ -66,7 +66,7 @@ set_plan s m now listing type_id plan =
 
 pub add_station : Everywhere AddStationLaw
 add_station s m now listing x free none_taken none_broken =
-    let n = changed now (change.AddStation x) s in
+    let n = with_change now (change.AddStation x) s in
     let left : pos x.now.docks ≡ docks_left s x.now.station_id x.now.docks = omega (arith, ints, none_taken, none_broken) in
     let stations =
     ap (λ (r : Row). put_row_by 1 r (map (counted_station s) (fin.entries s.stations))) (ap₂ (station_row x.now.station_id (new_station x.now now)) left (sym none_broken))
@@ -90,7 +90,7 @@ names_station s id f rows = record {
 
 pub set_station : Everywhere SetStationLaw
 set_station s m now listing station installed renting returning =
-    let n = changed now (change.SetStation station installed renting returning) s in
+    let n = with_change now (change.SetStation station installed renting returning) s in
     let f = λ (x : Station). record x { is_installed = installed; is_renting = renting; is_returning = returning; reported = now } in
     let stations = changed_entries texts (counted_station s) (counted_station s) (λ e. refl) (λ e. refl) s.stations station.now tt _ f (λ v found. refl) (λ q y found. (tt, λ apart. refl)) in
     record {

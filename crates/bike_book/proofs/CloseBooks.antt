@@ -11,16 +11,16 @@ use Rattle.bike_commands.specs.declared.request.Request.{Request}
 use Rattle.bike_operator.specs.declared.change.Change.{Change}
 use Rattle.bike_operator.specs.declared.change.Change.TheVariants as change
 use Rattle.bike_operator.specs.declared.change.Accepted.{Accepted}
-use Rattle.bike_operator.specs.Operator.{Operator, Kept, Key, texts_cmp, numbered}
-use Rattle.bike_operator.specs.Changes.{changed, all_changed, present, entry_added, made}
-use Rattle.bike_operator.specs.Runs.{key_in, accepted}
+use Rattle.bike_operator.specs.Operator.{Operator, Kept, Key, texts_cmp, item_numbered}
+use Rattle.bike_operator.specs.Changes.{with_change, with_changes, present, entry_added, effect_of}
+use Rattle.bike_operator.specs.Runs.{key_in, after_acceptance}
 use Rattle.bike_places.proofs.ItemLemmas.{number_last}
 use Rattle.bike_book.specs.declared.version.TheConstants.{NEWEST}
 use Rattle.bike_book.specs.Rows.{meta_row, kept_row}
 use Rattle.bike_book.specs.Stored.{stored_kept}
 use Rattle.bike_book.specs.Between.{tables_between}
 use Rattle.bike_book.specs.ChangeLaws.{LeavesLedger, ChangesLeaveLedger}
-use Rattle.bike_book.specs.CloseLaws.{closed, AreKept, AreTextsOf, QuietCloseLaw, EntryCloseLaw, RefundCloseLaw, AtEachClose, AcceptedIsClosed, AcceptedEntryNumber, ChangesLeaveKept}
+use Rattle.bike_book.specs.CloseLaws.{after_close, AreKept, AreTextsOf, QuietCloseLaw, EntryCloseLaw, RefundCloseLaw, AtEachClose, AcceptedIsClosed, AcceptedEntryNumber, ChangesLeaveKept}
 use Rattle.bike_book.proofs.MapRows.{put_entries}
 use Rattle.bike_book.proofs.Keys.{pairs, IsPair}
 use Rattle.bike_book.proofs.ListingLemmas.{names_same, listing_same}
@@ -42,14 +42,14 @@ kept_put s q r caller key command reply are texts =
 
 pub close_quiet : AtEachClose QuietCloseLaw
 close_quiet s m now q r caller key command reply listing are texts cash revenue cash_is revenue_is =
-    let n = closed now q r s in
+    let n = after_close now q r s in
     let meta = meta_set NEWEST s.now (cash_of s.entries) (revenue_of s.entries) now cash revenue ∙ ap₂ (λ (c z : ℤ). meta_row NEWEST now c z ∷ []) cash_is revenue_is in
     let kept = kept_put s q r caller.now key.now command.now reply.now are texts in
     record { leads = λ i. record (tables_between s m) { meta = meta i; kept = kept i }; listing = listing_same s n m (names_same s n refl refl) refl refl listing }
 
 pub close_entry : AtEachClose EntryCloseLaw
 close_entry s m now q r caller key command reply listing are texts e balance cash revenue with none =
-    let n = closed now q r (entry_added (Some e.now) s) in
+    let n = after_close now q r (entry_added (Some e.now) s) in
     let meta = meta_set NEWEST s.now (cash_of s.entries) (revenue_of s.entries) now cash revenue ∙ ap₂ (λ (c z : ℤ). meta_row NEWEST now c z ∷ []) (with.cash_is ∙ sym (cash_after s.entries e.now)) (with.revenue_is ∙ sym (revenue_after s.entries e.now)) in
     let kept = kept_put s q r caller.now key.now command.now reply.now are texts in
     let entries = entry_put s.entries e.now with.number_is in
@@ -62,7 +62,7 @@ close_entry s m now q r caller key command reply listing are texts e balance cas
 
 pub close_refund : AtEachClose RefundCloseLaw
 close_refund s m now q r caller key command reply listing are texts e balance refunded cash revenue with refunded_is =
-    let n = closed now q r (entry_added (Some e.now) s) in
+    let n = after_close now q r (entry_added (Some e.now) s) in
     let meta = meta_set NEWEST s.now (cash_of s.entries) (revenue_of s.entries) now cash revenue ∙ ap₂ (λ (c z : ℤ). meta_row NEWEST now c z ∷ []) (with.cash_is ∙ sym (cash_after s.entries e.now)) (with.revenue_is ∙ sym (revenue_after s.entries e.now)) in
     let kept = kept_put s q r caller.now key.now command.now reply.now are texts in
     let entries = entry_put s.entries e.now with.number_is in
@@ -75,7 +75,7 @@ close_refund s m now q r caller key command reply listing are texts e balance re
 
 -- ---- what changes leave
 
-leaves : (now : ℕ) (c : Change) (s : Operator) → LeavesLedger s (changed now c s)
+leaves : (now : ℕ) (c : Change) (s : Operator) → LeavesLedger s (with_change now c s)
 leaves now (change.SetSystem x) s = record { entries = refl; kept = refl; now = refl }
 leaves now (change.AddPlan p) s = record { entries = refl; kept = refl; now = refl }
 leaves now (change.AddType t) s = record { entries = refl; kept = refl; now = refl }
@@ -100,14 +100,14 @@ pub changes_leave : ChangesLeaveLedger
 changes_leave now [] s = record { entries = refl; kept = refl; now = refl }
 changes_leave now (c ∷ cs) s =
     let first = leaves now c s in
-    let rest = changes_leave now cs (changed now c s) in
+    let rest = changes_leave now cs (with_change now c s) in
     record { entries = rest.entries ∙ first.entries; kept = rest.kept ∙ first.kept; now = rest.now ∙ first.now }
 
 -- ---- the operator after an accepted request
 
-kept_stays : (now : ℕ) (a : Accepted) (s : Operator) → (made now a s).kept ≡ s.kept
+kept_stays : (now : ℕ) (a : Accepted) (s : Operator) → (effect_of now a s).kept ≡ s.kept
 kept_stays now a s = go a.entry where
-  go : (e : Option Entry) → (entry_added e (all_changed now (present a.changes) s)).kept ≡ s.kept
+  go : (e : Option Entry) → (entry_added e (with_changes now (present a.changes) s)).kept ≡ s.kept
   go None = (changes_leave now (present a.changes) s).kept
   go (Some e) = (changes_leave now (present a.changes) s).kept
 
@@ -117,11 +117,11 @@ accepted_closed s now q a decides =
 
 pub accepted_entry : AcceptedEntryNumber
 accepted_entry s now q a e decides entry_is sound =
-    let before = all_changed now (present a.changes) s in
-    let n = accepted s now q in
+    let before = with_changes now (present a.changes) s in
+    let n = after_acceptance s now q in
     let entries : n.entries ≡ before.entries ++ e ∷ [] =
     ap (λ (o : Operator). o.entries) (accepted_closed s now q a decides) ∙ ap (λ (o : Option Entry). (entry_added o before).entries) entry_is in
-    let last : numbered (length before.entries + 1) n.entries ≡ Some e = ap (numbered (length before.entries + 1)) entries ∙ number_last before.entries e in
+    let last : item_numbered (length before.entries + 1) n.entries ≡ Some e = ap (item_numbered (length before.entries + 1)) entries ∙ number_last before.entries e in
     (sound.ledger.entries (length before.entries + 1) e last).number_is
 
 pub kept_left : ChangesLeaveKept

@@ -8,9 +8,9 @@ use Rattle.std.specs.FinMap.{FinMap}
 use Rattle.std.proofs.lemmas.Int.{ints}
 use Rattle.sqlite_value.specs.declared.value.Value.TheVariants.{Int}
 use Rattle.sqlite_value.specs.Order.{Row}
-use Rattle.bike_rows.specs.View.{row_with, put_row_by, updated, with_values}
+use Rattle.bike_rows.specs.View.{row_with, put_row_by, rows_after_update, with_values}
 use Rattle.bike_ledger.specs.Entries.{Entry}
-use Rattle.bike_ledger.specs.Ledger.{credit, cash_in, earned, given_back, given_back_of, balance_of, cash_of, revenue_of, refunded_of}
+use Rattle.bike_ledger.specs.Ledger.{credit, cash_in, revenue_in, given_back, given_back_of, balance_of, cash_of, revenue_of, refunded_of}
 use Rattle.bike_ledger.proofs.SumLemmas.{total-append, balance_of-own, balance_of-other}
 use Rattle.bike_operator.specs.declared.records.Rental.{Rental}
 use Rattle.bike_operator.specs.declared.records.Closing.{Closing}
@@ -42,7 +42,7 @@ entry_put es e is = put_number stored_entry stored_entry (λ x. refl) (λ x. ref
 -- ---- its rider
 
 pub balance_set : (riders : FinMap nat_cmp Rider) (es : List Entry) (e : Entry) (balance : ℤ) → balance ≡ balance_of e.rider es +ℤ credit e.kind e.amount
-    → updated 1 (number_key e.rider) (with_values ((2, Int balance) ∷ [])) (map (stored_rider es) (fin.entries riders)) ≡ map (stored_rider (es ++ e ∷ [])) (fin.entries riders)
+    → rows_after_update 1 (number_key e.rider) (with_values ((2, Int balance) ∷ [])) (map (stored_rider es) (fin.entries riders)) ≡ map (stored_rider (es ++ e ∷ [])) (fin.entries riders)
 balance_set riders es e balance is =
     kept_entries numbers (stored_rider es) (stored_rider (es ++ e ∷ [])) (λ x. refl) (λ x. refl) riders e.rider tt _
     (λ r found. ap (rider_row e.rider r.is_blocked) (is ∙ sym (balance_of-own es e)))
@@ -76,7 +76,7 @@ refunded_row rental r old refunded None = refl
 refunded_row rental r old refunded (Some c) = refl
 
 pub refunded_set : (rentals : List Rental) (es : List Entry) (e : Entry) (refunded : ℤ) → refunded ≡ refunded_of e.rental es +ℤ given_back e.kind e.amount
-    → updated 1 (number_key e.rental) (with_values ((9, Int refunded) ∷ [])) (map (stored_rental es) (with_numbers rentals)) ≡ map (stored_rental (es ++ e ∷ [])) (with_numbers rentals)
+    → rows_after_update 1 (number_key e.rental) (with_values ((9, Int refunded) ∷ [])) (map (stored_rental es) (with_numbers rentals)) ≡ map (stored_rental (es ++ e ∷ [])) (with_numbers rentals)
 refunded_set rentals es e refunded is =
     kept_number (stored_rental es) (stored_rental (es ++ e ∷ [])) (λ x. refl) (λ x. refl) rentals e.rental _ (λ r found. refunded_row e.rental r (refunded_of e.rental es) refunded r.closing ∙ ap (rental_row e.rental r) (is ∙ sym (refund_counted es e)))
     (λ x apart. ap (rental_row x.0 x.1) (refunds_stay es e x.0 (ap (λ (b : Bool). cond b (given_back e.kind e.amount) (pos 0)) (other_number e.rental x.0 apart))))
@@ -93,7 +93,7 @@ module _ (version old : ℕ) (c r : ℤ) where
   meta_put : (now : ℕ) (cash revenue : ℤ) → put_row_by 1 (meta_row version now cash revenue) (meta ∷ []) ≡ meta_row version now cash revenue ∷ []
   meta_put now cash revenue = rw one_key refl
 
-  pub meta_set : (now : ℕ) (cash revenue : ℤ) → updated 1 (number_key 1) (with_values ((3, number_value now) ∷ (4, Int cash) ∷ (5, Int revenue) ∷ [])) (meta ∷ []) ≡ meta_row version now cash revenue ∷ []
+  pub meta_set : (now : ℕ) (cash revenue : ℤ) → rows_after_update 1 (number_key 1) (with_values ((3, number_value now) ∷ (4, Int cash) ∷ (5, Int revenue) ∷ [])) (meta ∷ []) ≡ meta_row version now cash revenue ∷ []
   meta_set now cash revenue =
       ap (λ (o : Option Row). unwrap_or (option_map (λ x. put_row_by 1 (with_values ((3, number_value now) ∷ (4, Int cash) ∷ (5, Int revenue) ∷ []) x) (meta ∷ [])) o) (meta ∷ [])) meta_found
       ∙ meta_put now cash revenue
@@ -101,5 +101,5 @@ module _ (version old : ℕ) (c r : ℤ) where
 pub cash_after : (es : List Entry) (e : Entry) → cash_of (es ++ e ∷ []) ≡ cash_of es +ℤ cash_in e.kind e.amount
 cash_after es e = total-append (λ (x : Entry). cash_in x.kind x.amount) es e
 
-pub revenue_after : (es : List Entry) (e : Entry) → revenue_of (es ++ e ∷ []) ≡ revenue_of es +ℤ earned e.kind e.amount
-revenue_after es e = total-append (λ (x : Entry). earned x.kind x.amount) es e
+pub revenue_after : (es : List Entry) (e : Entry) → revenue_of (es ++ e ∷ []) ≡ revenue_of es +ℤ revenue_in e.kind e.amount
+revenue_after es e = total-append (λ (x : Entry). revenue_in x.kind x.amount) es e

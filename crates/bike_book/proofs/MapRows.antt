@@ -10,7 +10,7 @@ use Rattle.std.specs.FinMap.{FinMap, IsAntisymmetric}
 use Rattle.std.specs.FinMap.Entries as entries
 use Rattle.sqlite_value.specs.Order.{Row, row_cmp}
 use Rattle.sqlite_rules.specs.Lists.{Has}
-use Rattle.bike_rows.specs.View.{by_key, row_with, put_row_by, updated}
+use Rattle.bike_rows.specs.View.{by_key, row_with, put_row_by, rows_after_update}
 use Rattle.bike_operator.specs.Steps.{found_changed, key_changed}
 
 pub both : (a b : Bool) → T (a && b) → T a × T b
@@ -140,7 +140,7 @@ module _ {K X : Type 0} {R : K → K → Ordering} {keys : ℕ} {key_row : K →
 
   -- in the row of a key that is there
   pub set_sorted : (row next : K × X → Row) → BeginsWithKey row → BeginsWithKey next → (k : K) → IsGood k → (change : Row → Row) (es : List (K × X)) → T (entries.is_sorted R es)
-      → (v w : X) → entries.find R k es ≡ Some v → change (row (k, v)) ≡ next (k, w) → SameApart k row next es → updated keys (key_row k) change (map row es) ≡ map next (entries.put R k w es)
+      → (v w : X) → entries.find R k es ≡ Some v → change (row (k, v)) ≡ next (k, w) → SameApart k row next es → rows_after_update keys (key_row k) change (map row es) ≡ map next (entries.put R k w es)
   set_sorted row next begins begins_next k good change es sorted v w found is each =
       let there : row_with keys (key_row k) (map row es) ≡ Some (row (k, v)) =
       found_sorted row begins k good es (λ e has. (each e has).0) ∙ ap (option_map (λ x. row (k, x))) found in
@@ -149,7 +149,7 @@ module _ {K X : Type 0} {R : K → K → Ordering} {keys : ℕ} {key_row : K →
 
   -- and no row of a key that isn't
   pub unset_sorted : (row next : K × X → Row) → BeginsWithKey row → (k : K) → IsGood k → (change : Row → Row) (es : List (K × X))
-      → entries.find R k es ≡ None → SameApart k row next es → updated keys (key_row k) change (map row es) ≡ map next es
+      → entries.find R k es ≡ None → SameApart k row next es → rows_after_update keys (key_row k) change (map row es) ≡ map next es
   unset_sorted row next begins k good change es none each =
       let there : row_with keys (key_row k) (map row es) ≡ None =
       found_sorted row begins k good es (λ e has. (each e has).0) ∙ ap (option_map (λ x. row (k, x))) none in
@@ -180,23 +180,23 @@ module _ {K X : Type 0} {R : K → K → Ordering} {keys : ℕ} {key_row : K →
 
   -- columns are set in the row of a record that is there
   pub set_entries : (row next : K × X → Row) → BeginsWithKey row → BeginsWithKey next → (m : FinMap R X) (k : K) → IsGood k → (change : Row → Row) (v w : X)
-      → fin.get m k ≡ Some v → change (row (k, v)) ≡ next (k, w) → SameOthers k row next m → updated keys (key_row k) change (map row (fin.entries m)) ≡ map next (fin.entries (fin.insert m k w))
+      → fin.get m k ≡ Some v → change (row (k, v)) ≡ next (k, w) → SameOthers k row next m → rows_after_update keys (key_row k) change (map row (fin.entries m)) ≡ map next (fin.entries (fin.insert m k w))
   set_entries row next begins begins_next m k good change v w found is each =
       set_sorted row next begins begins_next k good change (fin.entries m) (fin.entries_sorted m) v w (sym (fin.get-entries m k) ∙ found) is (others_apart k row next m each)
       ∙ ap (map next) (sym (fin.entries-insert h.total m k w))
 
   -- and the rows are the same where none is there
   pub unset_entries : (row next : K × X → Row) → BeginsWithKey row → (m : FinMap R X) (k : K) → IsGood k → (change : Row → Row)
-      → fin.get m k ≡ None → SameOthers k row next m → updated keys (key_row k) change (map row (fin.entries m)) ≡ map next (fin.entries m)
+      → fin.get m k ≡ None → SameOthers k row next m → rows_after_update keys (key_row k) change (map row (fin.entries m)) ≡ map next (fin.entries m)
   unset_entries row next begins m k good change none each =
       unset_sorted row next begins k good change (fin.entries m) (sym (fin.get-entries m k) ∙ none) (others_apart k row next m each)
 
   -- A record is changed where it is there, and so is its row.
   pub changed_entries : (row next : K × X → Row) → BeginsWithKey row → BeginsWithKey next → (m : FinMap R X) (k : K) → IsGood k → (change : Row → Row) (f : X → X)
       → ((v : X) → fin.get m k ≡ Some v → change (row (k, v)) ≡ next (k, f v)) → SameOthers k row next m
-      → updated keys (key_row k) change (map row (fin.entries m)) ≡ map next (fin.entries (key_changed m k f))
+      → rows_after_update keys (key_row k) change (map row (fin.entries m)) ≡ map next (fin.entries (key_changed m k f))
   changed_entries row next begins begins_next m k good change f is each = go (fin.get m k) refl where
-    go : (o : Option X) → fin.get m k ≡ o → updated keys (key_row k) change (map row (fin.entries m)) ≡ map next (fin.entries (found_changed m k f o))
+    go : (o : Option X) → fin.get m k ≡ o → rows_after_update keys (key_row k) change (map row (fin.entries m)) ≡ map next (fin.entries (found_changed m k f o))
     go None none = unset_entries row next begins m k good change none each
     go (Some v) found = set_entries row next begins begins_next m k good change v (f v) found (is v found) each
 
@@ -210,9 +210,9 @@ module _ {K X : Type 0} {R : K → K → Ordering} {keys : ℕ} {key_row : K →
   -- The map stays, and what is stored beside the record of one key changes.
   pub kept_entries : (row next : K × X → Row) → BeginsWithKey row → BeginsWithKey next → (m : FinMap R X) (k : K) → IsGood k → (change : Row → Row)
       → ((v : X) → fin.get m k ≡ Some v → change (row (k, v)) ≡ next (k, v)) → SameOthers k row next m
-      → updated keys (key_row k) change (map row (fin.entries m)) ≡ map next (fin.entries m)
+      → rows_after_update keys (key_row k) change (map row (fin.entries m)) ≡ map next (fin.entries m)
   kept_entries row next begins begins_next m k good change is each = go (fin.get m k) refl where
-    go : (o : Option X) → fin.get m k ≡ o → updated keys (key_row k) change (map row (fin.entries m)) ≡ map next (fin.entries m)
+    go : (o : Option X) → fin.get m k ≡ o → rows_after_update keys (key_row k) change (map row (fin.entries m)) ≡ map next (fin.entries m)
     go None none = unset_entries row next begins m k good change none each
     go (Some v) found =
         set_entries row next begins begins_next m k good change v v found (is v found) each ∙ ap (λ (z : FinMap R X). map next (fin.entries z)) (inserted_same m k v found)

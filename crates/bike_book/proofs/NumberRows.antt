@@ -7,8 +7,8 @@ use Rattle.std.specs.declared.cmp.Ordering.TheVariants.{Less, Equal, Greater}
 use Rattle.std.specs.Cmp.{nat_cmp_is}
 use Rattle.std.specs.FinMap.Entries as entries
 use Rattle.sqlite_value.specs.Order.{Row}
-use Rattle.bike_rows.specs.View.{row_with, put_row_by, updated}
-use Rattle.bike_operator.specs.Operator.{item_at, numbered, item_changed, number_changed}
+use Rattle.bike_rows.specs.View.{row_with, put_row_by, rows_after_update}
+use Rattle.bike_operator.specs.Operator.{item_at, item_numbered, item_changed, number_changed}
 use Rattle.bike_book.specs.Stored.{numbers_from, with_numbers}
 use Rattle.bike_book.proofs.MapRows.{BeginsWithKey, found_sorted, put_sorted, set_sorted, unset_sorted}
 use Rattle.bike_book.proofs.Keys.{number_key, numbers}
@@ -61,11 +61,11 @@ module _ {A : Type 0} where
   find_item n (suc i) k (x ∷ xs) is =
       ap (λ (r : Ordering). cond (is_eq r) (Some x) (entries.find nat_cmp k (numbers_from (suc n) xs))) (is_greater k n (omega (arith, is))) ∙ find_item (suc n) i k xs (omega (arith, is))
 
-  pub find_numbered : (k : ℕ) (xs : List A) → entries.find nat_cmp k (with_numbers xs) ≡ numbered k xs
+  pub find_numbered : (k : ℕ) (xs : List A) → entries.find nat_cmp k (with_numbers xs) ≡ item_numbered k xs
   find_numbered zero xs = none_below 0 1 xs (omega arith)
   find_numbered (suc k) xs = find_item 1 k (suc k) xs (omega arith)
 
-  pub found_number : (row : ℕ × A → Row) → BeginsWithKey numbers row → (k : ℕ) (xs : List A) → row_with 1 (number_key k) (map row (with_numbers xs)) ≡ option_map (λ x. row (k, x)) (numbered k xs)
+  pub found_number : (row : ℕ × A → Row) → BeginsWithKey numbers row → (k : ℕ) (xs : List A) → row_with 1 (number_key k) (map row (with_numbers xs)) ≡ option_map (λ x. row (k, x)) (item_numbered k xs)
   found_number row begins k xs = found_sorted numbers row begins k tt (with_numbers xs) (λ e has. tt) ∙ ap (option_map (λ x. row (k, x))) (find_numbered k xs)
 
   -- ---- added
@@ -94,7 +94,7 @@ module _ {A : Type 0} where
       ap (λ (r : Ordering). entries.by_order r ((k, f x) ∷ (n, y) ∷ numbers_from (suc n) xs) ((n, f x) ∷ numbers_from (suc n) xs) ((n, y) ∷ entries.put nat_cmp k (f x) (numbers_from (suc n) xs))) (is_greater k n (omega (arith, is)))
       ∙ ap (λ (es : List (ℕ × A)). (n, y) ∷ es) (put_item (suc n) i k f xs x (omega (arith, is)) found)
 
-  put_numbered : (k : ℕ) (f : A → A) (xs : List A) (x : A) → numbered k xs ≡ Some x → entries.put nat_cmp k (f x) (with_numbers xs) ≡ with_numbers (number_changed k f xs)
+  put_numbered : (k : ℕ) (f : A → A) (xs : List A) (x : A) → item_numbered k xs ≡ Some x → entries.put nat_cmp k (f x) (with_numbers xs) ≡ with_numbers (number_changed k f xs)
   put_numbered zero f xs x found = absurd cc
   put_numbered (suc k) f xs x found = put_item 1 k (suc k) f xs x (omega arith) found
 
@@ -103,16 +103,16 @@ module _ {A : Type 0} where
   no_item zero f (x ∷ xs) none = absurd cc
   no_item (suc n) f (x ∷ xs) none = ap (λ zs. x ∷ zs) (no_item n f xs none)
 
-  no_number : (k : ℕ) (f : A → A) (xs : List A) → numbered k xs ≡ None → number_changed k f xs ≡ xs
+  no_number : (k : ℕ) (f : A → A) (xs : List A) → item_numbered k xs ≡ None → number_changed k f xs ≡ xs
   no_number zero f xs none = refl
   no_number (suc k) f xs none = no_item k f xs none
 
   -- A record is changed where it is there, and so is its row.
   pub changed_number : (row next : ℕ × A → Row) → BeginsWithKey numbers row → BeginsWithKey numbers next → (xs : List A) (k : ℕ) (change : Row → Row) (f : A → A)
-      → ((x : A) → numbered k xs ≡ Some x → change (row (k, x)) ≡ next (k, f x)) → ((e : ℕ × A) → eq_by_cmp nat_cmp k e.0 ≡ false → row e ≡ next e)
-      → updated 1 (number_key k) change (map row (with_numbers xs)) ≡ map next (with_numbers (number_changed k f xs))
-  changed_number row next begins begins_next xs k change f is same = go (numbered k xs) refl where
-    go : (o : Option A) → numbered k xs ≡ o → updated 1 (number_key k) change (map row (with_numbers xs)) ≡ map next (with_numbers (number_changed k f xs))
+      → ((x : A) → item_numbered k xs ≡ Some x → change (row (k, x)) ≡ next (k, f x)) → ((e : ℕ × A) → eq_by_cmp nat_cmp k e.0 ≡ false → row e ≡ next e)
+      → rows_after_update 1 (number_key k) change (map row (with_numbers xs)) ≡ map next (with_numbers (number_changed k f xs))
+  changed_number row next begins begins_next xs k change f is same = go (item_numbered k xs) refl where
+    go : (o : Option A) → item_numbered k xs ≡ o → rows_after_update 1 (number_key k) change (map row (with_numbers xs)) ≡ map next (with_numbers (number_changed k f xs))
     go None none =
         unset_sorted numbers row next begins k tt change (with_numbers xs) (find_numbered k xs ∙ none) (λ e has. (tt, same e)) ∙ ap (λ zs. map next (with_numbers zs)) (sym (no_number k f xs none))
     go (Some x) found =
@@ -120,7 +120,7 @@ module _ {A : Type 0} where
 
   -- The list stays, and what is stored beside the record of one number changes.
   pub kept_number : (row next : ℕ × A → Row) → BeginsWithKey numbers row → BeginsWithKey numbers next → (xs : List A) (k : ℕ) (change : Row → Row)
-      → ((x : A) → numbered k xs ≡ Some x → change (row (k, x)) ≡ next (k, x)) → ((e : ℕ × A) → eq_by_cmp nat_cmp k e.0 ≡ false → row e ≡ next e)
-      → updated 1 (number_key k) change (map row (with_numbers xs)) ≡ map next (with_numbers xs)
+      → ((x : A) → item_numbered k xs ≡ Some x → change (row (k, x)) ≡ next (k, x)) → ((e : ℕ × A) → eq_by_cmp nat_cmp k e.0 ≡ false → row e ≡ next e)
+      → rows_after_update 1 (number_key k) change (map row (with_numbers xs)) ≡ map next (with_numbers xs)
   kept_number row next begins begins_next xs k change is same =
       changed_number row next begins begins_next xs k change (λ x. x) is same ∙ ap (λ zs. map next (with_numbers zs)) (same_number k xs)

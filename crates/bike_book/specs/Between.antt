@@ -4,7 +4,7 @@ use Rattle.std.specs.FinMap as fin
 use Rattle.sqlite_value.specs.Order.{Row}
 use Rattle.bike_operator.specs.Operator.{Operator, Station}
 use Rattle.bike_operator.specs.Counts.{docks_broken}
-use Rattle.bike_places.specs.Numbers.{occupied}
+use Rattle.bike_places.specs.Numbers.{occupied_docks}
 use Rattle.bike_book.specs.declared.row_change.RowChange.{RowChange}
 use Rattle.bike_book.specs.Tables.{Tables}
 use Rattle.bike_book.specs.Rows.{station_row}
@@ -13,7 +13,7 @@ use Rattle.bike_book.specs.Writes.{writes_of, tables_after_all}
 
 -- A station's docks less those that work and hold a bicycle and those that are broken. In a sound operator these are its docks available.
 abbrev pub docks_left : Operator → List ℕ → ℕ → ℤ
-docks_left s station docks = pos docks -ℤ pos (occupied s station + docks_broken s station docks)
+docks_left s station docks = pos docks -ℤ pos (occupied_docks s station + docks_broken s station docks)
 
 abbrev pub counted_station : Operator → List ℕ × Station → Row
 counted_station s e = station_row e.0 e.1 (docks_left s e.0 e.1.row.docks) (docks_broken s e.0 e.1.row.docks)

@@ -8,10 +8,10 @@ use Rattle.bike_commands.specs.OrderEnd.{OrderEnd}
 use Rattle.bike_operator.specs.declared.records.Order.{Order}
 use Rattle.bike_operator.specs.declared.change.Change.{Change}
 use Rattle.bike_operator.specs.declared.change.Change.TheVariants as change
-use Rattle.bike_operator.specs.Operator.{Operator, numbered}
+use Rattle.bike_operator.specs.Operator.{Operator, item_numbered}
 use Rattle.bike_operator.specs.Counts.{docks_broken}
-use Rattle.bike_operator.specs.Changes.{changed, all_changed}
-use Rattle.bike_places.specs.Numbers.{occupied}
+use Rattle.bike_operator.specs.Changes.{with_change, with_changes}
+use Rattle.bike_places.specs.Numbers.{occupied_docks}
 use Rattle.bike_book.specs.declared.row_change.RowChange.{RowChange}
 use Rattle.bike_book.specs.declared.row_change.RowChange.TheVariants as row
 use Rattle.bike_book.specs.Tables.{Segments}
@@ -28,7 +28,7 @@ segment_writes plan seq (g ∷ gs) = Add Segments (segment_row plan seq g) ∷ s
 module _ (s : Operator) (m : Listed) (now : ℕ) where
   -- The row changes book the change, and the same rows are listed after it.
   abbrev pub BooksChange : List RowChange → Change → Type 0
-  BooksChange rows c = Books rows s m (changed now c s) m
+  BooksChange rows c = Books rows s m (with_change now c s) m
 
   -- ---- the catalogue
 
@@ -53,7 +53,7 @@ module _ (s : Operator) (m : Listed) (now : ℕ) where
   -- a station that isn't there, with no bicycle in a dock of it and no broken dock
   abbrev pub AddStationLaw : Type 0
   AddStationLaw =
-      (x : Bor StationRow) → fin.get s.stations x.now.station_id ≡ None → occupied s x.now.station_id ≡ 0 → docks_broken s x.now.station_id x.now.docks ≡ 0
+      (x : Bor StationRow) → fin.get s.stations x.now.station_id ≡ None → occupied_docks s x.now.station_id ≡ 0 → docks_broken s x.now.station_id x.now.docks ≡ 0
       → BooksChange (row.AddStation x now ∷ []) (change.AddStation x)
 
   -- the flags of a station, where it is there, and its report
@@ -102,13 +102,13 @@ module _ (s : Operator) (m : Listed) (now : ℕ) where
   -- an order that is there, with one more delivered
   abbrev pub DeliverLaw : Type 0
   DeliverLaw =
-      (order delivered : ℕ) (is_open : Bool) (o : Order) → numbered order s.orders ≡ Some o → delivered ≡ o.delivered + 1 → is_open ≡ o.is_open
+      (order delivered : ℕ) (is_open : Bool) (o : Order) → item_numbered order s.orders ≡ Some o → delivered ≡ o.delivered + 1 → is_open ≡ o.is_open
       → BooksChange (row.SetOrder order delivered is_open ∷ []) (change.Deliver order)
 
   -- an order that is there
   abbrev pub CloseOrderLaw : Type 0
   CloseOrderLaw =
-      (order delivered : ℕ) (o : Order) → numbered order s.orders ≡ Some o → delivered ≡ o.delivered
+      (order delivered : ℕ) (o : Order) → item_numbered order s.orders ≡ Some o → delivered ≡ o.delivered
       → BooksChange (row.SetOrder order delivered false ∷ []) (change.CloseOrder order)
 
 -- The law holds of each operator whose rows are listed right, at each moment.
@@ -132,4 +132,4 @@ pub record LeavesLedger (s next : Operator) : Type 0 where
 
 -- a list of changes leaves them
 abbrev pub ChangesLeaveLedger : Type 0
-ChangesLeaveLedger = (now : ℕ) (changes : List Change) (s : Operator) → LeavesLedger s (all_changed now changes s)
+ChangesLeaveLedger = (now : ℕ) (changes : List Change) (s : Operator) → LeavesLedger s (with_changes now changes s)

@@ -4,7 +4,7 @@ use Rattle.std.specs.Borrow.{Bor}
 use Rattle.std.specs.FinMap as fin
 use Rattle.bike_commands.specs.Caller.{caller_text}
 use Rattle.bike_ledger.specs.Entries.{Entry}
-use Rattle.bike_ledger.specs.Ledger.{credit, cash_in, earned, given_back, balance_of, cash_of, revenue_of, refunded_of}
+use Rattle.bike_ledger.specs.Ledger.{credit, cash_in, revenue_in, given_back, balance_of, cash_of, revenue_of, refunded_of}
 use Rattle.bike_commands.specs.declared.reply.Reply.{Reply}
 use Rattle.bike_commands.specs.declared.request.Request.{Request}
 use Rattle.bike_commands.specs.Commands.{text_of}
@@ -12,16 +12,16 @@ use Rattle.bike_commands.specs.Replies.{reply_text}
 use Rattle.bike_operator.specs.declared.change.Change.{Change}
 use Rattle.bike_operator.specs.declared.change.Accepted.{Accepted}
 use Rattle.bike_operator.specs.Operator.{Operator, Kept, Key}
-use Rattle.bike_operator.specs.Changes.{Decides, made, all_changed, present, entry_added}
-use Rattle.bike_operator.specs.Runs.{key_in, accepted}
+use Rattle.bike_operator.specs.Changes.{Decides, effect_of, with_changes, present, entry_added}
+use Rattle.bike_operator.specs.Runs.{key_in, after_acceptance}
 use Rattle.bike_operator.specs.Sound.{IsKept, IsSound}
 use Rattle.bike_book.specs.declared.row_change.RowChange.TheVariants as row
 use Rattle.bike_book.specs.Stored.{Listed, IsListing}
 use Rattle.bike_book.specs.Between.{Books}
 
 -- an operator at the moment of a request, with what is kept of it
-abbrev pub closed : ℕ → Request → Reply → Operator → Operator
-closed now q reply s = record s { now = now; kept = fin.insert s.kept (key_in q) (record { command = q.command; reply = reply }) }
+abbrev pub after_close : ℕ → Request → Reply → Operator → Operator
+after_close now q reply s = record s { now = now; kept = fin.insert s.kept (key_in q) (record { command = q.command; reply = reply }) }
 
 -- What is kept stands under a caller and a key.
 abbrev pub AreKept : Operator → Type 0
@@ -39,21 +39,21 @@ pub record AreNumbersWith (s : Operator) (e : Entry) (balance cash revenue : ℤ
   pub number_is : e.number ≡ length s.entries + 1
   pub balance_is : balance ≡ balance_of e.rider s.entries +ℤ credit e.kind e.amount
   pub cash_is : cash ≡ cash_of s.entries +ℤ cash_in e.kind e.amount
-  pub revenue_is : revenue ≡ revenue_of s.entries +ℤ earned e.kind e.amount
+  pub revenue_is : revenue ≡ revenue_of s.entries +ℤ revenue_in e.kind e.amount
 
 module _ (s : Operator) (m : Listed) (now : ℕ) (q : Request) (r : Reply) (caller key command reply : Bor (List ℕ)) where
   -- no money moves
   abbrev pub QuietCloseLaw : Type 0
   QuietCloseLaw =
       (cash revenue : ℤ) → cash ≡ cash_of s.entries → revenue ≡ revenue_of s.entries
-      → Books (row.SetMeta now cash revenue ∷ row.AddKept caller key command reply ∷ []) s m (closed now q r s) m
+      → Books (row.SetMeta now cash revenue ∷ row.AddKept caller key command reply ∷ []) s m (after_close now q r s) m
 
   -- a top-up or a fare, which gives nothing back
   abbrev pub EntryCloseLaw : Type 0
   EntryCloseLaw =
       (e : Bor Entry) (balance cash revenue : ℤ) → AreNumbersWith s e.now balance cash revenue → given_back e.now.kind e.now.amount ≡ pos 0
       → Books (row.AddEntry e ∷ row.SetBalance e.now.rider balance ∷ row.SetMeta now cash revenue ∷ row.AddKept caller key command reply ∷ []) s m
-      (closed now q r (entry_added (Some e.now) s)) m
+      (after_close now q r (entry_added (Some e.now) s)) m
 
   -- a refund
   abbrev pub RefundCloseLaw : Type 0
@@ -61,7 +61,7 @@ module _ (s : Operator) (m : Listed) (now : ℕ) (q : Request) (r : Reply) (call
       (e : Bor Entry) (balance refunded cash revenue : ℤ) → AreNumbersWith s e.now balance cash revenue
       → refunded ≡ refunded_of e.now.rental s.entries +ℤ given_back e.now.kind e.now.amount
       → Books (row.AddEntry e ∷ row.SetBalance e.now.rider balance ∷ row.SetRefunded e.now.rental refunded ∷ row.SetMeta now cash revenue ∷ row.AddKept caller key command reply ∷ []) s m
-      (closed now q r (entry_added (Some e.now) s)) m
+      (after_close now q r (entry_added (Some e.now) s)) m
 
 -- The law holds of each operator whose rows are listed right and whose kept requests have their keys, for each request and reply and their texts.
 abbrev pub AtEachClose : (Operator → Listed → ℕ → Request → Reply → Bor (List ℕ) → Bor (List ℕ) → Bor (List ℕ) → Bor (List ℕ) → Type 0) → Type 0
@@ -71,14 +71,14 @@ AtEachClose Law =
 
 -- The operator after an accepted request is what the decision made of the one before, closed.
 abbrev pub AcceptedIsClosed : Type 0
-AcceptedIsClosed = (s : Operator) (now : ℕ) (q : Request) (a : Accepted) → Decides s now q.command (Ok a) → accepted s now q ≡ closed now q a.reply (made now a s)
+AcceptedIsClosed = (s : Operator) (now : ℕ) (q : Request) (a : Accepted) → Decides s now q.command (Ok a) → after_acceptance s now q ≡ after_close now q a.reply (effect_of now a s)
 
 -- The entry of an accepted request has the next number, where the operator after the request is sound.
 abbrev pub AcceptedEntryNumber : Type 0
 AcceptedEntryNumber =
-    (s : Operator) (now : ℕ) (q : Request) (a : Accepted) (e : Entry) → Decides s now q.command (Ok a) → a.entry ≡ Some e → IsSound (accepted s now q)
-    → e.number ≡ length (all_changed now (present a.changes) s).entries + 1
+    (s : Operator) (now : ℕ) (q : Request) (a : Accepted) (e : Entry) → Decides s now q.command (Ok a) → a.entry ≡ Some e → IsSound (after_acceptance s now q)
+    → e.number ≡ length (with_changes now (present a.changes) s).entries + 1
 
 -- What is kept stands under a caller and a key between two changes too.
 abbrev pub ChangesLeaveKept : Type 0
-ChangesLeaveKept = (s : Operator) (now : ℕ) (changes : List Change) → IsSound s → AreKept (all_changed now changes s)
+ChangesLeaveKept = (s : Operator) (now : ℕ) (changes : List Change) → IsSound s → AreKept (with_changes now changes s)

@@ -11,7 +11,7 @@ use Rattle.bike_commands.specs.Commands.{text_of}
 use Rattle.bike_commands.specs.Replies.{reply_text}
 use Rattle.bike_ledger.specs.Ledger.{balance_of, cash_of, revenue_of, refunded_of}
 use Rattle.bike_operator.specs.declared.records.Rental.{Rental}
-use Rattle.bike_operator.specs.Operator.{Operator, numbered, key_of, dock_key}
+use Rattle.bike_operator.specs.Operator.{Operator, item_numbered, key_of, dock_key}
 use Rattle.bike_operator.specs.Counts.{count, is_on_truck, is_for_order, docked_at, is_broken, is_open, is_riding, open_rentals, available_of, docks_available, docks_broken}
 use Rattle.bike_operator.specs.Sound.{IsSound}
 use Rattle.bike_book.specs.declared.version.TheConstants.{NEWEST}
@@ -45,9 +45,9 @@ pub record FoundByKey (s : Operator) (m : Listed) : Type 0 where
   pub bikes : (bike : ℕ) → row_under s m Bikes (number_value bike ∷ []) ≡ option_map (bike_row bike) (fin.get s.bikes bike)
   pub trucks : (truck : ℕ) → row_under s m Trucks (number_value truck ∷ []) ≡ option_map (λ t. truck_row truck t.capacity) (fin.get s.trucks truck)
   pub riders : (rider : ℕ) → row_under s m Riders (number_value rider ∷ []) ≡ option_map (λ r. rider_row rider r.is_blocked (balance_of rider s.entries)) (fin.get s.riders rider)
-  pub rentals : (rental : ℕ) → row_under s m Rentals (number_value rental ∷ []) ≡ option_map (λ r. rental_row rental r (refunded_of rental s.entries)) (numbered rental s.rentals)
-  pub orders : (order : ℕ) → row_under s m Orders (number_value order ∷ []) ≡ option_map (order_row order) (numbered order s.orders)
-  pub entries : (entry : ℕ) → row_under s m Entries (number_value entry ∷ []) ≡ option_map (entry_row entry) (numbered entry s.entries)
+  pub rentals : (rental : ℕ) → row_under s m Rentals (number_value rental ∷ []) ≡ option_map (λ r. rental_row rental r (refunded_of rental s.entries)) (item_numbered rental s.rentals)
+  pub orders : (order : ℕ) → row_under s m Orders (number_value order ∷ []) ≡ option_map (order_row order) (item_numbered order s.orders)
+  pub entries : (entry : ℕ) → row_under s m Entries (number_value entry ∷ []) ≡ option_map (entry_row entry) (item_numbered entry s.entries)
   pub kept : (caller key : List ℕ) → row_under s m Kept (Text caller ∷ Text key ∷ [])
       ≡ option_map (λ k. kept_row caller key (text_of k.command) (reply_text k.reply)) (fin.get s.kept (key_of caller key))
 

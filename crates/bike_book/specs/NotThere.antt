@@ -5,7 +5,7 @@ use Rattle.bike_ledger.specs.Ledger.{balance_of, refunded_of}
 use Rattle.bike_operator.specs.Operator.{Operator}
 use Rattle.bike_operator.specs.Counts.{docks_broken}
 use Rattle.bike_operator.specs.Sound.{IsSound}
-use Rattle.bike_places.specs.Numbers.{occupied}
+use Rattle.bike_places.specs.Numbers.{occupied_docks}
 
 -- a rental with a number above the last has no refunds
 abbrev pub NoRefundsYet : Operator → Type 0
@@ -17,7 +17,7 @@ NoBalanceYet s = (rider : ℕ) → fin.get s.riders rider ≡ None → balance_o
 
 -- no bicycle is in a working dock of a station that isn't there
 abbrev pub NoneDockedYet : Operator → Type 0
-NoneDockedYet s = (station : List ℕ) → fin.get s.stations station ≡ None → occupied s station ≡ 0
+NoneDockedYet s = (station : List ℕ) → fin.get s.stations station ≡ None → occupied_docks s station ≡ 0
 
 -- no dock of a station that isn't there is broken
 abbrev pub NoneBrokenYet : Operator → Type 0

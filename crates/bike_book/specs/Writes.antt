@@ -3,7 +3,7 @@ use Rattle.std.specs.Prelude.{ℕ, ℤ, pos, ◌+◌, true, List, [], ◌∷◌,
 use Rattle.sqlite_value.specs.declared.value.Value.{Value}
 use Rattle.sqlite_value.specs.declared.value.Value.TheVariants.{Null, Int, Text}
 use Rattle.sqlite_value.specs.Order.{Row}
-use Rattle.bike_rows.specs.View.{put_row_by, updated, with_values}
+use Rattle.bike_rows.specs.View.{put_row_by, rows_after_update, with_values}
 use Rattle.bike_operator.specs.declared.records.BikeState.{BikeState}
 use Rattle.bike_operator.specs.declared.records.BikeState.TheVariants.{Fit}
 use Rattle.bike_operator.specs.declared.records.Place.{Place}
@@ -28,7 +28,7 @@ pub data RowWrite : Type 0 where
 -- the rows of its table after a write
 abbrev pub rows_after : RowWrite → Tables → List Row
 rows_after (Add name row) t = put_row_by (keys_of name) row (rows_in t name)
-rows_after (Set name key columns) t = updated (keys_of name) key (with_values columns) (rows_in t name)
+rows_after (Set name key columns) t = rows_after_update (keys_of name) key (with_values columns) (rows_in t name)
 
 abbrev pub table_of_write : RowWrite → TableName
 table_of_write (Add name row) = name

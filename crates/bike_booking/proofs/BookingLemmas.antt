@@ -15,7 +15,7 @@ use Rattle.bike_operator.specs.declared.change.Accepted.{Accepted}
 use Rattle.bike_operator.specs.declared.view.View.{View}
 use Rattle.bike_operator.specs.Operator.{Operator}
 use Rattle.bike_operator.specs.View.{view_of}
-use Rattle.bike_operator.specs.Changes.{changed, all_changed, present, place_of}
+use Rattle.bike_operator.specs.Changes.{with_change, with_changes, present, place_of}
 use Rattle.bike_places.proofs.MapLemmas.{there_of}
 use Rattle.bike_places.specs.Laws.{IsAway}
 use Rattle.bike_book.specs.declared.row_change.RowChange.{RowChange}
@@ -61,35 +61,35 @@ on_then first m s n stage next rows more after on w books at are =
 
 -- a row that books the first change, as it was read
 pub first_step : (command : Command) (view : View) (now : ℕ) (c : Change) (before after : List RowChange) (next : Stage) (first s : Operator) (m : Listed) → IsRead first m command view
-    → (on : IsOn first m s First before) → IsRowBooked command view now c before after → IsAt first m (changed now c s) on.listed next → IsOn first m (changed now c s) next after
+    → (on : IsOn first m s First before) → IsRowBooked command view now c before after → IsAt first m (with_change now c s) on.listed next → IsOn first m (with_change now c s) next after
 first_step command view now c before after next first s m read on booked at =
-    let books = subst₂ (λ (o : Operator) (w : Listed). Books (booked.row ∷ []) o w (changed now c o) w) (sym on.stands.0) (sym on.stands.1) (booked.books first m read) in
-    on_then first m s (changed now c s) First next before (booked.row ∷ []) after on on.listed books at booked.added
+    let books = subst₂ (λ (o : Operator) (w : Listed). Books (booked.row ∷ []) o w (with_change now c o) w) (sym on.stands.0) (sym on.stands.1) (booked.books first m read) in
+    on_then first m s (with_change now c s) First next before (booked.row ∷ []) after on on.listed books at booked.added
 
 -- what changes rentals alone leaves the rest as it was read
-pub rented_at : (now : ℕ) (c : Change) (first s : Operator) (m w : Listed) → ChangesRentals now c → IsAt first m s w First → IsAt first m (changed now c s) w Rented
+pub rented_at : (now : ℕ) (c : Change) (first s : Operator) (m w : Listed) → ChangesRentals now c → IsAt first m s w First → IsAt first m (with_change now c s) w Rented
 rented_at now c first s m w rentals at = let k = rentals s in (k.0, k.1 ∙ ap (λ (o : Operator). record o { rentals = k.0 }) at.0, at.1)
 
 -- ---- steps of several rows
 
 -- a step after which no stage but the last needs what was read
 pub rows_step : (r : Reading) (now : ℕ) (c : Change) (before after : List RowChange) (next : Stage) (first s : Operator) (m : Listed) → IsReading first m r → (on : IsOn first m s First before)
-    → AreRowsBooked r now c before after → ((w : Listed) → IsAt first m (changed now c first) w next) → IsOn first m (changed now c s) next after
+    → AreRowsBooked r now c before after → ((w : Listed) → IsAt first m (with_change now c first) w next) → IsOn first m (with_change now c s) next after
 rows_step r now c before after next first s m read on booked stands =
     let k = booked.books first m read in
-    let books = subst₂ (λ (o : Operator) (w : Listed). Books booked.rows o w (changed now c o) k.0) (sym on.stands.0) (sym on.stands.1) k.1 in
-    let at = subst (λ (o : Operator). IsAt first m (changed now c o) k.0 next) (sym on.stands.0) (stands k.0) in
-    on_then first m s (changed now c s) First next before booked.rows after on k.0 books at booked.added
+    let books = subst₂ (λ (o : Operator) (w : Listed). Books booked.rows o w (with_change now c o) k.0) (sym on.stands.0) (sym on.stands.1) k.1 in
+    let at = subst (λ (o : Operator). IsAt first m (with_change now c o) k.0 next) (sym on.stands.0) (stands k.0) in
+    on_then first m s (with_change now c s) First next before booked.rows after on k.0 books at booked.added
 
 -- a step of a bicycle, whatever the rentals are by now
 pub move_step : (r : Reading) (now : ℕ) (c : Change) (before after : List RowChange) (next : Stage) (first s : Operator) (m : Listed) → IsReading first m r → (on : IsOn first m s Rented before)
-    → AreMovesBooked r now c before after → ((w : Listed) (rentals : List Rental) → IsAt first m (changed now c (with_rentals rentals first)) w next) → IsOn first m (changed now c s) next after
+    → AreMovesBooked r now c before after → ((w : Listed) (rentals : List Rental) → IsAt first m (with_change now c (with_rentals rentals first)) w next) → IsOn first m (with_change now c s) next after
 move_step r now c before after next first s m read on booked stands =
     let rentals = on.stands.0 in
     let k = booked.books first m rentals read in
-    let books = subst₂ (λ (o : Operator) (w : Listed). Books booked.rows o w (changed now c o) k.0) (sym on.stands.1) (sym on.stands.2) k.1 in
-    let at = subst (λ (o : Operator). IsAt first m (changed now c o) k.0 next) (sym on.stands.1) (stands k.0 rentals) in
-    on_then first m s (changed now c s) Rented next before booked.rows after on k.0 books at booked.added
+    let books = subst₂ (λ (o : Operator) (w : Listed). Books booked.rows o w (with_change now c o) k.0) (sym on.stands.1) (sym on.stands.2) k.1 in
+    let at = subst (λ (o : Operator). IsAt first m (with_change now c o) k.0 next) (sym on.stands.1) (stands k.0 rentals) in
+    on_then first m s (with_change now c s) Rented next before booked.rows after on k.0 books at booked.added
 
 -- at the first change the rentals are as they were read
 pub rented_step : (r : Reading) (before : List RowChange) (step : Operator → Operator) (next : Option Stage) (after : List RowChange) → BooksStep r Rented before step next after → BooksStep r First before step next after
@@ -102,7 +102,7 @@ stored_step r bike before step next after h first s m read on = h first s m read
 
 -- a bicycle that is put in a place stands there
 pub placed_stands : (now : ℕ) (bike : ℕ) (p : NewPlace) (first s : Operator) (m w : Listed) → s.orders ≡ first.orders → fin.contains_key s.bikes bike ≡ true
-    → IsAt first m (changed now (change.PlaceBike bike p) s) w (stage_after bike (place_of p))
+    → IsAt first m (with_change now (change.PlaceBike bike p) s) w (stage_after bike (place_of p))
 placed_stands now bike (new.Dock station dock) first s m w orders known = orders
 placed_stands now bike (new.Rental rental) first s m w orders known = orders
 placed_stands now bike (new.Truck truck order) first s m w orders known = orders
@@ -111,18 +111,18 @@ placed_stands now bike new.Depot first s m w orders known =
     (orders, record { row = record b.0 { place = place.Depot }; found = after_place s now bike b.0 new.Depot b.1; place_is = refl })
 
 pub place_step : (r : Reading) (now bike : ℕ) (p : NewPlace) (before after : List RowChange) (first s : Operator) (m : Listed) → IsReading first m r → IsOn first m s Rented before
-    → AreMovesBooked r now (change.PlaceBike bike p) before after → HasBike r bike → IsOn first m (changed now (change.PlaceBike bike p) s) (stage_after bike (place_of p)) after
+    → AreMovesBooked r now (change.PlaceBike bike p) before after → HasBike r bike → IsOn first m (with_change now (change.PlaceBike bike p) s) (stage_after bike (place_of p)) after
 place_step r now bike p before after first s m read on booked has =
     move_step r now (change.PlaceBike bike p) before after (stage_after bike (place_of p)) first s m read on booked
     (λ w rentals. placed_stands now bike p first (with_rentals rentals first) m w refl (has first read.read.sound read.read.view_is))
 
 -- another state of the bicycle that was put in the depot
 pub turn_step : (r : Reading) (now bike : ℕ) (state : BikeState) (before after : List RowChange) (first s : Operator) (m : Listed) → IsOn first m s (Stored bike) before
-    → after ≡ before ++ row.SetBike bike state new.Depot ∷ [] → IsOn first m (changed now (change.SetState bike state) s) Moved after
+    → after ≡ before ++ row.SetBike bike state new.Depot ∷ [] → IsOn first m (with_change now (change.SetState bike state) s) Moved after
 turn_step r now bike state before after first s m on are =
     let it = on.stands.1 in
     let books = turn_away s on.listed now on.books.listing bike it.row state new.Depot it.found (sym it.place_is) (subst IsAway (sym it.place_is) tt) in
-    on_then first m s (changed now (change.SetState bike state) s) (Stored bike) Moved before (row.SetBike bike state new.Depot ∷ []) after on on.listed books on.stands.0 are
+    on_then first m s (with_change now (change.SetState bike state) s) (Stored bike) Moved before (row.SetBike bike state new.Depot ∷ []) after on on.listed books on.stands.0 are
 
 -- before the first change
 pub begun : (s : Operator) (m : Listed) (rows : List RowChange) → IsListing s m → rows ≡ [] → IsOn s m s First rows
@@ -147,13 +147,13 @@ pub all_booked : (s : Operator) (m : Listed) (r : Reading) (rows after : List Ro
     → BooksStep r First rows step next after → is_some next ≡ true → (t : Stage) × IsOn s m (step s) t after
 all_booked s m r rows after step next read empty books some = there next (λ t. IsOn s m (step s) t after) some (books s s m read (begun s m rows read.read.listing empty))
 
-changes_then : (now : ℕ) (o : Option Change) (os : List (Option Change)) (s : Operator) → all_changed now (present (o ∷ os)) s ≡ all_changed now (present os) (after_change now o s)
+changes_then : (now : ℕ) (o : Option Change) (os : List (Option Change)) (s : Operator) → with_changes now (present (o ∷ os)) s ≡ with_changes now (present os) (after_change now o s)
 changes_then now None os s = refl
 changes_then now (Some c) os s = refl
 
 -- four changes, one after the other
 pub four_changes : (now : ℕ) (one two three four : Option Change) (s : Operator)
-    → after_change now four (after_change now three (after_change now two (after_change now one s))) ≡ all_changed now (present (one ∷ two ∷ three ∷ four ∷ [])) s
+    → after_change now four (after_change now three (after_change now two (after_change now one s))) ≡ with_changes now (present (one ∷ two ∷ three ∷ four ∷ [])) s
 four_changes now one two three four s =
     sym (changes_then now one (two ∷ three ∷ four ∷ []) s ∙ changes_then now two (three ∷ four ∷ []) (after_change now one s)
     ∙ changes_then now three (four ∷ []) (after_change now two (after_change now one s)) ∙ changes_then now four [] (after_change now three (after_change now two (after_change now one s))))

@@ -10,7 +10,7 @@ use Rattle.bike_operator.specs.declared.view.View.{View}
 use Rattle.bike_operator.specs.Operator.{Operator, Station, key_of, dock_key}
 use Rattle.bike_operator.specs.Counts.{is_broken, docked_at}
 use Rattle.bike_operator.specs.View.{view_of, station_view, dock_view, docked_view}
-use Rattle.bike_operator.specs.Changes.{changed}
+use Rattle.bike_operator.specs.Changes.{with_change}
 use Rattle.bike_operator.specs.Sound.{HasDock}
 use Rattle.bike_places.specs.Laws.{one, IsMoved, dock_shares}
 use Rattle.bike_book.specs.declared.row_change.RowChange.{RowChange}
@@ -100,7 +100,7 @@ empty_marked r now station dock mark t r0 r1 some k none b = record {
       let w = with_dock station.now dock m in
       let is = dock_row (map.contains_key m.docks (dock_key station.now dock)) r.numbers.now.has_dock_row station dock mark r.numbers.now refl f.has_row in (
         w,
-        subst (λ (c : RowChange). Books (c ∷ row.SetDocks station b.free b.broken ∷ []) s m (changed now (mark_change mark station dock) s) w) is
+        subst (λ (c : RowChange). Books (c ∷ row.SetDocks station b.free b.broken ∷ []) s m (with_change now (mark_change mark station dock) s) w) is
             (mark_empty s m now read.read.listing station dock mark (docks_in r.numbers.now) e read.read.sound.bikes moves),
       );
 }
@@ -139,7 +139,7 @@ held_marked r now station type_id dock mark t docked r0 r1 some typed k shown b 
       let is = dock_row (map.contains_key m.docks (dock_key station.now dock)) r.numbers.now.has_dock_row station dock mark r.numbers.now refl f.has_row in
       let count = counts_row (map.contains_key m.counts (key_of station.now type_id.now)) r.numbers.now.has_count_row station type_id b.numbers b.counts_move.has_count_row n.has_row in (
         w,
-        subst₂ (λ (c g : RowChange). Books (c ∷ row.SetDocks station r.numbers.now.free b.broken ∷ g ∷ []) s m (changed now (mark_change mark station dock) s) w) is count
+        subst₂ (λ (c g : RowChange). Books (c ∷ row.SetDocks station r.numbers.now.free b.broken ∷ g ∷ []) s m (with_change now (mark_change mark station dock) s) w) is count
             (mark_held s m now read.read.listing station type_id dock mark docked.bike held.row (docks_in r.numbers.now) e (bikes_in r.numbers.now) (bikes_in b.numbers) read.read.sound.bikes kind moves),
       );
 }

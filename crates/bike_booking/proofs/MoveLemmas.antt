@@ -13,7 +13,7 @@ use Rattle.bike_operator.specs.declared.change.Change.TheVariants as change
 use Rattle.bike_operator.specs.declared.view.View.{View}
 use Rattle.bike_operator.specs.Operator.{Operator, key_of}
 use Rattle.bike_operator.specs.Counts.{is_broken}
-use Rattle.bike_operator.specs.Changes.{changed, place_of}
+use Rattle.bike_operator.specs.Changes.{with_change, place_of}
 use Rattle.bike_operator.specs.Sound.{IsSound}
 use Rattle.bike_places.proofs.MapLemmas.{there_of}
 use Rattle.bike_places.specs.Laws.{IsMoved, IsAway, IsMarkedAt, Shares, place_shares}
@@ -181,7 +181,7 @@ placed_away r now bike b p r0 r1 is from_away to_away are = record {
       let o = with_rentals rentals s in
       let away : IsAway it.row.place = subst IsAway (sym it.place_is) from_away in (
         m,
-        subst (λ (state : BikeState). Books (row.SetBike bike state p ∷ []) o m (changed now (change.PlaceBike bike p) o) m) it.state_is
+        subst (λ (state : BikeState). Books (row.SetBike bike state p ∷ []) o m (with_change now (change.PlaceBike bike p) o) m) it.state_is
             (place_away o m now (listing_with s rentals m read.read.listing) bike it.row p it.found away to_away),
       );
 }
@@ -215,7 +215,7 @@ placed_at r now bike b p t type_id less more after r0 r1 r2 some typed is statio
       let w = with_count t.station.now type_id.now m in
       let count = counts_row (map.contains_key m.counts (key_of t.station.now type_id.now)) r.numbers.now.has_count_row t.station type_id after by.counts.has_count_row found.counts.has_row in (
         w,
-        subst₂ (λ (state : BikeState) (c : RowChange). Books (row.SetBike bike state p ∷ row.SetDocks t.station after.free after.broken ∷ c ∷ []) o m (changed now (change.PlaceBike bike p) o) w) it.state_is count
+        subst₂ (λ (state : BikeState) (c : RowChange). Books (row.SetBike bike state p ∷ row.SetDocks t.station after.free after.broken ∷ c ∷ []) o m (with_change now (change.PlaceBike bike p) o) w) it.state_is count
             (place_at o m now (listing_with s rentals m read.read.listing) bike it.row p t.station type_id (docks_in r.numbers.now) (docks_in after) (bikes_in r.numbers.now) (bikes_in after) found.kind moves),
       );
 }
@@ -257,7 +257,7 @@ turned_at r now bike b state t type_id less more after r0 r1 r2 some typed is st
       let w = with_count t.station.now type_id.now m in
       let count = counts_row (map.contains_key m.counts (key_of t.station.now type_id.now)) r.numbers.now.has_count_row t.station type_id after by.has_count_row found.counts.has_row in (
         w,
-        subst (λ (c : RowChange). Books (row.SetBike bike state b.place ∷ c ∷ []) o m (changed now (change.SetState bike state) o) w) count
+        subst (λ (c : RowChange). Books (row.SetBike bike state b.place ∷ c ∷ []) o m (with_change now (change.SetState bike state) o) w) count
             (turn_at o m now (listing_with s rentals m read.read.listing) bike it.row state b.place t.station type_id (bikes_in r.numbers.now) (bikes_in after) (sym it.place_is) found.kind turns),
       );
 }

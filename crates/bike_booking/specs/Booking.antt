@@ -11,7 +11,7 @@ use Rattle.bike_operator.specs.Operator.{Operator}
 use Rattle.bike_operator.specs.Steps.{reply_of}
 use Rattle.bike_operator.specs.View.{view_of}
 use Rattle.bike_operator.specs.Changes.{Decides}
-use Rattle.bike_operator.specs.Runs.{accepted}
+use Rattle.bike_operator.specs.Runs.{after_acceptance}
 use Rattle.bike_operator.specs.Sound.{IsSound}
 use Rattle.bike_book.specs.declared.row_change.RowChange.{RowChange}
 use Rattle.bike_book.specs.Stored.{Listed, IsListing}
@@ -41,9 +41,9 @@ pub record IsAccepted (s : Operator) (m : Listed) (now : ℕ) (q : Request) (vie
   pub touches : IsTouched s q.command touched
   pub stored : AreOfTouched s m touched numbers
   pub decides : Decides s now q.command (Ok a)
-  pub sound_after : IsSound (accepted s now q)
+  pub sound_after : IsSound (after_acceptance s now q)
 
 -- The row changes lead from the operator's tables to those of the operator that accepted the request.
 pub record Books (changes : List RowChange) (s : Operator) (m : Listed) (now : ℕ) (q : Request) : Type 0 where
   pub listed : Listed
-  pub leads : LeadsTo changes s m (accepted s now q) listed
+  pub leads : LeadsTo changes s m (after_acceptance s now q) listed

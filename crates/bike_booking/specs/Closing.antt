@@ -4,7 +4,7 @@ use Rattle.std.specs.Borrow.{Bor}
 use Rattle.bike_ledger.specs.declared.entry.EntryKind.{EntryKind}
 use Rattle.bike_ledger.specs.declared.entry.EntryKind.TheVariants.{TopUp, Fare, Refund}
 use Rattle.bike_ledger.specs.Entries.{Entry}
-use Rattle.bike_ledger.specs.Ledger.{credit, cash_in, earned, balance_of, refunded_of}
+use Rattle.bike_ledger.specs.Ledger.{credit, cash_in, revenue_in, balance_of, refunded_of}
 use Rattle.bike_commands.specs.declared.command.Command.{Command}
 use Rattle.bike_operator.specs.declared.view.View.{View}
 use Rattle.bike_operator.specs.Operator.{Operator}
@@ -21,7 +21,7 @@ close_rows now sums texts = row.SetMeta now sums.cash sums.revenue ∷ row.AddKe
 -- the sums with an entry
 pub record AreSumsAfter (sums : Sums) (e : Entry) (after : Sums) : Type 0 where
   pub cash : after.cash ≡ sums.cash +ℤ cash_in e.kind e.amount
-  pub revenue : after.revenue ≡ sums.revenue +ℤ earned e.kind e.amount
+  pub revenue : after.revenue ≡ sums.revenue +ℤ revenue_in e.kind e.amount
 
 -- the entry, its rider's balance, and for a refund the refunds of its rental
 abbrev pub entry_rows : EntryKind → Bor Entry → ℤ → ℤ → List RowChange

@@ -9,7 +9,7 @@ use Rattle.bike_operator.specs.declared.records.Rental.{Rental}
 use Rattle.bike_operator.specs.declared.change.Change.{Change}
 use Rattle.bike_operator.specs.declared.view.View.{View}
 use Rattle.bike_operator.specs.Operator.{Operator}
-use Rattle.bike_operator.specs.Changes.{changed}
+use Rattle.bike_operator.specs.Changes.{with_change}
 use Rattle.bike_book.specs.declared.row_change.RowChange.{RowChange}
 use Rattle.bike_book.specs.Stored.{Listed}
 use Rattle.bike_book.specs.Between.{Books}
@@ -22,7 +22,7 @@ use Rattle.bike_booking.specs.declared.stage.Stage.TheVariants.{First, Rented, S
 
 -- one row change books the change of an operator
 abbrev pub BooksRow : Operator → Listed → ℕ → Change → RowChange → Type 0
-BooksRow s m now c row = Books (row ∷ []) s m (changed now c s) m
+BooksRow s m now c row = Books (row ∷ []) s m (with_change now c s) m
 
 -- it books the change of each operator that was read
 abbrev pub BooksRead : Command → View → ℕ → Change → RowChange → Type 0
@@ -44,7 +44,7 @@ BooksTo rows s m next = (w : Listed) × Books rows s m next w
 pub record AreRowsBooked (r : Reading) (now : ℕ) (c : Change) (before after : List RowChange) : Type 0 where
   pub rows : List RowChange
   pub added : after ≡ before ++ rows
-  pub books : (s : Operator) (m : Listed) → IsReading s m r → BooksTo rows s m (changed now c s)
+  pub books : (s : Operator) (m : Listed) → IsReading s m r → BooksTo rows s m (with_change now c s)
 
 -- the operator, whatever his rentals are by now
 abbrev pub with_rentals : List Rental → Operator → Operator
@@ -55,7 +55,7 @@ pub record AreMovesBooked (r : Reading) (now : ℕ) (c : Change) (before after :
   pub rows : List RowChange
   pub added : after ≡ before ++ rows
   pub books : (s : Operator) (m : Listed) (rentals : List Rental) → IsReading s m r
-      → BooksTo rows (with_rentals rentals s) m (changed now c (with_rentals rentals s))
+      → BooksTo rows (with_rentals rentals s) m (with_change now c (with_rentals rentals s))
 
 -- ---- stages
 
@@ -88,16 +88,16 @@ pub record IsOn (first : Operator) (m : Listed) (s : Operator) (stage : Stage) (
 
 -- a rental is added or closed, and nothing else changes
 abbrev pub ChangesRentals : ℕ → Change → Type 0
-ChangesRentals now c = (s : Operator) → (rentals : List Rental) × (changed now c s ≡ record s { rentals = rentals })
+ChangesRentals now c = (s : Operator) → (rentals : List Rental) × (with_change now c s ≡ record s { rentals = rentals })
 
 -- the orders stay as they are
 abbrev pub KeepsOrders : ℕ → Change → Type 0
-KeepsOrders now c = (s : Operator) → (changed now c s).orders ≡ s.orders
+KeepsOrders now c = (s : Operator) → (with_change now c s).orders ≡ s.orders
 
 -- an operator after a change, where there is one
 abbrev pub after_change : ℕ → Option Change → Operator → Operator
 after_change now None s = s
-after_change now (Some c) s = changed now c s
+after_change now (Some c) s = with_change now c s
 
 -- From one stage to the next: the row changes lead to what a step makes of the operator, too.
 abbrev pub BooksStep : Reading → Stage → List RowChange → (Operator → Operator) → Option Stage → List RowChange

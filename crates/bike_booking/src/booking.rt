@@ -4,7 +4,7 @@ ghost use Rattle.std.specs.Prelude.{◌≡◌, ℕ, [], true};
 ghost use Rattle.bike_commands.specs.declared.reply.Reply.{Reply};
 ghost use Rattle.bike_commands.specs.declared.request.Request.{Request};
 ghost use Rattle.bike_operator.specs.Operator.{Operator};
-ghost use Rattle.bike_operator.specs.Changes.{changed, all_changed, present, place_of};
+ghost use Rattle.bike_operator.specs.Changes.{with_change, with_changes, present, place_of};
 ghost use Rattle.bike_book.specs.Stored.{Listed};
 ghost use Rattle.bike_booking.specs.Stages.{BooksStep, stage_after, after_change};
 ghost use Rattle.bike_booking.specs.Booking.{IsAccepted, AreSums, AreTexts, Books};
@@ -42,7 +42,7 @@ fn book_move<'a>(
     now: Moment,
     change: &Change<'a>,
 ) -> Option<Stage>
-    ensures { BooksStep reading.now Stage.Rented rows.old.items (changed now change.now) result rows.new.items }
+    ensures { BooksStep reading.now Stage.Rented rows.old.items (with_change now change.now) result rows.new.items }
 {
     match change {
         Change::PlaceBike { bike, place } => {
@@ -69,7 +69,7 @@ fn book_first<'a>(
     now: Moment,
     change: &Change<'a>,
 ) -> Option<Stage>
-    ensures { BooksStep reading.now Stage.First rows.old.items (changed now change.now) result rows.new.items }
+    ensures { BooksStep reading.now Stage.First rows.old.items (with_change now change.now) result rows.new.items }
 {
     match change {
         Change::AddRental { .. } | Change::CloseRental { .. } => {
@@ -109,7 +109,7 @@ fn book_moved<'a>(
     now: Moment,
     change: &Change<'a>,
 ) -> Option<Stage>
-    ensures { BooksStep reading.now Stage.Moved rows.old.items (changed now change.now) result rows.new.items }
+    ensures { BooksStep reading.now Stage.Moved rows.old.items (with_change now change.now) result rows.new.items }
 {
     match change {
         Change::Report { station } => {
@@ -148,7 +148,7 @@ fn book_stored<'a>(
     now: Moment,
     change: &Change<'a>,
 ) -> Option<Stage>
-    ensures { BooksStep reading.now (Stage.Stored stored) rows.old.items (changed now change.now) result rows.new.items }
+    ensures { BooksStep reading.now (Stage.Stored stored) rows.old.items (with_change now change.now) result rows.new.items }
 {
     match change {
         Change::SetState { bike, state } => {
@@ -178,7 +178,7 @@ fn book_one<'a>(
     now: Moment,
     change: &Change<'a>,
 ) -> Option<Stage>
-    ensures { BooksStep reading.now stage rows.old.items (changed now change.now) result rows.new.items }
+    ensures { BooksStep reading.now stage rows.old.items (with_change now change.now) result rows.new.items }
 {
     match stage {
         Stage::First => book_first(reading, rows, now, change),
@@ -212,7 +212,7 @@ fn book_changes<'a>(
     now: Moment,
     changes: &[Option<Change<'a>>; 4],
 ) -> Option<Stage>
-    ensures { BooksStep reading.now Stage.First rows.old.items (all_changed now (present changes.now)) result rows.new.items }
+    ensures { BooksStep reading.now Stage.First rows.old.items (with_changes now (present changes.now)) result rows.new.items }
 {
     let [one, two, three, four] = changes;
     let after_one = book_change(reading, rows, Stage::First, now, one)?;

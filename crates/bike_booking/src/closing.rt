@@ -1,7 +1,7 @@
 //! The close of a request: its entry, the operator's moment and sums, and what is kept.
 
 ghost use Rattle.std.specs.Prelude.{◌≡◌, ◌++◌, ◌+ℤ◌, true, IfSome};
-ghost use Rattle.bike_ledger.specs.Ledger.{credit, cash_in, earned};
+ghost use Rattle.bike_ledger.specs.Ledger.{credit, cash_in, revenue_in};
 ghost use Rattle.bike_booking.specs.Closing.{close_rows, AreSumsAfter, IsEntryBooked};
 
 use crate::stored::Sums;
@@ -37,7 +37,7 @@ fn cash_after(cash: i64, entry: &Entry) -> Option<i64>
 
 /// The operator's revenue after an entry, in hundredths.
 fn revenue_after(revenue: i64, entry: &Entry) -> Option<i64>
-    ensures { IfSome result (λ after. after ≡ revenue +ℤ earned entry.now.kind entry.now.amount) }
+    ensures { IfSome result (λ after. after ≡ revenue +ℤ revenue_in entry.now.kind entry.now.amount) }
 {
     let amount = entry.amount().hundredths();
     match entry.kind() {

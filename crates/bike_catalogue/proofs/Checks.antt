@@ -7,14 +7,14 @@ use Rattle.bike_fields.specs.declared.fault.FieldFault.{FieldFault}
 use Rattle.bike_fields.specs.declared.fault.FieldFault.TheVariants.{Broken}
 use Rattle.bike_fields.specs.Fault.{Makes}
 use Rattle.bike_catalogue.specs.Rows.{StationRow, SystemRow}
-use Rattle.bike_catalogue.specs.RowFaults.{checked, or_else}
+use Rattle.bike_catalogue.specs.RowFaults.{value_or_fault, or_else}
 
-pub checked_ok : {X : Type 0} (x value : X) (fault : Option (Field × Bound)) → Ok x ≡ checked value fault → (x ≡ value) × (fault ≡ None)
+pub checked_ok : {X : Type 0} (x value : X) (fault : Option (Field × Bound)) → Ok x ≡ value_or_fault value fault → (x ≡ value) × (fault ≡ None)
 checked_ok x value None e = (cc, refl)
 checked_ok x value (Some f) e = absurd cc
 
 -- an error that a check gave is the record's, where the fields before it passed
-refused : {X Y : Type 0} (row : X) (value : Y) (own whole : Option (Field × Bound)) (r : Result X FieldFault) (e : FieldFault) → Err e ≡ checked value own → whole ≡ own → IsErr r × IsErrAnd r (λ x. x ≡ e) → Makes row whole r
+refused : {X Y : Type 0} (row : X) (value : Y) (own whole : Option (Field × Bound)) (r : Result X FieldFault) (e : FieldFault) → Err e ≡ value_or_fault value own → whole ≡ own → IsErr r × IsErrAnd r (λ x. x ≡ e) → Makes row whole r
 refused row value None whole r e given same passed = absurd cc
 refused row value (Some f) whole (Ok x) e given same passed = absurd cc
 refused {X} {Y} row value (Some f) whole (Err x) e given same passed =
@@ -26,7 +26,7 @@ or_none : (f : Option (Field × Bound)) → or_else f None ≡ f
 or_none None = refl
 or_none (Some f) = refl
 
-pub fifth_refused : {X Y : Type 0} (row : X) (value : Y) (a b c d own : Option (Field × Bound)) (r : Result X FieldFault) (e : FieldFault) → a ≡ None → b ≡ None → c ≡ None → d ≡ None → Err e ≡ checked value own → IsErr r × IsErrAnd r (λ x. x ≡ e)
+pub fifth_refused : {X Y : Type 0} (row : X) (value : Y) (a b c d own : Option (Field × Bound)) (r : Result X FieldFault) (e : FieldFault) → a ≡ None → b ≡ None → c ≡ None → d ≡ None → Err e ≡ value_or_fault value own → IsErr r × IsErrAnd r (λ x. x ≡ e)
     → Makes row (or_else a (or_else b (or_else c (or_else d (or_else own None))))) r
 fifth_refused row value a b c d own r e p q s t given passed =
     refused row value own (or_else a (or_else b (or_else c (or_else d (or_else own None))))) r e given (rw (p, q, s, t) (or_none own)) passed

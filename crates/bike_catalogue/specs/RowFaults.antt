@@ -22,9 +22,9 @@ first_fault [] = None
 first_fault (f ∷ fs) = or_else (at_field f.0 f.1) (first_fault fs)
 
 -- the value, or the fault: without memory
-abbrev pub checked : {X : Type 0} → X → Option (Field × Bound) → Result X FieldFault
-checked value None = Ok value
-checked value (Some fault) = Err (Broken fault.0 fault.1)
+abbrev pub value_or_fault : {X : Type 0} → X → Option (Field × Bound) → Result X FieldFault
+value_or_fault value None = Ok value
+value_or_fault value (Some fault) = Err (Broken fault.0 fault.1)
 
 abbrev pub range_fault : ℕ → ℕ → ℕ → Option Bound
 range_fault low high n = if nat_le low n && nat_le n high then None else Some Range

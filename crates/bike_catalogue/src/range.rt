@@ -2,7 +2,7 @@
 
 ghost use Rattle.std.specs.Prelude.{◌≡◌, ◌≤◌, ◌≤ℤ◌, pos, neg_ℤ, IfOk};
 ghost use Rattle.bike_fields.specs.Fault.{at_field};
-ghost use Rattle.bike_catalogue.specs.RowFaults.{checked, range_fault, signed_fault};
+ghost use Rattle.bike_catalogue.specs.RowFaults.{value_or_fault, range_fault, signed_fault};
 
 use crate::rate::Rate;
 use bike_fields::{Bound, Field, FieldFault, Micro, Within};
@@ -12,7 +12,7 @@ pub fn in_range<const LO: u32, const HI: u32>(
     field: Field,
     number: u32,
 ) -> Result<Within<LO, HI>, FieldFault>
-    ensures { result ≡ checked number (at_field field (range_fault LO HI number)) }
+    ensures { result ≡ value_or_fault number (at_field field (range_fault LO HI number)) }
 {
     match Within::new(number) {
         Some(number) => Ok(number),
@@ -25,7 +25,7 @@ pub fn in_range<const LO: u32, const HI: u32>(
 
 /// The rate of a segment, in hundredths.
 pub fn rate_of(hundredths: i32) -> Result<Rate, FieldFault>
-    ensures { result ≡ checked hundredths (at_field Field.Rate (signed_fault 100000 hundredths)) }
+    ensures { result ≡ value_or_fault hundredths (at_field Field.Rate (signed_fault 100000 hundredths)) }
 {
     match Rate::new(hundredths) {
         Some(rate) => Ok(rate),
@@ -39,7 +39,7 @@ pub fn rate_of(hundredths: i32) -> Result<Rate, FieldFault>
 /// A coordinate as that field, in microdegrees, where its size is at most `greatest`.
 pub fn coordinate(field: Field, microdegrees: i32, greatest: u32) -> Result<Micro, FieldFault>
     requires { greatest ≤ 180000000 }
-    ensures value { result ≡ checked microdegrees (at_field field (signed_fault greatest microdegrees)) }
+    ensures value { result ≡ value_or_fault microdegrees (at_field field (signed_fault greatest microdegrees)) }
     ensures bounds { IfOk result (λ m. (neg_ℤ (pos greatest) ≤ℤ m) × (m ≤ℤ pos greatest)) }
 {
     match Micro::new(microdegrees) {

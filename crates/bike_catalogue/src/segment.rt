@@ -3,7 +3,7 @@
 ghost use Rattle.std.specs.Prelude.{◌≡◌, Some, None, if◌then◌else◌};
 ghost use Rattle.bike_catalogue.specs.Rows.{SegmentRow, IsSegment, is_after};
 ghost use Rattle.bike_fields.specs.Fault.{at_field};
-ghost use Rattle.bike_catalogue.specs.RowFaults.{checked, segment_fault, end_fault};
+ghost use Rattle.bike_catalogue.specs.RowFaults.{value_or_fault, segment_fault, end_fault};
 
 use crate::range::{in_range, rate_of};
 use crate::rate::Rate;
@@ -53,7 +53,7 @@ impl Default for Segment {
 
 /// The end of a segment that starts at a minute.
 fn end_after(start: &SegmentMinute, end: Option<u32>) -> Result<Option<SegmentMinute>, FieldFault>
-    ensures { result ≡ checked end (at_field Field.End (end_fault start.now end)) }
+    ensures { result ≡ value_or_fault end (at_field Field.End (end_fault start.now end)) }
 {
     let Some(end) = end else {
         return Ok(None);
@@ -78,7 +78,7 @@ impl Segment {
         interval: u32,
         end: Option<u32>,
     ) -> Result<Segment, FieldFault>
-        ensures { let row : SegmentRow = record { start = start; rate = rate; interval = interval; end = end } in result ≡ checked row (segment_fault row) }
+        ensures { let row : SegmentRow = record { start = start; rate = rate; interval = interval; end = end } in result ≡ value_or_fault row (segment_fault row) }
     {
         let start: SegmentMinute = in_range(Field::Start, start)?;
         let rate = rate_of(rate)?;

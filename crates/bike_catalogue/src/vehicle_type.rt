@@ -2,7 +2,7 @@
 
 ghost use Rattle.std.specs.Prelude.{◌≡◌};
 ghost use Rattle.bike_fields.specs.Fault.{at_field};
-ghost use Rattle.bike_catalogue.specs.RowFaults.{MakesType, checked, max_range_fault};
+ghost use Rattle.bike_catalogue.specs.RowFaults.{MakesType, value_or_fault, max_range_fault};
 ghost use Rattle.bike_catalogue.specs.Rows.{IsType, is_range, type_within};
 
 use crate::range::in_range;
@@ -35,7 +35,7 @@ impl Model for VehicleType {
 
 /// The greatest range, in metres, of a vehicle with that propulsion.
 fn max_range_of(propulsion: Propulsion, metres: u32) -> Result<MaxRange, FieldFault>
-    ensures { result ≡ checked metres (at_field Field.MaxRange (max_range_fault propulsion metres)) }
+    ensures { result ≡ value_or_fault metres (at_field Field.MaxRange (max_range_fault propulsion metres)) }
 {
     let max_range: MaxRange = in_range(Field::MaxRange, metres)?;
     if is_range(propulsion, metres) {

@@ -5,13 +5,13 @@ use Rattle.std.specs.List.{fold, filter_map, cons_option}
 use Rattle.std.proofs.lemmas.Int.{ints}
 use Rattle.sqlite_value.specs.Order.{Row}
 use Rattle.bike_ledger.specs.Entries.{Entry}
-use Rattle.bike_ledger.specs.Ledger.{cash_of, revenue_of, cash_in, earned}
+use Rattle.bike_ledger.specs.Ledger.{cash_of, revenue_of, cash_in, revenue_in}
 use Rattle.bike_ledger.specs.declared.entry.EntryKind.{EntryKind}
 use Rattle.bike_ledger.specs.declared.entry.EntryKind.TheVariants.{TopUp, Fare, Refund}
 use Rattle.bike_readings.specs.Readings.{entry_read}
 use Rattle.bike_readings.specs.ReadOff.{entry_in}
 use Rattle.bike_catalogue_rules.specs.declared.meta.Sums.{Sums}
-use Rattle.bike_catalogue_rules.specs.Sums.{booked, with_entry, after_entry}
+use Rattle.bike_catalogue_rules.specs.Sums.{with_amount, with_entry, after_entry}
 
 -- the entries that rows spell
 abbrev pub entries_of : List Row → List Entry
@@ -24,10 +24,10 @@ pub cash_sum : (s : Sums) (rows : List Row) → (fold after_entry s rows).cash �
 cash_sum s [] = omega (arith, ints)
 cash_sum s (r ∷ rows) = go (entry_read r) (λ z. cash_sum z rows) where
   by : (k : EntryKind) (amount : ℤ) → ((z : Sums) → (fold after_entry z rows).cash ≡ z.cash +ℤ cash_of (entries_of rows))
-      → (fold after_entry (booked s k amount) rows).cash ≡ s.cash +ℤ (cash_in k amount +ℤ cash_of (entries_of rows))
-  by TopUp amount rest = let h = rest (booked s TopUp amount) in omega (arith, ints, h)
-  by Fare amount rest = let h = rest (booked s Fare amount) in omega (arith, ints, h)
-  by Refund amount rest = let h = rest (booked s Refund amount) in omega (arith, ints, h)
+      → (fold after_entry (with_amount s k amount) rows).cash ≡ s.cash +ℤ (cash_in k amount +ℤ cash_of (entries_of rows))
+  by TopUp amount rest = let h = rest (with_amount s TopUp amount) in omega (arith, ints, h)
+  by Fare amount rest = let h = rest (with_amount s Fare amount) in omega (arith, ints, h)
+  by Refund amount rest = let h = rest (with_amount s Refund amount) in omega (arith, ints, h)
 
   go : (o : Option Entry) → ((z : Sums) → (fold after_entry z rows).cash ≡ z.cash +ℤ cash_of (entries_of rows)) → (fold after_entry (with_entry s o) rows).cash ≡ s.cash +ℤ cash_of (and_entry o rows)
   go None rest = rest s
@@ -37,10 +37,10 @@ pub revenue_sum : (s : Sums) (rows : List Row) → (fold after_entry s rows).rev
 revenue_sum s [] = omega (arith, ints)
 revenue_sum s (r ∷ rows) = go (entry_read r) (λ z. revenue_sum z rows) where
   by : (k : EntryKind) (amount : ℤ) → ((z : Sums) → (fold after_entry z rows).revenue ≡ z.revenue +ℤ revenue_of (entries_of rows))
-      → (fold after_entry (booked s k amount) rows).revenue ≡ s.revenue +ℤ (earned k amount +ℤ revenue_of (entries_of rows))
-  by TopUp amount rest = let h = rest (booked s TopUp amount) in omega (arith, ints, h)
-  by Fare amount rest = let h = rest (booked s Fare amount) in omega (arith, ints, h)
-  by Refund amount rest = let h = rest (booked s Refund amount) in omega (arith, ints, h)
+      → (fold after_entry (with_amount s k amount) rows).revenue ≡ s.revenue +ℤ (revenue_in k amount +ℤ revenue_of (entries_of rows))
+  by TopUp amount rest = let h = rest (with_amount s TopUp amount) in omega (arith, ints, h)
+  by Fare amount rest = let h = rest (with_amount s Fare amount) in omega (arith, ints, h)
+  by Refund amount rest = let h = rest (with_amount s Refund amount) in omega (arith, ints, h)
 
   go : (o : Option Entry) → ((z : Sums) → (fold after_entry z rows).revenue ≡ z.revenue +ℤ revenue_of (entries_of rows)) → (fold after_entry (with_entry s o) rows).revenue ≡ s.revenue +ℤ revenue_of (and_entry o rows)
   go None rest = rest s

@@ -14,14 +14,14 @@ use Rattle.bike_catalogue_rules.specs.declared.meta.Sums.{Sums}
 -- ---- sums
 
 -- with one more amount of the kind: money comes in by top-ups, a fare is earned, and a refund is given back of that
-abbrev pub booked : Sums → EntryKind → ℤ → Sums
-booked s TopUp amount = record { cash = s.cash +ℤ amount; revenue = s.revenue }
-booked s Fare amount = record { cash = s.cash; revenue = s.revenue +ℤ amount }
-booked s Refund amount = record { cash = s.cash; revenue = s.revenue -ℤ amount }
+abbrev pub with_amount : Sums → EntryKind → ℤ → Sums
+with_amount s TopUp amount = record { cash = s.cash +ℤ amount; revenue = s.revenue }
+with_amount s Fare amount = record { cash = s.cash; revenue = s.revenue +ℤ amount }
+with_amount s Refund amount = record { cash = s.cash; revenue = s.revenue -ℤ amount }
 
 abbrev pub with_entry : Sums → Option Entry → Sums
 with_entry s None = s
-with_entry s (Some e) = booked s e.kind e.amount
+with_entry s (Some e) = with_amount s e.kind e.amount
 
 -- a row that spells no entry adds nothing
 abbrev pub after_entry : Sums → Row → Sums

@@ -25,14 +25,14 @@ use Rattle.bike_operator.specs.declared.view.DockedBike.{DockedBike}
 use Rattle.bike_operator.specs.declared.view.RentalView.{RentalView}
 use Rattle.bike_operator.specs.declared.view.RiderView.{RiderView}
 use Rattle.bike_operator.specs.declared.view.View.{View}
-use Rattle.bike_operator.specs.Operator.{Operator, Rider, numbered}
+use Rattle.bike_operator.specs.Operator.{Operator, Rider, item_numbered}
 use Rattle.bike_operator.specs.Counts.{docked_at}
 use Rattle.bike_operator.specs.View.{view_of, docked_view, rider_view, rental_view, rental_of, rental_in, planned_rental}
-use Rattle.bike_operator.specs.Steps.{first, tests, refused, fare_now}
+use Rattle.bike_operator.specs.Steps.{first, tests, refusal_of, fare_now}
 use Rattle.bike_operator.specs.Changes.{Decides}
 
 -- the first test that holds over the view is the operator's refusal
-pub refused_as : (s : Operator) (v : View) (c : Command) (o : Option Refusal) → v ≡ view_of s c → o ≡ first (tests v c) → refused s c ≡ o
+pub refused_as : (s : Operator) (v : View) (c : Command) (o : Option Refusal) → v ≡ view_of s c → o ≡ first (tests v c) → refusal_of s c ≡ o
 refused_as s v c o e is = ap (λ (w : View). first (tests w c)) (sym e) ∙ sym is
 
 pub start_decided : (s : Operator) (v : View) (now rider dock : ℕ) (from plan : Bor (List ℕ)) (b : DockedBike) → v ≡ view_of s (command.Start rider from.now dock) → None ≡ first (tests v (command.Start rider from.now dock)) → v.docked ≡ Some b → plan.now ≡ b.plan
@@ -76,7 +76,7 @@ rental_balance s number (Some r) row e = planned_balance s number r (map.get s.p
 
 place_balance : (s : Operator) (p : Place) (row : RentalView) → rental_in s p ≡ Some row → balance_of row.rental.rider s.entries ≡ row.balance
 place_balance s (place.Dock station dock) row e = absurd cc
-place_balance s (place.Rental rental) row e = rental_balance s rental (numbered rental s.rentals) row e
+place_balance s (place.Rental rental) row e = rental_balance s rental (item_numbered rental s.rentals) row e
 place_balance s (place.Truck truck order) row e = absurd cc
 place_balance s place.Depot row e = absurd cc
 
@@ -127,9 +127,9 @@ pub recover_decided : (s : Operator) (v : View) (now rental : ℕ) (r : RentalVi
       changes = Some (change.CloseRental r.number None (fare_now r now)) ∷ Some (change.PlaceBike r.rental.bike new.Depot) ∷ Some (change.SetState r.rental.bike Disabled) ∷ None ∷ [];
     }))
 recover_decided s v now rental r e none known =
-    let found : rental_view s rental (numbered rental s.rentals) ≡ Some r = ap (λ (w : View). w.rental) (sym e) ∙ known in
+    let found : rental_view s rental (item_numbered rental s.rentals) ≡ Some r = ap (λ (w : View). w.rental) (sym e) ∙ known in
     let count : v.entries ≡ length s.entries = ap (λ (w : View). w.entries) e in
-    let balance = balance_after_entry s.entries (fare_entry (length s.entries + 1) r now) r.balance (rental_balance s rental (numbered rental s.rentals) r found) in
+    let balance = balance_after_entry s.entries (fare_entry (length s.entries + 1) r now) r.balance (rental_balance s rental (item_numbered rental s.rentals) r found) in
     (refused_as s v (command.Recover rental) None e none, rw found (ap (Ended (fare_now r now)) (sym balance)), rw (found, count) refl)
 
 pub refund_decided : (s : Operator) (v : View) (now rental amount : ℕ) (r : RentalView) → v ≡ view_of s (command.Refund rental amount) → None ≡ first (tests v (command.Refund rental amount)) → v.rental ≡ Some r
@@ -139,7 +139,7 @@ pub refund_decided : (s : Operator) (v : View) (now rental amount : ℕ) (r : Re
       changes = None ∷ None ∷ None ∷ None ∷ [];
     }))
 refund_decided s v now rental amount r e none known =
-    let found : rental_view s rental (numbered rental s.rentals) ≡ Some r = ap (λ (w : View). w.rental) (sym e) ∙ known in
+    let found : rental_view s rental (item_numbered rental s.rentals) ≡ Some r = ap (λ (w : View). w.rental) (sym e) ∙ known in
     let count : v.entries ≡ length s.entries = ap (λ (w : View). w.entries) e in
-    let balance = balance_after_entry s.entries (refund_entry (length s.entries + 1) r amount now) r.balance (rental_balance s rental (numbered rental s.rentals) r found) in
+    let balance = balance_after_entry s.entries (refund_entry (length s.entries + 1) r amount now) r.balance (rental_balance s rental (item_numbered rental s.rentals) r found) in
     (refused_as s v (command.Refund rental amount) None e none, rw found (ap Balance (sym balance)), rw (found, count) refl)

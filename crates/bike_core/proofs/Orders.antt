@@ -13,10 +13,10 @@ use Rattle.bike_operator.specs.declared.records.Bike.{Bike}
 use Rattle.bike_operator.specs.declared.records.Order.{Order}
 use Rattle.bike_operator.specs.declared.records.Place.TheVariants as place
 use Rattle.bike_operator.specs.declared.view.View.{View}
-use Rattle.bike_operator.specs.Operator.{Operator, numbered}
+use Rattle.bike_operator.specs.Operator.{Operator, item_numbered}
 use Rattle.bike_operator.specs.View.{view_of, end_at}
-use Rattle.bike_operator.specs.Steps.{first, tests, place_reported, bike_reported, bike_placed, delivered, placed_at_end}
-use Rattle.bike_operator.specs.Changes.{Decides, all_changed, present}
+use Rattle.bike_operator.specs.Steps.{first, tests, place_reported, bike_reported, bike_placed, with_delivery, placed_at_end}
+use Rattle.bike_operator.specs.Changes.{Decides, with_changes, present}
 use Rattle.bike_core.proofs.Decisions.{refused_as}
 
 pub open_order_decided : (s : Operator) (v : View) (now truck count : ℕ) (from to : Bor OrderEnd) (type_id : Bor (List ℕ)) → v ≡ view_of s (command.OpenOrder truck from.now to.now type_id.now count) → None ≡ first (tests v (command.OpenOrder truck from.now to.now type_id.now count))
@@ -29,7 +29,7 @@ open_order_decided s v now truck count from to type_id e none =
     (refused_as s v (command.OpenOrder truck from.now to.now type_id.now count) None e none, ap (λ (w : View). Ordered (w.orders + 1)) e, refl)
 
 pub load_decided : (s : Operator) (v : View) (now truck order bike : ℕ) (row : Bike) (report : Option Change) → v ≡ view_of s (command.Load truck order bike) → None ≡ first (tests v (command.Load truck order bike)) → v.bike ≡ Some row
-    → ((t : Operator) → all_changed now (present (report ∷ None ∷ None ∷ [])) t ≡ place_reported row.place now t)
+    → ((t : Operator) → with_changes now (present (report ∷ None ∷ None ∷ [])) t ≡ place_reported row.place now t)
     → Decides s now (command.Load truck order bike) (Ok (record {
       reply = Done;
       entry = None;
@@ -41,8 +41,8 @@ load_decided s v now truck order bike row report e none known reports =
     (refused_as s v (command.Load truck order bike) None e none, refl, reports moved ∙ sym (ap (λ (o : Option Bike). bike_reported o now moved) found))
 
 pub unload_decided : (s : Operator) (v : View) (now truck order bike : ℕ) (side : Side) (dock : ℕ) (row : Order) (changes : List (Option Change)) → v ≡ view_of s (command.Unload truck order bike side dock) → None ≡ first (tests v (command.Unload truck order bike side dock)) → v.order ≡ Some row
-    → all_changed now (present changes) s ≡ delivered order side (placed_at_end bike (end_at side row) dock now s)
+    → with_changes now (present changes) s ≡ with_delivery order side (placed_at_end bike (end_at side row) dock now s)
     → Decides s now (command.Unload truck order bike side dock) (Ok (record { reply = Done; entry = None; changes = changes }))
 unload_decided s v now truck order bike side dock row changes e none known makes =
-    let found : numbered order s.orders ≡ Some row = ap (λ (w : View). w.order) (sym e) ∙ known in
+    let found : item_numbered order s.orders ≡ Some row = ap (λ (w : View). w.order) (sym e) ∙ known in
     (refused_as s v (command.Unload truck order bike side dock) None e none, refl, rw found makes)

@@ -4,8 +4,8 @@ ghost use Rattle.std.specs.Prelude.{◌≡◌, ◌≤◌, ◌+◌, ℕ, List, So
 ghost use Rattle.bike_texts.specs.declared.ends.OrderEnd.{OrderEnd};
 ghost use Rattle.bike_commands.specs.declared.command.Command.TheVariants as command;
 ghost use Rattle.bike_operator.specs.Operator.{Operator};
-ghost use Rattle.bike_operator.specs.Steps.{first, tests, delivered, placed_at_end};
-ghost use Rattle.bike_operator.specs.Changes.{DecidesOn, refusal_in, all_changed, present};
+ghost use Rattle.bike_operator.specs.Steps.{first, tests, with_delivery, placed_at_end};
+ghost use Rattle.bike_operator.specs.Changes.{DecidesOn, refusal_in, with_changes, present};
 ghost use Rattle.bike_operator.specs.Bounds.{IsBounded};
 
 use crate::booking::next_number;
@@ -213,7 +213,7 @@ fn unload_changes<'a>(
     end: &'a OrderEnd,
     dock: UnloadDock,
 ) -> [Option<Change<'a>>; 4]
-    ensures { (s : Operator) (now : ℕ) → all_changed now (present result) s ≡ delivered order side (placed_at_end bike end.now dock now s) }
+    ensures { (s : Operator) (now : ℕ) → with_changes now (present result) s ≡ with_delivery order side (placed_at_end bike end.now dock now s) }
 {
     let bike = bike.get();
     let (place, report) = match end {

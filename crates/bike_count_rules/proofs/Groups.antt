@@ -15,7 +15,7 @@ use Rattle.sqlite_rules.specs.Lists.{Has}
 use Rattle.bike_places.proofs.MapLemmas.{text_order}
 use Rattle.bike_readings.specs.ReadOff.{first_of}
 use Rattle.bike_count_rules.specs.declared.tally.Tally.{Tally}
-use Rattle.bike_count_rules.specs.Tallies.{is_same, joined, is_even, tally_key, bad_key, first_uneven}
+use Rattle.bike_count_rules.specs.Tallies.{is_same, tally_sum, is_even, tally_key, bad_key, first_uneven}
 
 -- ---- keys of two texts
 
@@ -63,12 +63,12 @@ total_none f station type_id (b ∷ bs) none =
     let rest = total_none f station type_id bs (λ x h. none x (inr h)) in
     omega (arith, here, rest)
 
-adds_joined : (f : Tally → ℕ) (a b : Tally) → f (joined a b) ≡ f a + f b → a.station ≡ b.station → a.type_id ≡ b.type_id → (station type_id : List ℕ)
-    → adds f station type_id (joined a b) ≡ adds f station type_id a + adds f station type_id b
+adds_joined : (f : Tally → ℕ) (a b : Tally) → f (tally_sum a b) ≡ f a + f b → a.station ≡ b.station → a.type_id ≡ b.type_id → (station type_id : List ℕ)
+    → adds f station type_id (tally_sum a b) ≡ adds f station type_id a + adds f station type_id b
 adds_joined f a b sums p q station type_id =
     go (is_of station type_id a) ∙ ap (λ (c : Bool). adds f station type_id a + cond c (f b) 0) (ap₂ (λ (x y : List ℕ). bytes_eq x station && bytes_eq y type_id) p q)
   where
-    go : (c : Bool) → cond c (f (joined a b)) 0 ≡ cond c (f a) 0 + cond c (f b) 0
+    go : (c : Bool) → cond c (f (tally_sum a b)) 0 ≡ cond c (f a) 0 + cond c (f b) 0
     go true = sums
     go false = refl
 
@@ -219,26 +219,26 @@ ends a bs low rest came = go (is_even a) refl where
   go false e = own_uneven a bs low e
 
 -- the joined tally stands for the two
-parts : (a b : Tally) (bs : List Tally) → is_same a b ≡ true → (f : Tally → ℕ) → f (joined a b) ≡ f a + f b → (station type_id : List ℕ)
-    → total f station type_id (joined a b ∷ bs) ≡ total f station type_id (a ∷ b ∷ bs)
+parts : (a b : Tally) (bs : List Tally) → is_same a b ≡ true → (f : Tally → ℕ) → f (tally_sum a b) ≡ f a + f b → (station type_id : List ℕ)
+    → total f station type_id (tally_sum a b ∷ bs) ≡ total f station type_id (a ∷ b ∷ bs)
 parts a b bs is f sums station type_id =
     let same = same_texts a.station a.type_id b.station b.type_id is in
     let joins = adds_joined f a b sums same.0 same.1 station type_id in
     omega (arith, joins)
 
-split : (a b : Tally) (bs : List Tally) → is_same a b ≡ true → (station type_id : List ℕ) → IsEven station type_id (joined a b ∷ bs) → IsEven station type_id (a ∷ b ∷ bs)
+split : (a b : Tally) (bs : List Tally) → is_same a b ≡ true → (station type_id : List ℕ) → IsEven station type_id (tally_sum a b ∷ bs) → IsEven station type_id (a ∷ b ∷ bs)
 split a b bs is station type_id even = (
   sym (parts a b bs is (λ t. t.stored_available) refl station type_id) ∙ even.0 ∙ parts a b bs is (λ t. t.available) refl station type_id,
   sym (parts a b bs is (λ t. t.stored_disabled) refl station type_id) ∙ even.1 ∙ parts a b bs is (λ t. t.disabled) refl station type_id,
 )
 
-unsplit : (a b : Tally) (bs : List Tally) → is_same a b ≡ true → (station type_id : List ℕ) → IsEven station type_id (a ∷ b ∷ bs) → IsEven station type_id (joined a b ∷ bs)
+unsplit : (a b : Tally) (bs : List Tally) → is_same a b ≡ true → (station type_id : List ℕ) → IsEven station type_id (a ∷ b ∷ bs) → IsEven station type_id (tally_sum a b ∷ bs)
 unsplit a b bs is station type_id even = (
   parts a b bs is (λ t. t.stored_available) refl station type_id ∙ even.0 ∙ sym (parts a b bs is (λ t. t.available) refl station type_id),
   parts a b bs is (λ t. t.stored_disabled) refl station type_id ∙ even.1 ∙ sym (parts a b bs is (λ t. t.disabled) refl station type_id),
 )
 
-came_split : (a b : Tally) (bs : List Tally) → is_same a b ≡ true → (o : Option Row) → Came (joined a b ∷ bs) o → Came (a ∷ b ∷ bs) o
+came_split : (a b : Tally) (bs : List Tally) → is_same a b ≡ true → (o : Option Row) → Came (tally_sum a b ∷ bs) o → Came (a ∷ b ∷ bs) o
 came_split a b bs is None all = λ station type_id. split a b bs is station type_id (all station type_id)
 came_split a b bs is (Some key) it = elim it.has [
   | inl own ↦ record {
@@ -257,8 +257,8 @@ came_split a b bs is (Some key) it = elim it.has [
   }
 ]
   where
-    ap_even : it.tally ≡ joined a b → IsEven a.station a.type_id (joined a b ∷ bs) → IsEven it.tally.station it.tally.type_id (joined a b ∷ bs)
-    ap_even own even = subst (λ (t : Tally). IsEven t.station t.type_id (joined a b ∷ bs)) (sym own) even
+    ap_even : it.tally ≡ tally_sum a b → IsEven a.station a.type_id (tally_sum a b ∷ bs) → IsEven it.tally.station it.tally.type_id (tally_sum a b ∷ bs)
+    ap_even own even = subst (λ (t : Tally). IsEven t.station t.type_id (tally_sum a b ∷ bs)) (sym own) even
 
 no_second : (o : Option Row) → first_of o None ≡ o
 no_second None = refl
@@ -269,8 +269,8 @@ unfolding first_uneven
 open_came [] a up = subst (Came (a ∷ [])) (no_second (bad_key (Some a))) (ends a [] (λ b h. elim h [ ]) None (λ station type_id. (refl, refl)))
 open_came (b ∷ bs) a up = go (is_same a b) refl (open_came bs) where
   go : (c : Bool) → is_same a b ≡ c → ((x : Tally) → Up (x ∷ bs) → Came (x ∷ bs) (first_uneven (Some x) bs))
-      → Came (a ∷ b ∷ bs) (first_of (cond c None (bad_key (Some a))) (first_uneven (cond c (Some (joined a b)) (Some b)) bs))
-  go true e rest = came_split a b bs e (first_uneven (Some (joined a b)) bs) (rest (joined a b) (λ x h. up.0 x (inr h), up.1.1))
+      → Came (a ∷ b ∷ bs) (first_of (cond c None (bad_key (Some a))) (first_uneven (cond c (Some (tally_sum a b)) (Some b)) bs))
+  go true e rest = came_split a b bs e (first_uneven (Some (tally_sum a b)) bs) (rest (tally_sum a b) (λ x h. up.0 x (inr h), up.1.1))
   go false e rest = ends a (b ∷ bs) (below_all a b bs up e) (first_uneven (Some b) bs) (rest b up.1)
 
 -- THE FIRST BAD KEY

@@ -29,7 +29,7 @@ use Rattle.bike_readings.specs.Readings.{dock_read, bike_read, count_read}
 use Rattle.bike_judges.specs.Lines.{part}
 use Rattle.bike_count_rules.specs.declared.marks.Marks.{Marks}
 use Rattle.bike_count_rules.specs.declared.tally.Tally.{Tally}
-use Rattle.bike_count_rules.specs.Tallies.{is_place, is_station, is_at, has_mark, marks_of, with_mark, marked_by, marked, count_tally, docked_tally, placed_tally, bike_tally, tally_in, tally_key, next_of, found_of, first_uneven, run}
+use Rattle.bike_count_rules.specs.Tallies.{is_place, is_station, is_at, has_mark, marks_of, with_mark, marked_by, marks_after, count_tally, docked_tally, placed_tally, bike_tally, tally_in, tally_key, next_of, found_of, first_uneven, run}
 use Rattle.bike_count_rules.proofs.Groups.{Up, NotAbove}
 
 -- ---- truth
@@ -162,15 +162,15 @@ module _ (g : List ℕ → ℕ → Bool) where
 
 abbrev Marked : Marks → Row → Type 0
 Marked m x =
-    ((marked m x ≡ m) × ((station : List ℕ) (dock : ℕ) → marks station dock x ≡ false))
-    ⊎ ((e : List ℕ × ℕ) × (marked m x ≡ with_mark m e.0 e.1) × ((station : List ℕ) (dock : ℕ) → marks station dock x ≡ (bytes_eq e.0 station && (e.1 == dock))) × (column x 0 ≡ Text e.0) × (e.1 < 201))
+    ((marks_after m x ≡ m) × ((station : List ℕ) (dock : ℕ) → marks station dock x ≡ false))
+    ⊎ ((e : List ℕ × ℕ) × (marks_after m x ≡ with_mark m e.0 e.1) × ((station : List ℕ) (dock : ℕ) → marks station dock x ≡ (bytes_eq e.0 station && (e.1 == dock))) × (column x 0 ≡ Text e.0) × (e.1 < 201))
 
 effect : (m : Marks) (x : Row) → IsLine x → Marked m x
 effect m x line = go (is_place 0 (column x 1)) refl where
   go : (b : Bool) → is_place 0 (column x 1) ≡ b → Marked m x
   go false e = inl (ap (λ (c : Bool). cond c (marked_by m (dock_read (part 5 3 x))) m) e, λ station dock. ap (λ (c : Bool). c && says_broken station dock (dock_read (part 5 3 x))) e)
   go true e = by (dock_read (part 5 3 x)) refl where
-    known : (o : Option (List ℕ × ℕ × Bool)) → dock_read (part 5 3 x) ≡ o → (marked m x ≡ marked_by m o) × ((station : List ℕ) (dock : ℕ) → marks station dock x ≡ says_broken station dock o)
+    known : (o : Option (List ℕ × ℕ × Bool)) → dock_read (part 5 3 x) ≡ o → (marks_after m x ≡ marked_by m o) × ((station : List ℕ) (dock : ℕ) → marks station dock x ≡ says_broken station dock o)
     known o f = (
       ap₂ (λ (c : Bool) (q : Option (List ℕ × ℕ × Bool)). cond c (marked_by m q) m) e f,
       λ station dock. ap₂ (λ (c : Bool) (q : Option (List ℕ × ℕ × Bool)). c && says_broken station dock q) e f,
@@ -251,7 +251,7 @@ marks_step m x y xs e station dock long reached low a b within = go (is_at m e.0
               let t : is_at m e.0 ≡ true = ap (is_at m) same ∙ h in
               cc
 
-marks_length : (m : Marks) (x : Row) → IsLine x → length m.broken ≡ 201 → length (marked m x).broken ≡ 201
+marks_length : (m : Marks) (x : Row) → IsLine x → length m.broken ≡ 201 → length (marks_after m x).broken ≡ 201
 marks_length m x line long = elim (effect m x line) [
   | inl same ↦ ap (λ (k : Marks). length k.broken) same.0 ∙ long
   | inr it ↦ ap (λ (k : Marks). length k.broken) it.1 ∙ length-set (marks_of m it.0.0).broken it.0.1 true ∙ go (is_at m it.0.0) it.0.0
@@ -261,7 +261,7 @@ marks_length m x line long = elim (effect m x line) [
     go true s = long
     go false s = refl
 
-still_reached : (m : Marks) (x : Row) (xs : List Row) → AreLines (x ∷ xs) → Rises (by_key_total 5) (x ∷ xs) → IsReached m (x ∷ xs) → IsReached (marked m x) xs
+still_reached : (m : Marks) (x : Row) (xs : List Row) → AreLines (x ∷ xs) → Rises (by_key_total 5) (x ∷ xs) → IsReached m (x ∷ xs) → IsReached (marks_after m x) xs
 still_reached m x xs lines up reached at is y h fall = elim (effect m x (lines x (inl refl))) [
   | inl same ↦ reached at (ap (λ (k : Marks). k.station) (sym same.0) ∙ is) y (inr h) fall
   | inr it ↦ go (is_at m it.0.0) refl it.0 it.3 (ap (λ (k : Marks). k.station) (sym it.1) ∙ is)
@@ -342,7 +342,7 @@ module _ (is_broken : List ℕ → ℕ → Bool) where
       let own : marks station dock x ≡ false = ap (λ (v : Value). is_place 0 v && says_broken station dock (dock_read (part 5 3 x))) at.1 in
       sym (known x (inl refl) station dock asks ∙ ap₂ (λ (p q : Bool). has_mark m station dock || (p || q)) own none ∙ or_false (has_mark m station dock))
 
-  still_marked : (m : Marks) (x : Row) (xs : List Row) → AreLines (x ∷ xs) → Rises (by_key_total 5) (x ∷ xs) → length m.broken ≡ 201 → IsReached m (x ∷ xs) → IsMarked m (x ∷ xs) → IsMarked (marked m x) xs
+  still_marked : (m : Marks) (x : Row) (xs : List Row) → AreLines (x ∷ xs) → Rises (by_key_total 5) (x ∷ xs) → length m.broken ≡ 201 → IsReached m (x ∷ xs) → IsMarked m (x ∷ xs) → IsMarked (marks_after m x) xs
   still_marked m x xs lines up long reached known y h station dock asks =
       known y (inr h) station dock asks ∙ sym (or_assoc (has_mark m station dock) (marks station dock x) (list_any (marks station dock) xs))
       ∙ ap (λ (c : Bool). c || list_any (marks station dock) xs) (sym step)
@@ -350,7 +350,7 @@ module _ (is_broken : List ℕ → ℕ → Bool) where
       low : Ranks x y
       low = ranks x y (lines x (inl refl)) (lines y (inr h)) (all_has (λ z. by_key 5 x z ≡ Less) xs y up.0 h)
 
-      step : has_mark (marked m x) station dock ≡ (has_mark m station dock || marks station dock x)
+      step : has_mark (marks_after m x) station dock ≡ (has_mark m station dock || marks station dock x)
       step = elim (effect m x (lines x (inl refl))) [
         | inl same ↦ ap (λ (k : Marks). has_mark k station dock) same.0 ∙ sym (or_false (has_mark m station dock)) ∙ ap (λ (c : Bool). has_mark m station dock || c) (sym (same.1 station dock))
         | inr it ↦ ap (λ (k : Marks). has_mark k station dock) it.1 ∙ marks_step m x y xs it.0 station dock long reached low it.3 ((lines y (inr h)).asks_at station dock asks).0 it.4
@@ -363,10 +363,10 @@ module _ (is_broken : List ℕ → ℕ → Bool) where
   unfolding run first_uneven
   run_is [] m last lines up long reached known = refl
   run_is (x ∷ xs) m last lines up long reached known =
-      ap (λ (o : Option Tally). first_of (found_of last o) (run (marked m x) (next_of last o) xs)) (same_tally (has_mark m) is_broken x (asked m x xs lines up known))
-      ∙ go (tally_in is_broken x) (λ other. run_is xs (marked m x) other (λ y h. lines y (inr h)) up.1 (marks_length m x (lines x (inl refl)) long) (still_reached m x xs lines up reached) (still_marked m x xs lines up long reached known))
+      ap (λ (o : Option Tally). first_of (found_of last o) (run (marks_after m x) (next_of last o) xs)) (same_tally (has_mark m) is_broken x (asked m x xs lines up known))
+      ∙ go (tally_in is_broken x) (λ other. run_is xs (marks_after m x) other (λ y h. lines y (inr h)) up.1 (marks_length m x (lines x (inl refl)) long) (still_reached m x xs lines up reached) (still_marked m x xs lines up long reached known))
     where
-      go : (o : Option Tally) → ((other : Option Tally) → run (marked m x) other xs ≡ first_uneven other (filter_map (tally_in is_broken) xs))
-          → first_of (found_of last o) (run (marked m x) (next_of last o) xs) ≡ first_uneven last (cons_option o (filter_map (tally_in is_broken) xs))
+      go : (o : Option Tally) → ((other : Option Tally) → run (marks_after m x) other xs ≡ first_uneven other (filter_map (tally_in is_broken) xs))
+          → first_of (found_of last o) (run (marks_after m x) (next_of last o) xs) ≡ first_uneven last (cons_option o (filter_map (tally_in is_broken) xs))
       go None rest = rest last
       go (Some b) rest = ap (first_of (found_of last (Some b))) (rest (next_of last (Some b)))

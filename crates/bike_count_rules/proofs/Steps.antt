@@ -7,13 +7,13 @@ use Rattle.bike_judges.specs.Judging.{Continues, key_row}
 use Rattle.bike_count_rules.specs.declared.judge.CountJudge.{CountJudge}
 use Rattle.bike_count_rules.specs.declared.marks.Marks.{Marks}
 use Rattle.bike_count_rules.specs.declared.tally.Tally.{Tally}
-use Rattle.bike_count_rules.specs.Tallies.{run, marked, tally_in, has_mark, next_of, found_of, bad_key}
+use Rattle.bike_count_rules.specs.Tallies.{run, marks_after, tally_in, has_mark, next_of, found_of, bad_key}
 
 pub no_line : (m : Marks) (last : Option Tally) → run m last [] ≡ bad_key last
 unfolding run
 no_line m last = refl
 
-pub one_line : (m : Marks) (last : Option Tally) (x : Row) (left : List Row) → run m last (x ∷ left) ≡ first_of (found_of last (tally_in (has_mark m) x)) (run (marked m x) (next_of last (tally_in (has_mark m) x)) left)
+pub one_line : (m : Marks) (last : Option Tally) (x : Row) (left : List Row) → run m last (x ∷ left) ≡ first_of (found_of last (tally_in (has_mark m) x)) (run (marks_after m x) (next_of last (tally_in (has_mark m) x)) left)
 unfolding run
 one_line m last x left = refl
 
@@ -29,7 +29,7 @@ says j lines verdict = run j.marks j.tally lines ≡ verdict
 
 -- a line was taken
 pub taken : {E : Type 0} (j : CountJudge) (result : Result (Option BadKey) E) (m mid : Marks) (last tally : Option Tally) (x : Row) (left : List Row) (verdict : Option Row)
-    → tally ≡ tally_in (has_mark m) x → mid ≡ marked m x → OnOk result (j.marks ≡ mid) → OnOk result (j.tally ≡ next_of last tally) → IfOk result (λ key. option_map key_row key ≡ found_of last tally)
+    → tally ≡ tally_in (has_mark m) x → mid ≡ marks_after m x → OnOk result (j.marks ≡ mid) → OnOk result (j.tally ≡ next_of last tally) → IfOk result (λ key. option_map key_row key ≡ found_of last tally)
     → run m last (x ∷ left) ≡ verdict → IfOk result (λ found. Continues says j left verdict found)
 taken j (Ok found) m mid last tally x left verdict tally_is marks_are kept next_is found_is whole =
     continues says j left verdict found (found_of last tally) (run j.marks j.tally left) found_is

@@ -47,8 +47,8 @@ marked_by m None = m
 marked_by m (Some d) = if d.2 then with_mark m d.0 d.1 else m
 
 -- after a line, which may be that of a broken dock
-abbrev pub marked : Marks → Row → Marks
-marked m line = if is_place 0 (column line 1) then marked_by m (dock_read (part 5 3 line)) else m
+abbrev pub marks_after : Marks → Row → Marks
+marks_after m line = if is_place 0 (column line 1) then marked_by m (dock_read (part 5 3 line)) else m
 
 -- ---- what a line adds to the counts of a type at a station
 
@@ -83,8 +83,8 @@ module _ (is_broken : List ℕ → ℕ → Bool) where
 abbrev pub is_same : Tally → Tally → Bool
 is_same a b = bytes_eq a.station b.station && bytes_eq a.type_id b.type_id
 
-abbrev pub joined : Tally → Tally → Tally
-joined a b = record {
+abbrev pub tally_sum : Tally → Tally → Tally
+tally_sum a b = record {
   station = a.station;
   type_id = a.type_id;
   stored_available = a.stored_available + b.stored_available;
@@ -109,7 +109,7 @@ bad_key (Some a) = if is_even a then None else Some (tally_key a)
 abbrev pub next_of : Option Tally → Option Tally → Option Tally
 next_of last None = last
 next_of None (Some b) = Some b
-next_of (Some a) (Some b) = if is_same a b then Some (joined a b) else Some b
+next_of (Some a) (Some b) = if is_same a b then Some (tally_sum a b) else Some b
 
 abbrev pub found_of : Option Tally → Option Tally → Option Row
 found_of last None = None
@@ -124,4 +124,4 @@ first_uneven last (b ∷ bs) = first_of (found_of last (Some b)) (first_uneven (
 -- THE PASS
 unfoldable pub run : Marks → Option Tally → List Row → Option Row
 run m last [] = bad_key last
-run m last (x ∷ xs) = first_of (found_of last (tally_in (has_mark m) x)) (run (marked m x) (next_of last (tally_in (has_mark m) x)) xs)
+run m last (x ∷ xs) = first_of (found_of last (tally_in (has_mark m) x)) (run (marks_after m x) (next_of last (tally_in (has_mark m) x)) xs)

@@ -6,7 +6,7 @@ ghost use Rattle.bike_rows.specs.Calls.{ReadsWhere};
 ghost use Rattle.bike_schema.specs.Tables.{IsOurs};
 ghost use Rattle.bike_judges.specs.Judging.{key_row};
 ghost use Rattle.bike_judges.specs.Verdicts.{JudgesTable};
-ghost use Rattle.bike_count_rules.specs.Tallies.{run, marked, tally_in, has_mark, next_of, found_of, bad_key};
+ghost use Rattle.bike_count_rules.specs.Tallies.{run, marks_after, tally_in, has_mark, next_of, found_of, bad_key};
 
 use crate::marks::Marks;
 use crate::names::CountTest;

@@ -2,7 +2,7 @@
 
 ghost use Rattle.std.specs.Prelude.{◌≡◌, IfOk, OnOk, None, replicate, false, get_or};
 ghost use Rattle.sqlite_value.specs.Order.{column};
-ghost use Rattle.bike_count_rules.specs.Tallies.{is_place, has_mark, is_at, marked};
+ghost use Rattle.bike_count_rules.specs.Tallies.{is_place, has_mark, is_at, marks_after};
 
 use bike_fields::{DockNumber, Ident};
 use bike_readings::{Part, read_dock};
@@ -82,7 +82,7 @@ impl Marks {
 
     /// Marks the dock of the line, where that is the line of a broken dock. `NoMemory` where memory is refused.
     pub(crate) fn mark(&mut self, alloc: Global, line: &Row) -> Result<(), StatementFault>
-        ensures { OnOk result (self.new ≡ marked self.old line.now) }
+        ensures { OnOk result (self.new ≡ marks_after self.old line.now) }
     {
         if !is_place(line, 1, 0) {
             return Ok(());

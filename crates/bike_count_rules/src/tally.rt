@@ -5,7 +5,7 @@ ghost use Rattle.bike_operator.specs.Counts.{is_fit};
 ghost use Rattle.bike_readings.specs.Readings.{count_read, bike_read};
 ghost use Rattle.bike_judges.specs.Judging.{key_row};
 ghost use Rattle.bike_judges.specs.Lines.{part};
-ghost use Rattle.bike_count_rules.specs.Tallies.{is_same, joined, bad_key, count_tally, placed_tally, bike_tally, tally_in, has_mark};
+ghost use Rattle.bike_count_rules.specs.Tallies.{is_same, tally_sum, bad_key, count_tally, placed_tally, bike_tally, tally_in, has_mark};
 ghost use Rattle.bike_places.specs.Laws.{one};
 ghost use Rattle.bike_readings.specs.Views.{place_of};
 
@@ -42,7 +42,7 @@ impl Tally {
 
     /// The two together; `StoreFailed` where a number passes 64 bits, which no city's does.
     pub(crate) fn join(self, other: Tally) -> Result<Tally, StatementFault>
-        ensures { IfOk result (λ tally. tally ≡ joined self other) }
+        ensures { IfOk result (λ tally. tally ≡ tally_sum self other) }
     {
         Ok(Tally {
             station: self.station,

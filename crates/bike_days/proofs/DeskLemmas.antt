@@ -7,7 +7,7 @@ use Rattle.bike_operator.specs.Operator.{Operator}
 use Rattle.bike_fixed.specs.declared.day.DayFault.{DayFault}
 use Rattle.bike_desk.specs.declared.fault.DeskFault.{DeskFault}
 use Rattle.bike_desk.specs.declared.fault.DeskFault.TheVariants.{NoMemory}
-use Rattle.bike_desk.specs.Desk.{DeskValue, shown, IsAt}
+use Rattle.bike_desk.specs.Desk.{DeskValue, desk_state, IsAt}
 use Rattle.bike_desk.specs.Queries.{Queries}
 use Rattle.bike_days.specs.declared.fault.DayTableFault.{DayTableFault}
 use Rattle.bike_days.specs.declared.fault.DayTableFault.TheVariants.{Day, Write, Desk}
@@ -33,8 +33,8 @@ module _ {S : Type 0} (g : Ghosts S) where
     go true is = let it = (q.stays is).0 in absurd cc
     go false is = is
 
-  pub earlier : (d e : DeskValue S) → doubt (shown g d).is_clean ≤ doubt (shown g e).is_clean → HasCleanDisk (shown g e)
-      → HasCleanDisk (shown g d)
+  pub earlier : (d e : DeskValue S) → doubt (desk_state g d).is_clean ≤ doubt (desk_state g e).is_clean → HasCleanDisk (desk_state g e)
+      → HasCleanDisk (desk_state g d)
   earlier d e le clean = omega (arith, le, clean)
 
   -- a question that was answered

@@ -14,7 +14,7 @@ use Rattle.bike_day_texts.specs.declared.fault.LineFault.{LineFault}
 use Rattle.bike_day_texts.specs.declared.fault.LineFault.TheVariants as line
 use Rattle.bike_day_texts.specs.Writing.{WritesLine}
 use Rattle.bike_desk.specs.declared.fault.DeskFault.{DeskFault}
-use Rattle.bike_desk.specs.Desk.{DeskValue, shown, IsAt}
+use Rattle.bike_desk.specs.Desk.{DeskValue, desk_state, IsAt}
 use Rattle.bike_desk.specs.Queries.{Queries}
 use Rattle.bike_desk.proofs.KeepLemmas.{kept_stores}
 use Rattle.bike_days.specs.declared.fault.DayTableFault.{DayTableFault}
@@ -77,7 +77,7 @@ module _ {X Y : Type 0} (t : Source X Y) where
 
 module _ {S X Y : Type 0} (g : Ghosts S) (t : Source X Y) where
   sound_of : (d : DeskValue S) (s : Operator) → IsAt g d s → IsSound s
-  sound_of d s at = (kept_stores (shown g d) s at.keeps).sound
+  sound_of d s at = (kept_stores (desk_state g d) s at.keeps).sound
 
   -- The rows of a front are written; the first of the others was answered, or none where there is none.
   pub record IsAhead (s : Operator) (next : Option Y) (count : ℕ) (before after : Option (List ℕ)) : Type 0 where
@@ -112,12 +112,12 @@ module _ {S X Y : Type 0} (g : Ghosts S) (t : Source X Y) where
   -- after an answer
   pub record Walks (next : Option Y) (count : ℕ) (old new : DeskValue S) (before after : Option (List ℕ)) : Type 0 where
     pub stays : StaysAt g old new
-    pub ahead : HasCleanDisk (shown g new) → (s : Operator) → IsAt g old s → IsAhead s next count before after
+    pub ahead : HasCleanDisk (desk_state g new) → (s : Operator) → IsAt g old s → IsAhead s next count before after
 
   -- after a row was written
   pub record Passes (y : Y) (count : ℕ) (old new : DeskValue S) (before after : Option (List ℕ)) : Type 0 where
     pub stays : StaysAt g old new
-    pub behind : HasCleanDisk (shown g new) → (s : Operator) → IsAt g old s → IsBehind s y count before after
+    pub behind : HasCleanDisk (desk_state g new) → (s : Operator) → IsAt g old s → IsBehind s y count before after
 
   -- the header behind the first answer
   pub walk_begins : {d e : DeskValue S} {a b : Option (List ℕ)} (next : Option Y) → Queries g d e (Ok next) (IsAnswer t 0)

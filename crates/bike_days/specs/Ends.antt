@@ -11,7 +11,7 @@ use Rattle.bike_stream.specs.Writing.{AppendsFront}
 use Rattle.bike_operator.specs.Operator.{Operator}
 use Rattle.bike_schema.specs.Stands.{AllLeft}
 use Rattle.bike_desk.specs.declared.fault.DeskFault.TheVariants.{NoMemory, StoreFailed, Stopped}
-use Rattle.bike_desk.specs.Desk.{DeskValue, shown, IsAt}
+use Rattle.bike_desk.specs.Desk.{DeskValue, desk_state, IsAt}
 use Rattle.bike_day_texts.specs.declared.table.DayTable.{DayTable}
 use Rattle.bike_days.specs.declared.fault.DayTableFault.{DayTableFault}
 use Rattle.bike_days.specs.declared.fault.DayTableFault.TheVariants.{Day, Write, Desk}
@@ -68,13 +68,13 @@ IsOfStopped (Err (Desk fault)) = fault ≡ Stopped
 
 -- WHAT THE DESK IS AFTER A DAY'S TABLE, as the end tells; the faults of a desk are told as its own calls tell them
 pub record LeavesDesk {S : Type 0} (g : Ghosts S) (old new : DeskValue S) {A : Type 0} (result : Result A DayTableFault) : Type 0 where
-  pub clean : doubt (shown g old).is_clean ≤ doubt (shown g new).is_clean
-  pub same : HasCleanDisk (shown g new) → (s : Operator) → IsAt g old s → OnOk result (IsAt g new s)
+  pub clean : doubt (desk_state g old).is_clean ≤ doubt (desk_state g new).is_clean
+  pub same : HasCleanDisk (desk_state g new) → (s : Operator) → IsAt g old s → OnOk result (IsAt g new s)
   pub day : (fault : DayFault) → result ≡ Err (Day fault) → new ≡ old
-  pub write : HasCleanDisk (shown g new) → (s : Operator) → IsAt g old s → result ≡ Err Write → IsAt g new s
-  pub no_memory : HasCleanDisk (shown g new) → (s : Operator) → IsAt g old s → result ≡ Err (Desk NoMemory) → IsAt g new s
+  pub write : HasCleanDisk (desk_state g new) → (s : Operator) → IsAt g old s → result ≡ Err Write → IsAt g new s
+  pub no_memory : HasCleanDisk (desk_state g new) → (s : Operator) → IsAt g old s → result ≡ Err (Desk NoMemory) → IsAt g new s
   -- whatever is answered, a crash may leave no more than before
-  pub left : HasCleanDisk (shown g new) → (s : Operator) → IsAt g old s → AllLeft (shown g new) (shown g old).may_leave
+  pub left : HasCleanDisk (desk_state g new) → (s : Operator) → IsAt g old s → AllLeft (desk_state g new) (desk_state g old).may_leave
   pub goes_on : OnOk result (new.is_stopped ≡ false)
   pub stops : result ≡ Err (Desk StoreFailed) → IsTrue new.is_stopped
   pub stopped : result ≡ Err (Desk Stopped) → IsTrue old.is_stopped

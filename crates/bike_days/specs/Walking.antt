@@ -7,16 +7,16 @@ use Rattle.sqlite.specs.State.{HasCleanDisk}
 use Rattle.bike_stream.specs.Writing.{AppendsFront}
 use Rattle.bike_operator.specs.Operator.{Operator}
 use Rattle.bike_schema.specs.Stands.{AllLeft}
-use Rattle.bike_desk.specs.Desk.{DeskValue, shown, IsAt}
+use Rattle.bike_desk.specs.Desk.{DeskValue, desk_state, IsAt}
 use Rattle.bike_days.specs.declared.fault.DayTableFault.{DayTableFault}
 use Rattle.bike_days.specs.declared.fault.DayTableFault.TheVariants.{Day, Write, Desk}
 use Rattle.bike_days.specs.Ends.{AppendsSome, LeavesDesk}
 
 -- the desk was asked, goes on, and is at the operator at whom it was
 pub record StaysAt {S : Type 0} (g : Ghosts S) (old new : DeskValue S) : Type 0 where
-  pub clean : doubt (shown g old).is_clean ≤ doubt (shown g new).is_clean
-  pub same : HasCleanDisk (shown g new) → (s : Operator) → IsAt g old s → IsAt g new s
-  pub left : HasCleanDisk (shown g new) → (s : Operator) → IsAt g old s → AllLeft (shown g new) (shown g old).may_leave
+  pub clean : doubt (desk_state g old).is_clean ≤ doubt (desk_state g new).is_clean
+  pub same : HasCleanDisk (desk_state g new) → (s : Operator) → IsAt g old s → IsAt g new s
+  pub left : HasCleanDisk (desk_state g new) → (s : Operator) → IsAt g old s → AllLeft (desk_state g new) (desk_state g old).may_leave
   pub went_on : old.is_stopped ≡ false
   pub goes_on : new.is_stopped ≡ false
 
@@ -38,6 +38,6 @@ IsOfDay (Err (Desk fault)) = Unit {0}
 pub record WritesTable {S : Type 0} (g : Ghosts S) (old new : DeskValue S) (before after : Option (List ℕ)) {A : Type 0}
     (result : Result A DayTableFault) (text : Operator → List ℕ) : Type 0 where
   pub desk : LeavesDesk g old new result
-  pub wrote : HasCleanDisk (shown g new) → (s : Operator) → IsAt g old s → WritesText before after (text s) result
+  pub wrote : HasCleanDisk (desk_state g new) → (s : Operator) → IsAt g old s → WritesText before after (text s) result
   pub nothing : IsTrue old.is_stopped → Keeps before after
   pub day : IsOfDay result

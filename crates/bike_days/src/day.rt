@@ -4,7 +4,7 @@ ghost use Rattle.std.specs.Prelude.{IsTrue};
 ghost use Rattle.std.specs.Io.KnownBytes.{Keeps};
 ghost use Rattle.sqlite.specs.State.{HasCleanDisk};
 ghost use Rattle.bike_operator.specs.Operator.{Operator};
-ghost use Rattle.bike_desk.specs.Desk.{shown, IsAt};
+ghost use Rattle.bike_desk.specs.Desk.{desk_state, IsAt};
 ghost use Rattle.bike_days.specs.Ends.{EndsByDay, WritesDay, LeavesDesk};
 
 use crate::fault::DayTableFault;
@@ -33,7 +33,7 @@ pub fn day_csv<S: Alter, W: Write>(
 ) -> Result<(), DayTableFault>
     ensures day { EndsByDay date.now zone.now (W.contents out.old) (W.contents out.new) result }
     ensures desk { LeavesDesk S.Store desk.old desk.new result }
-    ensures wrote { HasCleanDisk (shown S.Store desk.new) → (s : Operator) → IsAt S.Store desk.old s
+    ensures wrote { HasCleanDisk (desk_state S.Store desk.new) → (s : Operator) → IsAt S.Store desk.old s
         → WritesDay s table date.now zone.now (W.contents out.old) (W.contents out.new) result }
     ensures nothing { IsTrue desk.old.is_stopped → Keeps (W.contents out.old) (W.contents out.new) }
 {

@@ -30,11 +30,11 @@ use Rattle.bike_recognition.specs.Recognition.{AnyDatabase, ReadsAny, meta_versi
 use Rattle.bike_recognition.specs.declared.version.MetaVersion.TheVariants.{Version}
 use Rattle.bike_recognition.specs.declared.recognition.Recognition.{Recognition}
 use Rattle.bike_recognition.specs.declared.recognition.Recognition.TheVariants as recognition
-use Rattle.bike_audit.specs.Audit.{IsAudited, named}
+use Rattle.bike_audit.specs.Audit.{IsAudited, row_name}
 use Rattle.bike_audit.specs.declared.finding.Finding.{Finding}
 use Rattle.bike_audit.specs.declared.finding.Finding.TheVariants as finding
 use Rattle.bike_desk.specs.Adoption.{handed, found_as, IsToldOf, IsWant}
-use Rattle.bike_desk.specs.Desk.{shown, IsAt}
+use Rattle.bike_desk.specs.Desk.{desk_state, IsAt}
 use Rattle.bike_desk.proofs.AdoptLemmas.{same_tables, same_place, in_left}
 use Rattle.bike_desk.proofs.KeepLemmas.{Settles, no_meta, never_both, settled_keeps}
 
@@ -105,7 +105,7 @@ sound_there : (db : Database) (s : Operator) → Stores db s → (f : Finding) �
 sound_there db s stores finding.Empty is = absurd (let e = ours_there db s stores recognition.Empty is in cc)
 sound_there db s stores finding.Sound is = refl
 sound_there db s stores finding.Foreign is = absurd (let e = ours_there db s stores recognition.Foreign is in cc)
-sound_there db s stores (finding.Unsound bad) is = absurd (stored_bad db (named bad) is.1.1 s stores)
+sound_there db s stores (finding.Unsound bad) is = absurd (stored_bad db (row_name bad) is.1.1 s stores)
 sound_there db s stores (finding.Older version) is = absurd (let e = ours_there db s stores (recognition.Older version) is in cc)
 sound_there db s stores (finding.Newer version) is = absurd (let e = ours_there db s stores (recognition.Newer version) is in cc)
 
@@ -135,10 +135,10 @@ module _ {S : Type 0} (g : Ghosts S) (settles : Settles g) (old mid : Held S) (o
         }
 
   module _ {E : Type 0} (found : Finding) (read : ReadsAny {E = E} g old mid (Ok found) IsAudited) where
-    pub found_clean : MatchResult (found_as mid found) (λ d. doubt (state g old).is_clean ≤ doubt (shown g d).is_clean) (λ e. doubt (state g old).is_clean ≤ doubt (state g (handed e)).is_clean)
+    pub found_clean : MatchResult (found_as mid found) (λ d. doubt (state g old).is_clean ≤ doubt (desk_state g d).is_clean) (λ e. doubt (state g old).is_clean ≤ doubt (state g (handed e)).is_clean)
     found_clean = by found
       where
-        by : (f : Finding) → MatchResult (found_as mid f) (λ d. doubt (state g old).is_clean ≤ doubt (shown g d).is_clean) (λ e. doubt (state g old).is_clean ≤ doubt (state g (handed e)).is_clean)
+        by : (f : Finding) → MatchResult (found_as mid f) (λ d. doubt (state g old).is_clean ≤ doubt (desk_state g d).is_clean) (λ e. doubt (state g old).is_clean ≤ doubt (state g (handed e)).is_clean)
         by finding.Sound = read.quiet.survives.clean
         by finding.Foreign = read.quiet.survives.clean
         by (finding.Unsound bad) = read.quiet.survives.clean
@@ -152,10 +152,10 @@ module _ {S : Type 0} (g : Ghosts S) (settles : Settles g) (old mid : Held S) (o
     same_after : HasCleanDisk (state g mid) → IsUnchanged (state g old) (state g mid)
     same_after clean = read.same clean tt
 
-    pub found_only : IfOk (found_as mid found) (λ d. HasCleanDisk (shown g d) → (s : Operator) × IsOf (state g old).now s × IsAt g d s)
+    pub found_only : IfOk (found_as mid found) (λ d. HasCleanDisk (desk_state g d) → (s : Operator) × IsOf (state g old).now s × IsAt g d s)
     found_only = by found audited
       where
-        by : (f : Finding) → (HasCleanDisk (state g mid) → IsAudited (state g old).now f) → IfOk (found_as mid f) (λ d. HasCleanDisk (shown g d) → (s : Operator) × IsOf (state g old).now s × IsAt g d s)
+        by : (f : Finding) → (HasCleanDisk (state g mid) → IsAudited (state g old).now f) → IfOk (found_as mid f) (λ d. HasCleanDisk (desk_state g d) → (s : Operator) × IsOf (state g old).now s × IsAt g d s)
         by finding.Sound is = λ clean.
             let it = is clean in
             let stores = stored_good (state g old).now it.1.0 it.1.1 in
@@ -166,10 +166,10 @@ module _ {S : Type 0} (g : Ghosts S) (settles : Settles g) (old mid : Held S) (o
         by (finding.Newer version) is = tt
         by finding.Empty is = tt
 
-    pub found_others : IfOk (found_as mid found) (λ d. HasCleanDisk (shown g d) → OthersStay (state g old).now (shown g d).now)
+    pub found_others : IfOk (found_as mid found) (λ d. HasCleanDisk (desk_state g d) → OthersStay (state g old).now (desk_state g d).now)
     found_others = by found
       where
-        by : (f : Finding) → IfOk (found_as mid f) (λ d. HasCleanDisk (shown g d) → OthersStay (state g old).now (shown g d).now)
+        by : (f : Finding) → IfOk (found_as mid f) (λ d. HasCleanDisk (desk_state g d) → OthersStay (state g old).now (desk_state g d).now)
         by finding.Sound = λ clean. subst (OthersStay (state g old).now) (sym (same_after clean).0.now_is) (others_same (state g old).now)
         by finding.Foreign = tt
         by (finding.Unsound bad) = tt
@@ -177,10 +177,10 @@ module _ {S : Type 0} (g : Ghosts S) (settles : Settles g) (old mid : Held S) (o
         by (finding.Newer version) = tt
         by finding.Empty = tt
 
-    pub found_at : (s : Operator) → TreesStandFor s (state g old).now.trees → IfOk (found_as mid found) (λ d. HasCleanDisk (shown g d) → IsAt g d s)
+    pub found_at : (s : Operator) → TreesStandFor s (state g old).now.trees → IfOk (found_as mid found) (λ d. HasCleanDisk (desk_state g d) → IsAt g d s)
     found_at s stands = by found audited
       where
-        by : (f : Finding) → (HasCleanDisk (state g mid) → IsAudited (state g old).now f) → IfOk (found_as mid f) (λ d. HasCleanDisk (shown g d) → IsAt g d s)
+        by : (f : Finding) → (HasCleanDisk (state g mid) → IsAudited (state g old).now f) → IfOk (found_as mid f) (λ d. HasCleanDisk (desk_state g d) → IsAt g d s)
         by finding.Sound is = λ clean. let same = same_after clean in stands_at same s (stores_here (state g old).now s (live same.0.was_open).0 (is clean).1.0 stands)
         by finding.Foreign is = tt
         by (finding.Unsound bad) is = tt

@@ -10,7 +10,7 @@ use Rattle.bike_laws.proofs.RunLemmas.{after-append, replies-append}
 use Rattle.bike_schema.specs.Stands.{AllLeft, TreesStandFor}
 use Rattle.bike_desk.specs.declared.fault.DeskFault.{DeskFault}
 use Rattle.bike_desk.specs.declared.fault.DeskFault.TheVariants.{NoMemory, StoreFailed, Stopped}
-use Rattle.bike_desk.specs.Desk.{DeskValue, shown, IsAt, TreesStandForEither}
+use Rattle.bike_desk.specs.Desk.{DeskValue, desk_state, IsAt, TreesStandForEither}
 use Rattle.bike_desk.specs.Runs.{Ran, EndsAt, IsAfterFront}
 use Rattle.bike_desk.proofs.ChangeLemmas.{take-item}
 
@@ -28,7 +28,7 @@ replies-next s xs i c low is = ap (replies s) (take-item xs i c low is) ∙ repl
 
 module _ {S : Type 0} (g : Ghosts S) (now : DeskValue S) (s : Operator) (calls : List Call) where
   -- whatever ended the run, a crash leaves a front
-  pub front_of : (told : List Reply) (end : Option DeskFault) → Ran g now s calls told end → AllLeft (shown g now) (IsAfterFront s calls (length told))
+  pub front_of : (told : List Reply) (end : Option DeskFault) → Ran g now s calls told end → AllLeft (desk_state g now) (IsAfterFront s calls (length told))
   front_of told None r db h = (length told, omega arith, omega arith, r.within, subst (λ xs. TreesStandFor (after s xs) db) (sym (take_all (length told) calls (omega (arith, r.ends.0)))) (r.ends.1.keeps.left db h))
   front_of told (Some NoMemory) r db h = (length told, omega arith, omega arith, r.within, r.ends.1.keeps.left db h)
   front_of told (Some StoreFailed) r db h = elim (r.ends.2 db h) [
@@ -40,7 +40,7 @@ module _ {S : Type 0} (g : Ghosts S) (now : DeskValue S) (s : Operator) (calls :
   -- the fault of the request after the first k
   pub fault_ends : (k : ℕ) (c : Call) (before : DeskValue S) (fault : DeskFault) → k < length calls → c ≡ get_or calls k c → IsAt g before (after s (take k calls))
       → (fault ≡ NoMemory → now ≡ before) → (fault ≡ StoreFailed → IsTrue now.is_stopped)
-      → (fault ≡ StoreFailed → AllLeft (shown g now) (TreesStandForEither (after s (take k calls)) (stepped (after s (take k calls)) c)))
+      → (fault ≡ StoreFailed → AllLeft (desk_state g now) (TreesStandForEither (after s (take k calls)) (stepped (after s (take k calls)) c)))
       → (fault ≡ Stopped → IsTrue before.is_stopped) → EndsAt g now s calls k (Some fault)
   fault_ends k c before NoMemory low is at same stops failed stopped = (inr low, subst (λ (d : DeskValue S). IsAt g d (after s (take k calls))) (sym (same refl)) at)
   fault_ends k c before StoreFailed low is at same stops failed stopped = (low, stops refl, λ db h. subst (λ o. TreesStandForEither (after s (take k calls)) o db) (sym (after-next s calls k c low is)) (failed refl db h))

@@ -18,9 +18,9 @@ use Rattle.bike_operator.specs.declared.change.Change.{Change}
 use Rattle.bike_operator.specs.declared.view.View.{View}
 use Rattle.bike_operator.specs.Operator.{Operator, Kept}
 use Rattle.bike_operator.specs.Sound.{IsSound}
-use Rattle.bike_operator.specs.Steps.{refused, reply_of}
+use Rattle.bike_operator.specs.Steps.{refusal_of, reply_of}
 use Rattle.bike_operator.specs.Changes.{Decides}
-use Rattle.bike_operator.specs.Runs.{step, answered, decided, accepted, key_in}
+use Rattle.bike_operator.specs.Runs.{step, outcome_with_kept, outcome, after_acceptance, key_in}
 use Rattle.bike_laws.proofs.OrderLemmas.{step_sound}
 use Rattle.bike_book.specs.declared.row_change.RowChange.{RowChange}
 use Rattle.bike_book.specs.Stored.{Listed, IsListing}
@@ -42,7 +42,7 @@ module _ (s : Operator) (t : ℕ) (q : Request) where
       → (cond (bytes_eq (string_bytes row.command) text) row.reply (Refused refusal.KeyReused) ≡ (step s t q).0) × (s ≡ (step s t q).1)
   step_kept None row text found same is = absurd same
   step_kept (Some k) row text found same is =
-      let is_step = ap (answered s t q) found in
+      let is_step = ap (outcome_with_kept s t q) found in
       (ap₂ (λ c r. cond (bytes_eq c text) r (Refused refusal.KeyReused)) same.0 same.1 ∙ ap (λ x. cond (bytes_eq (text_of k.command) x) k.reply (Refused refusal.KeyReused)) is ∙ sym (ap (λ (p : Reply × Operator). p.0) is_step), sym (ap (λ (p : Reply × Operator). p.1) is_step))
 
   pub none_kept : (o : Option Kept) → map.get s.kept (key_in q) ≡ o → KeepsSame o None → map.get s.kept (key_in q) ≡ None
@@ -52,14 +52,14 @@ module _ (s : Operator) (t : ℕ) (q : Request) where
   module _ (now : ℕ) (later : now ≡ max t s.now) (anew : map.get s.kept (key_in q) ≡ None) where
     -- a refusal
     pub step_refused : (r : Refusal) → Decides s now q.command (Err r) → step s t q ≡ (Refused r, s)
-    step_refused r decides = ap (answered s t q) anew ∙ ap (decided s (max t s.now) q) decides
+    step_refused r decides = ap (outcome_with_kept s t q) anew ∙ ap (outcome s (max t s.now) q) decides
 
     -- an acceptance
-    pub step_accepted : refused s q.command ≡ None → step s t q ≡ (reply_of s now q.command, accepted s now q)
-    step_accepted free = ap (answered s t q) anew ∙ ap (decided s (max t s.now) q) free ∙ ap (λ (n : ℕ). let p : Reply × Operator = (reply_of s n q.command, accepted s n q) in p) (sym later)
+    pub step_accepted : refusal_of s q.command ≡ None → step s t q ≡ (reply_of s now q.command, after_acceptance s now q)
+    step_accepted free = ap (outcome_with_kept s t q) anew ∙ ap (outcome s (max t s.now) q) free ∙ ap (λ (n : ℕ). let p : Reply × Operator = (reply_of s n q.command, after_acceptance s n q) in p) (sym later)
 
     -- the operator after it is sound
-    pub accepted_sound : t ≤ last_moment → IsRequest q → IsSound s → refused s q.command ≡ None → IsSound (accepted s now q)
+    pub accepted_sound : t ≤ last_moment → IsRequest q → IsSound s → refusal_of s q.command ≡ None → IsSound (after_acceptance s now q)
     accepted_sound moment good order free = subst (λ (p : Reply × Operator). IsSound p.1) (step_accepted free) (step_sound s t q moment good order)
 
 -- the sums that were read are those of the entries
@@ -67,7 +67,7 @@ pub sums_are : (s : Operator) (meta : MetaRow) → meta ≡ meta_of s → AreSum
 sums_are s meta is = (ap (λ (m : MetaRow). m.cash) is, ap (λ (m : MetaRow). m.revenue) is)
 
 -- what is booked leads on, from the same rows after a read
-pub booked_next : (old new : State) (s : Operator) (now : ℕ) (q : Request) (h : Stores old.now s) (rows : List RowChange) → new.now ≡ old.now → Keeps new s → IsSound (accepted s now q) → Books rows s h.listed now q → IsNextBy new rows s (accepted s now q)
+pub booked_next : (old new : State) (s : Operator) (now : ℕ) (q : Request) (h : Stores old.now s) (rows : List RowChange) → new.now ≡ old.now → Keeps new s → IsSound (after_acceptance s now q) → Books rows s h.listed now q → IsNextBy new rows s (after_acceptance s now q)
 booked_next old new s now q h rows same keeps sound books =
     let again : Stores new.now s = record { has = keeps.tables; sound = h.sound; listed = h.listed; listing = h.listing; tables = ap tables_of same ∙ h.tables } in
     record { keeps = keeps; stores = again; listed = books.listed; leads = books.leads; sound = sound }

@@ -14,7 +14,7 @@ use Rattle.bike_schema.specs.declared.fault.StatementFault.{StatementFault}
 use Rattle.bike_schema.specs.declared.fault.StatementFault.TheVariants as statement
 use Rattle.bike_desk.specs.declared.adopt.AdoptFault.{AdoptFault}
 use Rattle.bike_desk.specs.declared.adopt.AdoptFault.TheVariants.{Foreign, Unsound, Older, Newer, NoMemory, StoreFailed}
-use Rattle.bike_desk.specs.Desk.{DeskValue, IsAt, shown}
+use Rattle.bike_desk.specs.Desk.{DeskValue, IsAt, desk_state}
 use Rattle.bike_audit.specs.Audit.{IsAudited}
 use Rattle.bike_audit.specs.declared.finding.Finding.{Finding}
 use Rattle.bike_audit.specs.declared.finding.Finding.TheVariants as finding
@@ -60,7 +60,7 @@ module _ {S : Type 0} where
   pub record Begins (g : Ghosts S) (old : Held S) (d : DeskValue S) : Type 0 where
     pub was_open : IsTrue (state g old).is_open
     pub at : IsAt g d no_operator
-    pub others : OthersStay (state g old).now (shown g d).now
+    pub others : OthersStay (state g old).now (desk_state g d).now
 
   -- a fault of a statement
   abbrev pub IsOfStatement : Ghosts S → Held S → AdoptFault S → Type 0
@@ -87,11 +87,11 @@ module _ {S : Type 0} where
 
   -- WHAT AN ADOPTION OWES: a desk at the operator for whom the database stands, or a fault that hands the connection back
   pub record Adopts (g : Ghosts S) (old : Held S) (result : Result (DeskValue S) (AdoptFault S)) : Type 0 where
-    pub clean : MatchResult result (λ d. doubt (state g old).is_clean ≤ doubt (shown g d).is_clean)
+    pub clean : MatchResult result (λ d. doubt (state g old).is_clean ≤ doubt (desk_state g d).is_clean)
         (λ e. doubt (state g old).is_clean ≤ doubt (state g (handed e)).is_clean)
-    pub only : IfOk result (λ d. HasCleanDisk (shown g d) → (s : Operator) × IsOf (state g old).now s × IsAt g d s)
-    pub others : IfOk result (λ d. HasCleanDisk (shown g d) → OthersStay (state g old).now (shown g d).now)
-    pub found : (s : Operator) → TreesStandFor s (state g old).now.trees → IfOk result (λ d. HasCleanDisk (shown g d) → IsAt g d s)
+    pub only : IfOk result (λ d. HasCleanDisk (desk_state g d) → (s : Operator) × IsOf (state g old).now s × IsAt g d s)
+    pub others : IfOk result (λ d. HasCleanDisk (desk_state g d) → OthersStay (state g old).now (desk_state g d).now)
+    pub found : (s : Operator) → TreesStandFor s (state g old).now.trees → IfOk result (λ d. HasCleanDisk (desk_state g d) → IsAt g d s)
     -- tables that stand for an operator are refused for memory or storage alone
     pub refused : (s : Operator) → TreesStandFor s (state g old).now.trees
         → IfErr result (λ e. HasCleanDisk (state g (handed e)) → IsWant e)

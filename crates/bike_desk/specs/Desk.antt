@@ -17,8 +17,8 @@ abbrev pub desk_code : {S : Type 0} → Coded S → Coded (DeskValue S)
 desk_code {S} store = code_by (Held S × Bool) (coded× (held_code store) coded_bool) (λ d. (d.conn, d.is_stopped)) (λ p. record { conn = p.0; is_stopped = p.1 }) (λ _. refl)
 
 -- what the desk's connection shows
-abbrev pub shown : {S : Type 0} → Ghosts S → DeskValue S → State
-shown g d = state g d.conn
+abbrev pub desk_state : {S : Type 0} → Ghosts S → DeskValue S → State
+desk_state g d = state g d.conn
 
 -- the trees stand for the one operator or the other
 abbrev pub TreesStandForEither : Operator → Operator → Trees → Type 0

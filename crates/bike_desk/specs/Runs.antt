@@ -8,14 +8,14 @@ use Rattle.bike_operator.specs.Runs.{Call, after, replies}
 use Rattle.bike_schema.specs.Stands.{AllLeft, TreesStandFor}
 use Rattle.bike_desk.specs.declared.fault.DeskFault.{DeskFault}
 use Rattle.bike_desk.specs.declared.fault.DeskFault.TheVariants.{NoMemory, StoreFailed, Stopped}
-use Rattle.bike_desk.specs.Desk.{DeskValue, shown, IsAt, TreesStandForEither}
+use Rattle.bike_desk.specs.Desk.{DeskValue, desk_state, IsAt, TreesStandForEither}
 
 module _ {S : Type 0} (g : Ghosts S) (desk : DeskValue S) (s : Operator) (calls : List Call) where
   -- the desk after k answers, as the fault of the next request tells, or of the room for replies; an unstopped desk is not told that it is stopped
   abbrev pub EndsAt : ℕ → Option DeskFault → Type 0
   EndsAt k None = (k ≡ length calls) × IsAt g desk (after s calls)
   EndsAt k (Some NoMemory) = ((k ≡ 0) ⊎ (k < length calls)) × IsAt g desk (after s (take k calls))
-  EndsAt k (Some StoreFailed) = (k < length calls) × IsTrue desk.is_stopped × AllLeft (shown g desk) (TreesStandForEither (after s (take k calls)) (after s (take (k + 1) calls)))
+  EndsAt k (Some StoreFailed) = (k < length calls) × IsTrue desk.is_stopped × AllLeft (desk_state g desk) (TreesStandForEither (after s (take k calls)) (after s (take (k + 1) calls)))
   EndsAt k (Some Stopped) = ⊥
 
   -- The answers are the replies to a front of the list, and the desk is as the end tells.

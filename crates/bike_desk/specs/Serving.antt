@@ -11,7 +11,7 @@ use Rattle.bike_operator.specs.declared.view.View.{View}
 use Rattle.bike_operator.specs.Operator.{Operator}
 use Rattle.bike_operator.specs.View.{view_of}
 use Rattle.bike_operator.specs.Changes.{Decides}
-use Rattle.bike_operator.specs.Runs.{key_in, accepted}
+use Rattle.bike_operator.specs.Runs.{key_in, after_acceptance}
 use Rattle.bike_operator.specs.Sound.{IsSound}
 use Rattle.bike_book.specs.declared.row_change.RowChange.{RowChange}
 use Rattle.bike_book.specs.Stored.{Listed}
@@ -44,5 +44,5 @@ pub record Accepts (s : Operator) (now : ℕ) (q : Request) (meta : MetaRow) (vi
   pub view_is : view ≡ view_of s q.command
   pub reply : Reply
   pub decides : Decides s now q.command (Ok (record { reply = reply; entry = entry; changes = changes }))
-  pub sound_after : IsSound (accepted s now q)
+  pub sound_after : IsSound (after_acceptance s now q)
   pub texts_are : AreTexts s now q texts

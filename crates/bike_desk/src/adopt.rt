@@ -7,7 +7,7 @@ ghost use Rattle.sqlite_trees.specs.View.{doubt};
 ghost use Rattle.bike_operator.specs.Operator.{Operator};
 ghost use Rattle.bike_schema.specs.Tables.{HasNone};
 ghost use Rattle.bike_schema.specs.Stands.{AllLeft, TreesStandFor};
-ghost use Rattle.bike_desk.specs.Desk.{shown};
+ghost use Rattle.bike_desk.specs.Desk.{desk_state};
 ghost use Rattle.bike_desk.specs.Adoption.{handed, failed, found_as, Adopts, Begins, IsOfStatement};
 
 use crate::desk::Desk;
@@ -95,9 +95,9 @@ impl<S: Alter> Desk<S> {
     fn begin(mut conn: Connection<S>) -> Result<Desk<S>, AdoptFault<S>>
         requires { conn.in_transaction ≡ false }
         ensures clean { MatchResult result
-            (λ d. doubt (state S.Store conn).is_clean ≤ doubt (shown S.Store d).is_clean)
+            (λ d. doubt (state S.Store conn).is_clean ≤ doubt (desk_state S.Store d).is_clean)
             (λ e. doubt (state S.Store conn).is_clean ≤ doubt (state S.Store (handed e)).is_clean) }
-        ensures begun { HasNone (state S.Store conn).now.schema → IfOk result (λ d. HasCleanDisk (shown S.Store d) → Begins S.Store conn d) }
+        ensures begun { HasNone (state S.Store conn).now.schema → IfOk result (λ d. HasCleanDisk (desk_state S.Store d) → Begins S.Store conn d) }
         ensures told { IfErr result (IsOfStatement S.Store conn) }
         ensures autocommit { IfErr result (λ e. (handed e).in_transaction ≡ false) }
         ensures left { HasNone (state S.Store conn).now.schema → (s : Operator) → TreesStandFor s (state S.Store conn).now.trees

@@ -6,7 +6,7 @@ ghost use Rattle.sqlite_trees.specs.View.{doubt};
 ghost use Rattle.bike_operator.specs.Operator.{Operator};
 ghost use Rattle.bike_operator.specs.Runs.{step};
 ghost use Rattle.bike_schema.specs.Stands.{AllLeft};
-ghost use Rattle.bike_desk.specs.Desk.{shown, IsAt, TreesStandForEither};
+ghost use Rattle.bike_desk.specs.Desk.{desk_state, IsAt, TreesStandForEither};
 
 use crate::fault::DeskFault;
 use crate::serve::serve;
@@ -77,13 +77,13 @@ impl<S: Alter> Desk<S> {
         moment: Moment,
         request: &Request,
     ) -> Result<Reply, DeskFault>
-        ensures clean { doubt (shown S.Store self.old).is_clean ≤ doubt (shown S.Store self.new).is_clean }
-        ensures ok { HasCleanDisk (shown S.Store self.new) → (s : Operator) → IsAt S.Store self.old s
+        ensures clean { doubt (desk_state S.Store self.old).is_clean ≤ doubt (desk_state S.Store self.new).is_clean }
+        ensures ok { HasCleanDisk (desk_state S.Store self.new) → (s : Operator) → IsAt S.Store self.old s
             → IfOk result (λ reply. (reply ≡ (step s moment request.now).0) × IsAt S.Store self.new (step s moment request.now).1) }
         ensures goes_on { OnOk result (self.new.is_stopped ≡ false) }
         ensures no_memory { result ≡ Err DeskFault.NoMemory → self.new ≡ self.old }
-        ensures store_failed { HasCleanDisk (shown S.Store self.new) → (s : Operator) → IsAt S.Store self.old s
-            → result ≡ Err DeskFault.StoreFailed → AllLeft (shown S.Store self.new) (TreesStandForEither s (step s moment request.now).1) }
+        ensures store_failed { HasCleanDisk (desk_state S.Store self.new) → (s : Operator) → IsAt S.Store self.old s
+            → result ≡ Err DeskFault.StoreFailed → AllLeft (desk_state S.Store self.new) (TreesStandForEither s (step s moment request.now).1) }
         ensures stops { result ≡ Err DeskFault.StoreFailed → IsTrue self.new.is_stopped }
         ensures stopped { result ≡ Err DeskFault.Stopped → IsTrue self.old.is_stopped }
         ensures stays { IsTrue self.old.is_stopped → (result ≡ Err DeskFault.Stopped) × (self.new ≡ self.old) }

@@ -2,7 +2,7 @@
 
 ghost use Rattle.std.specs.Prelude.{◌≡◌, ◌≢◌, Err};
 ghost use Rattle.std.specs.FinMap as map;
-ghost use Rattle.bike_operator.specs.Operator.{numbered};
+ghost use Rattle.bike_operator.specs.Operator.{item_numbered};
 ghost use Rattle.bike_queries.specs.Infos.{balance_at, place_at, rental_info_at, rider_info_at};
 ghost use Rattle.bike_queries.specs.StationCounts.{AreCountsAt};
 ghost use Rattle.bike_desk.specs.Queries.{Queries, TellsOf};
@@ -105,7 +105,7 @@ impl<S: Alter> Desk<S> {
 
     /// The order of a truck.
     pub fn order(&mut self, alloc: Global, order: OrderNumber) -> Result<Option<Order>, DeskFault>
-        ensures query { Queries S.Store self.old self.new result (λ s x. x ≡ numbered order s.orders) }
+        ensures query { Queries S.Store self.old self.new result (λ s x. x ≡ item_numbered order s.orders) }
         ensures takes_none { result ≢ Err DeskFault.NoMemory }
     {
         if self.stopped() {

@@ -5,7 +5,7 @@ ghost use Rattle.sqlite.specs.State.{HasCleanDisk};
 ghost use Rattle.sqlite_trees.specs.View.{doubt};
 ghost use Rattle.bike_operator.specs.Operator.{Operator};
 ghost use Rattle.bike_schema.specs.Stands.{AllLeft};
-ghost use Rattle.bike_desk.specs.Desk.{shown, IsAt};
+ghost use Rattle.bike_desk.specs.Desk.{desk_state, IsAt};
 ghost use Rattle.bike_desk.specs.Runs.{Ran, IsAfterFront, StopsBy};
 
 use crate::desk::Desk;
@@ -41,11 +41,11 @@ impl<S: Alter> Desk<S> {
     /// A stopped desk answers every list `Stopped`, the empty one too, and stays as it is; no other desk
     /// answers that.
     pub fn run_list(&mut self, alloc: Global, calls: &[(Moment, Request)]) -> Run
-        ensures clean { doubt (shown S.Store self.old).is_clean ≤ doubt (shown S.Store self.new).is_clean }
-        ensures ran { HasCleanDisk (shown S.Store self.new) → (s : Operator) → IsAt S.Store self.old s
+        ensures clean { doubt (desk_state S.Store self.old).is_clean ≤ doubt (desk_state S.Store self.new).is_clean }
+        ensures ran { HasCleanDisk (desk_state S.Store self.new) → (s : Operator) → IsAt S.Store self.old s
             → Ran S.Store self.new s calls.now result.replies.items result.end }
-        ensures front { HasCleanDisk (shown S.Store self.new) → (s : Operator) → IsAt S.Store self.old s
-            → AllLeft (shown S.Store self.new) (IsAfterFront s calls.now (length result.replies.items)) }
+        ensures front { HasCleanDisk (desk_state S.Store self.new) → (s : Operator) → IsAt S.Store self.old s
+            → AllLeft (desk_state S.Store self.new) (IsAfterFront s calls.now (length result.replies.items)) }
         ensures stops { StopsBy self.old self.new result.end }
         ensures refused { result.end ≡ Some DeskFault.Stopped → result.replies.items ≡ [] }
         ensures whole { IsNone result.end → length result.replies.items ≡ length calls.now }

@@ -9,7 +9,7 @@ ghost use Rattle.sqlite_trees.specs.View.{doubt};
 ghost use Rattle.bike_fields.specs.Caller.{caller_text};
 ghost use Rattle.bike_commands.specs.Commands.{text_of};
 ghost use Rattle.bike_operator.specs.Operator.{Operator};
-ghost use Rattle.bike_operator.specs.Runs.{step, accepted, key_in};
+ghost use Rattle.bike_operator.specs.Runs.{step, after_acceptance, key_in};
 ghost use Rattle.bike_schema.specs.Stands.{AllLeft, Keeps};
 ghost use Rattle.bike_desk.specs.Desk.{TreesStandForEither};
 ghost use Rattle.bike_desk.specs.Serving.{Accepts, IsReadFor};
@@ -68,10 +68,10 @@ fn store_accepted<'a, S: Alter>(
     ensures clean { doubt (state S.Store conn.old).is_clean ≤ doubt (state S.Store conn.new).is_clean }
     ensures made { HasCleanDisk (state S.Store conn.new) → (s : Operator) → Keeps (state S.Store conn.old) s
         → Accepts s now request.now meta.entry.now view.now entry.now changes.now texts.now
-        → OnOk result (Keeps (state S.Store conn.new) (accepted s now request.now)) }
+        → OnOk result (Keeps (state S.Store conn.new) (after_acceptance s now request.now)) }
     ensures left { HasCleanDisk (state S.Store conn.new) → (s : Operator) → Keeps (state S.Store conn.old) s
         → Accepts s now request.now meta.entry.now view.now entry.now changes.now texts.now
-        → AllLeft (state S.Store conn.new) (TreesStandForEither s (accepted s now request.now)) }
+        → AllLeft (state S.Store conn.new) (TreesStandForEither s (after_acceptance s now request.now)) }
 {
     let command = &request.command;
     let touched = find_touched(command, view);

@@ -15,7 +15,7 @@ use Rattle.bike_operator.specs.declared.records.Order.{Order}
 use Rattle.bike_operator.specs.declared.view.StationView.{StationView}
 use Rattle.bike_operator.specs.declared.view.DockedBike.{DockedBike}
 use Rattle.bike_operator.specs.declared.view.View.{View}
-use Rattle.bike_operator.specs.Operator.{Operator, Station, numbered}
+use Rattle.bike_operator.specs.Operator.{Operator, Station, item_numbered}
 use Rattle.bike_operator.specs.Counts.{is_broken, is_dock, docked_at}
 use Rattle.bike_operator.specs.View.{view_of, station_at, station_view, end_at, end_view, side_view, is_in_broken_dock, is_broken_dock, typed_bike, docked_view}
 use Rattle.bike_operator.specs.Changes.{place_of}
@@ -57,7 +57,7 @@ mark_is s (command.MarkBike bike disabled) = mark_of_bike s (map.get s.bikes bik
 mark_is s (command.Start rider station dock) = refl
 mark_is s (command.End bike station dock) = refl
 mark_is s (command.Load truck order bike) = mark_of_bike s (map.get s.bikes bike)
-mark_is s (command.Unload truck order bike side dock) = mark_of_order s (numbered order s.orders) side dock
+mark_is s (command.Unload truck order bike side dock) = mark_of_order s (item_numbered order s.orders) side dock
 mark_is s c = refl
 
 pub mark_shown : (s : Operator) (c : Command) (station : List ℕ) (dock : ℕ) → dock_touched s c ≡ Some (station, dock) → is_broken s station dock ≡ (view_of s c).is_dock_broken
@@ -97,7 +97,7 @@ station_is s (command.MarkBike bike disabled) = station_of_place s (dock_of_bike
 station_is s (command.Start rider station dock) = λ some. refl
 station_is s (command.End bike station dock) = λ some. refl
 station_is s (command.Load truck order bike) = station_of_place s (dock_of_bike (map.get s.bikes bike))
-station_is s (command.Unload truck order bike side dock) = station_of_order s (numbered order s.orders) side dock
+station_is s (command.Unload truck order bike side dock) = station_of_order s (item_numbered order s.orders) side dock
 station_is s c = tt
 
 station_known : (o : Option Station) → is_some (station_view o) ≡ true → is_some o ≡ true

@@ -10,7 +10,7 @@ use Rattle.bike_operator.specs.declared.records.Place.{Place}
 use Rattle.bike_operator.specs.declared.records.Place.TheVariants as place
 use Rattle.bike_operator.specs.declared.records.Bike.{Bike}
 use Rattle.bike_operator.specs.declared.records.Order.{Order}
-use Rattle.bike_operator.specs.Operator.{Operator, Station, dock_key, key_of, numbered}
+use Rattle.bike_operator.specs.Operator.{Operator, Station, dock_key, key_of, item_numbered}
 use Rattle.bike_operator.specs.Counts.{docked_at, available_of, docks_available, docks_broken}
 use Rattle.bike_operator.specs.View.{end_at}
 use Rattle.bike_places.specs.Numbers.{disabled_of}
@@ -55,7 +55,7 @@ dock_touched s (command.MarkBike bike disabled) = dock_of_bike (map.get s.bikes 
 dock_touched s (command.Start rider station dock) = Some (station, dock)
 dock_touched s (command.End bike station dock) = Some (station, dock)
 dock_touched s (command.Load truck order bike) = dock_of_bike (map.get s.bikes bike)
-dock_touched s (command.Unload truck order bike side dock) = dock_of_order side dock (numbered order s.orders)
+dock_touched s (command.Unload truck order bike side dock) = dock_of_order side dock (item_numbered order s.orders)
 dock_touched s c = None
 
 abbrev pub type_touched : Operator → Command → Option (List ℕ)

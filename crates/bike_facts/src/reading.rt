@@ -4,7 +4,7 @@ ghost use Rattle.std.specs.Prelude.{◌≡◌, ◌+◌, length, IfSome, true, So
 ghost use Rattle.std.specs.FinMap as map;
 ghost use Rattle.std.specs.Str.{bytes_eq};
 ghost use Rattle.bike_ledger.specs.Ledger.{balance_of, refunded_of};
-ghost use Rattle.bike_operator.specs.Operator.{Operator, numbered};
+ghost use Rattle.bike_operator.specs.Operator.{Operator, item_numbered};
 ghost use Rattle.bike_operator.specs.View.{view_of};
 
 use crate::stored::StoredNumbers;
@@ -103,7 +103,7 @@ pub fn next_order(command: &Command, view: &View) -> Option<u32>
 
 /// The order of that number, where the view shows it.
 pub fn order_read<'a>(command: &Command, view: &'a View, order: u32) -> Option<&'a Order>
-    ensures { (s : Operator) → view.now ≡ view_of s command.now → IfSome result (λ o. numbered order s.orders ≡ Some o.now) }
+    ensures { (s : Operator) → view.now ≡ view_of s command.now → IfSome result (λ o. item_numbered order s.orders ≡ Some o.now) }
 {
     match command {
         Command::Unload { order: named, .. } | Command::CloseOrder { order: named } => {

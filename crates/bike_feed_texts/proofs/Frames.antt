@@ -3,7 +3,7 @@ use Rattle.std.proofs.Common.{◌≡◌, ℕ, List, [], ◌∷◌, ◌++◌, fal
 use Rattle.std.specs.Prelude.{codes}
 use Rattle.bike_catalogue.specs.Rows.{SystemRow}
 use Rattle.bike_json.specs.Outputs.{OutputState}
-use Rattle.bike_json.specs.Escapes.{quoted}
+use Rattle.bike_json.specs.Escapes.{string_text}
 use Rattle.bike_json.specs.Tree.{Tree, Items, comma, text_of, items_text, members_text}
 use Rattle.bike_json.specs.State.{Place, Wrote, has_more}
 use Rattle.bike_json.specs.declared.level.Level.TheVariants.{Start, EmptyObject, FilledObject, NamedObject}
@@ -31,36 +31,36 @@ pub list_text : (x : SystemRow) (seconds : ℕ) (name : List ℕ) (list : Items)
     → text_of (feed_frame x seconds (listing name list)) ≡ list_head_text x seconds name ++ (items_text false list ++ list_end_text)
 list_text x seconds name list =
     frame_text x seconds (listing name list)
-    ∙ (ap (λ l. head_text x seconds ++ l) (listing_text (quoted name) (items_text false list))
-    ∙ sym (append_assoc (head_text x seconds) (123 ∷ (quoted name ++ 58 ∷ 91 ∷ [])) (items_text false list ++ list_end_text)))
+    ∙ (ap (λ l. head_text x seconds ++ l) (listing_text (string_text name) (items_text false list))
+    ∙ sym (append_assoc (head_text x seconds) (123 ∷ (string_text name ++ 58 ∷ 91 ∷ [])) (items_text false list ++ list_end_text)))
 
 -- a feed up to its data
 pub head_then : {p q r t : Place} {a b c d : OutputState} (x : SystemRow) (seconds : ℕ) → p.top ≡ Start → Wrote p q a b (comma (has_more p.top) ++ 123 ∷ [])
     → q.top ≡ EmptyObject → WroteMembers q r b c (members (head_members x seconds))
-    → r.top ≡ FilledObject → Wrote r t c d (comma (has_more r.top) ++ quoted (codes "data") ++ 58 ∷ [])
+    → r.top ≡ FilledObject → Wrote r t c d (comma (has_more r.top) ++ string_text (codes "data") ++ 58 ∷ [])
     → Wrote p t a d (head_text x seconds)
 head_then {p} {q} {r} {t} x seconds at one e two f three =
     let head = members (head_members x seconds) in
-    let named : List ℕ = comma (has_more r.top) ++ quoted (codes "data") ++ 58 ∷ [] in
+    let named : List ℕ = comma (has_more r.top) ++ string_text (codes "data") ++ 58 ∷ [] in
     Wrote_as (
     ap (λ l. ((comma (has_more l) ++ 123 ∷ []) ++ members_text (has_more q.top) head) ++ named) at
     ∙ (ap (λ l. (123 ∷ members_text (has_more l) head) ++ named) e
-    ∙ ap (λ l. (123 ∷ members_text false head) ++ (comma (has_more l) ++ quoted (codes "data") ++ 58 ∷ [])) f)
+    ∙ ap (λ l. (123 ∷ members_text false head) ++ (comma (has_more l) ++ string_text (codes "data") ++ 58 ∷ [])) f)
     ) (Wrote_then (Wrote_then one two.are) three)
 
 -- a feed up to the first item of its list
 pub list_head_then : {p q r t u : Place} {a b c d f : OutputState} (x : SystemRow) (seconds : ℕ) (name : List ℕ) → Wrote p q a b (head_text x seconds)
-    → q.top ≡ NamedObject → Wrote q r b c (comma (has_more q.top) ++ 123 ∷ []) → r.top ≡ EmptyObject → Wrote r t c d (comma (has_more r.top) ++ quoted name ++ 58 ∷ [])
+    → q.top ≡ NamedObject → Wrote q r b c (comma (has_more q.top) ++ 123 ∷ []) → r.top ≡ EmptyObject → Wrote r t c d (comma (has_more r.top) ++ string_text name ++ 58 ∷ [])
     → t.top ≡ NamedObject → Wrote t u d f (comma (has_more t.top) ++ 91 ∷ []) → Wrote p u a f (list_head_text x seconds name)
 list_head_then {p} {q} {r} {t} x seconds name one e two f three g four =
     let head = head_text x seconds in
     let first : List ℕ = comma (has_more q.top) ++ 123 ∷ [] in
-    let second : List ℕ = comma (has_more r.top) ++ quoted name ++ 58 ∷ [] in
+    let second : List ℕ = comma (has_more r.top) ++ string_text name ++ 58 ∷ [] in
     Wrote_as (
     ap (λ l. head ++ (first ++ (second ++ (comma (has_more l) ++ 91 ∷ [])))) g
-    ∙ (ap (λ l. head ++ (first ++ ((comma (has_more l) ++ quoted name ++ 58 ∷ []) ++ 91 ∷ []))) f
-    ∙ (ap (λ l. head ++ ((comma (has_more l) ++ 123 ∷ []) ++ ((quoted name ++ 58 ∷ []) ++ 91 ∷ []))) e
-    ∙ ap (λ l. head ++ 123 ∷ l) (append_assoc (quoted name) (58 ∷ []) (91 ∷ []))))
+    ∙ (ap (λ l. head ++ (first ++ ((comma (has_more l) ++ string_text name ++ 58 ∷ []) ++ 91 ∷ []))) f
+    ∙ (ap (λ l. head ++ ((comma (has_more l) ++ 123 ∷ []) ++ ((string_text name ++ 58 ∷ []) ++ 91 ∷ []))) e
+    ∙ ap (λ l. head ++ 123 ∷ l) (append_assoc (string_text name) (58 ∷ []) (91 ∷ []))))
     ) (Wrote_then one (Wrote_then two (Wrote_then three four)))
 
 -- a whole feed

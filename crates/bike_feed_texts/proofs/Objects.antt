@@ -1,7 +1,7 @@
 -- Objects that are written part by part.
 use Rattle.std.proofs.Common.{◌≡◌, ℕ, List, [], ◌∷◌, ◌++◌, Bool, true, refl, sym, ap, ◌∙◌, append_assoc, append-nil}
 use Rattle.bike_json.specs.Outputs.{OutputState}
-use Rattle.bike_json.specs.Escapes.{quoted}
+use Rattle.bike_json.specs.Escapes.{string_text}
 use Rattle.bike_json.specs.Tree.{Tree, object, Members, no_members, member, comma, text_of, members_text}
 use Rattle.bike_json.specs.State.{Place, Wrote, has_more}
 use Rattle.bike_json.specs.declared.level.Level.TheVariants.{EmptyObject, FilledObject, NamedObject}
@@ -10,26 +10,26 @@ use Rattle.bike_json.proofs.Rows.{wrote_nothing}
 use Rattle.bike_feed_texts.specs.Elements.{NamedTree, members}
 use Rattle.bike_feed_texts.specs.Writing.{WroteValue, WroteMember, WroteMembers}
 
-member_text : (more : Bool) (name value rest : List ℕ) → (comma more ++ (quoted name ++ 58 ∷ value)) ++ rest ≡ comma more ++ (quoted name ++ 58 ∷ (value ++ rest))
+member_text : (more : Bool) (name value rest : List ℕ) → (comma more ++ (string_text name ++ 58 ∷ value)) ++ rest ≡ comma more ++ (string_text name ++ 58 ∷ (value ++ rest))
 member_text more name value rest =
-    append_assoc (comma more) (quoted name ++ 58 ∷ value) rest ∙ ap (λ l. comma more ++ l) (append_assoc (quoted name) (58 ∷ value) rest)
+    append_assoc (comma more) (string_text name ++ 58 ∷ value) rest ∙ ap (λ l. comma more ++ l) (append_assoc (string_text name) (58 ∷ value) rest)
 
-named_text : (more : Bool) (name value : List ℕ) → (comma more ++ quoted name ++ 58 ∷ []) ++ value ≡ comma more ++ (quoted name ++ 58 ∷ value)
-named_text more name value = append_assoc (comma more ++ quoted name) (58 ∷ []) value ∙ append_assoc (comma more) (quoted name) (58 ∷ value)
+named_text : (more : Bool) (name value : List ℕ) → (comma more ++ string_text name ++ 58 ∷ []) ++ value ≡ comma more ++ (string_text name ++ 58 ∷ value)
+named_text more name value = append_assoc (comma more ++ string_text name) (58 ∷ []) value ∙ append_assoc (comma more) (string_text name) (58 ∷ value)
 
 -- a name and then its value
 pub name_then : {p q r : Place} {a b c : OutputState} {name : List ℕ} {value : Tree}
-    → Wrote p q a b (comma (has_more p.top) ++ quoted name ++ 58 ∷ []) → q.top ≡ NamedObject → Wrote q r b c (comma (has_more q.top) ++ text_of value)
+    → Wrote p q a b (comma (has_more p.top) ++ string_text name ++ 58 ∷ []) → q.top ≡ NamedObject → Wrote q r b c (comma (has_more q.top) ++ text_of value)
     → WroteMember p r a c name value
 name_then {p} {q} {r} {a} {b} {c} {name} {value} w e v = record {
   are =
-      let first : List ℕ = comma (has_more p.top) ++ quoted name ++ 58 ∷ [] in
+      let first : List ℕ = comma (has_more p.top) ++ string_text name ++ 58 ∷ [] in
       Wrote_as (ap (λ l. first ++ (comma (has_more l) ++ text_of value)) e ∙ named_text (has_more p.top) name (text_of value)) (Wrote_then w v);
 }
 
 -- a name and then its value, which was written by a call of its own
 pub name_value : {p q r : Place} {a b c : OutputState} {name : List ℕ} {value : Tree}
-    → Wrote p q a b (comma (has_more p.top) ++ quoted name ++ 58 ∷ []) → q.top ≡ NamedObject → WroteValue q r b c value → WroteMember p r a c name value
+    → Wrote p q a b (comma (has_more p.top) ++ string_text name ++ 58 ∷ []) → q.top ≡ NamedObject → WroteValue q r b c value → WroteMember p r a c name value
 name_value w e v = name_then w e v.are
 
 -- one member before others
@@ -37,7 +37,7 @@ pub member_then : {p q r : Place} {a b c : OutputState} {name : List ℕ} {value
     → WroteMember p q a b name value → q.top ≡ FilledObject → WroteMembers q r b c rest → WroteMembers p r a c (member name value rest)
 member_then {p} {q} {r} {a} {b} {c} {name} {value} {rest} w e more = record {
   are =
-      let first : List ℕ = comma (has_more p.top) ++ (quoted name ++ 58 ∷ text_of value) in
+      let first : List ℕ = comma (has_more p.top) ++ (string_text name ++ 58 ∷ text_of value) in
       Wrote_as (ap (λ l. first ++ members_text (has_more l) rest) e ∙ member_text (has_more p.top) name (text_of value) (members_text true rest)) (Wrote_then w.are more.are);
 }
 
@@ -45,7 +45,7 @@ member_then {p} {q} {r} {a} {b} {c} {name} {value} {rest} w e more = record {
 pub member_last : {p q : Place} {a b : OutputState} {name : List ℕ} {value : Tree}
     → WroteMember p q a b name value → WroteMembers p q a b (member name value no_members)
 member_last {p} {q} {a} {b} {name} {value} w = record {
-  are = Wrote_as (ap (λ l. comma (has_more p.top) ++ (quoted name ++ 58 ∷ l)) (sym (append-nil (text_of value)))) w.are;
+  are = Wrote_as (ap (λ l. comma (has_more p.top) ++ (string_text name ++ 58 ∷ l)) (sym (append-nil (text_of value)))) w.are;
 }
 
 pub members_none : (p : Place) (a : OutputState) → WroteMembers p p a a no_members
@@ -55,8 +55,8 @@ members_text-append : (ms ns : List NamedTree) → members_text true (members (m
 members_text-append [] ns = refl
 members_text-append (m ∷ ms) ns =
     let rest = members_text true (members ms) in
-    ap (λ l. comma true ++ (quoted m.0 ++ 58 ∷ (text_of m.1 ++ l))) (members_text-append ms ns)
-    ∙ ap (λ l. comma true ++ (quoted m.0 ++ 58 ∷ l)) (sym (append_assoc (text_of m.1) rest (members_text true (members ns))))
+    ap (λ l. comma true ++ (string_text m.0 ++ 58 ∷ (text_of m.1 ++ l))) (members_text-append ms ns)
+    ∙ ap (λ l. comma true ++ (string_text m.0 ++ 58 ∷ l)) (sym (append_assoc (text_of m.1) rest (members_text true (members ns))))
     ∙ sym (member_text true m.0 (text_of m.1 ++ rest) (members_text true (members ns)))
 
 -- members, of which there may be none, before others

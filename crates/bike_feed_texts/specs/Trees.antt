@@ -5,7 +5,7 @@ use Rattle.bike_catalogue.specs.Rows.{TypeRow, SystemRow}
 use Rattle.bike_json.specs.Tree.{Tree, array, text, whole, Items, no_items, item}
 use Rattle.bike_json.specs.Rows.{items}
 use Rattle.bike_operator.specs.Operator.{Operator, Station}
-use Rattle.bike_operator.specs.Counts.{available, available_of, disabled, docks_available, docks_broken}
+use Rattle.bike_operator.specs.Counts.{available, available_of, disabled_bikes, docks_available, docks_broken}
 use Rattle.bike_feed_texts.specs.declared.feed.Feed.{Feed}
 use Rattle.bike_feed_texts.specs.declared.feed.Feed.TheVariants.{Gbfs, SystemInformation, VehicleTypes, StationInformation, StationStatus, SystemPricingPlans}
 use Rattle.bike_feed_texts.specs.declared.status.TypeCount.{TypeCount}
@@ -45,7 +45,7 @@ abbrev pub counts_of : Operator → Station → CountsRow
 counts_of s x = record {
   available = available s x.row.station_id;
   by_type = counts_by_type s x.row.station_id;
-  disabled = disabled s x.row.station_id;
+  disabled = disabled_bikes s x.row.station_id;
   docks_available = docks_available s x.row.station_id x.row.docks;
   docks_disabled = docks_broken s x.row.station_id x.row.docks;
 }

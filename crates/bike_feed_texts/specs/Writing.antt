@@ -2,7 +2,7 @@
 use Rattle.std.specs.Prelude.{ℕ, List, [], ◌∷◌, ◌++◌, false, codes}
 use Rattle.bike_catalogue.specs.Rows.{SystemRow}
 use Rattle.bike_json.specs.Outputs.{OutputState}
-use Rattle.bike_json.specs.Escapes.{quoted}
+use Rattle.bike_json.specs.Escapes.{string_text}
 use Rattle.bike_json.specs.Tree.{Tree, Members, comma, text_of, members_text}
 use Rattle.bike_json.specs.State.{Place, Wrote, has_more}
 use Rattle.bike_json.specs.declared.level.Level.{Level}
@@ -18,7 +18,7 @@ pub record WroteValue (from to : Place) (old new : OutputState) (value : Tree) :
 
 -- a member was written
 pub record WroteMember (from to : Place) (old new : OutputState) (name : List ℕ) (value : Tree) : Type 0 where
-  pub are : Wrote from to old new (comma (has_more from.top) ++ (quoted name ++ 58 ∷ text_of value))
+  pub are : Wrote from to old new (comma (has_more from.top) ++ (string_text name ++ 58 ∷ text_of value))
 
 -- members were written
 pub record WroteMembers (from to : Place) (old new : OutputState) (all : Members) : Type 0 where
@@ -26,11 +26,11 @@ pub record WroteMembers (from to : Place) (old new : OutputState) (all : Members
 
 -- a feed up to its data
 abbrev pub head_text : SystemRow → ℕ → List ℕ
-head_text x seconds = 123 ∷ (members_text false (members (head_members x seconds)) ++ 44 ∷ (quoted (codes "data") ++ 58 ∷ []))
+head_text x seconds = 123 ∷ (members_text false (members (head_members x seconds)) ++ 44 ∷ (string_text (codes "data") ++ 58 ∷ []))
 
 -- a feed up to the first element of its list, and behind the last
 abbrev pub list_head_text : SystemRow → ℕ → List ℕ → List ℕ
-list_head_text x seconds name = head_text x seconds ++ 123 ∷ (quoted name ++ 58 ∷ 91 ∷ [])
+list_head_text x seconds name = head_text x seconds ++ 123 ∷ (string_text name ++ 58 ∷ 91 ∷ [])
 
 abbrev pub list_end_text : List ℕ
 list_end_text = 93 ∷ 125 ∷ 125 ∷ []

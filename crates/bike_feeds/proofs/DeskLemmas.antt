@@ -5,7 +5,7 @@ use Rattle.sqlite_trees.specs.declared.store.Store.{Ghosts}
 use Rattle.sqlite.specs.State.{HasCleanDisk}
 use Rattle.bike_operator.specs.Operator.{Operator}
 use Rattle.bike_desk.specs.declared.fault.DeskFault.{DeskFault}
-use Rattle.bike_desk.specs.Desk.{DeskValue, shown, IsAt}
+use Rattle.bike_desk.specs.Desk.{DeskValue, desk_state, IsAt}
 use Rattle.bike_desk.specs.Queries.{Queries}
 use Rattle.bike_feeds.specs.declared.fault.FeedFault.{FeedFault}
 use Rattle.bike_feeds.specs.declared.fault.FeedFault.TheVariants.{SystemMissing, Write, Desk}
@@ -23,7 +23,7 @@ going_only : (stopped : Bool) → stopped ≡ false → IsTrue stopped → ⊥
 going_only stopped going is_stopped = let e : true ≡ false = sym is_stopped ∙ going in absurd cc
 
 module _ {S : Type 0} (g : Ghosts S) where
-  pub earlier : (d e : DeskValue S) → doubt (shown g d).is_clean ≤ doubt (shown g e).is_clean → HasCleanDisk (shown g e) → HasCleanDisk (shown g d)
+  pub earlier : (d e : DeskValue S) → doubt (desk_state g d).is_clean ≤ doubt (desk_state g e).is_clean → HasCleanDisk (desk_state g e) → HasCleanDisk (desk_state g d)
   earlier d e le clean = omega (arith, le, clean)
 
   -- nothing was asked
@@ -106,7 +106,7 @@ module _ {S : Type 0} (g : Ghosts S) where
   left_well x going l = record { clean = l.clean; same = l.same; left = l.left; went_on = going; goes_on = l.goes_on }
 
   -- no system is set
-  pub leaves_missing : {A : Type 0} {d e : DeskValue S} → StaysAt g d e → (HasCleanDisk (shown g e) → (s : Operator) → IsAt g d s → s.system ≡ None)
+  pub leaves_missing : {A : Type 0} {d e : DeskValue S} → StaysAt g d e → (HasCleanDisk (desk_state g e) → (s : Operator) → IsAt g d s → s.system ≡ None)
       → LeavesDesk g d e {A = A} (Err SystemMissing)
   leaves_missing p none = record {
     clean = p.clean;

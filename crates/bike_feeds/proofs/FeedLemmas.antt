@@ -16,7 +16,7 @@ use Rattle.bike_feed_texts.specs.declared.feed.Feed.{Feed}
 use Rattle.bike_feed_texts.specs.Trees.{feed_tree}
 use Rattle.bike_feed_texts.specs.Writing.{WroteValue}
 use Rattle.bike_operator.specs.Operator.{Operator}
-use Rattle.bike_desk.specs.Desk.{DeskValue, shown, IsAt}
+use Rattle.bike_desk.specs.Desk.{DeskValue, desk_state, IsAt}
 use Rattle.bike_desk.specs.Queries.{Queries}
 use Rattle.bike_feeds.specs.declared.fault.FeedFault.{FeedFault}
 use Rattle.bike_feeds.specs.declared.fault.FeedFault.TheVariants.{SystemMissing, Write}
@@ -102,7 +102,7 @@ module _ {S : Type 0} (g : Ghosts S) {d e : DeskValue S} (o : Option SystemRow) 
   pub publish_missing : {A : Type 0} → o ≡ None → LeavesDesk g d e {A = A} (Err SystemMissing)
   publish_missing none = leaves_missing g asked (λ clean s at. sym (q.ok clean s at).0 ∙ none)
 
-  has : (x : SystemRow) → o ≡ Some x → HasCleanDisk (shown g e) → (s : Operator) → IsAt g d s → s.system ≡ Some x
+  has : (x : SystemRow) → o ≡ Some x → HasCleanDisk (desk_state g e) → (s : Operator) → IsAt g d s → s.system ≡ Some x
   has x is clean s at = sym (q.ok clean s at).0 ∙ is
 
   pub publish_leaves : {A : Type 0} {f : DeskValue S} {a b : OutputState} {count : ℕ} {result : Result A FeedFault} {text : Operator → List ℕ}
@@ -111,17 +111,17 @@ module _ {S : Type 0} (g : Ghosts S) {d e : DeskValue S} (o : Option SystemRow) 
 
   module _ {A : Type 0} {f : DeskValue S} (x : SystemRow) (is : o ≡ Some x) (feed : Feed) (moment : ℕ) {a b : OutputState} {count : ℕ} (result : Result A FeedFault)
       (w : WritesText g e f a b count result (λ s. feed_text s x feed moment)) where
-    pub publish_whole : HasCleanDisk (shown g f) → (s : Operator) → IsAt g d s → OnOk result (IsCounted s feed moment a.bytes b.bytes count)
+    pub publish_whole : HasCleanDisk (desk_state g f) → (s : Operator) → IsAt g d s → OnOk result (IsCounted s feed moment a.bytes b.bytes count)
     publish_whole clean s at =
         let before = earlier g e f w.desk.clean clean in
         counted s x feed moment a.bytes b.bytes count result (has x is before s at) (w.whole clean s (asked.same before s at))
 
-    pub publish_front : HasCleanDisk (shown g f) → (s : Operator) → IsAt g d s → OnErr result (IsBegun s feed moment a.bytes b.bytes)
+    pub publish_front : HasCleanDisk (desk_state g f) → (s : Operator) → IsAt g d s → OnErr result (IsBegun s feed moment a.bytes b.bytes)
     publish_front clean s at =
         let before = earlier g e f w.desk.clean clean in
         begun s x feed moment a.bytes b.bytes result (has x is before s at) (w.front clean s (asked.same before s at))
 
-    pub publish_cause : HasCleanDisk (shown g f) → (s : Operator) → IsAt g d s → result ≡ Err Write → MayFailToWrite a s feed moment
+    pub publish_cause : HasCleanDisk (desk_state g f) → (s : Operator) → IsAt g d s → result ≡ Err Write → MayFailToWrite a s feed moment
     publish_cause clean s at failed =
         let before = earlier g e f w.desk.clean clean in
         why_failed s x feed moment a (has x is before s at) (w.cause clean s (asked.same before s at) failed)

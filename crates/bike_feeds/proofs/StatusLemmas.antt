@@ -19,7 +19,7 @@ use Rattle.bike_queries.specs.After.{IsNext, first_after, station_of}
 use Rattle.bike_queries.specs.declared.counts.Counts.{Counts}
 use Rattle.bike_queries.specs.declared.status.StationStatus.{StationStatus}
 use Rattle.bike_queries.specs.StationCounts.{AreCountsOf, AreCountsFor, AreCountsAt, IsNextStatus, type_count}
-use Rattle.bike_desk.specs.Desk.{DeskValue, shown, IsAt}
+use Rattle.bike_desk.specs.Desk.{DeskValue, desk_state, IsAt}
 use Rattle.bike_desk.specs.Queries.{Queries}
 use Rattle.bike_desk.proofs.KeepLemmas.{kept_stores}
 use Rattle.bike_feeds.specs.Walking.{StaysAt, shown_counts}
@@ -55,8 +55,8 @@ tree s x = status_tree (report_of x) (counts_of s x)
 module _ {S : Type 0} (g : Ghosts S) where
   -- These are the identifiers of the operator's types, and the counts are those of the station that was answered.
   pub record HasCounts (ids : List (List ℕ)) (next : Option StationStatus) (old new : DeskValue S) : Type 0 where
-    pub types : HasCleanDisk (shown g new) → (s : Operator) → IsAt g old s → ids ≡ keys s.types
-    pub counts : HasCleanDisk (shown g new) → (s : Operator) → IsAt g old s
+    pub types : HasCleanDisk (desk_state g new) → (s : Operator) → IsAt g old s → ids ≡ keys s.types
+    pub counts : HasCleanDisk (desk_state g new) → (s : Operator) → IsAt g old s
         → IfSome next (λ x. AreCountsAt s x.info.station.station_id (Some x.counts))
 
   -- what the query tells of a station, where the types are known
@@ -71,7 +71,7 @@ module _ {S : Type 0} (g : Ghosts S) where
       → Queries g d e (Ok answer) (λ s x. items x ≡ keys s.types)
       → Queries g e f (Ok next) (λ s. IsNextStatus s lent (first_after after s.stations)) → HasCounts (items answer) next d f
   counts_begin {d = d} {e = e} {f = f} items answer after next same types query =
-      let named = λ (clean : HasCleanDisk (shown g f)) (s : Operator) (at : IsAt g d s). types.ok (earlier g e f query.clean clean) s at in record {
+      let named = λ (clean : HasCleanDisk (desk_state g f)) (s : Operator) (at : IsAt g d s). types.ok (earlier g e f query.clean clean) s at in record {
         types = λ clean s at. (named clean s at).0;
         counts = λ clean s at.
             counts_next s _ (first_after after s.stations) next (same ∙ (named clean s at).0) (query.ok clean s (named clean s at).1).0;
@@ -81,7 +81,7 @@ module _ {S : Type 0} (g : Ghosts S) where
   pub counts_go : {d e f : DeskValue S} {ids lent : List (List ℕ)} {was : Option StationStatus} (after : Option (List ℕ))
       (next : Option StationStatus) → lent ≡ ids → StaysAt g d e → HasCounts ids was d e → Queries g e f (Ok next) (λ s. IsNextStatus s lent (first_after after s.stations)) → HasCounts ids next d f
   counts_go {d = d} {e = e} {f = f} after next same stays has query =
-      let named = λ (clean : HasCleanDisk (shown g f)) (s : Operator) (at : IsAt g d s). has.types (earlier g e f query.clean clean) s at in record {
+      let named = λ (clean : HasCleanDisk (desk_state g f)) (s : Operator) (at : IsAt g d s). has.types (earlier g e f query.clean clean) s at in record {
         types = named;
         counts = λ clean s at.
             let before = stays.same (earlier g e f query.clean clean) s at in
@@ -99,5 +99,5 @@ module _ {S : Type 0} (g : Ghosts S) where
       let station = station_of x.info in
       let found = first_found s station it.front it.rest it.split it.first in
       let are = subst (λ (o : Option Station). AreCountsFor s station.row.station_id o (Some x.counts)) found (has.counts clean s at) in
-      let same = counts_same s (kept_stores (shown g e) s (w.stays.same clean s at).keeps).sound station x.counts are in
+      let same = counts_same s (kept_stores (desk_state g e) s (w.stays.same clean s at).keeps).sound station x.counts are in
       subst (λ t. WroteValue q r b c (status_tree (report_of station) t)) same wrote) place

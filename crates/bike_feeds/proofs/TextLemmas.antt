@@ -15,7 +15,7 @@ use Rattle.bike_feed_texts.specs.Writing.{list_head_text, list_end_text}
 use Rattle.bike_feed_texts.specs.Trees.{feed_frame, listing}
 use Rattle.bike_feed_texts.proofs.Frames.{list_text}
 use Rattle.bike_operator.specs.Operator.{Operator}
-use Rattle.bike_desk.specs.Desk.{DeskValue, shown, IsAt}
+use Rattle.bike_desk.specs.Desk.{DeskValue, desk_state, IsAt}
 use Rattle.bike_feeds.specs.declared.fault.FeedFault.{FeedFault}
 use Rattle.bike_feeds.specs.declared.fault.FeedFault.TheVariants.{Write}
 use Rattle.bike_feeds.specs.Publishing.{LeavesDesk}
@@ -34,7 +34,7 @@ list_ends a b head list tail same more (inr most) = inr (omega (arith, length-ap
 module _ {S : Type 0} (g : Ghosts S) (text : Operator → List ℕ) where
   -- all was written from the outset, and the desk stays
   pub text_told : {A B : Type 0} {d e : DeskValue S} {p t : Place} {a b : OutputState} (x : A) (u : B) → p ≡ outset → LeavesDesk g d e (Ok u)
-      → (HasCleanDisk (shown g e) → (s : Operator) → IsAt g d s → Wrote p t a b (text s)) → d.is_stopped ≡ false → true ≡ not t.failed
+      → (HasCleanDisk (desk_state g e) → (s : Operator) → IsAt g d s → Wrote p t a b (text s)) → d.is_stopped ≡ false → true ≡ not t.failed
       → WritesText g d e a b t.count (Ok x) text
   text_told {p = p} {t = t} x u start leaves wrote going well = record {
     desk = leaves_ok g x (left_well g u going leaves);
@@ -48,7 +48,7 @@ module _ {S : Type 0} (g : Ghosts S) (text : Operator → List ℕ) where
 
   -- a write failed
   pub text_cut : {A B : Type 0} {d e : DeskValue S} {p t : Place} {a b : OutputState} {count : ℕ} (u : B) → p ≡ outset → LeavesDesk g d e (Ok u)
-      → (HasCleanDisk (shown g e) → (s : Operator) → IsAt g d s → Wrote p t a b (text s)) → d.is_stopped ≡ false → false ≡ not t.failed
+      → (HasCleanDisk (desk_state g e) → (s : Operator) → IsAt g d s → Wrote p t a b (text s)) → d.is_stopped ≡ false → false ≡ not t.failed
       → WritesText g d e a b count {A = A} (Err Write) text
   text_cut {A} {a = a} u start leaves wrote going failed = record {
     desk = leaves_write g (left_well g u going leaves);
@@ -73,7 +73,7 @@ module _ {S X : Type 0} (g : Ghosts S) (x : SystemRow) (moment : ℕ) (name : Li
 
   -- the head, all elements and the end
   list_wrote : {A : Type 0} {d e : DeskValue S} {p q r t : Place} {a b c f : OutputState} (u : A) → Wrote p q a b (list_head_text x moment name)
-      → WritesItems g d e q r b c (Ok u) tree rows → Wrote r t c f list_end_text → HasCleanDisk (shown g e) → (s : Operator) → IsAt g d s → Wrote p t a f (text s)
+      → WritesItems g d e q r b c (Ok u) tree rows → Wrote r t c f list_end_text → HasCleanDisk (desk_state g e) → (s : Operator) → IsAt g d s → Wrote p t a f (text s)
   list_wrote u head them end clean s at = Wrote_as (sym (is s)) (Wrote_then head (Wrote_then (them.all clean s at) end))
 
   pub list_done : {A B : Type 0} {d e : DeskValue S} {p q r t : Place} {a b c f : OutputState} (v : B) (u : A) → p ≡ outset → Wrote p q a b (list_head_text x moment name)

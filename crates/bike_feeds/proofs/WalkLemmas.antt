@@ -18,7 +18,7 @@ use Rattle.bike_feed_texts.specs.Writing.{WroteValue}
 use Rattle.bike_operator.specs.Operator.{Operator, text_cmp}
 use Rattle.bike_queries.specs.After.{IsNext, first_after}
 use Rattle.bike_desk.specs.declared.fault.DeskFault.{DeskFault}
-use Rattle.bike_desk.specs.Desk.{DeskValue, shown, IsAt}
+use Rattle.bike_desk.specs.Desk.{DeskValue, desk_state, IsAt}
 use Rattle.bike_desk.specs.Queries.{Queries}
 use Rattle.bike_feeds.specs.declared.fault.FeedFault.{FeedFault}
 use Rattle.bike_feeds.specs.declared.fault.FeedFault.TheVariants.{Write, Desk}
@@ -88,14 +88,14 @@ module _ {S X : Type 0} (g : Ghosts S) (id : X → List ℕ) (tree : Operator �
     pub stays : StaysAt g old new
     pub inside : IsTrue (takes_array_end to.top)
     pub round : to.round ≡ from.round
-    pub ahead : HasCleanDisk (shown g new) → (s : Operator) → IsAt g old s → IsAhead s next from to before after
+    pub ahead : HasCleanDisk (desk_state g new) → (s : Operator) → IsAt g old s → IsAhead s next from to before after
 
   -- after an element was written
   pub record Passes (x : X) (old new : DeskValue S) (from to : Place) (before after : OutputState) : Type 0 where
     pub stays : StaysAt g old new
     pub inside : IsTrue (takes_array_end to.top)
     pub round : to.round ≡ from.round
-    pub behind : HasCleanDisk (shown g new) → (s : Operator) → IsAt g old s → IsBehind s x from to before after
+    pub behind : HasCleanDisk (desk_state g new) → (s : Operator) → IsAt g old s → IsBehind s x from to before after
 
   -- the first answer, behind other questions
   pub walk_begins_behind : {A : Type 0} {says : Operator → A → Type 0} {d e f : DeskValue S} {p : Place} {a : OutputState}
@@ -135,7 +135,7 @@ module _ {S X : Type 0} (g : Ghosts S) (id : X → List ℕ) (tree : Operator �
     }
 
   pub walk_writes : {d e : DeskValue S} {p q r : Place} {a b c : OutputState} (x : X) → Walks (Some x) d e p q a b
-      → (HasCleanDisk (shown g e) → (s : Operator) → IsAt g d s → WroteValue q r b c (tree s x)) → IsIn r (after_value q.top) q.round → Passes x d e p r a c
+      → (HasCleanDisk (desk_state g e) → (s : Operator) → IsAt g d s → WroteValue q r b c (tree s x)) → IsIn r (after_value q.top) q.round → Passes x d e p r a c
   walk_writes {q = q} x w wrote at = record {
     stays = w.stays;
     inside = subst (λ l. IsTrue (takes_array_end l)) (sym at.0) (still_inside q.top w.inside);

@@ -15,16 +15,16 @@ use Rattle.bike_feed_texts.specs.declared.feed.Feed.{Feed}
 use Rattle.bike_feed_texts.specs.Elements.{CountsRow}
 use Rattle.bike_queries.specs.declared.counts.Counts.{Counts}
 use Rattle.bike_schema.specs.Stands.{AllLeft}
-use Rattle.bike_desk.specs.Desk.{DeskValue, shown, IsAt}
+use Rattle.bike_desk.specs.Desk.{DeskValue, desk_state, IsAt}
 use Rattle.bike_feeds.specs.declared.fault.FeedFault.{FeedFault}
 use Rattle.bike_feeds.specs.declared.fault.FeedFault.TheVariants.{Write}
 use Rattle.bike_feeds.specs.Publishing.{LeavesDesk, feed_text}
 
 -- the desk was asked, goes on, and is at the operator at whom it was
 pub record StaysAt {S : Type 0} (g : Ghosts S) (old new : DeskValue S) : Type 0 where
-  pub clean : doubt (shown g old).is_clean ≤ doubt (shown g new).is_clean
-  pub same : HasCleanDisk (shown g new) → (s : Operator) → IsAt g old s → IsAt g new s
-  pub left : HasCleanDisk (shown g new) → (s : Operator) → IsAt g old s → AllLeft (shown g new) (shown g old).may_leave
+  pub clean : doubt (desk_state g old).is_clean ≤ doubt (desk_state g new).is_clean
+  pub same : HasCleanDisk (desk_state g new) → (s : Operator) → IsAt g old s → IsAt g new s
+  pub left : HasCleanDisk (desk_state g new) → (s : Operator) → IsAt g old s → AllLeft (desk_state g new) (desk_state g old).may_leave
   pub went_on : old.is_stopped ≡ false
   pub goes_on : new.is_stopped ≡ false
 
@@ -36,9 +36,9 @@ MayEnd output count bytes = IsTrue output.may_refuse ⊎ (greatest_count ≤ cou
 pub record WritesItems {S X : Type 0} (g : Ghosts S) (old new : DeskValue S) (from to : Place) (before after : OutputState) {A : Type 0} (result : Result A FeedFault)
     (tree : Operator → X → Tree) (rows : Operator → List X) : Type 0 where
   pub desk : LeavesDesk g old new result
-  pub all : HasCleanDisk (shown g new) → (s : Operator) → IsAt g old s → OnOk result (Wrote from to before after (items_text false (items (tree s) (rows s))))
-  pub front : HasCleanDisk (shown g new) → (s : Operator) → IsAt g old s → OnErr result (WroteFront from to before after (items_text false (items (tree s) (rows s))))
-  pub cause : HasCleanDisk (shown g new) → (s : Operator) → IsAt g old s → from.failed ≡ false → result ≡ Err Write
+  pub all : HasCleanDisk (desk_state g new) → (s : Operator) → IsAt g old s → OnOk result (Wrote from to before after (items_text false (items (tree s) (rows s))))
+  pub front : HasCleanDisk (desk_state g new) → (s : Operator) → IsAt g old s → OnErr result (WroteFront from to before after (items_text false (items (tree s) (rows s))))
+  pub cause : HasCleanDisk (desk_state g new) → (s : Operator) → IsAt g old s → from.failed ≡ false → result ≡ Err Write
       → MayEnd before from.count (items_text false (items (tree s) (rows s)))
   pub inside : IsTrue (takes_array_end to.top)
   pub round : to.round ≡ from.round
@@ -47,9 +47,9 @@ pub record WritesItems {S X : Type 0} (g : Ghosts S) (old new : DeskValue S) (fr
 pub record WritesText {S : Type 0} (g : Ghosts S) (old new : DeskValue S) (before after : OutputState) (count : ℕ) {A : Type 0} (result : Result A FeedFault)
     (text : Operator → List ℕ) : Type 0 where
   pub desk : LeavesDesk g old new result
-  pub whole : HasCleanDisk (shown g new) → (s : Operator) → IsAt g old s → OnOk result (Appends before.bytes after.bytes (text s) × (count ≡ length (text s)))
-  pub front : HasCleanDisk (shown g new) → (s : Operator) → IsAt g old s → OnErr result (AppendsFront before.bytes after.bytes (text s))
-  pub cause : HasCleanDisk (shown g new) → (s : Operator) → IsAt g old s → result ≡ Err Write → MayFail before 0 (text s)
+  pub whole : HasCleanDisk (desk_state g new) → (s : Operator) → IsAt g old s → OnOk result (Appends before.bytes after.bytes (text s) × (count ≡ length (text s)))
+  pub front : HasCleanDisk (desk_state g new) → (s : Operator) → IsAt g old s → OnErr result (AppendsFront before.bytes after.bytes (text s))
+  pub cause : HasCleanDisk (desk_state g new) → (s : Operator) → IsAt g old s → result ≡ Err Write → MayFail before 0 (text s)
 
 -- the whole feed was written, and counted
 abbrev pub IsCounted : Operator → Feed → ℕ → Option (List ℕ) → Option (List ℕ) → ℕ → Type 0

@@ -12,7 +12,7 @@ use Rattle.std.proofs.lemmas.Str.Parse.{IsNumeralModel, numerals_by_value, parse
 use Rattle.std.proofs.lemmas.Nat.{pow-add}
 use Rattle.std.proofs.lemmas.Int.{ints}
 use Rattle.std.proofs.Math.Nat.{pow-le-pow_right, one-le-pow, mul-lt-mul_of_pos_right}
-use Rattle.bike_fixed.specs.Coordinate.{IsCoordinate, IsMicro, minus_text, fraction, signed, are_digits, digits_of, is_point, size_of, within, micro_of, ◌>>=◌}
+use Rattle.bike_fixed.specs.Coordinate.{IsCoordinate, IsMicro, minus_text, fraction, with_sign, are_digits, digits_of, is_point, size_of, within, micro_of, ◌>>=◌}
 use Rattle.bike_fixed.proofs.Numbers.{both_hold}
 
 -- ---- digits
@@ -223,15 +223,15 @@ no_minus_first (x ∷ xs) rest some h =
     let f : eqb x 45 ≡ false = digit_is_not x 45 refl b.0 in
     rw f refl
 
-micro_within : (minus : Bool) (n : ℕ) → n ≤ 180000000 → IsMicro (signed minus n)
+micro_within : (minus : Bool) (n : ℕ) → n ≤ 180000000 → IsMicro (with_sign minus n)
 micro_within true n h = (omega (arith, ints, h), omega (arith, ints, h))
 micro_within false n h = (omega (arith, ints, h), omega (arith, ints, h))
 
 within_sound : (minus : Bool) (text : List ℕ) (z : ℤ) → within minus text ≡ Some z → IsCoordinate (minus_text minus ++ text) z × IsMicro z
 within_sound minus text z e =
-    option_and_then_some (λ n. cond (leb n 180000000) (Some (signed minus n)) None) (size_of text) z e (λ n f g.
+    option_and_then_some (λ n. cond (leb n 180000000) (Some (with_sign minus n)) None) (size_of text) z e (λ n f g.
     let s = size_sound text n f in
-    let c = cond_some (leb n 180000000) (signed minus n) z g in
+    let c = cond_some (leb n 180000000) (with_sign minus n) z g in
     let few : n ≤ 180000000 = grind (arith, nat_tests, c.0) in (
       record {
         minus = minus;
@@ -243,7 +243,7 @@ within_sound minus text z e =
         few_whole = s.few_whole;
         few_part = s.few_part;
         spelled = ap (λ (t : List ℕ). minus_text minus ++ t) s.spelled;
-        value = sym c.1 ∙ ap (signed minus) s.value;
+        value = sym c.1 ∙ ap (with_sign minus) s.value;
       },
       subst IsMicro c.1 (micro_within minus n few),
     ))
@@ -256,11 +256,11 @@ micro_sound (c ∷ bs) z e = go (eqb_tells c 45) where
   go (inl w) = subst (λ (x : ℕ). IsCoordinate (x ∷ bs) z × IsMicro z) (sym w.1) (within_sound true bs z (sym (ap (λ b. cond b (within true bs) (within false (c ∷ bs))) w.0) ∙ e))
   go (inr w) = within_sound false (c ∷ bs) z (sym (ap (λ b. cond b (within true bs) (within false (c ∷ bs))) w.0) ∙ e)
 
-size_within : (minus : Bool) (n : ℕ) → IsMicro (signed minus n) → n ≤ 180000000
+size_within : (minus : Bool) (n : ℕ) → IsMicro (with_sign minus n) → n ≤ 180000000
 size_within true n h = omega (arith, ints, h.0)
 size_within false n h = omega (arith, ints, h.1)
 
-within_full : (minus : Bool) (text : List ℕ) (n : ℕ) (z : ℤ) → size_of text ≡ Some n → z ≡ signed minus n → IsMicro z → within minus text ≡ Some z
+within_full : (minus : Bool) (text : List ℕ) (n : ℕ) (z : ℤ) → size_of text ≡ Some n → z ≡ with_sign minus n → IsMicro z → within minus text ≡ Some z
 within_full minus text n z e v h =
     let few : n ≤ 180000000 = size_within minus n (subst IsMicro v h) in
     let l : leb n 180000000 ≡ true = le-leb _ _ few in
@@ -275,7 +275,7 @@ micro_full text z c h = go c.minus refl where
   go : (b : Bool) → c.minus ≡ b → micro_of text ≡ Some z
   go true i =
       let t : text ≡ 45 ∷ (c.whole ++ fraction c.part) = c.spelled ∙ ap (λ b. minus_text b ++ (c.whole ++ fraction c.part)) i in
-      ap micro_of t ∙ within_full true (c.whole ++ fraction c.part) (digits_value 10 c.whole * 1000000 + digits_value 10 c.part * 10 ^ (6 - length c.part)) z (size_full c.whole c.part few c.part_digits c.few_part) (c.value ∙ ap (λ b. signed b (digits_value 10 c.whole * 1000000 + digits_value 10 c.part * 10 ^ (6 - length c.part))) i) h
+      ap micro_of t ∙ within_full true (c.whole ++ fraction c.part) (digits_value 10 c.whole * 1000000 + digits_value 10 c.part * 10 ^ (6 - length c.part)) z (size_full c.whole c.part few c.part_digits c.few_part) (c.value ∙ ap (λ b. with_sign b (digits_value 10 c.whole * 1000000 + digits_value 10 c.part * 10 ^ (6 - length c.part))) i) h
   go false i =
       let t : text ≡ c.whole ++ fraction c.part = c.spelled ∙ ap (λ b. minus_text b ++ (c.whole ++ fraction c.part)) i in
-      ap micro_of t ∙ no_minus_first c.whole (fraction c.part) c.some_whole c.whole_digits ∙ within_full false (c.whole ++ fraction c.part) (digits_value 10 c.whole * 1000000 + digits_value 10 c.part * 10 ^ (6 - length c.part)) z (size_full c.whole c.part few c.part_digits c.few_part) (c.value ∙ ap (λ b. signed b (digits_value 10 c.whole * 1000000 + digits_value 10 c.part * 10 ^ (6 - length c.part))) i) h
+      ap micro_of t ∙ no_minus_first c.whole (fraction c.part) c.some_whole c.whole_digits ∙ within_full false (c.whole ++ fraction c.part) (digits_value 10 c.whole * 1000000 + digits_value 10 c.part * 10 ^ (6 - length c.part)) z (size_full c.whole c.part few c.part_digits c.few_part) (c.value ∙ ap (λ b. with_sign b (digits_value 10 c.whole * 1000000 + digits_value 10 c.part * 10 ^ (6 - length c.part))) i) h

@@ -7,7 +7,7 @@ use Rattle.std.specs.Str.Parse.{digits_value}
 use Rattle.std.proofs.lemmas.Bool.Decides.{nat_tests}
 use Rattle.std.proofs.lemmas.Int.{ints}
 use Rattle.std.proofs.lemmas.Fmt.{digits_decimal, digits_value-decimal, length-decimal-le, decimal_nonempty}
-use Rattle.bike_fixed.specs.Coordinate.{IsCoordinate, IsMicro, signed, micro_of}
+use Rattle.bike_fixed.specs.Coordinate.{IsCoordinate, IsMicro, with_sign, micro_of}
 use Rattle.bike_fixed.specs.Text.{micro_text, six_digits, sign_text}
 use Rattle.bike_fixed.proofs.Coordinates.{decimal_digits, micro_full}
 
@@ -26,7 +26,7 @@ six_value r h = rw (digit_is (r / 100000 % 10) (omega arith), digit_is (r / 1000
 small_size : (z : ℤ) → IsMicro z → unsigned_abs z ≤ 180000000
 small_size z h = omega (arith, ints, h.0, h.1)
 
-sign_is : (z : ℤ) → signed (int_lt z (pos 0)) (unsigned_abs z) ≡ z
+sign_is : (z : ℤ) → with_sign (int_lt z (pos 0)) (unsigned_abs z) ≡ z
 sign_is (pos n) = let f : leb (suc n) 0 ≡ false = grind (arith, nat_tests) in ap (λ b. cond b (neg_ℤ (pos n)) (pos n)) f
 sign_is (negsuc n) = refl
 
@@ -49,7 +49,7 @@ micro_text_spelled z h =
       few_whole = length-decimal-le 3 w (omega arith) small (omega arith);
       few_part = omega arith;
       spelled = append_assoc (sign_text z) (decimal w) (46 ∷ six_digits r);
-      value = sym (ap (signed (int_lt z (pos 0))) whole_is ∙ sign_is z);
+      value = sym (ap (with_sign (int_lt z (pos 0))) whole_is ∙ sign_is z);
     }
 
 pub micro_read_back : (z : ℤ) → IsMicro z → micro_of (micro_text z) ≡ Some z

@@ -21,8 +21,8 @@ abbrev pub fraction : List ℕ → List ℕ
 fraction [] = []
 fraction (d ∷ ds) = 46 ∷ d ∷ ds
 
-abbrev pub signed : Bool → ℕ → ℤ
-signed minus n = if minus then neg_ℤ (pos n) else pos n
+abbrev pub with_sign : Bool → ℕ → ℤ
+with_sign minus n = if minus then neg_ℤ (pos n) else pos n
 
 -- An optional minus sign, one to three digits, and optionally a point and one to six digits: that many degrees.
 pub record IsCoordinate (text : List ℕ) (z : ℤ) : Type 0 where
@@ -35,7 +35,7 @@ pub record IsCoordinate (text : List ℕ) (z : ℤ) : Type 0 where
   pub few_whole : length whole ≤ 3
   pub few_part : length part ≤ 6
   pub spelled : text ≡ minus_text minus ++ (whole ++ fraction part)
-  pub value : z ≡ signed minus (digits_value 10 whole * 1000000 + digits_value 10 part * 10 ^ (6 - length part))
+  pub value : z ≡ with_sign minus (digits_value 10 whole * 1000000 + digits_value 10 part * 10 ^ (6 - length part))
 
 infixl 10 ◌>>=◌
 abbrev pub ◌>>=◌ : {A B : Type 0} → Option A → (A → Option B) → Option B
@@ -60,7 +60,7 @@ size_of text =
 
 -- the same behind a sign, where they are at most 180 degrees
 abbrev pub within : Bool → List ℕ → Option ℤ
-within minus text = size_of text >>= λ n. if nat_le n 180000000 then Some (signed minus n) else None
+within minus text = size_of text >>= λ n. if nat_le n 180000000 then Some (with_sign minus n) else None
 
 -- the microdegrees that the text spells
 unfoldable pub micro_of : List ℕ → Option ℤ

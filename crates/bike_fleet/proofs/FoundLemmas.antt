@@ -15,7 +15,7 @@ use Rattle.bike_operator.specs.declared.records.Bike.{Bike}
 use Rattle.bike_operator.specs.declared.records.Order.{Order}
 use Rattle.bike_operator.specs.declared.view.StationView.{StationView}
 use Rattle.bike_operator.specs.declared.view.TruckView.{TruckView}
-use Rattle.bike_operator.specs.Operator.{Operator, Station, Truck, numbered, key_of, dock_key}
+use Rattle.bike_operator.specs.Operator.{Operator, Station, Truck, item_numbered, key_of, dock_key}
 use Rattle.bike_operator.specs.Counts.{docked_at, is_broken, docks_available, docks_broken}
 use Rattle.bike_operator.specs.Sound.{IsSound}
 use Rattle.bike_operator.specs.View.{has_end, station_at, station_view, truck_at, truck_view}
@@ -208,11 +208,11 @@ module _ (s : Operator) (m : Listed) (sound : IsSound s) (listing : IsListing s 
       by None found has = absurd (cc)
       by (Some x) found has = let at = sound.catalogue.stations station x found in ap is_ident at.id_is ∙ at.good.station_id
 
-  pub order_found : (order : ℕ) (row : Option Row) (x : Option Order) → row ≡ row_under s m Orders (number_value order ∷ []) → HoldsAny HoldsOrder row x → x ≡ numbered order s.orders
+  pub order_found : (order : ℕ) (row : Option Row) (x : Option Order) → row ≡ row_under s m Orders (number_value order ∷ []) → HoldsAny HoldsOrder row x → x ≡ item_numbered order s.orders
   order_found order row x is held =
-      held_found (order_row order) (λ o. o) HoldsOrder (numbered order s.orders) row x same (is ∙ (found_by_key s m sound listing).orders order) held ∙ itself (numbered order s.orders)
+      held_found (order_row order) (λ o. o) HoldsOrder (item_numbered order s.orders) row x same (is ∙ (found_by_key s m sound listing).orders order) held ∙ itself (item_numbered order s.orders)
     where
-      same : (y z : Order) → numbered order s.orders ≡ Some y → HoldsOrder (order_row order y) z → z ≡ y
+      same : (y z : Order) → item_numbered order s.orders ≡ Some y → HoldsOrder (order_row order y) z → z ≡ y
       same y z found h =
           let at = sound.orders.orders order y found in
           let truck : z.truck ≡ y.truck = let e = h.truck in cc in
@@ -228,5 +228,5 @@ module _ (s : Operator) (m : Listed) (sound : IsSound s) (listing : IsListing s 
       itself None = refl
       itself (Some o) = refl
 
-  pub order_truck_found : (order : ℕ) (row : Option Row) (x : Option ℕ) → row ≡ row_under s m Orders (number_value order ∷ []) → HoldsAny HoldsOrderTruck row x → x ≡ option_map (λ o. o.truck) (numbered order s.orders)
-  order_truck_found order row x is held = held_found (order_row order) (λ o. o.truck) HoldsOrderTruck (numbered order s.orders) row x (λ y z found h. cc) (is ∙ (found_by_key s m sound listing).orders order) held
+  pub order_truck_found : (order : ℕ) (row : Option Row) (x : Option ℕ) → row ≡ row_under s m Orders (number_value order ∷ []) → HoldsAny HoldsOrderTruck row x → x ≡ option_map (λ o. o.truck) (item_numbered order s.orders)
+  order_truck_found order row x is held = held_found (order_row order) (λ o. o.truck) HoldsOrderTruck (item_numbered order s.orders) row x (λ y z found h. cc) (is ∙ (found_by_key s m sound listing).orders order) held

@@ -16,7 +16,7 @@ use Rattle.bike_operator.specs.declared.records.Place.{Place}
 use Rattle.bike_operator.specs.declared.records.Place.TheVariants as place
 use Rattle.bike_operator.specs.declared.records.Bike.{Bike}
 use Rattle.bike_operator.specs.declared.records.Order.{Order}
-use Rattle.bike_operator.specs.Operator.{Operator, numbered}
+use Rattle.bike_operator.specs.Operator.{Operator, item_numbered}
 use Rattle.bike_operator.specs.Counts.{is_on_truck, is_for_order, order_load}
 use Rattle.bike_operator.specs.Sound.{IsSound, IsPlace}
 use Rattle.bike_places.proofs.MapLemmas.{number_order}
@@ -55,18 +55,18 @@ rows_passing pass test same (e ∷ es) = rw (same e) (go (test e) (rows_passing 
 
 module _ (s : Operator) (sound : IsSound s) (order : ℕ) where
   -- an order that has a bicycle on a truck is there, and the truck is its own
-  carried : (bike : ℕ) (type_id : List ℕ) (p : Place) → IsPlace s bike type_id p → is_for_order order p ≡ true → (row : Order) × (numbered order s.orders ≡ Some row) × (is_on_truck row.truck p ≡ true)
+  carried : (bike : ℕ) (type_id : List ℕ) (p : Place) → IsPlace s bike type_id p → is_for_order order p ≡ true → (row : Order) × (item_numbered order s.orders ≡ Some row) × (is_on_truck row.truck p ≡ true)
   carried bike type_id (place.Dock at dock) it for_it = absurd (cc)
   carried bike type_id (place.Rental rental) it for_it = absurd (cc)
   carried bike type_id (place.Truck truck for) it for_it =
-      (it.row, ap (λ n. numbered n s.orders) (sym (eqb-true for order for_it)) ∙ it.found, (Decides-eqb truck it.row.truck).1 (sym it.truck_is))
+      (it.row, ap (λ n. item_numbered n s.orders) (sym (eqb-true for order for_it)) ∙ it.found, (Decides-eqb truck it.row.truck).1 (sym it.truck_is))
   carried bike type_id place.Depot it for_it = absurd (cc)
 
-  carried_by : (e : ℕ × Bike) → Has (fin.entries s.bikes) e → is_for_order order e.1.place ≡ true → (row : Order) × (numbered order s.orders ≡ Some row) × (is_on_truck row.truck e.1.place ≡ true)
+  carried_by : (e : ℕ × Bike) → Has (fin.entries s.bikes) e → is_for_order order e.1.place ≡ true → (row : Order) × (item_numbered order s.orders ≡ Some row) × (is_on_truck row.truck e.1.place ≡ true)
   carried_by e has for_it = carried e.0 e.1.type_id e.1.place (sound.bikes.bikes e.0 e.1 (has_get number_order.total s.bikes e has)).placed for_it
 
   -- an order that isn't there has no bicycle
-  no_load_of : numbered order s.orders ≡ None → 0 ≡ order_load s order
+  no_load_of : item_numbered order s.orders ≡ None → 0 ≡ order_load s order
   no_load_of none = sym (ap length (filter_none _ (fin.entries s.bikes) (λ e has. by e has (is_for_order order e.1.place) refl)))
     where
       by : (e : ℕ × Bike) → Has (fin.entries s.bikes) e → (b : Bool) → is_for_order order e.1.place ≡ b → is_for_order order e.1.place ≡ false
@@ -74,7 +74,7 @@ module _ (s : Operator) (sound : IsSound s) (order : ℕ) where
       by e has true is = absurd (let it = carried_by e has is in let found = it.1 in cc)
 
   -- the rows of the order's truck and of the order are those of its bicycles
-  load_rows : (m : Listed) (row : Order) → numbered order s.orders ≡ Some row → length (rows_by s m Bikes (6 ∷ 7 ∷ []) (number_value row.truck ∷ number_value order ∷ [])) ≡ order_load s order
+  load_rows : (m : Listed) (row : Order) → item_numbered order s.orders ≡ Some row → length (rows_by s m Bikes (6 ∷ 7 ∷ []) (number_value row.truck ∷ number_value order ∷ [])) ≡ order_load s order
   load_rows m row found =
       ap length (rows_passing _ (λ e. is_on_truck row.truck e.1.place && is_for_order order e.1.place) (λ e. on_truck_for row.truck order e.0 e.1 e.1.place) (fin.entries s.bikes))
       ∙ same_length stored_bike (filter (λ e. is_on_truck row.truck e.1.place && is_for_order order e.1.place) (fin.entries s.bikes))
@@ -94,19 +94,19 @@ module _ (s : Operator) (sound : IsSound s) (order : ℕ) where
 
   -- .. by the truck that is read of the order
   abbrev its_truck : Option ℕ
-  its_truck = option_map (λ o. o.truck) (numbered order s.orders)
+  its_truck = option_map (λ o. o.truck) (item_numbered order s.orders)
 
   pub no_load : None ≡ its_truck → 0 ≡ order_load s order
-  no_load none = no_load_of (by (numbered order s.orders) none)
+  no_load none = no_load_of (by (item_numbered order s.orders) none)
     where
       by : (o : Option Order) → None ≡ option_map (λ o. o.truck) o → o ≡ None
       by None is = refl
       by (Some row) is = absurd (cc)
 
   pub load_on_truck : (m : Listed) (truck : ℕ) → Some truck ≡ its_truck → length (rows_by s m Bikes (6 ∷ 7 ∷ []) (number_value truck ∷ number_value order ∷ [])) ≡ order_load s order
-  load_on_truck m truck some = by (numbered order s.orders) refl some
+  load_on_truck m truck some = by (item_numbered order s.orders) refl some
     where
-      by : (o : Option Order) → numbered order s.orders ≡ o → Some truck ≡ option_map (λ o. o.truck) o → length (rows_by s m Bikes (6 ∷ 7 ∷ []) (number_value truck ∷ number_value order ∷ [])) ≡ order_load s order
+      by : (o : Option Order) → item_numbered order s.orders ≡ o → Some truck ≡ option_map (λ o. o.truck) o → length (rows_by s m Bikes (6 ∷ 7 ∷ []) (number_value truck ∷ number_value order ∷ [])) ≡ order_load s order
       by None found is = absurd (cc)
       by (Some row) found is =
           let same : truck ≡ row.truck = cc in

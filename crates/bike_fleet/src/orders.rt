@@ -4,7 +4,7 @@ ghost use Rattle.std.specs.Prelude.{◌≡◌, [], ◌∷◌, true, IfOk, Some, 
 ghost use Rattle.sqlite.specs.declared.types.Value.TheVariants.{Text};
 ghost use Rattle.sqlite.specs.Order.{column};
 ghost use Rattle.sqlite_sql.specs.Aggregate.{count};
-ghost use Rattle.bike_operator.specs.Operator.{numbered};
+ghost use Rattle.bike_operator.specs.Operator.{item_numbered};
 ghost use Rattle.bike_operator.specs.Counts.{order_load};
 ghost use Rattle.bike_book.specs.Tables.{Bikes, Orders};
 ghost use Rattle.bike_book.specs.Rows.{number_value, end_text};
@@ -158,7 +158,7 @@ pub fn find_order<S: Alter>(
     conn: &mut Connection<S>,
     order: OrderNumber,
 ) -> Result<Option<Order>, StatementFault>
-    ensures { Answers S.Store conn.old conn.new result (λ s m x. x ≡ numbered order s.orders) }
+    ensures { Answers S.Store conn.old conn.new result (λ s m x. x ≡ item_numbered order s.orders) }
 {
     let row = select_order(conn, order)?;
     order_of(alloc, &row)
@@ -178,7 +178,7 @@ fn find_truck_of<S: Alter>(
     order: OrderNumber,
 ) -> Result<Option<TruckNumber>, StatementFault>
     ensures { Answers S.Store conn.old conn.new result
-        (λ s m x. x ≡ option_map (λ o. o.truck) (numbered order s.orders)) }
+        (λ s m x. x ≡ option_map (λ o. o.truck) (item_numbered order s.orders)) }
 {
     let row = select_order(conn, order)?;
     truck_of(&row)

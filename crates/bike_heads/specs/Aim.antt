@@ -11,20 +11,20 @@ use Rattle.bike_heads.specs.declared.resource.Resource.{Resource}
 use Rattle.bike_heads.specs.declared.resource.Resource.TheVariants.{Act, Show, Publish}
 
 -- the method of what a path names
-abbrev pub allowed : Resource → Allow
-allowed (Act a) = Post
-allowed (Show s) = Get
-allowed (Publish f) = Get
+abbrev pub allow_of : Resource → Allow
+allow_of (Act a) = Post
+allow_of (Show s) = Get
+allow_of (Publish f) = Get
 
 abbrev pub is_method : List ℕ → Allow → Bool
 is_method method Get = bytes_eq method (codes "GET")
 is_method method Post = bytes_eq method (codes "POST")
 
 -- what the path names comes first, its method next
-unfoldable pub permitted : List ℕ → Option Resource → Result Resource Rejection
-permitted method None = Err NotFound
-permitted method (Some r) = if is_method method (allowed r) then Ok r else Err (MethodNotAllowed (allowed r))
+unfoldable pub resource_or_rejection : List ℕ → Option Resource → Result Resource Rejection
+resource_or_rejection method None = Err NotFound
+resource_or_rejection method (Some r) = if is_method method (allow_of r) then Ok r else Err (MethodNotAllowed (allow_of r))
 
 unfoldable pub aim_of : List ℕ → List ℕ → Result Resource Rejection
 aim_of method target =
-    permitted method (route_at (path_of target) >>= λ route. resource_at route (path_of target))
+    resource_or_rejection method (route_at (path_of target) >>= λ route. resource_at route (path_of target))

@@ -49,14 +49,14 @@ with_scan (Ok s) value rows = placed (s.pattern, route_from s value) rows
 with_scan (Err e) value rows = rows
 
 -- the rows with one route more
-unfoldable pub added : Rows → List ℕ → Route → Rows
-added rows text value = with_scan (parse_route text) value rows
+unfoldable pub with_route : Rows → List ℕ → Route → Rows
+with_route rows text value = with_scan (parse_route text) value rows
 
-abbrev pub added_all : Rows → List (List ℕ × Route) → Rows
-added_all rows routes = fold (λ (t : Rows) (r : List ℕ × Route). added t r.0 r.1) rows routes
+abbrev pub with_routes : Rows → List (List ℕ × Route) → Rows
+with_routes rows routes = fold (λ (t : Rows) (r : List ℕ × Route). with_route t r.0 r.1) rows routes
 
 unfoldable pub table : Rows
-table = added_all [] routes
+table = with_routes [] routes
 
 -- the route that a path takes
 abbrev pub route_at : List ℕ → Option Route

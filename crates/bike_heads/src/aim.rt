@@ -1,7 +1,7 @@
 //! What a request line asks for.
 
 ghost use Rattle.std.specs.Prelude.{◌≡◌, IfOk};
-ghost use Rattle.bike_heads.specs.Aim.{allowed, is_method, permitted, aim_of};
+ghost use Rattle.bike_heads.specs.Aim.{allow_of, is_method, resource_or_rejection, aim_of};
 
 use crate::path::path_of;
 use crate::resource::{Resource, resource_at};
@@ -42,7 +42,7 @@ fn is_method(method: &[u8], wanted: Allow) -> bool
 }
 
 fn allowed(resource: &Resource) -> Allow
-    ensures { result ≡ allowed resource.now }
+    ensures { result ≡ allow_of resource.now }
 {
     match resource {
         Resource::Act(_) => Allow::Post,
@@ -52,7 +52,7 @@ fn allowed(resource: &Resource) -> Allow
 
 #[tactic(auto, unfolding(crate::specs::Aim::permitted))]
 fn permitted(method: &[u8], resource: Option<Resource>) -> Result<Resource, Rejection>
-    ensures { result ≡ permitted method.now resource }
+    ensures { result ≡ resource_or_rejection method.now resource }
 {
     let Some(resource) = resource else {
         return Err(Rejection::NotFound);

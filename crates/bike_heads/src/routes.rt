@@ -1,7 +1,7 @@
 //! The routes.
 
 ghost use Rattle.std.specs.Prelude.{◌≡◌, OnOk, Some, None, map, codes};
-ghost use Rattle.bike_heads.specs.Table.{table, added, added_all, route_at};
+ghost use Rattle.bike_heads.specs.Table.{table, with_route, with_routes, route_at};
 
 use bike_feed_texts::Feed;
 use matchit::{InsertError, Router};
@@ -82,13 +82,13 @@ pub struct Routes {
 }
 
 fn add(router: &mut Router<Route>, text: &str, route: Route) -> Result<(), InsertError>
-    ensures { OnOk result (router.new ≡ added router.old text.now route) }
+    ensures { OnOk result (router.new ≡ with_route router.old text.now route) }
 {
     router.insert(text, route)
 }
 
 fn add_all(router: &mut Router<Route>, routes: &[(&str, Route)]) -> Result<(), InsertError>
-    ensures { OnOk result (router.new ≡ added_all router.old (map (λ r. (r.0.now, r.1)) routes.now)) }
+    ensures { OnOk result (router.new ≡ with_routes router.old (map (λ r. (r.0.now, r.1)) routes.now)) }
 {
     for (text, route) in routes {
         add(router, text, *route)?;

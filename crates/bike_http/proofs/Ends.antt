@@ -7,7 +7,7 @@ use Rattle.bike_incoming.specs.Received.{Received}
 use Rattle.bike_answers.specs.declared.answer.Answer.TheVariants as answer
 use Rattle.bike_feeds.specs.Desk.{DeskValue, IsAt}
 use Rattle.bike_http.specs.Exchange.{answered, response_of, operator_after, response_status, Answers}
-use Rattle.bike_http.specs.Telling.{SendsAnswer, Responds, Serves, Rests, Refuses, IsDone, ended, refusal_of}
+use Rattle.bike_http.specs.Telling.{SendsAnswer, Responds, Serves, Rests, Refuses, IsDone, end_of_sending, refusal_of}
 use Rattle.bike_http.specs.declared.respond.SendFault.{SendFault}
 use Rattle.bike_http.specs.declared.respond.SendFault.TheVariants as fault
 use Rattle.bike_http.specs.declared.exchange.Served.{Served}
@@ -26,7 +26,7 @@ module _ {S : Type 0} (g : Ghosts S) (d : DeskValue S) (s : Operator) (t : ℕ) 
     answers : Answers input s t (response_of s t asked) (operator_after s t asked)
     answers = record { asked = asked; received = received; gives = refl; leads = refl }
 
-    pub serves : (r : Result ℕ SendFault) → Responds g d s (response_of s t asked) (operator_after s t asked) before after r → Serves g d s t input before after (ended r)
+    pub serves : (r : Result ℕ SendFault) → Responds g d s (response_of s t asked) (operator_after s t asked) before after r → Serves g d s t input before after (end_of_sending r)
     serves (Ok status) h = (h.0, inr (response_of s t asked, operator_after s t asked, answers, h.1), h.2, h.3)
     serves (Err fault.Write) h = (h.0, inr (response_of s t asked, operator_after s t asked, answers, h.1), h.2)
     serves (Err fault.Cut) h = (h.0, operator_after s t asked, record { asked = asked; received = received; gives = sym h.1; leads = refl }, h.2, h.3)
@@ -37,23 +37,23 @@ module _ {S : Type 0} (g : Ghosts S) (d : DeskValue S) (s : Operator) (t : ℕ) 
       | inr none ↦ absurd (let wrong : 200 ≡ 503 = sym is ∙ h.2 ∙ ap response_status none.0 in omega (arith, wrong))
     ]
 
-    pub is_done : (r : Result ℕ SendFault) → Responds g d s (response_of s t asked) (operator_after s t asked) before after r → ended r ≡ Ok (Status 200) → IsDone g d s t input
+    pub is_done : (r : Result ℕ SendFault) → Responds g d s (response_of s t asked) (operator_after s t asked) before after r → end_of_sending r ≡ Ok (Status 200) → IsDone g d s t input
     is_done (Ok status) h is = done_at status h (ap told_status is)
     is_done (Err fault.Write) h is = absurd (let wrong : 0 ≡ 200 = ap told_status is in omega (arith, wrong))
     is_done (Err fault.Cut) h is = absurd (let wrong : 0 ≡ 200 = ap told_status is in omega (arith, wrong))
 
   -- memory was refused while it was read
-  pub refuses : (r : Result ℕ SendFault) → IsAt g d s → SendsAnswer before after answer.Unavailable r → Serves g d s t input before after (ended r)
+  pub refuses : (r : Result ℕ SendFault) → IsAt g d s → SendsAnswer before after answer.Unavailable r → Serves g d s t input before after (end_of_sending r)
   refuses (Ok status) at h = (answered answer.Unavailable, inl (refl, at), h.0, h.1)
   refuses (Err fault.Write) at h = (answered answer.Unavailable, inl (refl, at), h)
   refuses (Err fault.Cut) at h = absurd h
 
-  pub never_done : (r : Result ℕ SendFault) → SendsAnswer before after answer.Unavailable r → ended r ≡ Ok (Status 200) → IsDone g d s t input
+  pub never_done : (r : Result ℕ SendFault) → SendsAnswer before after answer.Unavailable r → end_of_sending r ≡ Ok (Status 200) → IsDone g d s t input
   never_done (Ok status) h is = absurd (let wrong : 200 ≡ 503 = sym (ap told_status is) ∙ h.0 in omega (arith, wrong))
   never_done (Err fault.Write) h is = absurd (let wrong : 0 ≡ 200 = ap told_status is in omega (arith, wrong))
   never_done (Err fault.Cut) h is = absurd (let wrong : 0 ≡ 200 = ap told_status is in omega (arith, wrong))
 
-pub rests : {S : Type 0} (old new : DeskValue S) (before after : Option (List ℕ)) (r : Result ℕ SendFault) → Rests old new before after (ended r)
+pub rests : {S : Type 0} (old new : DeskValue S) (before after : Option (List ℕ)) (r : Result ℕ SendFault) → Rests old new before after (end_of_sending r)
 rests old new before after (Ok status) = tt
 rests old new before after (Err fault.Write) = tt
 rests old new before after (Err fault.Cut) = tt
@@ -63,13 +63,13 @@ rests old new before after (Err fault.Cut) = tt
 module _ (input before after : Option (List ℕ)) where
   -- what the input asks for was known
   pub stopped_refuses : (asked : Asked) → IfSome input (λ bytes. Received bytes (Some asked)) → (r : Result ℕ SendFault)
-      → SendsAnswer before after (refusal_of asked) r → Refuses input before after (ended r)
+      → SendsAnswer before after (refusal_of asked) r → Refuses input before after (end_of_sending r)
   stopped_refuses asked received (Ok status) h = (refusal_of asked, inr (asked, received, refl), h)
   stopped_refuses asked received (Err fault.Write) h = (refusal_of asked, inr (asked, received, refl), h)
   stopped_refuses asked received (Err fault.Cut) h = absurd h
 
   -- memory was refused while it was read
-  pub stopped_unread : (r : Result ℕ SendFault) → SendsAnswer before after answer.Unavailable r → Refuses input before after (ended r)
+  pub stopped_unread : (r : Result ℕ SendFault) → SendsAnswer before after answer.Unavailable r → Refuses input before after (end_of_sending r)
   stopped_unread (Ok status) h = (answer.Unavailable, inl refl, h)
   stopped_unread (Err fault.Write) h = (answer.Unavailable, inl refl, h)
   stopped_unread (Err fault.Cut) h = absurd h

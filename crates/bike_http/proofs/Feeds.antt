@@ -12,7 +12,7 @@ use Rattle.bike_catalogue.specs.Rows.{SystemRow}
 use Rattle.bike_operator.specs.Operator.{Operator}
 use Rattle.bike_feed_texts.specs.declared.feed.Feed.{Feed}
 use Rattle.bike_feeds.specs.DeskFault.TheVariants.{NoMemory, StoreFailed, Stopped}
-use Rattle.bike_feeds.specs.Desk.{DeskValue, shown, IsAt}
+use Rattle.bike_feeds.specs.Desk.{DeskValue, desk_state, IsAt}
 use Rattle.bike_feeds.specs.Publishing.{feed_text, IsPublished, IsBegun, IsLength, LeavesDesk}
 use Rattle.bike_feeds.specs.declared.fault.FeedFault.{FeedFault}
 use Rattle.bike_feeds.specs.declared.fault.FeedFault.TheVariants.{SystemMissing, Write, Desk}
@@ -49,7 +49,7 @@ unfolding or_other
 same_system o x y e f = ap (or_other x) (sym f ∙ e)
 
 -- the desk after a pass that failed
-pub feed_undone : {S A : Type 0} (g : Ghosts S) (old new : DeskValue S) (s next : Operator) (e : FeedFault) → HasCleanDisk (shown g new) → IsAt g old s
+pub feed_undone : {S A : Type 0} (g : Ghosts S) (old new : DeskValue S) (s next : Operator) (e : FeedFault) → HasCleanDisk (desk_state g new) → IsAt g old s
     → LeavesDesk g old new {A = A} (Err e) → IsUndone g new s next
 feed_undone g old new s next SystemMissing clean at h = at_first g new s next (h.missing clean s at refl).1
 feed_undone g old new s next Write clean at h = at_first g new s next (h.write clean s at refl)

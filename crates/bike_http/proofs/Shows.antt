@@ -14,18 +14,18 @@ use Rattle.bike_feeds.specs.DeskFault.{DeskFault}
 use Rattle.bike_feeds.specs.DeskFault.TheVariants.{NoMemory, StoreFailed, Stopped}
 use Rattle.bike_feeds.specs.Desk.{DeskValue}
 use Rattle.bike_feeds.specs.Queries.{Queries}
-use Rattle.bike_http.specs.Shown.{found, shown_rider, shown_rental, refunds}
+use Rattle.bike_http.specs.Shown.{shown_or_not_found, shown_rider, shown_rental, refunds}
 use Rattle.bike_http.specs.Rows.{rider_answer, bike_answer, rental_answer, order_answer, closing_in, refunds_in}
 
-pub rider_shown : (s : Operator) (n : ℕ) (o : Option Rider) → rider_answer n (option_map (rider_info s n) o) ≡ found (shown_rider s n) o
+pub rider_shown : (s : Operator) (n : ℕ) (o : Option Rider) → rider_answer n (option_map (rider_info s n) o) ≡ shown_or_not_found (shown_rider s n) o
 rider_shown s n None = refl
 rider_shown s n (Some r) = refl
 
-pub bike_shown : (n : ℕ) (o : Option Bike) → bike_answer n o ≡ found (λ bike. answer.Bike n bike) o
+pub bike_shown : (n : ℕ) (o : Option Bike) → bike_answer n o ≡ shown_or_not_found (λ bike. answer.Bike n bike) o
 bike_shown n None = refl
 bike_shown n (Some bike) = refl
 
-pub order_shown : (n : ℕ) (o : Option Order) → order_answer n o ≡ found (λ order. answer.Order n order) o
+pub order_shown : (n : ℕ) (o : Option Order) → order_answer n o ≡ shown_or_not_found (λ order. answer.Order n order) o
 order_shown n None = refl
 order_shown n (Some order) = refl
 
@@ -37,7 +37,7 @@ refunds_again : (refunded : ℤ) (o : Option Closing) → refunds_in (option_map
 refunds_again refunded None = refl
 refunds_again refunded (Some c) = refl
 
-pub rental_shown : (s : Operator) (n : ℕ) (o : Option Rental) → rental_answer n (option_map (rental_info (refunded_of n s.entries)) o) ≡ found (shown_rental s n) o
+pub rental_shown : (s : Operator) (n : ℕ) (o : Option Rental) → rental_answer n (option_map (rental_info (refunded_of n s.entries)) o) ≡ shown_or_not_found (shown_rental s n) o
 rental_shown s n None = refl
 rental_shown s n (Some r) =
     let refunded = refunded_of n s.entries in

@@ -9,7 +9,7 @@ use Rattle.bike_incoming.specs.declared.asked.Asked.{Asked}
 use Rattle.bike_answers.specs.declared.answer.Answer.{Answer}
 use Rattle.bike_feeds.specs.DeskFault.{DeskFault}
 use Rattle.bike_feeds.specs.DeskFault.TheVariants.{NoMemory, StoreFailed, Stopped}
-use Rattle.bike_feeds.specs.Desk.{DeskValue, shown, IsAt, TreesStandForEither}
+use Rattle.bike_feeds.specs.Desk.{DeskValue, desk_state, IsAt, TreesStandForEither}
 use Rattle.bike_feeds.specs.Queries.{Queries}
 use Rattle.bike_http.specs.Exchange.{Response, answered, response_of, operator_after}
 use Rattle.bike_http.specs.Telling.{IsUndone, Tells, SendsAnswer, Responds}
@@ -26,9 +26,9 @@ module _ {S : Type 0} (g : Ghosts S) (d : DeskValue S) (s next : Operator) where
   responds response a before after (Err fault.Write) told h = (answered a, told, h)
   responds response a before after (Err fault.Cut) told h = absurd h
 
-module _ {S : Type 0} (g : Ghosts S) (old new : DeskValue S) (s next : Operator) (clean : HasCleanDisk (shown g new)) (at : IsAt g old s) where
+module _ {S : Type 0} (g : Ghosts S) (old new : DeskValue S) (s next : Operator) (clean : HasCleanDisk (desk_state g new)) (at : IsAt g old s) where
   -- a request failed
-  pub act_undone : (e : DeskFault) → (e ≡ NoMemory → new ≡ old) → (e ≡ StoreFailed → AllLeft (shown g new) (TreesStandForEither s next))
+  pub act_undone : (e : DeskFault) → (e ≡ NoMemory → new ≡ old) → (e ≡ StoreFailed → AllLeft (desk_state g new) (TreesStandForEither s next))
       → (e ≡ StoreFailed → IsTrue new.is_stopped) → (e ≡ Stopped → IsTrue old.is_stopped) → IsUndone g new s next
   act_undone NoMemory same failed stops stopped = at_first g new s next (subst (λ (d : DeskValue S). IsAt g d s) (sym (same refl)) at)
   act_undone StoreFailed same failed stops stopped = record { goes_on = λ going. absurd (both_ways new.is_stopped going (stops refl)); left = failed refl }

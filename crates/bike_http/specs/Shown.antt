@@ -4,7 +4,7 @@ use Rattle.std.specs.FinMap as map
 use Rattle.bike_ledger.specs.Ledger.{balance_of, refunded_of}
 use Rattle.bike_operator.specs.declared.records.Closing.{Closing}
 use Rattle.bike_operator.specs.declared.records.Rental.{Rental}
-use Rattle.bike_operator.specs.Operator.{Operator, Rider, numbered}
+use Rattle.bike_operator.specs.Operator.{Operator, Rider, item_numbered}
 use Rattle.bike_queries.specs.Infos.{open_number}
 use Rattle.bike_heads.specs.declared.aim.Rejection.TheVariants.{NotFound}
 use Rattle.bike_heads.specs.declared.resource.Shown.{Shown}
@@ -16,9 +16,9 @@ abbrev pub not_found : Answer
 not_found = answer.Rejected NotFound
 
 -- what isn't there is not found
-abbrev pub found : {A : Type 0} → (A → Answer) → Option A → Answer
-found show None = not_found
-found show (Some x) = show x
+abbrev pub shown_or_not_found : {A : Type 0} → (A → Answer) → Option A → Answer
+shown_or_not_found show None = not_found
+shown_or_not_found show (Some x) = show x
 
 abbrev pub shown_rider : Operator → ℕ → Rider → Answer
 shown_rider s n r = answer.Rider (record { rider = n; blocked = r.is_blocked; balance = balance_of n s.entries; rental = open_number s n })
@@ -33,7 +33,7 @@ shown_rental s n r = answer.Rental n r (refunds (refunded_of n s.entries) r.clos
 
 -- the row that is shown of an operator
 abbrev pub shown_of : Operator → Shown → Answer
-shown_of s (shown.Rider n) = found (shown_rider s n) (map.get s.riders n)
-shown_of s (shown.Bike n) = found (λ bike. answer.Bike n bike) (map.get s.bikes n)
-shown_of s (shown.Rental n) = found (shown_rental s n) (numbered n s.rentals)
-shown_of s (shown.Order n) = found (λ order. answer.Order n order) (numbered n s.orders)
+shown_of s (shown.Rider n) = shown_or_not_found (shown_rider s n) (map.get s.riders n)
+shown_of s (shown.Bike n) = shown_or_not_found (λ bike. answer.Bike n bike) (map.get s.bikes n)
+shown_of s (shown.Rental n) = shown_or_not_found (shown_rental s n) (item_numbered n s.rentals)
+shown_of s (shown.Order n) = shown_or_not_found (λ order. answer.Order n order) (item_numbered n s.orders)

@@ -5,7 +5,7 @@ use Rattle.sqlite_trees.specs.declared.store.Store.{Ghosts}
 use Rattle.bike_stream.specs.Writing.{AppendsFront}
 use Rattle.bike_operator.specs.Operator.{Operator}
 use Rattle.bike_schema.specs.Stands.{AllLeft}
-use Rattle.bike_feeds.specs.Desk.{DeskValue, shown, IsAt, TreesStandForEither}
+use Rattle.bike_feeds.specs.Desk.{DeskValue, desk_state, IsAt, TreesStandForEither}
 use Rattle.bike_incoming.specs.declared.asked.Asked.{Asked}
 use Rattle.bike_incoming.specs.declared.asked.Asked.TheVariants.{Reject, Apply, Show, Publish}
 use Rattle.bike_incoming.specs.Received.{Received}
@@ -25,7 +25,7 @@ use Rattle.bike_http.specs.declared.exchange.ServeFault.TheVariants.{Read, Write
 -- A request failed: the desk goes on at the operator before it, or it is stopped, and a crash leaves him or the one after it.
 pub record IsUndone {S : Type 0} (g : Ghosts S) (d : DeskValue S) (s next : Operator) : Type 0 where
   pub goes_on : d.is_stopped ≡ false → IsAt g d s
-  pub left : AllLeft (shown g d) (TreesStandForEither s next)
+  pub left : AllLeft (desk_state g d) (TreesStandForEither s next)
 
 abbrev pub unavailable : Response
 unavailable = answered answer.Unavailable
@@ -74,10 +74,10 @@ Responds g d s response next before after (Err fault.Cut) = (text : List ℕ) ×
 -- ---- the exchange
 
 -- how it ends, as the sending of its response ended
-abbrev pub ended : Result ℕ SendFault → Result Served ServeFault
-ended (Ok status) = Ok (Status status)
-ended (Err fault.Write) = Err Write
-ended (Err fault.Cut) = Err Cut
+abbrev pub end_of_sending : Result ℕ SendFault → Result Served ServeFault
+end_of_sending (Ok status) = Ok (Status status)
+end_of_sending (Err fault.Write) = Err Write
+end_of_sending (Err fault.Cut) = Err Cut
 
 -- HOW AN EXCHANGE ENDS over an input
 abbrev pub Serves : {S : Type 0} → Ghosts S → DeskValue S → Operator → ℕ → Option (List ℕ) → Option (List ℕ) → Option (List ℕ)

@@ -4,8 +4,8 @@ ghost use Rattle.std.specs.Prelude.{◌≡◌, ◌≤◌, IsTrue, Ok};
 ghost use Rattle.sqlite.specs.State.{HasCleanDisk};
 ghost use Rattle.sqlite_trees.specs.View.{doubt};
 ghost use Rattle.bike_operator.specs.Operator.{Operator};
-ghost use Rattle.bike_feeds.specs.Desk.{shown, IsAt};
-ghost use Rattle.bike_http.specs.Telling.{ended, Serves, Rests, Refuses, IsDone};
+ghost use Rattle.bike_feeds.specs.Desk.{desk_state, IsAt};
+ghost use Rattle.bike_http.specs.Telling.{end_of_sending, Serves, Rests, Refuses, IsDone};
 
 use crate::respond::{SendFault, respond, send};
 use bike_answers::Answer;
@@ -43,7 +43,7 @@ pub enum ServeFault {
 
 /// How an exchange ends, as the sending of its response ended.
 fn ended(sent: Result<u16, SendFault>) -> Result<Served, ServeFault>
-    ensures { result ≡ ended sent }
+    ensures { result ≡ end_of_sending sent }
 {
     match sent {
         Ok(status) => Ok(Served::Status(status)),
@@ -67,10 +67,10 @@ pub fn serve_one<S: Alter, R: Read, W: Write>(
     reader: &mut R,
     writer: &mut W,
 ) -> Result<Served, ServeFault>
-    ensures clean { doubt (shown S.Store desk.old).is_clean ≤ doubt (shown S.Store desk.new).is_clean }
-    ensures served { HasCleanDisk (shown S.Store desk.new) → (s : Operator) → IsAt S.Store desk.old s
+    ensures clean { doubt (desk_state S.Store desk.old).is_clean ≤ doubt (desk_state S.Store desk.new).is_clean }
+    ensures served { HasCleanDisk (desk_state S.Store desk.new) → (s : Operator) → IsAt S.Store desk.old s
         → Serves S.Store desk.new s moment (R.remaining reader.old) (W.contents writer.old) (W.contents writer.new) result }
-    ensures done { HasCleanDisk (shown S.Store desk.new) → (s : Operator) → IsAt S.Store desk.old s
+    ensures done { HasCleanDisk (desk_state S.Store desk.new) → (s : Operator) → IsAt S.Store desk.old s
         → result ≡ Ok (Served.Status 200) → IsDone S.Store desk.new s moment (R.remaining reader.old) }
     ensures rests { Rests desk.old desk.new (W.contents writer.old) (W.contents writer.new) result }
     ensures stays { IsTrue desk.old.is_stopped → desk.new ≡ desk.old }

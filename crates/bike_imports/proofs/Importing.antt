@@ -10,7 +10,7 @@ use Rattle.bike_operator.specs.Runs.{Call, step, after, replies}
 use Rattle.bike_operator.specs.Sound.{IsCall, AreCalls, is_refused}
 use Rattle.bike_laws.proofs.RunLemmas.{after-append, replies-append}
 use Rattle.bike_schema.specs.Stands.{AllLeft, TreesStandFor}
-use Rattle.bike_desk.specs.Desk.{DeskValue, shown, IsAt}
+use Rattle.bike_desk.specs.Desk.{DeskValue, desk_state, IsAt}
 use Rattle.bike_desk.specs.declared.fault.DeskFault.TheVariants.{NoMemory, StoreFailed, Stopped}
 use Rattle.bike_imports.specs.declared.fault.ImportFault.{ImportFault}
 use Rattle.bike_imports.specs.declared.fault.ImportFault.TheVariants.{BadHeader, Unreadable, Row, Read, Desk}
@@ -194,7 +194,7 @@ module _ {S R : Type 0} (g : Ghosts S) (remaining : R → Option (List ℕ)) (s 
 -- ---- what a crash may leave
 
 module _ {S : Type 0} (g : Ghosts S) (desk : DeskValue S) (s : Operator) (moment : ℕ) (name : List ℕ) (input : Option (List ℕ)) where
-  pub left_of : (result : Result ℕ ImportFault) → Imports g desk s moment name input result → AllLeft (shown g desk) (StandsAfterSome s)
+  pub left_of : (result : Result ℕ ImportFault) → Imports g desk s moment name input result → AllLeft (desk_state g desk) (StandsAfterSome s)
   left_of (Ok count) i db h = (i.calls, i.accepts.good, i.at.keeps.left db h)
   left_of (Err BadHeader) i db h = ([], tt, i.at.keeps.left db h)
   left_of (Err (Unreadable number)) i db h = (i.calls, i.accepts.good, i.at.keeps.left db h)

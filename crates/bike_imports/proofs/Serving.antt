@@ -10,10 +10,10 @@ use Rattle.bike_commands.specs.declared.refusal.Refusal.{Refusal}
 use Rattle.bike_commands.specs.declared.reply.Reply.TheVariants.{Refused}
 use Rattle.bike_commands.specs.declared.request.Request.{Request}
 use Rattle.bike_operator.specs.Operator.{Operator, Kept}
-use Rattle.bike_operator.specs.Steps.{refused}
-use Rattle.bike_operator.specs.Runs.{Call, step, answered, decided, key_in}
+use Rattle.bike_operator.specs.Steps.{refusal_of}
+use Rattle.bike_operator.specs.Runs.{Call, step, outcome_with_kept, outcome, key_in}
 use Rattle.bike_schema.specs.Stands.{AllLeft}
-use Rattle.bike_desk.specs.Desk.{DeskValue, shown, IsAt, TreesStandForEither}
+use Rattle.bike_desk.specs.Desk.{DeskValue, desk_state, IsAt, TreesStandForEither}
 use Rattle.bike_desk.specs.declared.fault.DeskFault.{DeskFault}
 use Rattle.bike_desk.specs.declared.fault.DeskFault.TheVariants.{NoMemory, StoreFailed, Stopped}
 use Rattle.bike_imports.specs.declared.fault.ImportFault.{ImportFault}
@@ -29,13 +29,13 @@ err_is (Err e) fault told = ap Err told
 -- ---- a refused request changes nothing
 
 decided_stays : (s : Operator) (now : ℕ) (name : List ℕ) (number : ℕ) (station : StationRow) (why : Option Refusal) (r : Refusal)
-    → (decided s now (request_of name number station) why).0 ≡ Refused r → (decided s now (request_of name number station) why).1 ≡ s
+    → (outcome s now (request_of name number station) why).0 ≡ Refused r → (outcome s now (request_of name number station) why).1 ≡ s
 decided_stays s now name number station None r is = absurd cc
 decided_stays s now name number station (Some why) r is = refl
 
 answered_stays : (s : Operator) (t : ℕ) (name : List ℕ) (number : ℕ) (station : StationRow) (kept : Option Kept) (r : Refusal)
-    → (answered s t (request_of name number station) kept).0 ≡ Refused r → (answered s t (request_of name number station) kept).1 ≡ s
-answered_stays s t name number station None r is = decided_stays s (max t s.now) name number station (refused s (request_of name number station).command) r is
+    → (outcome_with_kept s t (request_of name number station) kept).0 ≡ Refused r → (outcome_with_kept s t (request_of name number station) kept).1 ≡ s
+answered_stays s t name number station None r is = decided_stays s (max t s.now) name number station (refusal_of s (request_of name number station).command) r is
 answered_stays s t name number station (Some k) r is = refl
 
 pub refused_stays : (s : Operator) (t : ℕ) (name : List ℕ) (number : ℕ) (station : StationRow) (r : Refusal)
@@ -48,12 +48,12 @@ module _ {S : Type 0} (g : Ghosts S) (old new : DeskValue S) (s : Operator) wher
   -- the desk failed at the request
   pub fails : (number : ℕ) (c : Call) (result : Result (Unit {0}) ImportFault) (fault : DeskFault) → IsErrAnd result (λ told. told ≡ Desk fault) → IsAt g old s
       → (fault ≡ NoMemory → new ≡ old) → (fault ≡ StoreFailed → IsTrue new.is_stopped)
-      → (fault ≡ StoreFailed → AllLeft (shown g new) (TreesStandForEither s (step s c.0 c.1).1)) → (fault ≡ Stopped → IsTrue old.is_stopped)
+      → (fault ≡ StoreFailed → AllLeft (desk_state g new) (TreesStandForEither s (step s c.0 c.1).1)) → (fault ≡ Stopped → IsTrue old.is_stopped)
       → ServesCall g new s number c result
   fails number c result fault told at same stops failed stopped = subst (ServesCall g new s number c) (sym (err_is result (Desk fault) told)) (by fault same stops failed stopped)
     where
       by : (fault : DeskFault) → (fault ≡ NoMemory → new ≡ old) → (fault ≡ StoreFailed → IsTrue new.is_stopped)
-          → (fault ≡ StoreFailed → AllLeft (shown g new) (TreesStandForEither s (step s c.0 c.1).1)) → (fault ≡ Stopped → IsTrue old.is_stopped)
+          → (fault ≡ StoreFailed → AllLeft (desk_state g new) (TreesStandForEither s (step s c.0 c.1).1)) → (fault ≡ Stopped → IsTrue old.is_stopped)
           → ServesCall g new s number c (Err (Desk fault))
       by NoMemory same stops failed stopped = subst (λ (d : DeskValue S). IsAt g d s) (sym (same refl)) at
       by StoreFailed same stops failed stopped = (stops refl, failed refl)

@@ -9,7 +9,7 @@ use Rattle.bike_operator.specs.Operator.{Operator}
 use Rattle.bike_operator.specs.Runs.{Call, step}
 use Rattle.bike_operator.specs.Sound.{IsCall, is_refused}
 use Rattle.bike_schema.specs.Stands.{AllLeft}
-use Rattle.bike_desk.specs.Desk.{DeskValue, shown, IsAt, TreesStandForEither}
+use Rattle.bike_desk.specs.Desk.{DeskValue, desk_state, IsAt, TreesStandForEither}
 use Rattle.bike_desk.specs.declared.fault.DeskFault.{DeskFault}
 use Rattle.bike_desk.specs.declared.fault.DeskFault.TheVariants.{NoMemory, StoreFailed, Stopped}
 use Rattle.bike_imports.specs.declared.fault.ImportFault.{ImportFault}
@@ -37,7 +37,7 @@ module _ {S : Type 0} (g : Ghosts S) (new : DeskValue S) (s : Operator) where
   pub record FailsAt (c : Call) : Type 0 where
     pub good : IsCall c
     pub stopped : IsTrue new.is_stopped
-    pub left : AllLeft (shown g new) (TreesStandForEither s (step s c.0 c.1).1)
+    pub left : AllLeft (desk_state g new) (TreesStandForEither s (step s c.0 c.1).1)
 
   -- the request of a row is accepted
   pub record AcceptsCall (c : Call) : Type 0 where
@@ -50,7 +50,7 @@ module _ {S : Type 0} (g : Ghosts S) (new : DeskValue S) (s : Operator) where
   ServesCall number c (Ok x) = (is_refused (step s c.0 c.1).0 ≡ false) × IsAt g new (step s c.0 c.1).1
   ServesCall number c (Err (Row n refusal)) = (n ≡ number) × ((step s c.0 c.1).0 ≡ Refused refusal) × IsAt g new (step s c.0 c.1).1
   ServesCall number c (Err (Desk NoMemory)) = IsAt g new s
-  ServesCall number c (Err (Desk StoreFailed)) = IsTrue new.is_stopped × AllLeft (shown g new) (TreesStandForEither s (step s c.0 c.1).1)
+  ServesCall number c (Err (Desk StoreFailed)) = IsTrue new.is_stopped × AllLeft (desk_state g new) (TreesStandForEither s (step s c.0 c.1).1)
   ServesCall number c (Err (Desk Stopped)) = ⊥
   ServesCall number c (Err BadHeader) = ⊥
   ServesCall number c (Err (Unreadable n)) = ⊥

@@ -6,7 +6,7 @@ ghost use Rattle.sqlite.specs.State.{HasCleanDisk};
 ghost use Rattle.sqlite_trees.specs.View.{doubt};
 ghost use Rattle.bike_operator.specs.Operator.{Operator};
 ghost use Rattle.bike_schema.specs.Stands.{AllLeft};
-ghost use Rattle.bike_desk.specs.Desk.{shown, IsAt};
+ghost use Rattle.bike_desk.specs.Desk.{desk_state, IsAt};
 ghost use Rattle.bike_desk.specs.Runs.{StopsBy};
 ghost use Rattle.bike_imports.specs.Serving.{desk_fault};
 ghost use Rattle.bike_imports.specs.Imports.{Imports, StandsAfterSome};
@@ -39,11 +39,11 @@ pub fn import_stations<S: Alter, R: Read>(
     name: &Ident,
     reader: &mut R,
 ) -> Result<u64, ImportFault>
-    ensures clean { doubt (shown S.Store desk.old).is_clean ≤ doubt (shown S.Store desk.new).is_clean }
-    ensures imports { HasCleanDisk (shown S.Store desk.new) → (s : Operator) → IsAt S.Store desk.old s
+    ensures clean { doubt (desk_state S.Store desk.old).is_clean ≤ doubt (desk_state S.Store desk.new).is_clean }
+    ensures imports { HasCleanDisk (desk_state S.Store desk.new) → (s : Operator) → IsAt S.Store desk.old s
         → Imports S.Store desk.new s moment name.now (R.remaining reader.old) result }
-    ensures left { HasCleanDisk (shown S.Store desk.new) → (s : Operator) → IsAt S.Store desk.old s
-        → AllLeft (shown S.Store desk.new) (StandsAfterSome s) }
+    ensures left { HasCleanDisk (desk_state S.Store desk.new) → (s : Operator) → IsAt S.Store desk.old s
+        → AllLeft (desk_state S.Store desk.new) (StandsAfterSome s) }
     ensures stops { StopsBy desk.old desk.new (desk_fault result) }
     ensures refused { result ≡ Err (ImportFault.Desk DeskFault.Stopped) → Keeps (R.remaining reader.old) (R.remaining reader.new) }
 {

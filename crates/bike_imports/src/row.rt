@@ -5,7 +5,7 @@ ghost use Rattle.csv.specs.Records.{fields_of};
 ghost use Rattle.sqlite.specs.State.{HasCleanDisk};
 ghost use Rattle.sqlite_trees.specs.View.{doubt};
 ghost use Rattle.bike_operator.specs.Operator.{Operator};
-ghost use Rattle.bike_desk.specs.Desk.{shown, IsAt};
+ghost use Rattle.bike_desk.specs.Desk.{desk_state, IsAt};
 ghost use Rattle.bike_imports.specs.Rows.{call_of};
 ghost use Rattle.bike_imports.specs.Serving.{desk_fault, GoesOn, ServesCall, ServesRow};
 
@@ -27,9 +27,9 @@ fn serve_request<S: Alter>(
     number: u64,
     request: &Request,
 ) -> Result<(), ImportFault>
-    ensures clean { doubt (shown S.Store desk.old).is_clean ≤ doubt (shown S.Store desk.new).is_clean }
+    ensures clean { doubt (desk_state S.Store desk.old).is_clean ≤ doubt (desk_state S.Store desk.new).is_clean }
     ensures goes_on { desk.old.is_stopped ≡ false → GoesOn desk.new (desk_fault result) }
-    ensures served { HasCleanDisk (shown S.Store desk.new) → (s : Operator) → IsAt S.Store desk.old s
+    ensures served { HasCleanDisk (desk_state S.Store desk.new) → (s : Operator) → IsAt S.Store desk.old s
         → ServesCall S.Store desk.new s number (moment, request.now) result }
 {
     match desk.apply(alloc, moment, request)? {
@@ -48,9 +48,9 @@ pub fn import_row<S: Alter>(
     number: u64,
     row: &StringRecord,
 ) -> Result<(), ImportFault>
-    ensures clean { doubt (shown S.Store desk.old).is_clean ≤ doubt (shown S.Store desk.new).is_clean }
+    ensures clean { doubt (desk_state S.Store desk.old).is_clean ≤ doubt (desk_state S.Store desk.new).is_clean }
     ensures goes_on { desk.old.is_stopped ≡ false → GoesOn desk.new (desk_fault result) }
-    ensures served { HasCleanDisk (shown S.Store desk.new) → (s : Operator) → IsAt S.Store desk.old s
+    ensures served { HasCleanDisk (desk_state S.Store desk.new) → (s : Operator) → IsAt S.Store desk.old s
         → ServesRow S.Store desk.new s number (fields_of row.now) (call_of moment name.now number (fields_of row.now)) result }
 {
     let _ = moment.seconds();

@@ -26,22 +26,22 @@ use Rattle.bike_incoming.specs.declared.asked.Asked.TheVariants.{Reject, Apply, 
 unfoldable pub object_of : List ℕ → Option Data
 object_of bytes = if is_utf8 bytes then (read bytes >>= λ value. if is_some (as_object value) then Some value else None) else None
 
-abbrev pub applied : Option Request → Asked
-applied None = Reject BadField
-applied (Some request) = Apply request
+abbrev pub application_of : Option Request → Asked
+application_of None = Reject BadField
+application_of (Some request) = Apply request
 
 abbrev pub posted_object : Action → Option Data → Asked
 posted_object action None = Reject BadRequest
-posted_object action (Some body) = applied (request_of action body)
+posted_object action (Some body) = application_of (request_of action body)
 
 -- what the body of a request to act asks for
-unfoldable pub posted : Action → List ℕ → Asked
-posted action bytes = posted_object action (object_of bytes)
+unfoldable pub asked_by_body : Action → List ℕ → Asked
+asked_by_body action bytes = posted_object action (object_of bytes)
 
 -- what a request asks for, by what its head aims at
 abbrev pub asked_for : Result Resource Rejection → List ℕ → Asked
 asked_for (Err rejection) body = Reject rejection
-asked_for (Ok (resource.Act action)) body = posted action body
+asked_for (Ok (resource.Act action)) body = asked_by_body action body
 asked_for (Ok (resource.Show shown)) body = Show shown
 asked_for (Ok (resource.Publish feed)) body = Publish feed
 

@@ -2,7 +2,7 @@
 
 ghost use Rattle.std.specs.Prelude.{◌≡◌, IfOk, option_map};
 ghost use Rattle.serde_json.specs.View.{view};
-ghost use Rattle.bike_incoming.specs.Asked.{object_of, posted, asked_for};
+ghost use Rattle.bike_incoming.specs.Asked.{object_of, asked_by_body, asked_for};
 
 use crate::body::read_request;
 use bike_commands::Request;
@@ -28,7 +28,7 @@ pub enum Asked {
 /// ignored, and of equal ones the last counts.
 #[tactic(auto, unfolding(crate::specs::Asked::posted))]
 fn read_posted(alloc: Global, action: Action, body: &[u8]) -> Result<Asked, AllocError>
-    ensures { IfOk result (λ asked. asked ≡ posted action body.now) }
+    ensures { IfOk result (λ asked. asked ≡ asked_by_body action body.now) }
 {
     let Some(object) = read_object(alloc, body)? else {
         return Ok(Asked::Reject(Rejection::BadRequest));

@@ -3,7 +3,7 @@ use Rattle.std.proofs.Common.{◌≡◌, ℕ, ◌+◌, ◌-◌, ◌<◌, ◌≤�
 use Rattle.std.proofs.lemmas.List.{take_more, take_rest, get_or-drop}
 use Rattle.std.proofs.lemmas.Grind.{flat_map-append}
 use Rattle.std.proofs.Math.Seq.{take-add}
-use Rattle.bike_json.specs.Escapes.{escaped_byte, escaped}
+use Rattle.bike_json.specs.Escapes.{escaped_byte, json_escapes}
 
 -- a run with one byte more
 run_more : (s : List ℕ) (start i : ℕ) → start ≤ i → i < length s → slice_range s start (i + 1) ≡ slice_range s start i ++ get_or s i 0 ∷ []
@@ -21,32 +21,32 @@ take_run s start i le =
 
 -- a byte that stands for itself
 pub run_goes_on : (s : List ℕ) (start i : ℕ) → start ≤ i → i < length s → escaped_byte (get_or s i 0) ≡ get_or s i 0 ∷ []
-    → escaped (slice_range s start i) ≡ slice_range s start i → escaped (slice_range s start (i + 1)) ≡ slice_range s start (i + 1)
+    → json_escapes (slice_range s start i) ≡ slice_range s start i → json_escapes (slice_range s start (i + 1)) ≡ slice_range s start (i + 1)
 run_goes_on s start i le lt plain run =
     let more = run_more s start i le lt in
     let b = get_or s i 0 in
-    ap escaped more ∙ (flat_map-append escaped_byte (slice_range s start i) (b ∷ [])
-    ∙ (ap (λ l. l ++ escaped (b ∷ [])) run ∙ (ap (λ l. slice_range s start i ++ l) (append-nil (escaped_byte b) ∙ plain) ∙ sym more)))
+    ap json_escapes more ∙ (flat_map-append escaped_byte (slice_range s start i) (b ∷ [])
+    ∙ (ap (λ l. l ++ json_escapes (b ∷ [])) run ∙ (ap (λ l. slice_range s start i ++ l) (append-nil (escaped_byte b) ∙ plain) ∙ sym more)))
 
 -- a byte with an escape ends the run
 pub run_ends : (s : List ℕ) (start i : ℕ) (e : List ℕ) → start ≤ i → i < length s → e ≡ escaped_byte (get_or s i 0)
-    → escaped (slice_range s start i) ≡ slice_range s start i → (escaped (take start s) ++ slice_range s start i) ++ e ≡ escaped (take (i + 1) s)
+    → json_escapes (slice_range s start i) ≡ slice_range s start i → (json_escapes (take start s) ++ slice_range s start i) ++ e ≡ json_escapes (take (i + 1) s)
 run_ends s start i e le lt is run =
     let b = get_or s i 0 in
-    ap (λ l. (escaped (take start s) ++ l) ++ e) (sym run)
-    ∙ (ap (λ l. l ++ e) (sym (flat_map-append escaped_byte (take start s) (slice_range s start i)) ∙ ap escaped (sym (take_run s start i le)))
-    ∙ (ap (λ l. escaped (take i s) ++ l) (is ∙ sym (append-nil (escaped_byte b)))
-    ∙ (sym (flat_map-append escaped_byte (take i s) (b ∷ [])) ∙ ap escaped (sym (take_more s i 0 lt)))))
+    ap (λ l. (json_escapes (take start s) ++ l) ++ e) (sym run)
+    ∙ (ap (λ l. l ++ e) (sym (flat_map-append escaped_byte (take start s) (slice_range s start i)) ∙ ap json_escapes (sym (take_run s start i le)))
+    ∙ (ap (λ l. json_escapes (take i s) ++ l) (is ∙ sym (append-nil (escaped_byte b)))
+    ∙ (sym (flat_map-append escaped_byte (take i s) (b ∷ [])) ∙ ap json_escapes (sym (take_more s i 0 lt)))))
 
 -- the last run
-pub run_last : (s : List ℕ) (start : ℕ) → escaped (slice_range s start (length s)) ≡ slice_range s start (length s)
-    → escaped (take start s) ++ slice_range s start (length s) ≡ escaped s
+pub run_last : (s : List ℕ) (start : ℕ) → json_escapes (slice_range s start (length s)) ≡ slice_range s start (length s)
+    → json_escapes (take start s) ++ slice_range s start (length s) ≡ json_escapes s
 run_last s start run =
-    ap (λ l. escaped (take start s) ++ l) (sym run)
+    ap (λ l. json_escapes (take start s) ++ l) (sym run)
     ∙ (sym (flat_map-append escaped_byte (take start s) (slice_range s start (length s)))
-    ∙ ap escaped (ap (λ l. take start s ++ l) (take_rest s start) ∙ take-append-drop start s))
+    ∙ ap json_escapes (ap (λ l. take start s ++ l) (take_rest s start) ∙ take-append-drop start s))
 
-pub run_none : (s : List ℕ) (k : ℕ) → escaped (slice_range s k k) ≡ slice_range s k k
+pub run_none : (s : List ℕ) (k : ℕ) → json_escapes (slice_range s k k) ≡ slice_range s k k
 run_none s k =
     let none : k - k ≡ 0 = omega arith in
-    ap (λ n. escaped (take n (drop k s))) none ∙ ap (λ n. take n (drop k s)) (sym none)
+    ap (λ n. json_escapes (take n (drop k s))) none ∙ ap (λ n. take n (drop k s)) (sym none)

@@ -1,7 +1,7 @@
 -- Each call keeps what was written a front of one value's text.
 use Rattle.std.proofs.Common.{◌≡◌, ℕ, pos, List, [], ◌∷◌, ◌++◌, true, false, IsTrue, refl, sym, ◌∙◌, subst, append_assoc, append-nil}
 use Rattle.bike_json.specs.Tree.{Tree, object, array, whole, Members, no_members, member, Items, no_items, item, comma, text_of, members_text, items_text}
-use Rattle.bike_json.specs.Escapes.{quoted}
+use Rattle.bike_json.specs.Escapes.{string_text}
 use Rattle.bike_json.specs.Front.{BeginsText, IsText, Calls, none, value, name, begin_array, begin_object, end_array, end_object}
 use Rattle.bike_json.specs.State.{takes_value, takes_name, takes_array_end, has_more, after_value}
 use Rattle.bike_json.specs.declared.level.Level.{Level}
@@ -102,7 +102,7 @@ named : (b c q x t rest end : List ℕ) → b ++ ((c ++ (q ++ (x ++ (t ++ rest))
 named b c q x t rest end = simp append_assoc
 
 stands_named : (round : List Level) (top : Level) (b n : List ℕ) → IsTrue (takes_name top) → Stands round top b
-    → Stands round NamedObject (b ++ (comma (has_more top) ++ quoted n ++ 58 ∷ []))
+    → Stands round NamedObject (b ++ (comma (has_more top) ++ string_text n ++ 58 ∷ []))
 stands_named [] Start b n ok s = absurd (cc ok)
 stands_named [] Done b n ok s = absurd (cc ok)
 stands_named [] EmptyArray b n ok s = absurd s
@@ -115,9 +115,9 @@ stands_named (outer ∷ round) Done b n ok s = absurd s
 stands_named (outer ∷ round) EmptyArray b n ok s = absurd (cc ok)
 stands_named (outer ∷ round) FilledArray b n ok s = absurd (cc ok)
 stands_named (outer ∷ round) EmptyObject b n ok s =
-    λ t ms. subst (Stands round outer) (named b [] (quoted n) (58 ∷ []) (text_of t) (members_text true ms) (125 ∷ [])) (s (member n t ms))
+    λ t ms. subst (Stands round outer) (named b [] (string_text n) (58 ∷ []) (text_of t) (members_text true ms) (125 ∷ [])) (s (member n t ms))
 stands_named (outer ∷ round) FilledObject b n ok s =
-    λ t ms. subst (Stands round outer) (named b (44 ∷ []) (quoted n) (58 ∷ []) (text_of t) (members_text true ms) (125 ∷ [])) (s (member n t ms))
+    λ t ms. subst (Stands round outer) (named b (44 ∷ []) (string_text n) (58 ∷ []) (text_of t) (members_text true ms) (125 ∷ [])) (s (member n t ms))
 stands_named (outer ∷ round) NamedObject b n ok s = absurd (cc ok)
 
 stands : (round : List Level) (top : Level) (b : List ℕ) → Calls round top b → Stands round top b

@@ -4,7 +4,7 @@ use Rattle.std.specs.Prelude.{nat_lt}
 use Rattle.std.proofs.lemmas.Bool.{lt-ltb, lt-leb, le-leb, cases_lt}
 use Rattle.std.proofs.lemmas.Bool.Decides.{eqb_tells}
 use Rattle.std.proofs.lemmas.Str.{encode_ascii}
-use Rattle.bike_json.specs.Escapes.{hex_digit, escaped_byte, escaped, quoted}
+use Rattle.bike_json.specs.Escapes.{hex_digit, escaped_byte, json_escapes, string_text}
 use Rattle.bike_json.specs.Strings.{hex_value, unit_value, put, read_characters, read_unit, read_string}
 
 not_lt : (a b : ℕ) → b ≤ a → nat_lt a b ≡ false
@@ -71,12 +71,12 @@ byte_back b tail = elim (eqb_tells b 34) [
   ]
 ]
 
-characters_back : (text rest : List ℕ) → read_characters (escaped text ++ 34 ∷ rest) ≡ Some (text, rest)
+characters_back : (text rest : List ℕ) → read_characters (json_escapes text ++ 34 ∷ rest) ≡ Some (text, rest)
 characters_back [] rest = refl
 characters_back (b ∷ text) rest =
-    ap read_characters (append_assoc (escaped_byte b) (escaped text) (34 ∷ rest))
-    ∙ (byte_back b (escaped text ++ 34 ∷ rest) ∙ ap (put (b ∷ [])) (characters_back text rest))
+    ap read_characters (append_assoc (escaped_byte b) (json_escapes text) (34 ∷ rest))
+    ∙ (byte_back b (json_escapes text ++ 34 ∷ rest) ∙ ap (put (b ∷ [])) (characters_back text rest))
 
-pub string_back : (text rest : List ℕ) → read_string (quoted text ++ rest) ≡ Some (text, rest)
-unfolding quoted
-string_back text rest = ap read_characters (append_assoc (escaped text) (34 ∷ []) rest) ∙ characters_back text rest
+pub string_back : (text rest : List ℕ) → read_string (string_text text ++ rest) ≡ Some (text, rest)
+unfolding string_text
+string_back text rest = ap read_characters (append_assoc (json_escapes text) (34 ∷ []) rest) ∙ characters_back text rest

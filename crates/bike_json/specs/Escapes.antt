@@ -19,9 +19,9 @@ escaped_byte b =
     else b ∷ []
 
 -- the text with its escapes
-abbrev pub escaped : List ℕ → List ℕ
-escaped = flat_map escaped_byte
+abbrev pub json_escapes : List ℕ → List ℕ
+json_escapes = flat_map escaped_byte
 
 -- the text with its escapes, between quotation marks
-unfoldable pub quoted : List ℕ → List ℕ
-quoted text = (34 ∷ []) ++ escaped text ++ (34 ∷ [])
+unfoldable pub string_text : List ℕ → List ℕ
+string_text text = (34 ∷ []) ++ json_escapes text ++ (34 ∷ [])

@@ -2,7 +2,7 @@
 use Rattle.std.specs.Prelude.{ℕ, ℤ, List, [], ◌∷◌, ◌++◌, Bool, true, false}
 use Rattle.std.specs.Fmt.{signed_decimal}
 use Rattle.bike_fixed.specs.Text.{cents_text, micro_text}
-use Rattle.bike_json.specs.Escapes.{quoted}
+use Rattle.bike_json.specs.Escapes.{string_text}
 
 mutual
   -- a value; an amount in hundredths and a coordinate in microdegrees are numbers with a fixed count of decimals
@@ -40,7 +40,7 @@ abbrev mutual
   pub text_of : Tree → List ℕ
   text_of (object members) = 123 ∷ (members_text false members ++ 125 ∷ [])
   text_of (array items) = 91 ∷ (items_text false items ++ 93 ∷ [])
-  text_of (text bytes) = quoted bytes
+  text_of (text bytes) = string_text bytes
   text_of (whole z) = signed_decimal z
   text_of (cents z) = cents_text z
   text_of (micro z) = micro_text z
@@ -49,7 +49,7 @@ abbrev mutual
   -- the text of members, with whether others stand before them
   pub members_text : Bool → Members → List ℕ
   members_text more no_members = []
-  members_text more (member name value members) = comma more ++ (quoted name ++ 58 ∷ (text_of value ++ members_text true members))
+  members_text more (member name value members) = comma more ++ (string_text name ++ 58 ∷ (text_of value ++ members_text true members))
 
   -- the text of items, with whether others stand before them
   pub items_text : Bool → Items → List ℕ

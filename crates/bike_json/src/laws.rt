@@ -1,7 +1,7 @@
 //! What the calls and the escapes mean.
 
 ghost use Rattle.std.specs.Prelude.{◌≡◌, ℕ, List, [], ◌++◌, Some};
-ghost use Rattle.bike_json.specs.Escapes.{quoted};
+ghost use Rattle.bike_json.specs.Escapes.{string_text};
 ghost use Rattle.bike_json.specs.Front.{Calls, BeginsText, IsText};
 ghost use Rattle.bike_json.specs.Strings.{read_string};
 ghost use Rattle.bike_json.specs.declared.level.Level.{Level as AnyLevel};
@@ -18,5 +18,5 @@ pub fn text_laws(_open: Level)
 /// A string is read back as the text that was written: so different texts have different strings, and
 /// nothing in a text can end its string.
 pub fn string_laws()
-    ensures { (text rest : List ℕ) → read_string (quoted text ++ rest) ≡ Some (text, rest) }
+    ensures { (text rest : List ℕ) → read_string (string_text text ++ rest) ≡ Some (text, rest) }
 {}

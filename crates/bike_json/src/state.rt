@@ -3,7 +3,7 @@
 ghost use Rattle.std.specs.Prelude.{◌≡◌, ◌<◌, ◌++◌, ◌∷◌, [], IsTrue, length, true, not, is_ok, cond};
 ghost use Rattle.std.specs.Fmt.{signed_decimal};
 ghost use Rattle.bike_fixed.specs.Text.{cents_text, micro_text};
-ghost use Rattle.bike_json.specs.Escapes.{escaped, quoted};
+ghost use Rattle.bike_json.specs.Escapes.{json_escapes, string_text};
 ghost use Rattle.bike_json.specs.Tree.{comma, flag_text};
 ghost use Rattle.bike_json.specs.State.{Wrote, IsAt, outset, takes_value, takes_name, takes_array_end, has_more, after_value};
 
@@ -123,7 +123,7 @@ impl JsonState {
     pub fn name<W: Output>(&mut self, out: &mut W, name: &str) -> Result<(), WriteFault>
         requires name { IsTrue (takes_name self.old.top) }
         ensures wrote { Wrote self.old self.new (W.contents out.old) (W.contents out.new)
-            (comma (has_more self.old.top) ++ quoted name.now ++ 58 ∷ []) }
+            (comma (has_more self.old.top) ++ string_text name.now ++ 58 ∷ []) }
         ensures place { IsAt self.new Level.NamedObject self.old.round }
         ensures count { self.new.failed ≡ true → self.new.count ≡ self.old.count }
         ensures outcome { is_ok result ≡ not self.new.failed }
@@ -139,7 +139,7 @@ impl JsonState {
     /// A string.
     pub fn text<W: Output>(&mut self, out: &mut W, text: &str) -> Result<(), WriteFault>
         requires { IsTrue (takes_value self.old.top) }
-        ensures wrote { Wrote self.old self.new (W.contents out.old) (W.contents out.new) (comma (has_more self.old.top) ++ quoted text.now) }
+        ensures wrote { Wrote self.old self.new (W.contents out.old) (W.contents out.new) (comma (has_more self.old.top) ++ string_text text.now) }
         ensures place { IsAt self.new (after_value self.old.top) self.old.round }
         ensures count { self.new.failed ≡ true → self.new.count ≡ self.old.count }
         ensures outcome { is_ok result ≡ not self.new.failed }
@@ -253,7 +253,7 @@ impl JsonState {
     }
 
     fn quoted<W: Output>(&mut self, out: &mut W, text: &str)
-        ensures wrote { Wrote self.old self.new (W.contents out.old) (W.contents out.new) (quoted text.now) }
+        ensures wrote { Wrote self.old self.new (W.contents out.old) (W.contents out.new) (string_text text.now) }
         ensures place { IsAt self.new self.old.top self.old.round }
     {
         self.emit(out, b"\"");
@@ -263,7 +263,7 @@ impl JsonState {
 
     /// The bytes with their escapes; those that stand for themselves are written in as few runs as there are.
     fn escaped<W: Output>(&mut self, out: &mut W, bytes: &[u8])
-        ensures wrote { Wrote self.old self.new (W.contents out.old) (W.contents out.new) (escaped bytes.now) }
+        ensures wrote { Wrote self.old self.new (W.contents out.old) (W.contents out.new) (json_escapes bytes.now) }
         ensures place { IsAt self.new self.old.top self.old.round }
     {
         let mut buf = [0u8; 6];

@@ -3,7 +3,7 @@
 ghost use Rattle.std.specs.Prelude.{◌≡◌, ◌<◌, ◌++◌, ◌∷◌, [], IsTrue, length, true, not, is_ok};
 ghost use Rattle.std.specs.Fmt.{signed_decimal};
 ghost use Rattle.bike_fixed.specs.Text.{cents_text, micro_text};
-ghost use Rattle.bike_json.specs.Escapes.{quoted};
+ghost use Rattle.bike_json.specs.Escapes.{string_text};
 ghost use Rattle.bike_json.specs.Tree.{comma, flag_text};
 ghost use Rattle.bike_json.specs.State.{Wrote, IsAt, outset, takes_value, takes_name, takes_array_end, has_more, after_value};
 
@@ -111,7 +111,7 @@ impl<W: Output + Drop> JsonWriter<W> {
     pub fn name(&mut self, name: &str) -> Result<(), WriteFault>
         requires name { IsTrue (takes_name self.old.place.top) }
         ensures wrote { Wrote self.old.place self.new.place self.old.contents self.new.contents
-            (comma (has_more self.old.place.top) ++ quoted name.now ++ 58 ∷ []) }
+            (comma (has_more self.old.place.top) ++ string_text name.now ++ 58 ∷ []) }
         ensures place { IsAt self.new.place Level.NamedObject self.old.place.round }
         ensures count { self.new.place.failed ≡ true → self.new.place.count ≡ self.old.place.count }
         ensures outcome { is_ok result ≡ not self.new.place.failed }
@@ -122,7 +122,7 @@ impl<W: Output + Drop> JsonWriter<W> {
     /// A string.
     pub fn text(&mut self, text: &str) -> Result<(), WriteFault>
         requires { IsTrue (takes_value self.old.place.top) }
-        ensures wrote { Wrote self.old.place self.new.place self.old.contents self.new.contents (comma (has_more self.old.place.top) ++ quoted text.now) }
+        ensures wrote { Wrote self.old.place self.new.place self.old.contents self.new.contents (comma (has_more self.old.place.top) ++ string_text text.now) }
         ensures place { IsAt self.new.place (after_value self.old.place.top) self.old.place.round }
         ensures count { self.new.place.failed ≡ true → self.new.place.count ≡ self.old.place.count }
         ensures outcome { is_ok result ≡ not self.new.place.failed }

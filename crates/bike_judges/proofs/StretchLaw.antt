@@ -23,7 +23,7 @@ use Rattle.bike_book.specs.Tables.{TableName, Tables, rows_in, keys_of}
 use Rattle.bike_readings.specs.Rules.{AreInOrder}
 use Rattle.bike_judges.specs.declared.pass.Opening.{Opening}
 use Rattle.bike_judges.specs.declared.pass.Opening.TheVariants.{Head, Unread, Item}
-use Rattle.bike_judges.specs.Lines.{head, merged, merged_of_three}
+use Rattle.bike_judges.specs.Lines.{head, merge_of_two, merge_of_three}
 use Rattle.bike_judges.specs.Passes.{first_failing, pass, pass_line, closed, is_good_with, Demands}
 use Rattle.bike_judges.specs.Verdicts.{IsFirstFailing}
 use Rattle.bike_judges.proofs.LineLaw.{lines_verdict}
@@ -402,14 +402,14 @@ module _ {A : Type 0} (begins : Row → Opening A) (more : A → Row → A) (goo
     -- THE VERDICT of two tables
     pub merged_verdict : (second : Row → Row) (ys : List Row) → AreItems second
         → AreApartAll (by_key_total 3) (map (head spare) (rows_in t name) ++ map second ys)
-        → (verdict : Option Row) → pass begins more good key (take 1) None 0 (merged 3 (head spare) (rows_in t name) second ys) ≡ verdict
+        → (verdict : Option Row) → pass begins more good key (take 1) None 0 (merge_of_two 3 (head spare) (rows_in t name) second ys) ≡ verdict
         → IsFirstFailing t name (Demands t name (with_items (map second ys))) verdict
     merged_verdict second ys items apart = verdict_of (map second ys) (items_of second ys items) apart
 
     -- and of three
     pub merged_of_three_verdict : (second : Row → Row) (ys : List Row) (third : Row → Row) (zs : List Row) → AreItems second → AreItems third
         → AreApartAll (by_key_total 3) ((map (head spare) (rows_in t name) ++ map second ys) ++ map third zs)
-        → (verdict : Option Row) → pass begins more good key (take 1) None 0 (merged_of_three 3 (head spare) (rows_in t name) second ys third zs) ≡ verdict
+        → (verdict : Option Row) → pass begins more good key (take 1) None 0 (merge_of_three 3 (head spare) (rows_in t name) second ys third zs) ≡ verdict
         → IsFirstFailing t name (Demands t name (with_items (map second ys ++ map third zs))) verdict
     merged_of_three_verdict second ys third zs items also apart verdict is =
         let joined : (map (head spare) rows ++ map second ys) ++ map third zs ≡ map (head spare) rows ++ (map second ys ++ map third zs) = append_assoc (map (head spare) rows) (map second ys) (map third zs) in

@@ -86,11 +86,11 @@ abbrev pub count_bike_line : Row → Row
 count_bike_line row = column row 3 ∷ Int (pos 1) ∷ column row 1 ∷ Int (pos 1) ∷ column row 0 ∷ row
 
 -- the lines of two tables, and of three, in the order of their first columns
-abbrev pub merged : ℕ → (Row → Row) → List Row → (Row → Row) → List Row → List Row
-merged keys first xs second ys = in_order (by_key keys) (map first xs ++ map second ys)
+abbrev pub merge_of_two : ℕ → (Row → Row) → List Row → (Row → Row) → List Row → List Row
+merge_of_two keys first xs second ys = in_order (by_key keys) (map first xs ++ map second ys)
 
-abbrev pub merged_of_three : ℕ → (Row → Row) → List Row → (Row → Row) → List Row → (Row → Row) → List Row → List Row
-merged_of_three keys first xs second ys third zs = in_order (by_key keys) ((map first xs ++ map second ys) ++ map third zs)
+abbrev pub merge_of_three : ℕ → (Row → Row) → List Row → (Row → Row) → List Row → (Row → Row) → List Row → List Row
+merge_of_three keys first xs second ys third zs = in_order (by_key keys) ((map first xs ++ map second ys) ++ map third zs)
 
 -- ---- THE LINES OF EACH QUERY
 
@@ -101,12 +101,12 @@ lines_of query.Plans t = t.plans
 lines_of query.Segments t = left_joined (with_one 5) (0 ∷ []) 1 t.plans t.segments
 lines_of query.Types t = left_joined (with_one 5) (5 ∷ []) 1 t.plans t.types
 lines_of query.StationRows t = t.stations
-lines_of query.Stations t = merged_of_three 3 station_line t.stations station_dock_line t.docks station_bike_line t.bikes
+lines_of query.Stations t = merge_of_three 3 station_line t.stations station_dock_line t.docks station_bike_line t.bikes
 lines_of query.Docks t = left_joined (with_one 11) (0 ∷ []) 1 t.stations t.docks
 lines_of query.BikeNames t = twice_joined (with_two 6 11) (1 ∷ []) 1 t.types (3 ∷ []) 1 t.stations t.bikes
 lines_of query.BikeUses t = twice_joined (with_two 10 8) (5 ∷ []) 1 t.rentals (7 ∷ []) 1 t.orders t.bikes
-lines_of query.BikeDocks t = merged 4 dock_line t.docks docked_line t.bikes
-lines_of query.Trucks t = merged 3 truck_line t.trucks truck_bike_line t.bikes
+lines_of query.BikeDocks t = merge_of_two 4 dock_line t.docks docked_line t.bikes
+lines_of query.Trucks t = merge_of_two 3 truck_line t.trucks truck_bike_line t.bikes
 lines_of query.RiderRows t = t.riders
 lines_of query.Rentals t = t.rentals
 lines_of query.RentalRiders t = left_joined (with_one 3) (1 ∷ []) 1 t.riders t.rentals
@@ -116,10 +116,10 @@ lines_of query.RentalStations t = left_joined (with_one 11) (4 ∷ []) 1 t.stati
 lines_of query.RentalEnds t = left_joined (with_one 11) (6 ∷ []) 1 t.stations t.rentals
 lines_of query.OrderNames t = twice_joined (with_two 2 6) (1 ∷ []) 1 t.trucks (4 ∷ []) 1 t.types t.orders
 lines_of query.OrderEnds t = twice_joined (with_two 11 11) (2 ∷ []) 1 t.stations (3 ∷ []) 1 t.stations t.orders
-lines_of query.OrderBikes t = merged 3 order_line t.orders order_bike_line t.bikes
+lines_of query.OrderBikes t = merge_of_two 3 order_line t.orders order_bike_line t.bikes
 lines_of query.Entries t = t.entries
 lines_of query.EntryRiders t = left_joined (with_one 3) (2 ∷ []) 1 t.riders t.entries
 lines_of query.EntryRentals t = left_joined (with_one 10) (3 ∷ []) 1 t.rentals t.entries
 lines_of query.Kept t = t.kept
 lines_of query.CountNames t = twice_joined (with_two 11 6) (0 ∷ []) 1 t.stations (1 ∷ []) 1 t.types t.counts
-lines_of query.Counts t = merged_of_three 5 count_dock_line t.docks count_bike_line t.bikes count_line t.counts
+lines_of query.Counts t = merge_of_three 5 count_dock_line t.docks count_bike_line t.bikes count_line t.counts

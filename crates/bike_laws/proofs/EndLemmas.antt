@@ -16,9 +16,9 @@ use Rattle.bike_operator.specs.declared.records.Bike.{Bike}
 use Rattle.bike_operator.specs.declared.records.Rental.{Rental}
 use Rattle.bike_operator.specs.declared.records.Closing.{Closing}
 use Rattle.bike_operator.specs.declared.view.RentalView.{RentalView}
-use Rattle.bike_operator.specs.Operator.{Operator, Kept, texts_cmp, numbered}
+use Rattle.bike_operator.specs.Operator.{Operator, Kept, texts_cmp, item_numbered}
 use Rattle.bike_operator.specs.Counts.{count, open_rentals, is_open}
-use Rattle.bike_operator.specs.Steps.{fare_now, charged, ended, recovered, key_changed}
+use Rattle.bike_operator.specs.Steps.{fare_now, with_fare, after_end, after_recovery, key_changed}
 use Rattle.bike_operator.specs.Sound.{IsOut, IsStop, IsOpenOrClosed, fares_of, fares_in, most_refunded, IsRentalAt, AreRentalsSound, IsSound}
 use Rattle.bike_places.proofs.ItemLemmas.{number_apart, length-number_changed}
 use Rattle.bike_places.proofs.Moment.{at_moment}
@@ -45,8 +45,8 @@ in_one_rental s n m bike other o p same =
 
 -- What is left where a rental is closed and its fare booked: names, and the bicycles of other rentals.
 pub record IsClosedIn (s x : Operator) (r : RentalView) (to_station : Option (List ℕ)) (now : ℕ) : Type 0 where
-  pub rentals : x.rentals ≡ (charged r to_station now s).rentals
-  pub entries : x.entries ≡ (charged r to_station now s).entries
+  pub rentals : x.rentals ≡ (with_fare r to_station now s).rentals
+  pub entries : x.entries ≡ (with_fare r to_station now s).entries
   pub riders : (id : ℕ) → finmap.contains_key s.riders id ≡ true → finmap.contains_key x.riders id ≡ true
   pub bikes : (id : ℕ) → finmap.contains_key s.bikes id ≡ true → finmap.contains_key x.bikes id ≡ true
   pub plans : (id : List ℕ) → finmap.contains_key s.plans id ≡ true → finmap.contains_key x.plans id ≡ true
@@ -80,15 +80,15 @@ rentals_charged s x now kept r to_station order later v ongoing is =
     keeps : KeepsNames s next
     keeps = record { riders = is.riders; bikes = is.bikes; plans = is.plans; stations = is.stations; later = later }
 
-    before : (n : ℕ) (y : Rental) → numbered n x.rentals ≡ Some y → (n ≡ r.number → ⊥) → numbered n s.rentals ≡ Some y
-    before n y i apart = sym (ap (λ (rs : List Rental). numbered n rs) is.rentals ∙ number_apart r.number (closed_by c) s.rentals n apart) ∙ i
+    before : (n : ℕ) (y : Rental) → item_numbered n x.rentals ≡ Some y → (n ≡ r.number → ⊥) → item_numbered n s.rentals ≡ Some y
+    before n y i apart = sym (ap (λ (rs : List Rental). item_numbered n rs) is.rentals ∙ number_apart r.number (closed_by c) s.rentals n apart) ∙ i
 
-    closed_row : (n : ℕ) (y : Rental) → numbered n x.rentals ≡ Some y → n ≡ r.number → closed_by c r.rental ≡ y
+    closed_row : (n : ℕ) (y : Rental) → item_numbered n x.rentals ≡ Some y → n ≡ r.number → closed_by c r.rental ≡ y
     closed_row n y i same =
         same_Some (closed_by c r.rental) y
-        (sym (number_same r.number (closed_by c) s.rentals r.rental v.found) ∙ sym (ap (λ (rs : List Rental). numbered r.number rs) is.rentals) ∙ ap (λ (m : ℕ). numbered m x.rentals) (sym same) ∙ i)
+        (sym (number_same r.number (closed_by c) s.rentals r.rental v.found) ∙ sym (ap (λ (rs : List Rental). item_numbered r.number rs) is.rentals) ∙ ap (λ (m : ℕ). item_numbered m x.rentals) (sym same) ∙ i)
 
-    still : (n : ℕ) (y : Rental) → numbered n x.rentals ≡ Some y → is_open y ≡ true → Either n r.number → numbered n s.rentals ≡ Some y
+    still : (n : ℕ) (y : Rental) → item_numbered n x.rentals ≡ Some y → is_open y ≡ true → Either n r.number → item_numbered n s.rentals ≡ Some y
     still n y i p (Same same) = let shut : false ≡ is_open y = ap (λ (z : Rental). is_open z) (closed_row n y i same) in absurd cc
     still n y i p (Other apart) = before n y i apart
 
@@ -129,7 +129,7 @@ rentals_charged s x now kept r to_station order later v ongoing is =
           refunded = omega (arith, ints, same, high, none, low);
         }
 
-    each : (n : ℕ) (y : Rental) → numbered n x.rentals ≡ Some y → Either n r.number → IsRentalAt next n y
+    each : (n : ℕ) (y : Rental) → item_numbered n x.rentals ≡ Some y → Either n r.number → IsRentalAt next n y
     each n y i (Same same) = subst (λ (z : Rental). IsRentalAt next n z) (closed_row n y i same) (subst (λ (m : ℕ). IsRentalAt next m (closed_by c r.rental)) (sym same) closed)
     each n y i (Other apart) =
         let at = order.rentals.rentals n y (before n y i apart) in
@@ -140,14 +140,14 @@ rentals_charged s x now kept r to_station order later v ongoing is =
 -- ---- in a dock, or recovered
 
 pub rentals_ended : (s : Operator) (now : ℕ) (kept : FinMap texts_cmp Kept) (bike : ℕ) (station : List ℕ) (dock : ℕ) (o : Option RentalView) → IsSound s → s.now ≤ now → finmap.contains_key s.stations station ≡ true
-    → ((r : RentalView) → o ≡ Some r → IsRentalOf s bike r) → AreRentalsSound (at_moment (ended bike station dock now o s) now kept)
+    → ((r : RentalView) → o ≡ Some r → IsRentalOf s bike r) → AreRentalsSound (at_moment (after_end bike station dock now o s) now kept)
 rentals_ended s now kept bike station dock None order later there is = rentals_untouched s now kept order later
 rentals_ended s now kept bike station dock (Some r) order later there is = go (is r refl) where
   docks : Bike → Bike
   docks x = record x { place = place.Dock station dock }
 
-  go : IsRentalOf s bike r → AreRentalsSound (at_moment (ended bike station dock now (Some r) s) now kept)
-  go at = rentals_charged s (ended bike station dock now (Some r) s) now kept r (Some station) order later at.view at.not_closed (record {
+  go : IsRentalOf s bike r → AreRentalsSound (at_moment (after_end bike station dock now (Some r) s) now kept)
+  go at = rentals_charged s (after_end bike station dock now (Some r) s) now kept r (Some station) order later at.view at.not_closed (record {
     rentals = refl;
     entries = refl;
     riders = λ id h. h;
@@ -165,7 +165,7 @@ rentals_ended s now kept bike station dock (Some r) order later there is = go (i
   })
 
 pub rentals_recovered : (s : Operator) (now : ℕ) (kept : FinMap texts_cmp Kept) (o : Option RentalView) → IsSound s → s.now ≤ now
-    → ((r : RentalView) → o ≡ Some r → IsViewOf s r × (is_open r.rental ≡ true)) → AreRentalsSound (at_moment (recovered now o s) now kept)
+    → ((r : RentalView) → o ≡ Some r → IsViewOf s r × (is_open r.rental ≡ true)) → AreRentalsSound (at_moment (after_recovery now o s) now kept)
 rentals_recovered s now kept None order later is = rentals_untouched s now kept order later
 rentals_recovered s now kept (Some r) order later is = go (is r refl).0 (is r refl).1 where
   parks : Bike → Bike
@@ -174,8 +174,8 @@ rentals_recovered s now kept (Some r) order later is = go (is r refl).0 (is r re
   marks : Bike → Bike
   marks x = record x { state = Disabled }
 
-  go : IsViewOf s r → is_open r.rental ≡ true → AreRentalsSound (at_moment (recovered now (Some r) s) now kept)
-  go v ongoing = rentals_charged s (recovered now (Some r) s) now kept r None order later v ongoing (record {
+  go : IsViewOf s r → is_open r.rental ≡ true → AreRentalsSound (at_moment (after_recovery now (Some r) s) now kept)
+  go v ongoing = rentals_charged s (after_recovery now (Some r) s) now kept r None order later v ongoing (record {
     rentals = refl;
     entries = refl;
     riders = λ id h. h;

@@ -16,7 +16,7 @@ use Rattle.bike_operator.specs.declared.records.Place.TheVariants as place
 use Rattle.bike_operator.specs.declared.records.Bike.{Bike}
 use Rattle.bike_operator.specs.declared.records.Rental.{Rental}
 use Rattle.bike_operator.specs.declared.view.RentalView.{RentalView}
-use Rattle.bike_operator.specs.Operator.{Operator, Station, Rider, numbered}
+use Rattle.bike_operator.specs.Operator.{Operator, Station, Rider, item_numbered}
 use Rattle.bike_operator.specs.Counts.{is_dock, docked_at, is_open}
 use Rattle.bike_operator.specs.View.{station_view, rider_view, planned_rental, rental_view, rental_in, rental_of}
 use Rattle.bike_operator.specs.Steps.{on, fare_now}
@@ -97,18 +97,18 @@ docked_is s station dock b is = record {
 
 -- the view of a rental that is there
 pub record IsViewOf (s : Operator) (r : RentalView) : Type 0 where
-  pub found : numbered r.number s.rentals ≡ Some r.rental
+  pub found : item_numbered r.number s.rentals ≡ Some r.rental
   pub plan_is : finmap.get s.plans r.rental.plan ≡ Some r.plan
   pub refunded_is : r.refunded ≡ refunded_of r.number s.entries
   pub balance_is : r.balance ≡ balance_of r.rental.rider s.entries
 
-planned_is : (s : Operator) (number : ℕ) (x : Rental) (o : Option PlanRow) (r : RentalView) → numbered number s.rentals ≡ Some x → finmap.get s.plans x.plan ≡ o → planned_rental s number x o ≡ Some r → IsViewOf s r
+planned_is : (s : Operator) (number : ℕ) (x : Rental) (o : Option PlanRow) (r : RentalView) → item_numbered number s.rentals ≡ Some x → finmap.get s.plans x.plan ≡ o → planned_rental s number x o ≡ Some r → IsViewOf s r
 planned_is s number x None r found plan is = absurd cc
 planned_is s number x (Some p) r found plan is =
     subst (IsViewOf s) (same_Some (record { number = number; rental = x; plan = p; refunded = refunded_of number s.entries; balance = balance_of x.rider s.entries }) r is)
     (record { found = found; plan_is = plan; refunded_is = refl; balance_is = refl })
 
-pub view_is : (s : Operator) (number : ℕ) (o : Option Rental) (r : RentalView) → numbered number s.rentals ≡ o → rental_view s number o ≡ Some r → IsViewOf s r
+pub view_is : (s : Operator) (number : ℕ) (o : Option Rental) (r : RentalView) → item_numbered number s.rentals ≡ o → rental_view s number o ≡ Some r → IsViewOf s r
 view_is s number None r found is = absurd cc
 view_is s number (Some x) r found is = planned_is s number x (finmap.get s.plans x.plan) r found refl is
 
@@ -131,9 +131,9 @@ rental_in_is s bike type_id (place.Dock station dock) r placed is = absurd cc
 rental_in_is s bike type_id (place.Truck truck order) r placed is = absurd cc
 rental_in_is s bike type_id place.Depot r placed is = absurd cc
 rental_in_is s bike type_id (place.Rental rental) r placed is =
-    let v : IsViewOf s r = view_is s rental (numbered rental s.rentals) r refl is in
-    let number : rental ≡ r.number = view_number s rental (numbered rental s.rentals) r is in
-    let same : placed.row ≡ r.rental = same_Some placed.row r.rental (sym placed.found ∙ ap (λ (n : ℕ). numbered n s.rentals) number ∙ v.found) in
+    let v : IsViewOf s r = view_is s rental (item_numbered rental s.rentals) r refl is in
+    let number : rental ≡ r.number = view_number s rental (item_numbered rental s.rentals) r is in
+    let same : placed.row ≡ r.rental = same_Some placed.row r.rental (sym placed.found ∙ ap (λ (n : ℕ). item_numbered n s.rentals) number ∙ v.found) in
     record { view = v; not_closed = ap (λ (x : Rental). is_open x) (sym same) ∙ placed.not_closed; bike_is = ap (λ (x : Rental). x.bike) (sym same) ∙ placed.bike_is }
 
 pub rental_is : (s : Operator) (bike : ℕ) (o : Option Bike) (r : RentalView) → AreBikesSound s → finmap.get s.bikes bike ≡ o → rental_of s o ≡ Some r → IsRentalOf s bike r

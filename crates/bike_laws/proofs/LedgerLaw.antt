@@ -4,7 +4,7 @@ use Rattle.std.specs.FinMap as finmap
 use Rattle.std.specs.Cmp.{nat_cmp_total}
 use Rattle.bike_ledger.specs.declared.entry.EntryKind.TheVariants.{TopUp}
 use Rattle.bike_commands.specs.declared.command.Command.TheVariants as command
-use Rattle.bike_operator.specs.Operator.{numbered}
+use Rattle.bike_operator.specs.Operator.{item_numbered}
 use Rattle.bike_operator.specs.Counts.{open_rentals, docked_at}
 use Rattle.bike_operator.specs.View.{view_of, rental_view, rental_of, docked_view}
 use Rattle.bike_operator.specs.declared.limits.TheConstants.{MOST_RIDERS, MOST_ENTRIES}
@@ -49,11 +49,11 @@ ledger_law s now (command.End bike station dock) kept order good none later =
     ledger_ended s now kept bike station dock (rental_of s (finmap.get s.bikes bike)) order later (λ r i. rental_is s bike (finmap.get s.bikes bike) r order.bikes refl i)
 ledger_law s now (command.Recover rental) kept order good none later =
     let free = none_holds (tests (view_of s (command.Recover rental)) (command.Recover rental)) none in
-    ledger_recovered s now kept (rental_view s rental (numbered rental s.rentals)) order later
-    (λ r i. (view_is s rental (numbered rental s.rentals) r refl i, open_of (rental_view s rental (numbered rental s.rentals)) r i free.1.0))
+    ledger_recovered s now kept (rental_view s rental (item_numbered rental s.rentals)) order later
+    (λ r i. (view_is s rental (item_numbered rental s.rentals) r refl i, open_of (rental_view s rental (item_numbered rental s.rentals)) r i free.1.0))
 ledger_law s now (command.Refund rental amount) kept order good none later =
     let free = none_holds (tests (view_of s (command.Refund rental amount)) (command.Refund rental amount)) none in
-    ledger_refunded s now kept amount (rental_view s rental (numbered rental s.rentals)) order
+    ledger_refunded s now kept amount (rental_view s rental (item_numbered rental s.rentals)) order
     (record { room = below_of MOST_ENTRIES (length s.entries + open_rentals s) free.1.1.1.0 }) (record { low = good.1.0.0; high = good.1.0.1 }) later
-    (λ r i. (view_is s rental (numbered rental s.rentals) r refl i, closed_of (rental_view s rental (numbered rental s.rentals)) r i free.1.0))
+    (λ r i. (view_is s rental (item_numbered rental s.rentals) r refl i, closed_of (rental_view s rental (item_numbered rental s.rentals)) r i free.1.0))
 ledger_law s now c kept order good none later = ledger_quiet s (effect s now c) now kept order.ledger later (quiet_kind s now c refl none) (same_riders s now c refl)

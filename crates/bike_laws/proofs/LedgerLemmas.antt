@@ -11,10 +11,10 @@ use Rattle.bike_operator.specs.declared.records.Rental.{Rental}
 use Rattle.bike_operator.specs.declared.records.Closing.{Closing}
 use Rattle.bike_operator.specs.declared.view.RentalView.{RentalView}
 use Rattle.bike_operator.specs.declared.view.DockedBike.{DockedBike}
-use Rattle.bike_operator.specs.Operator.{Operator, Rider, Kept, texts_cmp, numbered, number_changed}
+use Rattle.bike_operator.specs.Operator.{Operator, Rider, Kept, texts_cmp, item_numbered, number_changed}
 use Rattle.bike_operator.specs.Counts.{count, open_rentals, is_open}
 use Rattle.bike_operator.specs.declared.limits.TheConstants.{MOST_RIDERS, MOST_ENTRIES}
-use Rattle.bike_operator.specs.Steps.{fare_now, booked, charged, started, ended, recovered, refunded_by}
+use Rattle.bike_operator.specs.Steps.{fare_now, with_entry, with_fare, after_start, after_end, after_recovery, refunded_by}
 use Rattle.bike_operator.specs.Sound.{IsPayment, IsRiderNumber, IsOfRental, IsBooking, IsEntryAt, IsLedgerSound, IsSound}
 use Rattle.bike_places.proofs.ItemLemmas.{number_stays, number_or_last, number_apart}
 use Rattle.bike_places.proofs.Moment.{at_moment}
@@ -30,7 +30,7 @@ use Rattle.bike_laws.proofs.QuietLemmas.{IsQuiet, quiet_fields}
 -- riders stay, and closed rentals stay as they are
 pub record KeepsBooked (s next : Operator) : Type 0 where
   pub riders : (id : ℕ) → finmap.contains_key s.riders id ≡ true → finmap.contains_key next.riders id ≡ true
-  pub closed : (n : ℕ) (x : Rental) (c : Closing) → numbered n s.rentals ≡ Some x → x.closing ≡ Some c → numbered n next.rentals ≡ Some x
+  pub closed : (n : ℕ) (x : Rental) (c : Closing) → item_numbered n s.rentals ≡ Some x → x.closing ≡ Some c → item_numbered n next.rentals ≡ Some x
   pub later : s.now ≤ next.now
 
 of_rental_stands : (s next : Operator) (e : Entry) → KeepsBooked s next → IsOfRental s e → IsOfRental next e
@@ -56,7 +56,7 @@ ledger_same s next ledger k riders entries ongoing =
     let count_entries : length next.entries ≡ length s.entries = ap (λ (es : List Entry). length es) entries in
     record {
       riders = λ number r i. ledger.riders number r (ap (λ m. finmap.get m number) (sym riders) ∙ i);
-      entries = λ number e i. entry_stands s next number e k (ledger.entries number e (ap (λ (es : List Entry). numbered number es) (sym entries) ∙ i));
+      entries = λ number e i. entry_stands s next number e k (ledger.entries number e (ap (λ (es : List Entry). item_numbered number es) (sym entries) ∙ i));
       few_riders = omega (arith, few_riders, count_riders);
       few_entries = omega (arith, few_entries, count_entries, ongoing);
     }
@@ -70,12 +70,12 @@ ledger_booked s next e ledger k riders entries last few =
     let count_entries : length next.entries ≡ length s.entries + 1 = ap (λ (es : List Entry). length es) entries ∙ length-append s.entries (e ∷ []) in
     record {
       riders = λ number r i. ledger.riders number r (ap (λ m. finmap.get m number) (sym riders) ∙ i);
-      entries = λ number x i. each number x (ap (λ (es : List Entry). numbered number es) (sym entries) ∙ i);
+      entries = λ number x i. each number x (ap (λ (es : List Entry). item_numbered number es) (sym entries) ∙ i);
       few_riders = omega (arith, few_riders, count_riders);
       few_entries = omega (arith, few, count_entries);
     }
   where
-    each : (number : ℕ) (x : Entry) → numbered number (s.entries ++ e ∷ []) ≡ Some x → IsEntryAt next number x
+    each : (number : ℕ) (x : Entry) → item_numbered number (s.entries ++ e ∷ []) ≡ Some x → IsEntryAt next number x
     each number x i = elim (number_or_last number s.entries e x i) [
       | inl w ↦ entry_stands s next number x k (ledger.entries number x w)
       | inr w ↦ subst (λ (y : Entry). IsEntryAt next number y) (sym w.1) (subst (λ (n : ℕ). IsEntryAt next n e) (sym w.0) last)
@@ -86,7 +86,7 @@ ledger_booked s next e ledger k riders entries last few =
 quiet_keeps : (s x : Operator) (now : ℕ) (kept : FinMap texts_cmp Kept) → s.now ≤ now → IsQuiet s x → KeepsBooked s (at_moment x now kept)
 quiet_keeps s x now kept later q = record {
   riders = q.riders;
-  closed = λ n y c found closed. ap (λ (rs : List Rental). numbered n rs) q.rentals ∙ found;
+  closed = λ n y c found closed. ap (λ (rs : List Rental). item_numbered n rs) q.rentals ∙ found;
   later = later;
 }
 
@@ -116,7 +116,7 @@ open_apart x y c same closed ongoing =
 
 -- the rental is closed and its fare is booked
 pub ledger_charged : (s x : Operator) (now : ℕ) (kept : FinMap texts_cmp Kept) (r : RentalView) (to_station : Option (List ℕ)) → IsSound s → s.now ≤ now → IsViewOf s r → is_open r.rental ≡ true
-    → x.riders ≡ s.riders → x.rentals ≡ (charged r to_station now s).rentals → x.entries ≡ (charged r to_station now s).entries → IsLedgerSound (at_moment x now kept)
+    → x.riders ≡ s.riders → x.rentals ≡ (with_fare r to_station now s).rentals → x.entries ≡ (with_fare r to_station now s).entries → IsLedgerSound (at_moment x now kept)
 ledger_charged s x now kept r to_station order later v ongoing riders rentals entries =
     ledger_booked s (at_moment x now kept) _ order.ledger keeps riders entries last few
   where
@@ -130,8 +130,8 @@ ledger_charged s x now kept r to_station order later v ongoing riders rentals en
     keeps = record {
       riders = λ id h. ap (λ m. finmap.contains_key m id) riders ∙ h;
       closed = λ n y d found closed.
-          ap (λ (rs : List Rental). numbered n rs) changed
-          ∙ number_apart r.number (closed_by c) s.rentals n (λ same. open_apart y r.rental d (same_Some y r.rental (sym found ∙ ap (λ (m : ℕ). numbered m s.rentals) same ∙ v.found)) closed ongoing)
+          ap (λ (rs : List Rental). item_numbered n rs) changed
+          ∙ number_apart r.number (closed_by c) s.rentals n (λ same. open_apart y r.rental d (same_Some y r.rental (sym found ∙ ap (λ (m : ℕ). item_numbered m s.rentals) same ∙ v.found)) closed ongoing)
           ∙ found;
       later = later;
     }
@@ -147,7 +147,7 @@ ledger_charged s x now kept r to_station order later v ongoing riders rentals en
             record {
               row = closed_by c r.rental;
               closing = c;
-              found = ap (λ (rs : List Rental). numbered r.number rs) changed ∙ number_same r.number (closed_by c) s.rentals r.rental v.found;
+              found = ap (λ (rs : List Rental). item_numbered r.number rs) changed ∙ number_same r.number (closed_by c) s.rentals r.rental v.found;
               closed = refl;
               rider_is = refl;
             },
@@ -169,29 +169,29 @@ ledger_untouched : (s : Operator) (now : ℕ) (kept : FinMap texts_cmp Kept) →
 ledger_untouched s now kept ledger later = ledger_quiet s s now kept ledger later (quiet_fields s s refl refl refl refl refl refl) refl
 
 pub ledger_ended : (s : Operator) (now : ℕ) (kept : FinMap texts_cmp Kept) (bike : ℕ) (station : List ℕ) (dock : ℕ) (o : Option RentalView) → IsSound s → s.now ≤ now
-    → ((r : RentalView) → o ≡ Some r → IsRentalOf s bike r) → IsLedgerSound (at_moment (ended bike station dock now o s) now kept)
+    → ((r : RentalView) → o ≡ Some r → IsRentalOf s bike r) → IsLedgerSound (at_moment (after_end bike station dock now o s) now kept)
 ledger_ended s now kept bike station dock None order later is = ledger_untouched s now kept order.ledger later
 ledger_ended s now kept bike station dock (Some r) order later is =
     let at = is r refl in
-    ledger_charged s (ended bike station dock now (Some r) s) now kept r (Some station) order later at.view at.not_closed refl refl refl
+    ledger_charged s (after_end bike station dock now (Some r) s) now kept r (Some station) order later at.view at.not_closed refl refl refl
 
 pub ledger_recovered : (s : Operator) (now : ℕ) (kept : FinMap texts_cmp Kept) (o : Option RentalView) → IsSound s → s.now ≤ now
-    → ((r : RentalView) → o ≡ Some r → IsViewOf s r × (is_open r.rental ≡ true)) → IsLedgerSound (at_moment (recovered now o s) now kept)
+    → ((r : RentalView) → o ≡ Some r → IsViewOf s r × (is_open r.rental ≡ true)) → IsLedgerSound (at_moment (after_recovery now o s) now kept)
 ledger_recovered s now kept None order later is = ledger_untouched s now kept order.ledger later
 ledger_recovered s now kept (Some r) order later is =
     let at = is r refl in
-    ledger_charged s (recovered now (Some r) s) now kept r None order later at.0 at.1 refl refl refl
+    ledger_charged s (after_recovery now (Some r) s) now kept r None order later at.0 at.1 refl refl refl
 
 -- a rental is added
-pub ledger_started : (s : Operator) (now : ℕ) (kept : FinMap texts_cmp Kept) (rider : ℕ) (station : List ℕ) (o : Option DockedBike) → IsSound s → HasRoom s → s.now ≤ now → IsLedgerSound (at_moment (started rider station now o s) now kept)
+pub ledger_started : (s : Operator) (now : ℕ) (kept : FinMap texts_cmp Kept) (rider : ℕ) (station : List ℕ) (o : Option DockedBike) → IsSound s → HasRoom s → s.now ≤ now → IsLedgerSound (at_moment (after_start rider station now o s) now kept)
 ledger_started s now kept rider station None order has later = ledger_untouched s now kept order.ledger later
 ledger_started s now kept rider station (Some b) order has later = record {
   riders = order.ledger.riders;
-  entries = λ number e i. entry_stands s (at_moment (started rider station now (Some b) s) now kept) number e
+  entries = λ number e i. entry_stands s (at_moment (after_start rider station now (Some b) s) now kept) number e
       (record { riders = λ id h. h; closed = λ n y c found closed. number_stays n s.rentals added y found; later = later }) (order.ledger.entries number e i);
   few_riders = order.ledger.few_riders;
   few_entries =
-      let more : open_rentals (at_moment (started rider station now (Some b) s) now kept) ≡ open_rentals s + 1 = count_added is_open s.rentals added in
+      let more : open_rentals (at_moment (after_start rider station now (Some b) s) now kept) ≡ open_rentals s + 1 = count_added is_open s.rentals added in
       let room = has.room in
       omega (arith, more, room);
 } where
@@ -204,11 +204,11 @@ pub is_payment : (amount : ℕ) → IsPaid amount → IsPayment (pos amount)
 is_payment amount p = record { hundredths = amount; is = refl; low = p.low; high = p.high }
 
 pub ledger_paid : (s : Operator) (now : ℕ) (kept : FinMap texts_cmp Kept) (kind : EntryKind) (rider rental amount : ℕ) → IsSound s → HasRoom s → s.now ≤ now → finmap.contains_key s.riders rider ≡ true
-    → IsBooking (at_moment (booked kind rider rental (pos amount) now s) now kept) (record { number = length s.entries + 1; kind = kind; rider = rider; rental = rental; amount = pos amount; at = now }) kind
-    → IsLedgerSound (at_moment (booked kind rider rental (pos amount) now s) now kept)
+    → IsBooking (at_moment (with_entry kind rider rental (pos amount) now s) now kept) (record { number = length s.entries + 1; kind = kind; rider = rider; rental = rental; amount = pos amount; at = now }) kind
+    → IsLedgerSound (at_moment (with_entry kind rider rental (pos amount) now s) now kept)
 ledger_paid s now kept kind rider rental amount order has later known booking =
     let room = has.room in
-    ledger_booked s (at_moment (booked kind rider rental (pos amount) now s) now kept) _ order.ledger
+    ledger_booked s (at_moment (with_entry kind rider rental (pos amount) now s) now kept) _ order.ledger
     (record { riders = λ id h. h; closed = λ n y c found closed. found; later = later }) refl refl
     (record { number_is = refl; rider_is = known; booking = booking; by_now = omega arith }) (omega (arith, room))
 

@@ -5,10 +5,10 @@ use Rattle.std.specs.FinSet as finset
 use Rattle.std.specs.Ordering.{nat_cmp}
 use Rattle.bike_catalogue.specs.Rows.{PlanRow, TypeRow}
 use Rattle.bike_operator.specs.declared.records.Bike.{Bike}
-use Rattle.bike_operator.specs.Operator.{Station, Truck, Rider, Kept, Key, text_cmp, texts_cmp, no_operator, numbered}
+use Rattle.bike_operator.specs.Operator.{Station, Truck, Rider, Kept, Key, text_cmp, texts_cmp, no_operator, item_numbered}
 use Rattle.bike_operator.specs.Sound.{IsSound, IsCatalogueSound, AreBikesSound, AreOrdersSound, AreRentalsSound, IsLedgerSound}
 
-no_number : {A : Type 0} (n : ℕ) (x : A) → numbered n [] ≡ Some x → ⊥
+no_number : {A : Type 0} (n : ℕ) (x : A) → item_numbered n [] ≡ Some x → ⊥
 no_number zero x e = absurd cc
 no_number (suc n) x e = absurd cc
 

@@ -9,8 +9,8 @@ use Rattle.bike_commands.specs.declared.refusal.Refusal.{Refusal}
 use Rattle.bike_commands.specs.declared.request.Request.{Request}
 use Rattle.bike_commands.specs.Requests.{IsRequest}
 use Rattle.bike_operator.specs.Operator.{Operator, Kept, Key, texts_cmp}
-use Rattle.bike_operator.specs.Steps.{refused, reply_of}
-use Rattle.bike_operator.specs.Runs.{Call, key_in, step, after, accepted, decided, answered}
+use Rattle.bike_operator.specs.Steps.{refusal_of, reply_of}
+use Rattle.bike_operator.specs.Runs.{Call, key_in, step, after, after_acceptance, outcome, outcome_with_kept}
 use Rattle.bike_operator.specs.Sound.{IsKept, IsSound, AreCalls}
 use Rattle.bike_places.proofs.CatalogueLaw.{catalogue_law}
 use Rattle.bike_places.proofs.BikeLaw.{bikes_law}
@@ -28,7 +28,7 @@ kept_sound s q new order good key k e = cases (eq_by_cmp texts_cmp key (key_in q
   cases true same is = subst (λ (x : Kept). IsKept key x) (same_Some new k is) (subst (λ (x : Key). IsKept x new) (sym (same_key key (key_in q) same)) good)
   cases false other is = order.kept key k is
 
-accepted_sound : (s : Operator) (now : ℕ) (q : Request) → IsSound s → IsRequest q → refused s q.command ≡ None → s.now ≤ now → now ≤ last_moment → IsSound (accepted s now q)
+accepted_sound : (s : Operator) (now : ℕ) (q : Request) → IsSound s → IsRequest q → refusal_of s q.command ≡ None → s.now ≤ now → now ≤ last_moment → IsSound (after_acceptance s now q)
 accepted_sound s now q order good none later last =
     let new : Kept = record { command = q.command; reply = reply_of s now q.command } in
     let kept = finmap.insert s.kept (key_in q) new in
@@ -57,15 +57,15 @@ accepted_sound s now q order good none later last =
 latest : (t now : ℕ) → t ≤ last_moment → now ≤ last_moment → (max t now ≤ last_moment) × (now ≤ max t now)
 latest t now a b = (omega arith, omega arith)
 
-decided_sound : (s : Operator) (t : ℕ) (q : Request) (o : Option Refusal) → t ≤ last_moment → IsRequest q → IsSound s → refused s q.command ≡ o → IsSound (decided s (max t s.now) q o).1
+decided_sound : (s : Operator) (t : ℕ) (q : Request) (o : Option Refusal) → t ≤ last_moment → IsRequest q → IsSound s → refusal_of s q.command ≡ o → IsSound (outcome s (max t s.now) q o).1
 decided_sound s t q (Some r) moment good order e = order
 decided_sound s t q None moment good order e =
     let now = latest t s.now moment order.now in
     accepted_sound s (max t s.now) q order good e now.1 now.0
 
-answered_sound : (s : Operator) (t : ℕ) (q : Request) (o : Option Kept) → t ≤ last_moment → IsRequest q → IsSound s → IsSound (answered s t q o).1
+answered_sound : (s : Operator) (t : ℕ) (q : Request) (o : Option Kept) → t ≤ last_moment → IsRequest q → IsSound s → IsSound (outcome_with_kept s t q o).1
 answered_sound s t q (Some k) moment good order = order
-answered_sound s t q None moment good order = decided_sound s t q (refused s q.command) moment good order refl
+answered_sound s t q None moment good order = decided_sound s t q (refusal_of s q.command) moment good order refl
 
 pub step_sound : (s : Operator) (t : ℕ) (q : Request) → t ≤ last_moment → IsRequest q → IsSound s → IsSound (step s t q).1
 step_sound s t q moment good order = answered_sound s t q (finmap.get s.kept (key_in q)) moment good order

@@ -14,9 +14,9 @@ use Rattle.bike_operator.specs.declared.records.Place.{Place}
 use Rattle.bike_operator.specs.declared.records.Place.TheVariants as place
 use Rattle.bike_operator.specs.declared.records.Bike.{Bike}
 use Rattle.bike_operator.specs.declared.records.Order.{Order}
-use Rattle.bike_operator.specs.Operator.{Operator, numbered}
+use Rattle.bike_operator.specs.Operator.{Operator, item_numbered}
 use Rattle.bike_operator.specs.View.{end_at, view_of}
-use Rattle.bike_operator.specs.Steps.{new_station, dock_marked, tests, refused, place_reported, bike_reported, bike_placed, bike_marked, placed_at_end, delivered, unloaded, effect}
+use Rattle.bike_operator.specs.Steps.{new_station, dock_marked, tests, refusal_of, place_reported, bike_reported, bike_placed, bike_marked, placed_at_end, with_delivery, after_unload, effect}
 use Rattle.bike_places.proofs.TestLemmas.{none_holds, none_of}
 use Rattle.bike_laws.proofs.NameLemmas.{insert_keeps, changed_keeps}
 use Rattle.bike_laws.proofs.QuietLemmas.{IsQuiet, quiet_fields, quiet_reported, quiet_bike_reported, quiet_marked, quiet_placed, quiet_added, elsewhere_in, loaded_in, quiet_unloaded}
@@ -30,7 +30,7 @@ moves_money (command.Recover rental) = true
 moves_money (command.Refund rental amount) = true
 moves_money c = false
 
-pub quiet_kind : (s : Operator) (now : ℕ) (c : Command) → moves_money c ≡ false → refused s c ≡ None → IsQuiet s (effect s now c)
+pub quiet_kind : (s : Operator) (now : ℕ) (c : Command) → moves_money c ≡ false → refusal_of s c ≡ None → IsQuiet s (effect s now c)
 quiet_kind s now (command.TopUp rider amount) free none = absurd cc
 quiet_kind s now (command.Start rider station dock) free none = absurd cc
 quiet_kind s now (command.End bike station dock) free none = absurd cc
@@ -93,10 +93,10 @@ quiet_kind s now (command.SetRider rider blocked) free none = record {
 quiet_kind s now (command.Load truck order bike) free none =
     let tests_free = none_holds (tests (view_of s (command.Load truck order bike)) (command.Load truck order bike)) none in
     quiet_bike_reported s (bike_placed bike (place.Truck truck order) s) (finmap.get s.bikes bike) now
-    (quiet_placed s bike (place.Truck truck order) (elsewhere_in s bike (numbered order s.orders) tests_free.1.0 tests_free.1.1.1.1.1.1.0))
+    (quiet_placed s bike (place.Truck truck order) (elsewhere_in s bike (item_numbered order s.orders) tests_free.1.0 tests_free.1.1.1.1.1.1.0))
 quiet_kind s now (command.Unload truck order bike side dock) free none =
     let tests_free = none_holds (tests (view_of s (command.Unload truck order bike side dock)) (command.Unload truck order bike side dock)) none in
-    quiet_unloaded s order bike side dock now (numbered order s.orders) (loaded_in s truck order bike tests_free.1.1.1.1.1.0)
+    quiet_unloaded s order bike side dock now (item_numbered order s.orders) (loaded_in s truck order bike tests_free.1.1.1.1.1.0)
 quiet_kind s now c free none = quiet_fields s (effect s now c) refl refl refl refl refl refl
 
 -- ---- riders
@@ -115,11 +115,11 @@ end_riders : (s : Operator) (bike : ℕ) (e : OrderEnd) (dock now : ℕ) → (pl
 end_riders s bike end.Depot dock now = refl
 end_riders s bike (end.Station station) dock now = refl
 
-delivered_riders : (x : Operator) (order : ℕ) (side : Side) → (delivered order side x).riders ≡ x.riders
+delivered_riders : (x : Operator) (order : ℕ) (side : Side) → (with_delivery order side x).riders ≡ x.riders
 delivered_riders x order From = refl
 delivered_riders x order To = refl
 
-unloaded_riders : (s : Operator) (order bike : ℕ) (side : Side) (dock now : ℕ) (o : Option Order) → (unloaded order bike side dock now o s).riders ≡ s.riders
+unloaded_riders : (s : Operator) (order bike : ℕ) (side : Side) (dock now : ℕ) (o : Option Order) → (after_unload order bike side dock now o s).riders ≡ s.riders
 unloaded_riders s order bike side dock now None = refl
 unloaded_riders s order bike side dock now (Some o) = delivered_riders (placed_at_end bike (end_at side o) dock now s) order side ∙ end_riders s bike (end_at side o) dock now
 
@@ -139,5 +139,5 @@ same_riders s now (command.Recover rental) free = absurd cc
 same_riders s now (command.Refund rental amount) free = absurd cc
 same_riders s now (command.MarkBike bike disabled) free = bike_riders (bike_marked bike (cond disabled Disabled Fit) s) (finmap.get s.bikes bike) now
 same_riders s now (command.Load truck order bike) free = bike_riders (bike_placed bike (place.Truck truck order) s) (finmap.get s.bikes bike) now
-same_riders s now (command.Unload truck order bike side dock) free = unloaded_riders s order bike side dock now (numbered order s.orders)
+same_riders s now (command.Unload truck order bike side dock) free = unloaded_riders s order bike side dock now (item_numbered order s.orders)
 same_riders s now c free = refl

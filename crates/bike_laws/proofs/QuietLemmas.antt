@@ -17,7 +17,7 @@ use Rattle.bike_operator.specs.declared.records.Order.{Order}
 use Rattle.bike_operator.specs.Operator.{Operator}
 use Rattle.bike_operator.specs.Counts.{is_on_truck, is_for_order}
 use Rattle.bike_operator.specs.View.{end_at}
-use Rattle.bike_operator.specs.Steps.{on, is_at_end, is_elsewhere, is_not_loaded, key_changed, reported, place_reported, bike_reported, bike_placed, bike_marked, placed_at_end, delivered, unloaded}
+use Rattle.bike_operator.specs.Steps.{on, is_at_end, is_elsewhere, is_not_loaded, key_changed, with_report, place_reported, bike_reported, bike_placed, bike_marked, placed_at_end, with_delivery, after_unload}
 use Rattle.bike_operator.specs.Sound.{IsOut}
 use Rattle.bike_places.proofs.TestLemmas.{holds}
 use Rattle.bike_laws.proofs.NameLemmas.{insert_keeps, changed_keeps, get_other, changed_found, changed_other, Either, either}
@@ -46,7 +46,7 @@ quiet_fields s x rentals entries riders bikes plans stations = record {
 
 -- ---- stations that report
 
-pub quiet_reported : (s x : Operator) (station : List ℕ) (now : ℕ) → IsQuiet s x → IsQuiet s (reported station now x)
+pub quiet_reported : (s x : Operator) (station : List ℕ) (now : ℕ) → IsQuiet s x → IsQuiet s (with_report station now x)
 quiet_reported s x station now q = record {
   rentals = q.rentals;
   entries = q.entries;
@@ -153,7 +153,7 @@ quiet_at_end : (s : Operator) (bike : ℕ) (e : OrderEnd) (dock now : ℕ) → I
 quiet_at_end s bike end.Depot dock now is = quiet_placed s bike place.Depot is
 quiet_at_end s bike (end.Station station) dock now is = quiet_reported s (bike_placed bike (place.Dock station dock) s) station now (quiet_placed s bike (place.Dock station dock) is)
 
-quiet_delivered : (s x : Operator) (order : ℕ) (side : Side) → IsQuiet s x → IsQuiet s (delivered order side x)
+quiet_delivered : (s x : Operator) (order : ℕ) (side : Side) → IsQuiet s x → IsQuiet s (with_delivery order side x)
 quiet_delivered s x order From q = q
 quiet_delivered s x order To q = record {
   rentals = q.rentals;
@@ -165,6 +165,6 @@ quiet_delivered s x order To q = record {
   out = λ number bike o. let p = q.out number bike o in record { row = p.row; found = p.found; place_is = p.place_is };
 }
 
-pub quiet_unloaded : (s : Operator) (order bike : ℕ) (side : Side) (dock now : ℕ) (o : Option Order) → IsIn s bike → IsQuiet s (unloaded order bike side dock now o s)
+pub quiet_unloaded : (s : Operator) (order bike : ℕ) (side : Side) (dock now : ℕ) (o : Option Order) → IsIn s bike → IsQuiet s (after_unload order bike side dock now o s)
 quiet_unloaded s order bike side dock now None is = quiet_fields s s refl refl refl refl refl refl
 quiet_unloaded s order bike side dock now (Some o) is = quiet_delivered s (placed_at_end bike (end_at side o) dock now s) order side (quiet_at_end s bike (end_at side o) dock now is)

@@ -4,7 +4,7 @@ use Rattle.std.specs.Prelude.{int_lt}
 use Rattle.std.specs.FinMap as finmap
 use Rattle.bike_commands.specs.declared.command.Command.TheVariants as command
 use Rattle.bike_operator.specs.declared.view.RentalView.{RentalView}
-use Rattle.bike_operator.specs.Operator.{numbered}
+use Rattle.bike_operator.specs.Operator.{item_numbered}
 use Rattle.bike_operator.specs.Counts.{docked_at}
 use Rattle.bike_operator.specs.View.{view_of, rental_view, rental_of, docked_view}
 use Rattle.bike_operator.specs.Steps.{on, is_too_much, tests, effect}
@@ -37,14 +37,14 @@ rentals_law s now (command.End bike station dock) kept order good none later =
     (λ r i. rental_is s bike (finmap.get s.bikes bike) r order.bikes refl i)
 rentals_law s now (command.Recover rental) kept order good none later =
     let free = none_holds (tests (view_of s (command.Recover rental)) (command.Recover rental)) none in
-    rentals_recovered s now kept (rental_view s rental (numbered rental s.rentals)) order later
-    (λ r i. (view_is s rental (numbered rental s.rentals) r refl i, open_of (rental_view s rental (numbered rental s.rentals)) r i free.1.0))
+    rentals_recovered s now kept (rental_view s rental (item_numbered rental s.rentals)) order later
+    (λ r i. (view_is s rental (item_numbered rental s.rentals) r refl i, open_of (rental_view s rental (item_numbered rental s.rentals)) r i free.1.0))
 rentals_law s now (command.Refund rental amount) kept order good none later =
     let free = none_holds (tests (view_of s (command.Refund rental amount)) (command.Refund rental amount)) none in
-    rentals_refunded s now kept amount (rental_view s rental (numbered rental s.rentals)) order later
+    rentals_refunded s now kept amount (rental_view s rental (item_numbered rental s.rentals)) order later
     (λ r i. (
-      view_is s rental (numbered rental s.rentals) r refl i,
-      small_enough amount (rental_view s rental (numbered rental s.rentals)) r i free.1.1.0,
-      closed_of (rental_view s rental (numbered rental s.rentals)) r i free.1.0,
+      view_is s rental (item_numbered rental s.rentals) r refl i,
+      small_enough amount (rental_view s rental (item_numbered rental s.rentals)) r i free.1.1.0,
+      closed_of (rental_view s rental (item_numbered rental s.rentals)) r i free.1.0,
     ))
 rentals_law s now c kept order good none later = rentals_quiet s (effect s now c) now kept order later (quiet_kind s now c refl none)

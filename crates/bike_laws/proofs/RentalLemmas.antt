@@ -11,9 +11,9 @@ use Rattle.bike_ledger.specs.Ledger.{given_back_of, refunded_of}
 use Rattle.bike_operator.specs.declared.records.Rental.{Rental}
 use Rattle.bike_operator.specs.declared.records.Closing.{Closing}
 use Rattle.bike_operator.specs.declared.view.RentalView.{RentalView}
-use Rattle.bike_operator.specs.Operator.{Operator, Kept, texts_cmp, numbered}
+use Rattle.bike_operator.specs.Operator.{Operator, Kept, texts_cmp, item_numbered}
 use Rattle.bike_operator.specs.Counts.{count, open_rentals, is_open}
-use Rattle.bike_operator.specs.Steps.{on, booked, refunded_by}
+use Rattle.bike_operator.specs.Steps.{on, with_entry, refunded_by}
 use Rattle.bike_operator.specs.Sound.{IsOut, IsStop, IsOpenOrClosed, is_fare, fares_of, most_refunded, IsRentalAt, AreRentalsSound, IsSound}
 use Rattle.bike_places.proofs.Moment.{at_moment}
 use Rattle.bike_laws.proofs.EntryLemmas.{refunded_added, fares_apart, same_either, other_number}
@@ -84,8 +84,8 @@ rentals_quiet s x now kept order later q =
       few_rentals = omega (arith, few, count_rentals, count_entries, count_open);
     }
   where
-    before : (number : ℕ) (r : Rental) → numbered number x.rentals ≡ Some r → numbered number s.rentals ≡ Some r
-    before number r i = ap (λ (rs : List Rental). numbered number rs) (sym q.rentals) ∙ i
+    before : (number : ℕ) (r : Rental) → item_numbered number x.rentals ≡ Some r → item_numbered number s.rentals ≡ Some r
+    before number r i = ap (λ (rs : List Rental). item_numbered number rs) (sym q.rentals) ∙ i
 
 pub rentals_untouched : (s : Operator) (now : ℕ) (kept : FinMap texts_cmp Kept) → IsSound s → s.now ≤ now → AreRentalsSound (at_moment s now kept)
 rentals_untouched s now kept order later = rentals_quiet s s now kept order later (quiet_fields s s refl refl refl refl refl refl)
@@ -94,7 +94,7 @@ rentals_untouched s now kept order later = rentals_quiet s s now kept order late
 
 -- an entry that is no fare
 rentals_paid : (s : Operator) (now : ℕ) (kept : FinMap texts_cmp Kept) (e : Entry) → IsSound s → s.now ≤ now → is_fare e.kind ≡ false
-    → ((number : ℕ) (x : Rental) → numbered number s.rentals ≡ Some x → (refunded_of number s.entries +ℤ given_back_of number e) ≤ℤ most_refunded x.closing)
+    → ((number : ℕ) (x : Rental) → item_numbered number s.rentals ≡ Some x → (refunded_of number s.entries +ℤ given_back_of number e) ≤ℤ most_refunded x.closing)
     → AreRentalsSound (at_moment (record s { entries = s.entries ++ e ∷ [] }) now kept)
 rentals_paid s now kept e order later no_fare refunded =
     let few = order.rentals.few_rentals in
@@ -111,7 +111,7 @@ rentals_paid s now kept e order later no_fare refunded =
       few_rentals = omega (arith, few, more);
     }
 
-pub rentals_topped_up : (s : Operator) (now : ℕ) (kept : FinMap texts_cmp Kept) (rider amount : ℕ) → IsSound s → s.now ≤ now → AreRentalsSound (at_moment (booked TopUp rider 0 (pos amount) now s) now kept)
+pub rentals_topped_up : (s : Operator) (now : ℕ) (kept : FinMap texts_cmp Kept) (rider amount : ℕ) → IsSound s → s.now ≤ now → AreRentalsSound (at_moment (with_entry TopUp rider 0 (pos amount) now s) now kept)
 rentals_topped_up s now kept rider amount order later =
     rentals_paid s now kept (record { number = length s.entries + 1; kind = TopUp; rider = rider; rental = 0; amount = pos amount; at = now }) order later refl
     (λ number x i.
@@ -139,10 +139,10 @@ rentals_refunded s now kept amount (Some r) order later is =
     at_most true z y h = h
     at_most false z y h = omega (arith, ints, h)
 
-    within : IsViewOf s r → on r.rental.closing (λ c. int_lt (c.fare -ℤ r.refunded) (pos amount)) ≡ false → is_open r.rental ≡ false → (number : ℕ) (x : Rental) → numbered number s.rentals ≡ Some x → Either number r.number
+    within : IsViewOf s r → on r.rental.closing (λ c. int_lt (c.fare -ℤ r.refunded) (pos amount)) ≡ false → is_open r.rental ≡ false → (number : ℕ) (x : Rental) → item_numbered number s.rentals ≡ Some x → Either number r.number
         → (refunded_of number s.entries +ℤ cond (eqb r.number number) (pos amount) (pos 0)) ≤ℤ most_refunded x.closing
     within v e shut number x i (Same same) =
-        let is_row : r.rental ≡ x = same_Some r.rental x (sym v.found ∙ ap (λ (n : ℕ). numbered n s.rentals) (sym same) ∙ i) in
+        let is_row : r.rental ≡ x = same_Some r.rental x (sym v.found ∙ ap (λ (n : ℕ). item_numbered n s.rentals) (sym same) ∙ i) in
         let total : r.refunded ≡ refunded_of number s.entries = v.refunded_is ∙ ap (λ (n : ℕ). refunded_of n s.entries) (sym same) in
         at_most (eqb r.number number) (refunded_of number s.entries) (most_refunded x.closing)
         (subst (λ (z : ℤ). (z +ℤ pos amount) ≤ℤ most_refunded x.closing) total (subst (λ (y : Rental). (r.refunded +ℤ pos amount) ≤ℤ most_refunded y.closing) is_row (enough r.rental.closing e shut)))

@@ -18,11 +18,11 @@ use Rattle.bike_commands.specs.Replies.{Any, IsReply}
 use Rattle.bike_operator.specs.declared.records.Bike.{Bike}
 use Rattle.bike_operator.specs.declared.records.Rental.{Rental}
 use Rattle.bike_operator.specs.declared.view.RentalView.{RentalView}
-use Rattle.bike_operator.specs.Operator.{Operator, numbered}
+use Rattle.bike_operator.specs.Operator.{Operator, item_numbered}
 use Rattle.bike_operator.specs.Counts.{docked_at, open_rentals, is_open}
 use Rattle.bike_operator.specs.View.{docked_view, typed_bike, rental_view, rental_of, view_of}
 use Rattle.bike_operator.specs.declared.limits.TheConstants.{MOST_ENTRIES, MOST_ORDERS}
-use Rattle.bike_operator.specs.Steps.{tests, refused, fare_now, ended, recovered, refunded_by, started_reply, ended_reply, refunded_reply, reply_of}
+use Rattle.bike_operator.specs.Steps.{tests, refusal_of, fare_now, after_end, after_recovery, refunded_by, started_reply, ended_reply, refunded_reply, reply_of}
 use Rattle.bike_operator.specs.Sound.{IsSound, is_refused}
 use Rattle.bike_places.proofs.TestLemmas.{none_holds}
 use Rattle.bike_laws.proofs.NumberLemmas.{count_some}
@@ -75,7 +75,7 @@ pub record HasRoom (s : Operator) : Type 0 where
   pub room : length s.entries + open_rentals s < MOST_ENTRIES
 
 -- where a rental is open there is room for its fare
-pub room_for_fare : (s : Operator) (number : ℕ) (x : Rental) → IsSound s → numbered number s.rentals ≡ Some x → is_open x ≡ true → length s.entries < MOST_ENTRIES
+pub room_for_fare : (s : Operator) (number : ℕ) (x : Rental) → IsSound s → item_numbered number s.rentals ≡ Some x → is_open x ≡ true → length s.entries < MOST_ENTRIES
 room_for_fare s number x order found now =
     let one = count_some (λ r. is_open r) number s.rentals x found now in
     let few = order.ledger.few_entries in
@@ -106,13 +106,13 @@ fare_good s now r e order v now_open is =
       refl,
     )
 
-ended_good : (s : Operator) (now bike : ℕ) (station : List ℕ) (dock : ℕ) (o : Option RentalView) → IsSound s → ((r : RentalView) → o ≡ Some r → IsRentalOf s bike r) → IsAnswer (ended_reply s now o (ended bike station dock now o s))
+ended_good : (s : Operator) (now bike : ℕ) (station : List ℕ) (dock : ℕ) (o : Option RentalView) → IsSound s → ((r : RentalView) → o ≡ Some r → IsRentalOf s bike r) → IsAnswer (ended_reply s now o (after_end bike station dock now o s))
 ended_good s now bike station dock None order is = (tt, refl)
 ended_good s now bike station dock (Some r) order is =
     let at = is r refl in
     fare_good s now r _ order at.view at.not_closed refl
 
-recovered_good : (s : Operator) (now : ℕ) (o : Option RentalView) → IsSound s → ((r : RentalView) → o ≡ Some r → IsViewOf s r × (is_open r.rental ≡ true)) → IsAnswer (ended_reply s now o (recovered now o s))
+recovered_good : (s : Operator) (now : ℕ) (o : Option RentalView) → IsSound s → ((r : RentalView) → o ≡ Some r → IsViewOf s r × (is_open r.rental ≡ true)) → IsAnswer (ended_reply s now o (after_recovery now o s))
 recovered_good s now None order is = (tt, refl)
 recovered_good s now (Some r) order is =
     let at = is r refl in
@@ -127,7 +127,7 @@ refunded_good s now amount (Some r) order has paid =
 done : IsAnswer Done
 done = (tt, refl)
 
-pub reply_good : (s : Operator) (now : ℕ) (c : Command) → IsSound s → IsCommand c → refused s c ≡ None → s.now ≤ now → IsAnswer (reply_of s now c)
+pub reply_good : (s : Operator) (now : ℕ) (c : Command) → IsSound s → IsCommand c → refusal_of s c ≡ None → s.now ≤ now → IsAnswer (reply_of s now c)
 reply_good s now (command.SetSystem x) order good none later = done
 reply_good s now (command.AddPlan p) order good none later = done
 reply_good s now (command.AddType t) order good none later = done
@@ -152,11 +152,11 @@ reply_good s now (command.End bike station dock) order good none later =
     ended_good s now bike station dock (rental_of s (finmap.get s.bikes bike)) order (λ r i. rental_is s bike (finmap.get s.bikes bike) r order.bikes refl i)
 reply_good s now (command.Recover rental) order good none later =
     let free = none_holds (tests (view_of s (command.Recover rental)) (command.Recover rental)) none in
-    recovered_good s now (rental_view s rental (numbered rental s.rentals)) order
-    (λ r i. (view_is s rental (numbered rental s.rentals) r refl i, open_of (rental_view s rental (numbered rental s.rentals)) r i free.1.0))
+    recovered_good s now (rental_view s rental (item_numbered rental s.rentals)) order
+    (λ r i. (view_is s rental (item_numbered rental s.rentals) r refl i, open_of (rental_view s rental (item_numbered rental s.rentals)) r i free.1.0))
 reply_good s now (command.Refund rental amount) order good none later =
     let free = none_holds (tests (view_of s (command.Refund rental amount)) (command.Refund rental amount)) none in
-    refunded_good s now amount (rental_view s rental (numbered rental s.rentals)) order
+    refunded_good s now amount (rental_view s rental (item_numbered rental s.rentals)) order
     (record { room = below_of MOST_ENTRIES (length s.entries + open_rentals s) free.1.1.1.0 }) (record { low = good.1.0.0; high = good.1.0.1 })
 reply_good s now (command.OpenOrder truck from_end to_end type_id count) order good none later =
     let free = none_holds (tests (view_of s (command.OpenOrder truck from_end to_end type_id count)) (command.OpenOrder truck from_end to_end type_id count)) none in

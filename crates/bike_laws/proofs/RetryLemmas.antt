@@ -13,8 +13,8 @@ use Rattle.bike_commands.specs.declared.refusal.Refusal.{Refusal}
 use Rattle.bike_commands.specs.declared.refusal.Refusal.TheVariants as refusal
 use Rattle.bike_commands.specs.declared.request.Request.{Request}
 use Rattle.bike_operator.specs.Operator.{Operator, Kept, Key, texts_cmp}
-use Rattle.bike_operator.specs.Steps.{refused, reply_of}
-use Rattle.bike_operator.specs.Runs.{Call, key_in, is_same, step, after, accepted, decided, answered}
+use Rattle.bike_operator.specs.Steps.{refusal_of, reply_of}
+use Rattle.bike_operator.specs.Runs.{Call, key_in, is_same, step, after, after_acceptance, outcome, outcome_with_kept}
 use Rattle.bike_laws.specs.Retries.{is_kept, is_accepted, IsKeptWith, accepts, times_accepted, without_retries}
 use Rattle.bike_laws.proofs.FoundLemmas.{both_true, nothing}
 use Rattle.bike_laws.proofs.RunLemmas.{after-append}
@@ -38,20 +38,20 @@ same_key a b e = tells (texts_cmp a b) refl e where
 -- ---- one step
 
 -- where the key is kept, nothing changes
-kept_step : (s : Operator) (t : ℕ) (q : Request) (k : Kept) → finmap.get s.kept (key_in q) ≡ Some k → step s t q ≡ answered s t q (Some k)
-kept_step s t q k e = ap (answered s t q) e
+kept_step : (s : Operator) (t : ℕ) (q : Request) (k : Kept) → finmap.get s.kept (key_in q) ≡ Some k → step s t q ≡ outcome_with_kept s t q (Some k)
+kept_step s t q k e = ap (outcome_with_kept s t q) e
 
-kept_stays_put : (s : Operator) (t : ℕ) (q : Request) (o : Option Kept) → is_some o ≡ true → (answered s t q o).1 ≡ s
+kept_stays_put : (s : Operator) (t : ℕ) (q : Request) (o : Option Kept) → is_some o ≡ true → (outcome_with_kept s t q o).1 ≡ s
 kept_stays_put s t q None e = absurd cc
 kept_stays_put s t q (Some k) e = refl
 
 -- an accepted request
-accepted_step : (s : Operator) (t : ℕ) (q : Request) → is_accepted s q ≡ true → step s t q ≡ (reply_of s (max t s.now) q.command, accepted s (max t s.now) q)
+accepted_step : (s : Operator) (t : ℕ) (q : Request) → is_accepted s q ≡ true → step s t q ≡ (reply_of s (max t s.now) q.command, after_acceptance s (max t s.now) q)
 accepted_step s t q e =
-    let parts = both_true (is_none (finmap.get s.kept (key_in q))) (is_none (refused s q.command)) e in
-    ap (answered s t q) (nothing (finmap.get s.kept (key_in q)) parts.0) ∙ ap (decided s (max t s.now) q) (nothing (refused s q.command) parts.1)
+    let parts = both_true (is_none (finmap.get s.kept (key_in q))) (is_none (refusal_of s q.command)) e in
+    ap (outcome_with_kept s t q) (nothing (finmap.get s.kept (key_in q)) parts.0) ∙ ap (outcome s (max t s.now) q) (nothing (refusal_of s q.command) parts.1)
 
-kept_then : (s : Operator) (now : ℕ) (q : Request) → IsKeptWith (accepted s now q) q (reply_of s now q.command)
+kept_then : (s : Operator) (now : ℕ) (q : Request) → IsKeptWith (after_acceptance s now q) q (reply_of s now q.command)
 kept_then s now q =
     finmap.get-insert texts_total s.kept (key_in q) (record { command = q.command; reply = reply_of s now q.command }) (key_in q)
     ∙ ap (λ b. cond b (Some (record { command = q.command; reply = reply_of s now q.command })) (finmap.get s.kept (key_in q))) (key_itself (key_in q))
@@ -67,16 +67,16 @@ other_key s q key k none some = tells (eq_by_cmp texts_cmp key (key_in q)) refl 
   tells true e = let i : key ≡ key_in q = same_key key (key_in q) e in let j : finmap.get s.kept key ≡ None = ap (finmap.get s.kept) i ∙ none in absurd cc
   tells false e = refl
 
-decided_keeps : (s : Operator) (now : ℕ) (q : Request) (o : Option Refusal) (key : Key) (k : Kept) → finmap.get s.kept (key_in q) ≡ None → finmap.get s.kept key ≡ Some k → finmap.get (decided s now q o).1.kept key ≡ Some k
+decided_keeps : (s : Operator) (now : ℕ) (q : Request) (o : Option Refusal) (key : Key) (k : Kept) → finmap.get s.kept (key_in q) ≡ None → finmap.get s.kept key ≡ Some k → finmap.get (outcome s now q o).1.kept key ≡ Some k
 decided_keeps s now q (Some r) key k none some = some
 decided_keeps s now q None key k none some =
     finmap.get-insert texts_total s.kept (key_in q) (record { command = q.command; reply = reply_of s now q.command }) key
     ∙ ap (λ b. cond b (Some (record { command = q.command; reply = reply_of s now q.command })) (finmap.get s.kept key)) (other_key s q key k none some)
     ∙ some
 
-answered_keeps : (s : Operator) (t : ℕ) (q : Request) (o : Option Kept) (key : Key) (k : Kept) → finmap.get s.kept (key_in q) ≡ o → finmap.get s.kept key ≡ Some k → finmap.get (answered s t q o).1.kept key ≡ Some k
+answered_keeps : (s : Operator) (t : ℕ) (q : Request) (o : Option Kept) (key : Key) (k : Kept) → finmap.get s.kept (key_in q) ≡ o → finmap.get s.kept key ≡ Some k → finmap.get (outcome_with_kept s t q o).1.kept key ≡ Some k
 answered_keeps s t q (Some kept) key k e some = some
-answered_keeps s t q None key k e some = decided_keeps s (max t s.now) q (refused s q.command) key k e some
+answered_keeps s t q None key k e some = decided_keeps s (max t s.now) q (refusal_of s q.command) key k e some
 
 step_keeps : (s : Operator) (t : ℕ) (q : Request) (key : Key) (k : Kept) → finmap.get s.kept key ≡ Some k → finmap.get (step s t q).1.kept key ≡ Some k
 step_keeps s t q key k some = answered_keeps s t q (finmap.get s.kept (key_in q)) key k refl some
@@ -111,7 +111,7 @@ refused_again s t u q p cs e i other =
 none_accepted : (s : Operator) (key : Key) (q : Request) (k : Kept) → finmap.get s.kept key ≡ Some k → accepts s key q ≡ false
 none_accepted s key q k some = tells (eq_by_cmp texts_cmp key (key_in q)) refl where
   tells : (b : Bool) → eq_by_cmp texts_cmp key (key_in q) ≡ b → (b && is_accepted s q) ≡ false
-  tells true e = ap (λ (o : Option Kept). is_none o && is_none (refused s q.command)) (ap (finmap.get s.kept) (sym (same_key key (key_in q) e)) ∙ some)
+  tells true e = ap (λ (o : Option Kept). is_none o && is_none (refusal_of s q.command)) (ap (finmap.get s.kept) (sym (same_key key (key_in q) e)) ∙ some)
   tells false e = refl
 
 no_times : (s : Operator) (key : Key) (k : Kept) (cs : List Call) → finmap.get s.kept key ≡ Some k → times_accepted s key cs ≡ 0

@@ -19,10 +19,10 @@ use Rattle.bike_operator.specs.declared.records.Place.TheVariants as place
 use Rattle.bike_operator.specs.declared.records.Bike.{Bike}
 use Rattle.bike_operator.specs.declared.records.Rental.{Rental}
 use Rattle.bike_operator.specs.declared.view.DockedBike.{DockedBike}
-use Rattle.bike_operator.specs.Operator.{Operator, Kept, texts_cmp, item_at, numbered}
+use Rattle.bike_operator.specs.Operator.{Operator, Kept, texts_cmp, item_at, item_numbered}
 use Rattle.bike_operator.specs.Counts.{is_dock, open_rentals, is_open, is_riding, docked_at}
 use Rattle.bike_operator.specs.View.{typed_bike, docked_view}
-use Rattle.bike_operator.specs.Steps.{started}
+use Rattle.bike_operator.specs.Steps.{after_start}
 use Rattle.bike_operator.specs.Sound.{IsOut, is_fare, IsRentalAt, AreRentalsSound, IsOfRental, IsBooking, IsSound}
 use Rattle.bike_places.proofs.ItemLemmas.{number_or_last, number_within}
 use Rattle.bike_places.proofs.Moment.{at_moment}
@@ -83,7 +83,7 @@ not_any test (suc n) (y ∷ ys) x none i = not_any test n ys x (rest_none (test 
   rest_none true b e = absurd cc
   rest_none false b e = e
 
-none_riding : (s : Operator) (rider n : ℕ) (x : Rental) → is_riding s rider ≡ false → numbered n s.rentals ≡ Some x → is_open x ≡ true → x.rider ≡ rider → ⊥
+none_riding : (s : Operator) (rider n : ℕ) (x : Rental) → is_riding s rider ≡ false → item_numbered n s.rentals ≡ Some x → is_open x ≡ true → x.rider ≡ rider → ⊥
 none_riding s rider zero x none i ongoing same = absurd cc
 none_riding s rider (suc n) x none i ongoing same =
     let test = not_any (λ r. eqb r.rider rider && is_open r) n s.rentals x none i in
@@ -98,7 +98,7 @@ pub record IsStart (s : Operator) (rider : ℕ) (station : List ℕ) : Type 0 wh
   pub station_is : finmap.contains_key s.stations station ≡ true
 
 pub rentals_started : (s : Operator) (now : ℕ) (kept : FinMap texts_cmp Kept) (rider : ℕ) (station : List ℕ) (dock : ℕ) (o : Option DockedBike) → IsSound s → s.now ≤ now → IsStart s rider station
-    → ((b : DockedBike) → o ≡ Some b → IsDockedView s station dock b) → AreRentalsSound (at_moment (started rider station now o s) now kept)
+    → ((b : DockedBike) → o ≡ Some b → IsDockedView s station dock b) → AreRentalsSound (at_moment (after_start rider station now o s) now kept)
 rentals_started s now kept rider station dock None order later start is = rentals_untouched s now kept order later
 rentals_started s now kept rider station dock (Some b) order later start is =
     let few = order.rentals.few_rentals in
@@ -117,7 +117,7 @@ rentals_started s now kept rider station dock (Some b) order later start is =
     added = record { rider = rider; bike = b.bike; plan = b.plan; from_station = station; start = now; closing = None }
 
     next : Operator
-    next = at_moment (started rider station now (Some b) s) now kept
+    next = at_moment (after_start rider station now (Some b) s) now kept
 
     rides : Bike → Bike
     rides x = record x { place = place.Rental (length s.rentals + 1) }
@@ -146,7 +146,7 @@ rentals_started s now kept rider station dock (Some b) order later start is =
       place_is = o.place_is;
     }
 
-    old : (n : ℕ) (x : Rental) → numbered n s.rentals ≡ Some x → IsRentalAt next n x
+    old : (n : ℕ) (x : Rental) → item_numbered n s.rentals ≡ Some x → IsRentalAt next n x
     old n x i = let at = order.rentals.rentals n x i in rental_stands s next n x keeps (out n x.bike) refl at.refunded at
 
     new : IsDockedView s station dock b → IsRentalAt next (length s.rentals + 1) added
@@ -163,7 +163,7 @@ rentals_started s now kept rider station dock (Some b) order later start is =
           refunded = omega (arith, ints, none);
         }
 
-    one_open : (a c : ℕ) (x y : Rental) → numbered a (s.rentals ++ added ∷ []) ≡ Some x → numbered c (s.rentals ++ added ∷ []) ≡ Some y → is_open x ≡ true → is_open y ≡ true → x.rider ≡ y.rider → a ≡ c
+    one_open : (a c : ℕ) (x y : Rental) → item_numbered a (s.rentals ++ added ∷ []) ≡ Some x → item_numbered c (s.rentals ++ added ∷ []) ≡ Some y → is_open x ≡ true → is_open y ≡ true → x.rider ≡ y.rider → a ≡ c
     one_open a c x y i j p q same = elim (number_or_last a s.rentals added x i) [
       | inl v ↦ elim (number_or_last c s.rentals added y j) [
         | inl w ↦ order.rentals.riding a c x y v w p q same

@@ -15,7 +15,7 @@ use Rattle.bike_operator.specs.declared.records.Order.{Order}
 use Rattle.bike_operator.specs.declared.view.RentalView.{RentalView}
 use Rattle.bike_operator.specs.declared.view.StationView.{StationView}
 use Rattle.bike_operator.specs.declared.view.View.{View}
-use Rattle.bike_operator.specs.Operator.{Operator, Rider, numbered}
+use Rattle.bike_operator.specs.Operator.{Operator, Rider, item_numbered}
 use Rattle.bike_operator.specs.Counts.{order_load, open_rentals, is_open}
 use Rattle.bike_operator.specs.View.{has_full_ledger, station_at, rider_view, rental_at, rental_of, end_at, end_view, side_view, view_of}
 use Rattle.bike_operator.specs.Sound.{IsSound, most_refunded}
@@ -91,12 +91,12 @@ none_ends (Some x) = tt
 
 -- ---- orders
 
-order_filled : (s : Operator) (number : ℕ) → IsSound s → IfSome (numbered number s.orders) (λ o. o.delivered + order_load s number ≤ o.count)
-order_filled s number sound = each_some (numbered number s.orders) (λ o. o.delivered + order_load s number ≤ o.count) (λ o i. (sound.orders.orders number o i).filled)
+order_filled : (s : Operator) (number : ℕ) → IsSound s → IfSome (item_numbered number s.orders) (λ o. o.delivered + order_load s number ≤ o.count)
+order_filled s number sound = each_some (item_numbered number s.orders) (λ o. o.delivered + order_load s number ≤ o.count) (λ o i. (sound.orders.orders number o i).filled)
 
-order_delivered : (s : Operator) (number on : ℕ) → IsSound s → on ≡ 0 → IfSome (numbered number s.orders) (λ o. o.delivered + on ≤ o.count)
+order_delivered : (s : Operator) (number on : ℕ) → IsSound s → on ≡ 0 → IfSome (item_numbered number s.orders) (λ o. o.delivered + on ≤ o.count)
 order_delivered s number on sound none =
-    each_some (numbered number s.orders) (λ o. o.delivered + on ≤ o.count) (λ o i. let filled = (sound.orders.orders number o i).filled in omega (arith, filled, none))
+    each_some (item_numbered number s.orders) (λ o. o.delivered + on ≤ o.count) (λ o i. let filled = (sound.orders.orders number o i).filled in omega (arith, filled, none))
 
 -- ---- views
 
@@ -132,7 +132,7 @@ side_bare s None side dock = record { rider = refl; rental = refl; rentals = ref
 side_bare s (Some o) side dock = end_bare s (end_at side o) dock
 
 rental_viewed : (s : Operator) (number : ℕ) (r : RentalView) → rental_at s number ≡ Some r → IsViewOf s r
-rental_viewed s number r is = view_is s number (numbered number s.rentals) r refl is
+rental_viewed s number r is = view_is s number (item_numbered number s.rentals) r refl is
 
 bike_viewed : (s : Operator) (bike : ℕ) → IsSound s → (r : RentalView) → rental_of s (finmap.get s.bikes bike) ≡ Some r → IsViewOf s r
 bike_viewed s bike sound r is = (rental_is s bike (finmap.get s.bikes bike) r sound.bikes refl is).view
@@ -203,9 +203,9 @@ view_bounded s now (command.Load truck order bike) sound later = record {
   filled = order_filled s order sound;
 }
 view_bounded s now (command.Unload truck order bike side dock) sound later =
-    let bare = side_bare s (numbered order s.orders) side dock in
+    let bare = side_bare s (item_numbered order s.orders) side dock in
     bare_bounded now (view_of s (command.Unload truck order bike side dock)) (record { rider = bare.rider; rental = bare.rental; rentals = bare.rentals; on_truck = bare.on_truck })
-    (order_delivered s order (side_view s (numbered order s.orders) side dock).on_truck sound bare.on_truck)
+    (order_delivered s order (side_view s (item_numbered order s.orders) side dock).on_truck sound bare.on_truck)
 view_bounded s now (command.CloseOrder order) sound later = record {
   few_rentals = λ room. omega arith;
   rider = λ room. tt;

@@ -5,7 +5,7 @@ use Rattle.std.specs.Ordering.{eq_by_cmp}
 use Rattle.bike_commands.specs.declared.reply.Reply.{Reply}
 use Rattle.bike_commands.specs.declared.request.Request.{Request}
 use Rattle.bike_operator.specs.Operator.{Operator, Key, texts_cmp}
-use Rattle.bike_operator.specs.Steps.{refused}
+use Rattle.bike_operator.specs.Steps.{refusal_of}
 use Rattle.bike_operator.specs.Runs.{Call, key_in, step}
 
 -- a request with this caller and key was accepted
@@ -14,7 +14,7 @@ is_kept s q = is_some (finmap.get s.kept (key_in q))
 
 -- the request is accepted: its caller and key are new, and no test refuses the command
 abbrev pub is_accepted : Operator → Request → Bool
-is_accepted s q = is_none (finmap.get s.kept (key_in q)) && is_none (refused s q.command)
+is_accepted s q = is_none (finmap.get s.kept (key_in q)) && is_none (refusal_of s q.command)
 
 -- the caller and key of the request are kept, with its command and this reply
 abbrev pub IsKeptWith : Operator → Request → Reply → Type 0

@@ -8,7 +8,7 @@ ghost use Rattle.bike_operator.specs.declared.limits.TheConstants.{MOST_BIKES, M
 ghost use Rattle.bike_operator.specs.Operator.{Operator};
 ghost use Rattle.bike_operator.specs.Counts.{open_rentals};
 ghost use Rattle.bike_operator.specs.View.{view_of, has_full_ledger};
-ghost use Rattle.bike_operator.specs.Steps.{refused, reply_of};
+ghost use Rattle.bike_operator.specs.Steps.{refusal_of, reply_of};
 ghost use Rattle.bike_operator.specs.Sound.{IsSound};
 ghost use Rattle.bike_operator.specs.Bounds.{IsBounded};
 ghost use Rattle.bike_laws.specs.Answers.{IsAcceptance};
@@ -29,6 +29,6 @@ pub fn ledger_room_law()
 /// The law of replies: an accepted command of a sound operator is answered by a reply of the program, which
 /// isn't a refusal.
 pub fn reply_law()
-    ensures { (s : Operator) (now : ℕ) (c : Command) → IsSound s → IsCommand c → refused s c ≡ None → s.now ≤ now
+    ensures { (s : Operator) (now : ℕ) (c : Command) → IsSound s → IsCommand c → refusal_of s c ≡ None → s.now ≤ now
         → IsAcceptance (reply_of s now c) }
 {}

@@ -4,7 +4,7 @@ use Rattle.std.proofs.lemmas.Int.{ints}
 use Rattle.bike_ledger.specs.declared.entry.EntryKind.{EntryKind}
 use Rattle.bike_ledger.specs.declared.entry.EntryKind.TheVariants.{TopUp, Fare, Refund}
 use Rattle.bike_ledger.specs.Entries.{Entry}
-use Rattle.bike_ledger.specs.Ledger.{total, credit, cash_in, earned, share, balance_of, cash_of, revenue_of, IsAmount, AreAmounts, IsBalance}
+use Rattle.bike_ledger.specs.Ledger.{total, credit, cash_in, revenue_in, share, balance_of, cash_of, revenue_of, IsAmount, AreAmounts, IsBalance}
 use Rattle.bike_ledger.specs.Entries.{greatest_amount}
 
 -- neither above the greatest amount nor below what takes it away
@@ -43,10 +43,10 @@ cash_in-figure TopUp amount is = let low = is.low in let high = is.high in recor
 cash_in-figure Fare amount is = record { low = omega (arith, ints); high = omega (arith, ints) }
 cash_in-figure Refund amount is = record { low = omega (arith, ints); high = omega (arith, ints) }
 
-earned-figure : (kind : EntryKind) (amount : ℤ) → IsAmount amount → IsFigure (earned kind amount)
-earned-figure TopUp amount is = record { low = omega (arith, ints); high = omega (arith, ints) }
-earned-figure Fare amount is = let low = is.low in let high = is.high in record { low = omega (arith, ints, low); high = omega (arith, ints, high) }
-earned-figure Refund amount is = let low = is.low in let high = is.high in record { low = omega (arith, ints, high); high = omega (arith, ints, low) }
+revenue_in-figure : (kind : EntryKind) (amount : ℤ) → IsAmount amount → IsFigure (revenue_in kind amount)
+revenue_in-figure TopUp amount is = record { low = omega (arith, ints); high = omega (arith, ints) }
+revenue_in-figure Fare amount is = let low = is.low in let high = is.high in record { low = omega (arith, ints, low); high = omega (arith, ints, high) }
+revenue_in-figure Refund amount is = let low = is.low in let high = is.high in record { low = omega (arith, ints, high); high = omega (arith, ints, low) }
 
 either-figure : (own : Bool) (z : ℤ) → IsFigure z → IsFigure (cond own z (pos 0))
 either-figure true z is = is
@@ -63,4 +63,4 @@ cash_of-bound es are few =
 
 pub revenue_of-bound : (es : List Entry) → AreAmounts es → length es ≤ 99999999 → IsBalance (revenue_of es)
 revenue_of-bound es are few =
-    balance-bound (length es) (revenue_of es) few (total-bound (λ e. earned e.kind e.amount) (λ e is. earned-figure e.kind e.amount is) es are)
+    balance-bound (length es) (revenue_of es) few (total-bound (λ e. revenue_in e.kind e.amount) (λ e is. revenue_in-figure e.kind e.amount is) es are)

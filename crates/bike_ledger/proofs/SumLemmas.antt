@@ -6,7 +6,7 @@ use Rattle.std.proofs.lemmas.Bool.Decides.{eqb_tells}
 use Rattle.bike_ledger.specs.declared.entry.EntryKind.{EntryKind}
 use Rattle.bike_ledger.specs.declared.entry.EntryKind.TheVariants.{TopUp, Fare, Refund}
 use Rattle.bike_ledger.specs.Entries.{Entry}
-use Rattle.bike_ledger.specs.Ledger.{total, credit, cash_in, earned, share, balance_of}
+use Rattle.bike_ledger.specs.Ledger.{total, credit, cash_in, revenue_in, share, balance_of}
 use Rattle.bike_ledger.specs.Money.{is_among, AreDistinct, AreOf, balances, IsConserved}
 
 pub total-append : (figure : Entry → ℤ) (es : List Entry) (e : Entry) → total figure (es ++ e ∷ []) ≡ total figure es +ℤ figure e
@@ -82,7 +82,7 @@ shares_of_own (r ∷ rs) e apart some = elim (eqb_tells e.rider r) [
       omega (arith, ints, mine, rest)
 ]
 
-kinds_agree : (kind : EntryKind) (amount : ℤ) → credit kind amount +ℤ earned kind amount ≡ cash_in kind amount
+kinds_agree : (kind : EntryKind) (amount : ℤ) → credit kind amount +ℤ revenue_in kind amount ≡ cash_in kind amount
 kinds_agree TopUp amount = omega (arith, ints)
 kinds_agree Fare amount = omega (arith, ints)
 kinds_agree Refund amount = omega (arith, ints)

@@ -22,10 +22,10 @@ cash_in Fare amount = pos 0
 cash_in Refund amount = pos 0
 
 -- what a kind adds to revenue
-abbrev pub earned : EntryKind → ℤ → ℤ
-earned TopUp amount = pos 0
-earned Fare amount = amount
-earned Refund amount = neg_ℤ amount
+abbrev pub revenue_in : EntryKind → ℤ → ℤ
+revenue_in TopUp amount = pos 0
+revenue_in Fare amount = amount
+revenue_in Refund amount = neg_ℤ amount
 
 -- what a kind adds to the refunds of the entry's rental
 abbrev pub given_back : EntryKind → ℤ → ℤ
@@ -47,7 +47,7 @@ cash_of = total (λ e. cash_in e.kind e.amount)
 
 -- all fares less all refunds
 abbrev pub revenue_of : List Entry → ℤ
-revenue_of = total (λ e. earned e.kind e.amount)
+revenue_of = total (λ e. revenue_in e.kind e.amount)
 
 -- what an entry adds to the refunds of a rental
 abbrev pub given_back_of : ℕ → Entry → ℤ

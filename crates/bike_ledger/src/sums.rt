@@ -2,7 +2,7 @@
 
 ghost use Rattle.std.specs.Prelude.{◌≡◌, ◌≢◌, ◌≤◌, ◌++◌, ◌∷◌, [], ◌+ℤ◌, ◌-ℤ◌, ◌≤ℤ◌, pos, length, List, ℕ, ℤ};
 ghost use Rattle.bike_ledger.specs.Entries.{Entry};
-ghost use Rattle.bike_ledger.specs.Ledger.{total, credit, cash_in, earned, given_back_of, share, balance_of, cash_of, revenue_of, refunded_of, IsAmount, IsBalance, AreAmounts};
+ghost use Rattle.bike_ledger.specs.Ledger.{total, credit, cash_in, revenue_in, given_back_of, share, balance_of, cash_of, revenue_of, refunded_of, IsAmount, IsBalance, AreAmounts};
 ghost use Rattle.bike_ledger.specs.Money.{AreDistinct, AreOf, IsConserved};
 
 use crate::entry::{Entry, EntryKind};
@@ -34,7 +34,7 @@ pub fn cash_after(cash: Cents, entry: &Entry) -> Cents
 /// The revenue after the entry, in hundredths: a fare is earned, and a refund is given back out of it.
 pub fn revenue_after(revenue: Cents, entry: &Entry) -> Cents
     requires revenue { IsBalance revenue }
-    ensures { result ≡ revenue +ℤ earned entry.now.kind entry.now.amount }
+    ensures { result ≡ revenue +ℤ revenue_in entry.now.kind entry.now.amount }
 {
     let earned = entry.amount().hundredths();
     match entry.kind() {
@@ -60,7 +60,7 @@ pub fn entry_law()
     ensures own { (es : List Entry) (e : Entry) → balance_of e.rider (es ++ e ∷ []) ≡ balance_of e.rider es +ℤ credit e.kind e.amount }
     ensures others { (es : List Entry) (e : Entry) (rider : ℕ) → e.rider ≢ rider → balance_of rider (es ++ e ∷ []) ≡ balance_of rider es }
     ensures cash { (es : List Entry) (e : Entry) → cash_of (es ++ e ∷ []) ≡ cash_of es +ℤ cash_in e.kind e.amount }
-    ensures revenue { (es : List Entry) (e : Entry) → revenue_of (es ++ e ∷ []) ≡ revenue_of es +ℤ earned e.kind e.amount }
+    ensures revenue { (es : List Entry) (e : Entry) → revenue_of (es ++ e ∷ []) ≡ revenue_of es +ℤ revenue_in e.kind e.amount }
     ensures refunded { (es : List Entry) (e : Entry) (rental : ℕ) → refunded_of rental (es ++ e ∷ []) ≡ refunded_of rental es +ℤ given_back_of rental e }
     ensures any_sum { (figure : Entry → ℤ) (es : List Entry) (e : Entry) → total figure (es ++ e ∷ []) ≡ total figure es +ℤ figure e }
 {}

@@ -16,7 +16,7 @@ use Rattle.bike_ledger.specs.declared.entry.EntryKind.TheVariants.{TopUp, Fare, 
 use Rattle.bike_operator.specs.declared.limits.TheConstants.{MOST_ENTRIES}
 use Rattle.bike_operator.specs.declared.records.Rental.{Rental}
 use Rattle.bike_operator.specs.declared.records.Closing.{Closing}
-use Rattle.bike_operator.specs.Operator.{Operator, numbered}
+use Rattle.bike_operator.specs.Operator.{Operator, item_numbered}
 use Rattle.bike_operator.specs.Counts.{count, is_open, open_rentals}
 use Rattle.bike_places.proofs.CountLemmas.{weight}
 use Rattle.bike_book.specs.Tables.{Tables, Riders, Rentals}
@@ -80,14 +80,14 @@ paid_decides Refund amount c = (λ e. tt, λ h. refl)
 pub record OfRental (s : Operator) (k : EntryKind) (e : Entry) : Type 0 where
   pub row : Rental
   pub closing : Closing
-  pub found : numbered e.rental s.rentals ≡ Some row
+  pub found : item_numbered e.rental s.rentals ≡ Some row
   pub closed : row.closing ≡ Some closing
   pub rider_is : row.rider ≡ e.rider
   pub paid : Paid k e.amount closing
 
-of_decides : (s : Operator) (k : EntryKind) (e : Entry) → Decides (is_of k e (numbered e.rental s.rentals)) (OfRental s k e)
-of_decides s k e = go (numbered e.rental s.rentals) refl where
-  closes : (r : Rental) → numbered e.rental s.rentals ≡ Some r → (o : Option Closing) → r.closing ≡ o
+of_decides : (s : Operator) (k : EntryKind) (e : Entry) → Decides (is_of k e (item_numbered e.rental s.rentals)) (OfRental s k e)
+of_decides s k e = go (item_numbered e.rental s.rentals) refl where
+  closes : (r : Rental) → item_numbered e.rental s.rentals ≡ Some r → (o : Option Closing) → r.closing ≡ o
       → Decides ((r.rider == e.rider) && is_closed_for k e.amount o) (OfRental s k e)
   closes r is None still = (
     λ h. absurd (let f = and_right (r.rider == e.rider) false refl in let g = sym h ∙ f in cc),
@@ -102,7 +102,7 @@ of_decides s k e = go (numbered e.rental s.rentals) refl where
       (ap (λ (x : Rental). x.rider) same ∙ h.rider_is, subst (Paid k e.amount) closing h.paid))
       (Decides-and (r.rider == e.rider) (is_paid k e.amount c) (Decides-eqb r.rider e.rider) (paid_decides k e.amount c))
 
-  go : (o : Option Rental) → numbered e.rental s.rentals ≡ o → Decides (is_of k e o) (OfRental s k e)
+  go : (o : Option Rental) → item_numbered e.rental s.rentals ≡ o → Decides (is_of k e o) (OfRental s k e)
   go None is = (λ h. absurd cc, λ h. absurd (let f = sym is ∙ h.found in cc))
   go (Some r) is = closes r is r.closing refl
 
@@ -111,7 +111,7 @@ Booked s TopUp e = Unit {0}
 Booked s Fare e = OfRental s Fare e
 Booked s Refund e = OfRental s Refund e
 
-booked_decides : (s : Operator) (k : EntryKind) (e : Entry) → Decides (is_booked k e (numbered e.rental s.rentals)) (Booked s k e)
+booked_decides : (s : Operator) (k : EntryKind) (e : Entry) → Decides (is_booked k e (item_numbered e.rental s.rentals)) (Booked s k e)
 booked_decides s TopUp e = (λ h. tt, λ h. refl)
 booked_decides s Fare e = of_decides s Fare e
 booked_decides s Refund e = of_decides s Refund e
@@ -193,7 +193,7 @@ module _ (t : Tables) (up : AreInOrder t) where
     rental_of o = rental_of_row (or_nulls 10 o)
 
     -- the rental under a number is that of its place
-    rental_partner : (k : ℕ) → rental_of (row_with 1 (number_key k) t.rentals) ≡ numbered k s.rentals
+    rental_partner : (k : ℕ) → rental_of (row_with 1 (number_key k) t.rentals) ≡ item_numbered k s.rentals
     rental_partner k =
         read (row_with 1 (number_key k) t.rentals)
         ∙ at_number (stored_rental s.entries) (λ e. refl) rental_in t.rentals s.rentals rentals_are.rows_are rentals_are.back k
@@ -214,7 +214,7 @@ module _ (t : Tables) (up : AreInOrder t) where
       rental_wide : length (or_nulls 10 rental_of_it) ≡ 10
       rental_wide = partner_wide 10 1 (column r 3 ∷ []) t.rentals rentals
 
-      rental_there : (e : Entry) → entry_read r ≡ Some e → line_rental (entry_rental_line t r) ≡ numbered e.rental s.rentals
+      rental_there : (e : Entry) → entry_read r ≡ Some e → line_rental (entry_rental_line t r) ≡ item_numbered e.rental s.rentals
       rental_there e is =
           ap rental_of_row (partner_of_one r 6 10 rental_of_it wide rental_wide)
           ∙ ap (λ (x : Row). rental_of (partner 1 (column x 3 ∷ []) t.rentals)) (entry_reading.sound r e is).0 ∙ rental_partner e.rental

@@ -19,7 +19,7 @@ use Rattle.bike_ledger.specs.declared.entry.EntryKind.{EntryKind}
 use Rattle.bike_ledger.specs.declared.entry.EntryKind.TheVariants.{TopUp, Fare, Refund}
 use Rattle.bike_operator.specs.declared.records.Rental.{Rental}
 use Rattle.bike_operator.specs.declared.records.Closing.{Closing}
-use Rattle.bike_operator.specs.Operator.{Operator, numbered}
+use Rattle.bike_operator.specs.Operator.{Operator, item_numbered}
 use Rattle.bike_operator.specs.Counts.{open_rentals, count}
 use Rattle.bike_operator.specs.Sound.{IsBooking, IsOfRental, is_fare}
 use Rattle.bike_rows.specs.View.{by_key}
@@ -99,7 +99,7 @@ module _ (s : Operator) (e : Entry) where
   first_of Fare one is = (one.0, one.1)
   first_of Refund one is = absurd cc
 
-  booked_rental : (k : EntryKind) → Booked s k e → k ≡ Fare → (r : Rental) × (numbered e.rental s.rentals ≡ Some r)
+  booked_rental : (k : EntryKind) → Booked s k e → k ≡ Fare → (r : Rental) × (item_numbered e.rental s.rentals ≡ Some r)
   booked_rental TopUp it is = absurd cc
   booked_rental Fare it is = (it.row, it.found)
   booked_rental Refund it is = absurd cc
@@ -169,7 +169,7 @@ module _ (t : Tables) (up : AreInOrder t) (riders : AreWide 3 t.riders) (rentals
   book_good key r is has p = (book_decides_at key r has).0 (demanded t Entries books key r is p)
 
   -- a rental that is there has a number below the end
-  low_rental : (n : ℕ) (r : Rental) → numbered n s.rentals ≡ Some r → n < rental_end
+  low_rental : (n : ℕ) (r : Rental) → item_numbered n s.rentals ≡ Some r → n < rental_end
   low_rental n r found =
       let low = numbered_low n s.rentals r found in
       let read : length s.rentals ≡ length (filter_map rental_of_row t.rentals) =
@@ -240,7 +240,7 @@ module _ (t : Tables) (up : AreInOrder t) (riders : AreWide 3 t.riders) (rentals
       none_before all nothing other x less found fare same =
           let few = front_length all in
           let many = so_many in
-          let found_here = sym (ap (numbered other) entries_are) ∙ found in
+          let found_here = sym (ap (item_numbered other) entries_are) ∙ found in
           let here = numbered_front other front back x found_here (omega (arith, less, number, many, few)) in
           let passes = and_from (x.rental == e.rental) (is_fare x.kind) ((Decides-eqb x.rental e.rental).1 same) (ap is_fare fare) in
           let some = passing_counts (is_fare_of e.rental) front here.0 (record { item = x; found = here.1; passes = passes }) in
@@ -258,7 +258,7 @@ module _ (t : Tables) (up : AreInOrder t) (riders : AreWide 3 t.riders) (rentals
             let place = item_low it.0 front x it.1.found in
             let few = read_few entry_read before in
             let many = so_many in
-            let found = ap (numbered (suc it.0)) entries_are ∙ front_item it.0 front back x it.1.found in
+            let found = ap (item_numbered (suc it.0)) entries_are ∙ front_item it.0 front back x it.1.found in
             let same = (Decides-eqb x.rental e.rental).0 tests.0 in
             absurd (first (suc it.0) x (omega (arith, place, few, many, number)) found (kind_of_fare x.kind tests.1) same)
 

@@ -2,7 +2,7 @@
 use Rattle.std.proofs.Common.{◌≡◌, inl, inr, ℕ, zero, suc, ◌<◌, ◌≤◌, List, [], ◌∷◌, ◌++◌, length, Option, Some, None, refl, sym, ap, ◌∙◌, arith}
 use Rattle.std.specs.List.{filter_map, cons_option}
 use Rattle.sqlite_rules.specs.Lists.{Has}
-use Rattle.bike_operator.specs.Operator.{item_at, numbered}
+use Rattle.bike_operator.specs.Operator.{item_at, item_numbered}
 
 module _ {A : Type 0} where
   item_front : (i : ℕ) (xs ys : List A) (x : A) → item_at i (xs ++ ys) ≡ Some x → i < length xs → item_at i xs ≡ Some x
@@ -20,11 +20,11 @@ module _ {A : Type 0} where
   item_low zero (z ∷ xs) x found = omega arith
   item_low (suc i) (z ∷ xs) x found = let rest = item_low i xs x found in omega (arith, rest)
 
-  pub numbered_front : (n : ℕ) (xs ys : List A) (x : A) → numbered n (xs ++ ys) ≡ Some x → n ≤ length xs → (i : ℕ) × (item_at i xs ≡ Some x)
+  pub numbered_front : (n : ℕ) (xs ys : List A) (x : A) → item_numbered n (xs ++ ys) ≡ Some x → n ≤ length xs → (i : ℕ) × (item_at i xs ≡ Some x)
   numbered_front zero xs ys x found low = absurd cc
   numbered_front (suc n) xs ys x found low = (n, item_front n xs ys x found (omega (arith, low)))
 
-  pub numbered_low : (n : ℕ) (xs : List A) (x : A) → numbered n xs ≡ Some x → n ≤ length xs
+  pub numbered_low : (n : ℕ) (xs : List A) (x : A) → item_numbered n xs ≡ Some x → n ≤ length xs
   numbered_low zero xs x found = absurd cc
   numbered_low (suc n) xs x found = let low = item_low n xs x found in omega (arith, low)
 

@@ -7,7 +7,7 @@ use Rattle.std.specs.FinMap.{FinMap}
 use Rattle.std.proofs.lemmas.Int.{ints}
 use Rattle.sqlite_value.specs.declared.value.Value.{Value}
 use Rattle.sqlite_value.specs.declared.value.Value.TheVariants.{Null, Int, Text}
-use Rattle.bike_rows.specs.View.{updated, with_values}
+use Rattle.bike_rows.specs.View.{rows_after_update, with_values}
 use Rattle.bike_operator.specs.declared.records.BikeState.{BikeState}
 use Rattle.bike_operator.specs.declared.records.Place.{Place}
 use Rattle.bike_operator.specs.declared.records.Place.TheVariants as place
@@ -15,7 +15,7 @@ use Rattle.bike_operator.specs.declared.records.Bike.{Bike}
 use Rattle.bike_operator.specs.Operator.{Operator, Station}
 use Rattle.bike_operator.specs.Counts.{available_of}
 use Rattle.bike_operator.specs.Steps.{found_changed, key_changed}
-use Rattle.bike_places.specs.Numbers.{disabled_of, occupied}
+use Rattle.bike_places.specs.Numbers.{disabled_of, occupied_docks}
 use Rattle.bike_places.specs.Laws.{IsMoved, available_share, disabled_share, occupied_share, place_shares, IsAway, IsMarkedAt, ShareLaw, HasPut, PutLaw}
 use Rattle.bike_places.proofs.PutLaw.{put_law}
 use Rattle.bike_places.proofs.ShareLaw.{away_at, no_occupied, no_available, no_disabled, share_law}
@@ -53,7 +53,7 @@ pub key_found : (m : FinMap nat_cmp Bike) (bike : ℕ) (f : Bike → Bike) (b : 
 key_found m bike f b found = ap (found_changed m bike f) found
 
 pub bikes_set : (m : FinMap nat_cmp Bike) (bike : ℕ) (f : Bike → Bike) (b : Bike) (state : BikeState) (p : Place) → fin.get m bike ≡ Some b → record b { state = state; place = p } ≡ f b
-    → updated 1 (number_value bike ∷ []) (with_values (bike_columns state p)) (map stored_bike (fin.entries m)) ≡ map stored_bike (fin.entries (key_changed m bike f))
+    → rows_after_update 1 (number_value bike ∷ []) (with_values (bike_columns state p)) (map stored_bike (fin.entries m)) ≡ map stored_bike (fin.entries (key_changed m bike f))
 bikes_set m bike f b state p found is =
     set_entries numbers stored_bike stored_bike (λ x. refl) (λ x. refl) m bike tt (with_values (bike_columns state p)) b (f b) found
     (row_turned bike b.type_id b.state state b.place p ∙ ap (bike_row bike) is) (λ q y there. (tt, λ apart. refl))
@@ -85,8 +85,8 @@ module _ {s n : Operator} {bike : ℕ} {b x : Bike} (h : BikeMoves s n bike b x)
 
   left_moves : (station : List ℕ) (docks : ℕ) → docks_left n station docks +ℤ pos (occupied_share s station (Some x)) ≡ docks_left s station docks +ℤ pos (occupied_share s station (Some b))
   left_moves station docks =
-      let taken : IsMoved (occupied s station) (occupied n station) (occupied_share s station (Some b)) (occupied_share s station (Some x)) =
-      ap (λ (o : Option Bike). occupied n station + occupied_share s station o) (sym h.found) ∙ law.occupied station in
+      let taken : IsMoved (occupied_docks s station) (occupied_docks n station) (occupied_share s station (Some b)) (occupied_share s station (Some x)) =
+      ap (λ (o : Option Bike). occupied_docks n station + occupied_share s station o) (sym h.found) ∙ law.occupied station in
       let broken = law.broken station docks in
       omega (arith, ints, taken, broken)
 

@@ -14,7 +14,7 @@ use Rattle.bike_operator.specs.Steps.{dock_marked}
 use Rattle.bike_operator.specs.Sound.{HasDock, AreBikesSound}
 use Rattle.bike_places.proofs.CountLemmas.{found_by}
 use Rattle.bike_places.proofs.MapLemmas.{number_order, texts_order}
-use Rattle.bike_places.specs.Numbers.{disabled_of, occupied}
+use Rattle.bike_places.specs.Numbers.{disabled_of, occupied_docks}
 use Rattle.bike_places.specs.Laws.{one, IsMoved, available_share, disabled_share, occupied_share, Shares, dock_shares, place_shares, IsMarkedAt, ShareLaw, docked_bike, HasMarked, MarkLaw}
 use Rattle.bike_places.proofs.DockLaw.{dock_is}
 use Rattle.bike_places.proofs.ShareLaw.{share_law}
@@ -46,8 +46,8 @@ module _ {s n : Operator} {at : List ℕ} {dock : ℕ} {mark : Bool} (law : Mark
   disabled_moves : (station kind : List ℕ) → IsMoved (disabled_of s station kind) (disabled_of n station kind) (disabled_share s station kind o) (disabled_share n station kind o)
   disabled_moves station kind = subst (λ (z : Option Bike). IsMoved (disabled_of s station kind) (disabled_of n station kind) (disabled_share s station kind z) (disabled_share n station kind z)) here (law.disabled station kind)
 
-  occupied_moves : (station : List ℕ) → IsMoved (occupied s station) (occupied n station) (occupied_share s station o) (occupied_share n station o)
-  occupied_moves station = subst (λ (z : Option Bike). IsMoved (occupied s station) (occupied n station) (occupied_share s station z) (occupied_share n station z)) here (law.occupied station)
+  occupied_moves : (station : List ℕ) → IsMoved (occupied_docks s station) (occupied_docks n station) (occupied_share s station o) (occupied_share n station o)
+  occupied_moves station = subst (λ (z : Option Bike). IsMoved (occupied_docks s station) (occupied_docks n station) (occupied_share s station z) (occupied_share n station z)) here (law.occupied station)
 
   docks_elsewhere : ((station : List ℕ) → station ≢ at → occupied_share s station o ≡ occupied_share n station o) → (station : List ℕ) → station ≢ at → SameDocks s n station
   docks_elsewhere same station apart docks =

@@ -2,7 +2,7 @@
 use Rattle.std.proofs.Common.{[], ◌∷◌, refl}
 use Rattle.bike_operator.specs.declared.change.Change.TheVariants as change
 use Rattle.bike_operator.specs.Operator.{Station}
-use Rattle.bike_operator.specs.Changes.{changed}
+use Rattle.bike_operator.specs.Changes.{with_change}
 use Rattle.bike_book.specs.Rows.{number_value}
 use Rattle.bike_book.specs.ChangeLaws.{Everywhere}
 use Rattle.bike_book.specs.Between.{counted_station, tables_between}
@@ -15,7 +15,7 @@ use Rattle.bike_moves.specs.MoveLaws.{ReportLaw}
 
 pub report : Everywhere ReportLaw
 report s m now listing station =
-    let n = changed now (change.Report station) s in
+    let n = with_change now (change.Report station) s in
     let f = λ (x : Station). record x { reported = now } in
     let stations =
     changed_entries texts (counted_station s) (counted_station s) (λ e. refl) (λ e. refl) s.stations station.now tt (with_values ((8, number_value now) ∷ [])) f (λ v found. refl) (λ q y found. (tt, λ apart. refl)) in

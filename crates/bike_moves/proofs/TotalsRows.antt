@@ -7,7 +7,7 @@ use Rattle.std.specs.Cmp.{IsTotalOrder, eq_by_cmp_equiv}
 use Rattle.std.specs.FinMap as fin
 use Rattle.std.specs.Borrow.{Bor}
 use Rattle.sqlite_value.specs.declared.value.Value.TheVariants.{Int, Text}
-use Rattle.bike_rows.specs.View.{put_row_by, updated, with_values}
+use Rattle.bike_rows.specs.View.{put_row_by, rows_after_update, with_values}
 use Rattle.bike_operator.specs.Operator.{Operator, Station, Key, DockKey, text_cmp, texts_cmp, key_of, dock_key}
 use Rattle.bike_operator.specs.Counts.{is_broken, available_of, docks_broken}
 use Rattle.bike_places.proofs.MapLemmas.{text_order, texts_order, there_of}
@@ -63,7 +63,7 @@ module _ (s n : Operator) where
   -- the numbers of one station are set
   pub stations_set : (station : List ℕ) (e : DockTotals) → ((other : List ℕ) → other ≢ station → SameDocks other)
       → ((x : Station) → fin.get s.stations station ≡ Some x → HasTotalsAt n station x e)
-      → updated 1 (Text station ∷ []) (with_values ((9, number_value e.free) ∷ (10, number_value e.broken) ∷ [])) (map (counted_station s) (fin.entries s.stations)) ≡ map (counted_station n) (fin.entries s.stations)
+      → rows_after_update 1 (Text station ∷ []) (with_values ((9, number_value e.free) ∷ (10, number_value e.broken) ∷ [])) (map (counted_station s) (fin.entries s.stations)) ≡ map (counted_station n) (fin.entries s.stations)
   stations_set station e others here =
       kept_entries texts (counted_station s) (counted_station n) (λ x. refl) (λ x. refl) s.stations station tt (with_values ((9, number_value e.free) ∷ (10, number_value e.broken) ∷ []))
       (λ x found. let e = here x found in sym (ap₂ (station_row station x) e.0 e.1))
@@ -110,9 +110,9 @@ module _ (s n : Operator) where
           → tables_after (write_of (if b then row.SetCount station type_id o.available o.disabled else row.AddCount station type_id o.available o.disabled)) t
           ≡ record t { counts = map (stored_count n) (fin.entries (fin.insert m.counts (key_of station.now type_id.now) tt)) }
       go true there =
-          let set : updated 2 (Text station.now ∷ Text type_id.now ∷ []) (with_values ((2, number_value o.available) ∷ (3, number_value o.disabled) ∷ [])) t.counts
+          let set : rows_after_update 2 (Text station.now ∷ Text type_id.now ∷ []) (with_values ((2, number_value o.available) ∷ (3, number_value o.disabled) ∷ [])) t.counts
           ≡ map (stored_count n) (fin.entries (fin.insert m.counts (key_of station.now type_id.now) tt)) =
-          ap (updated 2 (Text station.now ∷ Text type_id.now ∷ []) (with_values ((2, number_value o.available) ∷ (3, number_value o.disabled) ∷ []))) is
+          ap (rows_after_update 2 (Text station.now ∷ Text type_id.now ∷ []) (with_values ((2, number_value o.available) ∷ (3, number_value o.disabled) ∷ []))) is
           ∙ set_entries pairs (stored_count s) (stored_count n) (λ x. refl) (λ x. refl) m.counts (key_of station.now type_id.now) good (with_values ((2, number_value o.available) ∷ (3, number_value o.disabled) ∷ []))
           tt tt (there_of (fin.get m.counts (key_of station.now type_id.now)) there).1 new_row each in
           λ i. record t { counts = set i }
@@ -147,8 +147,8 @@ dock_written s n m listing station dock broken others here t is = go (fin.contai
   go : (b : Bool) → fin.contains_key m.docks (dock_key station.now dock) ≡ b
       → tables_after (write_of (if b then row.SetDock station dock broken else row.AddDock station dock broken)) t ≡ record t { docks = map (stored_dock n.broken) (fin.entries (fin.insert m.docks (dock_key station.now dock) tt)) }
   go true there =
-      let set : updated 2 (Text station.now ∷ number_value dock ∷ []) (with_values ((2, Int (truth broken)) ∷ [])) t.docks ≡ map (stored_dock n.broken) (fin.entries (fin.insert m.docks (dock_key station.now dock) tt)) =
-      ap (updated 2 (Text station.now ∷ number_value dock ∷ []) (with_values ((2, Int (truth broken)) ∷ []))) is
+      let set : rows_after_update 2 (Text station.now ∷ number_value dock ∷ []) (with_values ((2, Int (truth broken)) ∷ [])) t.docks ≡ map (stored_dock n.broken) (fin.entries (fin.insert m.docks (dock_key station.now dock) tt)) =
+      ap (rows_after_update 2 (Text station.now ∷ number_value dock ∷ []) (with_values ((2, Int (truth broken)) ∷ []))) is
       ∙ set_entries docks (stored_dock s.broken) (stored_dock n.broken) (λ x. refl) (λ x. refl) m.docks (dock_key station.now dock) good (with_values ((2, Int (truth broken)) ∷ []))
       tt tt (there_of (fin.get m.docks (dock_key station.now dock)) there).1 new_row each in
       λ i. record t { docks = set i }

@@ -8,7 +8,7 @@ use Rattle.bike_operator.specs.declared.change.NewPlace.{NewPlace}
 use Rattle.bike_operator.specs.declared.change.Change.{Change}
 use Rattle.bike_operator.specs.declared.change.Change.TheVariants as change
 use Rattle.bike_operator.specs.Operator.{Operator, key_of, dock_key}
-use Rattle.bike_operator.specs.Changes.{changed, place_of}
+use Rattle.bike_operator.specs.Changes.{with_change, place_of}
 use Rattle.bike_operator.specs.Sound.{AreBikesSound}
 use Rattle.bike_places.specs.Laws.{IsAway}
 use Rattle.bike_book.specs.declared.row_change.RowChange.{RowChange}
@@ -43,13 +43,13 @@ mark_change broken station dock = if broken then change.BreakDock station dock e
 
 module _ (s : Operator) (m : Listed) (now : ℕ) where
   abbrev pub ReportLaw : Type 0
-  ReportLaw = (station : Bor (List ℕ)) → Books (row.SetReported station now ∷ []) s m (changed now (change.Report station) s) m
+  ReportLaw = (station : Bor (List ℕ)) → Books (row.SetReported station now ∷ []) s m (with_change now (change.Report station) s) m
 
   -- from no dock to no dock
   abbrev pub PlaceAwayLaw : Type 0
   PlaceAwayLaw =
       (bike : ℕ) (b : Bike) (p : NewPlace) → map.get s.bikes bike ≡ Some b → IsAway b.place → IsAway (place_of p)
-      → Books (row.SetBike bike b.state p ∷ []) s m (changed now (change.PlaceBike bike p) s) m
+      → Books (row.SetBike bike b.state p ∷ []) s m (with_change now (change.PlaceBike bike p) s) m
 
   -- from or to a dock of one station
   abbrev pub PlaceAtLaw : Type 0
@@ -57,13 +57,13 @@ module _ (s : Operator) (m : Listed) (now : ℕ) where
       (bike : ℕ) (b : Bike) (p : NewPlace) (station type_id : Bor (List ℕ)) (d e : DockTotals) (n o : BikeTotals)
       → type_id.now ≡ b.type_id → IsPlacedAt s bike b (place_of p) station.now d e n o
       → Books (row.SetBike bike b.state p ∷ row.SetDocks station e.free e.broken ∷ count_change m station type_id o ∷ []) s m
-      (changed now (change.PlaceBike bike p) s) (with_count station.now type_id.now m)
+      (with_change now (change.PlaceBike bike p) s) (with_count station.now type_id.now m)
 
   -- in no dock
   abbrev pub TurnAwayLaw : Type 0
   TurnAwayLaw =
       (bike : ℕ) (b : Bike) (state : BikeState) (p : NewPlace) → map.get s.bikes bike ≡ Some b → place_of p ≡ b.place → IsAway b.place
-      → Books (row.SetBike bike state p ∷ []) s m (changed now (change.SetState bike state) s) m
+      → Books (row.SetBike bike state p ∷ []) s m (with_change now (change.SetState bike state) s) m
 
   -- in a dock
   abbrev pub TurnAtLaw : Type 0
@@ -71,14 +71,14 @@ module _ (s : Operator) (m : Listed) (now : ℕ) where
       (bike : ℕ) (b : Bike) (state : BikeState) (p : NewPlace) (station type_id : Bor (List ℕ)) (n o : BikeTotals)
       → place_of p ≡ b.place → type_id.now ≡ b.type_id → IsTurnedAt s bike b state station.now n o
       → Books (row.SetBike bike state p ∷ count_change m station type_id o ∷ []) s m
-      (changed now (change.SetState bike state) s) (with_count station.now type_id.now m)
+      (with_change now (change.SetState bike state) s) (with_count station.now type_id.now m)
 
   -- an empty dock
   abbrev pub MarkEmptyLaw : Type 0
   MarkEmptyLaw =
       (station : Bor (List ℕ)) (dock : ℕ) (broken : Bool) (d e : DockTotals) → AreBikesSound s → IsMarkedEmpty s station.now dock broken d e
       → Books (dock_change m station dock broken ∷ row.SetDocks station e.free e.broken ∷ []) s m
-      (changed now (mark_change broken station dock) s) (with_dock station.now dock m)
+      (with_change now (mark_change broken station dock) s) (with_dock station.now dock m)
 
   -- a dock with a bicycle in it
   abbrev pub MarkHeldLaw : Type 0
@@ -86,4 +86,4 @@ module _ (s : Operator) (m : Listed) (now : ℕ) where
       (station type_id : Bor (List ℕ)) (dock : ℕ) (broken : Bool) (bike : ℕ) (b : Bike) (d e : DockTotals) (n o : BikeTotals)
       → AreBikesSound s → type_id.now ≡ b.type_id → IsMarkedHeld s station.now dock broken bike b d e n o
       → Books (dock_change m station dock broken ∷ row.SetDocks station e.free e.broken ∷ count_change m station type_id o ∷ []) s m
-      (changed now (mark_change broken station dock) s) (with_count station.now type_id.now (with_dock station.now dock m))
+      (with_change now (mark_change broken station dock) s) (with_count station.now type_id.now (with_dock station.now dock m))

@@ -107,8 +107,8 @@ available s station = count (λ b. is_available s station b.1) (finmap.entries s
 abbrev pub available_of : Operator → List ℕ → List ℕ → ℕ
 available_of s station type_id = count (λ b. bytes_eq b.1.type_id type_id && is_available s station b.1) (finmap.entries s.bikes)
 
-abbrev pub disabled : Operator → List ℕ → ℕ
-disabled s station = count (λ b. is_at station b.1.place && not (is_available s station b.1)) (finmap.entries s.bikes)
+abbrev pub disabled_bikes : Operator → List ℕ → ℕ
+disabled_bikes s station = count (λ b. is_at station b.1.place && not (is_available s station b.1)) (finmap.entries s.bikes)
 
 -- the docks 1, 2, .. of a station
 unfoldable pub docks_up_to : ℕ → List ℕ

@@ -102,9 +102,9 @@ item_at zero (x ∷ xs) = Some x
 item_at (suc n) (x ∷ xs) = item_at n xs
 
 -- the item with a number, from 1
-abbrev pub numbered : {A : Type 0} → ℕ → List A → Option A
-numbered zero xs = None
-numbered (suc n) xs = item_at n xs
+abbrev pub item_numbered : {A : Type 0} → ℕ → List A → Option A
+item_numbered zero xs = None
+item_numbered (suc n) xs = item_at n xs
 
 -- the list with the item at a position changed
 abbrev pub item_changed : {A : Type 0} → ℕ → (A → A) → List A → List A

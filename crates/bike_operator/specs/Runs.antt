@@ -11,7 +11,7 @@ use Rattle.bike_commands.specs.declared.refusal.Refusal.TheVariants as refusal
 use Rattle.bike_commands.specs.declared.request.Request.{Request}
 use Rattle.bike_commands.specs.Commands.{text_of}
 use Rattle.bike_operator.specs.Operator.{Operator, Kept, Key, key_of}
-use Rattle.bike_operator.specs.Steps.{refused, effect, reply_of}
+use Rattle.bike_operator.specs.Steps.{refusal_of, effect, reply_of}
 
 -- the caller rule: what is kept is found by the caller's text and the key
 abbrev pub key_in : Request → Key
@@ -22,24 +22,24 @@ abbrev pub is_same : Command → Command → Bool
 is_same c d = bytes_eq (text_of c) (text_of d)
 
 -- the acceptance rule: after an accepted request at a moment, now it is that moment, and the key keeps command and reply
-abbrev pub accepted : Operator → ℕ → Request → Operator
-accepted s now q =
+abbrev pub after_acceptance : Operator → ℕ → Request → Operator
+after_acceptance s now q =
     record (effect s now q.command) { now = now; kept = map.insert s.kept (key_in q) (record { command = q.command; reply = reply_of s now q.command }) }
 
 -- the refusal rule: a refused request changes nothing
-abbrev pub decided : Operator → ℕ → Request → Option Refusal → Reply × Operator
-decided s now q (Some r) = (Refused r, s)
-decided s now q None = (reply_of s now q.command, accepted s now q)
+abbrev pub outcome : Operator → ℕ → Request → Option Refusal → Reply × Operator
+outcome s now q (Some r) = (Refused r, s)
+outcome s now q None = (reply_of s now q.command, after_acceptance s now q)
 
 -- The kept-key rule: a kept key answers an equal command as before and refuses another, and nothing changes.
 -- The now rule: else the moment is the greater of the request's and the operator's.
-abbrev pub answered : Operator → ℕ → Request → Option Kept → Reply × Operator
-answered s t q (Some k) = (if is_same k.command q.command then k.reply else Refused refusal.KeyReused, s)
-answered s t q None = decided s (max t s.now) q (refused s q.command)
+abbrev pub outcome_with_kept : Operator → ℕ → Request → Option Kept → Reply × Operator
+outcome_with_kept s t q (Some k) = (if is_same k.command q.command then k.reply else Refused refusal.KeyReused, s)
+outcome_with_kept s t q None = outcome s (max t s.now) q (refusal_of s q.command)
 
 -- One step: a request that comes at a moment.
 abbrev pub step : Operator → ℕ → Request → Reply × Operator
-step s t q = answered s t q (map.get s.kept (key_in q))
+step s t q = outcome_with_kept s t q (map.get s.kept (key_in q))
 
 -- a request and the moment at which it comes
 abbrev pub Call : Type 0

@@ -25,7 +25,7 @@ use Rattle.bike_operator.specs.declared.records.Bike.{Bike}
 use Rattle.bike_operator.specs.declared.records.Rental.{Rental}
 use Rattle.bike_operator.specs.declared.records.Closing.{Closing}
 use Rattle.bike_operator.specs.declared.records.Order.{Order}
-use Rattle.bike_operator.specs.Operator.{Operator, Station, Truck, Rider, Kept, Key, key_of, DockKey, dock_key, numbered}
+use Rattle.bike_operator.specs.Operator.{Operator, Station, Truck, Rider, Kept, Key, key_of, DockKey, dock_key, item_numbered}
 use Rattle.bike_operator.specs.Counts.{is_open, is_retired, truck_load, order_load, open_rentals}
 use Rattle.bike_operator.specs.View.{has_end}
 use Rattle.bike_operator.specs.Steps.{is_same_end}
@@ -80,14 +80,14 @@ pub record IsCatalogueSound (s : Operator) : Type 0 where
 -- the open rental of this bicycle
 pub record IsRidden (s : Operator) (bike rental : ℕ) : Type 0 where
   pub row : Rental
-  pub found : numbered rental s.rentals ≡ Some row
+  pub found : item_numbered rental s.rentals ≡ Some row
   pub not_closed : is_open row ≡ true
   pub bike_is : row.bike ≡ bike
 
 -- an open order of this truck, and of the bicycle's type
 pub record IsCarried (s : Operator) (type_id : List ℕ) (truck order : ℕ) : Type 0 where
   pub row : Order
-  pub found : numbered order s.orders ≡ Some row
+  pub found : item_numbered order s.orders ≡ Some row
   pub not_closed : row.is_open ≡ true
   pub truck_is : row.truck ≡ truck
   pub type_is : row.type_id ≡ type_id
@@ -139,7 +139,7 @@ pub record IsOrderAt (s : Operator) (number : ℕ) (o : Order) : Type 0 where
 
 pub record AreOrdersSound (s : Operator) : Type 0 where
   pub trucks : (number : ℕ) (t : Truck) → finmap.get s.trucks number ≡ Some t → IsTruckAt s number t
-  pub orders : (number : ℕ) (o : Order) → numbered number s.orders ≡ Some o → IsOrderAt s number o
+  pub orders : (number : ℕ) (o : Order) → item_numbered number s.orders ≡ Some o → IsOrderAt s number o
   pub few_trucks : finmap.len s.trucks ≤ MOST_TRUCKS
   pub few_orders : length s.orders ≤ MOST_ORDERS
 
@@ -197,9 +197,9 @@ pub record IsRentalAt (s : Operator) (number : ℕ) (r : Rental) : Type 0 where
   pub refunded : refunded_of number s.entries ≤ℤ most_refunded r.closing
 
 pub record AreRentalsSound (s : Operator) : Type 0 where
-  pub rentals : (number : ℕ) (r : Rental) → numbered number s.rentals ≡ Some r → IsRentalAt s number r
+  pub rentals : (number : ℕ) (r : Rental) → item_numbered number s.rentals ≡ Some r → IsRentalAt s number r
   -- a rider has one open rental at most
-  pub riding : (a b : ℕ) (q r : Rental) → numbered a s.rentals ≡ Some q → numbered b s.rentals ≡ Some r → is_open q ≡ true → is_open r ≡ true → q.rider ≡ r.rider → a ≡ b
+  pub riding : (a b : ℕ) (q r : Rental) → item_numbered a s.rentals ≡ Some q → item_numbered b s.rentals ≡ Some r → is_open q ≡ true → is_open r ≡ true → q.rider ≡ r.rider → a ≡ b
   -- each rental is open or has an entry
   pub few_rentals : length s.rentals ≤ length s.entries + open_rentals s
 
@@ -220,7 +220,7 @@ pub record IsPayment (amount : ℤ) : Type 0 where
 pub record IsOfRental (s : Operator) (e : Entry) : Type 0 where
   pub row : Rental
   pub closing : Closing
-  pub found : numbered e.rental s.rentals ≡ Some row
+  pub found : item_numbered e.rental s.rentals ≡ Some row
   pub closed : row.closing ≡ Some closing
   pub rider_is : row.rider ≡ e.rider
 
@@ -238,7 +238,7 @@ pub record IsEntryAt (s : Operator) (number : ℕ) (e : Entry) : Type 0 where
 
 pub record IsLedgerSound (s : Operator) : Type 0 where
   pub riders : (number : ℕ) (r : Rider) → finmap.get s.riders number ≡ Some r → IsRiderNumber number
-  pub entries : (number : ℕ) (e : Entry) → numbered number s.entries ≡ Some e → IsEntryAt s number e
+  pub entries : (number : ℕ) (e : Entry) → item_numbered number s.entries ≡ Some e → IsEntryAt s number e
   pub few_riders : finmap.len s.riders ≤ MOST_RIDERS
   pub few_entries : length s.entries + open_rentals s ≤ MOST_ENTRIES
 

@@ -31,7 +31,7 @@ use Rattle.bike_operator.specs.declared.view.StationView.{StationView}
 use Rattle.bike_operator.specs.declared.view.DockedBike.{DockedBike}
 use Rattle.bike_operator.specs.declared.view.RentalView.{RentalView}
 use Rattle.bike_operator.specs.declared.view.View.{View}
-use Rattle.bike_operator.specs.Operator.{Operator, Station, dock_key, number_changed, numbered}
+use Rattle.bike_operator.specs.Operator.{Operator, Station, dock_key, number_changed, item_numbered}
 use Rattle.bike_operator.specs.Counts.{is_at, is_depot, is_on_truck, is_for_order, is_fit, is_retired, is_open, docked_at}
 use Rattle.bike_operator.specs.View.{view_of, end_at, docked_view, rental_view, rental_of}
 
@@ -136,8 +136,8 @@ tests v (command.Unload truck order bike side dock) =
     ∷ (v.is_dock_broken, refusal.DockBroken) ∷ (is_some v.docked, refusal.DockFull) ∷ []
 tests v (command.CloseOrder order) = (is_none v.order, refusal.UnknownOrder) ∷ (is_closed_order v.order, refusal.OrderClosed) ∷ (nat_lt 0 v.on_truck, refusal.BikesOnTruck) ∷ []
 
-abbrev pub refused : Operator → Command → Option Refusal
-refused s c = first (tests (view_of s c) c)
+abbrev pub refusal_of : Operator → Command → Option Refusal
+refusal_of s c = first (tests (view_of s c) c)
 
 -- ---- effects
 
@@ -150,12 +150,12 @@ abbrev pub key_changed : {K X : Type 0} {R : K → K → Ordering} → map.FinMa
 key_changed m k f = found_changed m k f (map.get m k)
 
 -- the report rule: a station reports, and its last report is now
-abbrev pub reported : List ℕ → ℕ → Operator → Operator
-reported station now s = record s { stations = key_changed s.stations station (λ x. record x { reported = now }) }
+abbrev pub with_report : List ℕ → ℕ → Operator → Operator
+with_report station now s = record s { stations = key_changed s.stations station (λ x. record x { reported = now }) }
 
 -- the station at which a place is reports
 abbrev pub place_reported : Place → ℕ → Operator → Operator
-place_reported (place.Dock station dock) now s = reported station now s
+place_reported (place.Dock station dock) now s = with_report station now s
 place_reported (place.Rental rental) now s = s
 place_reported (place.Truck truck order) now s = s
 place_reported place.Depot now s = s
@@ -178,8 +178,8 @@ abbrev pub bike_marked : ℕ → BikeState → Operator → Operator
 bike_marked bike state s = record s { bikes = key_changed s.bikes bike (λ b. record b { state = state }) }
 
 -- the numbering rule: entries, rentals and orders are numbered on from those that are there
-abbrev pub booked : EntryKind → ℕ → ℕ → ℤ → ℕ → Operator → Operator
-booked kind rider rental amount now s =
+abbrev pub with_entry : EntryKind → ℕ → ℕ → ℤ → ℕ → Operator → Operator
+with_entry kind rider rental amount now s =
     record s { entries = s.entries ++ record { number = length s.entries + 1; kind = kind; rider = rider; rental = rental; amount = amount; at = now } ∷ [] }
 
 abbrev pub rental_added : Rental → Operator → Operator
@@ -201,43 +201,43 @@ abbrev pub fare_now : RentalView → ℕ → ℤ
 fare_now r now = fare_of r.plan r.rental.start now
 
 -- the closing rule: a rental that is closed costs its fare, in one entry
-abbrev pub charged : RentalView → Option (List ℕ) → ℕ → Operator → Operator
-charged r to_station now s = booked kind.Fare r.rental.rider r.number (fare_now r now) now (rental_closed r.number to_station now (fare_now r now) s)
+abbrev pub with_fare : RentalView → Option (List ℕ) → ℕ → Operator → Operator
+with_fare r to_station now s = with_entry kind.Fare r.rental.rider r.number (fare_now r now) now (rental_closed r.number to_station now (fare_now r now) s)
 
 -- a rental is opened of the bicycle in a dock
-abbrev pub started : ℕ → List ℕ → ℕ → Option DockedBike → Operator → Operator
-started rider station now None s = s
-started rider station now (Some b) s =
-    reported station now (bike_placed b.bike (place.Rental (length s.rentals + 1))
+abbrev pub after_start : ℕ → List ℕ → ℕ → Option DockedBike → Operator → Operator
+after_start rider station now None s = s
+after_start rider station now (Some b) s =
+    with_report station now (bike_placed b.bike (place.Rental (length s.rentals + 1))
     (rental_added (record { rider = rider; bike = b.bike; plan = b.plan; from_station = station; start = now; closing = None }) s))
 
 -- a rental is closed in a dock
-abbrev pub ended : ℕ → List ℕ → ℕ → ℕ → Option RentalView → Operator → Operator
-ended bike station dock now None s = s
-ended bike station dock now (Some r) s = reported station now (bike_placed bike (place.Dock station dock) (charged r (Some station) now s))
+abbrev pub after_end : ℕ → List ℕ → ℕ → ℕ → Option RentalView → Operator → Operator
+after_end bike station dock now None s = s
+after_end bike station dock now (Some r) s = with_report station now (bike_placed bike (place.Dock station dock) (with_fare r (Some station) now s))
 
 -- a rental is closed, and its bicycle disabled in the depot
-abbrev pub recovered : ℕ → Option RentalView → Operator → Operator
-recovered now None s = s
-recovered now (Some r) s = bike_marked r.rental.bike Disabled (bike_placed r.rental.bike place.Depot (charged r None now s))
+abbrev pub after_recovery : ℕ → Option RentalView → Operator → Operator
+after_recovery now None s = s
+after_recovery now (Some r) s = bike_marked r.rental.bike Disabled (bike_placed r.rental.bike place.Depot (with_fare r None now s))
 
 abbrev pub refunded_by : ℕ → ℕ → Option RentalView → Operator → Operator
 refunded_by amount now None s = s
-refunded_by amount now (Some r) s = booked kind.Refund r.rental.rider r.number (pos amount) now s
+refunded_by amount now (Some r) s = with_entry kind.Refund r.rental.rider r.number (pos amount) now s
 
 -- a bicycle is put at an end of an order
 abbrev pub placed_at_end : ℕ → OrderEnd → ℕ → ℕ → Operator → Operator
 placed_at_end bike end.Depot dock now s = bike_placed bike place.Depot s
-placed_at_end bike (end.Station station) dock now s = reported station now (bike_placed bike (place.Dock station dock) s)
+placed_at_end bike (end.Station station) dock now s = with_report station now (bike_placed bike (place.Dock station dock) s)
 
 -- a bicycle that is unloaded where the order brings it is delivered
-abbrev pub delivered : ℕ → Side → Operator → Operator
-delivered order From s = s
-delivered order To s = order_changed order (λ o. record o { delivered = o.delivered + 1 }) s
+abbrev pub with_delivery : ℕ → Side → Operator → Operator
+with_delivery order From s = s
+with_delivery order To s = order_changed order (λ o. record o { delivered = o.delivered + 1 }) s
 
-abbrev pub unloaded : ℕ → ℕ → Side → ℕ → ℕ → Option Order → Operator → Operator
-unloaded order bike side dock now None s = s
-unloaded order bike side dock now (Some o) s = delivered order side (placed_at_end bike (end_at side o) dock now s)
+abbrev pub after_unload : ℕ → ℕ → Side → ℕ → ℕ → Option Order → Operator → Operator
+after_unload order bike side dock now None s = s
+after_unload order bike side dock now (Some o) s = with_delivery order side (placed_at_end bike (end_at side o) dock now s)
 
 -- THE TABLE: the operator after each command's record changes
 abbrev pub effect : Operator → ℕ → Command → Operator
@@ -248,22 +248,22 @@ effect s now (command.SetPlan type_id plan) = record s { types = key_changed s.t
 effect s now (command.AddStation x) = record s { stations = map.insert s.stations x.station_id (new_station x now) }
 effect s now (command.SetStation station installed renting returning) =
     record s { stations = key_changed s.stations station (λ x. record x { is_installed = installed; is_renting = renting; is_returning = returning; reported = now }) }
-effect s now (command.MarkDock station dock broken) = reported station now (dock_marked station dock broken s)
+effect s now (command.MarkDock station dock broken) = with_report station now (dock_marked station dock broken s)
 effect s now (command.AddBike bike type_id) = record s { bikes = map.insert s.bikes bike (record { type_id = type_id; state = Fit; place = place.Depot }) }
 effect s now (command.MarkBike bike disabled) = bike_reported (map.get s.bikes bike) now (bike_marked bike (if disabled then Disabled else Fit) s)
 effect s now (command.RetireBike bike) = bike_marked bike Retired s
 effect s now (command.AddTruck truck capacity) = record s { trucks = map.insert s.trucks truck (record { capacity = capacity }) }
 effect s now (command.AddRider rider) = record s { riders = map.insert s.riders rider (record { is_blocked = false }) }
 effect s now (command.SetRider rider blocked) = record s { riders = map.insert s.riders rider (record { is_blocked = blocked }) }
-effect s now (command.TopUp rider amount) = booked kind.TopUp rider 0 (pos amount) now s
-effect s now (command.Start rider station dock) = started rider station now (docked_view s (docked_at s station dock)) s
-effect s now (command.End bike station dock) = ended bike station dock now (rental_of s (map.get s.bikes bike)) s
-effect s now (command.Recover rental) = recovered now (rental_view s rental (numbered rental s.rentals)) s
-effect s now (command.Refund rental amount) = refunded_by amount now (rental_view s rental (numbered rental s.rentals)) s
+effect s now (command.TopUp rider amount) = with_entry kind.TopUp rider 0 (pos amount) now s
+effect s now (command.Start rider station dock) = after_start rider station now (docked_view s (docked_at s station dock)) s
+effect s now (command.End bike station dock) = after_end bike station dock now (rental_of s (map.get s.bikes bike)) s
+effect s now (command.Recover rental) = after_recovery now (rental_view s rental (item_numbered rental s.rentals)) s
+effect s now (command.Refund rental amount) = refunded_by amount now (rental_view s rental (item_numbered rental s.rentals)) s
 effect s now (command.OpenOrder truck from_end to_end type_id count) =
     order_added (record { truck = truck; from_end = from_end; to_end = to_end; type_id = type_id; count = count; delivered = 0; is_open = true }) s
 effect s now (command.Load truck order bike) = bike_reported (map.get s.bikes bike) now (bike_placed bike (place.Truck truck order) s)
-effect s now (command.Unload truck order bike side dock) = unloaded order bike side dock now (numbered order s.orders) s
+effect s now (command.Unload truck order bike side dock) = after_unload order bike side dock now (item_numbered order s.orders) s
 effect s now (command.CloseOrder order) = order_changed order (λ o. record o { is_open = false }) s
 
 -- ---- replies
@@ -299,8 +299,8 @@ reply_of s now (command.SetRider rider blocked) = Done
 reply_of s now (command.TopUp rider amount) = Balance (balance_of rider (effect s now (command.TopUp rider amount)).entries)
 reply_of s now (command.Start rider station dock) = started_reply s (docked_view s (docked_at s station dock))
 reply_of s now (command.End bike station dock) = ended_reply s now (rental_of s (map.get s.bikes bike)) (effect s now (command.End bike station dock))
-reply_of s now (command.Recover rental) = ended_reply s now (rental_view s rental (numbered rental s.rentals)) (effect s now (command.Recover rental))
-reply_of s now (command.Refund rental amount) = refunded_reply (rental_view s rental (numbered rental s.rentals)) (effect s now (command.Refund rental amount))
+reply_of s now (command.Recover rental) = ended_reply s now (rental_view s rental (item_numbered rental s.rentals)) (effect s now (command.Recover rental))
+reply_of s now (command.Refund rental amount) = refunded_reply (rental_view s rental (item_numbered rental s.rentals)) (effect s now (command.Refund rental amount))
 reply_of s now (command.OpenOrder truck from_end to_end type_id count) = Ordered (length s.orders + 1)
 reply_of s now (command.Load truck order bike) = Done
 reply_of s now (command.Unload truck order bike side dock) = Done

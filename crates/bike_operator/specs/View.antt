@@ -22,7 +22,7 @@ use Rattle.bike_operator.specs.declared.view.RentalView.{RentalView}
 use Rattle.bike_operator.specs.declared.view.RiderView.{RiderView}
 use Rattle.bike_operator.specs.declared.view.TruckView.{TruckView}
 use Rattle.bike_operator.specs.declared.view.View.{View}
-use Rattle.bike_operator.specs.Operator.{Operator, Station, Truck, Rider, numbered}
+use Rattle.bike_operator.specs.Operator.{Operator, Station, Truck, Rider, item_numbered}
 use Rattle.bike_operator.specs.Counts.{docked_at, is_broken, truck_load, order_load, open_rentals, is_riding}
 
 -- ---- limits
@@ -77,12 +77,12 @@ rental_view s number None = None
 rental_view s number (Some r) = planned_rental s number r (map.get s.plans r.plan)
 
 abbrev pub rental_at : Operator → ℕ → Option RentalView
-rental_at s number = rental_view s number (numbered number s.rentals)
+rental_at s number = rental_view s number (item_numbered number s.rentals)
 
 -- the rental that holds a bicycle
 abbrev pub rental_in : Operator → Place → Option RentalView
 rental_in s (place.Dock station dock) = None
-rental_in s (place.Rental rental) = rental_view s rental (numbered rental s.rentals)
+rental_in s (place.Rental rental) = rental_view s rental (item_numbered rental s.rentals)
 rental_in s (place.Truck truck order) = None
 rental_in s place.Depot = None
 
@@ -187,12 +187,12 @@ view_of s (command.Start rider station dock) =
     record (dock_view s station dock) { rider = rider_at s rider; is_riding = is_riding s rider; is_ledger_full = has_full_ledger s; rentals = length s.rentals }
 view_of s (command.End bike station dock) =
     record (dock_view s station dock) { bike = map.get s.bikes bike; rental = rental_of s (map.get s.bikes bike); entries = length s.entries }
-view_of s (command.Recover rental) = record empty_view { rental = rental_at s rental; bike = bike_of s (numbered rental s.rentals); entries = length s.entries }
+view_of s (command.Recover rental) = record empty_view { rental = rental_at s rental; bike = bike_of s (item_numbered rental s.rentals); entries = length s.entries }
 view_of s (command.Refund rental amount) = record empty_view { rental = rental_at s rental; is_ledger_full = has_full_ledger s; entries = length s.entries }
 view_of s (command.OpenOrder truck from_end to_end type_id count) =
     record empty_view { truck = truck_at s truck; has_from = has_end s from_end; has_to = has_end s to_end; has_type = map.contains_key s.types type_id; orders = length s.orders }
 view_of s (command.Load truck order bike) =
-    record (bike_view s bike) { truck = truck_at s truck; loaded = truck_load s truck; order = numbered order s.orders; on_truck = order_load s order }
+    record (bike_view s bike) { truck = truck_at s truck; loaded = truck_load s truck; order = item_numbered order s.orders; on_truck = order_load s order }
 view_of s (command.Unload truck order bike side dock) =
-    record (side_view s (numbered order s.orders) side dock) { truck = truck_at s truck; order = numbered order s.orders; bike = map.get s.bikes bike }
-view_of s (command.CloseOrder order) = record empty_view { order = numbered order s.orders; on_truck = order_load s order }
+    record (side_view s (item_numbered order s.orders) side dock) { truck = truck_at s truck; order = item_numbered order s.orders; bike = map.get s.bikes bike }
+view_of s (command.CloseOrder order) = record empty_view { order = item_numbered order s.orders; on_truck = order_load s order }

@@ -20,10 +20,10 @@ use Rattle.bike_operator.specs.declared.records.Rental.{Rental}
 use Rattle.bike_operator.specs.declared.records.Order.{Order}
 use Rattle.bike_operator.specs.declared.view.DockedBike.{DockedBike}
 use Rattle.bike_operator.specs.declared.view.RentalView.{RentalView}
-use Rattle.bike_operator.specs.Operator.{Operator, Station, Kept, texts_cmp, numbered}
+use Rattle.bike_operator.specs.Operator.{Operator, Station, Kept, texts_cmp, item_numbered}
 use Rattle.bike_operator.specs.Counts.{docked_at, is_fit, is_retired, is_depot, is_on_truck, is_for_order, order_load}
 use Rattle.bike_operator.specs.View.{view_of, docked_view, rental_of, rental_view, end_at}
-use Rattle.bike_operator.specs.Steps.{on, tests, effect, key_changed, reported, place_reported, bike_reported, bike_marked, bike_placed, rental_added, rental_closed, charged, fare_now, started, ended, recovered, refunded_by, placed_at_end, delivered, new_station, dock_marked}
+use Rattle.bike_operator.specs.Steps.{on, tests, effect, key_changed, with_report, place_reported, bike_reported, bike_marked, bike_placed, rental_added, rental_closed, with_fare, fare_now, after_start, after_end, after_recovery, refunded_by, placed_at_end, with_delivery, new_station, dock_marked}
 use Rattle.bike_operator.specs.Sound.{HasDock, IsRidden, IsPlace, AreBikesSound}
 use Rattle.bike_places.specs.Accepted.{AcceptedKeeps}
 use Rattle.bike_places.proofs.Moment.{at_moment, reports}
@@ -41,9 +41,9 @@ later_bikes s now k h = same_bikes s (at_moment s now k) refl h
 
 -- ---- stations that report
 
-reported_bikes : (s : Operator) (now : ℕ) (k : FinMap texts_cmp Kept) (station : List ℕ) → AreBikesSound (at_moment s now k) → AreBikesSound (at_moment (reported station now s) now k)
+reported_bikes : (s : Operator) (now : ℕ) (k : FinMap texts_cmp Kept) (station : List ℕ) → AreBikesSound (at_moment s now k) → AreBikesSound (at_moment (with_report station now s) now k)
 reported_bikes s now k station h =
-    stations_bikes (at_moment s now k) (key_changed s.stations station (reports now)) (docks_changed (at_moment s now k) (at_moment (reported station now s) now k) station (reports now) (λ x. refl) refl) h
+    stations_bikes (at_moment s now k) (key_changed s.stations station (reports now)) (docks_changed (at_moment s now k) (at_moment (with_report station now s) now k) station (reports now) (λ x. refl) refl) h
 
 place_reported_bikes : (s : Operator) (now : ℕ) (k : FinMap texts_cmp Kept) (p : Place) → AreBikesSound (at_moment s now k) → AreBikesSound (at_moment (place_reported p now s) now k)
 place_reported_bikes s now k (place.Dock station dock) h = reported_bikes s now k station h
@@ -63,7 +63,7 @@ fit_bike Disabled e f = absurd cc
 fit_bike Retired e f = absurd cc
 
 started_bikes : (s : Operator) (now : ℕ) (k : FinMap texts_cmp Kept) (rider : ℕ) (station : List ℕ) (dock : ℕ) (o : Option DockedBike) → docked_view s (docked_at s station dock) ≡ o
-    → on o (λ b. not (is_fit b.state)) ≡ false → AreBikesSound (at_moment s now k) → AreBikesSound (at_moment (started rider station now o s) now k)
+    → on o (λ b. not (is_fit b.state)) ≡ false → AreBikesSound (at_moment s now k) → AreBikesSound (at_moment (after_start rider station now o s) now k)
 started_bikes s now k rider station dock None e fit h = h
 started_bikes s now k rider station dock (Some d) e fit h =
     let r : Rental = record { rider = rider; bike = d.bike; plan = d.plan; from_station = station; start = now; closing = None } in
@@ -82,16 +82,16 @@ started_bikes s now k rider station dock (Some d) e fit h =
     reported_bikes (bike_placed d.bike p (rental_added r s)) now k station (bike_placed_bikes n d.bike p can with_rental)
 
 -- a rental is closed that no bicycle is in any more, at a fare
-charged_bikes : (s : Operator) (now : ℕ) (k : FinMap texts_cmp Kept) (bike : ℕ) (p : Place) (r : RentalView) (to_station : Option (List ℕ)) → numbered r.number s.rentals ≡ Some r.rental → r.rental.bike ≡ bike
-    → p ≢ place.Rental r.number → IsPlaceable (at_moment s now k) bike p → AreBikesSound (at_moment s now k) → AreBikesSound (at_moment (bike_placed bike p (charged r to_station now s)) now k)
+charged_bikes : (s : Operator) (now : ℕ) (k : FinMap texts_cmp Kept) (bike : ℕ) (p : Place) (r : RentalView) (to_station : Option (List ℕ)) → item_numbered r.number s.rentals ≡ Some r.rental → r.rental.bike ≡ bike
+    → p ≢ place.Rental r.number → IsPlaceable (at_moment s now k) bike p → AreBikesSound (at_moment s now k) → AreBikesSound (at_moment (bike_placed bike p (with_fare r to_station now s)) now k)
 charged_bikes s now k bike p r to_station found bike_is other can h =
     let at : Operator = at_moment s now k in
     let left = rental_left at bike p r.number r.rental found bike_is other h in
     let closed = rental_closed_bikes (bike_placed bike p at) r.number to_station now (fare_now r now) left (bike_placed_bikes at bike p can h) in
-    same_bikes (rental_closed r.number to_station now (fare_now r now) (bike_placed bike p at)) (at_moment (bike_placed bike p (charged r to_station now s)) now k) refl closed
+    same_bikes (rental_closed r.number to_station now (fare_now r now) (bike_placed bike p at)) (at_moment (bike_placed bike p (with_fare r to_station now s)) now k) refl closed
 
 ended_bikes : (s : Operator) (now : ℕ) (k : FinMap texts_cmp Kept) (bike : ℕ) (station : List ℕ) (dock : ℕ) (o : Option RentalView) → rental_of s (map.get s.bikes bike) ≡ o
-    → HasDock (at_moment s now k) station dock → IsFree (at_moment s now k) (place.Dock station dock) → AreBikesSound (at_moment s now k) → AreBikesSound (at_moment (ended bike station dock now o s) now k)
+    → HasDock (at_moment s now k) station dock → IsFree (at_moment s now k) (place.Dock station dock) → AreBikesSound (at_moment s now k) → AreBikesSound (at_moment (after_end bike station dock now o s) now k)
 ended_bikes s now k bike station dock None e has free h = h
 ended_bikes s now k bike station dock (Some r) e has free h =
     let x = ridden_in s bike r e in
@@ -107,16 +107,16 @@ ended_bikes s now k bike station dock (Some r) e has free h =
           absurd cc;
       free = free;
     } in
-    reported_bikes (bike_placed bike (place.Dock station dock) (charged r (Some station) now s)) now k station (charged_bikes s now k bike (place.Dock station dock) r (Some station) x.rental bike_is (λ e. absurd cc) can h)
+    reported_bikes (bike_placed bike (place.Dock station dock) (with_fare r (Some station) now s)) now k station (charged_bikes s now k bike (place.Dock station dock) r (Some station) x.rental bike_is (λ e. absurd cc) can h)
 
-recovered_bikes : (s : Operator) (now : ℕ) (k : FinMap texts_cmp Kept) (rental : ℕ) (o : Option RentalView) → rental_view s rental (numbered rental s.rentals) ≡ o → AreBikesSound (at_moment s now k)
-    → AreBikesSound (at_moment (recovered now o s) now k)
+recovered_bikes : (s : Operator) (now : ℕ) (k : FinMap texts_cmp Kept) (rental : ℕ) (o : Option RentalView) → rental_view s rental (item_numbered rental s.rentals) ≡ o → AreBikesSound (at_moment s now k)
+    → AreBikesSound (at_moment (after_recovery now o s) now k)
 recovered_bikes s now k rental None e h = h
 recovered_bikes s now k rental (Some r) e h =
     let x = rental_row s rental r e in
     let can : IsPlaceable (at_moment s now k) r.rental.bike place.Depot = record { placed = λ b found. tt; retired = λ b found is. refl; free = free_depot (at_moment s now k) } in
     let placed = charged_bikes s now k r.rental.bike place.Depot r None (rw x.number_is x.found) refl (λ e. absurd cc) can h in
-    bike_marked_bikes (at_moment (bike_placed r.rental.bike place.Depot (charged r None now s)) now k) r.rental.bike Disabled (λ b found e. absurd cc) placed
+    bike_marked_bikes (at_moment (bike_placed r.rental.bike place.Depot (with_fare r None now s)) now k) r.rental.bike Disabled (λ b found e. absurd cc) placed
 
 refunded_bikes : (s : Operator) (now : ℕ) (k : FinMap texts_cmp Kept) (amount : ℕ) (o : Option RentalView) → AreBikesSound (at_moment s now k) → AreBikesSound (at_moment (refunded_by amount now o s) now k)
 refunded_bikes s now k amount None h = h
@@ -140,7 +140,7 @@ takes_later s now k end.Depot dock h = tt
 takes_later s now k (end.Station station) dock h = (record { row = h.0.row; found = h.0.found; low = h.0.low; high = h.0.high }, h.1)
 
 unloaded_bikes : (s : Operator) (now : ℕ) (k : FinMap texts_cmp Kept) (truck order bike : ℕ) (side : Side) (dock : ℕ) (x : Order) → IsUnloaded s truck order bike side dock x → AreBikesSound (at_moment s now k)
-    → AreBikesSound (at_moment (delivered order side (placed_at_end bike (end_at side x) dock now s)) now k)
+    → AreBikesSound (at_moment (with_delivery order side (placed_at_end bike (end_at side x) dock now s)) now k)
 unloaded_bikes s now k truck order bike side dock x can h = go side placed where
   fit : (b : Bike) → map.get s.bikes bike ≡ Some b → is_retired b.state ≡ true → ⊥
   fit b found is = truck_depot truck b.place (can.loaded b found).0 ((h.bikes bike b found).retired is)
@@ -148,7 +148,7 @@ unloaded_bikes s now k truck order bike side dock x can h = go side placed where
   placed : AreBikesSound (at_moment (placed_at_end bike (end_at side x) dock now s) now k)
   placed = placed_at_end_bikes s now k bike (end_at side x) dock (takes_later s now k (end_at side x) dock can.takes) fit h
 
-  go : (to : Side) → AreBikesSound (at_moment (placed_at_end bike (end_at side x) dock now s) now k) → AreBikesSound (at_moment (delivered order to (placed_at_end bike (end_at side x) dock now s)) now k)
+  go : (to : Side) → AreBikesSound (at_moment (placed_at_end bike (end_at side x) dock now s) now k) → AreBikesSound (at_moment (with_delivery order to (placed_at_end bike (end_at side x) dock now s)) now k)
   go From i = i
   go To i = order_delivered_bikes (at_moment (placed_at_end bike (end_at side x) dock now s) now k) order i
 
@@ -218,22 +218,22 @@ bikes_law s now (command.End bike station dock) k order good free late =
     let h = later_bikes s now k order.bikes in
     ended_bikes s now k bike station dock (rental_of s (map.get s.bikes bike)) refl (dock_of at station dock (map.get s.stations station) refl tested.1.1.0 tested.1.1.1.0 good.1.1.0.0)
     (free_dock at station dock h tested.1.1.1.1.1.1.0) h
-bikes_law s now (command.Recover rental) k order good free late = recovered_bikes s now k rental (rental_view s rental (numbered rental s.rentals)) refl (later_bikes s now k order.bikes)
-bikes_law s now (command.Refund rental amount) k order good free late = refunded_bikes s now k amount (rental_view s rental (numbered rental s.rentals)) (later_bikes s now k order.bikes)
+bikes_law s now (command.Recover rental) k order good free late = recovered_bikes s now k rental (rental_view s rental (item_numbered rental s.rentals)) refl (later_bikes s now k order.bikes)
+bikes_law s now (command.Refund rental amount) k order good free late = refunded_bikes s now k amount (rental_view s rental (item_numbered rental s.rentals)) (later_bikes s now k order.bikes)
 bikes_law s now (command.OpenOrder truck from_end to_end type_id count) k order good free late =
     order_added_bikes (at_moment s now k) (record { truck = truck; from_end = from_end; to_end = to_end; type_id = type_id; count = count; delivered = 0; is_open = true }) (later_bikes s now k order.bikes)
 bikes_law s now (command.Load truck order bike) k o good free late =
     let tested = none_holds (tests (view_of s (command.Load truck order bike)) (command.Load truck order bike)) free in
-    let x = some_of (numbered order s.orders) tested.1.0 in
+    let x = some_of (item_numbered order s.orders) tested.1.0 in
     let at : Operator = at_moment s now k in
     let can : IsPlaceable at bike (place.Truck truck order) = record {
       placed = λ b found. record {
         row = x.0;
         found = x.1;
-        not_closed = holds x.0.is_open (on_row (λ (o : Order). not o.is_open) (numbered order s.orders) x.0 x.1 tested.1.1.0);
-        truck_is = same_number x.0.truck truck (holds (x.0.truck == truck) (on_row (λ (o : Order). not (o.truck == truck)) (numbered order s.orders) x.0 x.1 tested.1.1.1.0));
+        not_closed = holds x.0.is_open (on_row (λ (o : Order). not o.is_open) (item_numbered order s.orders) x.0 x.1 tested.1.1.0);
+        truck_is = same_number x.0.truck truck (holds (x.0.truck == truck) (on_row (λ (o : Order). not (o.truck == truck)) (item_numbered order s.orders) x.0 x.1 tested.1.1.1.0));
         type_is = sym (same_bytes b.type_id x.0.type_id (holds (bytes_eq b.type_id x.0.type_id) (on_row (λ (b : Bike). not (bytes_eq b.type_id x.0.type_id)) (map.get s.bikes bike) b found
-            (on_row (λ (o : Order). on (map.get s.bikes bike) (λ b. not (bytes_eq b.type_id o.type_id))) (numbered order s.orders) x.0 x.1 tested.1.1.1.1.1.1.1.0))));
+            (on_row (λ (o : Order). on (map.get s.bikes bike) (λ b. not (bytes_eq b.type_id o.type_id))) (item_numbered order s.orders) x.0 x.1 tested.1.1.1.1.1.1.1.0))));
       };
       retired = λ b found is. let fit = on_row (λ (b : Bike). is_retired b.state) (map.get s.bikes bike) b found tested.1.1.1.1.1.0 in absurd cc;
       free = free_truck at truck order;
@@ -244,7 +244,7 @@ bikes_law s now (command.Unload truck order bike side dock) k o good free late =
     rw x.1 (unloaded_bikes s now k truck order bike side dock x.0 x.2 (later_bikes s now k o.bikes))
 bikes_law s now (command.CloseOrder order) k o good free late =
     let tested = none_holds (tests (view_of s (command.CloseOrder order)) (command.CloseOrder order)) free in
-    let x = some_of (numbered order s.orders) tested.0 in
+    let x = some_of (item_numbered order s.orders) tested.0 in
     let none = no_more (order_load s order) tested.1.1.0 in
     order_changed_bikes (at_moment s now k) order (λ o. record o { is_open = false }) (λ bike b truck found is. for_order order truck b.place is (uncounted number_order (λ (y : Bike). is_for_order order y.place) s.bikes bike b none found))
     (later_bikes s now k o.bikes)

@@ -12,7 +12,7 @@ use Rattle.bike_operator.specs.declared.records.Place.TheVariants as place
 use Rattle.bike_operator.specs.declared.records.Bike.{Bike}
 use Rattle.bike_operator.specs.declared.records.Rental.{Rental}
 use Rattle.bike_operator.specs.declared.records.Order.{Order}
-use Rattle.bike_operator.specs.Operator.{Operator, Station, text_cmp, numbered, number_changed}
+use Rattle.bike_operator.specs.Operator.{Operator, Station, text_cmp, item_numbered, number_changed}
 use Rattle.bike_operator.specs.Counts.{is_retired}
 use Rattle.bike_operator.specs.declared.limits.TheConstants.{MOST_BIKES}
 use Rattle.bike_operator.specs.Steps.{bike_placed, bike_marked, rental_added, rental_closed, order_added, order_changed}
@@ -24,11 +24,11 @@ use Rattle.bike_places.proofs.CatalogueLemmas.{same_docks}
 -- ---- what a place needs goes on being there
 
 same_ridden : (s n : Operator) → n.rentals ≡ s.rentals → (bike rental : ℕ) → IsRidden s bike rental → IsRidden n bike rental
-same_ridden s n e bike rental h = record { row = h.row; found = ap (λ (rs : List Rental). numbered rental rs) e ∙ h.found; not_closed = h.not_closed; bike_is = h.bike_is }
+same_ridden s n e bike rental h = record { row = h.row; found = ap (λ (rs : List Rental). item_numbered rental rs) e ∙ h.found; not_closed = h.not_closed; bike_is = h.bike_is }
 
 same_carried : (s n : Operator) → n.orders ≡ s.orders → (type_id : List ℕ) (truck order : ℕ) → IsCarried s type_id truck order → IsCarried n type_id truck order
 same_carried s n e type_id truck order h =
-    record { row = h.row; found = ap (λ (os : List Order). numbered order os) e ∙ h.found; not_closed = h.not_closed; truck_is = h.truck_is; type_is = h.type_is }
+    record { row = h.row; found = ap (λ (os : List Order). item_numbered order os) e ∙ h.found; not_closed = h.not_closed; truck_is = h.truck_is; type_is = h.type_is }
 
 same_place : (s n : Operator) → n.stations ≡ s.stations → n.rentals ≡ s.rentals → n.orders ≡ s.orders → (bike : ℕ) (type_id : List ℕ) (p : Place) → IsPlace s bike type_id p → IsPlace n bike type_id p
 same_place s n stations rentals orders bike type_id (place.Dock station dock) h = same_docks s n stations station dock h
@@ -173,7 +173,7 @@ order_delivered_bikes s number h =
     let k = number_kept number (λ (o : Order). record o { delivered = o.delivered + 1 }) s.orders order i.row i.found in
     kept b.type_id truck order i k.row k.found_is k.is) h
   where
-    kept : (type_id : List ℕ) (truck order : ℕ) (i : IsCarried s type_id truck order) (row : Order) → numbered order (number_changed number (λ o. record o { delivered = o.delivered + 1 }) s.orders) ≡ Some row
+    kept : (type_id : List ℕ) (truck order : ℕ) (i : IsCarried s type_id truck order) (row : Order) → item_numbered order (number_changed number (λ o. record o { delivered = o.delivered + 1 }) s.orders) ≡ Some row
         → IsKept (λ (o : Order). record o { delivered = o.delivered + 1 }) i.row row → IsCarried (order_changed number (λ o. record o { delivered = o.delivered + 1 }) s) type_id truck order
     kept type_id truck order i row found (Same is) =
         record { row = row; found = found; not_closed = ap (λ (o : Order). o.is_open) is ∙ i.not_closed; truck_is = ap (λ (o : Order). o.truck) is ∙ i.truck_is; type_is = ap (λ (o : Order). o.type_id) is ∙ i.type_is }
@@ -253,7 +253,7 @@ module _ (s : Operator) (bike : ℕ) (p : Place) where
       is_apart a b x y station dock (Other apart found) (Other apart_too found_too) ex ey = h.apart a b x y station dock found found_too ex ey
 
   -- a bicycle that leaves its rental leaves no other one in it
-  pub rental_left : (rental : ℕ) (r : Rental) → numbered rental s.rentals ≡ Some r → r.bike ≡ bike → p ≢ place.Rental rental → AreBikesSound s
+  pub rental_left : (rental : ℕ) (r : Rental) → item_numbered rental s.rentals ≡ Some r → r.bike ≡ bike → p ≢ place.Rental rental → AreBikesSound s
       → (q : ℕ) (y : Bike) → map.get (bike_placed bike p s).bikes q ≡ Some y → y.place ≢ place.Rental rental
   rental_left rental r found_rental bike_is other h q y found e = go (changed_at number_order s.bikes bike place_here q y found) where
     go : IsChanged s.bikes bike place_here q y → ⊥

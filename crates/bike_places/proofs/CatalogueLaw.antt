@@ -16,10 +16,10 @@ use Rattle.bike_operator.specs.declared.records.Bike.{Bike}
 use Rattle.bike_operator.specs.declared.records.Order.{Order}
 use Rattle.bike_operator.specs.declared.view.DockedBike.{DockedBike}
 use Rattle.bike_operator.specs.declared.view.RentalView.{RentalView}
-use Rattle.bike_operator.specs.Operator.{Operator, Kept, texts_cmp, numbered}
+use Rattle.bike_operator.specs.Operator.{Operator, Kept, texts_cmp, item_numbered}
 use Rattle.bike_operator.specs.Counts.{docked_at}
 use Rattle.bike_operator.specs.View.{view_of, docked_view, rental_of, rental_view}
-use Rattle.bike_operator.specs.Steps.{tests, effect, key_changed, place_reported, bike_reported, bike_marked, bike_placed, started, ended, recovered, refunded_by, placed_at_end, unloaded, new_station, dock_marked}
+use Rattle.bike_operator.specs.Steps.{tests, effect, key_changed, place_reported, bike_reported, bike_marked, bike_placed, after_start, after_end, after_recovery, refunded_by, placed_at_end, after_unload, new_station, dock_marked}
 use Rattle.bike_operator.specs.Sound.{IsCatalogueSound}
 use Rattle.bike_places.specs.Accepted.{AcceptedKeeps}
 use Rattle.bike_places.proofs.Moment.{at_moment, reports}
@@ -37,17 +37,17 @@ then_reported s n station late same h = station_reported (record n { stations = 
 -- ---- the commands that name a record which may be absent
 
 module _ (s : Operator) (now : ℕ) (k : FinMap texts_cmp Kept) (h : IsCatalogueSound (at_moment s now k)) where
-  started_catalogue : (rider : ℕ) (station : List ℕ) (o : Option DockedBike) → IsCatalogueSound (at_moment (started rider station now o s) now k)
+  started_catalogue : (rider : ℕ) (station : List ℕ) (o : Option DockedBike) → IsCatalogueSound (at_moment (after_start rider station now o s) now k)
   started_catalogue rider station None = h
-  started_catalogue rider station (Some b) = then_reported (at_moment s now k) (at_moment (started rider station now (Some b) s) now k) station (omega arith) refl h
+  started_catalogue rider station (Some b) = then_reported (at_moment s now k) (at_moment (after_start rider station now (Some b) s) now k) station (omega arith) refl h
 
-  ended_catalogue : (bike : ℕ) (station : List ℕ) (dock : ℕ) (o : Option RentalView) → IsCatalogueSound (at_moment (ended bike station dock now o s) now k)
+  ended_catalogue : (bike : ℕ) (station : List ℕ) (dock : ℕ) (o : Option RentalView) → IsCatalogueSound (at_moment (after_end bike station dock now o s) now k)
   ended_catalogue bike station dock None = h
-  ended_catalogue bike station dock (Some r) = then_reported (at_moment s now k) (at_moment (ended bike station dock now (Some r) s) now k) station (omega arith) refl h
+  ended_catalogue bike station dock (Some r) = then_reported (at_moment s now k) (at_moment (after_end bike station dock now (Some r) s) now k) station (omega arith) refl h
 
-  recovered_catalogue : (o : Option RentalView) → IsCatalogueSound (at_moment (recovered now o s) now k)
+  recovered_catalogue : (o : Option RentalView) → IsCatalogueSound (at_moment (after_recovery now o s) now k)
   recovered_catalogue None = h
-  recovered_catalogue (Some r) = same_catalogue (at_moment s now k) (at_moment (recovered now (Some r) s) now k) (omega arith) refl h
+  recovered_catalogue (Some r) = same_catalogue (at_moment s now k) (at_moment (after_recovery now (Some r) s) now k) (omega arith) refl h
 
   refunded_catalogue : (amount : ℕ) (o : Option RentalView) → IsCatalogueSound (at_moment (refunded_by amount now o s) now k)
   refunded_catalogue amount None = h
@@ -69,10 +69,10 @@ module _ (s : Operator) (now : ℕ) (k : FinMap texts_cmp Kept) (h : IsCatalogue
   placed_catalogue bike (end.Station station) dock orders =
       then_reported (at_moment s now k) (at_moment (record (placed_at_end bike (end.Station station) dock now s) { orders = orders }) now k) station (omega arith) refl h
 
-  unloaded_catalogue : (order bike : ℕ) (side : Side) (dock : ℕ) (o : Option Order) → IsCatalogueSound (at_moment (unloaded order bike side dock now o s) now k)
+  unloaded_catalogue : (order bike : ℕ) (side : Side) (dock : ℕ) (o : Option Order) → IsCatalogueSound (at_moment (after_unload order bike side dock now o s) now k)
   unloaded_catalogue order bike side dock None = h
-  unloaded_catalogue order bike From dock (Some o) = placed_catalogue bike o.from_end dock (unloaded order bike From dock now (Some o) s).orders
-  unloaded_catalogue order bike To dock (Some o) = placed_catalogue bike o.to_end dock (unloaded order bike To dock now (Some o) s).orders
+  unloaded_catalogue order bike From dock (Some o) = placed_catalogue bike o.from_end dock (after_unload order bike From dock now (Some o) s).orders
+  unloaded_catalogue order bike To dock (Some o) = placed_catalogue bike o.to_end dock (after_unload order bike To dock now (Some o) s).orders
 
 -- ---- all commands
 
@@ -137,13 +137,13 @@ catalogue_law s now (command.Start rider station dock) k order good free late =
     started_catalogue s now k (later_catalogue s now k late order.catalogue) rider station (docked_view s (docked_at s station dock))
 catalogue_law s now (command.End bike station dock) k order good free late =
     ended_catalogue s now k (later_catalogue s now k late order.catalogue) bike station dock (rental_of s (map.get s.bikes bike))
-catalogue_law s now (command.Recover rental) k order good free late = recovered_catalogue s now k (later_catalogue s now k late order.catalogue) (rental_view s rental (numbered rental s.rentals))
+catalogue_law s now (command.Recover rental) k order good free late = recovered_catalogue s now k (later_catalogue s now k late order.catalogue) (rental_view s rental (item_numbered rental s.rentals))
 catalogue_law s now (command.Refund rental amount) k order good free late =
-    refunded_catalogue s now k (later_catalogue s now k late order.catalogue) amount (rental_view s rental (numbered rental s.rentals))
+    refunded_catalogue s now k (later_catalogue s now k late order.catalogue) amount (rental_view s rental (item_numbered rental s.rentals))
 catalogue_law s now (command.OpenOrder truck from_end to_end type_id count) k order good free late =
     unchanged s now (command.OpenOrder truck from_end to_end type_id count) k late refl order.catalogue
 catalogue_law s now (command.Load truck order bike) k o good free late =
     bike_reported_catalogue s now k (later_catalogue s now k late o.catalogue) (bike_placed bike (place.Truck truck order) s).bikes (map.get s.bikes bike)
 catalogue_law s now (command.Unload truck order bike side dock) k o good free late =
-    unloaded_catalogue s now k (later_catalogue s now k late o.catalogue) order bike side dock (numbered order s.orders)
+    unloaded_catalogue s now k (later_catalogue s now k late o.catalogue) order bike side dock (item_numbered order s.orders)
 catalogue_law s now (command.CloseOrder order) k o good free late = unchanged s now (command.CloseOrder order) k late refl o.catalogue

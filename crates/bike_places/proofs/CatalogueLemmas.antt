@@ -9,7 +9,7 @@ use Rattle.bike_operator.specs.Bytes.{is_ident}
 use Rattle.bike_operator.specs.Rows.{PlanRow, TypeRow, StationRow, SystemRow, IsStation, IsSystem}
 use Rattle.bike_operator.specs.Operator.{Operator, Station, text_cmp, texts_cmp, DockKey, dock_key}
 use Rattle.bike_operator.specs.declared.limits.TheConstants.{MOST_PLANS, MOST_TYPES, MOST_STATIONS}
-use Rattle.bike_operator.specs.Steps.{key_changed, reported, dock_marked}
+use Rattle.bike_operator.specs.Steps.{key_changed, with_report, dock_marked}
 use Rattle.bike_operator.specs.Sound.{IsCatalogueSound, IsSetSystem, IsPlanAt, IsTypeAt, IsStationAt, HasDock, IsBrokenDock}
 use Rattle.bike_places.proofs.MapLemmas.{text_order, texts_order, tied, IsAdded, New, Old, IsChanged, Changed, Other, added_at, changed_at, kept_added, known_added, few_added, len_changed, IsKept, Same, Turned, kept_changed}
 
@@ -188,7 +188,7 @@ station_changed s station f keeps by_now h =
         }
     is_station id q (Other apart found) = h.stations id q found
 
-pub station_reported : (s : Operator) (station : List ℕ) (now : ℕ) → now ≤ s.now → IsCatalogueSound s → IsCatalogueSound (reported station now s)
+pub station_reported : (s : Operator) (station : List ℕ) (now : ℕ) → now ≤ s.now → IsCatalogueSound s → IsCatalogueSound (with_report station now s)
 station_reported s station now late h = station_changed s station (λ x. record x { reported = now }) (λ x. refl) (λ x. late) h
 
 -- broken docks with another list of them

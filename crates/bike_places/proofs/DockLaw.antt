@@ -11,7 +11,7 @@ use Rattle.bike_operator.specs.Operator.{Operator, Station}
 use Rattle.bike_operator.specs.Counts.{count, is_dock, is_broken, is_working_dock, docked_at, docks_up_to, docks_available, docks_broken}
 use Rattle.bike_operator.specs.Sound.{HasDock, IsPlace, AreBikesSound}
 use Rattle.bike_places.proofs.MapLemmas.{number_order}
-use Rattle.bike_places.specs.Numbers.{occupied}
+use Rattle.bike_places.specs.Numbers.{occupied_docks}
 use Rattle.bike_places.specs.Laws.{one, is_free, HasDocks}
 use Rattle.bike_places.proofs.Members.{has_get}
 use Rattle.bike_places.proofs.StoredTestLemmas.{and_false, and_true}
@@ -127,7 +127,7 @@ module _ (s : Operator) (sound : AreBikesSound s) where
         let rest = up_to n in
         omega (arith, a, b, c, d, t, rest)
 
-    all_low : count (low_test x.row.docks) (map.entries s.bikes) ≡ occupied s station
+    all_low : count (low_test x.row.docks) (map.entries s.bikes) ≡ occupied_docks s station
     unfolding low_test
     all_low = count_same (low_test x.row.docks) (λ b. works b.1.place) (map.entries s.bikes) (λ y has. low y.0 y.1 (has_get number_order.total s.bikes y has) y.1.place refl) where
       low : (k : ℕ) (b : Bike) → map.get s.bikes k ≡ Some b → (p : Place) → b.place ≡ p → (works p && is_low x.row.docks p) ≡ works p
@@ -142,9 +142,9 @@ module _ (s : Operator) (sound : AreBikesSound s) where
       low k b is (place.Truck truck order) e = refl
       low k b is place.Depot e = refl
 
-    pub docks_of : docks_available s station x.row.docks + occupied s station + docks_broken s station x.row.docks ≡ x.row.docks
+    pub docks_of : docks_available s station x.row.docks + occupied_docks s station + docks_broken s station x.row.docks ≡ x.row.docks
     docks_of = let a = up_to x.row.docks in let b = all_low in omega (arith, a, b)
 
   -- THE LAW OF DOCKS
-  pub docks_law : (station : List ℕ) (docks : ℕ) → HasDocks s station docks → docks_available s station docks + occupied s station + docks_broken s station docks ≡ docks
-  docks_law station docks has = subst (λ n. docks_available s station n + occupied s station + docks_broken s station n ≡ n) has.docks_are (docks_of station has.row has.found)
+  pub docks_law : (station : List ℕ) (docks : ℕ) → HasDocks s station docks → docks_available s station docks + occupied_docks s station + docks_broken s station docks ≡ docks
+  docks_law station docks has = subst (λ n. docks_available s station n + occupied_docks s station + docks_broken s station n ≡ n) has.docks_are (docks_of station has.row has.found)

@@ -11,7 +11,7 @@ use Rattle.bike_operator.specs.declared.records.Bike.{Bike}
 use Rattle.bike_operator.specs.declared.records.Rental.{Rental}
 use Rattle.bike_operator.specs.declared.view.DockedBike.{DockedBike}
 use Rattle.bike_operator.specs.declared.view.RentalView.{RentalView}
-use Rattle.bike_operator.specs.Operator.{Operator, numbered}
+use Rattle.bike_operator.specs.Operator.{Operator, item_numbered}
 use Rattle.bike_operator.specs.Counts.{is_dock, docked_at}
 use Rattle.bike_operator.specs.View.{typed_bike, docked_view, planned_rental, rental_view, rental_in, rental_of}
 use Rattle.bike_operator.specs.Sound.{AreBikesSound}
@@ -67,11 +67,11 @@ free_dock s station dock order none q y at n found e is = go (docked_at s statio
 
 pub record IsRentalRow (s : Operator) (number : ℕ) (r : RentalView) : Type 0 where
   pub number_is : r.number ≡ number
-  pub found : numbered number s.rentals ≡ Some r.rental
+  pub found : item_numbered number s.rentals ≡ Some r.rental
 
-pub rental_row : (s : Operator) (number : ℕ) (r : RentalView) → rental_view s number (numbered number s.rentals) ≡ Some r → IsRentalRow s number r
-rental_row s number r h = go (numbered number s.rentals) refl h where
-  planned : (row : Rental) → numbered number s.rentals ≡ Some row → (p : Option PlanRow) → planned_rental s number row p ≡ Some r → IsRentalRow s number r
+pub rental_row : (s : Operator) (number : ℕ) (r : RentalView) → rental_view s number (item_numbered number s.rentals) ≡ Some r → IsRentalRow s number r
+rental_row s number r h = go (item_numbered number s.rentals) refl h where
+  planned : (row : Rental) → item_numbered number s.rentals ≡ Some row → (p : Option PlanRow) → planned_rental s number row p ≡ Some r → IsRentalRow s number r
   planned row e None h = absurd cc
   planned row e (Some plan) h = record { number_is = ap number_in (sym h); found = e ∙ ap rental_in_view h } where
     number_in : Option RentalView → ℕ
@@ -82,7 +82,7 @@ rental_row s number r h = go (numbered number s.rentals) refl h where
     rental_in_view None = None
     rental_in_view (Some v) = Some v.rental
 
-  go : (o : Option Rental) → numbered number s.rentals ≡ o → rental_view s number o ≡ Some r → IsRentalRow s number r
+  go : (o : Option Rental) → item_numbered number s.rentals ≡ o → rental_view s number o ≡ Some r → IsRentalRow s number r
   go None e h = absurd cc
   go (Some row) e h = planned row e (map.get s.plans row.plan) h
 
@@ -91,7 +91,7 @@ pub record IsRiddenIn (s : Operator) (bike : ℕ) (r : RentalView) : Type 0 wher
   pub row : Bike
   pub found : map.get s.bikes bike ≡ Some row
   pub placed : row.place ≡ place.Rental r.number
-  pub rental : numbered r.number s.rentals ≡ Some r.rental
+  pub rental : item_numbered r.number s.rentals ≡ Some r.rental
 
 pub ridden_in : (s : Operator) (bike : ℕ) (r : RentalView) → rental_of s (map.get s.bikes bike) ≡ Some r → IsRiddenIn s bike r
 ridden_in s bike r h = go (map.get s.bikes bike) refl h where

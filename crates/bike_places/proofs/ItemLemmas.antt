@@ -1,6 +1,6 @@
 -- Numbered lists with an item added, or with one item changed.
 use Rattle.std.proofs.Common.{◌≡◌, ◌≢◌, ◌⊎◌, inl, inr, ℕ, zero, suc, ◌+◌, ◌≤◌, List, [], ◌∷◌, ◌++◌, length, Option, Some, refl, ap, add-one, arith}
-use Rattle.bike_operator.specs.Operator.{item_at, numbered, item_changed, number_changed}
+use Rattle.bike_operator.specs.Operator.{item_at, item_numbered, item_changed, number_changed}
 use Rattle.bike_places.proofs.MapLemmas.{IsKept, Same, Turned}
 
 -- ---- added
@@ -25,19 +25,19 @@ item_within n [] y h = absurd cc
 item_within zero (z ∷ xs) y h = omega arith
 item_within (suc n) (z ∷ xs) y h = let i = item_within n xs y h in omega (arith, i)
 
-pub number_last : {A : Type 0} (xs : List A) (x : A) → numbered (length xs + 1) (xs ++ x ∷ []) ≡ Some x
+pub number_last : {A : Type 0} (xs : List A) (x : A) → item_numbered (length xs + 1) (xs ++ x ∷ []) ≡ Some x
 number_last xs x = rw (add-one (length xs)) (item_last x xs)
 
-pub number_stays : {A : Type 0} (n : ℕ) (xs : List A) (x y : A) → numbered n xs ≡ Some y → numbered n (xs ++ x ∷ []) ≡ Some y
+pub number_stays : {A : Type 0} (n : ℕ) (xs : List A) (x y : A) → item_numbered n xs ≡ Some y → item_numbered n (xs ++ x ∷ []) ≡ Some y
 number_stays zero xs x y h = absurd cc
 number_stays (suc n) xs x y h = item_stays n xs x y h
 
 -- What has a number where an item was added: an item that was there, or the new one.
-pub number_or_last : {A : Type 0} (n : ℕ) (xs : List A) (x y : A) → numbered n (xs ++ x ∷ []) ≡ Some y → (numbered n xs ≡ Some y) ⊎ (n ≡ length xs + 1) × (y ≡ x)
+pub number_or_last : {A : Type 0} (n : ℕ) (xs : List A) (x y : A) → item_numbered n (xs ++ x ∷ []) ≡ Some y → (item_numbered n xs ≡ Some y) ⊎ (n ≡ length xs + 1) × (y ≡ x)
 number_or_last zero xs x y h = absurd cc
 number_or_last (suc n) xs x y h = elim (item_or_last n xs x y h) [ inl i ↦ inl i | inr i ↦ inr (let e = i.0 in omega (arith, e), i.1) ]
 
-pub number_within : {A : Type 0} (n : ℕ) (xs : List A) (y : A) → numbered n xs ≡ Some y → n ≤ length xs
+pub number_within : {A : Type 0} (n : ℕ) (xs : List A) (y : A) → item_numbered n xs ≡ Some y → n ≤ length xs
 number_within zero xs y h = omega arith
 number_within (suc n) xs y h = let i = item_within n xs y h in omega (arith, i)
 
@@ -59,7 +59,7 @@ item_turned zero f (x ∷ xs) (suc q) y h = Elsewhere (λ e. omega (arith, e)) h
 item_turned (suc n) f (x ∷ xs) zero y h = Elsewhere (λ e. omega (arith, e)) h
 item_turned (suc n) f (x ∷ xs) (suc q) y h = shifted f n q (item_at n xs) (item_at q xs) y (item_turned n f xs q y h)
 
-pub number_turned : {A : Type 0} (n : ℕ) (f : A → A) (xs : List A) (q : ℕ) (y : A) → numbered q (number_changed n f xs) ≡ Some y → IsTurned f n q (numbered n xs) (numbered q xs) y
+pub number_turned : {A : Type 0} (n : ℕ) (f : A → A) (xs : List A) (q : ℕ) (y : A) → item_numbered q (number_changed n f xs) ≡ Some y → IsTurned f n q (item_numbered n xs) (item_numbered q xs) y
 number_turned n f xs zero y h = absurd cc
 number_turned zero f xs (suc q) y h = Elsewhere (λ e. omega (arith, e)) h
 number_turned (suc n) f xs (suc q) y h = shifted f n q (item_at n xs) (item_at q xs) y (item_turned n f xs q y h)
@@ -71,7 +71,7 @@ item_apart zero f (x ∷ xs) (suc q) apart = refl
 item_apart (suc n) f (x ∷ xs) zero apart = refl
 item_apart (suc n) f (x ∷ xs) (suc q) apart = item_apart n f xs q (λ e. apart (ap suc e))
 
-pub number_apart : {A : Type 0} (n : ℕ) (f : A → A) (xs : List A) (q : ℕ) → q ≢ n → numbered q (number_changed n f xs) ≡ numbered q xs
+pub number_apart : {A : Type 0} (n : ℕ) (f : A → A) (xs : List A) (q : ℕ) → q ≢ n → item_numbered q (number_changed n f xs) ≡ item_numbered q xs
 number_apart n f xs zero apart = refl
 number_apart zero f xs (suc q) apart = refl
 number_apart (suc n) f xs (suc q) apart = item_apart n f xs q (λ e. apart (ap suc e))
@@ -89,7 +89,7 @@ item_kept zero f (z ∷ xs) (suc q) x h = record { row = x; found_is = h; is = S
 item_kept (suc n) f (z ∷ xs) zero x h = record { row = x; found_is = h; is = Same refl }
 item_kept (suc n) f (z ∷ xs) (suc q) x h = item_kept n f xs q x h
 
-pub number_kept : {A : Type 0} (n : ℕ) (f : A → A) (xs : List A) (q : ℕ) (x : A) → numbered q xs ≡ Some x → HasItem f x (numbered q (number_changed n f xs))
+pub number_kept : {A : Type 0} (n : ℕ) (f : A → A) (xs : List A) (q : ℕ) (x : A) → item_numbered q xs ≡ Some x → HasItem f x (item_numbered q (number_changed n f xs))
 number_kept n f xs zero x h = absurd cc
 number_kept zero f xs (suc q) x h = record { row = x; found_is = h; is = Same refl }
 number_kept (suc n) f xs (suc q) x h = item_kept n f xs q x h

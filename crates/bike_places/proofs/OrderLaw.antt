@@ -17,10 +17,10 @@ use Rattle.bike_operator.specs.declared.records.Order.{Order}
 use Rattle.bike_operator.specs.declared.view.DockedBike.{DockedBike}
 use Rattle.bike_operator.specs.declared.view.RentalView.{RentalView}
 use Rattle.bike_operator.specs.declared.view.TruckView.{TruckView}
-use Rattle.bike_operator.specs.Operator.{Operator, Station, Kept, texts_cmp, numbered}
+use Rattle.bike_operator.specs.Operator.{Operator, Station, Kept, texts_cmp, item_numbered}
 use Rattle.bike_operator.specs.Counts.{docked_at, is_for_order, truck_load, order_load}
 use Rattle.bike_operator.specs.View.{view_of, truck_view, docked_view, rental_of, rental_view, end_at, has_end}
-use Rattle.bike_operator.specs.Steps.{tests, effect, key_changed, reported, place_reported, bike_reported, bike_marked, bike_placed, started, ended, recovered, refunded_by, placed_at_end, delivered, new_station, dock_marked}
+use Rattle.bike_operator.specs.Steps.{tests, effect, key_changed, with_report, place_reported, bike_reported, bike_marked, bike_placed, after_start, after_end, after_recovery, refunded_by, placed_at_end, with_delivery, new_station, dock_marked}
 use Rattle.bike_operator.specs.Sound.{IsOrderAt, AreOrdersSound}
 use Rattle.bike_places.specs.Accepted.{AcceptedKeeps}
 use Rattle.bike_places.proofs.Moment.{at_moment, reports}
@@ -34,7 +34,7 @@ later_orders s now k h = same_orders s (at_moment s now k) refl h
 
 -- ---- stations that report
 
-reported_orders : (s : Operator) (now : ℕ) (k : FinMap texts_cmp Kept) (station : List ℕ) → AreOrdersSound (at_moment s now k) → AreOrdersSound (at_moment (reported station now s) now k)
+reported_orders : (s : Operator) (now : ℕ) (k : FinMap texts_cmp Kept) (station : List ℕ) → AreOrdersSound (at_moment s now k) → AreOrdersSound (at_moment (with_report station now s) now k)
 reported_orders s now k station h =
     known_orders (at_moment s now k) s.types (key_changed s.stations station (reports now)) (λ id known. known) (known_changed text_order s.stations station (reports now)) h
 
@@ -51,30 +51,30 @@ bike_reported_orders s now k (Some b) h = place_reported_orders s now k b.place 
 -- ---- rentals: no bicycle comes on a truck
 
 started_orders : (s : Operator) (now : ℕ) (k : FinMap texts_cmp Kept) (rider : ℕ) (station : List ℕ) (o : Option DockedBike) → AreOrdersSound (at_moment s now k)
-    → AreOrdersSound (at_moment (started rider station now o s) now k)
+    → AreOrdersSound (at_moment (after_start rider station now o s) now k)
 started_orders s now k rider station None h = h
 started_orders s now k rider station (Some d) h =
     let at : Operator = at_moment s now k in
     let p : Place = place.Rental (length s.rentals + 1) in
-    let n : Operator = record (at_moment (started rider station now (Some d) s) now k) { stations = s.stations } in
+    let n : Operator = record (at_moment (after_start rider station now (Some d) s) now k) { stations = s.stations } in
     reported_orders n now k station (same_orders (bike_placed d.bike p at) n refl (bike_placed_orders at d.bike p (λ truck. refl) (λ order. refl) h))
 
 ended_orders : (s : Operator) (now : ℕ) (k : FinMap texts_cmp Kept) (bike : ℕ) (station : List ℕ) (dock : ℕ) (o : Option RentalView) → AreOrdersSound (at_moment s now k)
-    → AreOrdersSound (at_moment (ended bike station dock now o s) now k)
+    → AreOrdersSound (at_moment (after_end bike station dock now o s) now k)
 ended_orders s now k bike station dock None h = h
 ended_orders s now k bike station dock (Some r) h =
     let at : Operator = at_moment s now k in
     let p : Place = place.Dock station dock in
-    let n : Operator = record (at_moment (ended bike station dock now (Some r) s) now k) { stations = s.stations } in
+    let n : Operator = record (at_moment (after_end bike station dock now (Some r) s) now k) { stations = s.stations } in
     reported_orders n now k station (same_orders (bike_placed bike p at) n refl (bike_placed_orders at bike p (λ truck. refl) (λ order. refl) h))
 
-recovered_orders : (s : Operator) (now : ℕ) (k : FinMap texts_cmp Kept) (o : Option RentalView) → AreOrdersSound (at_moment s now k) → AreOrdersSound (at_moment (recovered now o s) now k)
+recovered_orders : (s : Operator) (now : ℕ) (k : FinMap texts_cmp Kept) (o : Option RentalView) → AreOrdersSound (at_moment s now k) → AreOrdersSound (at_moment (after_recovery now o s) now k)
 recovered_orders s now k None h = h
 recovered_orders s now k (Some r) h =
     let at : Operator = at_moment s now k in
     let bike = r.rental.bike in
     let placed = bike_placed_orders at bike place.Depot (λ truck. refl) (λ order. refl) h in
-    same_orders (bike_marked bike Disabled (bike_placed bike place.Depot at)) (at_moment (recovered now (Some r) s) now k) refl (bike_marked_orders (bike_placed bike place.Depot at) bike Disabled placed)
+    same_orders (bike_marked bike Disabled (bike_placed bike place.Depot at)) (at_moment (after_recovery now (Some r) s) now k) refl (bike_marked_orders (bike_placed bike place.Depot at) bike Disabled placed)
 
 refunded_orders : (s : Operator) (now : ℕ) (k : FinMap texts_cmp Kept) (amount : ℕ) (o : Option RentalView) → AreOrdersSound (at_moment s now k) → AreOrdersSound (at_moment (refunded_by amount now o s) now k)
 refunded_orders s now k amount None h = h
@@ -96,7 +96,7 @@ placed_at_end_orders s now k bike (end.Station station) dock h =
 
 -- a bicycle that leaves the truck at the other end is delivered
 brought : (s : Operator) (now : ℕ) (k : FinMap texts_cmp Kept) (order bike : ℕ) (e : OrderEnd) (dock : ℕ) (b : Bike) → map.get s.bikes bike ≡ Some b → is_for_order order b.place ≡ true
-    → AreOrdersSound (at_moment s now k) → AreOrdersSound (at_moment (delivered order To (placed_at_end bike e dock now s)) now k)
+    → AreOrdersSound (at_moment s now k) → AreOrdersSound (at_moment (with_delivery order To (placed_at_end bike e dock now s)) now k)
 brought s now k order bike end.Depot dock b found was h =
     let n : Operator = at_moment (placed_at_end bike end.Depot dock now s) now k in
     let placed = placed_at_end_orders s now k bike end.Depot dock h in
@@ -111,7 +111,7 @@ brought s now k order bike (end.Station station) dock b found was h =
     (λ o found. delivered_order n order o (placed.orders order o found) (let old : o.delivered + order_load s order ≤ o.count = (h.orders order o found).filled in omega (arith, less, old))) placed
 
 unloaded_orders : (s : Operator) (now : ℕ) (k : FinMap texts_cmp Kept) (truck order bike : ℕ) (side : Side) (dock : ℕ) (x : Order) → IsUnloaded s truck order bike side dock x → AreOrdersSound (at_moment s now k)
-    → AreOrdersSound (at_moment (delivered order side (placed_at_end bike (end_at side x) dock now s)) now k)
+    → AreOrdersSound (at_moment (with_delivery order side (placed_at_end bike (end_at side x) dock now s)) now k)
 unloaded_orders s now k truck order bike From dock x can h = placed_at_end_orders s now k bike x.from_end dock h
 unloaded_orders s now k truck order bike To dock x can h =
     let b = some_of (map.get s.bikes bike) can.there in
@@ -162,8 +162,8 @@ orders_law s now (command.SetRider rider blocked) k order good free late = uncha
 orders_law s now (command.TopUp rider amount) k order good free late = unchanged s now (command.TopUp rider amount) k refl order.orders
 orders_law s now (command.Start rider station dock) k order good free late = started_orders s now k rider station (docked_view s (docked_at s station dock)) (later_orders s now k order.orders)
 orders_law s now (command.End bike station dock) k order good free late = ended_orders s now k bike station dock (rental_of s (map.get s.bikes bike)) (later_orders s now k order.orders)
-orders_law s now (command.Recover rental) k order good free late = recovered_orders s now k (rental_view s rental (numbered rental s.rentals)) (later_orders s now k order.orders)
-orders_law s now (command.Refund rental amount) k order good free late = refunded_orders s now k amount (rental_view s rental (numbered rental s.rentals)) (later_orders s now k order.orders)
+orders_law s now (command.Recover rental) k order good free late = recovered_orders s now k (rental_view s rental (item_numbered rental s.rentals)) (later_orders s now k order.orders)
+orders_law s now (command.Refund rental amount) k order good free late = refunded_orders s now k amount (rental_view s rental (item_numbered rental s.rentals)) (later_orders s now k order.orders)
 orders_law s now (command.OpenOrder truck from_end to_end type_id count) k order good free late =
     let tested = none_holds (tests (view_of s (command.OpenOrder truck from_end to_end type_id count)) (command.OpenOrder truck from_end to_end type_id count)) free in
     let t = truck_of (map.get s.trucks truck) tested.0 in
@@ -189,7 +189,7 @@ orders_law s now (command.Load truck order bike) k o good free late =
     bike_reported_orders (bike_placed bike (place.Truck truck order) s) now k (map.get s.bikes bike)
     (bike_loaded_orders (at_moment s now k) bike truck order
     (λ t found. below t.capacity (truck_load s truck) (on_view truck_view (λ (v : TruckView). leb v.capacity (truck_load s truck)) (map.get s.trucks truck) t found tested.1.1.1.1.1.1.1.1.1.0))
-    (λ x found. below x.count (x.delivered + order_load s order) (on_row (λ (o : Order). leb o.count (o.delivered + order_load s order)) (numbered order s.orders) x found tested.1.1.1.1.1.1.1.1.0))
+    (λ x found. below x.count (x.delivered + order_load s order) (on_row (λ (o : Order). leb o.count (o.delivered + order_load s order)) (item_numbered order s.orders) x found tested.1.1.1.1.1.1.1.1.0))
     (later_orders s now k o.orders))
 orders_law s now (command.Unload truck order bike side dock) k o good free late =
     let x = unloaded_of s truck order bike side dock o.orders free in

@@ -12,7 +12,7 @@ use Rattle.bike_operator.specs.declared.records.Place.{Place}
 use Rattle.bike_operator.specs.declared.records.Place.TheVariants as place
 use Rattle.bike_operator.specs.declared.records.Bike.{Bike}
 use Rattle.bike_operator.specs.declared.records.Order.{Order}
-use Rattle.bike_operator.specs.Operator.{Operator, Station, Truck, text_cmp, numbered}
+use Rattle.bike_operator.specs.Operator.{Operator, Station, Truck, text_cmp, item_numbered}
 use Rattle.bike_operator.specs.Counts.{count, is_on_truck, is_for_order, truck_load, order_load}
 use Rattle.bike_operator.specs.declared.limits.TheConstants.{MOST_TRUCKS, MOST_ORDERS}
 use Rattle.bike_operator.specs.View.{has_end}
@@ -73,7 +73,7 @@ same_orders s n e h =
           let c : truck_load n q ≡ truck_load s q = ap (λ (m : FinMap nat_cmp Bike). count (λ e. is_on_truck q e.1.place) (map.entries m)) bikes in
           record { low = x.low; high = x.high; some = x.some; most = x.most; holds = rw c x.holds };
       orders = λ q o found.
-          let x = h.orders q o (ap (λ (os : List Order). numbered q os) (sym orders) ∙ found) in
+          let x = h.orders q o (ap (λ (os : List Order). item_numbered q os) (sym orders) ∙ found) in
           let c : order_load n q ≡ order_load s q = ap (λ (m : FinMap nat_cmp Bike). count (λ e. is_for_order q e.1.place) (map.entries m)) bikes in
           order_stands s n stand q o x (rw c x.filled);
       few_trucks = rw trucks h.few_trucks;
@@ -97,7 +97,7 @@ known_orders s types stations types_known stations_known h =
 
 -- with other bicycles no truck and no order holds too many
 bikes_orders : (s : Operator) (bikes : FinMap nat_cmp Bike) → ((truck : ℕ) (t : Truck) → map.get s.trucks truck ≡ Some t → truck_load (record s { bikes = bikes }) truck ≤ t.capacity)
-    → ((order : ℕ) (o : Order) → numbered order s.orders ≡ Some o → o.delivered + order_load (record s { bikes = bikes }) order ≤ o.count) → AreOrdersSound s → AreOrdersSound (record s { bikes = bikes })
+    → ((order : ℕ) (o : Order) → item_numbered order s.orders ≡ Some o → o.delivered + order_load (record s { bikes = bikes }) order ≤ o.count) → AreOrdersSound s → AreOrdersSound (record s { bikes = bikes })
 bikes_orders s bikes holds filled h =
     let n : Operator = record s { bikes = bikes } in
     let stand : OrdersStand s n = record { trucks = λ q t found. found; types = λ id known. known; stations = λ id known. known } in
@@ -150,7 +150,7 @@ bike_added_orders s bike b is h =
 
 -- a bicycle is put on a truck for an order: both have room for it
 pub bike_loaded_orders : (s : Operator) (bike truck order : ℕ) → ((t : Truck) → map.get s.trucks truck ≡ Some t → truck_load s truck < t.capacity)
-    → ((o : Order) → numbered order s.orders ≡ Some o → o.delivered + order_load s order < o.count) → AreOrdersSound s → AreOrdersSound (bike_placed bike (place.Truck truck order) s)
+    → ((o : Order) → item_numbered order s.orders ≡ Some o → o.delivered + order_load s order < o.count) → AreOrdersSound s → AreOrdersSound (bike_placed bike (place.Truck truck order) s)
 bike_loaded_orders s bike truck order room wanted h =
     bikes_orders s (key_changed s.bikes bike (placed (place.Truck truck order)))
     (λ q t found. holds q t found (truck == q) refl (count-most number_order (λ (y : Bike). is_on_truck q y.place) s.bikes bike (placed (place.Truck truck order)) (truck == q) (λ x. refl)))
@@ -164,11 +164,11 @@ bike_loaded_orders s bike truck order room wanted h =
         omega (arith, most, r, c)
     holds q t found false is most = let x = (h.trucks q t found).holds in omega (arith, most, x)
 
-    filled : (q : ℕ) (o : Order) → numbered q s.orders ≡ Some o → (b : Bool) → (order == q) ≡ b → order_load (bike_placed bike (place.Truck truck order) s) q ≤ order_load s q + one b
+    filled : (q : ℕ) (o : Order) → item_numbered q s.orders ≡ Some o → (b : Bool) → (order == q) ≡ b → order_load (bike_placed bike (place.Truck truck order) s) q ≤ order_load s q + one b
         → o.delivered + order_load (bike_placed bike (place.Truck truck order) s) q ≤ o.count
     filled q o found true is most =
         let same = same_number order q is in
-        let w = wanted o (subst (λ (z : ℕ). numbered z s.orders ≡ Some o) (sym same) found) in
+        let w = wanted o (subst (λ (z : ℕ). item_numbered z s.orders ≡ Some o) (sym same) found) in
         let c : order_load s order ≡ order_load s q = ap (order_load s) same in
         omega (arith, most, w, c)
     filled q o found false is most = let x = (h.orders q o found).filled in omega (arith, most, x)
@@ -238,7 +238,7 @@ order_added_orders s o good full h = record {
     stand : OrdersStand s (order_added o s)
     stand = record { trucks = λ q x found. found; types = λ id known. known; stations = λ id known. known }
 
-    is_order : (q : ℕ) (x : Order) → (numbered q s.orders ≡ Some x) ⊎ (q ≡ length s.orders + 1) × (x ≡ o) → IsOrderAt (order_added o s) q x
+    is_order : (q : ℕ) (x : Order) → (item_numbered q s.orders ≡ Some x) ⊎ (q ≡ length s.orders + 1) × (x ≡ o) → IsOrderAt (order_added o s) q x
     is_order q x (inl found) = let y = h.orders q x found in order_stands s (order_added o s) stand q x y y.filled
     is_order q x (inr last) = rw (last.0, last.1) (order_stands s (order_added o s) stand (length s.orders + 1) o good good.filled)
 
@@ -246,7 +246,7 @@ order_added_orders s o good full h = record {
     few e = let b : length s.orders < MOST_ORDERS = grind (arith, nat_tests, full) in omega (arith, e, b)
 
 -- an order is changed to one that keeps its bounds
-pub order_changed_orders : (s : Operator) (number : ℕ) (f : Order → Order) → ((o : Order) → numbered number s.orders ≡ Some o → IsOrderAt s number (f o)) → AreOrdersSound s → AreOrdersSound (order_changed number f s)
+pub order_changed_orders : (s : Operator) (number : ℕ) (f : Order → Order) → ((o : Order) → item_numbered number s.orders ≡ Some o → IsOrderAt s number (f o)) → AreOrdersSound s → AreOrdersSound (order_changed number f s)
 order_changed_orders s number f good h = record {
   trucks = λ q t found. let x = h.trucks q t found in record { low = x.low; high = x.high; some = x.some; most = x.most; holds = x.holds };
   orders = λ q x found. is_order q x (number_turned number f s.orders q x found);
@@ -257,6 +257,6 @@ order_changed_orders s number f good h = record {
     stand : OrdersStand s (order_changed number f s)
     stand = record { trucks = λ q x found. found; types = λ id known. known; stations = λ id known. known }
 
-    is_order : (q : ℕ) (x : Order) → IsTurned f number q (numbered number s.orders) (numbered q s.orders) x → IsOrderAt (order_changed number f s) q x
+    is_order : (q : ℕ) (x : Order) → IsTurned f number q (item_numbered number s.orders) (item_numbered q s.orders) x → IsOrderAt (order_changed number f s) q x
     is_order q x (Here o same found is) = let y = good o found in rw (same, is) (order_stands s (order_changed number f s) stand number (f o) y y.filled)
     is_order q x (Elsewhere apart found) = let y = h.orders q x found in order_stands s (order_changed number f s) stand q x y y.filled

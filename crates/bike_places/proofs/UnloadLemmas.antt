@@ -10,10 +10,10 @@ use Rattle.bike_operator.specs.Command.TheVariants as command
 use Rattle.bike_operator.specs.declared.records.Bike.{Bike}
 use Rattle.bike_operator.specs.declared.records.Order.{Order}
 use Rattle.bike_operator.specs.declared.view.View.{View}
-use Rattle.bike_operator.specs.Operator.{Operator, Station, numbered}
+use Rattle.bike_operator.specs.Operator.{Operator, Station, item_numbered}
 use Rattle.bike_operator.specs.Counts.{is_on_truck, is_for_order, docked_at}
 use Rattle.bike_operator.specs.View.{station_view, truck_at, docked_view, empty_view, end_view, side_view, end_at, has_end}
-use Rattle.bike_operator.specs.Steps.{tests, first, ends_apart, has_no_dock, refused}
+use Rattle.bike_operator.specs.Steps.{tests, first, ends_apart, has_no_dock, refusal_of}
 use Rattle.bike_operator.specs.Sound.{HasDock, IsOrderAt, AreOrdersSound}
 use Rattle.bike_places.proofs.TestLemmas.{NoneHolds, none_holds, dock_of, on_row, both_hold, neither, holds, same_number}
 
@@ -69,11 +69,11 @@ module _ (s : Operator) (truck order bike : ℕ) (side : Side) (dock : ℕ) (x :
       low f = grind (arith, nat_tests, f)
 
 -- an unloading that isn't refused
-pub unloaded_of : (s : Operator) (truck order bike : ℕ) (side : Side) (dock : ℕ) → AreOrdersSound s → refused s (command.Unload truck order bike side dock) ≡ None
-    → (x : Order) × (numbered order s.orders ≡ Some x) × IsUnloaded s truck order bike side dock x
-unloaded_of s truck order bike side dock h free = go (numbered order s.orders) refl free where
-  go : (o : Option Order) → numbered order s.orders ≡ o → first (tests (seen s truck bike o (side_view s o side dock)) (command.Unload truck order bike side dock)) ≡ None
-      → (x : Order) × (numbered order s.orders ≡ Some x) × IsUnloaded s truck order bike side dock x
+pub unloaded_of : (s : Operator) (truck order bike : ℕ) (side : Side) (dock : ℕ) → AreOrdersSound s → refusal_of s (command.Unload truck order bike side dock) ≡ None
+    → (x : Order) × (item_numbered order s.orders ≡ Some x) × IsUnloaded s truck order bike side dock x
+unloaded_of s truck order bike side dock h free = go (item_numbered order s.orders) refl free where
+  go : (o : Option Order) → item_numbered order s.orders ≡ o → first (tests (seen s truck bike o (side_view s o side dock)) (command.Unload truck order bike side dock)) ≡ None
+      → (x : Order) × (item_numbered order s.orders ≡ Some x) × IsUnloaded s truck order bike side dock x
   go None e free = let tested = none_holds (tests (seen s truck bike None empty_view) (command.Unload truck order bike side dock)) free in absurd (let f = tested.1.0 in cc)
   go (Some x) e free =
       let tested = none_holds (tests (seen s truck bike (Some x) (end_view s (end_at side x) dock)) (command.Unload truck order bike side dock)) free in

@@ -8,7 +8,7 @@ use Rattle.bike_operator.specs.declared.records.Place.TheVariants as place
 use Rattle.bike_operator.specs.declared.records.Bike.{Bike}
 use Rattle.bike_operator.specs.Operator.{Operator, Station, dock_key}
 use Rattle.bike_operator.specs.Counts.{is_fit, is_broken, is_working_dock, docked_at, available_of, docks_available, docks_broken}
-use Rattle.bike_places.specs.Numbers.{is_available_of, is_disabled_of, disabled_of, occupied}
+use Rattle.bike_places.specs.Numbers.{is_available_of, is_disabled_of, disabled_of, occupied_docks}
 
 -- 1 for what passes
 abbrev pub one : Bool → ℕ
@@ -112,7 +112,7 @@ pub record PutLaw (s next : Operator) (number : ℕ) (b : Bike) : Type 0 where
       (available_share s station type_id (map.get s.bikes number)) (available_share s station type_id (Some b))
   pub disabled : (station type_id : List ℕ) → IsMoved (disabled_of s station type_id) (disabled_of next station type_id)
       (disabled_share s station type_id (map.get s.bikes number)) (disabled_share s station type_id (Some b))
-  pub occupied : (station : List ℕ) → IsMoved (occupied s station) (occupied next station)
+  pub occupied : (station : List ℕ) → IsMoved (occupied_docks s station) (occupied_docks next station)
       (occupied_share s station (map.get s.bikes number)) (occupied_share s station (Some b))
   pub broken : (station : List ℕ) (docks : ℕ) → docks_broken next station docks ≡ docks_broken s station docks
 
@@ -137,7 +137,7 @@ pub record MarkLaw (s next : Operator) (at : List ℕ) (dock : ℕ) (broken : Bo
       (available_share s station type_id (docked_bike s at dock)) (available_share next station type_id (docked_bike s at dock))
   pub disabled : (station type_id : List ℕ) → IsMoved (disabled_of s station type_id) (disabled_of next station type_id)
       (disabled_share s station type_id (docked_bike s at dock)) (disabled_share next station type_id (docked_bike s at dock))
-  pub occupied : (station : List ℕ) → IsMoved (occupied s station) (occupied next station)
+  pub occupied : (station : List ℕ) → IsMoved (occupied_docks s station) (occupied_docks next station)
       (occupied_share s station (docked_bike s at dock)) (occupied_share next station (docked_bike s at dock))
   pub free_docks : (docks : ℕ) → 1 ≤ dock → dock ≤ docks
       → IsMoved (docks_available s at docks) (docks_available next at docks) (one (is_free s at dock)) (one (is_free next at dock))

@@ -19,5 +19,5 @@ abbrev pub disabled_of : Operator → List ℕ → List ℕ → ℕ
 disabled_of s station type_id = count (λ b. is_disabled_of s station type_id b.1) (map.entries s.bikes)
 
 -- bicycles in the working docks of a station
-abbrev pub occupied : Operator → List ℕ → ℕ
-occupied s station = count (λ b. is_working_dock s station b.1.place) (map.entries s.bikes)
+abbrev pub occupied_docks : Operator → List ℕ → ℕ
+occupied_docks s station = count (λ b. is_working_dock s station b.1.place) (map.entries s.bikes)

@@ -5,7 +5,7 @@ ghost use Rattle.bike_operator.specs.declared.records.Bike.{Bike};
 ghost use Rattle.bike_operator.specs.Operator.{Operator};
 ghost use Rattle.bike_operator.specs.Counts.{docks_available, docks_broken};
 ghost use Rattle.bike_operator.specs.Sound.{AreBikesSound};
-ghost use Rattle.bike_places.specs.Numbers.{occupied};
+ghost use Rattle.bike_places.specs.Numbers.{occupied_docks};
 ghost use Rattle.bike_places.specs.Laws.{IsMarkedAt, ShareLaw, HasDocks, HasPut, PutLaw, PutDocksLaw, HasMarked, MarkLaw};
 
 /// The law of shares: what a bicycle adds to the numbers of stations, by its state and place.
@@ -18,7 +18,7 @@ pub fn share_law()
 /// bicycle, or is broken.
 pub fn docks_law()
     ensures { (s : Operator) (station : List ℕ) (docks : ℕ) → AreBikesSound s → HasDocks s station docks
-        → docks_available s station docks + occupied s station + docks_broken s station docks ≡ docks }
+        → docks_available s station docks + occupied_docks s station + docks_broken s station docks ≡ docks }
 {}
 
 /// The law of a bicycle put under its number: one that is new, or that was in another place, or that was in this

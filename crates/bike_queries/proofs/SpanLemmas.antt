@@ -9,7 +9,7 @@ use Rattle.bike_ledger.specs.Ledger.{refunded_of}
 use Rattle.bike_operator.specs.declared.limits.TheConstants.{MOST_ENTRIES}
 use Rattle.bike_operator.specs.declared.records.Rental.{Rental}
 use Rattle.bike_operator.specs.declared.records.Closing.{Closing}
-use Rattle.bike_operator.specs.Operator.{Operator, item_at, numbered}
+use Rattle.bike_operator.specs.Operator.{Operator, item_at, item_numbered}
 use Rattle.bike_operator.specs.Sound.{IsSound}
 use Rattle.bike_places.proofs.ItemLemmas.{number_within}
 use Rattle.bike_book.specs.Rows.{entry_row, rental_row}
@@ -31,7 +31,7 @@ Told x found = ◌≡◌ {A = Result _ StatementFault} (Ok x) (read_or_failed fo
 -- ---- members of numbered lists
 
 -- a member of a list has a number
-has_number : {A : Type 0} (xs : List A) (x : A) → Has xs x → (n : ℕ) × (numbered n xs ≡ Some x)
+has_number : {A : Type 0} (xs : List A) (x : A) → Has xs x → (n : ℕ) × (item_numbered n xs ≡ Some x)
 has_number xs x has = let it = at xs has in (suc it.0, it.1)
   where
     at : (ys : List _) → Has ys x → (i : ℕ) × (item_at i ys ≡ Some x)
@@ -40,8 +40,8 @@ has_number xs x has = let it = at xs has in (suc it.0, it.1)
     at (y ∷ ys) (inr later) = let it = at ys later in (suc it.0, it.1)
 
 -- and one of a list with numbers has its own
-own_number : {A : Type 0} (xs : List A) (e : ℕ × A) → Has (with_numbers xs) e → numbered e.0 xs ≡ Some e.1
-own_number {A} xs e has = let it = at 1 xs has in let is : e.0 ≡ suc it.0 = omega (arith, it.1) in ap (λ n. numbered n xs) is ∙ it.2
+own_number : {A : Type 0} (xs : List A) (e : ℕ × A) → Has (with_numbers xs) e → item_numbered e.0 xs ≡ Some e.1
+own_number {A} xs e has = let it = at 1 xs has in let is : e.0 ≡ suc it.0 = omega (arith, it.1) in ap (λ n. item_numbered n xs) is ∙ it.2
   where
     at : (n : ℕ) (ys : List A) → Has (numbers_from n ys) e → (i : ℕ) × (e.0 ≡ n + i) × (item_at i ys ≡ Some e.1)
     at n [] has = elim has [ ]
@@ -109,7 +109,7 @@ ended_shown s number begin end n info is shown = by (ended_after s number begin 
     by None next is = absurd cc
     by (Some e) next is =
         let n_is : n ≡ e.0 = same_Some n e.0 is in
-        let there : numbered e.0 s.rentals ≡ Some e.1 = own_number s.rentals e (find_has _ (with_numbers s.rentals) e next) in
+        let there : item_numbered e.0 s.rentals ≡ Some e.1 = own_number s.rentals e (find_has _ (with_numbers s.rentals) e next) in
         let info_is : info ≡ rental_info (refunded_of e.0 s.entries) e.1 = same_Some info _ (shown ∙ ap (rental_info_at s) n_is ∙ ap (option_map (rental_info (refunded_of e.0 s.entries))) there) in
         (λ i. Some (n_is i, info_is i))
 

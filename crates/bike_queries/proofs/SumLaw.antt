@@ -11,7 +11,7 @@ use Rattle.std.proofs.lemmas.Slice.Eq.{bytes_eq-Decides}
 use Rattle.bike_catalogue.specs.Rows.{TypeRow}
 use Rattle.bike_operator.specs.declared.records.Bike.{Bike}
 use Rattle.bike_operator.specs.Operator.{Operator, text_cmp}
-use Rattle.bike_operator.specs.Counts.{count, is_at, is_available, available, available_of, disabled}
+use Rattle.bike_operator.specs.Counts.{count, is_at, is_available, available, available_of, disabled_bikes}
 use Rattle.bike_operator.specs.Sound.{IsSound}
 use Rattle.bike_places.proofs.MapLemmas.{number_order, text_order, tied, there_of}
 use Rattle.bike_places.proofs.CountLemmas.{count-cons}
@@ -145,7 +145,7 @@ module _ (s : Operator) (sound : IsSound s) where
       ∙ by_types (is_available s station) (fin.entries s.types) (fin.entries s.bikes) typed
 
   -- DISABLED: the sum over the types
-  pub disabled_sum : (station : List ℕ) → sum_by (disabled_of s station) (fin.keys s.types) ≡ disabled s station
+  pub disabled_sum : (station : List ℕ) → sum_by (disabled_of s station) (fin.keys s.types) ≡ disabled_bikes s station
   disabled_sum station =
       sum_map (λ (e : List ℕ × TypeRow). e.0) (disabled_of s station) (fin.entries s.types)
       ∙ by_types (λ b. is_at station b.place && not (is_available s station b)) (fin.entries s.types) (fin.entries s.bikes) typed

@@ -6,7 +6,7 @@ use Rattle.bike_ledger.specs.Ledger.{balance_of, refunded_of}
 use Rattle.bike_operator.specs.declared.records.Place.{Place}
 use Rattle.bike_operator.specs.declared.records.Rental.{Rental}
 use Rattle.bike_operator.specs.declared.records.Closing.{Closing}
-use Rattle.bike_operator.specs.Operator.{Operator, Rider, numbered}
+use Rattle.bike_operator.specs.Operator.{Operator, Rider, item_numbered}
 use Rattle.bike_book.specs.Rows.{number_value}
 use Rattle.bike_book.specs.Found.{open_rental}
 use Rattle.bike_accounts.specs.declared.rentals.StoredRental.{StoredRental}
@@ -59,4 +59,4 @@ abbrev pub stored_info : StoredRental → RentalInfo
 stored_info x = rental_info x.refunded x.rental
 
 abbrev pub rental_info_at : Operator → ℕ → Option RentalInfo
-rental_info_at s rental = option_map (rental_info (refunded_of rental s.entries)) (numbered rental s.rentals)
+rental_info_at s rental = option_map (rental_info (refunded_of rental s.entries)) (item_numbered rental s.rentals)

@@ -7,7 +7,7 @@ use Rattle.sqlite_value.specs.declared.value.Value.{Value}
 use Rattle.sqlite_value.specs.declared.value.Value.TheVariants.{Text}
 use Rattle.sqlite_value.specs.Order.{Row, column}
 use Rattle.bike_operator.specs.Operator.{Operator, Station}
-use Rattle.bike_operator.specs.Counts.{available, available_of, disabled, docks_available, docks_broken}
+use Rattle.bike_operator.specs.Counts.{available, available_of, disabled_bikes, docks_available, docks_broken}
 use Rattle.bike_places.specs.Numbers.{disabled_of}
 use Rattle.bike_fleet.specs.declared.counts.TypeCounts.{TypeCounts}
 use Rattle.bike_fleet.specs.declared.stations.DockNumbers.{DockNumbers}
@@ -62,7 +62,7 @@ counts_with docks t = record {
 pub record AreCountsOf (s : Operator) (station : List ℕ) (x : Station) (c : Counts) : Type 0 where
   pub available : c.available ≡ available s station
   pub by_type : c.by_type.items ≡ map (type_count s station) (fin.keys s.types)
-  pub disabled : c.disabled ≡ disabled s station
+  pub disabled : c.disabled ≡ disabled_bikes s station
   pub docks_available : c.docks_available ≡ docks_available s station x.row.docks
   pub docks_disabled : c.docks_disabled ≡ docks_broken s station x.row.docks
 

@@ -7,7 +7,7 @@ use Rattle.bike_ledger.specs.declared.entry.EntryKind.{EntryKind}
 use Rattle.bike_ledger.specs.declared.entry.EntryKind.TheVariants.{TopUp, Fare, Refund}
 use Rattle.bike_operator.specs.declared.records.Rental.{Rental}
 use Rattle.bike_operator.specs.declared.records.Closing.{Closing}
-use Rattle.bike_operator.specs.Operator.{item_at, numbered}
+use Rattle.bike_operator.specs.Operator.{item_at, item_numbered}
 use Rattle.bike_operator.specs.Counts.{count, is_open}
 use Rattle.bike_operator.specs.Sound.{is_fare, fares_of, fares_in}
 use Rattle.bike_places.proofs.TestLemmas.{same_number}
@@ -57,7 +57,7 @@ fare_has rental (suc i) (x ∷ es) e found passes = go (is_fare_of rental x) ref
   go true is rest = subst (λ (zs : List ℤ). Has zs e.amount) (sym (further rental x es true is)) (inr rest)
   go false is rest = subst (λ (zs : List ℤ). Has zs e.amount) (sym (further rental x es false is)) rest
 
-pub fare_among : (rental n : ℕ) (es : List Entry) (e : Entry) → numbered n es ≡ Some e → is_fare_of rental e ≡ true → Has (fares_of rental es) e.amount
+pub fare_among : (rental n : ℕ) (es : List Entry) (e : Entry) → item_numbered n es ≡ Some e → is_fare_of rental e ≡ true → Has (fares_of rental es) e.amount
 fare_among rental zero es e found passes = absurd cc
 fare_among rental (suc i) es e found passes = fare_has rental i es e found passes
 
@@ -78,7 +78,7 @@ two_items rental (suc i) (suc j) (e ∷ es) x y less fx fy px py = go (is_fare_o
   go true is rest = let all = ap (λ (zs : List ℤ). length zs) (further rental e es true is) in omega (arith, rest, all)
   go false is rest = let all = ap (λ (zs : List ℤ). length zs) (further rental e es false is) in omega (arith, rest, all)
 
-pub two_fares : (rental a b : ℕ) (es : List Entry) (x y : Entry) → a < b → numbered a es ≡ Some x → numbered b es ≡ Some y → is_fare_of rental x ≡ true → is_fare_of rental y ≡ true → 2 ≤ length (fares_of rental es)
+pub two_fares : (rental a b : ℕ) (es : List Entry) (x y : Entry) → a < b → item_numbered a es ≡ Some x → item_numbered b es ≡ Some y → is_fare_of rental x ≡ true → is_fare_of rental y ≡ true → 2 ≤ length (fares_of rental es)
 two_fares rental zero b es x y less fx fy px py = absurd cc
 two_fares rental (suc i) zero es x y less fx fy px py = absurd cc
 two_fares rental (suc i) (suc j) es x y less fx fy px py = two_items rental i j es x y (omega (arith, less)) fx fy px py
@@ -89,7 +89,7 @@ no_item : (rental : ℕ) (es : List Entry) → ((i : ℕ) (e : Entry) → item_a
 no_item rental [] each = refl
 no_item rental (e ∷ es) each = further rental e es false (each zero e refl) ∙ no_item rental es (λ i x is. each (suc i) x is)
 
-pub no_fares : (rental : ℕ) (es : List Entry) → ((n : ℕ) (e : Entry) → numbered n es ≡ Some e → is_fare_of rental e ≡ false) → fares_of rental es ≡ []
+pub no_fares : (rental : ℕ) (es : List Entry) → ((n : ℕ) (e : Entry) → item_numbered n es ≡ Some e → is_fare_of rental e ≡ false) → fares_of rental es ≡ []
 no_fares rental es each = no_item rental es (λ i e is. each (suc i) e is)
 
 one_item : (rental : ℕ) (amount : ℤ) (es : List Entry) → 1 ≤ length (fares_of rental es) → ((i : ℕ) (e : Entry) → item_at i es ≡ Some e → is_fare_of rental e ≡ true → e.amount ≡ amount)
@@ -115,8 +115,8 @@ one_item rental amount (e ∷ es) some each once = go (is_fare_of rental e) refl
       further rental e es false is ∙ rest (omega (arith, some, all)) (λ i x found. each (suc i) x found) (λ i j x y less fx fy. once (suc i) (suc j) x y (omega (arith, less)) fx fy)
 
 -- one Fare entry at least, each of this amount, and no two
-pub one_fare : (rental : ℕ) (amount : ℤ) (es : List Entry) → 1 ≤ length (fares_of rental es) → ((n : ℕ) (e : Entry) → numbered n es ≡ Some e → is_fare_of rental e ≡ true → e.amount ≡ amount)
-    → ((a b : ℕ) (x y : Entry) → a < b → numbered a es ≡ Some x → numbered b es ≡ Some y → is_fare_of rental x ≡ true → is_fare_of rental y ≡ true → ⊥) → fares_of rental es ≡ amount ∷ []
+pub one_fare : (rental : ℕ) (amount : ℤ) (es : List Entry) → 1 ≤ length (fares_of rental es) → ((n : ℕ) (e : Entry) → item_numbered n es ≡ Some e → is_fare_of rental e ≡ true → e.amount ≡ amount)
+    → ((a b : ℕ) (x y : Entry) → a < b → item_numbered a es ≡ Some x → item_numbered b es ≡ Some y → is_fare_of rental x ≡ true → is_fare_of rental y ≡ true → ⊥) → fares_of rental es ≡ amount ∷ []
 one_fare rental amount es some each once = one_item rental amount es some (λ i e is. each (suc i) e is) (λ i j x y less fx fy. once (suc i) (suc j) x y (omega (arith, less)) fx fy)
 
 -- ---- no more closed rentals than entries
@@ -180,5 +180,5 @@ booked_fit (r ∷ rs) n es each = go r.closing refl (booked_fit rs (suc n)) wher
       let rest = fit (without n es) (λ i x found. others_stay n (suc n + i) (λ e. omega (arith, e)) es ∙ later i x found) in
       omega (arith, closed_one, c, length_one, parts, rest)
 
-pub rentals_few : (rs : List Rental) (es : List Entry) → ((n : ℕ) (r : Rental) → numbered n rs ≡ Some r → fares_of n es ≡ fares_in r.closing) → length rs ≤ length es + count is_open rs
+pub rentals_few : (rs : List Rental) (es : List Entry) → ((n : ℕ) (r : Rental) → item_numbered n rs ≡ Some r → fares_of n es ≡ fares_in r.closing) → length rs ≤ length es + count is_open rs
 rentals_few rs es each = booked_fit rs 1 es (λ i r found. let number : 1 + i ≡ suc i = omega arith in ap (λ (k : ℕ). fares_of k es) number ∙ each (suc i) r found)

@@ -20,7 +20,7 @@ use Rattle.bike_operator.specs.declared.records.Place.{Place}
 use Rattle.bike_operator.specs.declared.records.Place.TheVariants as place
 use Rattle.bike_operator.specs.declared.records.Rental.{Rental}
 use Rattle.bike_operator.specs.declared.records.Closing.{Closing}
-use Rattle.bike_operator.specs.Operator.{Operator, Key, DockKey, numbered}
+use Rattle.bike_operator.specs.Operator.{Operator, Key, DockKey, item_numbered}
 use Rattle.bike_operator.specs.Counts.{docks_available, docks_broken, available_of}
 use Rattle.bike_operator.specs.Sound.{IsSound, IsPlace, IsBooking, IsSetSystem, fares_of, fares_in}
 use Rattle.bike_places.specs.Numbers.{disabled_of}
@@ -63,7 +63,7 @@ module _ {K X A : Type 0} {R : K → K → Ordering} {keys : ℕ} {key_row : K �
 
 module _ {X A : Type 0} (row : ℕ × X → Row) (begins : BeginsWithKey numbers row) (read : Row → Option A) (Fact : ℕ → A → Type 0) where
   -- the row of each numbered record is good, with so many rows below it
-  pub numbered_good : (xs : List X) → ((n : ℕ) (x : X) (below : ℕ) → numbered n xs ≡ Some x → n ≡ below + 1 → IsSomeAnd (read (row (n, x))) (Fact below))
+  pub numbered_good : (xs : List X) → ((n : ℕ) (x : X) (below : ℕ) → item_numbered n xs ≡ Some x → n ≡ below + 1 → IsSomeAnd (read (row (n, x))) (Fact below))
       → (r : Row) → Has (map row (with_numbers xs)) r → IsSomeAnd (read r) (Fact (lesser 1 (take 1 r) (map row (with_numbers xs))))
   numbered_good xs good r has =
       let at = map_has row (with_numbers xs) r has in
@@ -89,7 +89,7 @@ module _ (s : Operator) (m : Listed) (sound : IsSound s) (listing : IsListing s 
   segment_good r below has =
       let among = row_among (fin.entries s.plans) r has in
       let found = has_get texts.total s.plans among.entry among.has in
-      let place : numbered (1 + among.of.at) among.entry.1.segments ≡ Some among.of.segment = (let next : 1 + among.of.at ≡ suc among.of.at = omega arith in ap (λ (n : ℕ). numbered n among.entry.1.segments) next ∙ among.of.found) in
+      let place : item_numbered (1 + among.of.at) among.entry.1.segments ≡ Some among.of.segment = (let next : 1 + among.of.at ≡ suc among.of.at = omega arith in ap (λ (n : ℕ). item_numbered n among.entry.1.segments) next ∙ among.of.found) in
       let number : among.of.at + 1 ≡ 1 + among.of.at = omega arith in
       let good = subst (λ (n : ℕ). IsStoredSegment among.entry.0 n among.of.segment) number (segment_stored s sound among.entry.0 among.entry.1 found among.of.at among.of.segment among.of.found) in
       let read = segment_reading.full (among.entry.0, 1 + among.of.at, among.of.segment) good in
@@ -102,7 +102,7 @@ module _ (s : Operator) (m : Listed) (sound : IsSound s) (listing : IsListing s 
   fare_booked number None booked = tt
   fare_booked number (Some c) booked = let one : length (fares_of number s.entries) ≡ 1 = ap (λ (zs : List ℤ). length zs) booked in omega (arith, one)
 
-  rental_good : (n : ℕ) (r : Rental) (below : ℕ) → numbered n s.rentals ≡ Some r → n ≡ below + 1 → IsSomeAnd (rental_read (stored_rental s.entries (n, r))) (IsGoodRental s below)
+  rental_good : (n : ℕ) (r : Rental) (below : ℕ) → item_numbered n s.rentals ≡ Some r → n ≡ below + 1 → IsSomeAnd (rental_read (stored_rental s.entries (n, r))) (IsGoodRental s below)
   rental_good n r below found place =
       let it = sound.rentals.rentals n r found in
       some_and (IsGoodRental s below) (rental_read (stored_rental s.entries (n, r))) (n, r, refunded_of n s.entries) (rental_is s m sound listing n r found) (record {
@@ -124,7 +124,7 @@ module _ (s : Operator) (m : Listed) (sound : IsSound s) (listing : IsListing s 
     go (inl same) = same
     go (inr none) = elim none [ ]
 
-  fare_good : (n : ℕ) (e : Entry) (below : ℕ) → numbered n s.entries ≡ Some e → e.number ≡ n → (k : EntryKind) → e.kind ≡ k → IsBooking s e k → IsOneFare s e k
+  fare_good : (n : ℕ) (e : Entry) (below : ℕ) → item_numbered n s.entries ≡ Some e → e.number ≡ n → (k : EntryKind) → e.kind ≡ k → IsBooking s e k → IsOneFare s e k
   fare_good n e below found number TopUp kind b = tt
   fare_good n e below found number Refund kind b = tt
   fare_good n e below found number Fare kind b =
@@ -144,7 +144,7 @@ module _ (s : Operator) (m : Listed) (sound : IsSound s) (listing : IsListing s 
             omega (arith, one, two),
       )
 
-  entry_good : (n : ℕ) (e : Entry) (below : ℕ) → numbered n s.entries ≡ Some e → n ≡ below + 1 → IsSomeAnd (entry_read (stored_entry (n, e))) (IsGoodEntry s below)
+  entry_good : (n : ℕ) (e : Entry) (below : ℕ) → item_numbered n s.entries ≡ Some e → n ≡ below + 1 → IsSomeAnd (entry_read (stored_entry (n, e))) (IsGoodEntry s below)
   entry_good n e below found place =
       let it = sound.ledger.entries n e found in
       let number = it.number_is in
@@ -163,7 +163,7 @@ module _ (s : Operator) (m : Listed) (sound : IsSound s) (listing : IsListing s 
   place_good : (bike : ℕ) (type_id : List ℕ) (p : Place) → IsPlace s bike type_id p → IsGoodPlace (tables_for s m) s bike type_id p
   place_good bike type_id (place.Dock station dock) it = it
   place_good bike type_id (place.Rental rental) it =
-      let back = λ (n : ℕ) (r : Rental) (is : numbered n s.rentals ≡ Some r). ap (option_map (λ (e : ℕ × Rental × ℤ). (e.0, e.1))) (rental_is s m sound listing n r is) in
+      let back = λ (n : ℕ) (r : Rental) (is : item_numbered n s.rentals ≡ Some r). ap (option_map (λ (e : ℕ × Rental × ℤ). (e.0, e.1))) (rental_is s m sound listing n r is) in
       let same = at_number (stored_rental s.entries) (λ e. refl) rental_in (tables_for s m).rentals s.rentals refl back rental in
       record { row = it.row; found = same ∙ it.found; not_closed = it.not_closed; bike_is = it.bike_is }
   place_good bike type_id (place.Truck truck order) it =

@@ -6,7 +6,7 @@ use Rattle.std.specs.FinMap as fin
 use Rattle.std.specs.FinMap.{FinMap}
 use Rattle.sqlite_value.specs.Order.{Row}
 use Rattle.sqlite_rules.specs.Lists.{Has}
-use Rattle.bike_operator.specs.Operator.{item_at, numbered}
+use Rattle.bike_operator.specs.Operator.{item_at, item_numbered}
 use Rattle.bike_book.specs.Stored.{numbers_from, with_numbers}
 use Rattle.bike_book.proofs.MapRows.{StoresKeys, has_get}
 use Rattle.bike_readings.proofs.ReadLists.{stored_read, same_map, find_has}
@@ -37,19 +37,19 @@ module _ {A : Type 0} where
       let number = it.number_is in
       record { at = suc it.at; number_is = omega (arith, number); found = it.found }
 
-  pub has_numbered : (xs : List A) (n : ℕ) (x : A) → Has (with_numbers xs) (n, x) → numbered n xs ≡ Some x
+  pub has_numbered : (xs : List A) (n : ℕ) (x : A) → Has (with_numbers xs) (n, x) → item_numbered n xs ≡ Some x
   has_numbered xs n x has =
       let it = item_of 1 xs n x has in
       let number = it.number_is in
       let next : n ≡ suc it.at = omega (arith, number) in
-      ap (λ (k : ℕ). numbered k xs) next ∙ it.found
+      ap (λ (k : ℕ). item_numbered k xs) next ∙ it.found
 
   item_has : (k : ℕ) (xs : List A) (i : ℕ) (x : A) (n : ℕ) → n ≡ k + i → item_at i xs ≡ Some x → Has (numbers_from k xs) (n, x)
   item_has k [] i x n number found = absurd cc
   item_has k (y ∷ xs) zero x n number found = let first : n ≡ k = omega (arith, number) in let same : y ≡ x = cc in inl (ap₂ (λ (a : ℕ) (b : A). (a, b)) first (sym same))
   item_has k (y ∷ xs) (suc i) x n number found = inr (item_has (suc k) xs i x n (omega (arith, number)) found)
 
-  pub numbered_has : (xs : List A) (n : ℕ) (x : A) → numbered n xs ≡ Some x → Has (with_numbers xs) (n, x)
+  pub numbered_has : (xs : List A) (n : ℕ) (x : A) → item_numbered n xs ≡ Some x → Has (with_numbers xs) (n, x)
   numbered_has xs zero x found = absurd cc
   numbered_has xs (suc i) x found = item_has 1 xs i x (suc i) (omega arith) found
 
@@ -58,6 +58,6 @@ module _ {A : Type 0} where
   without_numbers k (x ∷ xs) = ap (λ (ys : List A). x ∷ ys) (without_numbers (suc k) xs)
 
   module _ (read : Row → Option (ℕ × A)) (row : ℕ × A → Row) where
-    pub numbered_back : (xs : List A) → ((n : ℕ) (x : A) → numbered n xs ≡ Some x → read (row (n, x)) ≡ Some (n, x)) → map (λ e. e.1) (filter_map read (map row (with_numbers xs))) ≡ xs
+    pub numbered_back : (xs : List A) → ((n : ℕ) (x : A) → item_numbered n xs ≡ Some x → read (row (n, x)) ≡ Some (n, x)) → map (λ e. e.1) (filter_map read (map row (with_numbers xs))) ≡ xs
     numbered_back xs back =
         ap (map (λ (e : ℕ × A). e.1)) (stored_read read row (with_numbers xs) (λ e has. back e.0 e.1 (has_numbered xs e.0 e.1 has))) ∙ without_numbers 1 xs

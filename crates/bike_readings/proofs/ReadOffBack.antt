@@ -10,7 +10,7 @@ use Rattle.bike_ledger.specs.Ledger.{balance_of, cash_of, revenue_of, refunded_o
 use Rattle.bike_operator.specs.declared.records.Bike.{Bike}
 use Rattle.bike_operator.specs.declared.records.Rental.{Rental}
 use Rattle.bike_operator.specs.declared.records.Order.{Order}
-use Rattle.bike_operator.specs.Operator.{Operator, Station, Truck, Rider, Kept, Key, DockKey, dock_key, key_of, numbered}
+use Rattle.bike_operator.specs.Operator.{Operator, Station, Truck, Rider, Kept, Key, DockKey, dock_key, key_of, item_numbered}
 use Rattle.bike_operator.specs.Counts.{docks_available, docks_broken, available_of}
 use Rattle.bike_operator.specs.Sound.{IsSound, IsSetSystem, HasDock}
 use Rattle.bike_places.specs.Numbers.{disabled_of}
@@ -81,13 +81,13 @@ module _ (s : Operator) (m : Listed) (sound : IsSound s) (listing : IsListing s 
   pub rider_is : (n : ℕ) (r : Rider) → fin.get s.riders n ≡ Some r → rider_read (stored_rider s.entries (n, r)) ≡ Some (n, r, balance_of n s.entries)
   rider_is n r found = rider_reading.full (n, r, balance_of n s.entries) (rider_stored s sound n r found)
 
-  pub rental_is : (n : ℕ) (r : Rental) → numbered n s.rentals ≡ Some r → rental_read (stored_rental s.entries (n, r)) ≡ Some (n, r, refunded_of n s.entries)
+  pub rental_is : (n : ℕ) (r : Rental) → item_numbered n s.rentals ≡ Some r → rental_read (stored_rental s.entries (n, r)) ≡ Some (n, r, refunded_of n s.entries)
   rental_is n r found = rental_reading.full (n, r, refunded_of n s.entries) (rental_stored s sound n r found)
 
-  pub order_is : (n : ℕ) (o : Order) → numbered n s.orders ≡ Some o → order_read (stored_order (n, o)) ≡ Some (n, o)
+  pub order_is : (n : ℕ) (o : Order) → item_numbered n s.orders ≡ Some o → order_read (stored_order (n, o)) ≡ Some (n, o)
   order_is n o found = order_reading.full (n, o) (order_stored s sound n o found)
 
-  pub entry_is : (n : ℕ) (e : Entry) → numbered n s.entries ≡ Some e → entry_read (stored_entry (n, e)) ≡ Some e
+  pub entry_is : (n : ℕ) (e : Entry) → item_numbered n s.entries ≡ Some e → entry_read (stored_entry (n, e)) ≡ Some e
   entry_is n e found =
       let number = (sound.ledger.entries n e found).number_is in
       ap (λ (k : ℕ). entry_read (stored_entry (k, e))) (sym number) ∙ entry_reading.full e (entry_stored s sound n e found)

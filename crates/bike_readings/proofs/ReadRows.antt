@@ -16,7 +16,7 @@ use Rattle.bike_rows.proofs.OrderLemmas.{Rises}
 use Rattle.bike_rows.proofs.TreeLemmas.{by_key_total}
 use Rattle.bike_fixed.specs.Whole.{last_moment}
 use Rattle.bike_catalogue.specs.Rows.{SystemRow}
-use Rattle.bike_operator.specs.Operator.{Operator, numbered}
+use Rattle.bike_operator.specs.Operator.{Operator, item_numbered}
 use Rattle.bike_operator.specs.Sound.{IsSetSystem}
 use Rattle.bike_ledger.specs.Ledger.{cash_of, revenue_of}
 use Rattle.bike_book.specs.declared.version.TheConstants.{NEWEST}
@@ -69,9 +69,9 @@ module _ {A : Type 0} (row : ℕ × A → Row) (read : Row → Option (ℕ × A)
   -- The rows are those of a numbered list.
   pub record AreRowsOfList (xs : List A) : Type 0 where
     pub rows_are : rows ≡ map row (with_numbers xs)
-    pub found : (n : ℕ) (x : A) → numbered n xs ≡ Some x → IsRead read rows (n, x)
+    pub found : (n : ℕ) (x : A) → item_numbered n xs ≡ Some x → IsRead read rows (n, x)
     pub length_is : length xs ≡ length rows
-    pub back : (n : ℕ) (x : A) → numbered n xs ≡ Some x → read (row (n, x)) ≡ Some (n, x)
+    pub back : (n : ℕ) (x : A) → item_numbered n xs ≡ Some x → read (row (n, x)) ≡ Some (n, x)
 
   pub read_list : Rises (by_key_total 1) rows → ((r : Row) → Has rows r → IsStored read row r) → ((r : Row) → Has rows r → (x : A) × (read r ≡ Some (lesser 1 (take 1 r) rows + 1, x)))
       → AreRowsOfList (map (λ e. e.1) (filter_map read rows))

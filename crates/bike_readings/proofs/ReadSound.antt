@@ -23,7 +23,7 @@ use Rattle.bike_operator.specs.declared.records.Bike.{Bike}
 use Rattle.bike_operator.specs.declared.records.Rental.{Rental}
 use Rattle.bike_operator.specs.declared.records.Closing.{Closing}
 use Rattle.bike_operator.specs.declared.records.Order.{Order}
-use Rattle.bike_operator.specs.Operator.{Operator, Station, Truck, Rider, Kept, Key, DockKey, dock_key, key_of, numbered}
+use Rattle.bike_operator.specs.Operator.{Operator, Station, Truck, Rider, Kept, Key, DockKey, dock_key, key_of, item_numbered}
 use Rattle.bike_operator.specs.Counts.{is_open, open_rentals}
 use Rattle.bike_operator.specs.Sound.{IsSound, IsCatalogueSound, AreBikesSound, AreOrdersSound, AreRentalsSound, IsLedgerSound, IsTypeAt, IsStationAt, HasDock, IsBrokenDock, IsBikeAt, IsPlace, IsTruckAt, IsOrderAt, IsRentalAt, IsRiderNumber, IsEntryAt, IsKept as IsKeptAt, fares_of, fares_in}
 use Rattle.bike_places.proofs.MapLemmas.{there_of}
@@ -100,14 +100,14 @@ module _ (t : Tables) (up : AreInOrder t) (rows : AreGoodRows (operator_of t) t)
   abbrev IsRentalFact : ℕ × Rental → Type 0
   IsRentalFact e = (below : ℕ) × (refunded : ℤ) × IsGoodRental s below (e.0, e.1, refunded)
 
-  rental_fact : (n : ℕ) (r : Rental) → numbered n s.rentals ≡ Some r → IsRentalFact (n, r)
+  rental_fact : (n : ℕ) (r : Rental) → item_numbered n s.rentals ≡ Some r → IsRentalFact (n, r)
   rental_fact n r found =
       let at = (rentals_table t up rows).found n r found in
       let it = mapped (λ (e : ℕ × Rental × ℤ). (e.0, e.1)) (rental_read at.item) (n, r) at.read_is in
       let fact = some_is (IsGoodRental s (below_of Rentals at.item)) (rental_read at.item) it.value (rows Rentals at.item at.has) it.value_is in
       subst IsRentalFact it.part_is (below_of Rentals at.item, it.value.2, fact)
 
-  order_fact : (n : ℕ) (o : Order) → numbered n s.orders ≡ Some o → IsOrderAt s n o
+  order_fact : (n : ℕ) (o : Order) → item_numbered n s.orders ≡ Some o → IsOrderAt s n o
   order_fact n o found =
       let at = (orders_table t up rows).found n o found in
       (some_is (IsGoodOrder s (below_of Orders at.item)) (order_read at.item) (n, o) (rows Orders at.item at.has) at.read_is).good
@@ -115,7 +115,7 @@ module _ (t : Tables) (up : AreInOrder t) (rows : AreGoodRows (operator_of t) t)
   abbrev IsEntryFact : ℕ × Entry → Type 0
   IsEntryFact e = IsEntryAt s e.0 e.1 × IsOneFare s e.1 e.1.kind
 
-  entry_fact : (n : ℕ) (e : Entry) → numbered n s.entries ≡ Some e → IsEntryFact (n, e)
+  entry_fact : (n : ℕ) (e : Entry) → item_numbered n s.entries ≡ Some e → IsEntryFact (n, e)
   entry_fact n e found =
       let at = (entries_table t up rows).found n e found in
       let it = mapped (λ (x : Entry). (x.number, x)) (entry_read at.item) (n, e) at.read_is in
@@ -201,16 +201,16 @@ module _ (t : Tables) (up : AreInOrder t) (rows : AreGoodRows (operator_of t) t)
   fare_of_rental e Fare is fare it = it
   fare_of_rental e Refund is fare it = absurd cc
 
-  fare_fact : (rental n : ℕ) (e : Entry) → numbered n s.entries ≡ Some e → is_fare_of rental e ≡ true → IsFareOf s rental e.amount × IsFirstFare s n rental
+  fare_fact : (rental n : ℕ) (e : Entry) → item_numbered n s.entries ≡ Some e → is_fare_of rental e ≡ true → IsFareOf s rental e.amount × IsFirstFare s n rental
   fare_fact rental n e found passes =
       let parts = fare_parts rental e passes in
       let fact = entry_fact n e found in
       let it = fare_of_rental e e.kind refl parts.0 fact.1 in
       (subst (λ (k : ℕ). IsFareOf s k e.amount) parts.1 it.0, subst (λ (k : ℕ). IsFirstFare s k rental) fact.0.number_is (subst (λ (k : ℕ). IsFirstFare s e.number k) parts.1 it.1))
 
-  rental_booked : (n : ℕ) (r : Rental) → numbered n s.rentals ≡ Some r → (c : Option Closing) → r.closing ≡ c → HasFare s n c → fares_of n s.entries ≡ fares_in c
+  rental_booked : (n : ℕ) (r : Rental) → item_numbered n s.rentals ≡ Some r → (c : Option Closing) → r.closing ≡ c → HasFare s n c → fares_of n s.entries ≡ fares_in c
   rental_booked n r found None is booked = no_fares n s.entries (λ i e there. go i e there (is_fare_of n e) refl) where
-    go : (i : ℕ) (e : Entry) → numbered i s.entries ≡ Some e → (b : Bool) → is_fare_of n e ≡ b → is_fare_of n e ≡ false
+    go : (i : ℕ) (e : Entry) → item_numbered i s.entries ≡ Some e → (b : Bool) → is_fare_of n e ≡ b → is_fare_of n e ≡ false
     go i e there false fails = fails
     go i e there true passes =
         let it = (fare_fact n i e there passes).0 in
@@ -219,7 +219,7 @@ module _ (t : Tables) (up : AreInOrder t) (rows : AreGoodRows (operator_of t) t)
         let closed : ◌≡◌ {A = Option Closing} (Some it.closing) None = sym it.closed ∙ ap (λ (x : Rental). x.closing) row ∙ is in
         absurd cc
   rental_booked n r found (Some c) is booked = one_fare n c.fare s.entries booked each once where
-    each : (i : ℕ) (e : Entry) → numbered i s.entries ≡ Some e → is_fare_of n e ≡ true → e.amount ≡ c.fare
+    each : (i : ℕ) (e : Entry) → item_numbered i s.entries ≡ Some e → is_fare_of n e ≡ true → e.amount ≡ c.fare
     each i e there passes =
         let it = (fare_fact n i e there passes).0 in
         let same : ◌≡◌ {A = Option Rental} (Some it.row) (Some r) = sym it.found ∙ found in
@@ -228,10 +228,10 @@ module _ (t : Tables) (up : AreInOrder t) (rows : AreGoodRows (operator_of t) t)
         let closing : it.closing ≡ c = cc in
         it.fare_is ∙ ap (λ (x : Closing). x.fare) closing
 
-    once : (a b : ℕ) (x y : Entry) → a < b → numbered a s.entries ≡ Some x → numbered b s.entries ≡ Some y → is_fare_of n x ≡ true → is_fare_of n y ≡ true → ⊥
+    once : (a b : ℕ) (x y : Entry) → a < b → item_numbered a s.entries ≡ Some x → item_numbered b s.entries ≡ Some y → is_fare_of n x ≡ true → is_fare_of n y ≡ true → ⊥
     once a b x y less fx fy px py = let kind = fare_parts n x px in (fare_fact n b y fy py).1 a x less fx kind.0 kind.1
 
-  pub rental_sound : (n : ℕ) (r : Rental) → numbered n s.rentals ≡ Some r → IsRentalAt s n r
+  pub rental_sound : (n : ℕ) (r : Rental) → item_numbered n s.rentals ≡ Some r → IsRentalAt s n r
   rental_sound n r found =
       let it = (rental_fact n r found).2 in
       record {
@@ -245,7 +245,7 @@ module _ (t : Tables) (up : AreInOrder t) (rows : AreGoodRows (operator_of t) t)
         refunded = it.refunded;
       }
 
-  riding : (a b : ℕ) (q r : Rental) → numbered a s.rentals ≡ Some q → numbered b s.rentals ≡ Some r → is_open q ≡ true → is_open r ≡ true → q.rider ≡ r.rider → a ≡ b
+  riding : (a b : ℕ) (q r : Rental) → item_numbered a s.rentals ≡ Some q → item_numbered b s.rentals ≡ Some r → is_open q ≡ true → is_open r ≡ true → q.rider ≡ r.rider → a ≡ b
   riding a b q r fq fr oq or same =
       let rider = there_of (fin.get s.riders r.rider) (rental_sound b r fr).rider_is in
       (rider_fact r.rider rider.0 rider.1).riding_once a b (record { row = q; found = fq; not_closed = oq; rider_is = same }) (record { row = r; found = fr; not_closed = or; rider_is = refl })

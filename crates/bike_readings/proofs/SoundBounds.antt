@@ -16,7 +16,7 @@ use Rattle.bike_operator.specs.declared.records.Bike.{Bike}
 use Rattle.bike_operator.specs.declared.records.Rental.{Rental}
 use Rattle.bike_operator.specs.declared.records.Closing.{Closing}
 use Rattle.bike_operator.specs.declared.records.Order.{Order}
-use Rattle.bike_operator.specs.Operator.{Operator, Station, Truck, Rider, item_at, numbered}
+use Rattle.bike_operator.specs.Operator.{Operator, Station, Truck, Rider, item_at, item_numbered}
 use Rattle.bike_operator.specs.Counts.{count, docks_up_to, docks_broken, available_of, is_broken}
 use Rattle.bike_operator.specs.View.{has_end}
 use Rattle.bike_operator.specs.Sound.{IsSetSystem, HasDock, IsPlace, IsStop as IsStopOf, IsOpenOrClosed, IsBooking, IsSound}
@@ -33,7 +33,7 @@ some_there : {A P : Type 0} (o : Option A) → is_some o ≡ true → ((x : A) �
 some_there None e k = absurd cc
 some_there (Some x) e k = k x refl
 
-number_least : {A : Type 0} (n : ℕ) (xs : List A) (x : A) → numbered n xs ≡ Some x → 1 ≤ n
+number_least : {A : Type 0} (n : ℕ) (xs : List A) (x : A) → item_numbered n xs ≡ Some x → 1 ≤ n
 number_least zero xs x e = absurd cc
 number_least (suc n) xs x e = omega arith
 
@@ -68,20 +68,20 @@ module _ (s : Operator) (sound : IsSound s) where
   bike_number : (n : ℕ) → fin.contains_key s.bikes n ≡ true → IsNumbered n
   bike_number n there = some_there (fin.get s.bikes n) there (λ b found. let it = sound.bikes.bikes n b found in (it.low, it.high))
 
-  rental_number : (n : ℕ) (r : Rental) → numbered n s.rentals ≡ Some r → IsSerial n
+  rental_number : (n : ℕ) (r : Rental) → item_numbered n s.rentals ≡ Some r → IsSerial n
   rental_number n r found =
       let few = sound.rentals.few_rentals in
       let most = sound.ledger.few_entries in
       let within = number_within n s.rentals r found in
       (number_least n s.rentals r found, omega (arith, few, most, within))
 
-  order_number : (n : ℕ) (o : Order) → numbered n s.orders ≡ Some o → IsSerial n
+  order_number : (n : ℕ) (o : Order) → item_numbered n s.orders ≡ Some o → IsSerial n
   order_number n o found =
       let most = sound.orders.few_orders in
       let within = number_within n s.orders o found in
       (number_least n s.orders o found, omega (arith, most, within))
 
-  entry_number : (n : ℕ) (e : Entry) → numbered n s.entries ≡ Some e → IsSerial n
+  entry_number : (n : ℕ) (e : Entry) → item_numbered n s.entries ≡ Some e → IsSerial n
   entry_number n e found =
       let most = sound.ledger.few_entries in
       let within = number_within n s.entries e found in
@@ -140,7 +140,7 @@ module _ (s : Operator) (sound : IsSound s) where
       let broken = filtered_within (λ n. is_broken s id n) (docks_up_to x.row.docks) in
       record { id_is = it.id_is; good = it.good; reported = by_now x.reported it.by_now; good_broken = omega (arith, few, all, broken) }
 
-  carried : (truck order : ℕ) (row : Order) → numbered order s.orders ≡ Some row → row.truck ≡ truck → IsNumbered truck × IsSerial order
+  carried : (truck order : ℕ) (row : Order) → item_numbered order s.orders ≡ Some row → row.truck ≡ truck → IsNumbered truck × IsSerial order
   carried truck order row found is =
       let has = (sound.orders.orders order row found).truck_is in
       let it = sound.orders.trucks row.truck has.row has.found in
@@ -171,7 +171,7 @@ module _ (s : Operator) (sound : IsSound s) where
   closing_stored number r None it = tt
   closing_stored number r (Some c) it = record { to_station = stop_stored c.to_station it.stop; finish = by_now c.finish it.by_now; fare = (it.low, it.high) }
 
-  pub rental_stored : (number : ℕ) (r : Rental) → numbered number s.rentals ≡ Some r → IsStoredRental number r
+  pub rental_stored : (number : ℕ) (r : Rental) → item_numbered number s.rentals ≡ Some r → IsStoredRental number r
   rental_stored number r found =
       let it = sound.rentals.rentals number r found in
       record {
@@ -188,7 +188,7 @@ module _ (s : Operator) (sound : IsSound s) where
   end_stored end.Depot there = tt
   end_stored (end.Station station) there = station_ident station there
 
-  pub order_stored : (number : ℕ) (o : Order) → numbered number s.orders ≡ Some o → IsStoredOrder number o
+  pub order_stored : (number : ℕ) (o : Order) → item_numbered number s.orders ≡ Some o → IsStoredOrder number o
   order_stored number o found =
       let it = sound.orders.orders number o found in
       let has = it.truck_is in
@@ -216,7 +216,7 @@ module _ (s : Operator) (sound : IsSound s) where
   booked_amount e Fare it = (it.1, it.2)
   booked_amount e Refund it = it.1
 
-  pub entry_stored : (number : ℕ) (e : Entry) → numbered number s.entries ≡ Some e → IsStoredEntry e
+  pub entry_stored : (number : ℕ) (e : Entry) → item_numbered number s.entries ≡ Some e → IsStoredEntry e
   entry_stored number e found =
       let it = sound.ledger.entries number e found in
       record {

@@ -26,7 +26,7 @@ use Rattle.bike_catalogue.specs.Vehicle.{form_text, propulsion_text}
 use Rattle.bike_texts.specs.declared.ends.OrderEnd.TheVariants as end
 use Rattle.bike_texts.specs.declared.ends.Side.{Side}
 use Rattle.bike_texts.specs.declared.ends.Side.TheVariants.{From, To}
-use Rattle.bike_texts.specs.Fields.{Field, Number, Signed, Fixed, Id, Language, Currency, Name, Ascii, Degrees, Metres, Segments, End, AreSegments, IsGood, AreGood, escaped, segment_text, segment_end_text, segments_text, field_text, fields_text, side_text}
+use Rattle.bike_texts.specs.Fields.{Field, Number, Signed, Fixed, Id, Language, Currency, Name, Ascii, Degrees, Metres, Segments, End, AreSegments, IsGood, AreGood, escapes_of, segment_text, segment_end_text, segments_text, field_text, fields_text, side_text}
 use Rattle.bike_commands.specs.declared.command.Command.{Command}
 use Rattle.bike_commands.specs.declared.command.Command.TheVariants as command
 use Rattle.bike_commands.specs.Commands.{word_of, fields_of, IsCommand, text_of}
@@ -103,24 +103,24 @@ segments_utf8 (s ∷ ss) g = joined_utf8 59 (printed (codes ";") refl) (map segm
 
 -- ---- texts with escapes
 
-escape_utf8 : (c : ℕ) → IsScalar c → IsUtf8 (escaped (encode c))
-unfolding encode escaped
+escape_utf8 : (c : ℕ) → IsScalar c → IsUtf8 (escapes_of (encode c))
+unfolding encode escapes_of
 escape_utf8 c scalar = elim (eqb_tells c 92) [ inl w ↦ at 92 w.1 (printed (codes "\\\\") refl) | inr v ↦ elim (eqb_tells c 9) [ inl w ↦ at 9 w.1 (printed (codes "\\t") refl) | inr x ↦ elim (eqb_tells c 10) [ inl w ↦ at 10 w.1 (printed (codes "\\n") refl) | inr y ↦ elim (eqb_tells c 13) [ inl w ↦ at 13 w.1 (printed (codes "\\r") refl) | inr z ↦ subst IsUtf8 (sym (char_stays c v.1 x.1 y.1 z.1)) (IsUtf8-encode c scalar) ] ] ] ]
   where
-    at : (d : ℕ) → c ≡ d → IsUtf8 (escaped (encode d)) → IsUtf8 (escaped (encode c))
-    at d is h = subst (λ (e : ℕ). IsUtf8 (escaped (encode e))) (sym is) h
+    at : (d : ℕ) → c ≡ d → IsUtf8 (escapes_of (encode d)) → IsUtf8 (escapes_of (encode c))
+    at d is h = subst (λ (e : ℕ). IsUtf8 (escapes_of (encode e))) (sym is) h
 
-escapes_utf8 : (cs : List ℕ) → all_scalars cs ≡ true → IsUtf8 (escaped (encodes cs))
-unfolding escaped
+escapes_utf8 : (cs : List ℕ) → all_scalars cs ≡ true → IsUtf8 (escapes_of (encodes cs))
+unfolding escapes_of
 escapes_utf8 [] h = IsUtf8-nil
 escapes_utf8 (c ∷ cs) h =
     let b = both_hold _ (all_scalars cs) h in
-    subst IsUtf8 (sym (escaped-append (encode c) (encodes cs))) (IsUtf8-append (escaped (encode c)) (escaped (encodes cs)) (escape_utf8 c b.0) (escapes_utf8 cs b.1))
+    subst IsUtf8 (sym (escapes_of-append (encode c) (encodes cs))) (IsUtf8-append (escapes_of (encode c)) (escapes_of (encodes cs)) (escape_utf8 c b.0) (escapes_utf8 cs b.1))
 
-escaped_utf8 : (bs : List ℕ) → is_utf8 bs ≡ true → IsUtf8 (escaped bs)
+escaped_utf8 : (bs : List ℕ) → is_utf8 bs ≡ true → IsUtf8 (escapes_of bs)
 escaped_utf8 bs h =
     let utf8 = IsUtf8-from_is_utf8 bs h in
-    subst (λ (t : List ℕ). IsUtf8 (escaped t)) (encodes-chars bs utf8) (escapes_utf8 (chars bs) (scalars-chars bs utf8))
+    subst (λ (t : List ℕ). IsUtf8 (escapes_of t)) (encodes-chars bs utf8) (escapes_utf8 (chars bs) (scalars-chars bs utf8))
 
 -- ---- fields
 

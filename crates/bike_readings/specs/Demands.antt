@@ -30,7 +30,7 @@ use Rattle.bike_operator.specs.declared.records.Bike.{Bike}
 use Rattle.bike_operator.specs.declared.records.Rental.{Rental}
 use Rattle.bike_operator.specs.declared.records.Closing.{Closing}
 use Rattle.bike_operator.specs.declared.records.Order.{Order}
-use Rattle.bike_operator.specs.Operator.{Operator, Station, Truck, Rider, Kept, Key, numbered}
+use Rattle.bike_operator.specs.Operator.{Operator, Station, Truck, Rider, Kept, Key, item_numbered}
 use Rattle.bike_operator.specs.Counts.{is_open, is_retired, open_rentals, docks_available, docks_broken, available_of}
 use Rattle.bike_operator.specs.Sound.{IsTypeAt, IsStationAt, HasDock, IsTruckAt, IsOrderAt, IsOpenOrClosed, most_refunded, fares_of, IsRiderNumber, IsEntryAt, IsKept}
 use Rattle.bike_places.specs.Numbers.{disabled_of}
@@ -48,7 +48,7 @@ module _ (s : Operator) where
   -- an open rental of the rider, with its number
   pub record IsRiding (rider number : ℕ) : Type 0 where
     pub row : Rental
-    pub found : numbered number s.rentals ≡ Some row
+    pub found : item_numbered number s.rentals ≡ Some row
     pub not_closed : is_open row ≡ true
     pub rider_is : row.rider ≡ rider
 
@@ -61,14 +61,14 @@ module _ (s : Operator) where
   pub record IsFareOf (rental : ℕ) (amount : ℤ) : Type 0 where
     pub row : Rental
     pub closing : Closing
-    pub found : numbered rental s.rentals ≡ Some row
+    pub found : item_numbered rental s.rentals ≡ Some row
     pub closed : row.closing ≡ Some closing
     pub fare_is : amount ≡ closing.fare
 
   -- no entry of a lesser number is a fare of the rental
   abbrev pub IsFirstFare : ℕ → ℕ → Type 0
   IsFirstFare number rental =
-      (other : ℕ) (x : Entry) → other < number → numbered other s.entries ≡ Some x → x.kind ≡ Fare → x.rental ≡ rental → ⊥
+      (other : ℕ) (x : Entry) → other < number → item_numbered other s.entries ≡ Some x → x.kind ≡ Fare → x.rental ≡ rental → ⊥
 
   -- a fare is its rental's, and the first of it
   abbrev pub IsOneFare : Entry → EntryKind → Type 0
@@ -124,7 +124,7 @@ module _ (s : Operator) (below : ℕ) where
   pub record IsGoodSegment (e : List ℕ × ℕ × SegmentRow) : Type 0 where
     pub plan : PlanRow
     pub found : fin.get s.plans e.0 ≡ Some plan
-    pub segment_is : numbered e.1 plan.segments ≡ Some e.2
+    pub segment_is : item_numbered e.1 plan.segments ≡ Some e.2
 
   pub record IsGoodType (e : List ℕ × TypeRow) : Type 0 where
     pub room : below < MOST_TYPES

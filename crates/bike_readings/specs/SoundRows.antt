@@ -6,7 +6,7 @@ use Rattle.bike_ledger.specs.Entries.{Entry}
 use Rattle.bike_operator.specs.declared.records.Bike.{Bike}
 use Rattle.bike_operator.specs.declared.records.Rental.{Rental}
 use Rattle.bike_operator.specs.declared.records.Order.{Order}
-use Rattle.bike_operator.specs.Operator.{Operator, Station, Truck, Rider, item_at, numbered}
+use Rattle.bike_operator.specs.Operator.{Operator, Station, Truck, Rider, item_at, item_numbered}
 use Rattle.bike_operator.specs.Counts.{docks_broken, available_of}
 use Rattle.bike_operator.specs.Sound.{HasDock}
 use Rattle.bike_places.specs.Numbers.{disabled_of}
@@ -25,8 +25,8 @@ pub record HasBounds (s : Operator) : Type 0 where
   pub bikes : (number : ℕ) (b : Bike) → fin.get s.bikes number ≡ Some b → IsStoredBike number b
   pub trucks : (number : ℕ) (t : Truck) → fin.get s.trucks number ≡ Some t → IsStoredTruck number t
   pub riders : (number : ℕ) (r : Rider) → fin.get s.riders number ≡ Some r → IsNumbered number
-  pub rentals : (number : ℕ) (r : Rental) → numbered number s.rentals ≡ Some r → IsStoredRental number r
-  pub orders : (number : ℕ) (o : Order) → numbered number s.orders ≡ Some o → IsStoredOrder number o
-  pub entries : (number : ℕ) (e : Entry) → numbered number s.entries ≡ Some e → IsStoredEntry e
+  pub rentals : (number : ℕ) (r : Rental) → item_numbered number s.rentals ≡ Some r → IsStoredRental number r
+  pub orders : (number : ℕ) (o : Order) → item_numbered number s.orders ≡ Some o → IsStoredOrder number o
+  pub entries : (number : ℕ) (e : Entry) → item_numbered number s.entries ≡ Some e → IsStoredEntry e
   pub counts : (station type_id : List ℕ) → fin.contains_key s.stations station ≡ true → fin.contains_key s.types type_id ≡ true
       → IsStoredCount station type_id (available_of s station type_id) (disabled_of s station type_id)

@@ -14,7 +14,7 @@ use Rattle.bike_operator.specs.Sound.{IsSound}
 use Rattle.bike_laws.proofs.NoOperatorLemmas.{none_sound}
 use Rattle.bike_book.specs.Tables.{Meta}
 use Rattle.bike_schema.specs.Stands.{IsOf}
-use Rattle.bike_feeds.specs.Desk.{DeskValue, shown, IsAt}
+use Rattle.bike_feeds.specs.Desk.{DeskValue, desk_state, IsAt}
 
 sound_of : (db : Database) (s : Operator) → IsOf db s → IsSound s
 sound_of db s (inl none) = subst IsSound (sym none.1) none_sound
@@ -34,6 +34,6 @@ nobody db s empty (inr h) =
 
 -- over memory nothing has to be supposed of a disk
 pub in_memory : {R E : Type 0} (P : DeskValue MemStore × R → Type 0) (o : Result (DeskValue MemStore × R) E)
-    → IfOk o (λ r. HasCleanDisk (shown over_memory r.0) → P r) → IfOk o P
+    → IfOk o (λ r. HasCleanDisk (desk_state over_memory r.0) → P r) → IfOk o P
 in_memory P (Err e) h = tt
 in_memory P (Ok r) h = h (memory_is_clean r.0.conn)

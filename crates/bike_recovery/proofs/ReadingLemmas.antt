@@ -12,7 +12,7 @@ use Rattle.bike_feed_texts.specs.declared.feed.Feed.TheVariants.{StationStatus}
 use Rattle.bike_schema.specs.Stands.{AllLeft, TreesStandFor}
 use Rattle.bike_feeds.specs.DeskFault.{DeskFault}
 use Rattle.bike_feeds.specs.DeskFault.TheVariants.{NoMemory, StoreFailed, Stopped}
-use Rattle.bike_feeds.specs.Desk.{DeskValue, shown, IsAt}
+use Rattle.bike_feeds.specs.Desk.{DeskValue, desk_state, IsAt}
 use Rattle.bike_feeds.specs.Queries.{Queries}
 use Rattle.bike_feeds.specs.Publishing.{IsPublished, IsBegun, LeavesDesk}
 use Rattle.bike_feeds.specs.declared.fault.FeedFault.{FeedFault}
@@ -37,7 +37,7 @@ module _ {S : Type 0} (g : Ghosts S) (old mid new : DeskValue S) (s : Operator) 
 
   -- after that nothing is written
   reads_nothing : (e : DeskFault) (status : Result (Unit {0}) FeedFault) → e ≡ StoreFailed → status ≡ Err (Desk Stopped) → Keeps before written
-      → AllLeft (shown g new) (TreesStandFor s) → ReadsOf g new s bike moment before written (record { place = Err e; status = status })
+      → AllLeft (desk_state g new) (TreesStandFor s) → ReadsOf g new s bike moment before written (record { place = Err e; status = status })
   reads_nothing e (Ok x) stored ends keeps left = absurd (let a = ends in cc)
   reads_nothing e (Err f) stored ends keeps left =
       record {
@@ -54,7 +54,7 @@ module _ {S : Type 0} (g : Ghosts S) (old mid new : DeskValue S) (s : Operator) 
       }
 
   -- what is read of a desk that is at the operator
-  pub reads : (place : Result (Option Place) DeskFault) (status : Result (Unit {0}) FeedFault) → HasCleanDisk (shown g mid) → HasCleanDisk (shown g new)
+  pub reads : (place : Result (Option Place) DeskFault) (status : Result (Unit {0}) FeedFault) → HasCleanDisk (desk_state g mid) → HasCleanDisk (desk_state g new)
       → IsAt g old s → place ≢ Err NoMemory → Asked place → LeavesDesk g mid new status
       → (IsAt g mid s → OnOk status (IsPublished s StationStatus moment before written))
       → (IsAt g mid s → OnErr status (IsBegun s StationStatus moment before written))
@@ -76,6 +76,6 @@ module _ {S : Type 0} (g : Ghosts S) (old mid new : DeskValue S) (s : Operator) 
       }
   reads (Err e) status early clean at none q leaves whole front nothing =
       let stopped = fails_stopped e (λ is. none (ap Err is)) at q in
-      let left : AllLeft (shown g mid) (TreesStandFor s) = λ db h. at.keeps.left db (q.left early s at db h) in
+      let left : AllLeft (desk_state g mid) (TreesStandFor s) = λ db h. at.keeps.left db (q.left early s at db h) in
       reads_nothing e status (fails_stored e (λ is. none (ap Err is)) at q) (leaves.stays stopped).0 (nothing stopped)
-      (subst (λ (d : DeskValue S). AllLeft (shown g d) (TreesStandFor s)) (sym (leaves.stays stopped).1) left)
+      (subst (λ (d : DeskValue S). AllLeft (desk_state g d) (TreesStandFor s)) (sym (leaves.stays stopped).1) left)

@@ -11,7 +11,7 @@ use Rattle.bike_queries.specs.Infos.{place_at}
 use Rattle.bike_feed_texts.specs.declared.feed.Feed.TheVariants.{StationStatus}
 use Rattle.bike_feeds.specs.DeskFault.{DeskFault}
 use Rattle.bike_feeds.specs.DeskFault.TheVariants.{StoreFailed, Stopped}
-use Rattle.bike_feeds.specs.Desk.{DeskValue, shown, IsAt}
+use Rattle.bike_feeds.specs.Desk.{DeskValue, desk_state, IsAt}
 use Rattle.bike_feeds.specs.Publishing.{IsPublished, IsBegun}
 use Rattle.bike_feeds.specs.declared.fault.FeedFault.TheVariants.{SystemMissing, Desk}
 use Rattle.bike_recovery.specs.declared.reading.Reading.{Reading}
@@ -29,7 +29,7 @@ pub record ReadsOf {S : Type 0} (g : Ghosts S) (d : DeskValue S) (s : Operator)
   pub failed : IfErr reading.place (λ e. e ≡ StoreFailed)
   pub stopped : OnErr reading.place (reading.status ≡ Err (Desk Stopped))
   pub unstopped : OnOk reading.place (reading.status ≢ Err (Desk Stopped))
-  pub left : AllLeft (shown g d) (TreesStandFor s)
+  pub left : AllLeft (desk_state g d) (TreesStandFor s)
 
 -- THE PROMISE: what is read is of the operator after such a front, and he is sound: no dock and no rental holds two bicycles.
 abbrev pub ReadsFront : {S : Type 0} → Ghosts S → DeskValue S → Operator → List Call → ℕ → ℕ → ℕ

@@ -6,7 +6,7 @@ ghost use Rattle.sqlite.specs.Held.{state};
 ghost use Rattle.sqlite.specs.Steps.{over_memory};
 ghost use Rattle.sqlite_trees.specs.View.{doubt};
 ghost use Rattle.bike_operator.specs.Operator.{Operator, no_operator};
-ghost use Rattle.bike_feeds.specs.Desk.{shown, IsAt};
+ghost use Rattle.bike_feeds.specs.Desk.{desk_state, IsAt};
 ghost use Rattle.bike_feeds.specs.Adoption.{handed, IsWant};
 ghost use Rattle.bike_feeds.specs.Runs.{IsAfterFront, IsAtFront, Ran, StopsBy};
 ghost use Rattle.bike_schema.specs.Stands.{AllLeft};
@@ -49,14 +49,14 @@ pub fn run_adopt_and_read<S: Alter, T: Alter, W: Write>(
     out: &mut W,
 ) -> (Acknowledged, Result<(Desk<T>, Reading), AdoptFault<T>>)
     requires { left.in_transaction ≡ false }
-    ensures headline { HasCleanDisk (shown S.Store desk.new) → (s : Operator) → IsAt S.Store desk.old s
-        → (shown S.Store desk.new).may_leave (state T.Store left).now.trees
-        → IfOk result.1 (λ r. HasCleanDisk (shown T.Store r.0)
+    ensures headline { HasCleanDisk (desk_state S.Store desk.new) → (s : Operator) → IsAt S.Store desk.old s
+        → (desk_state S.Store desk.new).may_leave (state T.Store left).now.trees
+        → IfOk result.1 (λ r. HasCleanDisk (desk_state T.Store r.0)
         → ReadsFront T.Store r.0 s calls.now (length result.0.replies.items) bike moment (W.contents out.old) (W.contents out.new) r.1) }
-    ensures refused { HasCleanDisk (shown S.Store desk.new) → (s : Operator) → IsAt S.Store desk.old s
-        → (shown S.Store desk.new).may_leave (state T.Store left).now.trees
+    ensures refused { HasCleanDisk (desk_state S.Store desk.new) → (s : Operator) → IsAt S.Store desk.old s
+        → (desk_state S.Store desk.new).may_leave (state T.Store left).now.trees
         → IfErr result.1 (λ e. HasCleanDisk (state T.Store (handed e)) → IsWant e) }
-    ensures ran { HasCleanDisk (shown S.Store desk.new) → (s : Operator) → IsAt S.Store desk.old s
+    ensures ran { HasCleanDisk (desk_state S.Store desk.new) → (s : Operator) → IsAt S.Store desk.old s
         → Ran S.Store desk.new s calls.now result.0.replies.items result.0.end }
     ensures stops { StopsBy desk.old desk.new result.0.end }
 {
@@ -85,10 +85,10 @@ pub enum Lost<S: Alter> {
 
 /// A crash of the desk's store at this moment, and an adoption of what it leaves.
 fn resume<S: Alter + Reopen + Drop>(alloc: Global, desk: Desk<S>) -> Result<Desk<S>, Lost<S>>
-    ensures clean { IfOk result (λ again. doubt (shown S.Store desk).is_clean ≤ doubt (shown S.Store again).is_clean) }
-    ensures front { IfOk result (λ again. HasCleanDisk (shown S.Store again) → (s : Operator) (calls : _) (k : _)
-        → AllLeft (shown S.Store desk) (IsAfterFront s calls k) → IsAtFront S.Store again s calls k) }
-    ensures refused { (s : Operator) (calls : _) (k : _) → (HasCleanDisk (shown S.Store desk) → AllLeft (shown S.Store desk) (IsAfterFront s calls k))
+    ensures clean { IfOk result (λ again. doubt (desk_state S.Store desk).is_clean ≤ doubt (desk_state S.Store again).is_clean) }
+    ensures front { IfOk result (λ again. HasCleanDisk (desk_state S.Store again) → (s : Operator) (calls : _) (k : _)
+        → AllLeft (desk_state S.Store desk) (IsAfterFront s calls k) → IsAtFront S.Store again s calls k) }
+    ensures refused { (s : Operator) (calls : _) (k : _) → (HasCleanDisk (desk_state S.Store desk) → AllLeft (desk_state S.Store desk) (IsAfterFront s calls k))
         → IfErr result (IsOnlyWant S.Store) }
 {
     let conn = match open_again(alloc, desk.close()) {
@@ -113,10 +113,10 @@ pub fn run_crash_and_read<S: Alter + Reopen + Drop, W: Write>(
     out: &mut W,
 ) -> (Acknowledged, Result<(Desk<S>, Reading), Lost<S>>)
     ensures headline { (s : Operator) → IsAt S.Store desk s
-        → IfOk result.1 (λ r. HasCleanDisk (shown S.Store r.0)
+        → IfOk result.1 (λ r. HasCleanDisk (desk_state S.Store r.0)
         → ReadsFront S.Store r.0 s calls.now (length result.0.replies.items) bike moment (W.contents out.old) (W.contents out.new) r.1) }
     ensures replies { (s : Operator) → IsAt S.Store desk s
-        → IfOk result.1 (λ r. HasCleanDisk (shown S.Store r.0) → AreReplies s calls.now result.0.replies.items) }
+        → IfOk result.1 (λ r. HasCleanDisk (desk_state S.Store r.0) → AreReplies s calls.now result.0.replies.items) }
     ensures refused { (s : Operator) → IsAt S.Store desk s → IfErr result.1 (IsOnlyWant S.Store) }
     ensures whole { IsNone result.0.end → length result.0.replies.items ≡ length calls.now }
     ensures stopped { TellsStopped desk.is_stopped result.0.end }

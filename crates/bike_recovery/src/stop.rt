@@ -7,7 +7,7 @@ ghost use Rattle.sqlite_trees.specs.View.{doubt, IsClean};
 ghost use Rattle.sqlite_wal.specs.Files.{image_at};
 ghost use Rattle.sqlite_store.specs.FileStore as store;
 ghost use Rattle.bike_operator.specs.Operator.{Operator};
-ghost use Rattle.bike_feeds.specs.Desk.{shown, IsAt};
+ghost use Rattle.bike_feeds.specs.Desk.{desk_state, IsAt};
 ghost use Rattle.bike_feeds.specs.Runs.{IsAfterFront};
 ghost use Rattle.bike_schema.specs.Stands.{AllLeft};
 ghost use Rattle.bike_recovery.specs.Recovery.{AreReplies, TellsStopped};
@@ -43,12 +43,12 @@ fn resume_files<D: Disk + Drop, F: Start>(
     FileStore<D>,
     Result<Desk<FileStore<FileFrom<F>>>, LostFiles<FileFrom<F>>>,
 )
-    ensures clean { doubt (shown over_files desk).is_clean ≤ doubt (store.view result.0).is_clean }
+    ensures clean { doubt (desk_state over_files desk).is_clean ≤ doubt (store.view result.0).is_clean }
     ensures front { MayHold result.0 (image_at F.Start) → (s : Operator) (calls : _) (k : _)
-        → AllLeft (shown over_files desk) (IsAfterFront s calls k)
-        → IfOk result.1 (λ again. HasCleanDisk (shown over_files again) → IsAtSomeFront over_files again s calls k) }
+        → AllLeft (desk_state over_files desk) (IsAfterFront s calls k)
+        → IfOk result.1 (λ again. HasCleanDisk (desk_state over_files again) → IsAtSomeFront over_files again s calls k) }
     ensures refused { MayHold result.0 (image_at F.Start) → (s : Operator) (calls : _) (k : _)
-        → AllLeft (shown over_files desk) (IsAfterFront s calls k) → IfErr result.1 IsOnlyStorage }
+        → AllLeft (desk_state over_files desk) (IsAfterFront s calls k) → IfErr result.1 IsOnlyStorage }
 {
     let (stopped, opened) = stop_and_open(rt, desk.close(), path, start);
     let conn = match opened {
@@ -82,7 +82,7 @@ pub fn run_stop_and_read<D: Disk + Drop, F: Start, W: Write>(
     Result<(Desk<FileStore<FileFrom<F>>>, Reading), LostFiles<FileFrom<F>>>,
 )
     ensures headline { (s : Operator) → IsAt over_files desk s → MayHold result.1 (image_at F.Start)
-        → IfOk result.2 (λ r. HasCleanDisk (shown over_files r.0)
+        → IfOk result.2 (λ r. HasCleanDisk (desk_state over_files r.0)
         → ReadsSomeFront over_files r.0 s calls.now (length result.0.replies.items) bike moment (W.contents out.old) (W.contents out.new) r.1) }
     ensures replies { (s : Operator) → IsAt over_files desk s → IsClean (store.view result.1)
         → AreReplies s calls.now result.0.replies.items }

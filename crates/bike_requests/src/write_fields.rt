@@ -4,7 +4,7 @@ ghost use Rattle.std.specs.Prelude.{◌≡◌, ◌++◌, ◌∷◌, decimal, OnO
 ghost use Rattle.std.specs.Char.{encode_utf8};
 ghost use Rattle.std.specs.Fmt.{signed_decimal};
 ghost use Rattle.bike_fixed.specs.Text.{micro_text};
-ghost use Rattle.bike_texts.specs.Fields.{escaped, segment_end_text, segment_text, segments_text, end_text};
+ghost use Rattle.bike_texts.specs.Fields.{escapes_of, segment_end_text, segment_text, segments_text, end_text};
 ghost use Rattle.bike_requests.specs.Writing.{others_text};
 
 use bike_catalogue::Segment;
@@ -68,7 +68,7 @@ pub fn put_end(out: &mut String, end: &OrderEnd) -> Result<(), AllocError>
 /// A character, or its escape.
 #[tactic(auto, unfolding(bike_texts::specs::Fields::escaped))]
 fn push_escaped(out: &mut String, c: char) -> Result<(), AllocError>
-    ensures { OnOk result (string_bytes out.new ≡ string_bytes out.old ++ escaped (encode_utf8 c)) }
+    ensures { OnOk result (string_bytes out.new ≡ string_bytes out.old ++ escapes_of (encode_utf8 c)) }
 {
     match c {
         '\\' => out.push_str("\\\\"),
@@ -81,7 +81,7 @@ fn push_escaped(out: &mut String, c: char) -> Result<(), AllocError>
 
 /// The text, where a backslash, a TAB, an LF and a CR are escaped.
 pub fn put_escaped(out: &mut String, text: &str) -> Result<(), AllocError>
-    ensures { OnOk result (string_bytes out.new ≡ string_bytes out.old ++ 9 ∷ escaped text.now) }
+    ensures { OnOk result (string_bytes out.new ≡ string_bytes out.old ++ 9 ∷ escapes_of text.now) }
 {
     out.push('\t')?;
     for c in text.chars() {

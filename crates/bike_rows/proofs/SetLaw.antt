@@ -37,7 +37,7 @@ use Rattle.sqlite.proofs.Callers.{one_permutation, runs_as}
 use Rattle.bike_names.specs.Laws.{Means}
 use Rattle.bike_rows.specs.Keyed.{in_order}
 use Rattle.bike_rows.specs.Layout.{Layout, table_of}
-use Rattle.bike_rows.specs.View.{columns_of, by_key, rows_in, row_with, put_row_by, updated, AreSpread, AreNumbered, IsKeyed}
+use Rattle.bike_rows.specs.View.{columns_of, by_key, rows_in, row_with, put_row_by, rows_after_update, AreSpread, AreNumbered, IsKeyed}
 use Rattle.bike_rows.specs.Stands.{rows_of, Stands, Sets}
 use Rattle.bike_rows.specs.Queries.{table_query, key_tests, key_in}
 use Rattle.bike_rows.proofs.OrderLemmas.{all_has, order_has, has_order}
@@ -169,7 +169,7 @@ module _ (keys : ℕ) (layout : Layout) (tree : ℕ) (schema : Schema) (db next 
   test = passes tree tests order project db params
 
   abbrev Updated : Type 0
-  Updated = IsKeyed keys table (next tree) × (rows_in keys table next ≡ updated keys key change (rows_in keys table db))
+  Updated = IsKeyed keys table (next tree) × (rows_in keys table next ≡ rows_after_update keys key change (rows_in keys table db))
 
   -- WHERE finds the row with the key, and what takes its place has its rowid and its key.
   pub updates_row : (rows : List Row) → Answered tree tests order project db params rows → Applies schema Enforced db (edit_of db table (ids_of rows) Given 1 rows) next → ((r : Row) → Has (db tree) r → suit_all layout.columns (values r) ≡ true)
@@ -238,7 +238,7 @@ pub update_some : (keys : ℕ) (layout : Layout) → IsKeyOf keys layout → (ol
     → ((r : Row) → take keys (columns_of (table_of layout was.tree) r) ≡ map (column r) places) → list_any is_null (key_in at places params) ≡ false → are_exact layout.columns ≡ true → sets_suit sets_of params 0 layout.columns ≡ true
     → ((r : Row) → columns_of (table_of layout was.tree) (rowid r ∷ eval_all (some_terms layout sets_of) (params ∷ r ∷ [])) ≡ change (columns_of (table_of layout was.tree) r))
     → ((r : Row) → take keys (change (columns_of (table_of layout was.tree) r)) ≡ take keys (columns_of (table_of layout was.tree) r)) → IsDatabase old.now → (count : ℕ) → Executes text params old new (Ok count)
-    → Sets old.now new.now keys layout (updated keys (key_in at places params) change (rows_of keys layout.name old.now))
+    → Sets old.now new.now keys layout (rows_after_update keys (key_in at places params) change (rows_of keys layout.name old.now))
 update_some keys layout key old new was text params at places sets_of change means first solid exact suit shows keeps sound count ran =
     let tests = key_tests at places in
     let project = col 1 0 ∷ col 1 0 ∷ some_terms layout sets_of in
@@ -250,8 +250,8 @@ update_some keys layout key old new was text params at places sets_of change mea
     let put = updates_row keys layout was.tree old.now.schema old.now.trees new.now.trees tests [] project params (key_in at places params) values change done.0 answer done.3
     (stored_suits old.now was.at layout was.tree sound was.has.there exact sets_of params suit) (λ r. refl) tested shows keeps was.keyed
     (λ spread numbered. key.holds new.now was.at was.tree (rw done.2 was.has.there) w.sound spread numbered) in
-    sets old.now new.now keys layout was (updated keys (key_in at places params) change (rows_of keys layout.name old.now)) done.2 w.sound done.3.tables put.0 (put.1 ∙ ap (updated keys (key_in at places params) change) (sym (rows_of_is old.now keys layout was)))
+    sets old.now new.now keys layout was (rows_after_update keys (key_in at places params) change (rows_of keys layout.name old.now)) done.2 w.sound done.3.tables put.0 (put.1 ∙ ap (rows_after_update keys (key_in at places params) change) (sym (rows_of_is old.now keys layout was)))
 
 -- what it comes to where the row is there
-pub updated_there : (keys : ℕ) (key : Row) (change : Row → Row) (rows : List Row) (row : Row) → row_with keys key rows ≡ Some row → updated keys key change rows ≡ put_row_by keys (change row) rows
+pub updated_there : (keys : ℕ) (key : Row) (change : Row → Row) (rows : List Row) (row : Row) → row_with keys key rows ≡ Some row → rows_after_update keys key change rows ≡ put_row_by keys (change row) rows
 updated_there keys key change rows row is = ap (λ (o : Option Row). unwrap_or (option_map (λ r. put_row_by keys (change r) rows) o) rows) is

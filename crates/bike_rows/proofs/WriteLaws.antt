@@ -19,7 +19,7 @@ use Rattle.sqlite.specs.State.{State, Executes, ExecutesInside, Shows}
 use Rattle.bike_names.specs.Inserts.{IsInsert}
 use Rattle.bike_names.proofs.InsertLaws.{insert_is}
 use Rattle.bike_rows.specs.Layout.{Layout, table_of}
-use Rattle.bike_rows.specs.View.{columns_of, IsFree, put_row_by, replaced, updated}
+use Rattle.bike_rows.specs.View.{columns_of, IsFree, put_row_by, rows_after_replacement, rows_after_update}
 use Rattle.bike_rows.specs.Stands.{rows_of, Stands, Sets}
 use Rattle.bike_rows.specs.Queries.{table_query, key_tests, key_in}
 use Rattle.bike_rows.proofs.ListLemmas.{map_map, map_same}
@@ -47,11 +47,11 @@ Inserts keys layout text row = Changes keys layout text row (put_row_by keys row
 
 -- an UPDATE of all columns of the row with this row's key, if it is there
 abbrev pub Replaces : ℕ → Layout → List ℕ → Row → Type 1
-Replaces keys layout text row = Changes keys layout text row (replaced keys row) (λ rows. Unit {0})
+Replaces keys layout text row = Changes keys layout text row (rows_after_replacement keys row) (λ rows. Unit {0})
 
 -- an UPDATE of the row with this key, if it is there
 abbrev pub Updates : ℕ → Layout → List ℕ → Row → Row → (Row → Row) → Type 1
-Updates keys layout text params key change = Changes keys layout text params (updated keys key change) (λ rows. Unit {0})
+Updates keys layout text params key change = Changes keys layout text params (rows_after_update keys key change) (λ rows. Unit {0})
 
 -- ---- the row whose columns are the parameters, in order
 

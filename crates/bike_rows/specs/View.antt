@@ -39,12 +39,12 @@ abbrev pub put_row_by : ℕ → Row → List Row → List Row
 put_row_by keys = put_in (by_key keys)
 
 -- the rows with this one in place of the row with its key, and unchanged if there is none
-abbrev pub replaced : ℕ → Row → List Row → List Row
-replaced keys row rows = if is_some (row_with keys (take keys row) rows) then put_row_by keys row rows else rows
+abbrev pub rows_after_replacement : ℕ → Row → List Row → List Row
+rows_after_replacement keys row rows = if is_some (row_with keys (take keys row) rows) then put_row_by keys row rows else rows
 
 -- the rows with what `change` makes of the row with this key in its place, and unchanged if there is none
-abbrev pub updated : ℕ → Row → (Row → Row) → List Row → List Row
-updated keys key change rows = unwrap_or (option_map (λ row. put_row_by keys (change row) rows) (row_with keys key rows)) rows
+abbrev pub rows_after_update : ℕ → Row → (Row → Row) → List Row → List Row
+rows_after_update keys key change rows = unwrap_or (option_map (λ row. put_row_by keys (change row) rows) (row_with keys key rows)) rows
 
 -- the row with this value in this column
 abbrev pub with_value : ℕ → Value → Row → Row

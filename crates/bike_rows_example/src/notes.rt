@@ -3,7 +3,7 @@
 ghost use Rattle.std.specs.Prelude.{◌≡◌, [], ◌∷◌, option_map};
 ghost use Rattle.sqlite.specs.declared.types.Value.TheVariants.{Text};
 ghost use Rattle.sqlite.specs.Values.{or_null};
-ghost use Rattle.bike_rows.specs.View.{put_row_by, replaced, row_with, updated, with_values, IsFree};
+ghost use Rattle.bike_rows.specs.View.{put_row_by, rows_after_replacement, row_with, rows_after_update, with_values, IsFree};
 ghost use Rattle.bike_rows_example.specs.Calls.{Adds, Reads, Writes};
 ghost use Rattle.bike_rows_example.specs.Tables.{note_row};
 
@@ -37,7 +37,7 @@ pub fn update_note<S: Alter>(
     body: Option<&str>,
 ) -> Result<(), Error>
     ensures { let row = note_row author.now title.now (option_map (λ text. text.now) body.entry) in
-        Writes S.Store tx.old.conn tx.new.conn result (λ t. record t { notes = replaced 2 row t.notes }) }
+        Writes S.Store tx.old.conn tx.new.conn result (λ t. record t { notes = rows_after_replacement 2 row t.notes }) }
 {
     run(
         tx,
@@ -55,7 +55,7 @@ pub fn set_body<S: Alter>(
 ) -> Result<(), Error>
     ensures { let body = or_null Text (option_map (λ text. text.now) body.entry) in
         Writes S.Store tx.old.conn tx.new.conn result (λ t. record t {
-          notes = updated 2 (Text author.now ∷ Text title.now ∷ []) (with_values ((2, body) ∷ [])) t.notes;
+          notes = rows_after_update 2 (Text author.now ∷ Text title.now ∷ []) (with_values ((2, body) ∷ [])) t.notes;
         }) }
 {
     run(

@@ -5,7 +5,7 @@ ghost use Rattle.std.specs.Ordering.{is_lt};
 ghost use Rattle.sqlite.specs.declared.types.Value.TheVariants.{Int};
 ghost use Rattle.sqlite.specs.Order.{column, value_cmp};
 ghost use Rattle.sqlite_sql.specs.Aggregate.{count};
-ghost use Rattle.bike_rows.specs.View.{put_row_by, replaced, row_with, rows_where, last_of, IsFree};
+ghost use Rattle.bike_rows.specs.View.{put_row_by, rows_after_replacement, row_with, rows_where, last_of, IsFree};
 ghost use Rattle.bike_rows_example.specs.Calls.{Adds, Reads, Writes};
 ghost use Rattle.bike_rows_example.specs.Lines.{part_and_stock};
 ghost use Rattle.bike_rows_example.specs.Tables.{part_row};
@@ -45,7 +45,7 @@ pub fn update_part<S: Alter>(
     stock: i64,
 ) -> Result<(), Error>
     ensures { Writes S.Store tx.old.conn tx.new.conn result
-        (λ t. record t { parts = replaced 1 (part_row part stock) t.parts }) }
+        (λ t. record t { parts = rows_after_replacement 1 (part_row part stock) t.parts }) }
 {
     run(
         tx,

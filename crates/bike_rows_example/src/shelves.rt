@@ -4,7 +4,7 @@ ghost use Rattle.std.specs.Prelude.{◌≡◌, [], ◌∷◌, Some, length, map,
 ghost use Rattle.sqlite.specs.declared.types.Value.TheVariants.{Int};
 ghost use Rattle.sqlite.specs.Values.{or_null};
 ghost use Rattle.sqlite_sql.specs.Aggregate.{count};
-ghost use Rattle.bike_rows.specs.View.{put_row_by, rows_null, rows_where, updated, with_values, IsFree};
+ghost use Rattle.bike_rows.specs.View.{put_row_by, rows_null, rows_where, rows_after_update, with_values, IsFree};
 ghost use Rattle.bike_rows_example.specs.Calls.{Adds, Reads, Writes};
 ghost use Rattle.bike_rows_example.specs.Lines.{shelf_and_room};
 ghost use Rattle.bike_rows_example.specs.Tables.{shelf_row};
@@ -37,7 +37,7 @@ pub fn set_part<S: Alter>(
     part: Option<i64>,
 ) -> Result<(), Error>
     ensures { Writes S.Store tx.old.conn tx.new.conn result (λ t. record t {
-      shelves = updated 1 (Int shelf ∷ []) (with_values ((1, or_null Int part) ∷ [])) t.shelves;
+      shelves = rows_after_update 1 (Int shelf ∷ []) (with_values ((1, or_null Int part) ∷ [])) t.shelves;
     }) }
 {
     run(

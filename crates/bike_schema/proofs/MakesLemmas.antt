@@ -10,7 +10,7 @@ use Rattle.sqlite.specs.declared.error.Error.{Error}
 use Rattle.sqlite.specs.Held.{Held, state}
 use Rattle.sqlite.specs.State.{State, ExecutesInside}
 use Rattle.bike_rows.specs.Outcome.{ToldAs}
-use Rattle.bike_rows.specs.View.{put_row_by, updated, with_values, IsFree}
+use Rattle.bike_rows.specs.View.{put_row_by, rows_after_update, with_values, IsFree}
 use Rattle.bike_rows.specs.Runs.{RunsInside}
 use Rattle.bike_rows.proofs.CallLaws.{Does, insert_returns}
 use Rattle.bike_rows.proofs.WriteLaws.{Inserts, Updates, changes_inside}
@@ -117,11 +117,11 @@ pub sets_columns : (t : TableName) {text : List ℕ} {params : Row} (key : Row) 
     → Does IsOurs (λ db. WasFree (Set t key columns) (tables_of db)) (Puts (Set t key columns ∷ [])) text params
 sets_columns t {text} {params} key columns it = record { does = λ old new ours r ran. on_ok_weaker r (puts old new ours) (changes_inside it old new ours.sound (ours.has t) r ran) }
   where
-    puts : (old new : State) (ours : IsOurs old.now) → Continues old new × Sets old.now new.now (keys_of t) (layout_of t) (updated (keys_of t) key (with_values columns) (rows_of (keys_of t) (name_of t) old.now)) × Unit {0}
+    puts : (old new : State) (ours : IsOurs old.now) → Continues old new × Sets old.now new.now (keys_of t) (layout_of t) (rows_after_update (keys_of t) key (with_values columns) (rows_of (keys_of t) (name_of t) old.now)) × Unit {0}
         → Puts (Set t key columns ∷ []) old new × WasFree (Set t key columns) (tables_of old.now)
     puts old new ours done =
         let w = Set t key columns in
-        let set = subst (λ rows. Sets old.now new.now (keys_of t) (layout_of t) (updated (keys_of t) key (with_values columns) rows)) (sym (rows_of_table old.now t)) done.1 in
+        let set = subst (λ rows. Sets old.now new.now (keys_of t) (layout_of t) (rows_after_update (keys_of t) key (with_values columns) rows)) (sym (rows_of_table old.now t)) done.1 in
         (record { continues = done.0; makes = sets_makes old.now new.now w ours.has set }, tt)
 
 -- What a function of one statement tells, from what its text does and what the engine makes of it. The values that it sends compute to the parameters.

@@ -23,7 +23,7 @@ use Rattle.bike_judges.proofs.StretchLaw.{AreAccounts, AreItems}
 use Rattle.bike_judges.proofs.QueryLaws.{stations_verdict, stored_whole}
 use Rattle.bike_judges.proofs.LeastLaw.{least_verdict}
 use Rattle.bike_station_rules.specs.StationRows.{is_good_station}
-use Rattle.bike_station_rules.specs.Stations.{begins, more, good, key, owner, opened}
+use Rattle.bike_station_rules.specs.Stations.{begins, more, good, key, owner, station_opening}
 use Rattle.bike_station_rules.specs.StationVerdicts.{FindsByRow, FindsByNumber, meta_in, now_in, is_accounted}
 use Rattle.bike_station_rules.specs.declared.account.StationAccount.{StationAccount}
 use Rattle.bike_station_rules.proofs.Folds.{others_same, in_any_order}
@@ -67,11 +67,11 @@ are_accounts = record {
   commutes = in_any_order;
 }
   where
-    not_item : (row : Row) (o : Option (List ℕ × Station × ℤ × ℕ)) → opened (station_line row) o ≡ Item → ⊥
+    not_item : (row : Row) (o : Option (List ℕ × Station × ℤ × ℕ)) → station_opening (station_line row) o ≡ Item → ⊥
     not_item row None e = cc
     not_item row (Some x) e = cc
 
-    opens : (row : Row) (o : Option (List ℕ × Station × ℤ × ℕ)) (a : StationAccount) → opened (station_line row) o ≡ Head a → owner a ≡ column row 0
+    opens : (row : Row) (o : Option (List ℕ × Station × ℤ × ℕ)) (a : StationAccount) → station_opening (station_line row) o ≡ Head a → owner a ≡ column row 0
     opens row None a e = absurd cc
     opens row (Some x) a e =
         let same : a ≡ record { head = station_line row; docks = x.1.row.docks; free = x.2; broken = x.3; is_broken = replicate 201 false; is_taken = replicate 201 false } = cc in

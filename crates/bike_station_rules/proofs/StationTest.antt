@@ -34,7 +34,7 @@ use Rattle.bike_judges.specs.Lines.{part, nulls, station_line, station_dock_line
 use Rattle.bike_judges.specs.Passes.{is_good_with}
 use Rattle.bike_station_rules.specs.DockSets.{has_bit, many_in, many_in_neither}
 use Rattle.bike_station_rules.specs.Docked.{dock_of, docked_in}
-use Rattle.bike_station_rules.specs.Stations.{is_same_text, broken_dock, broken_at, taken_at, owner, of_owner, opened, begins, more, good, key}
+use Rattle.bike_station_rules.specs.Stations.{is_same_text, broken_dock, broken_at, taken_at, owner, of_owner, station_opening, begins, more, good, key}
 use Rattle.bike_station_rules.specs.declared.account.StationAccount.{StationAccount}
 use Rattle.bike_station_rules.proofs.Lookups.{entries_read}
 use Rattle.bike_station_rules.proofs.DockTest.{AreWide, take_front}
@@ -241,17 +241,17 @@ module _ (t : Tables) (up : AreInOrder t) (wide : AreWide t) where
   head_reads : (row : Row) → Has t.stations row → part 3 11 (station_line row) ≡ row
   head_reads row has = take_front 11 row [] (wide Stations row has)
 
-  opens : (row : Row) → Has t.stations row → (n : ℕ) → with_all n row ≡ is_good_with begins more good key (take 1) all_items n (opened (station_line row) (station_read row))
-  opens row has n = ap (λ (x : Row). is_good_with begins more good key (take 1) all_items n (opened (station_line row) (station_read x))) (head_reads row has)
+  opens : (row : Row) → Has t.stations row → (n : ℕ) → with_all n row ≡ is_good_with begins more good key (take 1) all_items n (station_opening (station_line row) (station_read row))
+  opens row has n = ap (λ (x : Row). is_good_with begins more good key (take 1) all_items n (station_opening (station_line row) (station_read x))) (head_reads row has)
 
   pub with_all_good : (row : Row) → Has t.stations row → (n : ℕ) → with_all n row ≡ true → IsSomeAnd (station_read row) HasNumbers
   with_all_good row has n is = go (station_read row) refl (sym (opens row has n) ∙ is) where
-    go : (o : Option (List ℕ × Station × ℤ × ℕ)) → station_read row ≡ o → is_good_with begins more good key (take 1) all_items n (opened (station_line row) o) ≡ true → IsSomeAnd o HasNumbers
+    go : (o : Option (List ℕ × Station × ℤ × ℕ)) → station_read row ≡ o → is_good_with begins more good key (take 1) all_items n (station_opening (station_line row) o) ≡ true → IsSomeAnd o HasNumbers
     go None e g = absurd cc
     go (Some x) e g = numbers_good row x e n g
 
   pub good_with_all : (row : Row) → Has t.stations row → (n : ℕ) → IsSomeAnd (station_read row) HasNumbers → with_all n row ≡ true
   good_with_all row has n numbers = opens row has n ∙ go (station_read row) refl numbers where
-    go : (o : Option (List ℕ × Station × ℤ × ℕ)) → station_read row ≡ o → IsSomeAnd o HasNumbers → is_good_with begins more good key (take 1) all_items n (opened (station_line row) o) ≡ true
+    go : (o : Option (List ℕ × Station × ℤ × ℕ)) → station_read row ≡ o → IsSomeAnd o HasNumbers → is_good_with begins more good key (take 1) all_items n (station_opening (station_line row) o) ≡ true
     go None e h = absurd h
     go (Some x) e h = good_numbers row x e n h

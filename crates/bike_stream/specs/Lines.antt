@@ -26,6 +26,6 @@ abbrev pub IsFree : List ℕ → Type 0
 IsFree bytes = has_feed bytes ≡ false
 
 -- the lines, each with a line feed at its end
-abbrev pub joined : List (List ℕ) → List ℕ
-joined [] = []
-joined (line ∷ lines) = line ++ 10 ∷ joined lines
+abbrev pub lines_text : List (List ℕ) → List ℕ
+lines_text [] = []
+lines_text (line ∷ lines) = line ++ 10 ∷ lines_text lines

@@ -3,5 +3,5 @@ use Rattle.std.specs.Prelude.{ℤ, codes}
 use Rattle.bike_json.specs.Tree.{Tree, object, whole, no_members, member}
 
 -- a row with its number
-abbrev pub numbered : ℤ → Tree
-numbered z = object (member (codes "n") (whole z) no_members)
+abbrev pub row_object : ℤ → Tree
+row_object z = object (member (codes "n") (whole z) no_members)

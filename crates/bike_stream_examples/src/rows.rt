@@ -2,7 +2,7 @@
 ghost use Rattle.std.specs.Prelude.{◌≡◌, ◌<◌, ◌++◌, ◌∷◌, [], ℤ, List, false, IsTrue, length, IfOk, OnOk, OnErr, MatchOption};
 ghost use Rattle.std.specs.Io.KnownBytes.{Appends};
 ghost use Rattle.bike_stream.specs.Writing.{AppendsFront};
-ghost use Rattle.bike_stream_examples.specs.Numbered.{numbered};
+ghost use Rattle.bike_stream_examples.specs.Numbered.{row_object};
 ghost use Rattle.bike_json.specs.Rows.{items, WroteFront};
 ghost use Rattle.bike_json.specs.State.{Wrote, IsAt, takes_value, takes_array_end, has_more, after_value};
 ghost use Rattle.bike_json.specs.Tree.{comma, text_of, items_text, array};
@@ -34,7 +34,7 @@ pub trait RowSource {
 fn write_row<W: Output>(json: &mut JsonState, out: &mut W, number: i64)
     requires value { IsTrue (takes_value json.old.top) }
     requires room { length json.old.round < 16 }
-    ensures wrote { Wrote json.old json.new (W.contents out.old) (W.contents out.new) (comma (has_more json.old.top) ++ text_of (numbered number)) }
+    ensures wrote { Wrote json.old json.new (W.contents out.old) (W.contents out.new) (comma (has_more json.old.top) ++ text_of (row_object number)) }
     ensures place { IsAt json.new (after_value json.old.top) json.old.round }
 {
     let _ = json.begin_object(out);
@@ -51,9 +51,9 @@ fn write_rows<W: Output, S: RowSource>(
 ) -> Result<(), RowFault>
     requires start { json.old.top ≡ Level.EmptyArray }
     requires room { length json.old.round < 16 }
-    ensures wrote { OnOk result (Wrote json.old json.new (W.contents out.old) (W.contents out.new) (items_text false (items numbered (S.left source.old)))) }
+    ensures wrote { OnOk result (Wrote json.old json.new (W.contents out.old) (W.contents out.new) (items_text false (items row_object (S.left source.old)))) }
     ensures place { OnOk result (IsTrue (takes_array_end json.new.top) × (json.new.round ≡ json.old.round)) }
-    ensures front { OnErr result (WroteFront json.old json.new (W.contents out.old) (W.contents out.new) (items_text false (items numbered (S.left source.old)))) }
+    ensures front { OnErr result (WroteFront json.old json.new (W.contents out.old) (W.contents out.new) (items_text false (items row_object (S.left source.old)))) }
 {
     while let Some(row) = source.next()? {
         write_row(json, out, row);
@@ -63,9 +63,9 @@ fn write_rows<W: Output, S: RowSource>(
 
 /// Writes the rows as an array, and gives the text's length. After a fault a front of that text is written.
 pub fn write_report<W: Write, S: RowSource>(out: &mut W, source: &mut S) -> Result<u64, ReportFault>
-    ensures ok { IfOk result (λ count. Appends (W.contents out.old) (W.contents out.new) (text_of (array (items numbered (S.left source.old))))
-        × (count ≡ length (text_of (array (items numbered (S.left source.old)))))) }
-    ensures err { OnErr result (AppendsFront (W.contents out.old) (W.contents out.new) (text_of (array (items numbered (S.left source.old))))) }
+    ensures ok { IfOk result (λ count. Appends (W.contents out.old) (W.contents out.new) (text_of (array (items row_object (S.left source.old))))
+        × (count ≡ length (text_of (array (items row_object (S.left source.old)))))) }
+    ensures err { OnErr result (AppendsFront (W.contents out.old) (W.contents out.new) (text_of (array (items row_object (S.left source.old))))) }
 {
     let mut json = JsonState::new();
     let _ = json.begin_array(out);
@@ -83,7 +83,7 @@ pub fn write_report<W: Write, S: RowSource>(out: &mut W, source: &mut S) -> Resu
 
 /// The length of the text that `write_report` writes.
 pub fn report_length<S: RowSource>(source: &mut S) -> Result<u64, ReportFault>
-    ensures { IfOk result (λ count. count ≡ length (text_of (array (items numbered (S.left source.old))))) }
+    ensures { IfOk result (λ count. count ≡ length (text_of (array (items row_object (S.left source.old))))) }
 {
     write_report(&mut io::sink(), source)
 }

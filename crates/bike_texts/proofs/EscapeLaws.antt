@@ -3,7 +3,7 @@ use Rattle.std.proofs.Common.{◌≡◌, ◌≢◌, ℕ, List, [], ◌∷◌, �
 use Rattle.std.proofs.lemmas.Option.{option_and_then_some, cond_some, same_Some}
 use Rattle.std.proofs.lemmas.Bool.Decides.{eqb_tells}
 use Rattle.bike_fields.specs.Bytes.{is_name, is_ascii_field, name_of, ascii_of}
-use Rattle.bike_texts.specs.Fields.{escape, escaped}
+use Rattle.bike_texts.specs.Fields.{escape, escapes_of}
 use Rattle.bike_texts.specs.Reading.{◌>>=◌}
 use Rattle.bike_texts.specs.Escapes.{meant_by, is_break, onto, unescape_behind, unescape, name_at, ascii_at}
 
@@ -11,12 +11,12 @@ use Rattle.bike_texts.specs.Escapes.{meant_by, is_break, onto, unescape_behind, 
 abbrev Tells : ℕ → ℕ → Type 0
 Tells c d = ((eqb c d ≡ true) × (c ≡ d)) ⊎ ((eqb c d ≡ false) × (c ≢ d))
 
-escaped_first : (b : ℕ) (bs : List ℕ) → escaped (b ∷ bs) ≡ escape b ++ escaped bs
-unfolding escaped
+escaped_first : (b : ℕ) (bs : List ℕ) → escapes_of (b ∷ bs) ≡ escape b ++ escapes_of bs
+unfolding escapes_of
 escaped_first b bs = refl
 
-escaped_none : escaped [] ≡ []
-unfolding escaped
+escaped_none : escapes_of [] ≡ []
+unfolding escapes_of
 escaped_none = refl
 
 letter_escape : (c b : ℕ) → meant_by c ≡ Some b → escape b ≡ 92 ∷ c ∷ []
@@ -61,16 +61,16 @@ onto_parts None others a h = absurd cc
 onto_parts (Some b) None a h = absurd cc
 onto_parts (Some b) (Some bs) a h = record { byte = b; bytes = bs; first_is = refl; others_are = refl; whole = same_Some (b ∷ bs) a h }
 
-unescape_sound : (behind : Bool) (text a : List ℕ) → unescape_behind behind text ≡ Some a → backslash behind text ≡ escaped a
-unescape_sound false [] a h = sym escaped_none ∙ ap escaped (same_Some [] a h)
+unescape_sound : (behind : Bool) (text a : List ℕ) → unescape_behind behind text ≡ Some a → backslash behind text ≡ escapes_of a
+unescape_sound false [] a h = sym escaped_none ∙ ap escapes_of (same_Some [] a h)
 unescape_sound true [] a h = absurd cc
 unescape_sound true (c ∷ bs) a h =
     let o = onto_parts (meant_by c) (unescape_behind false bs) a h in
     let r = unescape_sound false bs o.bytes o.others_are in
     let u = letter_escape c o.byte o.first_is in
-    subst (λ (x : List ℕ). 92 ∷ c ∷ bs ≡ escaped x) o.whole (ap (λ (x : List ℕ). 92 ∷ c ∷ x) r ∙ ap (λ (x : List ℕ). x ++ escaped o.bytes) (sym u) ∙ sym (escaped_first o.byte o.bytes))
+    subst (λ (x : List ℕ). 92 ∷ c ∷ bs ≡ escapes_of x) o.whole (ap (λ (x : List ℕ). 92 ∷ c ∷ x) r ∙ ap (λ (x : List ℕ). x ++ escapes_of o.bytes) (sym u) ∙ sym (escaped_first o.byte o.bytes))
 unescape_sound false (c ∷ bs) a h = go (λ e x k. unescape_sound e bs x k) (eqb_tells c 92) (is_break c) refl where
-  go : ((e : Bool) (x : List ℕ) → unescape_behind e bs ≡ Some x → backslash e bs ≡ escaped x) → Tells c 92 → (b : Bool) → is_break c ≡ b → c ∷ bs ≡ escaped a
+  go : ((e : Bool) (x : List ℕ) → unescape_behind e bs ≡ Some x → backslash e bs ≡ escapes_of x) → Tells c 92 → (b : Bool) → is_break c ≡ b → c ∷ bs ≡ escapes_of a
   go again (inl w) b i =
       let n : unescape_behind true bs ≡ Some a = sym (rw w.0 refl) ∙ h in
       ap (λ (x : ℕ). x ∷ bs) w.1 ∙ again true a n
@@ -80,7 +80,7 @@ unescape_sound false (c ∷ bs) a h = go (λ e x k. unescape_sound e bs x k) (eq
       let o = onto_parts (Some c) (unescape_behind false bs) a n in
       let r = again false o.bytes o.others_are in
       let same : c ≡ o.byte = same_Some c o.byte o.first_is in
-      subst (λ (x : List ℕ). c ∷ bs ≡ escaped x) (ap (λ (x : ℕ). x ∷ o.bytes) same ∙ o.whole) (ap (λ (x : List ℕ). c ∷ x) r ∙ ap (λ (x : List ℕ). x ++ escaped o.bytes) (sym (plain_escape c w.0 i)) ∙ sym (escaped_first c o.bytes))
+      subst (λ (x : List ℕ). c ∷ bs ≡ escapes_of x) (ap (λ (x : ℕ). x ∷ o.bytes) same ∙ o.whole) (ap (λ (x : List ℕ). c ∷ x) r ∙ ap (λ (x : List ℕ). x ++ escapes_of o.bytes) (sym (plain_escape c w.0 i)) ∙ sym (escaped_first c o.bytes))
 
 escape_undone : (b : ℕ) (rest : List ℕ) → unescape_behind false (escape b ++ rest) ≡ onto (Some b) (unescape_behind false rest)
 escape_undone b rest = go (eqb_tells b 92) (eqb_tells b 9) (eqb_tells b 10) (eqb_tells b 13) where
@@ -94,30 +94,30 @@ escape_undone b rest = go (eqb_tells b 92) (eqb_tells b 9) (eqb_tells b 10) (eqb
   go (inr v) (inr x) (inr y) (inl w) = at 13 w.1 refl
   go (inr v) (inr x) (inr y) (inr z) = rw (v.0, x.0, y.0, z.0) (rw (v.0, x.0, y.0, z.0) refl)
 
-unescape_full : (a : List ℕ) → unescape (escaped a) ≡ Some a
+unescape_full : (a : List ℕ) → unescape (escapes_of a) ≡ Some a
 unescape_full [] = ap unescape escaped_none
-unescape_full (b ∷ bs) = ap unescape (escaped_first b bs) ∙ escape_undone b (escaped bs) ∙ rw (unescape_full bs) refl
+unescape_full (b ∷ bs) = ap unescape (escaped_first b bs) ∙ escape_undone b (escapes_of bs) ∙ rw (unescape_full bs) refl
 
 -- ---- names and ASCII fields
 
-pub name_sound : (text a : List ℕ) → name_at text ≡ Some a → (text ≡ escaped a) × (is_name a ≡ true)
+pub name_sound : (text a : List ℕ) → name_at text ≡ Some a → (text ≡ escapes_of a) × (is_name a ≡ true)
 unfolding name_at name_of
 name_sound text a e =
     option_and_then_some name_of (unescape text) a e (λ bs u s.
     let c = cond_some (is_name bs) bs a s in
-    subst (λ (x : List ℕ). (text ≡ escaped x) × (is_name x ≡ true)) c.1 (unescape_sound false text bs u, c.0))
+    subst (λ (x : List ℕ). (text ≡ escapes_of x) × (is_name x ≡ true)) c.1 (unescape_sound false text bs u, c.0))
 
-pub name_full : (a : List ℕ) → is_name a ≡ true → name_at (escaped a) ≡ Some a
+pub name_full : (a : List ℕ) → is_name a ≡ true → name_at (escapes_of a) ≡ Some a
 unfolding name_at name_of
 name_full a g = ap (λ o. o >>= name_of) (unescape_full a) ∙ rw g refl
 
-pub ascii_sound : (text a : List ℕ) → ascii_at text ≡ Some a → (text ≡ escaped a) × (is_ascii_field a ≡ true)
+pub ascii_sound : (text a : List ℕ) → ascii_at text ≡ Some a → (text ≡ escapes_of a) × (is_ascii_field a ≡ true)
 unfolding ascii_at ascii_of
 ascii_sound text a e =
     option_and_then_some ascii_of (unescape text) a e (λ bs u s.
     let c = cond_some (is_ascii_field bs) bs a s in
-    subst (λ (x : List ℕ). (text ≡ escaped x) × (is_ascii_field x ≡ true)) c.1 (unescape_sound false text bs u, c.0))
+    subst (λ (x : List ℕ). (text ≡ escapes_of x) × (is_ascii_field x ≡ true)) c.1 (unescape_sound false text bs u, c.0))
 
-pub ascii_full : (a : List ℕ) → is_ascii_field a ≡ true → ascii_at (escaped a) ≡ Some a
+pub ascii_full : (a : List ℕ) → is_ascii_field a ≡ true → ascii_at (escapes_of a) ≡ Some a
 unfolding ascii_at ascii_of
 ascii_full a g = ap (λ o. o >>= ascii_of) (unescape_full a) ∙ rw g refl

@@ -15,7 +15,7 @@ use Rattle.bike_catalogue.specs.declared.vehicle.Propulsion.{Propulsion}
 use Rattle.bike_catalogue.specs.declared.vehicle.Propulsion.TheVariants.{Human, ElectricAssist}
 use Rattle.bike_texts.specs.declared.ends.OrderEnd.TheVariants.{Depot, Station}
 use Rattle.bike_texts.specs.Parts.{Parts}
-use Rattle.bike_texts.specs.Fields.{Field, Number, Signed, Fixed, Id, Language, Currency, Name, Ascii, Degrees, Metres, Segments, End, AreSegments, HasNoTab, IsGood, AreGood, Spells, EachSpells, escape, escaped, segment_text, segment_end_text, segments_text}
+use Rattle.bike_texts.specs.Fields.{Field, Number, Signed, Fixed, Id, Language, Currency, Name, Ascii, Degrees, Metres, Segments, End, AreSegments, HasNoTab, IsGood, AreGood, Spells, EachSpells, escape, escapes_of, segment_text, segment_end_text, segments_text}
 use Rattle.bike_texts.specs.Reading.{part_at}
 use Rattle.bike_texts.proofs.Splitting.{is_tab}
 pub use Rattle.bike_texts.proofs.Absent.{all_weaker}
@@ -49,10 +49,10 @@ escape_no_tab b = elim (eqb_tells b 92) [ inl w ↦ at 92 w.1 refl | inr v ↦ e
     at : (k : ℕ) → b ≡ k → HasNoTab (escape k) → HasNoTab (escape b)
     at k e h = rw e h
 
-escaped_no_tab : (bs : List ℕ) → HasNoTab (escaped bs)
-unfolding escaped
+escaped_no_tab : (bs : List ℕ) → HasNoTab (escapes_of bs)
+unfolding escapes_of
 escaped_no_tab [] = refl
-escaped_no_tab (b ∷ bs) = all_append (λ x. not (eqb x 9)) (escape b) (escaped bs) (escape_no_tab b) (escaped_no_tab bs)
+escaped_no_tab (b ∷ bs) = all_append (λ x. not (eqb x 9)) (escape b) (escapes_of bs) (escape_no_tab b) (escaped_no_tab bs)
 
 -- ---- coordinates
 

@@ -101,9 +101,9 @@ escape b =
     if b == 10 then 92 ∷ 110 ∷ [] else (
     if b == 13 then 92 ∷ 114 ∷ [] else b ∷ [])))
 
-unfoldable pub escaped : List ℕ → List ℕ
-escaped [] = []
-escaped (b ∷ bs) = escape b ++ escaped bs
+unfoldable pub escapes_of : List ℕ → List ℕ
+escapes_of [] = []
+escapes_of (b ∷ bs) = escape b ++ escapes_of bs
 
 -- a segment is START:RATE:INTERVAL:END, and `-` stands for no end
 abbrev pub segment_end_text : Option ℕ → List ℕ
@@ -136,8 +136,8 @@ field_text (Fixed word) = word
 field_text (Id bs) = bs
 field_text (Language bs) = bs
 field_text (Currency bs) = bs
-field_text (Name bs) = escaped bs
-field_text (Ascii bs) = escaped bs
+field_text (Name bs) = escapes_of bs
+field_text (Ascii bs) = escapes_of bs
 field_text (Degrees greatest z) = micro_text z
 field_text (Metres propulsion n) = decimal n
 field_text (Segments ss) = segments_text ss
@@ -152,8 +152,8 @@ Spells (Fixed word) text = text ≡ word
 Spells (Id bs) text = text ≡ bs
 Spells (Language bs) text = text ≡ bs
 Spells (Currency bs) text = text ≡ bs
-Spells (Name bs) text = text ≡ escaped bs
-Spells (Ascii bs) text = text ≡ escaped bs
+Spells (Name bs) text = text ≡ escapes_of bs
+Spells (Ascii bs) text = text ≡ escapes_of bs
 Spells (Metres propulsion n) text = text ≡ decimal n
 Spells (Segments ss) text = text ≡ segments_text ss
 Spells (End end) text = text ≡ end_text end

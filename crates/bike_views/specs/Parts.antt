@@ -5,7 +5,7 @@ use Rattle.bike_texts.specs.declared.ends.OrderEnd.{OrderEnd}
 use Rattle.bike_texts.specs.declared.ends.Side.{Side}
 use Rattle.bike_operator.specs.declared.records.Rental.{Rental}
 use Rattle.bike_operator.specs.declared.view.View.{View}
-use Rattle.bike_operator.specs.Operator.{Operator, numbered}
+use Rattle.bike_operator.specs.Operator.{Operator, item_numbered}
 use Rattle.bike_operator.specs.Counts.{is_riding, order_load, truck_load}
 use Rattle.bike_operator.specs.View.{bike_of, has_end, has_full_ledger, planned_rental, rental_at, rental_of, rider_at, side_view, truck_at}
 use Rattle.bike_facts.specs.declared.stored.StoredNumbers.{StoredNumbers}
@@ -41,7 +41,7 @@ rental_bike s number r = record {
 
 -- the same by the rental's number, where it is there
 abbrev pub rental_bike_at : Operator → ℕ → RentalBike
-rental_bike_at s rental = record { bike = bike_of s (numbered rental s.rentals); rental = rental_at s rental }
+rental_bike_at s rental = record { bike = bike_of s (item_numbered rental s.rentals); rental = rental_at s rental }
 
 -- whether the type and the ends of an order are there
 abbrev pub names_of : Operator → OrderEnd → OrderEnd → List ℕ → OrderNames
@@ -57,7 +57,7 @@ loads_of s truck order = record { truck = truck_at s truck; loaded = truck_load 
 
 -- an order, and the dock at a side of it
 abbrev pub delivery_view : Operator → ℕ → Side → ℕ → View
-delivery_view s order side dock = record (side_view s (numbered order s.orders) side dock) { order = numbered order s.orders }
+delivery_view s order side dock = record (side_view s (item_numbered order s.orders) side dock) { order = item_numbered order s.orders }
 
 -- the numbers where nothing is stored
 abbrev pub no_numbers : StoredNumbers

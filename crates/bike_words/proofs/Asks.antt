@@ -17,7 +17,7 @@ use Rattle.bike_feed_texts.specs.Feeds.{feed_name, feed_of}
 use Rattle.bike_feed_texts.specs.declared.feed.Feed.{Feed as AnyFeed}
 use Rattle.bike_feed_texts.specs.declared.feed.Feed.TheVariants as feeds
 use Rattle.bike_words.specs.Program.{IsWithin, name_of, program, words_for}
-use Rattle.bike_words.specs.Asked.{Ask, Found, Wanted, task_in, task_of, value_in, wanted}
+use Rattle.bike_words.specs.Asked.{Ask, Found, Wanted, task_in, task_of, value_in, want_of}
 use Rattle.bike_words.specs.Asked as want
 use Rattle.bike_words.specs.declared.task.Task.{Task}
 use Rattle.bike_words.specs.declared.task.Task.TheVariants.{Init, Check, Lines, Feed, Day, Import, Serve}
@@ -71,7 +71,7 @@ enters (Serve port count) = record { bare = refl; stops = refl; finds = refl; na
 -- what stands behind the task's word is this task on this file
 record Behind (task : Task) (file : Text) (words : List Marked) : Type 0 where
   free : fault_behind (shape_of (name_of task)) words ≡ []
-  tells : task_in (Some (name_of task, rows_behind (shape_of (name_of task)) words)) ≡ Some (wanted task)
+  tells : task_in (Some (name_of task, rows_behind (shape_of (name_of task)) words)) ≡ Some (want_of task)
   file_is : first_of (codes "file") (rows_behind (shape_of (name_of task)) words) ≡ Some file
 
 asks_by : (task : Task) (file : Text) (words : List Marked) → ArePlain words → Behind task file words → Ask (name_of task ∷ map text_of words) task file

@@ -9,7 +9,7 @@ use Rattle.bike_day_texts.specs.declared.table.DayTable.{DayTable}
 use Rattle.bike_feed_texts.specs.declared.feed.Feed.{Feed as AnyFeed}
 use Rattle.bike_words.specs.Program.{IsWithin}
 use Rattle.bike_words.specs.Asked.{Found, count_in, day_task, feed_in, feed_task, import_in, import_task, moment_in, name_in, number_given, port_in, serve_task}
-use Rattle.bike_words.specs.Asked.{Wanted, Feed, Day, Import, Serve, table_in, task_in, task_of, value_in, wanted}
+use Rattle.bike_words.specs.Asked.{Wanted, Feed, Day, Import, Serve, table_in, task_in, task_of, value_in, want_of}
 use Rattle.bike_words.specs.declared.task.Task.{Task}
 use Rattle.bike_words.specs.declared.task.Task.TheVariants as task
 
@@ -23,7 +23,7 @@ IsGood (Import name at) = (is_ident name ≡ true) × IfSome at (λ seconds. sec
 IsGood (Serve port count) = (port ≤ 65535) × IfSome count (λ n. (1 ≤ n) × (n ≤ 1000000000))
 IsGood _ = Unit
 
-good_within : (task : Task) → IsGood (wanted task) → IsWithin task
+good_within : (task : Task) → IsGood (want_of task) → IsWithin task
 good_within task.Init good = tt
 good_within task.Check good = tt
 good_within task.Lines good = tt
@@ -111,5 +111,5 @@ named_within : (name : Option Text) (found : Found) → IfSome (option_and_then 
 named_within None found = tt
 named_within (Some name) found = task_within name found
 
-pub found_within : (found : Found) (task : Task) → task_in found ≡ Some (wanted task) → IsWithin task
+pub found_within : (found : Found) (task : Task) → task_in found ≡ Some (want_of task) → IsWithin task
 found_within found task is = good_within task (subst (λ (o : Option Wanted). IfSome o IsGood) is (named_within (name_in found) found))

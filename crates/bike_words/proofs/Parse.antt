@@ -10,7 +10,7 @@ use Rattle.clap.specs.declared.error.kind.ErrorKind.TheVariants.{OutOfMemory}
 use Rattle.clap.proofs.WalkLemmas.{first_value-rows}
 use Rattle.clap.proofs.OnLiterals.{clap_on_literals}
 use Rattle.bike_words.specs.Program.{program}
-use Rattle.bike_words.specs.Asked.{AskNothing, Found, task_in, value_in, wanted}
+use Rattle.bike_words.specs.Asked.{AskNothing, Found, task_in, value_in, want_of}
 
 pub value_found : (found : Found) (matched : Matched) (id : Text) → Some (rows_of matched) ≡ option_map (λ it. it.1) found
     → first_value matched id ≡ value_in found id
@@ -53,5 +53,5 @@ faulty texts some task file ask =
 -- .. and what is no task where it hasn't
 pub taskless : (texts : List Text) → task_in (subcommand_of program texts) ≡ None → AskNothing texts
 taskless texts none task file ask =
-    let bad : None ≡ Some (wanted task) = sym none ∙ ask.1.0 in
+    let bad : None ≡ Some (want_of task) = sym none ∙ ask.1.0 in
     absurd cc

@@ -25,14 +25,14 @@ pub data Wanted : Type 0 where
   Import : Text → Option ℕ → Wanted
   Serve : ℕ → Option ℕ → Wanted
 
-abbrev pub wanted : Task → Wanted
-wanted task.Init = Init
-wanted task.Check = Check
-wanted task.Lines = Lines
-wanted (task.Feed feed at) = Feed feed at
-wanted (task.Day table date zone) = Day table date.now zone.now
-wanted (task.Import name at) = Import name.now at
-wanted (task.Serve port count) = Serve port count
+abbrev pub want_of : Task → Wanted
+want_of task.Init = Init
+want_of task.Check = Check
+want_of task.Lines = Lines
+want_of (task.Feed feed at) = Feed feed at
+want_of (task.Day table date zone) = Day table date.now zone.now
+want_of (task.Import name at) = Import name.now at
+want_of (task.Serve port count) = Serve port count
 
 -- what clap finds: the name of a word, with what stands behind it
 abbrev pub Found : Type 0
@@ -105,7 +105,7 @@ task_in found = option_and_then (λ name. task_of name found) (name_in found)
 
 -- what was found is this task on this file
 abbrev pub IsFound : Found → Task → Text → Type 0
-IsFound found task file = (task_in found ≡ Some (wanted task)) × (value_in found (codes "file") ≡ Some file)
+IsFound found task file = (task_in found ≡ Some (want_of task)) × (value_in found (codes "file") ≡ Some file)
 
 abbrev pub IsNothing : Found → Type 0
 IsNothing found = (task : Task) (file : Text) → IsFound found task file → ⊥
@@ -119,4 +119,4 @@ AskNothing texts = (task : Task) (file : Text) → Ask texts task file → ⊥
 
 -- this task on this file is told, where memory isn't refused
 abbrev pub IsTold : Task → Text → Result Words WordsFault → Type 0
-IsTold task file answer = MatchResult answer (λ words. (wanted words.task ≡ wanted task) × (words.file.now ≡ file)) (λ fault. fault ≡ NoMemory)
+IsTold task file answer = MatchResult answer (λ words. (want_of words.task ≡ want_of task) × (words.file.now ≡ file)) (λ fault. fault ≡ NoMemory)

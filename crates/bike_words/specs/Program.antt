@@ -64,8 +64,8 @@ option_words flag None = []
 option_words flag (Some n) = flag ∷ decimal n ∷ []
 
 -- Texts by their places, and the options behind them. Where one of the texts would be taken for an option, they stand behind a `--`.
-abbrev pub placed : List Text → List Text → List Text
-placed texts options = if list_any starts_with_minus texts then options ++ codes "--" ∷ texts else texts ++ options
+abbrev pub words_in_order : List Text → List Text → List Text
+words_in_order texts options = if list_any starts_with_minus texts then options ++ codes "--" ∷ texts else texts ++ options
 
 -- the words for a task on a file, in the usual order
 abbrev pub words_for : Task → Text → List Text
@@ -73,8 +73,8 @@ words_for Init file = codes "init" ∷ file ∷ []
 words_for Check file = codes "check" ∷ file ∷ []
 words_for Lines file = codes "lines" ∷ file ∷ []
 words_for (Feed feed at) file = codes "feed" ∷ file ∷ feed_name feed ∷ option_words (codes "--at") at
-words_for (Day table date zone) file = codes "day" ∷ placed (file ∷ table_name table ∷ date.now ∷ zone.now ∷ []) []
-words_for (Import name at) file = codes "import" ∷ placed (file ∷ name.now ∷ []) (option_words (codes "--at") at)
+words_for (Day table date zone) file = codes "day" ∷ words_in_order (file ∷ table_name table ∷ date.now ∷ zone.now ∷ []) []
+words_for (Import name at) file = codes "import" ∷ words_in_order (file ∷ name.now ∷ []) (option_words (codes "--at") at)
 words_for (Serve port count) file = codes "serve" ∷ file ∷ codes "--port" ∷ decimal port ∷ option_words (codes "--count") count
 
 -- its numbers lie within their bounds, and the name of an import is spelled as an identifier

@@ -3,7 +3,7 @@
 ghost use Rattle.std.specs.Prelude.{◌≡◌, option_map};
 ghost use Rattle.clap.specs.Words.{subcommand_rows_of};
 ghost use Rattle.bike_words.specs.Asked.{count_in, day_task, feed_in, feed_task, import_in, import_task, moment_in, name_in, port_in, serve_task};
-ghost use Rattle.bike_words.specs.Asked.{table_in, task_in, task_of, value_in, wanted};
+ghost use Rattle.bike_words.specs.Asked.{table_in, task_in, task_of, value_in, want_of};
 
 use bike_day_texts::DayTable;
 use bike_feed_texts::Feed;
@@ -123,7 +123,7 @@ fn count_in(matches: &ArgMatches<'_>) -> Option<Option<u32>>
 
 /// The feed and its moment.
 fn feed_task<'a>(matches: &ArgMatches<'a>) -> Option<Task<'a>>
-    ensures { option_map wanted result ≡ feed_task (subcommand_rows_of matches.now) }
+    ensures { option_map want_of result ≡ feed_task (subcommand_rows_of matches.now) }
 {
     let feed = feed_in(matches)?;
     let at = moment_in(matches)?;
@@ -132,7 +132,7 @@ fn feed_task<'a>(matches: &ArgMatches<'a>) -> Option<Task<'a>>
 
 /// The table and its day.
 fn day_task<'a>(matches: &ArgMatches<'a>) -> Option<Task<'a>>
-    ensures { option_map wanted result ≡ day_task (subcommand_rows_of matches.now) }
+    ensures { option_map want_of result ≡ day_task (subcommand_rows_of matches.now) }
 {
     let table = table_in(matches)?;
     let date = value_in(matches, "date")?;
@@ -142,7 +142,7 @@ fn day_task<'a>(matches: &ArgMatches<'a>) -> Option<Task<'a>>
 
 /// The import's name and its moment.
 fn import_task<'a>(matches: &ArgMatches<'a>) -> Option<Task<'a>>
-    ensures { option_map wanted result ≡ import_task (subcommand_rows_of matches.now) }
+    ensures { option_map want_of result ≡ import_task (subcommand_rows_of matches.now) }
 {
     let name = import_in(matches)?;
     let at = moment_in(matches)?;
@@ -151,7 +151,7 @@ fn import_task<'a>(matches: &ArgMatches<'a>) -> Option<Task<'a>>
 
 /// The port and the number of connections.
 fn serve_task<'a>(matches: &ArgMatches<'a>) -> Option<Task<'a>>
-    ensures { option_map wanted result ≡ serve_task (subcommand_rows_of matches.now) }
+    ensures { option_map want_of result ≡ serve_task (subcommand_rows_of matches.now) }
 {
     let port = port_in(matches)?;
     let count = count_in(matches)?;
@@ -161,7 +161,7 @@ fn serve_task<'a>(matches: &ArgMatches<'a>) -> Option<Task<'a>>
 /// The task of the word of this name.
 #[tactic(auto, unfolding(crate::specs::Asked::task_of))]
 fn task_of<'a>(name: &str, matches: &ArgMatches<'a>) -> Option<Task<'a>>
-    ensures { option_map wanted result ≡ task_of name.now (subcommand_rows_of matches.now) }
+    ensures { option_map want_of result ≡ task_of name.now (subcommand_rows_of matches.now) }
 {
     match name {
         "init" => Some(Task::Init),
@@ -177,7 +177,7 @@ fn task_of<'a>(name: &str, matches: &ArgMatches<'a>) -> Option<Task<'a>>
 
 /// The task that was found.
 pub(crate) fn task_in<'a>(matches: &ArgMatches<'a>) -> Option<Task<'a>>
-    ensures { option_map wanted result ≡ task_in (subcommand_rows_of matches.now) }
+    ensures { option_map want_of result ≡ task_in (subcommand_rows_of matches.now) }
 {
     task_of(name_in(matches)?, matches)
 }

@@ -1,12 +1,12 @@
 use Rattle.std.proofs.Common.{arith, inl, inr, ap, Err, rules}
 use Rattle.sqlite.specs.State.{HasCleanDisk}
-use Rattle.bike_http.specs.Desk.{shown}
+use Rattle.bike_http.specs.Desk.{desk_state}
 use Rattle.bike_app.proofs.day.report_day.Goals as goal
 
 pub returns-in-Ok-clause-told : goal.returns-in-Ok-clause-told
 returns-in-Ok-clause-told g c clean =
-    let now : HasCleanDisk (shown g.S.Store c.report_at-end.new.desk) = rw c.close.ensures.same at clean in
-    let early : HasCleanDisk (shown g.S.Store c.in-Ok.desk) = omega (arith, now, c.report_at-end.ensures.clean) in
+    let now : HasCleanDisk (desk_state g.S.Store c.report_at-end.new.desk) = rw c.close.ensures.same at clean in
+    let early : HasCleanDisk (desk_state g.S.Store c.in-Ok.desk) = omega (arith, now, c.report_at-end.ensures.clean) in
     let it = c.in-Ok.ensures.only early in
     inr (record {
       desk = c.report_at-end.new.desk;
@@ -18,8 +18,8 @@ returns-in-Ok-clause-told g c clean =
 
 pub returns-in-Ok-clause-kept : goal.returns-in-Ok-clause-kept
 returns-in-Ok-clause-kept g c clean s stands live =
-    let now : HasCleanDisk (shown g.S.Store c.report_at-end.new.desk) = rw c.close.ensures.same at clean in
-    let early : HasCleanDisk (shown g.S.Store c.in-Ok.desk) = omega (arith, now, c.report_at-end.ensures.clean) in
+    let now : HasCleanDisk (desk_state g.S.Store c.report_at-end.new.desk) = rw c.close.ensures.same at clean in
+    let early : HasCleanDisk (desk_state g.S.Store c.in-Ok.desk) = omega (arith, now, c.report_at-end.ensures.clean) in
     rw c.close.ensures.same (c.report_at-end.ensures.left now s (c.in-Ok.ensures.found s stands early))
 
 pub returns-in-Err-clause-told : goal.returns-in-Err-clause-told

@@ -1,7 +1,7 @@
 use Rattle.std.proofs.Common.{◌≡◌, ℕ, List, Ok, ◌++◌, ◌∷◌, [], Err, arith, ap, sym, subst, ◌∙◌}
 use Rattle.sqlite.specs.State.{HasCleanDisk}
 use Rattle.bike_commands.specs.Replies.{reply_text}
-use Rattle.bike_http.specs.Desk.{shown}
+use Rattle.bike_http.specs.Desk.{desk_state}
 use Rattle.bike_app.specs.declared.lines.TheConstants.{MOST_READS}
 use Rattle.bike_app.specs.Answers.{after_lines}
 use Rattle.bike_app.specs.Serving.{RepliesAt}
@@ -35,7 +35,7 @@ returns-in_err-next_line-clause-kept g c clean s at = kept_of g.S.Store c.loop-l
 pub returns-in_err-reply-clause-ran : goal.returns-in_err-reply-clause-ran
 returns-in_err-reply-clause-ran g c clean s at =
     let it = c.in_err-reply.ensures in
-    let early : HasCleanDisk (shown g.S.Store c.loop-line.desk) = omega (arith, clean, it.clean) in
+    let early : HasCleanDisk (desk_state g.S.Store c.loop-line.desk) = omega (arith, clean, it.clean) in
     let run = c.loop-line.invariant.ran early s at in
     subst (RanLines g.S.Store c.reply_to.new.desk s _ _ _ _) (sym (err_is _ _ c.from_residual-in_err-reply.ensures.1)) (
     running_refused g.S.Store s _ _ c.loop-line.desk _ _ c.loop-line.count run c.reply_to.new.desk _ 4097 (omega arith) c.next_line.new.line
@@ -49,7 +49,7 @@ returns-in_err-reply-clause-kept g c clean s at = kept_of g.S.Store c.reply_to.n
 pub returns-in_err-write_whole-clause-ran : goal.returns-in_err-write_whole-clause-ran
 returns-in_err-write_whole-clause-ran g c clean s at =
     let it = c.in_ok-reply.ensures in
-    let early : HasCleanDisk (shown g.S.Store c.loop-line.desk) = omega (arith, clean, it.clean) in
+    let early : HasCleanDisk (desk_state g.S.Store c.loop-line.desk) = omega (arith, clean, it.clean) in
     let run = c.loop-line.invariant.ran early s at in
     let bytes : c.as_bytes.result.now ≡ reply_text c.in_ok-reply.reply ++ 10 ∷ [] = c.as_bytes.ensures.value ∙ c.deref.ensures.0 ∙ c.answer_text.ensures in
     subst (RanLines g.S.Store c.reply_to.new.desk s _ _ _ _) (sym (err_is _ _ c.from_residual-in_err-write_whole.ensures.1)) (
@@ -75,7 +75,7 @@ loop-line-preserved g c =
       room = omega (arith, inv.room, fewer);
       spent = spends_line 4097 _ _ _ c.loop-line.buffer c.next_line.new.self c.next_line.new.line MOST_READS c.loop-line.reads c.next_line.new.reads inv.spent taken (rw c.if-branch.true at next.read);
       ran = λ clean s at.
-          let early : HasCleanDisk (shown g.S.Store c.loop-line.desk) = omega (arith, clean, it.clean) in
+          let early : HasCleanDisk (desk_state g.S.Store c.loop-line.desk) = omega (arith, clean, it.clean) in
           let run = inv.ran early s at in
           running_replied g.S.Store s _ _ c.loop-line.desk _ _ c.loop-line.count run c.reply_to.new.desk _ 4097 (omega arith) c.next_line.new.line taken _ c.in_ok-reply.reply
           (subst (λ (l : List ℕ). RepliesAt g.S.Store c.loop-line.desk c.reply_to.new.desk l (after_lines s run.calls) (Ok c.in_ok-reply.reply)) c.as_slice.ensures (it.replied clean (after_lines s run.calls) run.before.at))

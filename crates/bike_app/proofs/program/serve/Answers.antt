@@ -1,13 +1,13 @@
 use Rattle.std.proofs.Common.{arith, inl, inr, ap, Err, rules, []}
 use Rattle.sqlite.specs.State.{HasCleanDisk}
-use Rattle.bike_http.specs.Desk.{shown}
+use Rattle.bike_http.specs.Desk.{desk_state}
 use Rattle.bike_app.proofs.ProgramLemmas.{end_told, some_left}
 use Rattle.bike_app.proofs.program.serve.Goals as goal
 
 pub returns-in-Ok-clause-served : goal.returns-in-Ok-clause-served
 returns-in-Ok-clause-served g c clean =
-    let now : HasCleanDisk (shown g.S.Store c.run_lines-end.new.desk) = rw c.close.ensures.same at clean in
-    let early : HasCleanDisk (shown g.S.Store c.in-Ok.desk) = omega (arith, now, c.run_lines-end.ensures.clean) in
+    let now : HasCleanDisk (desk_state g.S.Store c.run_lines-end.new.desk) = rw c.close.ensures.same at clean in
+    let early : HasCleanDisk (desk_state g.S.Store c.in-Ok.desk) = omega (arith, now, c.run_lines-end.ensures.clean) in
     let it = c.in-Ok.ensures.only early in
     inr (record {
       operator = it.0;
@@ -23,8 +23,8 @@ returns-in-Ok-clause-served g c clean =
 
 pub returns-in-Ok-clause-kept : goal.returns-in-Ok-clause-kept
 returns-in-Ok-clause-kept g c clean s stands live =
-    let now : HasCleanDisk (shown g.S.Store c.run_lines-end.new.desk) = rw c.close.ensures.same at clean in
-    let early : HasCleanDisk (shown g.S.Store c.in-Ok.desk) = omega (arith, now, c.run_lines-end.ensures.clean) in
+    let now : HasCleanDisk (desk_state g.S.Store c.run_lines-end.new.desk) = rw c.close.ensures.same at clean in
+    let early : HasCleanDisk (desk_state g.S.Store c.in-Ok.desk) = omega (arith, now, c.run_lines-end.ensures.clean) in
     rw c.close.ensures.same (some_left g.S.Store c.run_lines-end.new.desk s _ (c.run_lines-end.ensures.kept now s (c.in-Ok.ensures.found s stands early)))
 
 pub returns-in-Err-clause-served : goal.returns-in-Err-clause-served

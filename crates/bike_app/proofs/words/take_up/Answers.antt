@@ -1,17 +1,17 @@
 use Rattle.std.proofs.Common.{inl, inr, ap, Err, rules}
 use Rattle.sqlite.specs.State.{HasCleanDisk}
-use Rattle.bike_http.specs.Desk.{shown}
+use Rattle.bike_http.specs.Desk.{desk_state}
 use Rattle.bike_app.proofs.words.take_up.Goals as goal
 
 pub returns-in-Ok-clause-told : goal.returns-in-Ok-clause-told
 returns-in-Ok-clause-told g c clean =
-    let now : HasCleanDisk (shown g.S.Store c.in-Ok.desk) = rw c.close.ensures.same at clean in
+    let now : HasCleanDisk (desk_state g.S.Store c.in-Ok.desk) = rw c.close.ensures.same at clean in
     let it = c.in-Ok.ensures.only now in
     inr (record { operator = it.0; was = it.1; keeps = rw c.close.ensures.same it.2.keeps }, c.write_line.ensures)
 
 pub returns-in-Ok-clause-kept : goal.returns-in-Ok-clause-kept
 returns-in-Ok-clause-kept g c clean s stands live =
-    let now : HasCleanDisk (shown g.S.Store c.in-Ok.desk) = rw c.close.ensures.same at clean in
+    let now : HasCleanDisk (desk_state g.S.Store c.in-Ok.desk) = rw c.close.ensures.same at clean in
     rw c.close.ensures.same (c.in-Ok.ensures.found s stands now).keeps.left
 
 pub returns-in-Err-clause-told : goal.returns-in-Err-clause-told

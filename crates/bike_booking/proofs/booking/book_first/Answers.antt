@@ -1,7 +1,7 @@
 use Rattle.std.proofs.Common.{sym, subst}
 use Rattle.bike_operator.specs.declared.change.Change.{Change}
 use Rattle.bike_operator.specs.declared.change.Change.TheVariants as change
-use Rattle.bike_operator.specs.Changes.{changed}
+use Rattle.bike_operator.specs.Changes.{with_change}
 use Rattle.bike_booking.specs.declared.stage.Stage.TheVariants.{Rented, Moved, Last}
 use Rattle.bike_booking.specs.Stages.{IsOn}
 use Rattle.bike_booking.proofs.BookingLemmas.{first_step, rented_at, rented_step, rows_step}
@@ -15,7 +15,7 @@ returns-else-not-book_rental c = λ first s m read on.
     (rented_at c.args.now d first s m on.listed (c.book_rental.ensures.rentals yes) on.stands)
 
 pub returns-in-PlaceBike : goal.returns-in-PlaceBike
-returns-in-PlaceBike c = rented_step c.args.reading.now c.args.rows.now.items (changed c.args.now c.args.change.now) c.book_move.result c.book_move.new.rows.items c.book_move.ensures
+returns-in-PlaceBike c = rented_step c.args.reading.now c.args.rows.now.items (with_change c.args.now c.args.change.now) c.book_move.result c.book_move.new.rows.items c.book_move.ensures
 
 pub returns-else-not-book_mark : goal.returns-else-not-book_mark
 returns-else-not-book_mark c = λ first s m read on.
@@ -24,7 +24,7 @@ returns-else-not-book_mark c = λ first s m read on.
 
 pub returns-else-not-book_plan : goal.returns-else-not-book_plan
 returns-else-not-book_plan c = λ first s m read on.
-    subst (λ (d : Change). IsOn first m (changed c.args.now d s) Last c.book_plan.new.rows.items) (sym c.in-AddPlan.is)
+    subst (λ (d : Change). IsOn first m (with_change c.args.now d s) Last c.book_plan.new.rows.items) (sym c.in-AddPlan.is)
     (rows_step c.args.reading.now c.args.now (change.AddPlan c.in-AddPlan.plan) c.args.rows.now.items c.book_plan.new.rows.items Last first s m read on (c.book_plan.ensures c.if-not-book_plan.false) (λ w. tt))
 
 pub returns-else-not-book_record : goal.returns-else-not-book_record

@@ -1,8 +1,8 @@
 use Rattle.std.proofs.Common.{◌≡◌, [], ◌∷◌, Some, refl, sym, ap, ◌∙◌, subst, arith}
 use Rattle.bike_operator.specs.declared.change.Change.{Change}
 use Rattle.bike_operator.specs.declared.change.Change.TheVariants as change
-use Rattle.bike_operator.specs.Operator.{numbered}
-use Rattle.bike_operator.specs.Changes.{changed}
+use Rattle.bike_operator.specs.Operator.{item_numbered}
+use Rattle.bike_operator.specs.Changes.{with_change}
 use Rattle.bike_book.specs.declared.row_change.RowChange.TheVariants as row
 use Rattle.bike_book.proofs.RentalBooks.{deliver}
 use Rattle.bike_moves.proofs.ReportBooks.{report}
@@ -17,8 +17,8 @@ returns-else-not-is_ok c = λ first s m read on.
     let now = c.args.now in
     let rows = row.SetReported station now ∷ [] in
     let are = added c.args.rows.now.items rows c.push.result c.push.ensures.items c.if-not-is_ok.false c.is_ok.ensures.value in
-    subst (λ (d : Change). IsOn first m (changed now d s) Moved c.push.new.self.items) (sym c.in-Report.is)
-    (on_then first m s (changed now (change.Report station) s) Moved Moved c.args.rows.now.items rows c.push.new.self.items on on.listed (report s on.listed now on.books.listing station) on.stands are)
+    subst (λ (d : Change). IsOn first m (with_change now d s) Moved c.push.new.self.items) (sym c.in-Report.is)
+    (on_then first m s (with_change now (change.Report station) s) Moved Moved c.args.rows.now.items rows c.push.new.self.items on on.listed (report s on.listed now on.books.listing station) on.stands are)
 
 pub returns-else-not-is_ok-2 : goal.returns-else-not-is_ok-2
 returns-else-not-is_ok-2 c = λ first s m read on.
@@ -27,9 +27,9 @@ returns-else-not-is_ok-2 c = λ first s m read on.
     let o = c.in_ok-read-in-Deliver.read.now in
     let delivered = c.in_ok-delivered-in-Deliver.delivered in
     let rows = row.SetOrder order delivered o.is_open ∷ [] in
-    let found : numbered order s.orders ≡ Some o = ap (numbered order) on.stands ∙ c.in_ok-read-in-Deliver.ensures first read.read.view_is in
+    let found : item_numbered order s.orders ≡ Some o = ap (item_numbered order) on.stands ∙ c.in_ok-read-in-Deliver.ensures first read.read.view_is in
     let more = c.in_ok-delivered-in-Deliver.ensures in
     let are = added c.args.rows.now.items rows c.push-in-Deliver.result c.push-in-Deliver.ensures.items c.if-not-is_ok-2.false c.is_ok-in-Deliver.ensures.value in
-    subst (λ (d : Change). IsOn first m (changed now d s) Last c.push-in-Deliver.new.self.items) (sym c.in-Deliver.is)
-    (on_then first m s (changed now (change.Deliver order) s) Moved Last c.args.rows.now.items rows c.push-in-Deliver.new.self.items on on.listed
+    subst (λ (d : Change). IsOn first m (with_change now d s) Last c.push-in-Deliver.new.self.items) (sym c.in-Deliver.is)
+    (on_then first m s (with_change now (change.Deliver order) s) Moved Last c.args.rows.now.items rows c.push-in-Deliver.new.self.items on on.listed
     (deliver s on.listed now on.books.listing order delivered o.is_open o found (omega (arith, more)) refl) tt are)

@@ -1,21 +1,21 @@
 use Rattle.std.proofs.Common.{sym, subst}
-use Rattle.bike_operator.specs.Changes.{changed}
+use Rattle.bike_operator.specs.Changes.{with_change}
 use Rattle.bike_booking.specs.declared.stage.Stage.{Stage}
 use Rattle.bike_booking.specs.Stages.{BooksStep}
 use Rattle.bike_booking.proofs.booking.book_one.Goals as goal
 
 pub returns-in-First : goal.returns-in-First
 returns-in-First c =
-    subst (λ (t : Stage). BooksStep c.args.reading.now t c.args.rows.now.items (changed c.args.now c.args.change.now) c.book_first.result c.book_first.new.rows.items) (sym c.in-First.is) c.book_first.ensures
+    subst (λ (t : Stage). BooksStep c.args.reading.now t c.args.rows.now.items (with_change c.args.now c.args.change.now) c.book_first.result c.book_first.new.rows.items) (sym c.in-First.is) c.book_first.ensures
 
 pub returns-in-Rented : goal.returns-in-Rented
 returns-in-Rented c =
-    subst (λ (t : Stage). BooksStep c.args.reading.now t c.args.rows.now.items (changed c.args.now c.args.change.now) c.book_move.result c.book_move.new.rows.items) (sym c.in-Rented.is) c.book_move.ensures
+    subst (λ (t : Stage). BooksStep c.args.reading.now t c.args.rows.now.items (with_change c.args.now c.args.change.now) c.book_move.result c.book_move.new.rows.items) (sym c.in-Rented.is) c.book_move.ensures
 
 pub returns-in-Stored : goal.returns-in-Stored
 returns-in-Stored c =
-    subst (λ (t : Stage). BooksStep c.args.reading.now t c.args.rows.now.items (changed c.args.now c.args.change.now) c.book_stored.result c.book_stored.new.rows.items) (sym c.in-Stored.is) c.book_stored.ensures
+    subst (λ (t : Stage). BooksStep c.args.reading.now t c.args.rows.now.items (with_change c.args.now c.args.change.now) c.book_stored.result c.book_stored.new.rows.items) (sym c.in-Stored.is) c.book_stored.ensures
 
 pub returns-in-Moved : goal.returns-in-Moved
 returns-in-Moved c =
-    subst (λ (t : Stage). BooksStep c.args.reading.now t c.args.rows.now.items (changed c.args.now c.args.change.now) c.book_moved.result c.book_moved.new.rows.items) (sym c.in-Moved.is) c.book_moved.ensures
+    subst (λ (t : Stage). BooksStep c.args.reading.now t c.args.rows.now.items (with_change c.args.now c.args.change.now) c.book_moved.result c.book_moved.new.rows.items) (sym c.in-Moved.is) c.book_moved.ensures

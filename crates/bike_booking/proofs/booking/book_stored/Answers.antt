@@ -1,7 +1,7 @@
 use Rattle.std.proofs.Common.{[], ◌∷◌, sym, ap, subst}
 use Rattle.bike_operator.specs.declared.change.Change.{Change}
 use Rattle.bike_operator.specs.declared.change.NewPlace.TheVariants as new
-use Rattle.bike_operator.specs.Changes.{changed}
+use Rattle.bike_operator.specs.Changes.{with_change}
 use Rattle.bike_book.specs.declared.row_change.RowChange.TheVariants as row
 use Rattle.bike_booking.specs.declared.stage.Stage.{Stage}
 use Rattle.bike_booking.specs.declared.stage.Stage.TheVariants.{Stored, Moved}
@@ -17,7 +17,7 @@ returns-else-not-is_ok c = λ first s m read on.
     let after = c.push.new.self.items in
     let are = added before (row.SetBike bike state new.Depot ∷ []) c.push.result c.push.ensures.items c.if-not-is_ok.false c.is_ok.ensures.value in
     let here = subst (λ (t : Stage). IsOn first m s t before) (ap Stored (sym c.if-bike-stored.false)) on in
-    subst (λ (d : Change). IsOn first m (changed c.args.now d s) Moved after) (sym c.in-SetState.is) (turn_step c.args.reading.now c.args.now bike state before after first s m here are)
+    subst (λ (d : Change). IsOn first m (with_change c.args.now d s) Moved after) (sym c.in-SetState.is) (turn_step c.args.reading.now c.args.now bike state before after first s m here are)
 
 pub returns-in_default : goal.returns-in_default
-returns-in_default c = stored_step c.args.reading.now c.args.stored c.args.rows.now.items (changed c.args.now c.args.change.now) c.book_moved.result c.book_moved.new.rows.items c.book_moved.ensures
+returns-in_default c = stored_step c.args.reading.now c.args.stored c.args.rows.now.items (with_change c.args.now c.args.change.now) c.book_moved.result c.book_moved.new.rows.items c.book_moved.ensures

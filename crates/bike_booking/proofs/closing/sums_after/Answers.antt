@@ -1,7 +1,7 @@
 use Rattle.std.proofs.Common.{rules, w64, FitsSigned, ℤ, ap, ◌∙◌}
 use Rattle.std.proofs.lemmas.Int.{to_z-of_z}
 use Rattle.std.specs.Prelude.{◌+ℤ◌}
-use Rattle.bike_ledger.specs.Ledger.{cash_in, earned}
+use Rattle.bike_ledger.specs.Ledger.{cash_in, revenue_in}
 use Rattle.bike_booking.proofs.closing.sums_after.Goals as goal
 
 pub returns : goal.returns
@@ -15,5 +15,5 @@ returns c =
       cash = c.new.ensures ∙ to_z-of_z w64 c.in_ok-cash.cash cash_now_fits ∙ c.in_ok-cash.ensures
           ∙ ap (λ (z : ℤ). z +ℤ cash_in e.kind e.amount) (to_z-of_z w64 c.hundredths.result cash_fits ∙ c.hundredths.ensures);
       revenue = c.new-2.ensures ∙ to_z-of_z w64 c.in_ok-revenue.revenue revenue_now_fits ∙ c.in_ok-revenue.ensures
-          ∙ ap (λ (z : ℤ). z +ℤ earned e.kind e.amount) (to_z-of_z w64 c.hundredths-2.result revenue_fits ∙ c.hundredths-2.ensures);
+          ∙ ap (λ (z : ℤ). z +ℤ revenue_in e.kind e.amount) (to_z-of_z w64 c.hundredths-2.result revenue_fits ∙ c.hundredths-2.ensures);
     }

@@ -2,7 +2,7 @@ use Rattle.std.proofs.Common.{arith, refl}
 use Rattle.sqlite.specs.State.{HasCleanDisk}
 use Rattle.sqlite.specs.Held.{state}
 use Rattle.bike_operator.specs.Operator.{Operator}
-use Rattle.bike_operator.specs.Runs.{accepted}
+use Rattle.bike_operator.specs.Runs.{after_acceptance}
 use Rattle.bike_schema.specs.Stands.{Keeps}
 use Rattle.bike_desk.specs.Serving.{IsNextBy, Accepts}
 use Rattle.bike_desk.proofs.KeepLemmas.{kept_ours, kept_stores, still}
@@ -12,7 +12,7 @@ use Rattle.bike_desk.proofs.serve.store_accepted.Goals as goal
 
 next_is : (g : Over) (c : goal.After-drop-rows-2 g) → HasCleanDisk (state g.S.Store c.find_numbers.new.conn) → (s : Operator) → Keeps (state g.S.Store c.args.conn.now) s
     → Accepts s c.args.now c.args.request.now c.args.meta.now c.args.view.now c.args.entry.now c.args.changes.now c.args.texts.now
-    → IsNextBy (state g.S.Store c.find_numbers.new.conn) c.as_slice.result.now s (accepted s c.args.now c.args.request.now)
+    → IsNextBy (state g.S.Store c.find_numbers.new.conn) c.as_slice.result.now s (after_acceptance s c.args.now c.args.request.now)
 next_is g c seen s keeps it =
     let old = state g.S.Store c.args.conn.now in
     let new = state g.S.Store c.find_numbers.new.conn in
@@ -28,8 +28,8 @@ next_is g c seen s keeps it =
 
 pub returns-clause-made : goal.returns-clause-made
 returns-clause-made g c clean s keeps it =
-    c.make_all.ensures.made clean s (accepted s c.args.now c.args.request.now) (next_is g c (omega (arith, clean, c.make_all.ensures.clean)) s keeps it)
+    c.make_all.ensures.made clean s (after_acceptance s c.args.now c.args.request.now) (next_is g c (omega (arith, clean, c.make_all.ensures.clean)) s keeps it)
 
 pub returns-clause-left : goal.returns-clause-left
 returns-clause-left g c clean s keeps it =
-    c.make_all.ensures.left clean s (accepted s c.args.now c.args.request.now) (next_is g c (omega (arith, clean, c.make_all.ensures.clean)) s keeps it)
+    c.make_all.ensures.left clean s (after_acceptance s c.args.now c.args.request.now) (next_is g c (omega (arith, clean, c.make_all.ensures.clean)) s keeps it)

@@ -2,7 +2,7 @@ use Rattle.std.proofs.Common.{◌≡◌, Result, Ok, Err, OnOk}
 use Rattle.matchit.specs.Route.{Scan}
 use Rattle.matchit.specs.Router.{InsertsRead}
 use Rattle.matchit.specs.declared.error.InsertError.{InsertError}
-use Rattle.bike_heads.specs.Table.{Rows, added, with_scan}
+use Rattle.bike_heads.specs.Table.{Rows, with_route, with_scan}
 use Rattle.bike_heads.specs.declared.routes.Route.{Route}
 use Rattle.bike_heads.proofs.routes.add.Goals as goal
 
@@ -14,5 +14,5 @@ one_more (Err e) value old new (Ok u) h = h.0
 one_more (Err e) value old new (Err f) h = tt
 
 pub returns : goal.returns
-unfolding added
+unfolding with_route
 returns c = one_more _ _ _ _ _ c.insert.ensures

@@ -1,10 +1,10 @@
 use Rattle.std.proofs.Common.{refl}
 use Rattle.matchit.proofs.OnLiterals.{matchit_on_literals}
-use Rattle.bike_heads.specs.Table.{table, routes, added}
+use Rattle.bike_heads.specs.Table.{table, routes, with_route}
 use Rattle.bike_heads.proofs.routes.route_laws.Goals as goal
 
 pub returns : goal.returns
-unfolding matchit_on_literals table routes added
+unfolding matchit_on_literals table routes with_route
 returns c = record {
   start = refl;
   rider = refl;

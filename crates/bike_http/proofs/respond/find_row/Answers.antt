@@ -1,6 +1,6 @@
 use Rattle.std.proofs.Common.{◌≡◌, ◌∙◌, sym, ap}
 use Rattle.std.specs.FinMap as map
-use Rattle.bike_operator.specs.Operator.{numbered}
+use Rattle.bike_operator.specs.Operator.{item_numbered}
 use Rattle.bike_queries.specs.Infos.{rider_info_at, rental_info_at}
 use Rattle.bike_http.specs.Shown.{shown_of}
 use Rattle.bike_http.specs.Rows.{rider_answer, bike_answer, rental_answer, order_answer}
@@ -25,12 +25,12 @@ pub returns-in_ok-rental-in-Rental : goal.returns-in_ok-rental-in-Rental
 returns-in_ok-rental-in-Rental g c =
     query_told g.S.Store c.args.desk.now c.rental.new.self (λ s x. x ≡ rental_info_at s c.in-Rental.rental) (λ s answer. answer ≡ shown_of s c.args.row)
     c.in_ok-rental-in-Rental.field-0 c.rental_answer.result
-    (λ s is. c.rental_answer.ensures ∙ ap (rental_answer c.in-Rental.rental) is ∙ rental_shown s c.in-Rental.rental (numbered c.in-Rental.rental s.rentals) ∙ sym (ap (shown_of s) c.in-Rental.is))
+    (λ s is. c.rental_answer.ensures ∙ ap (rental_answer c.in-Rental.rental) is ∙ rental_shown s c.in-Rental.rental (item_numbered c.in-Rental.rental s.rentals) ∙ sym (ap (shown_of s) c.in-Rental.is))
     c.in_ok-rental-in-Rental.ensures.query
 
 pub returns-in_ok-order-in-Order : goal.returns-in_ok-order-in-Order
 returns-in_ok-order-in-Order g c =
-    query_told g.S.Store c.args.desk.now c.order.new.self (λ s x. x ≡ numbered c.in-Order.order s.orders) (λ s answer. answer ≡ shown_of s c.args.row)
+    query_told g.S.Store c.args.desk.now c.order.new.self (λ s x. x ≡ item_numbered c.in-Order.order s.orders) (λ s answer. answer ≡ shown_of s c.args.row)
     c.in_ok-order-in-Order.field-0 c.order_answer.result
-    (λ s is. c.order_answer.ensures ∙ ap (order_answer c.in-Order.order) is ∙ order_shown c.in-Order.order (numbered c.in-Order.order s.orders) ∙ sym (ap (shown_of s) c.in-Order.is))
+    (λ s is. c.order_answer.ensures ∙ ap (order_answer c.in-Order.order) is ∙ order_shown c.in-Order.order (item_numbered c.in-Order.order s.orders) ∙ sym (ap (shown_of s) c.in-Order.is))
     c.in_ok-order-in-Order.ensures.query

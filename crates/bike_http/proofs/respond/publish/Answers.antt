@@ -1,6 +1,6 @@
 use Rattle.std.proofs.Common.{◌∙◌, Some, inl, inr, sym, ap, refl, subst, arith}
 use Rattle.sqlite.specs.State.{HasCleanDisk}
-use Rattle.bike_feeds.specs.Desk.{shown}
+use Rattle.bike_feeds.specs.Desk.{desk_state}
 use Rattle.bike_feeds.specs.Publishing.{IsPublished}
 use Rattle.bike_answers.specs.declared.answer.Answer.TheVariants as answer
 use Rattle.bike_http.specs.Shown.{not_found}
@@ -20,7 +20,7 @@ returns-in-Ok-clause-sent g c clean s at =
 
 pub returns-in-Err-Write-clause-sent : goal.returns-in-Err-Write-clause-sent
 returns-in-Err-Write-clause-sent g c clean s at =
-    let early : HasCleanDisk (shown g.S.Store c.write_feed.new.desk) = omega (arith, clean, c.publish_counted.ensures.clean) in
+    let early : HasCleanDisk (desk_state g.S.Store c.write_feed.new.desk) = omega (arith, clean, c.publish_counted.ensures.clean) in
     let h = rw c.in-Err-Write.field-0-is at c.in-Err-Write.ensures in
     c.publish_counted.ensures.sent clean s (h.desk.write early s at refl)
 

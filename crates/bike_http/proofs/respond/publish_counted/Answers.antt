@@ -1,6 +1,6 @@
 use Rattle.std.proofs.Common.{inl, inr, sym, ap, refl, arith}
 use Rattle.sqlite.specs.State.{HasCleanDisk}
-use Rattle.bike_feeds.specs.Desk.{shown}
+use Rattle.bike_feeds.specs.Desk.{desk_state}
 use Rattle.bike_answers.specs.declared.answer.Answer.TheVariants as answer
 use Rattle.bike_http.specs.Shown.{not_found}
 use Rattle.bike_http.specs.Exchange.{feed_response}
@@ -10,7 +10,7 @@ use Rattle.bike_http.proofs.respond.publish_counted.Goals as goal
 
 pub returns-in-Ok-clause-sent : goal.returns-in-Ok-clause-sent
 returns-in-Ok-clause-sent g c clean s at =
-    let early : HasCleanDisk (shown g.S.Store c.feed_length.new.desk) = omega (arith, clean, c.publish_whole.ensures.clean) in
+    let early : HasCleanDisk (desk_state g.S.Store c.feed_length.new.desk) = omega (arith, clean, c.publish_whole.ensures.clean) in
     c.publish_whole.ensures.sent clean s (c.in-Ok.ensures.desk.same early s at) (c.in-Ok.ensures.length early s at)
 
 pub returns-in-Err-SystemMissing-clause-sent : goal.returns-in-Err-SystemMissing-clause-sent

@@ -2,7 +2,7 @@ use Rattle.std.proofs.Common.{Ok, Err, ap, sym, subst, ◌∙◌, arith}
 use Rattle.sqlite.specs.State.{HasCleanDisk}
 use Rattle.csv.specs.Records.{fields_of}
 use Rattle.bike_operator.specs.Runs.{after}
-use Rattle.bike_desk.specs.Desk.{shown}
+use Rattle.bike_desk.specs.Desk.{desk_state}
 use Rattle.bike_imports.specs.declared.fault.ImportFault.TheVariants.{Read}
 use Rattle.bike_imports.specs.Imports.{Imports}
 use Rattle.bike_imports.proofs.Serving.{err_is}
@@ -55,7 +55,7 @@ returns-then-not-branch-clause-left g c clean s at = left_of g.S.Store c.rows.de
 pub returns-in_err-import_row-clause-imports : goal.returns-in_err-import_row-clause-imports
 returns-in_err-import_row-clause-imports g c clean s at =
     let it = c.in_err-import_row.ensures in
-    let early : HasCleanDisk (shown g.S.Store c.rows.desk) = omega (arith, clean, it.clean) in
+    let early : HasCleanDisk (desk_state g.S.Store c.rows.desk) = omega (arith, clean, it.clean) in
     let so_far = c.rows.invariant.so_far early s at in
     let input = g.R.Read.remaining c.args.reader.now in
     subst (Imports g.S.Store c.import_row.new.desk s c.args.moment c.args.name.now input) (sym (err_is _ _ c.from_residual-in_err-import_row.ensures.1)) (

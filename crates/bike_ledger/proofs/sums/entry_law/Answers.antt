@@ -1,4 +1,4 @@
-use Rattle.bike_ledger.specs.Ledger.{share, given_back_of, cash_in, earned}
+use Rattle.bike_ledger.specs.Ledger.{share, given_back_of, cash_in, revenue_in}
 use Rattle.bike_ledger.proofs.SumLemmas.{total-append, balance_of-own, balance_of-other}
 use Rattle.bike_ledger.proofs.sums.entry_law.Goals as goal
 
@@ -15,7 +15,7 @@ pub returns-clause-cash : goal.returns-clause-cash
 returns-clause-cash c = λ es e. total-append (λ x. cash_in x.kind x.amount) es e
 
 pub returns-clause-revenue : goal.returns-clause-revenue
-returns-clause-revenue c = λ es e. total-append (λ x. earned x.kind x.amount) es e
+returns-clause-revenue c = λ es e. total-append (λ x. revenue_in x.kind x.amount) es e
 
 pub returns-clause-refunded : goal.returns-clause-refunded
 returns-clause-refunded c = λ es e rental. total-append (given_back_of rental) es e

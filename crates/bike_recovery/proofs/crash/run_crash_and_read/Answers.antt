@@ -1,20 +1,20 @@
 use Rattle.std.proofs.Common.{arith}
 use Rattle.sqlite.specs.State.{HasCleanDisk}
-use Rattle.bike_feeds.specs.Desk.{shown}
+use Rattle.bike_feeds.specs.Desk.{desk_state}
 use Rattle.bike_recovery.proofs.FrontLemmas.{sound_at}
 use Rattle.bike_recovery.proofs.crash.run_crash_and_read.Goals as goal
 
 pub returns-in-Ok-clause-headline : goal.returns-in-Ok-clause-headline
 returns-in-Ok-clause-headline g c s at clean =
-    let early : HasCleanDisk (shown g.S.Store c.in-Ok.again) = omega (arith, clean, c.read_again-reading.ensures.clean) in
-    let run : HasCleanDisk (shown g.S.Store c.run_list-run.new.self) = omega (arith, early, c.in-Ok.ensures.clean) in
+    let early : HasCleanDisk (desk_state g.S.Store c.in-Ok.again) = omega (arith, clean, c.read_again-reading.ensures.clean) in
+    let run : HasCleanDisk (desk_state g.S.Store c.run_list-run.new.self) = omega (arith, early, c.in-Ok.ensures.clean) in
     let it = c.in-Ok.ensures.front early s c.args.calls.now _ (c.run_list-run.ensures.front run s at) in
     (it.0, it.1, it.2, it.3, sound_at g.S.Store c.in-Ok.again _ it.4, c.read_again-reading.ensures.reads clean _ it.4)
 
 pub returns-in-Ok-clause-replies : goal.returns-in-Ok-clause-replies
 returns-in-Ok-clause-replies g c s at clean =
-    let early : HasCleanDisk (shown g.S.Store c.in-Ok.again) = omega (arith, clean, c.read_again-reading.ensures.clean) in
-    let run : HasCleanDisk (shown g.S.Store c.run_list-run.new.self) = omega (arith, early, c.in-Ok.ensures.clean) in
+    let early : HasCleanDisk (desk_state g.S.Store c.in-Ok.again) = omega (arith, clean, c.read_again-reading.ensures.clean) in
+    let run : HasCleanDisk (desk_state g.S.Store c.run_list-run.new.self) = omega (arith, early, c.in-Ok.ensures.clean) in
     let ran = c.run_list-run.ensures.ran run s at in
     record { within = ran.within; front = ran.front }
 

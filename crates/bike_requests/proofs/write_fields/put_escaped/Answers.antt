@@ -2,7 +2,7 @@ use Rattle.std.proofs.Common.{sym, ◌∙◌, ◌++◌, ap, append_assoc, string
 use Rattle.std.proofs.lemmas.Iterator.{YieldsList-from_chars}
 use Rattle.std.proofs.lemmas.Iterator.Consumers.{YieldsList-end}
 use Rattle.std.proofs.Math.Utf8.{encode, encodes}
-use Rattle.bike_texts.specs.Fields.{escaped}
+use Rattle.bike_texts.specs.Fields.{escapes_of}
 use Rattle.bike_requests.proofs.Escaping.{escaped_more, escaped_none, escaped_whole}
 use Rattle.bike_requests.proofs.write_fields.put_escaped.Goals as goal
 
@@ -12,8 +12,8 @@ loop-c-init c = sym (escaped_none (string_bytes c.push.new.self))
 pub loop-c-preserved : goal.loop-c-preserved
 loop-c-preserved c =
     c.in_ok-push_escaped.ensures
-    ∙ (ap (λ (t : List ℕ). t ++ escaped (encode c.in-Some.c)) c.loop-c.invariant
-    ∙ (append_assoc (string_bytes c.push.new.self) (escaped (encodes c.loop-c.yielded)) (escaped (encode c.in-Some.c))
+    ∙ (ap (λ (t : List ℕ). t ++ escapes_of (encode c.in-Some.c)) c.loop-c.invariant
+    ∙ (append_assoc (string_bytes c.push.new.self) (escapes_of (encodes c.loop-c.yielded)) (escapes_of (encode c.in-Some.c))
     ∙ ap (λ (t : List ℕ). string_bytes c.push.new.self ++ t) (sym (escaped_more c.loop-c.yielded c.in-Some.c))))
 
 pub returns : goal.returns

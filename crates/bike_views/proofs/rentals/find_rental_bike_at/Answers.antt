@@ -2,7 +2,7 @@ use Rattle.std.proofs.Common.{rules, w64, FitsSigned, Option, sym, ap, ◌∙◌
 use Rattle.std.proofs.lemmas.Int.{to_z-of_z}
 use Rattle.bike_rows.proofs.ChainLaws.{reads_as, reads_both}
 use Rattle.bike_operator.specs.declared.records.Rental.{Rental}
-use Rattle.bike_operator.specs.Operator.{numbered}
+use Rattle.bike_operator.specs.Operator.{item_numbered}
 use Rattle.bike_operator.specs.View.{bike_of, rental_view}
 use Rattle.bike_views.specs.declared.rentals.RentalBike.{RentalBike}
 use Rattle.bike_schema.proofs.AnswerLemmas.{reads_weaker}
@@ -11,12 +11,12 @@ use Rattle.bike_views.proofs.rentals.find_rental_bike_at.Goals as goal
 
 pub returns-in-None : goal.returns-in-None
 returns-in-None g c = reads_as c.in_ok-find_rental.ensures (λ db it s h.
-    let none = rental_lacks c.args.rental s.entries (numbered c.args.rental s.rentals) (it s h) c.in-None.is in
+    let none = rental_lacks c.args.rental s.entries (item_numbered c.args.rental s.rentals) (it s h) c.in-None.is in
     λ i. record { bike = bike_of s (none i); rental = rental_view s c.args.rental (none i) })
 
 pub returns-in-Some : goal.returns-in-Some
 returns-in-Some g c = reads_weaker (reads_both c.in_ok-find_rental.ensures c.find_rental_bike.ensures) (λ db x it s h.
-    let found = rental_read c.args.rental s.entries (numbered c.args.rental s.rentals) (it.0 s h) c.in-Some.is in
+    let found = rental_read c.args.rental s.entries (item_numbered c.args.rental s.rentals) (it.0 s h) c.in-Some.is in
     let fits : FitsSigned w64 c.in-Some.stored.refunded = search rules in
     let whole = λ (o : Option Rental). let ridden : RentalBike = record { bike = bike_of s o; rental = rental_view s c.args.rental o } in ridden in
     it.1 s h (to_z-of_z w64 c.in-Some.stored.refunded fits ∙ found.1) ∙ ap whole (sym found.0))

@@ -1,7 +1,7 @@
 use Rattle.std.proofs.Common.{rules, w64, FitsSigned, sym, ap, ◌∙◌}
 use Rattle.std.proofs.lemmas.Int.{to_z-of_z}
 use Rattle.bike_rows.proofs.ChainLaws.{reads_as, reads_both}
-use Rattle.bike_operator.specs.Operator.{numbered}
+use Rattle.bike_operator.specs.Operator.{item_numbered}
 use Rattle.bike_operator.specs.View.{rental_view}
 use Rattle.bike_schema.proofs.AnswerLemmas.{reads_weaker}
 use Rattle.bike_views.proofs.PartLemmas.{rental_lacks, rental_read}
@@ -9,10 +9,10 @@ use Rattle.bike_views.proofs.rentals.find_rental_view.Goals as goal
 
 pub returns-in-None : goal.returns-in-None
 returns-in-None g c = reads_as c.in_ok-find_rental.ensures (λ db it s h.
-    ap (rental_view s c.args.rental) (rental_lacks c.args.rental s.entries (numbered c.args.rental s.rentals) (it s h) c.in-None.is))
+    ap (rental_view s c.args.rental) (rental_lacks c.args.rental s.entries (item_numbered c.args.rental s.rentals) (it s h) c.in-None.is))
 
 pub returns-in-Some : goal.returns-in-Some
 returns-in-Some g c = reads_weaker (reads_both c.in_ok-find_rental.ensures c.find_planned_rental.ensures) (λ db x it s h.
-    let found = rental_read c.args.rental s.entries (numbered c.args.rental s.rentals) (it.0 s h) c.in-Some.is in
+    let found = rental_read c.args.rental s.entries (item_numbered c.args.rental s.rentals) (it.0 s h) c.in-Some.is in
     let fits : FitsSigned w64 c.in-Some.stored.refunded = search rules in
     it.1 s h (to_z-of_z w64 c.in-Some.stored.refunded fits ∙ found.1) ∙ ap (rental_view s c.args.rental) (sym found.0))

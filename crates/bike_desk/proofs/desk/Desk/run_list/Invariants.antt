@@ -3,7 +3,7 @@ use Rattle.sqlite_trees.specs.View.{doubt}
 use Rattle.sqlite.specs.State.{HasCleanDisk}
 use Rattle.bike_operator.specs.Operator.{Operator}
 use Rattle.bike_operator.specs.Runs.{after, replies}
-use Rattle.bike_desk.specs.Desk.{shown, IsAt}
+use Rattle.bike_desk.specs.Desk.{desk_state, IsAt}
 use Rattle.bike_desk.proofs.desk.Desk.run_list.Given as goal
 
 -- the requests so far are answered, and there is room for the other replies
@@ -12,8 +12,8 @@ invariant-calls g l = record {
   count : length l.replies.items ≡ l.moment-index;
   len : vec_len l.replies ≡ l.moment-index;
   room : length l.calls ≤ vec_capacity l.replies;
-  clean : doubt (shown g.S.Store l.fn.self).is_clean ≤ doubt (shown g.S.Store l.self).is_clean;
-  so_far : HasCleanDisk (shown g.S.Store l.self) → (s : Operator) → IsAt g.S.Store l.fn.self s
+  clean : doubt (desk_state g.S.Store l.fn.self).is_clean ≤ doubt (desk_state g.S.Store l.self).is_clean;
+  so_far : HasCleanDisk (desk_state g.S.Store l.self) → (s : Operator) → IsAt g.S.Store l.fn.self s
       → (l.replies.items ≡ replies s (take l.moment-index l.calls)) × IsAt g.S.Store l.self (after s (take l.moment-index l.calls));
   goes_on : l.self.is_stopped ≡ false;
 }

@@ -1,5 +1,5 @@
 use Rattle.std.proofs.Common.{◌≡◌, ap, ◌∙◌, refl, map, List, ℕ}
-use Rattle.bike_heads.specs.Table.{Rows, table, routes, added_all}
+use Rattle.bike_heads.specs.Table.{Rows, table, routes, with_routes}
 use Rattle.bike_heads.specs.declared.routes.Route.{Route}
 use Rattle.bike_heads.specs.declared.routes.TheConstants.{ROUTES}
 use Rattle.bike_heads.proofs.routes.Routes.new.Goals as goal
@@ -12,6 +12,6 @@ same = refl
 pub invariant_of-result : goal.invariant_of-result
 unfolding table
 invariant_of-result c = record {
-  holds = c.in_ok-add_all.ensures ∙ (ap (λ (l : List (List ℕ × Route)). added_all c.new-router.result l) same
-      ∙ ap (λ (t : Rows). added_all t routes) c.new-router.ensures);
+  holds = c.in_ok-add_all.ensures ∙ (ap (λ (l : List (List ℕ × Route)). with_routes c.new-router.result l) same
+      ∙ ap (λ (t : Rows). with_routes t routes) c.new-router.ensures);
 }
