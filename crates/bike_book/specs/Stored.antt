@@ -1,5 +1,5 @@
 -- The tables of an operator: for each one the row of each record, in the order of its key, stored numbers by their definitions.
-use Rattle.std.specs.Prelude.{◌≡◌, ℕ, ℤ, pos, suc, List, [], ◌∷◌, ◌++◌, map, Option, Some, None, true, false}
+use Rattle.std.specs.Prelude.{◌≡◌, ℕ, pos, suc, List, [], ◌∷◌, ◌++◌, map, Option, Some, None, true, false}
 use Rattle.std.specs.FinMap as fin
 use Rattle.std.specs.FinMap.{FinMap}
 use Rattle.std.specs.FinSet.{FinSet, contains}

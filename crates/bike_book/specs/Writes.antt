@@ -1,20 +1,17 @@
 -- What row changes do to the tables.
-use Rattle.std.specs.Prelude.{ℕ, ℤ, pos, ◌+◌, true, List, [], ◌∷◌, Option, Some, None}
+use Rattle.std.specs.Prelude.{ℕ, pos, ◌+◌, true, List, [], ◌∷◌, Some, None}
 use Rattle.sqlite_value.specs.declared.value.Value.{Value}
-use Rattle.sqlite_value.specs.declared.value.Value.TheVariants.{Null, Int, Text}
+use Rattle.sqlite_value.specs.declared.value.Value.TheVariants.{Int, Text}
 use Rattle.sqlite_value.specs.Order.{Row}
 use Rattle.bike_rows.specs.View.{put_row_by, rows_after_update, with_values}
-use Rattle.bike_operator.specs.declared.records.BikeState.{BikeState}
 use Rattle.bike_operator.specs.declared.records.BikeState.TheVariants.{Fit}
-use Rattle.bike_operator.specs.declared.records.Place.{Place}
 use Rattle.bike_operator.specs.declared.records.Place.TheVariants as place
 use Rattle.bike_operator.specs.Steps.{new_station}
 use Rattle.bike_operator.specs.Changes.{place_of, text_in}
 use Rattle.bike_book.specs.declared.row_change.RowChange.{RowChange}
 use Rattle.bike_book.specs.declared.row_change.RowChange.TheVariants as row
-use Rattle.bike_book.specs.declared.version.TheConstants.{NEWEST}
 use Rattle.bike_book.specs.Tables.{TableName, Tables, rows_in, with_rows, keys_of, Meta, System, Plans, Segments, Types, Stations, Docks, Bikes, Trucks, Riders, Rentals, Orders, Entries, Kept, Counts}
-use Rattle.bike_book.specs.Rows.{truth, number_value, state_number, place_columns, closing_columns, meta_row, system_row, plan_row, segment_row, type_row, station_row, dock_row, bike_row, truck_row, rider_row, rental_row, order_row, entry_row, kept_row, count_row}
+use Rattle.bike_book.specs.Rows.{truth, number_value, state_number, place_columns, closing_columns, system_row, plan_row, segment_row, type_row, station_row, dock_row, bike_row, truck_row, rider_row, rental_row, order_row, entry_row, kept_row, count_row}
 
 -- columns, counted from 0, and what they are set to
 abbrev pub Columns : Type 0
@@ -59,6 +56,8 @@ write_of (row.SetFlags station installed renting returning reported) =
     Set Stations (Text station.now ∷ []) ((5, Int (truth installed)) ∷ (6, Int (truth renting)) ∷ (7, Int (truth returning)) ∷ (8, number_value reported) ∷ [])
 write_of (row.SetReported station reported) = Set Stations (Text station.now ∷ []) ((8, number_value reported) ∷ [])
 write_of (row.SetDocks station free broken) = Set Stations (Text station.now ∷ []) ((9, number_value free) ∷ (10, number_value broken) ∷ [])
+write_of (row.SetDocksReported station free broken reported) =
+    Set Stations (Text station.now ∷ []) ((9, number_value free) ∷ (10, number_value broken) ∷ (8, number_value reported) ∷ [])
 write_of (row.AddDock station dock broken) = Add Docks (dock_row station.now dock broken)
 write_of (row.SetDock station dock broken) = Set Docks (Text station.now ∷ number_value dock ∷ []) ((2, Int (truth broken)) ∷ [])
 write_of (row.AddBike bike type_id) = Add Bikes (bike_row bike (record { type_id = type_id.now; state = Fit; place = place.Depot }))

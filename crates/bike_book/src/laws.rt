@@ -7,6 +7,7 @@ ghost use Rattle.bike_book.specs.ChangeLaws.{AddRentalLaw, CloseRentalLaw, AddOr
 ghost use Rattle.bike_book.specs.CloseLaws.{AtEachClose, QuietCloseLaw, EntryCloseLaw, RefundCloseLaw};
 ghost use Rattle.bike_book.specs.CloseLaws.{AcceptedIsClosed, AcceptedEntryNumber, ChangesLeaveKept};
 ghost use Rattle.bike_book.specs.Found.{WhereListed, FoundByKey, FoundListed, FoundByColumns, FoundNumbers};
+ghost use Rattle.bike_book.specs.Merges.{ReportMergesLaw, ReportMergesBeforeLaw, SameBehindLaw};
 ghost use Rattle.bike_book.specs.NotThere.{WhereSound, NoRefundsYet, NoBalanceYet, NoneDockedYet, NoneBrokenYet};
 
 /// The laws of the changes of the catalogue.
@@ -47,6 +48,13 @@ pub fn books_close()
 pub fn books_in_turn()
     ensures none { NoneInTurn }
     ensures both { BothInTurn }
+{}
+
+/// The law of a station's docks and its report, which are set as one, also where counts are written between.
+pub fn merges_report()
+    ensures at_once { ReportMergesLaw }
+    ensures before { ReportMergesBeforeLaw }
+    ensures behind { SameBehindLaw }
 {}
 
 /// What a decision leaves to the close: no change touches the ledger, and the operator after it is the one closed.

@@ -50,6 +50,13 @@ pub enum RowChange<'a> {
         free: u32,
         broken: u32,
     },
+    /// Sets the same, and when the station reported last.
+    SetDocksReported {
+        station: &'a Ident,
+        free: u32,
+        broken: u32,
+        reported: Moment,
+    },
     /// Adds a row to `docks`.
     AddDock {
         station: &'a Ident,

@@ -28,7 +28,7 @@ use Rattle.bike_moves.proofs.After.{after_place}
 use Rattle.bike_facts.specs.declared.reading.Reading.{Reading}
 use Rattle.bike_booking.specs.declared.stage.Stage.{Stage}
 use Rattle.bike_booking.specs.declared.stage.Stage.TheVariants.{First, Rented, Stored, Moved}
-use Rattle.bike_facts.specs.Touched.{IsTouched}
+use Rattle.bike_facts.specs.Touched.{IsTouched, AreOfTouched}
 use Rattle.bike_facts.specs.Bikes.{HasBike}
 use Rattle.bike_facts.specs.Reading.{IsRead, IsReading}
 use Rattle.bike_booking.specs.Booking.{IsAccepted}
@@ -139,7 +139,7 @@ pub accepted_read : (s : Operator) (m : Listed) (now : ℕ) (q : Request) (a : A
 accepted_read s m now q a r command_is got = record {
   read = record { sound = got.sound; listing = got.listing; view_is = got.view_is ∙ ap (view_of s) (sym command_is) };
   touches = subst (λ (c : Command). IsTouched s c r.touched.now) (sym command_is) got.touches;
-  stored = got.stored;
+  stored = subst (λ (c : Command). AreOfTouched s m c r.touched.now r.numbers.now) (sym command_is) got.stored;
 }
 
 -- all changes are booked, from no row on

@@ -3,3 +3,4 @@ pub mod ClosingLemmas
 pub mod PlanLemmas
 pub mod MoveLemmas
 pub mod MarkLemmas
+pub mod ReportLemmas

@@ -23,7 +23,7 @@ use Rattle.bike_moves.proofs.MarkBooks.{mark_empty, mark_held}
 use Rattle.bike_facts.specs.declared.stored.StoredNumbers.{StoredNumbers}
 use Rattle.bike_facts.specs.declared.touched.Touched.{Touched}
 use Rattle.bike_facts.specs.declared.reading.Reading.{Reading}
-use Rattle.bike_facts.specs.Touched.{AreCounts, type_of_docked, dock_touched, type_touched}
+use Rattle.bike_facts.specs.Touched.{AreCounts, marks_dock, type_of_docked, dock_touched, type_touched}
 use Rattle.bike_facts.specs.Shares.{AreShares}
 use Rattle.bike_booking.specs.Moves.{dock_written, count_written}
 use Rattle.bike_booking.specs.Marks.{IsMarkRead, IsEmptyMarkBooked, IsHeldMarkBooked}
@@ -70,7 +70,7 @@ mark_of s m r t station dock read some k =
       has = record { row = x.row; found = x.found; low = k.low; high = omega (arith, high, docks_are) };
       mark_is = ap (λ (v : View). v.is_dock_broken) (sym view);
       docks = subst (λ (q : List ℕ). HasDockTotals s q (docks_in r.numbers.now)) at (docks_read s m r t read.read.sound d known);
-      has_row = d.stored.has_row ∙ ap₂ (λ (q : List ℕ) (n : ℕ). map.contains_key m.docks (dock_key q n)) at number;
+      has_row = d.stored.has_row (ap marks_dock k.command_is) ∙ ap₂ (λ (q : List ℕ) (n : ℕ). map.contains_key m.docks (dock_key q n)) at number;
       docked_is = ap (λ (v : View). v.docked) view;
       station_is = at;
       known = known;

@@ -46,7 +46,7 @@ pub record IsDockRead (s : Operator) (m : Listed) (r : Reading) (t : Touched) : 
   pub dock_is : dock_touched s r.command.now ≡ Some (t.station.now, t.dock)
   pub type_is : type_touched s r.command.now ≡ option_map (λ (id : Bor (List ℕ)). id.now) t.type_id
   pub mark_is : is_broken s t.station.now t.dock ≡ r.view.now.is_dock_broken
-  pub stored : AreStored s m t r.numbers.now
+  pub stored : AreStored s m r.command.now t r.numbers.now
 
 pub dock_read : (s : Operator) (m : Listed) (r : Reading) (t : Touched) → IsReading s m r → r.touched.now ≡ Some t → IsDockRead s m r t
 dock_read s m r t read some =
@@ -55,7 +55,7 @@ dock_read s m r t read some =
       dock_is = touches.0;
       type_is = touches.1;
       mark_is = mark_shown s r.command.now t.station.now t.dock touches.0 ∙ ap (λ (v : View). v.is_dock_broken) (sym read.read.view_is);
-      stored = subst (λ (o : Option Touched). AreOfTouched s m o r.numbers.now) some read.stored;
+      stored = subst (λ (o : Option Touched). AreOfTouched s m r.command.now o r.numbers.now) some read.stored;
     }
 
 -- ---- its numbers

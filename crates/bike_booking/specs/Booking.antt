@@ -39,7 +39,7 @@ pub record IsAccepted (s : Operator) (m : Listed) (now : ℕ) (q : Request) (vie
   pub listing : IsListing s m
   pub view_is : view ≡ view_of s q.command
   pub touches : IsTouched s q.command touched
-  pub stored : AreOfTouched s m touched numbers
+  pub stored : AreOfTouched s m q.command touched numbers
   pub decides : Decides s now q.command (Ok a)
   pub sound_after : IsSound (after_acceptance s now q)
 

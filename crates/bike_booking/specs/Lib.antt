@@ -4,3 +4,4 @@ pub mod Stages
 pub mod Plans
 pub mod Closing
 pub mod Booking
+pub mod Reports

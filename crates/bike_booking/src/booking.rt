@@ -13,6 +13,7 @@ use crate::closing::{book_close, book_entry, sums_after};
 use crate::marks::book_mark;
 use crate::moves::{book_place, book_state};
 use crate::plans::book_plan;
+use crate::report::push_report;
 use crate::rows::{book_record, book_rental};
 use crate::stage::Stage;
 use crate::stored::Sums;
@@ -113,11 +114,7 @@ fn book_moved<'a>(
 {
     match change {
         Change::Report { station } => {
-            let row = RowChange::SetReported {
-                station,
-                reported: now,
-            };
-            if !rows.push(row).is_ok() {
+            if !push_report(rows, station, now) {
                 return None;
             }
             Some(Stage::Moved)

@@ -6,6 +6,7 @@ mod closing;
 mod marks;
 mod moves;
 mod plans;
+mod report;
 mod rows;
 mod stage;
 mod stored;

@@ -73,7 +73,7 @@ booked_next old new s now q h rows same keeps sound books =
     record { keeps = keeps; stores = again; listed = books.listed; leads = books.leads; sound = sound }
 
 pub accepts_reads : (s : Operator) (m : Listed) (now : ℕ) (q : Request) (meta : MetaRow) (view : View) (entry : Option Entry) (changes : List (Option Change)) (texts : KeptTexts) (touched : Option Touched) (n : StoredNumbers)
-    → IsSound s → IsListing s m → (it : Accepts s now q meta view entry changes texts) → IsTouched s q.command touched → AreOfTouched s m touched n
+    → IsSound s → IsListing s m → (it : Accepts s now q meta view entry changes texts) → IsTouched s q.command touched → AreOfTouched s m q.command touched n
     → IsAccepted s m now q view touched n (record { reply = it.reply; entry = entry; changes = changes })
 accepts_reads s m now q meta view entry changes texts touched n sound listing it touches stored =
     record { sound = sound; listing = listing; view_is = it.view_is; touches = touches; stored = stored; decides = it.decides; sound_after = it.sound_after }

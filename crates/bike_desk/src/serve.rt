@@ -75,7 +75,7 @@ fn store_accepted<'a, S: Alter>(
 {
     let command = &request.command;
     let touched = find_touched(command, view);
-    let numbers = find_numbers(conn, &touched)?;
+    let numbers = find_numbers(conn, command, &touched)?;
     let sums = Sums {
         cash: meta.cash,
         revenue: meta.revenue,

@@ -19,4 +19,4 @@ pub record IsRead (s : Operator) (m : Listed) (command : Command) (view : View) 
 pub record IsReading (s : Operator) (m : Listed) (r : Reading) : Type 0 where
   pub read : IsRead s m r.command.now r.view.now
   pub touches : IsTouched s r.command.now r.touched.now
-  pub stored : AreOfTouched s m r.touched.now r.numbers.now
+  pub stored : AreOfTouched s m r.command.now r.touched.now r.numbers.now

@@ -1,5 +1,5 @@
 -- The one dock whose bicycle or mark a command changes, the type of that bicycle, and what the tables store of both.
-use Rattle.std.specs.Prelude.{◌≡◌, ℕ, List, Option, Some, None, option_map, IfSome}
+use Rattle.std.specs.Prelude.{◌≡◌, ℕ, List, Bool, true, false, Option, Some, None, option_map, IfSome}
 use Rattle.std.specs.FinMap as map
 use Rattle.bike_texts.specs.declared.ends.OrderEnd.{OrderEnd}
 use Rattle.bike_texts.specs.declared.ends.OrderEnd.TheVariants as end
@@ -82,14 +82,19 @@ pub record AreCounts (s : Operator) (m : Listed) (station : List ℕ) (n : Store
   pub disabled : n.disabled ≡ disabled_of s station type_id
   pub has_row : n.has_count_row ≡ map.contains_key m.counts (key_of station type_id)
 
--- What the tables store of a dock's station, of the dock, and of a type there, where the command touches one.
-pub record AreStored (s : Operator) (m : Listed) (t : Touched) (n : StoredNumbers) : Type 0 where
+-- the command marks the dock that it touches
+abbrev pub marks_dock : Command → Bool
+marks_dock (command.MarkDock station dock broken) = true
+marks_dock c = false
+
+-- What the tables store of a dock's station, of a type there, and of the dock where the command marks it.
+pub record AreStored (s : Operator) (m : Listed) (c : Command) (t : Touched) (n : StoredNumbers) : Type 0 where
   pub free : (x : Station) → map.get s.stations t.station.now ≡ Some x → n.free ≡ docks_available s t.station.now x.row.docks
   pub broken : (x : Station) → map.get s.stations t.station.now ≡ Some x → n.broken ≡ docks_broken s t.station.now x.row.docks
-  pub has_row : n.has_dock_row ≡ map.contains_key m.docks (dock_key t.station.now t.dock)
+  pub has_row : marks_dock c ≡ true → n.has_dock_row ≡ map.contains_key m.docks (dock_key t.station.now t.dock)
   pub counts : IfSome t.type_id (λ id. AreCounts s m t.station.now n id.now)
 
 -- the numbers are those of what the command touches, and anything where it touches nothing
-abbrev pub AreOfTouched : Operator → Listed → Option Touched → StoredNumbers → Type 0
-AreOfTouched s m None n = Unit {0}
-AreOfTouched s m (Some t) n = AreStored s m t n
+abbrev pub AreOfTouched : Operator → Listed → Command → Option Touched → StoredNumbers → Type 0
+AreOfTouched s m c None n = Unit {0}
+AreOfTouched s m c (Some t) n = AreStored s m c t n

@@ -4,7 +4,7 @@ ghost use Rattle.std.specs.Prelude.{◌≡◌, option_map};
 ghost use Rattle.bike_operator.specs.Operator.{Operator};
 ghost use Rattle.bike_operator.specs.View.{view_of};
 ghost use Rattle.bike_operator.specs.Sound.{IsSound};
-ghost use Rattle.bike_facts.specs.Touched.{dock_of_bike, dock_of_order, type_of_bike, IsDockWith, IsTouched};
+ghost use Rattle.bike_facts.specs.Touched.{dock_of_bike, dock_of_order, type_of_bike, marks_dock, IsDockWith, IsTouched};
 
 use crate::touched::Touched;
 use bike_commands::Command;
@@ -67,6 +67,16 @@ fn order_dock<'a>(view: &'a View, side: Side, dock: UnloadDock) -> Option<Touche
             dock: dock.get(),
             type_id: bike_type(view),
         }),
+    }
+}
+
+/// Whether the command marks the dock that it touches.
+pub fn marks_dock(command: &Command) -> bool
+    ensures { result ≡ marks_dock command.now }
+{
+    match command {
+        Command::MarkDock { .. } => true,
+        _ => false,
     }
 }
 

@@ -16,7 +16,7 @@ mod touched;
 
 pub use bikes::{BikeRow, bike_read};
 pub use docks::{has_station, is_place_at};
-pub use finding::find_touched;
+pub use finding::{find_touched, marks_dock};
 pub use reading::{
     Reading, balance_read, has_rider, is_same, lacks_bike, lacks_plan, lacks_station, next_order,
     next_rental, order_read, refunds_read,

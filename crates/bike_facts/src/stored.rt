@@ -1,14 +1,14 @@
 //! Numbers that the tables store of a dock, as a request reads them.
 
-/// What the tables store of the dock that a command touches: its station's docks, whether the dock has a row, and the
-/// counts of a type there. All 0 and `false` where it touches none.
+/// What the tables store of the dock that a command touches: its station's docks, whether the dock has a row where the
+/// command marks it, and the counts of a type there. All 0 and `false` where it touches none.
 #[derive(Clone, Copy, Debug, PartialEq, Eq)]
 pub struct StoredNumbers {
     /// How many docks of the station are available.
     pub free: u32,
     /// How many docks of the station are broken.
     pub broken: u32,
-    /// Whether the dock has a row of `docks`.
+    /// Whether the dock has a row of `docks`; `false` where the command marks no dock.
     pub has_dock_row: bool,
     /// How many bicycles of the type can be rented at the station.
     pub available: u32,

@@ -1,14 +1,15 @@
 //! What the tables store of the dock that a command touches.
 
-ghost use Rattle.std.specs.Prelude.{◌≡◌, IfSome};
+ghost use Rattle.std.specs.Prelude.{◌≡◌, true, IfSome};
+ghost use Rattle.std.specs.FinMap as map;
 ghost use Rattle.bike_schema.specs.Answers.{Answers};
-ghost use Rattle.bike_facts.specs.Touched.{AreCounts, AreStored};
-ghost use Rattle.bike_facts.specs.Touched.{AreOfTouched};
+ghost use Rattle.bike_operator.specs.Operator.{dock_key};
+ghost use Rattle.bike_facts.specs.Touched.{marks_dock, AreCounts, AreStored, AreOfTouched};
 ghost use Rattle.bike_views.specs.Open.{AnswersOpen};
 ghost use Rattle.bike_views.specs.Parts.{no_numbers as none_stored};
 
-use bike_accounts::has_system;
-use bike_facts::{StoredNumbers, Touched};
+use bike_commands::Command;
+use bike_facts::{StoredNumbers, Touched, marks_dock};
 use bike_fields::Ident;
 use bike_fleet::{DockNumbers, find_counts, find_dock_numbers, find_mark};
 use bike_schema::StatementFault;
@@ -51,43 +52,57 @@ fn find_type_numbers<S: Alter>(
     }
 }
 
+/// Whether the dock has a row, where the command marks it.
+fn has_mark<S: Alter>(
+    conn: &mut Connection<S>,
+    command: &Command,
+    touched: &Touched<'_>,
+) -> Result<bool, StatementFault>
+    ensures { AnswersOpen S.Store conn.old conn.new result (λ s m has. marks_dock command.now ≡ true
+        → has ≡ map.contains_key m.docks (dock_key touched.now.station.now touched.now.dock)) }
+{
+    if !marks_dock(command) {
+        return Ok(false);
+    }
+    let mark = find_mark(conn, touched.station, touched.dock)?;
+    Ok(mark.is_some())
+}
+
 /// The numbers of the dock, its station, and the type there.
 fn find_touched_numbers<S: Alter>(
     conn: &mut Connection<S>,
+    command: &Command,
     touched: &Touched<'_>,
 ) -> Result<StoredNumbers, StatementFault>
-    ensures { Answers S.Store conn.old conn.new result (λ s m n. AreStored s m touched.now n) }
+    ensures { Answers S.Store conn.old conn.new result (λ s m n. AreStored s m command.now touched.now n) }
 {
     let docks = find_dock_numbers(conn, touched.station)?;
-    let mark = find_mark(conn, touched.station, touched.dock)?;
+    let has_dock_row = has_mark(conn, command, touched)?;
     let counted = find_type_numbers(conn, touched.station, &touched.type_id)?;
     let none = DockNumbers { free: 0, broken: 0 };
     let docks = docks.unwrap_or(none);
     Ok(StoredNumbers {
         free: docks.free,
         broken: docks.broken,
-        has_dock_row: mark.is_some(),
+        has_dock_row,
         ..counted
     })
 }
 
-/// What the tables store of the dock that a command touches, of its station, and of a type there: 0 and `false` for
-/// what has no row, and where nothing is touched.
+/// What the tables store of the dock that a command touches, where it marks it, of its station, and of a type there: 0 and
+/// `false` for what has no row, and where nothing is touched. Where nothing is touched nothing is read.
 ///
 /// `NoMemory` comes where the engine wants memory that is refused, and `StoreFailed` where it fails otherwise, or a row
 /// holds what the product never writes. In each case the tables are as before the call, or as before the transaction.
 pub fn find_numbers<S: Alter>(
     conn: &mut Connection<S>,
+    command: &Command,
     touched: &Option<Touched<'_>>,
 ) -> Result<StoredNumbers, StatementFault>
-    ensures { Answers S.Store conn.old conn.new result (λ s m n. AreOfTouched s m touched.now n) }
+    ensures { AnswersOpen S.Store conn.old conn.new result (λ s m n. AreOfTouched s m command.now touched.now n) }
 {
     match touched {
-        None => {
-            // Only a read tells that the connection is open.
-            let _ = has_system(conn)?;
-            Ok(no_numbers())
-        }
-        Some(touched) => find_touched_numbers(conn, touched),
+        None => Ok(no_numbers()),
+        Some(touched) => find_touched_numbers(conn, command, touched),
     }
 }

@@ -29,6 +29,10 @@ pub sets_docks : (station : Bor (List ℕ)) (free broken : ℕ) → Makes (codes
 unfolding everything
 sets_docks station free broken = sets_columns Stations _ _ (row_updated (table_key Stations) 0 ((9, 1) ∷ (10, 2) ∷ []) _ (λ tree. (refl, refl, refl), refl) refl refl refl (λ r. refl) (λ r. refl))
 
+pub sets_docks_reported : (station : Bor (List ℕ)) (free broken reported : ℕ) → Makes (codes "UPDATE stations SET free = ?2, broken = ?3, reported = ?4 WHERE station_id = ?1") (Text station.now ∷ number_value free ∷ number_value broken ∷ number_value reported ∷ []) (row.SetDocksReported station free broken reported)
+unfolding everything
+sets_docks_reported station free broken reported = sets_columns Stations _ _ (row_updated (table_key Stations) 0 ((9, 1) ∷ (10, 2) ∷ (8, 3) ∷ []) _ (λ tree. (refl, refl, refl), refl) refl refl refl (λ r. refl) (λ r. refl))
+
 pub adds_dock : (station : Bor (List ℕ)) (dock : ℕ) (broken : Bool) → Makes (codes "INSERT INTO docks VALUES (?1, ?2, ?3)") (dock_row station.now dock broken) (row.AddDock station dock broken)
 unfolding everything
 adds_dock station dock broken = adds_row Docks (row_put (table_key Docks) (λ s tree. (refl, refl, refl, λ base. refl)) refl refl (λ rows. refl))

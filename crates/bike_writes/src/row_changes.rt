@@ -10,7 +10,8 @@ use crate::orders::{add_order, set_order};
 use crate::rentals::{add_rental, close_rental, set_refunded};
 use crate::riders::{add_rider, set_balance, set_blocked};
 use crate::stations::{
-    add_count, add_dock, add_station, set_count, set_dock, set_docks, set_flags, set_reported,
+    add_count, add_dock, add_station, set_count, set_dock, set_docks, set_docks_reported,
+    set_flags, set_reported,
 };
 use bike_book::RowChange;
 use bike_schema::{Staged, StatementFault};
@@ -50,6 +51,12 @@ pub fn put<S: Alter>(tx: &mut Staged<'_, S>, change: &RowChange<'_>) -> Result<(
             free,
             broken,
         } => set_docks(tx, station, free, broken),
+        RowChange::SetDocksReported {
+            station,
+            free,
+            broken,
+            reported,
+        } => set_docks_reported(tx, station, free, broken, reported),
         RowChange::AddDock {
             station,
             dock,

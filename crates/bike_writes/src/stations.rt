@@ -95,6 +95,23 @@ pub(crate) fn set_docks<S: Alter>(
     )
 }
 
+/// Sets how many docks of a station are available, how many are broken, and when the station reported last.
+pub(crate) fn set_docks_reported<S: Alter>(
+    tx: &mut Staged<'_, S>,
+    station: &Ident,
+    free: u32,
+    broken: u32,
+    reported: Moment,
+) -> Result<(), StatementFault>
+    ensures { Writes S.Store tx.old.conn tx.new.conn result (write_of (row.SetDocksReported station.entry free broken reported)) }
+{
+    run(
+        tx,
+        "UPDATE stations SET free = ?2, broken = ?3, reported = ?4 WHERE station_id = ?1",
+        params![station.as_str(), free, broken, seconds_of(reported)],
+    )
+}
+
 /// Adds a dock.
 pub(crate) fn add_dock<S: Alter>(
     tx: &mut Staged<'_, S>,

@@ -1,4 +1,4 @@
-use Rattle.std.proofs.Common.{◌≡◌, [], ◌∷◌, Some, refl, sym, ap, ◌∙◌, subst, arith}
+use Rattle.std.proofs.Common.{◌≡◌, [], ◌∷◌, ◌++◌, Some, refl, sym, ap, ◌∙◌, subst, arith}
 use Rattle.bike_operator.specs.declared.change.Change.{Change}
 use Rattle.bike_operator.specs.declared.change.Change.TheVariants as change
 use Rattle.bike_operator.specs.Operator.{item_numbered}
@@ -9,16 +9,18 @@ use Rattle.bike_moves.proofs.ReportBooks.{report}
 use Rattle.bike_booking.specs.declared.stage.Stage.TheVariants.{Moved, Last}
 use Rattle.bike_booking.specs.Stages.{IsOn}
 use Rattle.bike_booking.proofs.BookingLemmas.{added, on_then}
+use Rattle.bike_booking.proofs.ReportLemmas.{on_same}
 use Rattle.bike_booking.proofs.booking.book_moved.Goals as goal
 
-pub returns-else-not-is_ok : goal.returns-else-not-is_ok
-returns-else-not-is_ok c = λ first s m read on.
+pub returns-in-Report : goal.returns-in-Report
+returns-in-Report c = λ first s m read on.
     let station = c.in-Report.station in
     let now = c.args.now in
     let rows = row.SetReported station now ∷ [] in
-    let are = added c.args.rows.now.items rows c.push.result c.push.ensures.items c.if-not-is_ok.false c.is_ok.ensures.value in
-    subst (λ (d : Change). IsOn first m (with_change now d s) Moved c.push.new.self.items) (sym c.in-Report.is)
-    (on_then first m s (with_change now (change.Report station) s) Moved Moved c.args.rows.now.items rows c.push.new.self.items on on.listed (report s on.listed now on.books.listing station) on.stands are)
+    let before = c.args.rows.now.items in
+    subst (λ (d : Change). IsOn first m (with_change now d s) Moved c.push_report.new.rows.items) (sym c.in-Report.is)
+    (on_same first m (with_change now (change.Report station) s) Moved (before ++ rows) c.push_report.new.rows.items (c.push_report.ensures c.if-not-push_report.false)
+    (on_then first m s (with_change now (change.Report station) s) Moved Moved before rows (before ++ rows) on on.listed (report s on.listed now on.books.listing station) on.stands refl))
 
 pub returns-else-not-is_ok-2 : goal.returns-else-not-is_ok-2
 returns-else-not-is_ok-2 c = λ first s m read on.

@@ -1,7 +1,7 @@
 use Rattle.std.proofs.Common.{◌≡◌, refl, ap, ◌∙◌}
 use Rattle.std.specs.Prelude.{option_map, unwrap_or, Some}
 use Rattle.std.specs.FinMap as map
-use Rattle.bike_rows.proofs.ChainLaws.{reads_as, reads_both}
+use Rattle.bike_rows.proofs.ChainLaws.{reads_as}
 use Rattle.bike_operator.specs.Operator.{Station}
 use Rattle.bike_fleet.specs.declared.stations.DockNumbers.{DockNumbers}
 use Rattle.bike_fleet.specs.Fleet.{dock_numbers_of}
@@ -10,7 +10,7 @@ use Rattle.bike_views.proofs.PartLemmas.{counts_kept}
 use Rattle.bike_views.proofs.numbers.find_touched_numbers.Goals as goal
 
 pub returns : goal.returns
-returns g c = reads_as (open_both (reads_both c.in_ok-docks.ensures c.in_ok-mark.ensures) c.in_ok-counted.ensures) (λ db it s h.
+returns g c = reads_as (open_both (open_both c.in_ok-docks.ensures c.in_ok-has_dock_row.ensures) c.in_ok-counted.ensures) (λ db it s h.
     let station = c.args.touched.now.station.now in
     let none : DockNumbers = record { free = 0; broken = 0 } in
     let docks = λ (x : Station) (at : map.get s.stations station ≡ Some x).
@@ -18,6 +18,6 @@ returns g c = reads_as (open_both (reads_both c.in_ok-docks.ensures c.in_ok-mark
     record {
       free = λ x at. ap (λ d. d.free) (docks x at);
       broken = λ x at. ap (λ d. d.broken) (docks x at);
-      has_row = c.is_some.ensures ∙ (it.0.1 s h).0;
+      has_row = it.0.1 s h;
       counts = counts_kept s h.listed station (λ id. id.now) c.args.touched.now.type_id _ c.in_ok-counted.counted refl refl refl (it.1 s h);
     })
