@@ -11,8 +11,8 @@ use Rattle.bike_operator.specs.Runs.{Call, after}
 use Rattle.bike_operator.specs.Sound.{AreCalls}
 use Rattle.bike_schema.specs.Stands.{IsOf, TreesStandFor}
 use Rattle.bike_http.specs.Desk.{DeskValue}
-use Rattle.bike_http.specs.AdoptFault.{AdoptFault}
-use Rattle.bike_http.specs.Adoption.{handed, IsToldOf, IsWant}
+use Rattle.bike_adoption.specs.declared.adopt.AdoptFault.{AdoptFault}
+use Rattle.bike_adoption.specs.Adoption.{handed, IsToldOf, IsWant}
 use Rattle.bike_stream.specs.Lines.{lines_of}
 use Rattle.bike_app.specs.declared.fault.LinesFault.{LinesFault}
 use Rattle.bike_app.specs.declared.end.Fault.{Fault}

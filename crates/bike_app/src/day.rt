@@ -10,6 +10,7 @@ ghost use Rattle.bike_http.specs.Desk.{desk_state, IsAt};
 ghost use Rattle.bike_app.specs.Days.{ReportsAt, TellsReported, table_end};
 
 use crate::end::Fault;
+use bike_adoption::adopt;
 use bike_days::{DayTable, DayTableFault, day_csv};
 use bike_http::Desk;
 use sqlite::{Alter, Connection};
@@ -66,7 +67,7 @@ pub fn report_day<S: Alter, R: Read, W: Write>(
         → TreesStandFor s (state S.Store conn).now.trees → IsTrue (state S.Store conn).is_open
         → AllLeft (state S.Store result.0) (TreesStandFor s) }
 {
-    match Desk::adopt(alloc, conn) {
+    match adopt(alloc, conn) {
         Ok(mut desk) => {
             let end = report_at(alloc, &mut desk, table, date, zone, writer);
             (desk.close(), end)

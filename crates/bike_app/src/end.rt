@@ -3,17 +3,18 @@
 ghost use Rattle.std.specs.Prelude.{◌≡◌, ◌++◌, codes};
 ghost use Rattle.std.specs.Fmt.{decimal};
 ghost use Rattle.std.specs.Process.{exit_status};
-ghost use Rattle.bike_http.specs.Adoption.{handed};
+ghost use Rattle.bike_adoption.specs.Adoption.{handed};
 ghost use Rattle.bike_app.specs.Pieces.{AppendsSome, Puts};
 ghost use Rattle.bike_app.specs.Ends.{word_of, row_detail, detail_of, fault_status, status_of, line_of};
 ghost use Rattle.bike_app.specs.Ends.{adopt_fault, day_fault, fault_of_desk, feed_fault, import_fault, table_fault};
 
 use crate::fault::LinesFault;
 use crate::pieces::{put, put_key, put_number};
+use bike_adoption::{AdoptFault, BadRow};
 use bike_commands::Refusal;
 use bike_days::DayTableFault;
 use bike_fixed::DayFault;
-use bike_http::{AdoptFault, BadRow, DeskFault, FeedFault};
+use bike_http::{DeskFault, FeedFault};
 use bike_imports::ImportFault;
 use sqlite::{Alter, Connection, ErrorCode};
 use std::alloc::AllocError;

@@ -10,6 +10,7 @@ ghost use Rattle.bike_http.specs.Desk.{desk_state, IsAt};
 ghost use Rattle.bike_app.specs.Feeds.{PublishesAt, TellsPublished, feed_end, moment_of};
 
 use crate::end::Fault;
+use bike_adoption::adopt;
 use bike_fixed::Moment;
 use bike_http::{Desk, Feed, FeedFault, write_feed};
 use sqlite::{Alter, Connection};
@@ -93,7 +94,7 @@ pub fn publish<S: Alter, R: Read, W: Write>(
         → TreesStandFor s (state S.Store conn).now.trees → IsTrue (state S.Store conn).is_open
         → AllLeft (state S.Store result.0) (TreesStandFor s) }
 {
-    match Desk::adopt(alloc, conn) {
+    match adopt(alloc, conn) {
         Ok(mut desk) => {
             let end = publish_at(alloc, &mut desk, feed, moment, writer);
             (desk.close(), end)

@@ -13,8 +13,8 @@ ghost use Rattle.bike_app.specs.Files.{DoesOverFile, HoldsOperator, IsUntouched,
 
 use crate::end::Fault;
 use crate::words::run_words;
+use bike_adoption::Watch;
 use bike_fixed::Moment;
-use bike_http::Watch;
 use bike_words::Task;
 use sqlite::{Connection, FileFrom, FileStore, Start};
 use std::io::{Read, Write};

@@ -15,6 +15,7 @@ ghost use Rattle.bike_app.specs.Imports.{TellsImport, TellsImported, TellsRows, 
 
 use crate::end::Fault;
 use crate::pieces::{put, put_number};
+use bike_adoption::adopt;
 use bike_fields::Ident;
 use bike_fixed::Moment;
 use bike_http::{Desk, DeskFault};
@@ -113,7 +114,7 @@ pub fn import_from<S: Alter, R: Read, W: Write>(
         → TreesStandFor s (state S.Store conn).now.trees → IsTrue (state S.Store conn).is_open
         → AllLeft (state S.Store result.0) (StandsAfterSome s) }
 {
-    match Desk::adopt(alloc, conn) {
+    match adopt(alloc, conn) {
         Ok(mut desk) => {
             let end = import_at(alloc, &mut desk, name, moment, reader, writer);
             (desk.close(), end)

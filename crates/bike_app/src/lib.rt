@@ -16,7 +16,8 @@ mod progress;
 mod server;
 mod words;
 
-pub use bike_http::{Feed, Unwatched, Watch};
+pub use bike_adoption::{Unwatched, Watch};
+pub use bike_http::Feed;
 pub use blank::make_file;
 pub use day::report_day;
 pub use end::{Fault, exit_code};

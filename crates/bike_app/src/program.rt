@@ -10,7 +10,7 @@ ghost use Rattle.bike_app.specs.Program.{Serves, StandsAfterSome, ServesInMemory
 
 use crate::end::Fault;
 use crate::lines::run_lines;
-use bike_http::Desk;
+use bike_adoption::adopt;
 use sqlite::{Alter, Connection};
 use std::alloc::Global;
 use std::io::{Read, Write};
@@ -32,7 +32,7 @@ pub fn serve<S: Alter, R: Read, W: Write>(
         → TreesStandFor s (state S.Store conn).now.trees → IsTrue (state S.Store conn).is_open
         → AllLeft (state S.Store result.0) (StandsAfterSome s) }
 {
-    match Desk::adopt(alloc, conn) {
+    match adopt(alloc, conn) {
         Ok(mut desk) => {
             let end = run_lines(alloc, &mut desk, reader, writer);
             (desk.close(), end.map_err(Fault::from))

@@ -3,6 +3,7 @@
 ghost use Rattle.std.specs.Prelude.{◌≡◌, false};
 
 use crate::end::Fault;
+use bike_adoption::adopt;
 use bike_fixed::Moment;
 use bike_heads::Routes;
 use bike_http::{Desk, ServeFault, Served, serve_one};
@@ -174,7 +175,7 @@ pub fn listen<S: Alter + Drop, W: Write>(
 ) -> Result<u64, Fault>
     requires { conn.in_transaction ≡ false }
 {
-    match Desk::adopt(rt.alloc(), conn) {
+    match adopt(rt.alloc(), conn) {
         Ok(mut desk) => {
             let served = listen_all(rt, &mut desk, port, count, writer);
             drop(desk);

@@ -14,8 +14,8 @@ use crate::end::Fault;
 use crate::feed::{moment_of, publish};
 use crate::import::import_from;
 use crate::program::serve;
+use bike_adoption::{Unwatched, Watch, adopt_watched};
 use bike_fixed::Moment;
-use bike_http::{Desk, Unwatched, Watch};
 use bike_stream::write_whole;
 use bike_words::Task;
 use sqlite::{Alter, Connection};
@@ -50,7 +50,7 @@ fn take_up<S: Alter, R: Read, W: Write, P: Watch>(
         → TreesStandFor s (state S.Store conn).now.trees → IsTrue (state S.Store conn).is_open
         → AllLeft (state S.Store result.0) (TreesStandFor s) }
 {
-    match Desk::adopt_watched(alloc, conn, watch) {
+    match adopt_watched(alloc, conn, watch) {
         Ok(desk) => (desk.close(), write_line(writer, line)),
         Err(fault) => {
             let (conn, told) = Fault::taken_from(fault);

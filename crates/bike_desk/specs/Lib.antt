@@ -1,5 +1,4 @@
 pub mod Desk
 pub mod Serving
 pub mod Runs
-pub mod Adoption
 pub mod Queries

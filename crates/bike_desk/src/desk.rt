@@ -40,8 +40,9 @@ impl<S: Alter> Model for Desk<S> {
 }
 
 impl<S: Alter> Desk<S> {
-    /// A desk over a connection that was adopted.
-    pub(crate) fn over(conn: Connection<S>) -> Desk<S>
+    /// A desk over a connection, whatever its database holds. One that begins at an operator is made by an adoption,
+    /// which audits the tables first.
+    pub fn over(conn: Connection<S>) -> Desk<S>
         ensures { result ≡ record { conn = conn; is_stopped = conn.in_transaction } }
     {
         Desk {

@@ -4,7 +4,6 @@
 //! after the acknowledged requests, or after one more where the store failed in its midst.
 #![tactic(auto)]
 
-mod adopt;
 mod day;
 mod desk;
 mod fault;
@@ -14,8 +13,6 @@ mod serve;
 mod transaction;
 mod walk;
 
-pub use adopt::AdoptFault;
-pub use bike_audit::{BadRow, Unwatched, Watch};
 pub use desk::Desk;
 pub use fault::DeskFault;
 pub use run::Run;

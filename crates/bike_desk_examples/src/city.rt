@@ -1,5 +1,6 @@
 //! The city's request lines with their answers, and a desk that serves them.
 
+use bike_adoption::adopt;
 use bike_commands::Request;
 use bike_desk::{Desk, DeskFault};
 use bike_fixed::Moment;
@@ -71,7 +72,7 @@ pub const CARRY: [Exchange; 4] = [
 
 /// A desk over an empty database in memory.
 fn open_desk(alloc: Global) -> Result<Desk<MemStore>, Fail> {
-    match Desk::adopt(alloc, Connection::open_in_memory(alloc)?) {
+    match adopt(alloc, Connection::open_in_memory(alloc)?) {
         Ok(desk) => Ok(desk),
         Err(_) => Err("an empty database is adopted".into()),
     }

@@ -2,7 +2,5 @@ pub mod Publishing
 pub mod Walking
 pub use Rattle.bike_desk.specs.Desk
 pub use Rattle.bike_desk.specs.Queries
-pub use Rattle.bike_desk.specs.Adoption
 pub use Rattle.bike_desk.specs.Runs
 pub use Rattle.bike_desk.specs.declared.fault.DeskFault
-pub use Rattle.bike_desk.specs.declared.adopt.AdoptFault

@@ -10,7 +10,7 @@ mod feed;
 mod items;
 mod list;
 
-pub use bike_desk::{AdoptFault, BadRow, Desk, DeskFault, Unwatched, Watch};
+pub use bike_desk::{Desk, DeskFault};
 pub use bike_feed_texts::Feed;
 pub use fault::FeedFault;
 pub use feed::{feed_length, write_feed};

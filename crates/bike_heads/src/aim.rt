@@ -50,7 +50,7 @@ fn allowed(resource: &Resource) -> Allow
     }
 }
 
-#[tactic(auto, unfolding(crate::specs::Aim::permitted))]
+#[tactic(auto, unfolding(crate::specs::Aim::resource_or_rejection))]
 fn permitted(method: &[u8], resource: Option<Resource>) -> Result<Resource, Rejection>
     ensures { result ≡ resource_or_rejection method.now resource }
 {

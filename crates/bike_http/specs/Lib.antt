@@ -3,9 +3,7 @@ pub mod Rows
 pub mod Exchange
 pub mod Telling
 pub use Rattle.bike_feeds.specs.Desk
-pub use Rattle.bike_feeds.specs.Adoption
 pub use Rattle.bike_feeds.specs.Runs
 pub use Rattle.bike_feeds.specs.Publishing
 pub use Rattle.bike_feeds.specs.DeskFault
-pub use Rattle.bike_feeds.specs.AdoptFault
 pub use Rattle.bike_feeds.specs.declared.fault.FeedFault

@@ -26,7 +26,7 @@ pub enum Asked {
 /// What the body of a request to act asks for: a body that is no JSON object (RFC 8259) of UTF-8, nested at most 127 deep,
 /// is a bad request; a member that is missing, of another kind or out of its bounds is a bad field. Other members are
 /// ignored, and of equal ones the last counts.
-#[tactic(auto, unfolding(crate::specs::Asked::posted))]
+#[tactic(auto, unfolding(crate::specs::Asked::asked_by_body))]
 fn read_posted(alloc: Global, action: Action, body: &[u8]) -> Result<Asked, AllocError>
     ensures { IfOk result (λ asked. asked ≡ asked_by_body action body.now) }
 {

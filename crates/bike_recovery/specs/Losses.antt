@@ -4,7 +4,7 @@ use Rattle.sqlite_trees.specs.View.{IsClean}
 use Rattle.sqlite_trees.specs.declared.store.Store.{Ghosts}
 use Rattle.sqlite.specs.State.{HasCleanDisk}
 use Rattle.sqlite.specs.Held.{state}
-use Rattle.bike_feeds.specs.Adoption.{handed, IsWant}
+use Rattle.bike_adoption.specs.Adoption.{handed, IsWant}
 use Rattle.bike_recovery.specs.declared.reopening.Shut.{Shut as ShutStore}
 use Rattle.bike_recovery.specs.declared.reopening.Shut.TheVariants.{NoMemory, StoreFailed}
 use Rattle.bike_recovery.specs.declared.crash.Lost.{Lost}

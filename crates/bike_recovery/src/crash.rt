@@ -7,7 +7,7 @@ ghost use Rattle.sqlite.specs.Steps.{over_memory};
 ghost use Rattle.sqlite_trees.specs.View.{doubt};
 ghost use Rattle.bike_operator.specs.Operator.{Operator, no_operator};
 ghost use Rattle.bike_feeds.specs.Desk.{desk_state, IsAt};
-ghost use Rattle.bike_feeds.specs.Adoption.{handed, IsWant};
+ghost use Rattle.bike_adoption.specs.Adoption.{handed, IsWant};
 ghost use Rattle.bike_feeds.specs.Runs.{IsAfterFront, IsAtFront, Ran, StopsBy};
 ghost use Rattle.bike_schema.specs.Stands.{AllLeft};
 ghost use Rattle.bike_recovery.specs.Recovery.{ReadsFront, AreReplies, TellsStopped};
@@ -15,8 +15,9 @@ ghost use Rattle.bike_recovery.specs.Losses.{IsOnlyWant};
 
 use crate::reading::{Reading, read_again};
 use crate::reopening::{Shut, open_again};
+use bike_adoption::{AdoptFault, adopt};
 use bike_commands::{Reply, Request};
-use bike_feeds::{AdoptFault, Desk, DeskFault};
+use bike_feeds::{Desk, DeskFault};
 use bike_fields::BicycleNumber;
 use bike_fixed::Moment;
 use sqlite::{Alter, Connection, MemStore};
@@ -65,7 +66,7 @@ pub fn run_adopt_and_read<S: Alter, T: Alter, W: Write>(
         replies: run.replies,
         end: run.end,
     };
-    match Desk::adopt(alloc, left) {
+    match adopt(alloc, left) {
         Ok(mut again) => {
             let reading = read_again(alloc, &mut again, bike, moment, out);
             (told, Ok((again, reading)))
@@ -95,7 +96,7 @@ fn resume<S: Alter + Reopen + Drop>(alloc: Global, desk: Desk<S>) -> Result<Desk
         Ok(conn) => conn,
         Err(shut) => return Err(Lost::Shut(shut)),
     };
-    match Desk::adopt(alloc, conn) {
+    match adopt(alloc, conn) {
         Ok(desk) => Ok(desk),
         Err(fault) => Err(Lost::Refused(fault)),
     }
@@ -157,7 +158,7 @@ pub fn run_in_memory<W: Write>(
     let Ok(conn) = Connection::open_in_memory(alloc) else {
         return None;
     };
-    let Ok(desk) = Desk::adopt(alloc, conn) else {
+    let Ok(desk) = adopt(alloc, conn) else {
         return None;
     };
     Some(run_crash_and_read(alloc, desk, calls, bike, moment, out))

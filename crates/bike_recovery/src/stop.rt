@@ -16,8 +16,9 @@ ghost use Rattle.bike_recovery.specs.Files.{MayHold, IsAtSomeFront, IsOnlyStorag
 use crate::crash::Acknowledged;
 use crate::files::stop_and_open;
 use crate::reading::{Reading, read_again};
+use bike_adoption::{AdoptFault, adopt};
 use bike_commands::Request;
-use bike_feeds::{AdoptFault, Desk};
+use bike_feeds::Desk;
 use bike_fields::BicycleNumber;
 use bike_fixed::Moment;
 use sqlite::{Error, FileFrom, FileStore, Leftover, Start};
@@ -55,7 +56,7 @@ fn resume_files<D: Disk + Drop, F: Start>(
         Ok(conn) => conn,
         Err((error, left)) => return (stopped, Err(LostFiles::NotOpened(error, left))),
     };
-    match Desk::adopt(rt.alloc(), conn) {
+    match adopt(rt.alloc(), conn) {
         Ok(again) => (stopped, Ok(again)),
         Err(fault) => (stopped, Err(LostFiles::Refused(fault))),
     }

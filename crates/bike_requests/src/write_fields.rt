@@ -66,7 +66,7 @@ pub fn put_end(out: &mut String, end: &OrderEnd) -> Result<(), AllocError>
 }
 
 /// A character, or its escape.
-#[tactic(auto, unfolding(bike_texts::specs::Fields::escaped))]
+#[tactic(auto, unfolding(bike_texts::specs::Fields::escapes_of))]
 fn push_escaped(out: &mut String, c: char) -> Result<(), AllocError>
     ensures { OnOk result (string_bytes out.new ≡ string_bytes out.old ++ escapes_of (encode_utf8 c)) }
 {

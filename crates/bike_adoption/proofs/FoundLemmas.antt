@@ -33,9 +33,9 @@ use Rattle.bike_recognition.specs.declared.recognition.Recognition.TheVariants a
 use Rattle.bike_audit.specs.Audit.{IsAudited, row_name}
 use Rattle.bike_audit.specs.declared.finding.Finding.{Finding}
 use Rattle.bike_audit.specs.declared.finding.Finding.TheVariants as finding
-use Rattle.bike_desk.specs.Adoption.{handed, found_as, IsToldOf, IsWant}
+use Rattle.bike_adoption.specs.Adoption.{handed, found_as, IsToldOf, IsWant}
 use Rattle.bike_desk.specs.Desk.{desk_state, IsAt}
-use Rattle.bike_desk.proofs.AdoptLemmas.{same_tables, same_place, in_left}
+use Rattle.bike_adoption.proofs.AdoptLemmas.{same_tables, same_place, in_left}
 use Rattle.bike_desk.proofs.KeepLemmas.{Settles, no_meta, never_both, settled_keeps}
 
 -- ---- tables by what trees list

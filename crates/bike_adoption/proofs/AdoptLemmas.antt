@@ -31,7 +31,7 @@ use Rattle.bike_schema.specs.Stands.{IsOf, StandsFor, TreesStandFor, AllLeft}
 use Rattle.bike_schema.specs.Creates.{IsFresh, Creates}
 use Rattle.bike_schema.specs.declared.fault.StatementFault.{StatementFault}
 use Rattle.bike_schema.specs.declared.fault.StatementFault.TheVariants.{NoMemory, StoreFailed}
-use Rattle.bike_desk.specs.Adoption.{AreFresh, handed, failed, IsWant}
+use Rattle.bike_adoption.specs.Adoption.{AreFresh, handed, failed, IsWant}
 use Rattle.bike_desk.specs.Desk.{DeskValue, IsAt}
 use Rattle.bike_desk.proofs.KeepLemmas.{Settles, no_meta, stands_in, settled_keeps}
 

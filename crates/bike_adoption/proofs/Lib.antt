@@ -1,0 +1,2 @@
+pub mod AdoptLemmas
+mod FoundLemmas

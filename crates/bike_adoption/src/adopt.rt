@@ -1,0 +1,160 @@
+//! Taking a database into service.
+
+ghost use Rattle.std.specs.Prelude.{◌≡◌, ◌≤◌, false, IsTrue, IfOk, IfErr, MatchResult};
+ghost use Rattle.sqlite.specs.State.{HasCleanDisk};
+ghost use Rattle.sqlite.specs.Held.{state};
+ghost use Rattle.sqlite_trees.specs.View.{doubt};
+ghost use Rattle.bike_operator.specs.Operator.{Operator};
+ghost use Rattle.bike_schema.specs.Tables.{HasNone};
+ghost use Rattle.bike_schema.specs.Stands.{AllLeft, TreesStandFor};
+ghost use Rattle.bike_desk.specs.Desk.{desk_state};
+ghost use Rattle.bike_adoption.specs.Adoption.{handed, failed, found_as, Adopts, Begins, IsOfStatement};
+
+use crate::tables::make_tables;
+use bike_audit::{BadRow, Finding, Unwatched, Watch, audit};
+use bike_desk::Desk;
+use bike_schema::{StatementFault, has_none};
+use sqlite::{Alter, Connection};
+use std::alloc::Global;
+use std::error::Error;
+use std::fmt;
+use std::fmt::{Debug, Display, Formatter};
+
+/// Why a connection wasn't adopted. Each fault hands it back, outside a transaction.
+#[derive(Drop)]
+pub enum AdoptFault<S: Alter> {
+    /// The database has some of the product's names, and isn't the product's. It is as it was.
+    Foreign(Connection<S>),
+    /// The tables stand for no operator: this is the first row that is not an operator's. The database is as it was.
+    Unsound(Connection<S>, BadRow),
+    /// The database is of this earlier version of the schema. It is as it was.
+    Older(Connection<S>, u64),
+    /// The database is of this later version of the schema. It is as it was.
+    Newer(Connection<S>, u64),
+    /// Memory was refused. What is stored stands for the operator for whom it stood.
+    NoMemory(Connection<S>),
+    /// The store failed. What is stored stands for the operator for whom it stood.
+    StoreFailed(Connection<S>),
+}
+
+impl<S: Alter> AdoptFault<S> {
+    /// The connection that was handed in.
+    pub fn into_connection(self) -> Connection<S>
+        ensures { result ≡ handed self }
+    {
+        match self {
+            AdoptFault::Foreign(conn) => conn,
+            AdoptFault::Unsound(conn, _) => conn,
+            AdoptFault::Older(conn, _) => conn,
+            AdoptFault::Newer(conn, _) => conn,
+            AdoptFault::NoMemory(conn) => conn,
+            AdoptFault::StoreFailed(conn) => conn,
+        }
+    }
+
+    /// Why a statement on the connection failed.
+    fn failed(fault: StatementFault, conn: Connection<S>) -> AdoptFault<S>
+        ensures { result ≡ failed fault conn }
+    {
+        match fault {
+            StatementFault::NoMemory => AdoptFault::NoMemory(conn),
+            StatementFault::StoreFailed => AdoptFault::StoreFailed(conn),
+        }
+    }
+}
+
+impl<S: Alter> Display for AdoptFault<S> {
+    ghost use Rattle.std.specs.Prelude.{Some};
+    ghost use Rattle.bike_adoption.specs.Adoption.{line_of};
+
+    ghost output = { λ fault. Some (line_of fault) };
+
+    fn fmt<W: fmt::Write>(&self, f: &mut Formatter<W>) -> fmt::Result {
+        match self {
+            AdoptFault::Foreign(_) => f.write_str("foreign"),
+            AdoptFault::Unsound(_, _) => f.write_str("unsound"),
+            AdoptFault::Older(_, _) => f.write_str("older"),
+            AdoptFault::Newer(_, _) => f.write_str("newer"),
+            AdoptFault::NoMemory(_) => f.write_str("out of memory"),
+            AdoptFault::StoreFailed(_) => f.write_str("store failed"),
+        }
+    }
+}
+
+/// As for users: a connection shows nothing.
+impl<S: Alter> Debug for AdoptFault<S> {
+    fn fmt<W: fmt::Write>(&self, f: &mut Formatter<W>) -> fmt::Result {
+        Display::fmt(self, f)
+    }
+}
+
+impl<S: Alter + Drop> Error for AdoptFault<S> {}
+
+/// Makes the tables in a database that has none of them, in one transaction.
+fn begin<S: Alter>(mut conn: Connection<S>) -> Result<Desk<S>, AdoptFault<S>>
+    requires { conn.in_transaction ≡ false }
+    ensures clean { MatchResult result
+        (λ d. doubt (state S.Store conn).is_clean ≤ doubt (desk_state S.Store d).is_clean)
+        (λ e. doubt (state S.Store conn).is_clean ≤ doubt (state S.Store (handed e)).is_clean) }
+    ensures begun { HasNone (state S.Store conn).now.schema → IfOk result (λ d. HasCleanDisk (desk_state S.Store d) → Begins S.Store conn d) }
+    ensures told { IfErr result (IsOfStatement S.Store conn) }
+    ensures autocommit { IfErr result (λ e. (handed e).in_transaction ≡ false) }
+    ensures left { HasNone (state S.Store conn).now.schema → (s : Operator) → TreesStandFor s (state S.Store conn).now.trees
+        → IsTrue (state S.Store conn).is_open → IfErr result (λ e. HasCleanDisk (state S.Store (handed e))
+        → AllLeft (state S.Store (handed e)) (TreesStandFor s)) }
+{
+    // These two tell the prover that nothing is pending and that the database obeys its schema.
+    let _ = conn.is_autocommit();
+    let _ = conn.schema();
+    match make_tables(&mut conn) {
+        Ok(()) => Ok(Desk::over(conn)),
+        Err(fault) => Err(AdoptFault::failed(fault, conn)),
+    }
+}
+
+/// What comes of a database that was found to be this.
+fn found<S: Alter>(conn: Connection<S>, finding: Finding) -> Result<Desk<S>, AdoptFault<S>>
+    ensures { result ≡ found_as conn finding }
+{
+    match finding {
+        Finding::Sound => Ok(Desk::over(conn)),
+        Finding::Foreign => Err(AdoptFault::Foreign(conn)),
+        Finding::Unsound(bad) => Err(AdoptFault::Unsound(conn, bad)),
+        Finding::Older(version) => Err(AdoptFault::Older(conn, version)),
+        Finding::Newer(version) => Err(AdoptFault::Newer(conn, version)),
+        // It had a table of the product's before.
+        Finding::Empty => Err(AdoptFault::StoreFailed(conn)),
+    }
+}
+
+/// Takes a connection outside a transaction into service. A database with none of the product's tables, and no
+/// foreign key that names one, gets them in one transaction, and the desk begins with the operator of whom nothing was
+/// asked. Of any other database the tables are audited, and the desk stands for their operator, if there is one. Tables
+/// of other names stay. A fault tells what the database is, or that memory or the store failed, and hands the connection back.
+pub fn adopt<S: Alter>(alloc: Global, conn: Connection<S>) -> Result<Desk<S>, AdoptFault<S>>
+    requires { conn.in_transaction ≡ false }
+    ensures { Adopts S.Store conn result }
+{
+    adopt_watched(alloc, conn, &mut Unwatched)
+}
+
+/// The same, and `watch` is told of each table before it is audited: for who shows how far that is.
+pub fn adopt_watched<S: Alter, P: Watch>(
+    alloc: Global,
+    mut conn: Connection<S>,
+    watch: &mut P,
+) -> Result<Desk<S>, AdoptFault<S>>
+    requires { conn.in_transaction ≡ false }
+    ensures { Adopts S.Store conn result }
+{
+    // These two tell the prover that nothing is pending and that the database obeys its schema.
+    let _ = conn.is_autocommit();
+    let _ = conn.schema();
+    if has_none(&conn) {
+        return begin(conn);
+    }
+    match audit(alloc, &mut conn, watch) {
+        Ok(finding) => found(conn, finding),
+        Err(fault) => Err(AdoptFault::failed(fault, conn)),
+    }
+}
