@@ -1,5 +1,5 @@
 -- A station's report, in the numbers of its docks or behind them.
-use Rattle.std.proofs.Common.{◌≡◌, ℕ, List, [], ◌∷◌, ◌++◌, Option, Some, None, refl, sym, ap, ◌∙◌, subst, append_assoc}
+use Rattle.std.proofs.Common.{◌≡◌, ℕ, List, [], ◌∷◌, ◌++◌, sym, ap, ◌∙◌, append_assoc}
 use Rattle.std.specs.Borrow.{Bor}
 use Rattle.bike_operator.specs.Operator.{Operator}
 use Rattle.bike_book.specs.declared.row_change.RowChange.{RowChange}

@@ -48,26 +48,6 @@ fn merged<'a>(change: &RowChange<'a>, named: &'a Ident, reported: Moment) -> Opt
     }
 }
 
-/// Adds a row change of counts and the report: in the numbers of the station's docks, where they were added last.
-fn push_behind<'a>(
-    rows: &mut Vec<RowChange<'a>, Global>,
-    counts: RowChange<'a>,
-    station: &'a Ident,
-    reported: Moment,
-) -> bool
-    ensures { table_of_write (write_of counts) ≡ Counts → result ≡ true
-        → DoTheSame rows.new.items (rows.old.items ++ counts ∷ row.SetReported station.entry reported ∷ []) }
-{
-    let report = RowChange::SetReported { station, reported };
-    let Some(before) = rows.pop() else {
-        return rows.extend_from_slice(&[counts, report]).is_ok();
-    };
-    match merged(&before, station, reported) {
-        Some(both) => rows.extend_from_slice(&[both, counts]).is_ok(),
-        None => rows.extend_from_slice(&[before, counts, report]).is_ok(),
-    }
-}
-
 /// Adds the report: in the numbers of the station's docks, where they were added last or just before counts, and else as
 /// a row change of its own. So the station's row is written once.
 pub(crate) fn push_report<'a>(
@@ -81,11 +61,17 @@ pub(crate) fn push_report<'a>(
     let Some(last) = rows.pop() else {
         return rows.push(report).is_ok();
     };
-    if is_of_counts(&last) {
-        return push_behind(rows, last, station, reported);
+    if !is_of_counts(&last) {
+        return match merged(&last, station, reported) {
+            Some(both) => rows.push(both).is_ok(),
+            None => rows.extend_from_slice(&[last, report]).is_ok(),
+        };
     }
-    match merged(&last, station, reported) {
-        Some(both) => rows.push(both).is_ok(),
-        None => rows.extend_from_slice(&[last, report]).is_ok(),
+    let Some(before) = rows.pop() else {
+        return rows.extend_from_slice(&[last, report]).is_ok();
+    };
+    match merged(&before, station, reported) {
+        Some(both) => rows.extend_from_slice(&[both, last]).is_ok(),
+        None => rows.extend_from_slice(&[before, last, report]).is_ok(),
     }
 }
