@@ -1,0 +1,68 @@
+"""The traffic of a made city (bench/city.py, from a seed), answered as the operator of the document answers it."""
+
+import importlib.util
+import itertools
+import sqlite3
+from pathlib import Path
+
+HERE = Path(__file__).resolve().parent
+
+
+def by_path(name, file):
+    spec = importlib.util.spec_from_file_location(name, file)
+    module = importlib.util.module_from_spec(spec)
+    spec.loader.exec_module(module)
+    return module
+
+
+city, model = by_path("bench_city", HERE.parent / "bench/city.py"), by_path("tests_model", HERE / "model.py")
+SIZES = {"stations": 9, "docks": 8, "types": 3, "bicycles": 40, "riders": 60, "trucks": 3, "daily": 600}
+
+
+def made(seed, requests, refused=0.1, repeated=0.05):
+    """The requests that build a small city, and those of its traffic, a share of them refused or sent twice, with their answers."""
+    it = city.City(seed=seed, **SIZES)
+    lines = [*it.setup(), *itertools.islice(it.traffic(refused, repeated), requests)]
+    operator = model.Operator()
+    answers = [operator.answer(line.rstrip("\n").encode()) for line in lines]
+    return lines, answers
+
+
+def joined(parts):
+    return b"".join(part + b"\n" for part in parts)
+
+
+def told_apart(lines, answers):
+    """Which commands were accepted, so that a list which asks nothing of a kind shows."""
+    return {line.split("\t")[3] for line, answer in zip(lines, answers) if not answer.startswith(b"refused")}
+
+
+def test_three_cities_in_memory(program):
+    """Answers in memory are the operator's, for three seeds."""
+    for seed in (1, 2, 3):
+        lines, answers = made(seed, 1200)
+        wanted = {"start", "end", "top-up", "mark-dock", "mark-bike", "open-order", "load", "unload", "close-order"}
+        assert wanted <= told_apart(lines, answers), f"seed {seed} has no accepted {wanted - told_apart(lines, answers)}"
+        program.answers("".join(lines).encode(), joined(answers))
+
+
+def test_the_same_in_a_file_in_parts(program):
+    """So they are over a file that is opened anew for each part, which stays sound; stored numbers are counts at the end."""
+    lines, answers = made(4, 1200)
+    for at in range(0, len(lines), 300):
+        status, told, said = program.run("lines", "city.db", given="".join(lines[at : at + 300]).encode())
+        assert (status, told, said) == (0, joined(answers[at : at + 300]), b""), f"lines {at} to {at + 300}: {said!r}"
+    assert program.run("check", "city.db") == (0, b"sound\n", b"")
+    base = sqlite3.connect(Path(program.folder, "city.db"))
+    found = base.execute("SELECT station_id, docks, free, broken FROM stations").fetchall()
+    for station, docks, free, broken in found:
+        marked = {dock for (dock,) in base.execute("SELECT dock FROM docks WHERE station_id = ? AND broken = 1", (station,))}
+        held = {dock for (dock,) in base.execute("SELECT dock FROM bikes WHERE station_id = ?", (station,))}
+        assert (free, broken) == (docks - len(marked | held), len(marked)), station
+    base.close()
+    assert len(found) == SIZES["stations"]
+
+
+def test_a_seed_makes_the_same_lists(_):
+    assert made(5, 200) == made(5, 200)
+    assert made(5, 200)[0] != made(6, 200)[0]
