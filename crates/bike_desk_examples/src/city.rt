@@ -119,16 +119,35 @@ fn serves<S: Alter>(
     Ok(true)
 }
 
-/// A desk that served the city's lines and then these.
-pub fn desk_after(alloc: Global, served: &[&[Exchange]]) -> Result<Desk<MemStore>, Fail> {
-    let mut desk = open_desk(alloc)?;
-    if !serves(alloc, &mut desk, &CITY)? {
-        return Err("the city is served".into());
+/// Whether the desk answers the city's lines, and then these, as they are answered here.
+fn serves_city<S: Alter>(
+    alloc: Global,
+    desk: &mut Desk<S>,
+    served: &[&[Exchange]],
+) -> Result<bool, DeskFault> {
+    if !serves(alloc, desk, &CITY)? {
+        return Ok(false);
     }
     for rows in served {
-        if !serves(alloc, &mut desk, rows)? {
-            return Err("what follows is served".into());
+        if !serves(alloc, desk, rows)? {
+            return Ok(false);
         }
     }
-    Ok(desk)
+    Ok(true)
+}
+
+/// A desk that served the city's lines and then these. It is let go by calls, which are proved once.
+pub fn desk_after(alloc: Global, served: &[&[Exchange]]) -> Result<Desk<MemStore>, Fail> {
+    let mut desk = open_desk(alloc)?;
+    match serves_city(alloc, &mut desk, served) {
+        Ok(true) => Ok(desk),
+        Ok(false) => {
+            drop(desk);
+            Err("the lines are answered as they are answered here".into())
+        }
+        Err(fault) => {
+            drop(desk);
+            Err(fault.into())
+        }
+    }
 }

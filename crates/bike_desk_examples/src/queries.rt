@@ -17,6 +17,12 @@ enum Spot {
     Depot,
 }
 
+/// What both queries of a bicycle tell: where it is, and that with its state.
+type Told = (Option<Spot>, Option<(Spot, BikeState)>);
+
+/// What both queries of a rider tell: the balance, and that with the open rental.
+type Paid = (Option<i64>, Option<(i64, u32)>);
+
 /// What is served after the city stands, and where bicycle 7 is then, and in what state.
 const SPOTS: [(&[&[Exchange]], Spot, BikeState); 5] = [
     (&[], Spot::Dock(1), BikeState::Fit),
@@ -91,7 +97,7 @@ fn place_and_bike<S: Alter>(
     alloc: Global,
     desk: &mut Desk<S>,
     number: u32,
-) -> Result<(Option<Spot>, Option<(Spot, BikeState)>), DeskFault> {
+) -> Result<Told, DeskFault> {
     Ok((place(alloc, desk, number)?, bike(alloc, desk, number)?))
 }
 
@@ -137,10 +143,7 @@ fn rider<S: Alter>(desk: &mut Desk<S>, number: u32) -> Result<Option<(i64, u32)>
 }
 
 /// What both queries of a rider answer.
-fn balance_and_rider<S: Alter>(
-    desk: &mut Desk<S>,
-    number: u32,
-) -> Result<(Option<i64>, Option<(i64, u32)>), DeskFault> {
+fn balance_and_rider<S: Alter>(desk: &mut Desk<S>, number: u32) -> Result<Paid, DeskFault> {
     Ok((balance(desk, number)?, rider(desk, number)?))
 }
 
@@ -190,23 +193,62 @@ fn currency_is<S: Alter>(
     }
 }
 
+/// What is told of bicycle 7, and of 8, which isn't there.
+fn bikes_after(alloc: Global, served: &[&[Exchange]]) -> Result<(Told, Told), Fail> {
+    let mut desk = desk_after(alloc, served)?;
+    let one = place_and_bike(alloc, &mut desk, 7);
+    let other = place_and_bike(alloc, &mut desk, 8);
+    drop(desk);
+    Ok((one?, other?))
+}
+
+fn counts_after(alloc: Global, served: &[&[Exchange]]) -> Result<Option<[u32; 5]>, Fail> {
+    let station = Ident::new(alloc, Field::Station, "a1")?;
+    let mut desk = desk_after(alloc, served)?;
+    let told = counts(alloc, &mut desk, &station);
+    drop(desk);
+    Ok(told?)
+}
+
+/// What is told of rider 17, and of 18, who isn't there.
+fn riders_after(alloc: Global, served: &[&[Exchange]]) -> Result<(Paid, Paid), Fail> {
+    let mut desk = desk_after(alloc, served)?;
+    let one = balance_and_rider(&mut desk, 17);
+    let other = balance_and_rider(&mut desk, 18);
+    drop(desk);
+    Ok((one?, other?))
+}
+
+fn rental_after(alloc: Global, served: &[&[Exchange]]) -> Result<Option<(bool, i64, i64)>, Fail> {
+    let mut desk = desk_after(alloc, served)?;
+    let told = rental(alloc, &mut desk, 1);
+    drop(desk);
+    Ok(told?)
+}
+
+/// What is told of order 1, and of 2, which isn't there; and whether the system's currency is the euro.
+fn orders_and_system(alloc: Global) -> Result<([Option<(u32, bool)>; 2], bool), Fail> {
+    let mut desk = desk_after(alloc, &[])?;
+    let one = order(alloc, &mut desk, 1);
+    let other = order(alloc, &mut desk, 2);
+    let is_euro = currency_is(alloc, &mut desk, "EUR");
+    drop(desk);
+    Ok(([one?, other?], is_euro?))
+}
+
 #[test]
 fn tells_of_a_bicycle(rt: HostRuntime) -> Result<(), Fail> {
     for (served, spot, state) in SPOTS {
-        let mut desk = desk_after(rt.alloc(), served)?;
         let wanted = (Some(spot), Some((spot, state)));
-        assert_eq!(rt; place_and_bike(rt.alloc(), &mut desk, 7)?, wanted);
-        assert_eq!(rt; place_and_bike(rt.alloc(), &mut desk, 8)?, (None, None));
+        assert_eq!(rt; bikes_after(rt.alloc(), served)?, (wanted, (None, None)));
     }
     Ok(())
 }
 
 #[test]
 fn counts_a_station(rt: HostRuntime) -> Result<(), Fail> {
-    let station = Ident::new(rt.alloc(), Field::Station, "a1")?;
     for (served, wanted) in COUNTS {
-        let mut desk = desk_after(rt.alloc(), served)?;
-        assert_eq!(rt; counts(rt.alloc(), &mut desk, &station)?, Some(wanted));
+        assert_eq!(rt; counts_after(rt.alloc(), served)?, Some(wanted));
     }
     Ok(())
 }
@@ -214,10 +256,8 @@ fn counts_a_station(rt: HostRuntime) -> Result<(), Fail> {
 #[test]
 fn tells_of_a_rider(rt: HostRuntime) -> Result<(), Fail> {
     for (served, wanted) in RIDERS {
-        let mut desk = desk_after(rt.alloc(), served)?;
         let wanted = (Some(wanted.0), Some(wanted));
-        assert_eq!(rt; balance_and_rider(&mut desk, 17)?, wanted);
-        assert_eq!(rt; balance_and_rider(&mut desk, 18)?, (None, None));
+        assert_eq!(rt; riders_after(rt.alloc(), served)?, (wanted, (None, None)));
     }
     Ok(())
 }
@@ -225,17 +265,14 @@ fn tells_of_a_rider(rt: HostRuntime) -> Result<(), Fail> {
 #[test]
 fn tells_of_a_rental(rt: HostRuntime) -> Result<(), Fail> {
     for (served, wanted) in RENTALS {
-        let mut desk = desk_after(rt.alloc(), served)?;
-        assert_eq!(rt; rental(rt.alloc(), &mut desk, 1)?, Some(wanted));
+        assert_eq!(rt; rental_after(rt.alloc(), served)?, Some(wanted));
     }
     Ok(())
 }
 
 #[test]
 fn tells_of_an_order_and_the_system(rt: HostRuntime) -> Result<(), Fail> {
-    let mut desk = desk_after(rt.alloc(), &[])?;
-    assert_eq!(rt; order(rt.alloc(), &mut desk, 1)?, Some((1, false)));
-    assert_eq!(rt; order(rt.alloc(), &mut desk, 2)?, None);
-    assert!(rt; currency_is(rt.alloc(), &mut desk, "EUR")?);
+    let told = orders_and_system(rt.alloc())?;
+    assert_eq!(rt; told, ([Some((1, false)), None], true));
     Ok(())
 }

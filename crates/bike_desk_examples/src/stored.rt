@@ -36,7 +36,9 @@ fn two_numbers<S: Alter>(conn: &mut Connection<S>, sql: &str) -> Result<(i64, i6
 fn numbers_after(alloc: Global, served: &[&[Exchange]], sql: &str) -> Result<(i64, i64), Fail> {
     let desk = desk_after(alloc, served)?;
     let mut conn = desk.close();
-    Ok(two_numbers(&mut conn, sql)?)
+    let numbers = two_numbers(&mut conn, sql);
+    drop(conn);
+    Ok(numbers?)
 }
 
 #[test]

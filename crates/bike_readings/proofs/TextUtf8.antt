@@ -34,7 +34,7 @@ use Rattle.bike_commands.specs.declared.reply.Reply.{Reply}
 use Rattle.bike_commands.specs.declared.reply.Reply.TheVariants.{Done, Balance, Started, Ended, Ordered, Refused}
 use Rattle.bike_commands.specs.Replies.{reply_word, reply_fields, IsReply, reply_text}
 use Rattle.bike_operator.specs.Sound.{is_refused}
-use Rattle.bike_requests.proofs.Escaping.{char_stays, escaped-append}
+use Rattle.bike_requests.proofs.Escaping.{char_stays, escapes_of-append}
 use Rattle.bike_readings.proofs.ColumnLaws.{ascii_utf8, word_utf8, ident_utf8, language_utf8, currency_utf8, ascii_field_utf8, name_utf8}
 
 printed : (word : List ℕ) → list_all is_printable word ≡ true → IsUtf8 word
