@@ -12,8 +12,8 @@ use Rattle.bike_schema.specs.Creates.{IsFresh}
 use Rattle.bike_schema.specs.Stands.{AllLeft, IsOf, TreesStandFor}
 use Rattle.bike_schema.specs.declared.fault.StatementFault.{StatementFault}
 use Rattle.bike_schema.specs.declared.fault.StatementFault.TheVariants as statement
-use Rattle.bike_adoption.specs.declared.adopt.AdoptFault.{AdoptFault}
-use Rattle.bike_adoption.specs.declared.adopt.AdoptFault.TheVariants.{Foreign, Unsound, Older, Newer, NoMemory, StoreFailed}
+use Rattle.bike_adoption.specs.declared.adoption.AdoptFault.{AdoptFault}
+use Rattle.bike_adoption.specs.declared.adoption.AdoptFault.TheVariants.{Foreign, Unsound, Older, Newer, NoMemory, StoreFailed}
 use Rattle.bike_desk.specs.Desk.{DeskValue, IsAt, desk_state}
 use Rattle.bike_audit.specs.Audit.{IsAudited}
 use Rattle.bike_audit.specs.declared.finding.Finding.{Finding}

@@ -5,8 +5,8 @@
 //! crate, which knows of no audit.
 #![tactic(auto)]
 
-mod adopt;
+mod adoption;
 mod tables;
 
-pub use adopt::{AdoptFault, adopt, adopt_watched};
+pub use adoption::{AdoptFault, adopt, adopt_watched};
 pub use bike_audit::{BadRow, Unwatched, Watch};

@@ -17,8 +17,8 @@ use Rattle.bike_schema.specs.Stands.{AllLeft, TreesStandFor}
 use Rattle.bike_http.specs.Desk.{DeskValue, desk_state}
 use Rattle.bike_http.specs.DeskFault.{DeskFault}
 use Rattle.bike_http.specs.DeskFault.TheVariants.{NoMemory, StoreFailed, Stopped}
-use Rattle.bike_adoption.specs.declared.adopt.AdoptFault.{AdoptFault}
-use Rattle.bike_adoption.specs.declared.adopt.AdoptFault.TheVariants as adopt
+use Rattle.bike_adoption.specs.declared.adoption.AdoptFault.{AdoptFault}
+use Rattle.bike_adoption.specs.declared.adoption.AdoptFault.TheVariants as adopt
 use Rattle.bike_adoption.specs.Adoption.{IsWant}
 use Rattle.bike_app.specs.declared.fault.LinesFault.{LinesFault}
 use Rattle.bike_app.specs.declared.end.Fault.{Fault}

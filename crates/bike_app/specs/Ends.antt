@@ -12,8 +12,8 @@ use Rattle.bike_fixed.specs.declared.day.DayFault.TheVariants as day
 use Rattle.bike_commands.specs.Refusals.{name_of as refusal_name}
 use Rattle.bike_http.specs.DeskFault.{DeskFault}
 use Rattle.bike_http.specs.DeskFault.TheVariants as desk
-use Rattle.bike_adoption.specs.declared.adopt.AdoptFault.{AdoptFault}
-use Rattle.bike_adoption.specs.declared.adopt.AdoptFault.TheVariants as adopt
+use Rattle.bike_adoption.specs.declared.adoption.AdoptFault.{AdoptFault}
+use Rattle.bike_adoption.specs.declared.adoption.AdoptFault.TheVariants as adopt
 use Rattle.bike_http.specs.FeedFault.{FeedFault}
 use Rattle.bike_http.specs.FeedFault.TheVariants as feed
 use Rattle.bike_days.specs.declared.fault.DayTableFault.{DayTableFault}

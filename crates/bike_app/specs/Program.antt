@@ -11,7 +11,7 @@ use Rattle.bike_operator.specs.Runs.{Call, after}
 use Rattle.bike_operator.specs.Sound.{AreCalls}
 use Rattle.bike_schema.specs.Stands.{IsOf, TreesStandFor}
 use Rattle.bike_http.specs.Desk.{DeskValue}
-use Rattle.bike_adoption.specs.declared.adopt.AdoptFault.{AdoptFault}
+use Rattle.bike_adoption.specs.declared.adoption.AdoptFault.{AdoptFault}
 use Rattle.bike_adoption.specs.Adoption.{handed, IsToldOf, IsWant}
 use Rattle.bike_stream.specs.Lines.{lines_of}
 use Rattle.bike_app.specs.declared.fault.LinesFault.{LinesFault}

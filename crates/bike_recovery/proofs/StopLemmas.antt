@@ -3,8 +3,8 @@ use Rattle.std.proofs.Common.{ℕ, arith}
 use Rattle.std.proofs.Math.Logic.{∥∥₁_elim}
 use Rattle.sqlite_trees.specs.declared.store.Store.{Ghosts}
 use Rattle.sqlite.specs.Held.{Held}
-use Rattle.bike_adoption.specs.declared.adopt.AdoptFault.{AdoptFault}
-use Rattle.bike_adoption.specs.declared.adopt.AdoptFault.TheVariants.{Foreign, Unsound, Older, Newer, NoMemory, StoreFailed}
+use Rattle.bike_adoption.specs.declared.adoption.AdoptFault.{AdoptFault}
+use Rattle.bike_adoption.specs.declared.adoption.AdoptFault.TheVariants.{Foreign, Unsound, Older, Newer, NoMemory, StoreFailed}
 use Rattle.bike_adoption.specs.Adoption.{IsWant}
 use Rattle.bike_recovery.specs.declared.reopening.Shut.{Shut}
 use Rattle.bike_recovery.specs.declared.reopening.Shut.TheVariants as shut

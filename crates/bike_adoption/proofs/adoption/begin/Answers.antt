@@ -1,7 +1,7 @@
 use Rattle.std.proofs.Common.{not, sym, ap, ◌∙◌}
 use Rattle.bike_adoption.specs.Adoption.{handed, failed}
 use Rattle.bike_adoption.proofs.AdoptLemmas.{fresh_at, left_after, handed_failed}
-use Rattle.bike_adoption.proofs.adopt.begin.Goals as goal
+use Rattle.bike_adoption.proofs.adoption.begin.Goals as goal
 
 pub returns-in-Ok-clause-begun : goal.returns-in-Ok-clause-begun
 returns-in-Ok-clause-begun g c none =

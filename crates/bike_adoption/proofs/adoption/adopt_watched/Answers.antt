@@ -8,7 +8,7 @@ use Rattle.sqlite.specs.State.{HasCleanDisk}
 use Rattle.bike_adoption.specs.Adoption.{handed, IsWant}
 use Rattle.bike_adoption.proofs.AdoptLemmas.{nobody_at, handed_failed, want_of}
 use Rattle.bike_adoption.proofs.FoundLemmas.{stays_left, still_stands, found_clean, found_only, found_others, found_at, found_told, found_refused, handed_back}
-use Rattle.bike_adoption.proofs.adopt.adopt_watched.Goals as goal
+use Rattle.bike_adoption.proofs.adoption.adopt_watched.Goals as goal
 
 pub returns-then-has_none : goal.returns-then-has_none
 returns-then-has_none g c =
