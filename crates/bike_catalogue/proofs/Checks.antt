@@ -4,7 +4,7 @@ use Rattle.std.specs.Result.{IsErrAnd}
 use Rattle.bike_fields.specs.declared.fault.Bound.{Bound}
 use Rattle.bike_fields.specs.declared.fault.Field.{Field}
 use Rattle.bike_fields.specs.declared.fault.FieldFault.{FieldFault}
-use Rattle.bike_fields.specs.declared.fault.FieldFault.TheVariants.{Broken}
+use Rattle.bike_fields.specs.declared.fault.FieldFault.TheVariants.{Broken, NoMemory}
 use Rattle.bike_fields.specs.Fault.{Makes}
 use Rattle.bike_catalogue.specs.Rows.{StationRow, SystemRow}
 use Rattle.bike_catalogue.specs.RowFaults.{value_or_fault, or_else}
@@ -21,6 +21,11 @@ refused {X} {Y} row value (Some f) whole (Err x) e given same passed =
     let broken : e ≡ Broken f.0 f.1 = cc in
     let is : x ≡ Broken f.0 f.1 = passed.1 ∙ broken in
     subst (λ (x : FieldFault). Makes row whole (Err x)) (sym is) same
+
+-- memory was refused, and no field has a fault
+pub out_of_memory : {X : Type 0} (row : X) (whole : Option (Field × Bound)) (r : Result X FieldFault) → whole ≡ None → IsErr r × IsErrAnd r (λ x. x ≡ NoMemory) → Makes row whole r
+out_of_memory row whole (Ok x) clear passed = absurd cc
+out_of_memory row whole (Err e) clear passed = subst (λ (x : FieldFault). Makes row whole (Err x)) (sym passed.1) clear
 
 or_none : (f : Option (Field × Bound)) → or_else f None ≡ f
 or_none None = refl

@@ -1,5 +1,6 @@
 -- The first bad field of a record, in the order of the commands' fields, and the first bound that it breaks.
 use Rattle.std.specs.Prelude.{ℕ, ℤ, pos, neg_ℤ, List, [], ◌∷◌, length, nat_le, nat_lt, int_le, ◌&&◌, if◌then◌else◌, Option, Some, None, Result, Ok, Err}
+use Rattle.bike_fixed.specs.declared.micro.TheConstants.{GREATEST_COORDINATE}
 use Rattle.bike_fields.specs.declared.fault.Bound.{Bound}
 use Rattle.bike_fields.specs.declared.fault.Bound.TheVariants.{Length, Range, Order}
 use Rattle.bike_fields.specs.declared.fault.Field.{Field}
@@ -8,7 +9,8 @@ use Rattle.bike_fields.specs.declared.fault.FieldFault.{FieldFault}
 use Rattle.bike_fields.specs.declared.fault.FieldFault.TheVariants.{Broken}
 use Rattle.bike_catalogue.specs.declared.vehicle.Propulsion.{Propulsion}
 use Rattle.bike_catalogue.specs.declared.vehicle.Propulsion.TheVariants.{Human, ElectricAssist}
-use Rattle.bike_fields.specs.declared.numbers.TheConstants.{MOST_DOCKS}
+use Rattle.bike_fields.specs.declared.numbers.TheConstants.{MOST_DOCKS, LAST_MINUTE, GREATEST_PRICE, GREATEST_RANGE, LONGEST_TIME_TO_LIVE}
+use Rattle.bike_catalogue.specs.declared.limits.TheConstants.{MOST_SEGMENTS, GREATEST_RATE, GREATEST_LATITUDE}
 use Rattle.bike_fields.specs.Fault.{Makes, at_field, ident_fault, name_fault, ascii_fault, language_fault, currency_fault}
 use Rattle.bike_catalogue.specs.Rows.{SegmentRow, PlanRow, TypeRow, StationRow, SystemRow}
 
@@ -34,24 +36,24 @@ signed_fault size z = if int_le (neg_ℤ (pos size)) z && int_le z (pos size) th
 
 abbrev pub end_fault : ℕ → Option ℕ → Option Bound
 end_fault start None = None
-end_fault start (Some end) = if nat_le end 100000 then (if nat_lt start end then None else Some Order) else Some Range
+end_fault start (Some end) = if nat_le end LAST_MINUTE then (if nat_lt start end then None else Some Order) else Some Range
 
 unfoldable pub segment_fault : SegmentRow → Option (Field × Bound)
 segment_fault s = first_fault (
-    (Start, range_fault 0 100000 s.start) ∷ (Rate, signed_fault 100000 s.rate)
-    ∷ (Interval, range_fault 0 100000 s.interval) ∷ (End, end_fault s.start s.end) ∷ [])
+    (Start, range_fault 0 LAST_MINUTE s.start) ∷ (Rate, signed_fault GREATEST_RATE s.rate)
+    ∷ (Interval, range_fault 0 LAST_MINUTE s.interval) ∷ (End, end_fault s.start s.end) ∷ [])
 
 abbrev pub segments_fault : List SegmentRow → Option Bound
-segments_fault segments = if nat_le (length segments) 8 then None else Some Length
+segments_fault segments = if nat_le (length segments) MOST_SEGMENTS then None else Some Length
 
 unfoldable pub plan_fault : PlanRow → Option (Field × Bound)
 plan_fault p = first_fault (
-    (Plan, ident_fault p.plan_id) ∷ (Name, name_fault p.name) ∷ (Price, range_fault 0 1000000 p.price)
+    (Plan, ident_fault p.plan_id) ∷ (Name, name_fault p.name) ∷ (Price, range_fault 0 GREATEST_PRICE p.price)
     ∷ (Description, name_fault p.description) ∷ (Segments, segments_fault p.segments) ∷ [])
 
 abbrev pub max_range_fault : Propulsion → ℕ → Option Bound
 max_range_fault Human n = range_fault 0 0 n
-max_range_fault ElectricAssist n = range_fault 1 1000000 n
+max_range_fault ElectricAssist n = range_fault 1 GREATEST_RANGE n
 
 unfoldable pub type_fault : TypeRow → Option (Field × Bound)
 type_fault t = first_fault (
@@ -60,17 +62,17 @@ type_fault t = first_fault (
 
 unfoldable pub station_fault : StationRow → Option (Field × Bound)
 station_fault s = first_fault (
-    (Station, ident_fault s.station_id) ∷ (Name, name_fault s.name) ∷ (Lat, signed_fault 90000000 s.lat)
-    ∷ (Lon, signed_fault 180000000 s.lon) ∷ (Docks, range_fault 1 MOST_DOCKS s.docks) ∷ [])
+    (Station, ident_fault s.station_id) ∷ (Name, name_fault s.name) ∷ (Lat, signed_fault GREATEST_LATITUDE s.lat)
+    ∷ (Lon, signed_fault GREATEST_COORDINATE s.lon) ∷ (Docks, range_fault 1 MOST_DOCKS s.docks) ∷ [])
 
 unfoldable pub system_fault : SystemRow → Option (Field × Bound)
 system_fault s = first_fault (
     (SystemId, ident_fault s.system_id) ∷ (Language, language_fault s.language) ∷ (Name, name_fault s.name)
     ∷ (OpeningHours, ascii_fault s.opening_hours) ∷ (FeedContactEmail, ascii_fault s.feed_contact_email)
     ∷ (Timezone, ascii_fault s.timezone) ∷ (Currency, currency_fault s.currency) ∷ (BaseUrl, ascii_fault s.base_url)
-    ∷ (Ttl, range_fault 0 86400 s.ttl) ∷ [])
+    ∷ (Ttl, range_fault 0 LONGEST_TIME_TO_LIVE s.ttl) ∷ [])
 
--- a constructor answers the record where no field has a fault, else the first fault
+-- a constructor answers the record, or a want of memory, where no field has a fault, else the first fault
 
 abbrev pub MakesPlan : PlanRow → Result PlanRow FieldFault → Type 0
 MakesPlan row result = Makes row (plan_fault row) result

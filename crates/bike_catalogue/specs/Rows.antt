@@ -4,7 +4,8 @@ use Rattle.bike_fields.specs.Coordinate.{IsMicro}
 use Rattle.bike_catalogue.specs.declared.vehicle.Form.{Form}
 use Rattle.bike_catalogue.specs.declared.vehicle.Propulsion.{Propulsion}
 use Rattle.bike_catalogue.specs.declared.vehicle.Propulsion.TheVariants.{Human, ElectricAssist}
-use Rattle.bike_fields.specs.declared.numbers.TheConstants.{MOST_DOCKS}
+use Rattle.bike_fields.specs.declared.numbers.TheConstants.{MOST_DOCKS, LAST_MINUTE, GREATEST_PRICE, GREATEST_RANGE, LONGEST_TIME_TO_LIVE}
+use Rattle.bike_catalogue.specs.declared.limits.TheConstants.{MOST_SEGMENTS, GREATEST_RATE, GREATEST_LATITUDE}
 use Rattle.bike_fields.specs.Bytes.{is_ident, is_name, is_ascii_field, is_language, is_currency}
 
 -- minutes from the start of a rental; the rate in hundredths; no end means that the segment goes on
@@ -51,43 +52,46 @@ pub record SystemRow : Type 0 where
 -- the bounds of each record
 
 abbrev pub IsRate : ℤ → Type 0
-IsRate z = (neg_ℤ (pos 100000) ≤ℤ z) × (z ≤ℤ pos 100000)
+IsRate z = (neg_ℤ (pos GREATEST_RATE) ≤ℤ z) × (z ≤ℤ pos GREATEST_RATE)
+
+abbrev pub is_rate : ℤ → Bool
+is_rate z = int_le (neg_ℤ (pos GREATEST_RATE)) z && int_le z (pos GREATEST_RATE)
 
 -- an end is a minute after the start
 abbrev pub IsEnd : ℕ → Option ℕ → Type 0
 IsEnd start None = Unit {0}
-IsEnd start (Some end) = (end ≤ 100000) × (start < end)
+IsEnd start (Some end) = (end ≤ LAST_MINUTE) × (start < end)
 
 abbrev pub is_after : ℕ → Option ℕ → Bool
 is_after start None = true
 is_after start (Some end) = nat_lt start end
 
 pub record IsSegment (s : SegmentRow) : Type 0 where
-  pub start : s.start ≤ 100000
+  pub start : s.start ≤ LAST_MINUTE
   pub rate : IsRate s.rate
-  pub interval : s.interval ≤ 100000
+  pub interval : s.interval ≤ LAST_MINUTE
   pub end : IsEnd s.start s.end
 
 pub record IsPlan (p : PlanRow) : Type 0 where
   pub plan_id : is_ident p.plan_id ≡ true
   pub name : is_name p.name ≡ true
-  pub price : p.price ≤ 1000000
+  pub price : p.price ≤ GREATEST_PRICE
   pub description : is_name p.description ≡ true
-  pub segments : length p.segments ≤ 8
+  pub segments : length p.segments ≤ MOST_SEGMENTS
 
--- the plan, where it has at most eight segments
+-- the plan, where it has few segments
 abbrev pub plan_within : PlanRow → Option PlanRow
-plan_within p = if nat_le (length p.segments) 8 then Some p else None
+plan_within p = if nat_le (length p.segments) MOST_SEGMENTS then Some p else None
 
 -- in metres: 0 exactly with human propulsion
 abbrev pub IsRange : Propulsion → ℕ → Type 0
 IsRange Human n = n ≡ 0
-IsRange ElectricAssist n = (1 ≤ n) × (n ≤ 1000000)
+IsRange ElectricAssist n = (1 ≤ n) × (n ≤ GREATEST_RANGE)
 
 -- the same as a test
 abbrev pub is_range : Propulsion → ℕ → Bool
 is_range Human n = n == 0
-is_range ElectricAssist n = nat_le 1 n && nat_le n 1000000
+is_range ElectricAssist n = nat_le 1 n && nat_le n GREATEST_RANGE
 
 -- the vehicle type, where its range goes with its propulsion
 abbrev pub type_within : TypeRow → Option TypeRow
@@ -101,10 +105,10 @@ pub record IsType (t : TypeRow) : Type 0 where
 
 -- from 90 degrees south to 90 degrees north
 abbrev pub IsLatitude : ℤ → Type 0
-IsLatitude z = (neg_ℤ (pos 90000000) ≤ℤ z) × (z ≤ℤ pos 90000000)
+IsLatitude z = (neg_ℤ (pos GREATEST_LATITUDE) ≤ℤ z) × (z ≤ℤ pos GREATEST_LATITUDE)
 
 abbrev pub is_latitude : ℤ → Bool
-is_latitude z = int_le (neg_ℤ (pos 90000000)) z && int_le z (pos 90000000)
+is_latitude z = int_le (neg_ℤ (pos GREATEST_LATITUDE)) z && int_le z (pos GREATEST_LATITUDE)
 
 -- the station, where its latitude is one
 abbrev pub station_within : StationRow → Option StationRow
@@ -127,4 +131,4 @@ pub record IsSystem (s : SystemRow) : Type 0 where
   pub timezone : is_ascii_field s.timezone ≡ true
   pub currency : is_currency s.currency ≡ true
   pub base_url : is_ascii_field s.base_url ≡ true
-  pub ttl : s.ttl ≤ 86400
+  pub ttl : s.ttl ≤ LONGEST_TIME_TO_LIVE

@@ -4,6 +4,7 @@
 //! answers the value of the fields given, or names the first bad field and the first bound that it breaks.
 #![tactic(auto)]
 
+mod limits;
 mod plan;
 mod range;
 mod rate;
@@ -13,6 +14,7 @@ mod system;
 mod vehicle;
 mod vehicle_type;
 
+pub use limits::{GREATEST_LATITUDE, GREATEST_RATE, MOST_SEGMENTS};
 pub use plan::Plan;
 pub use rate::Rate;
 pub use segment::Segment;

@@ -4,16 +4,14 @@ ghost use Rattle.std.specs.Prelude.{◌≡◌};
 ghost use Rattle.bike_catalogue.specs.RowFaults.{MakesPlan};
 ghost use Rattle.bike_catalogue.specs.Rows.{IsPlan, plan_within};
 
+use crate::limits::MOST_SEGMENTS;
 use crate::range::in_range;
 use crate::segment::Segment;
 use bike_fields::{Bound, Field, FieldFault, Ident, Name, Price};
 use std::alloc::Global;
 use std::marker::Model;
 
-/// The most segments of a plan.
-const MOST_SEGMENTS: usize = 8;
-
-/// A pricing plan: a price in hundredths, and up to eight segments that charge by the minute (GBFS's
+/// A pricing plan: a price in hundredths, and up to `MOST_SEGMENTS` segments that charge by the minute (GBFS's
 /// `system_pricing_plans`).
 #[derive(Debug, Drop)]
 pub struct Plan {
@@ -27,18 +25,20 @@ pub struct Plan {
 
 impl Model for Plan {
     ghost use Rattle.std.specs.Prelude.{◌≤◌, length};
+    ghost use Rattle.bike_catalogue.specs.declared.limits.TheConstants.{MOST_SEGMENTS};
     ghost use Rattle.bike_catalogue.specs.Rows.{PlanRow};
 
     ghost Value = { PlanRow };
 
     ghost view = { λ a. record { plan_id = a.plan_id; name = a.name; price = a.price; taxable = a.taxable; description = a.description; segments = a.segments.items } };
 
-    ghost invariant = { λ a. length a.segments.items ≤ 8 };
+    ghost invariant = { λ a. length a.segments.items ≤ MOST_SEGMENTS };
 }
 
 impl Plan {
     /// The plan of these fields, else the first bad field with the first bound that it breaks: an identifier, a name,
-    /// a price from 0 to 1,000,000 hundredths, a description and at most eight segments.
+    /// a price of at most `GREATEST_PRICE` hundredths, a description and at most `MOST_SEGMENTS` segments. Memory is asked
+    /// for only where all keep their bounds, and `NoMemory` comes where that is refused.
     #[tactic(auto, unfolding(crate::specs::RowFaults::plan_fault))]
     pub fn new(
         alloc: Global,
@@ -58,28 +58,27 @@ impl Plan {
           segments = segments.now;
         }) result }
     {
-        let plan_id = Ident::new(alloc, Field::Plan, plan_id)?;
-        let name = Name::new(alloc, Field::Name, name)?;
+        let plan_id = Ident::tested(Field::Plan, plan_id)?;
+        let name = Name::tested(Field::Name, name)?;
         let price: Price = in_range(Field::Price, price)?;
-        let description = Name::new(alloc, Field::Description, description)?;
+        let description = Name::tested(Field::Description, description)?;
         if segments.len() > MOST_SEGMENTS {
             return Err(FieldFault::Broken {
                 field: Field::Segments,
                 bound: Bound::Length,
             });
         }
-        let segments = Vec::from_slice(alloc, segments)?;
         Ok(Plan {
-            plan_id,
-            name,
+            plan_id: Ident::of(alloc, plan_id)?,
+            name: Name::of(alloc, name)?,
             price,
             taxable,
-            description,
-            segments,
+            description: Name::of(alloc, description)?,
+            segments: Vec::from_slice(alloc, segments)?,
         })
     }
 
-    /// The plan of these fields, where there are at most eight segments.
+    /// The plan of these fields, where there are at most `MOST_SEGMENTS` segments.
     pub fn from_fields(
         plan_id: Ident,
         name: Name,
@@ -97,17 +96,17 @@ impl Plan {
           segments = segments.items;
         }) }
     {
-        if segments.len() > MOST_SEGMENTS {
-            return None;
+        if segments.len() <= MOST_SEGMENTS {
+            return Some(Plan {
+                plan_id,
+                name,
+                price,
+                taxable,
+                description,
+                segments,
+            });
         }
-        Some(Plan {
-            plan_id,
-            name,
-            price,
-            taxable,
-            description,
-            segments,
-        })
+        None
     }
 
     /// Tells the bounds of a plan to a proof.
@@ -155,7 +154,7 @@ impl Plan {
         &self.description
     }
 
-    /// The plan's segments, at most eight.
+    /// The plan's segments, at most `MOST_SEGMENTS`.
     pub fn segments(&self) -> &[Segment]
         ensures { result.now ≡ self.now.segments }
     {

@@ -1,7 +1,9 @@
 //! Numbers of a record's fields, tested against their ranges.
 
 ghost use Rattle.std.specs.Prelude.{◌≡◌, ◌≤◌, ◌≤ℤ◌, pos, neg_ℤ, IfOk};
+ghost use Rattle.bike_fixed.specs.declared.micro.TheConstants.{GREATEST_COORDINATE};
 ghost use Rattle.bike_fields.specs.Fault.{at_field};
+ghost use Rattle.bike_catalogue.specs.declared.limits.TheConstants.{GREATEST_RATE};
 ghost use Rattle.bike_catalogue.specs.RowFaults.{value_or_fault, range_fault, signed_fault};
 
 use crate::rate::Rate;
@@ -25,7 +27,7 @@ pub fn in_range<const LO: u32, const HI: u32>(
 
 /// The rate of a segment, in hundredths.
 pub fn rate_of(hundredths: i32) -> Result<Rate, FieldFault>
-    ensures { result ≡ value_or_fault hundredths (at_field Field.Rate (signed_fault 100000 hundredths)) }
+    ensures { result ≡ value_or_fault hundredths (at_field Field.Rate (signed_fault GREATEST_RATE hundredths)) }
 {
     match Rate::new(hundredths) {
         Some(rate) => Ok(rate),
@@ -38,7 +40,7 @@ pub fn rate_of(hundredths: i32) -> Result<Rate, FieldFault>
 
 /// A coordinate as that field, in microdegrees, where its size is at most `greatest`.
 pub fn coordinate(field: Field, microdegrees: i32, greatest: u32) -> Result<Micro, FieldFault>
-    requires { greatest ≤ 180000000 }
+    requires { greatest ≤ GREATEST_COORDINATE }
     ensures value { result ≡ value_or_fault microdegrees (at_field field (signed_fault greatest microdegrees)) }
     ensures bounds { IfOk result (λ m. (neg_ℤ (pos greatest) ≤ℤ m) × (m ≤ℤ pos greatest)) }
 {

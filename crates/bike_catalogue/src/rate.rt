@@ -1,13 +1,15 @@
 //! Rates.
 
-ghost use Rattle.std.specs.Prelude.{◌≡◌, pos, neg_ℤ, int_le, ◌&&◌, if◌then◌else◌, Some, None};
+ghost use Rattle.std.specs.Prelude.{◌≡◌, pos, neg_ℤ, if◌then◌else◌, Some, None};
 ghost use Rattle.bike_fields.specs.Whole.{signed_of};
-ghost use Rattle.bike_catalogue.specs.Rows.{IsRate};
+ghost use Rattle.bike_catalogue.specs.declared.limits.TheConstants.{GREATEST_RATE};
+ghost use Rattle.bike_catalogue.specs.Rows.{IsRate, is_rate};
 
+use crate::limits::GREATEST_RATE;
 use bike_fields::read_signed;
 use std::marker::Model;
 
-/// What a segment charges each time: -100,000 to 100,000 hundredths.
+/// What a segment charges each time, in hundredths of either sign.
 #[derive(Clone, Copy, Debug, PartialEq, Eq)]
 pub struct Rate {
     hundredths: i32,
@@ -27,11 +29,11 @@ impl Model for Rate {
 }
 
 impl Rate {
-    /// So many hundredths, where they lie from -100,000 to 100,000.
+    /// So many hundredths, where their size is at most `GREATEST_RATE`.
     pub fn new(hundredths: i32) -> Option<Rate>
-        ensures { result ≡ (if int_le (neg_ℤ (pos 100000)) hundredths && int_le hundredths (pos 100000) then Some hundredths else None) }
+        ensures { result ≡ (if is_rate hundredths then Some hundredths else None) }
     {
-        if -100_000 <= hundredths && hundredths <= 100_000 {
+        if hundredths.unsigned_abs() <= GREATEST_RATE {
             return Some(Rate { hundredths });
         }
         None
@@ -39,9 +41,9 @@ impl Rate {
 
     /// The rate whose decimal in hundredths the text is, with a `-` exactly below zero.
     pub fn read(text: &str) -> Option<Rate>
-        ensures { result ≡ signed_of (neg_ℤ (pos 100000)) (pos 100000) text.now }
+        ensures { result ≡ signed_of (neg_ℤ (pos GREATEST_RATE)) (pos GREATEST_RATE) text.now }
     {
-        let hundredths = read_signed(text, -100_000, 100_000)?;
+        let hundredths = read_signed(text, -i64::from(GREATEST_RATE), i64::from(GREATEST_RATE))?;
         Some(Rate {
             hundredths: hundredths as i32,
         })

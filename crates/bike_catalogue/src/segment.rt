@@ -69,8 +69,8 @@ fn end_after(start: &SegmentMinute, end: Option<u32>) -> Result<Option<SegmentMi
 }
 
 impl Segment {
-    /// The segment of these fields: minutes from 0 to 100,000, the end after the start, and the rate from -100,000 to
-    /// 100,000 hundredths; else the first bad field with the first bound that it breaks. Memory is never taken.
+    /// The segment of these fields: minutes up to `LAST_MINUTE`, the end after the start, and a rate of at most
+    /// `GREATEST_RATE`; else the first bad field with the first bound that it breaks. Memory is never taken.
     #[tactic(auto, unfolding(crate::specs::RowFaults::segment_fault))]
     pub fn new(
         start: u32,

@@ -4,8 +4,9 @@ ghost use Rattle.std.specs.Prelude.{◌≡◌};
 ghost use Rattle.bike_catalogue.specs.RowFaults.{MakesStation};
 ghost use Rattle.bike_catalogue.specs.Rows.{IsStation, station_within};
 
+use crate::limits::GREATEST_LATITUDE;
 use crate::range::{coordinate, in_range};
-use bike_fields::{DockCount, Field, FieldFault, Ident, Micro, Name};
+use bike_fields::{DockCount, Field, FieldFault, GREATEST_COORDINATE, Ident, Micro, Name};
 use std::alloc::Global;
 use std::marker::Model;
 
@@ -31,8 +32,9 @@ impl Model for Station {
 
 impl Station {
     /// The station of these fields, else the first bad field with the first bound that it breaks: an identifier, a
-    /// name, a latitude from -90,000,000 to 90,000,000 and a longitude from -180,000,000 to 180,000,000 microdegrees,
-    /// and 1 to `MOST_DOCKS` docks.
+    /// name, a latitude whose size is at most `GREATEST_LATITUDE` and a longitude of at most 180,000,000 microdegrees,
+    /// and 1 to `MOST_DOCKS` docks. Memory is asked for only where all keep their bounds, and `NoMemory` comes where
+    /// that is refused.
     #[tactic(auto, unfolding(crate::specs::RowFaults::station_fault))]
     pub fn new(
         alloc: Global,
@@ -42,22 +44,16 @@ impl Station {
         lon: i32,
         docks: u32,
     ) -> Result<Station, FieldFault>
-        ensures { MakesStation (record {
-          station_id = station_id.now;
-          name = name.now;
-          lat = lat;
-          lon = lon;
-          docks = docks;
-        }) result }
+        ensures { MakesStation (record { station_id = station_id.now; name = name.now; lat = lat; lon = lon; docks = docks }) result }
     {
-        let station_id = Ident::new(alloc, Field::Station, station_id)?;
-        let name = Name::new(alloc, Field::Name, name)?;
-        let lat = coordinate(Field::Lat, lat, 90_000_000)?;
-        let lon = coordinate(Field::Lon, lon, 180_000_000)?;
+        let station_id = Ident::tested(Field::Station, station_id)?;
+        let name = Name::tested(Field::Name, name)?;
+        let lat = coordinate(Field::Lat, lat, GREATEST_LATITUDE)?;
+        let lon = coordinate(Field::Lon, lon, GREATEST_COORDINATE)?;
         let docks: DockCount = in_range(Field::Docks, docks)?;
         Ok(Station {
-            station_id,
-            name,
+            station_id: Ident::of(alloc, station_id)?,
+            name: Name::of(alloc, name)?,
             lat,
             lon,
             docks,
@@ -72,15 +68,9 @@ impl Station {
         lon: Micro,
         docks: DockCount,
     ) -> Option<Station>
-        ensures { result ≡ station_within (record {
-          station_id = station_id;
-          name = name;
-          lat = lat;
-          lon = lon;
-          docks = docks;
-        }) }
+        ensures { result ≡ station_within (record { station_id = station_id; name = name; lat = lat; lon = lon; docks = docks }) }
     {
-        if lat.microdegrees() < -90_000_000 || lat.microdegrees() > 90_000_000 {
+        if lat.microdegrees().unsigned_abs() > GREATEST_LATITUDE {
             return None;
         }
         Some(Station {

@@ -1,12 +1,13 @@
 //! The system.
 
-ghost use Rattle.std.specs.Prelude.{◌≡◌};
+ghost use Rattle.std.specs.Prelude.{◌≡◌, true, IfOk};
+ghost use Rattle.bike_fields.specs.Bytes.{is_ident, is_name, is_ascii_field, is_language, is_currency};
 ghost use Rattle.bike_catalogue.specs.RowFaults.{MakesSystem};
 ghost use Rattle.bike_catalogue.specs.Rows.{IsSystem};
 
 use crate::range::in_range;
 use bike_fields::{Ascii, Currency, Field, FieldFault, Ident, Language, Name, TimeToLive};
-use std::alloc::Global;
+use std::alloc::{AllocError, Global};
 use std::marker::Model;
 
 /// What is published of the system as a whole (GBFS's `system_information`), with the base of its feeds' URLs and how
@@ -44,7 +45,8 @@ impl Model for System {
 
 impl System {
     /// The system of these fields, else the first bad field with the first bound that it breaks: an identifier, a
-    /// language, a name, four ASCII fields round a currency, and a time to live from 0 to 86,400 seconds.
+    /// language, a name, four ASCII fields round a currency, and a time to live of at most `LONGEST_TIME_TO_LIVE`
+    /// seconds. Memory is asked for only where all keep their bounds, and `NoMemory` comes where that is refused.
     #[tactic(auto, unfolding(crate::specs::RowFaults::system_fault))]
     pub fn new(
         alloc: Global,
@@ -70,16 +72,73 @@ impl System {
           ttl = ttl;
         }) result }
     {
+        let system_id = Ident::tested(Field::SystemId, system_id)?;
+        let language = Language::tested(Field::Language, language)?;
+        let name = Name::tested(Field::Name, name)?;
+        let opening_hours = Ascii::tested(Field::OpeningHours, opening_hours)?;
+        let feed_contact_email = Ascii::tested(Field::FeedContactEmail, feed_contact_email)?;
+        let timezone = Ascii::tested(Field::Timezone, timezone)?;
+        let currency = Currency::tested(Field::Currency, currency)?;
+        let base_url = Ascii::tested(Field::BaseUrl, base_url)?;
+        let ttl: TimeToLive = in_range(Field::Ttl, ttl)?;
+        Ok(System::keep(
+            alloc,
+            system_id,
+            language,
+            name,
+            opening_hours,
+            feed_contact_email,
+            timezone,
+            currency,
+            base_url,
+            ttl,
+        )?)
+    }
+
+    // What is let go where memory is refused stands in a function of its own, apart from the bounds.
+    /// The system of texts that keep their bounds; an error where memory was refused.
+    fn keep(
+        alloc: Global,
+        system_id: &str,
+        language: &str,
+        name: &str,
+        opening_hours: &str,
+        feed_contact_email: &str,
+        timezone: &str,
+        currency: &str,
+        base_url: &str,
+        ttl: TimeToLive,
+    ) -> Result<System, AllocError>
+        requires system_id { is_ident system_id.now ≡ true }
+        requires language { is_language language.now ≡ true }
+        requires name { is_name name.now ≡ true }
+        requires opening_hours { is_ascii_field opening_hours.now ≡ true }
+        requires feed_contact_email { is_ascii_field feed_contact_email.now ≡ true }
+        requires timezone { is_ascii_field timezone.now ≡ true }
+        requires currency { is_currency currency.now ≡ true }
+        requires base_url { is_ascii_field base_url.now ≡ true }
+        ensures { IfOk result (λ system. system ≡ record {
+          system_id = system_id.now;
+          language = language.now;
+          name = name.now;
+          opening_hours = opening_hours.now;
+          feed_contact_email = feed_contact_email.now;
+          timezone = timezone.now;
+          currency = currency.now;
+          base_url = base_url.now;
+          ttl = ttl;
+        }) }
+    {
         Ok(System {
-            system_id: Ident::new(alloc, Field::SystemId, system_id)?,
-            language: Language::new(alloc, Field::Language, language)?,
-            name: Name::new(alloc, Field::Name, name)?,
-            opening_hours: Ascii::new(alloc, Field::OpeningHours, opening_hours)?,
-            feed_contact_email: Ascii::new(alloc, Field::FeedContactEmail, feed_contact_email)?,
-            timezone: Ascii::new(alloc, Field::Timezone, timezone)?,
-            currency: Currency::new(alloc, Field::Currency, currency)?,
-            base_url: Ascii::new(alloc, Field::BaseUrl, base_url)?,
-            ttl: in_range(Field::Ttl, ttl)?,
+            system_id: Ident::of(alloc, system_id)?,
+            language: Language::of(alloc, language)?,
+            name: Name::of(alloc, name)?,
+            opening_hours: Ascii::of(alloc, opening_hours)?,
+            feed_contact_email: Ascii::of(alloc, feed_contact_email)?,
+            timezone: Ascii::of(alloc, timezone)?,
+            currency: Currency::of(alloc, currency)?,
+            base_url: Ascii::of(alloc, base_url)?,
+            ttl,
         })
     }
 

@@ -7,7 +7,7 @@ ghost use Rattle.bike_catalogue.specs.Rows.{IsType, is_range, type_within};
 
 use crate::range::in_range;
 use crate::vehicle::{Form, Propulsion};
-use bike_fields::{Bound, Field, FieldFault, Ident, MaxRange, Name};
+use bike_fields::{Bound, Field, FieldFault, GREATEST_RANGE, Ident, MaxRange, Name};
 use std::alloc::Global;
 use std::marker::Model;
 
@@ -53,13 +53,14 @@ fn is_range(propulsion: Propulsion, metres: u32) -> bool
 {
     match propulsion {
         Propulsion::Human => metres == 0,
-        Propulsion::ElectricAssist => 1 <= metres && metres <= 1_000_000,
+        Propulsion::ElectricAssist => 1 <= metres && metres <= GREATEST_RANGE,
     }
 }
 
 impl VehicleType {
-    /// The vehicle type of these fields, else the first bad field with the first bound that it breaks: identifiers, a
-    /// name, and a range of 0 with human propulsion, else from 1 to 1,000,000 metres.
+    /// The vehicle type of these fields, else the first bad field with the first bound that it breaks: an identifier, a
+    /// name, a range of 0 with human propulsion and else from 1 to `GREATEST_RANGE` metres, and the plan's identifier.
+    /// Memory is asked for only where all keep their bounds, and `NoMemory` comes where that is refused.
     #[tactic(auto, unfolding(crate::specs::RowFaults::type_fault))]
     pub fn new(
         alloc: Global,
@@ -79,17 +80,17 @@ impl VehicleType {
           plan_id = plan_id.now;
         }) result }
     {
-        let type_id = Ident::new(alloc, Field::TypeId, type_id)?;
-        let name = Name::new(alloc, Field::Name, name)?;
+        let type_id = Ident::tested(Field::TypeId, type_id)?;
+        let name = Name::tested(Field::Name, name)?;
         let max_range = max_range_of(propulsion, max_range)?;
-        let plan_id = Ident::new(alloc, Field::Plan, plan_id)?;
+        let plan_id = Ident::tested(Field::Plan, plan_id)?;
         Ok(VehicleType {
-            type_id,
-            name,
+            type_id: Ident::of(alloc, type_id)?,
+            name: Name::of(alloc, name)?,
             form,
             propulsion,
             max_range,
-            plan_id,
+            plan_id: Ident::of(alloc, plan_id)?,
         })
     }
 

@@ -1,6 +1,7 @@
 -- How a reply is spelled, which is the answer line without its LF.
 use Rattle.std.specs.Prelude.{ℕ, ℤ, List, [], ◌∷◌, ◌++◌, codes, pos, neg_ℤ}
 use Rattle.bike_fixed.specs.declared.cents.TheConstants.{GREATEST_FARE}
+use Rattle.bike_fields.specs.declared.numbers.TheConstants.{GREATEST_NUMBER, GREATEST_SERIAL}
 use Rattle.bike_texts.specs.Fields.{Field, Number, Signed, Fixed, AreGood, fields_text}
 use Rattle.bike_commands.specs.declared.reply.Reply.{Reply}
 use Rattle.bike_commands.specs.declared.reply.Reply.TheVariants.{Done, Balance, Started, Ended, Ordered, Refused}
@@ -23,9 +24,9 @@ Any = Signed (neg_ℤ (pos 9223372036854775808)) (pos 9223372036854775807)
 abbrev pub reply_fields : Reply → List Field
 reply_fields Done = []
 reply_fields (Balance balance) = Any balance ∷ []
-reply_fields (Started rental bike) = Number 1 100000000 rental ∷ Number 1 999999 bike ∷ []
+reply_fields (Started rental bike) = Number 1 GREATEST_SERIAL rental ∷ Number 1 GREATEST_NUMBER bike ∷ []
 reply_fields (Ended fare balance) = Signed (pos 0) GREATEST_FARE fare ∷ Any balance ∷ []
-reply_fields (Ordered order) = Number 1 100000000 order ∷ []
+reply_fields (Ordered order) = Number 1 GREATEST_SERIAL order ∷ []
 reply_fields (Refused refusal) = Number 1 36 (number_of refusal) ∷ Fixed (name_of refusal) ∷ []
 
 -- the numbers keep their bounds, as those of every reply of the program do

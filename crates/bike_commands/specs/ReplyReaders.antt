@@ -2,6 +2,7 @@
 use Rattle.std.specs.Prelude.{ℕ, List, Option, Some, None, if◌then◌else◌, codes}
 use Rattle.std.specs.Str.{bytes_eq}
 use Rattle.bike_fixed.specs.Whole.{number_of}
+use Rattle.bike_fields.specs.declared.numbers.TheConstants.{GREATEST_NUMBER, GREATEST_SERIAL}
 use Rattle.bike_texts.specs.Parts.{Parts}
 use Rattle.bike_texts.specs.Reading.{◌>>=◌, part_at, field_at, no_more, exactly, i64_of, fare_of}
 use Rattle.bike_commands.specs.declared.reply.Reply.{Reply}
@@ -22,8 +23,8 @@ balance_at ps = do
 
 unfoldable pub started_at : Parts → Option Reply
 started_at ps = do
-  rental ← field_at (number_of 1 100000000) ps
-  bike ← field_at (number_of 1 999999) rental.1
+  rental ← field_at (number_of 1 GREATEST_SERIAL) ps
+  bike ← field_at (number_of 1 GREATEST_NUMBER) rental.1
   end ← no_more bike.1
   Some (Started rental.0 bike.0)
 
@@ -36,7 +37,7 @@ ended_at ps = do
 
 unfoldable pub ordered_at : Parts → Option Reply
 ordered_at ps = do
-  order ← field_at (number_of 1 100000000) ps
+  order ← field_at (number_of 1 GREATEST_SERIAL) ps
   end ← no_more order.1
   Some (Ordered order.0)
 

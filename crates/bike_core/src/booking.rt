@@ -10,14 +10,14 @@ ghost use Rattle.bike_operator.specs.Steps.{fare_now};
 
 use bike_commands::Reply;
 use bike_fares::fare;
-use bike_fields::{Ident, Payment};
+use bike_fields::{GREATEST_SERIAL, Ident, Payment};
 use bike_fixed::{Cents, Moment, Within};
 use bike_ledger::{Entry, EntryNumber, balance_after, refundable};
 use bike_operator::{Change, Closing, MOST_ENTRIES, RentalView};
 use bike_texts::Fare;
 
 /// The number after so many numbered ones, by the numbering rule.
-pub(crate) fn next_number(count: u32) -> Within<1, 100_000_000>
+pub(crate) fn next_number(count: u32) -> Within<1, GREATEST_SERIAL>
     requires { count < MOST_ENTRIES }
     ensures { result ≡ count + 1 }
 {

@@ -1,6 +1,7 @@
 //! Fares minute by minute: slow, and as plain as the rule.
 
 ghost use Rattle.std.specs.Prelude.{◌≡◌, ◌<◌, ◌≤◌, ◌≤ℤ◌, pos, neg_ℤ, length};
+ghost use Rattle.bike_catalogue.specs.declared.limits.TheConstants.{GREATEST_RATE, MOST_SEGMENTS};
 ghost use Rattle.bike_fares.specs.Pricing.{is_charged, segment_charge, per_min_pricing, reached_charge, fare_of, greatest_fare};
 
 use crate::elapsed::{MINUTES, elapsed_seconds};
@@ -25,8 +26,8 @@ fn is_charged(segment: &Segment, minute: u32) -> bool
 /// What a segment charges at a minute.
 fn segment_charge(segment: &Segment, minute: u32) -> i64
     ensures value { result ≡ segment_charge segment.now minute }
-    ensures low { neg_ℤ (pos 100000) ≤ℤ result }
-    ensures high { result ≤ℤ pos 100000 }
+    ensures low { neg_ℤ (pos GREATEST_RATE) ≤ℤ result }
+    ensures high { result ≤ℤ pos GREATEST_RATE }
 {
     segment.bounds();
     if is_charged(segment, minute) {
@@ -38,7 +39,7 @@ fn segment_charge(segment: &Segment, minute: u32) -> i64
 
 /// What all segments charge at a minute.
 fn charges_at(segments: &[Segment], minute: u32) -> i64
-    requires { length segments.now ≤ 8 }
+    requires { length segments.now ≤ MOST_SEGMENTS }
     ensures value { result ≡ per_min_pricing segments.now minute }
     ensures low { neg_ℤ (pos 800000) ≤ℤ result }
     ensures high { result ≤ℤ pos 800000 }

@@ -10,6 +10,7 @@ use Rattle.std.proofs.lemmas.Option.{option_and_then_some, cond_some, same_Some}
 use Rattle.std.proofs.lemmas.Slice.Eq.{bytes_eq-Decides}
 use Rattle.bike_fixed.specs.Whole.{number_of}
 use Rattle.bike_fixed.proofs.Numbers.{number_sound, number_full}
+use Rattle.bike_fields.specs.declared.numbers.TheConstants.{GREATEST_NUMBER}
 use Rattle.bike_fields.specs.Bytes.{is_ident, ident_of}
 use Rattle.bike_fields.specs.Caller.{IsCaller, caller_text, caller_of, caller_named, is_colon, ◌>>=◌}
 use Rattle.bike_fields.specs.declared.caller.Caller.{Caller}
@@ -77,8 +78,8 @@ caller_at_colon kind name h =
 
 -- ---- both ways
 
-read_number : (n : ℕ) → 1 ≤ n → n ≤ 999999 → number_of 1 999999 (decimal n) ≡ Some n
-read_number n low high = number_full 1 999999 (decimal n) n (lit< tt) (record { low_le = low; le_high = high; spelled = refl })
+read_number : (n : ℕ) → 1 ≤ n → n ≤ GREATEST_NUMBER → number_of 1 GREATEST_NUMBER (decimal n) ≡ Some n
+read_number n low high = number_full 1 GREATEST_NUMBER (decimal n) n (lit< tt) (record { low_le = low; le_high = high; spelled = refl })
 
 pub caller_full : (c : Caller) → IsCaller c → caller_of (caller_text c) ≡ Some c
 unfolding caller_named caller_of
@@ -96,11 +97,11 @@ pub pick : {A : Type 0} (b : Bool) (x y : Option A) (a : A) (P : Type 0) → con
 pick true x y a P e f g = f refl e
 pick false x y a P e f g = g e
 
-named_number : (kind name : List ℕ) (word : List ℕ) (make : ℕ → Caller) (c : Caller) → ((n : ℕ) → caller_text (make n) ≡ word ++ 58 ∷ decimal n) → ((n : ℕ) → 1 ≤ n → n ≤ 999999 → IsCaller (make n))
-    → bytes_eq kind word ≡ true → (number_of 1 999999 name >>= λ n. Some (make n)) ≡ Some c → IsOf (kind ++ 58 ∷ name) c
+named_number : (kind name : List ℕ) (word : List ℕ) (make : ℕ → Caller) (c : Caller) → ((n : ℕ) → caller_text (make n) ≡ word ++ 58 ∷ decimal n) → ((n : ℕ) → 1 ≤ n → n ≤ GREATEST_NUMBER → IsCaller (make n))
+    → bytes_eq kind word ≡ true → (number_of 1 GREATEST_NUMBER name >>= λ n. Some (make n)) ≡ Some c → IsOf (kind ++ 58 ∷ name) c
 named_number kind name word make c spelled good is e =
-    option_and_then_some (λ n. Some (make n)) (number_of 1 999999 name) c e (λ n r s.
-    let h = number_sound 1 999999 name n r in
+    option_and_then_some (λ n. Some (make n)) (number_of 1 GREATEST_NUMBER name) c e (λ n r s.
+    let h = number_sound 1 GREATEST_NUMBER name n r in
     let k : kind ≡ word = (bytes_eq-Decides kind word).0 is in
     subst (λ (c : Caller). IsOf (kind ++ 58 ∷ name) c) (same_Some _ c s) (good n h.low_le h.le_high, ap (λ (k : List ℕ). k ++ 58 ∷ name) k ∙ ap (λ (t : List ℕ). word ++ 58 ∷ t) h.spelled ∙ sym (spelled n)))
 

@@ -2,6 +2,7 @@
 use Rattle.std.specs.Prelude.{ℕ, List, length, Bool, not, ◌&&◌, ◌||◌, nat_le, ◌==◌, if◌then◌else◌, Option, Some, None}
 use Rattle.std.specs.List.{list_all}
 use Rattle.std.specs.Str.{is_utf8}
+use Rattle.bike_fields.specs.declared.text_lengths.TheConstants.{LONGEST_IDENT, LONGEST_KEY, SHORTEST_LANGUAGE, LONGEST_LANGUAGE, CURRENCY_LENGTH, LONGEST_ASCII, LONGEST_NAME}
 
 abbrev pub is_lower : ℕ → Bool
 is_lower b = nat_le 97 b && nat_le b 122
@@ -36,22 +37,22 @@ abbrev pub has_length : ℕ → ℕ → List ℕ → Bool
 has_length least most bs = nat_le least (length bs) && nat_le (length bs) most
 
 abbrev pub is_ident : List ℕ → Bool
-is_ident bs = has_length 1 36 bs && list_all is_ident_byte bs
+is_ident bs = has_length 1 LONGEST_IDENT bs && list_all is_ident_byte bs
 
 abbrev pub is_key : List ℕ → Bool
-is_key bs = has_length 1 64 bs && list_all is_key_byte bs
+is_key bs = has_length 1 LONGEST_KEY bs && list_all is_key_byte bs
 
 abbrev pub is_language : List ℕ → Bool
-is_language bs = has_length 2 35 bs && list_all is_language_byte bs
+is_language bs = has_length SHORTEST_LANGUAGE LONGEST_LANGUAGE bs && list_all is_language_byte bs
 
 abbrev pub is_currency : List ℕ → Bool
-is_currency bs = has_length 3 3 bs && list_all is_upper bs
+is_currency bs = has_length CURRENCY_LENGTH CURRENCY_LENGTH bs && list_all is_upper bs
 
 abbrev pub is_ascii_field : List ℕ → Bool
-is_ascii_field bs = has_length 1 200 bs && list_all is_printable bs
+is_ascii_field bs = has_length 1 LONGEST_ASCII bs && list_all is_printable bs
 
 abbrev pub is_name : List ℕ → Bool
-is_name bs = has_length 1 120 bs && list_all is_name_byte bs && is_utf8 bs
+is_name bs = has_length 1 LONGEST_NAME bs && list_all is_name_byte bs && is_utf8 bs
 
 -- the text, where it passes the test
 abbrev pub kept_if : Bool → List ℕ → Option (List ℕ)

@@ -3,6 +3,7 @@ use Rattle.std.specs.Prelude.{◌≡◌, ℕ, ◌≤◌, List, ◌∷◌, ◌++�
 use Rattle.std.specs.List.{position_or_len, before_first, after_first}
 use Rattle.std.specs.Str.{bytes_eq}
 use Rattle.bike_fixed.specs.Whole.{number_of}
+use Rattle.bike_fields.specs.declared.numbers.TheConstants.{GREATEST_NUMBER}
 use Rattle.bike_fields.specs.Bytes.{is_ident, ident_of}
 use Rattle.bike_fields.specs.declared.caller.Caller.{Caller}
 use Rattle.bike_fields.specs.declared.caller.Caller.TheVariants.{Office, Rider, Dock, Crew, Import}
@@ -12,9 +13,9 @@ use Rattle.bike_fields.specs.declared.caller.CallerName.TheVariants as name
 -- a caller whose number or identifier keeps its bounds
 abbrev pub IsCaller : Caller → Type 0
 IsCaller Office = Unit {0}
-IsCaller (Rider n) = (1 ≤ n) × (n ≤ 999999)
+IsCaller (Rider n) = (1 ≤ n) × (n ≤ GREATEST_NUMBER)
 IsCaller (Dock station) = is_ident station ≡ true
-IsCaller (Crew n) = (1 ≤ n) × (n ≤ 999999)
+IsCaller (Crew n) = (1 ≤ n) × (n ≤ GREATEST_NUMBER)
 IsCaller (Import name) = is_ident name ≡ true
 
 -- office, rider:N, dock:STATION, crew:TRUCK, import:NAME
@@ -35,9 +36,9 @@ is_colon b = b == 58
 -- the caller of that kind
 unfoldable pub caller_named : List ℕ → List ℕ → Option Caller
 caller_named kind name =
-    if bytes_eq kind (codes "rider") then (number_of 1 999999 name >>= λ n. Some (Rider n)) else (
+    if bytes_eq kind (codes "rider") then (number_of 1 GREATEST_NUMBER name >>= λ n. Some (Rider n)) else (
     if bytes_eq kind (codes "dock") then (ident_of name >>= λ i. Some (Dock i)) else (
-    if bytes_eq kind (codes "crew") then (number_of 1 999999 name >>= λ n. Some (Crew n)) else (
+    if bytes_eq kind (codes "crew") then (number_of 1 GREATEST_NUMBER name >>= λ n. Some (Crew n)) else (
     if bytes_eq kind (codes "import") then (ident_of name >>= λ i. Some (Import i)) else None)))
 
 -- the caller whose text this is

@@ -2,15 +2,16 @@
 
 ghost use Rattle.std.specs.Prelude.{◌≡◌, true, IfOk, IfSome, List, ℕ, string_bytes};
 ghost use Rattle.bike_fields.specs.Bytes.{is_ascii_field, ascii_of};
-ghost use Rattle.bike_fields.specs.Fault.{Makes, at_field, ascii_fault};
+ghost use Rattle.bike_fields.specs.Fault.{Makes, Tests, at_field, ascii_fault};
 ghost use Rattle.bike_fields.specs.Reads.{Gives, IsReadAs};
 
 use crate::bytes::{are_printable, has_length};
 use crate::fault::{Bound, Field, FieldFault};
+use crate::text_lengths::LONGEST_ASCII;
 use std::alloc::{AllocError, Global};
 use std::marker::Model;
 
-/// Opening hours, a contact, a time zone or a URL: 1 to 200 bytes of 0x20 to 0x7E.
+/// Opening hours, a contact, a time zone or a URL: 1 to `LONGEST_ASCII` bytes of 0x20 to 0x7E.
 #[derive(Debug, Drop)]
 pub struct Ascii {
     text: String,
@@ -28,12 +29,22 @@ impl Model for Ascii {
 }
 
 impl Ascii {
-    /// The text as that field of a record, or the first bound that it breaks: its length before its characters.
-    #[tactic(auto, unfolding(crate::specs::Fault::ascii_fault))]
+    /// The text as that field of a record, or the first bound that it breaks: its length before its characters. Memory
+    /// is asked for only where it keeps both, and `NoMemory` comes where that is refused.
     pub fn new(alloc: Global, field: Field, text: &str) -> Result<Ascii, FieldFault>
         ensures { Makes text.now (at_field field (ascii_fault text.now)) result }
     {
-        if !has_length(text, 1, 200) {
+        let tested = Ascii::tested(field, text)?;
+        Ok(Ascii::of(alloc, tested)?)
+    }
+
+    /// The text, where it keeps the bounds of that field of a record, else the first that it breaks; this needs no memory.
+    #[tactic(auto, unfolding(crate::specs::Fault::ascii_fault))]
+    pub fn tested<'a>(field: Field, text: &'a str) -> Result<&'a str, FieldFault>
+        ensures value { Tests (λ tested. tested.now) text.now (at_field field (ascii_fault text.now)) result }
+        ensures good { IfOk result (λ tested. is_ascii_field tested.now ≡ true) }
+    {
+        if !has_length(text, 1, LONGEST_ASCII) {
             return Err(FieldFault::Broken {
                 field,
                 bound: Bound::Length,
@@ -45,9 +56,7 @@ impl Ascii {
                 bound: Bound::Charset,
             });
         }
-        Ok(Ascii {
-            text: String::from_str(alloc, text)?,
-        })
+        Ok(text)
     }
 
     /// The text, where it is an ASCII field; this needs no memory.
@@ -56,7 +65,7 @@ impl Ascii {
         ensures read { Gives (λ checked. checked.now) result (ascii_of text.now) }
         ensures good { IfSome result (λ checked. is_ascii_field checked.now ≡ true) }
     {
-        if has_length(text, 1, 200) && are_printable(text.as_bytes()) {
+        if has_length(text, 1, LONGEST_ASCII) && are_printable(text.as_bytes()) {
             return Some(text);
         }
         None

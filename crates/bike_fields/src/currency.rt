@@ -2,15 +2,16 @@
 
 ghost use Rattle.std.specs.Prelude.{◌≡◌, true, IfOk, IfSome, List, ℕ, string_bytes};
 ghost use Rattle.bike_fields.specs.Bytes.{is_currency, currency_of};
-ghost use Rattle.bike_fields.specs.Fault.{Makes, at_field, currency_fault};
+ghost use Rattle.bike_fields.specs.Fault.{Makes, Tests, at_field, currency_fault};
 ghost use Rattle.bike_fields.specs.Reads.{Gives, IsReadAs};
 
 use crate::bytes::{are_uppercase, has_length};
 use crate::fault::{Bound, Field, FieldFault};
+use crate::text_lengths::CURRENCY_LENGTH;
 use std::alloc::{AllocError, Global};
 use std::marker::Model;
 
-/// A currency code (ISO 4217) by its form alone: three of `A-Z`.
+/// A currency code (ISO 4217) by its form alone: `CURRENCY_LENGTH` of `A-Z`.
 #[derive(Debug, Drop)]
 pub struct Currency {
     text: String,
@@ -28,12 +29,22 @@ impl Model for Currency {
 }
 
 impl Currency {
-    /// The text as that field of a record, or the first bound that it breaks: its length before its characters.
-    #[tactic(auto, unfolding(crate::specs::Fault::currency_fault))]
+    /// The text as that field of a record, or the first bound that it breaks: its length before its characters. Memory
+    /// is asked for only where it keeps both, and `NoMemory` comes where that is refused.
     pub fn new(alloc: Global, field: Field, text: &str) -> Result<Currency, FieldFault>
         ensures { Makes text.now (at_field field (currency_fault text.now)) result }
     {
-        if !has_length(text, 3, 3) {
+        let tested = Currency::tested(field, text)?;
+        Ok(Currency::of(alloc, tested)?)
+    }
+
+    /// The text, where it keeps the bounds of that field of a record, else the first that it breaks; this needs no memory.
+    #[tactic(auto, unfolding(crate::specs::Fault::currency_fault))]
+    pub fn tested<'a>(field: Field, text: &'a str) -> Result<&'a str, FieldFault>
+        ensures value { Tests (λ tested. tested.now) text.now (at_field field (currency_fault text.now)) result }
+        ensures good { IfOk result (λ tested. is_currency tested.now ≡ true) }
+    {
+        if !has_length(text, CURRENCY_LENGTH, CURRENCY_LENGTH) {
             return Err(FieldFault::Broken {
                 field,
                 bound: Bound::Length,
@@ -45,9 +56,7 @@ impl Currency {
                 bound: Bound::Charset,
             });
         }
-        Ok(Currency {
-            text: String::from_str(alloc, text)?,
-        })
+        Ok(text)
     }
 
     /// The text, where it is a currency; this needs no memory.
@@ -56,7 +65,7 @@ impl Currency {
         ensures read { Gives (λ checked. checked.now) result (currency_of text.now) }
         ensures good { IfSome result (λ checked. is_currency checked.now ≡ true) }
     {
-        if has_length(text, 3, 3) && are_uppercase(text.as_bytes()) {
+        if has_length(text, CURRENCY_LENGTH, CURRENCY_LENGTH) && are_uppercase(text.as_bytes()) {
             return Some(text);
         }
         None

@@ -2,15 +2,16 @@
 
 ghost use Rattle.std.specs.Prelude.{◌≡◌, true, IfOk, IfSome, List, ℕ, string_bytes};
 ghost use Rattle.bike_fields.specs.Bytes.{is_ident, ident_of};
-ghost use Rattle.bike_fields.specs.Fault.{Makes, at_field, ident_fault};
+ghost use Rattle.bike_fields.specs.Fault.{Makes, Tests, at_field, ident_fault};
 ghost use Rattle.bike_fields.specs.Reads.{Gives, IsReadAs};
 
 use crate::bytes::{are_ident_bytes, has_length};
 use crate::fault::{Bound, Field, FieldFault};
+use crate::text_lengths::LONGEST_IDENT;
 use std::alloc::{AllocError, Global};
 use std::marker::Model;
 
-/// The name of a station, vehicle type, plan, import or system: 1 to 36 of `a-z 0-9 _ -`.
+/// The name of a station, vehicle type, plan, import or system: 1 to `LONGEST_IDENT` of `a-z 0-9 _ -`.
 #[derive(Debug, Drop)]
 pub struct Ident {
     text: String,
@@ -28,12 +29,22 @@ impl Model for Ident {
 }
 
 impl Ident {
-    /// The text as that field of a record, or the first bound that it breaks: its length before its characters.
-    #[tactic(auto, unfolding(crate::specs::Fault::ident_fault))]
+    /// The text as that field of a record, or the first bound that it breaks: its length before its characters. Memory
+    /// is asked for only where it keeps both, and `NoMemory` comes where that is refused.
     pub fn new(alloc: Global, field: Field, text: &str) -> Result<Ident, FieldFault>
         ensures { Makes text.now (at_field field (ident_fault text.now)) result }
     {
-        if !has_length(text, 1, 36) {
+        let tested = Ident::tested(field, text)?;
+        Ok(Ident::of(alloc, tested)?)
+    }
+
+    /// The text, where it keeps the bounds of that field of a record, else the first that it breaks; this needs no memory.
+    #[tactic(auto, unfolding(crate::specs::Fault::ident_fault))]
+    pub fn tested<'a>(field: Field, text: &'a str) -> Result<&'a str, FieldFault>
+        ensures value { Tests (λ tested. tested.now) text.now (at_field field (ident_fault text.now)) result }
+        ensures good { IfOk result (λ tested. is_ident tested.now ≡ true) }
+    {
+        if !has_length(text, 1, LONGEST_IDENT) {
             return Err(FieldFault::Broken {
                 field,
                 bound: Bound::Length,
@@ -45,9 +56,7 @@ impl Ident {
                 bound: Bound::Charset,
             });
         }
-        Ok(Ident {
-            text: String::from_str(alloc, text)?,
-        })
+        Ok(text)
     }
 
     /// The text, where it is an identifier; this needs no memory.
@@ -56,7 +65,7 @@ impl Ident {
         ensures read { Gives (λ checked. checked.now) result (ident_of text.now) }
         ensures good { IfSome result (λ checked. is_ident checked.now ≡ true) }
     {
-        if has_length(text, 1, 36) && are_ident_bytes(text.as_bytes()) {
+        if has_length(text, 1, LONGEST_IDENT) && are_ident_bytes(text.as_bytes()) {
             return Some(text);
         }
         None

@@ -2,15 +2,16 @@
 
 ghost use Rattle.std.specs.Prelude.{◌≡◌, true, IfOk, IfSome, List, ℕ, string_bytes};
 ghost use Rattle.bike_fields.specs.Bytes.{is_key, key_of};
-ghost use Rattle.bike_fields.specs.Fault.{Makes, at_field, key_fault};
+ghost use Rattle.bike_fields.specs.Fault.{Makes, Tests, at_field, key_fault};
 ghost use Rattle.bike_fields.specs.Reads.{Gives, IsReadAs};
 
 use crate::bytes::{are_key_bytes, has_length};
 use crate::fault::{Bound, Field, FieldFault};
+use crate::text_lengths::LONGEST_KEY;
 use std::alloc::{AllocError, Global};
 use std::marker::Model;
 
-/// What a caller names a request by: 1 to 64 of `A-Z a-z 0-9 _ -`.
+/// What a caller names a request by: 1 to `LONGEST_KEY` of `A-Z a-z 0-9 _ -`.
 #[derive(Debug, Drop)]
 pub struct RequestKey {
     text: String,
@@ -28,12 +29,22 @@ impl Model for RequestKey {
 }
 
 impl RequestKey {
-    /// The text as that field of a record, or the first bound that it breaks: its length before its characters.
-    #[tactic(auto, unfolding(crate::specs::Fault::key_fault))]
+    /// The text as that field of a record, or the first bound that it breaks: its length before its characters. Memory
+    /// is asked for only where it keeps both, and `NoMemory` comes where that is refused.
     pub fn new(alloc: Global, field: Field, text: &str) -> Result<RequestKey, FieldFault>
         ensures { Makes text.now (at_field field (key_fault text.now)) result }
     {
-        if !has_length(text, 1, 64) {
+        let tested = RequestKey::tested(field, text)?;
+        Ok(RequestKey::of(alloc, tested)?)
+    }
+
+    /// The text, where it keeps the bounds of that field of a record, else the first that it breaks; this needs no memory.
+    #[tactic(auto, unfolding(crate::specs::Fault::key_fault))]
+    pub fn tested<'a>(field: Field, text: &'a str) -> Result<&'a str, FieldFault>
+        ensures value { Tests (λ tested. tested.now) text.now (at_field field (key_fault text.now)) result }
+        ensures good { IfOk result (λ tested. is_key tested.now ≡ true) }
+    {
+        if !has_length(text, 1, LONGEST_KEY) {
             return Err(FieldFault::Broken {
                 field,
                 bound: Bound::Length,
@@ -45,9 +56,7 @@ impl RequestKey {
                 bound: Bound::Charset,
             });
         }
-        Ok(RequestKey {
-            text: String::from_str(alloc, text)?,
-        })
+        Ok(text)
     }
 
     /// The text, where it is a request key; this needs no memory.
@@ -56,7 +65,7 @@ impl RequestKey {
         ensures read { Gives (λ checked. checked.now) result (key_of text.now) }
         ensures good { IfSome result (λ checked. is_key checked.now ≡ true) }
     {
-        if has_length(text, 1, 64) && are_key_bytes(text.as_bytes()) {
+        if has_length(text, 1, LONGEST_KEY) && are_key_bytes(text.as_bytes()) {
             return Some(text);
         }
         None

@@ -2,15 +2,17 @@
 
 ghost use Rattle.std.specs.Prelude.{◌≡◌, true, IfOk, IfSome, List, ℕ, string_bytes};
 ghost use Rattle.bike_fields.specs.Bytes.{is_language, language_of};
-ghost use Rattle.bike_fields.specs.Fault.{Makes, at_field, language_fault};
+ghost use Rattle.bike_fields.specs.Fault.{Makes, Tests, at_field, language_fault};
 ghost use Rattle.bike_fields.specs.Reads.{Gives, IsReadAs};
 
 use crate::bytes::{are_language_bytes, has_length};
 use crate::fault::{Bound, Field, FieldFault};
+use crate::text_lengths::{LONGEST_LANGUAGE, SHORTEST_LANGUAGE};
 use std::alloc::{AllocError, Global};
 use std::marker::Model;
 
-/// A language tag (RFC 5646) by its form alone: 2 to 35 of `A-Z a-z 0-9 -`.
+/// A language tag (RFC 5646) by its form alone: `SHORTEST_LANGUAGE` to
+/// `LONGEST_LANGUAGE` of `A-Z a-z 0-9 -`.
 #[derive(Debug, Drop)]
 pub struct Language {
     text: String,
@@ -28,12 +30,22 @@ impl Model for Language {
 }
 
 impl Language {
-    /// The text as that field of a record, or the first bound that it breaks: its length before its characters.
-    #[tactic(auto, unfolding(crate::specs::Fault::language_fault))]
+    /// The text as that field of a record, or the first bound that it breaks: its length before its characters. Memory
+    /// is asked for only where it keeps both, and `NoMemory` comes where that is refused.
     pub fn new(alloc: Global, field: Field, text: &str) -> Result<Language, FieldFault>
         ensures { Makes text.now (at_field field (language_fault text.now)) result }
     {
-        if !has_length(text, 2, 35) {
+        let tested = Language::tested(field, text)?;
+        Ok(Language::of(alloc, tested)?)
+    }
+
+    /// The text, where it keeps the bounds of that field of a record, else the first that it breaks; this needs no memory.
+    #[tactic(auto, unfolding(crate::specs::Fault::language_fault))]
+    pub fn tested<'a>(field: Field, text: &'a str) -> Result<&'a str, FieldFault>
+        ensures value { Tests (λ tested. tested.now) text.now (at_field field (language_fault text.now)) result }
+        ensures good { IfOk result (λ tested. is_language tested.now ≡ true) }
+    {
+        if !has_length(text, SHORTEST_LANGUAGE, LONGEST_LANGUAGE) {
             return Err(FieldFault::Broken {
                 field,
                 bound: Bound::Length,
@@ -45,9 +57,7 @@ impl Language {
                 bound: Bound::Charset,
             });
         }
-        Ok(Language {
-            text: String::from_str(alloc, text)?,
-        })
+        Ok(text)
     }
 
     /// The text, where it is a language; this needs no memory.
@@ -56,7 +66,9 @@ impl Language {
         ensures read { Gives (λ checked. checked.now) result (language_of text.now) }
         ensures good { IfSome result (λ checked. is_language checked.now ≡ true) }
     {
-        if has_length(text, 2, 35) && are_language_bytes(text.as_bytes()) {
+        if has_length(text, SHORTEST_LANGUAGE, LONGEST_LANGUAGE)
+            && are_language_bytes(text.as_bytes())
+        {
             return Some(text);
         }
         None

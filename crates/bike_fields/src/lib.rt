@@ -14,9 +14,10 @@ mod key;
 mod language;
 mod name;
 mod numbers;
+mod text_lengths;
 
 pub use ascii::Ascii;
-pub use bike_fixed::{Micro, Within, read_signed};
+pub use bike_fixed::{GREATEST_COORDINATE, Micro, Within, read_signed};
 pub use caller::{Caller, CallerName, caller_laws};
 pub use currency::Currency;
 pub use fault::{Bound, Field, FieldFault};
@@ -25,7 +26,12 @@ pub use key::RequestKey;
 pub use language::Language;
 pub use name::Name;
 pub use numbers::{
-    BicycleNumber, DockCount, DockNumber, MOST_DOCKS, MaxRange, OrderNumber, OrderQuantity,
-    Payment, Price, RentalNumber, RiderNumber, SegmentMinute, TimeToLive, TruckCapacity,
-    TruckNumber,
+    BicycleNumber, DockCount, DockNumber, GREATEST_NUMBER, GREATEST_PAYMENT, GREATEST_PRICE,
+    GREATEST_RANGE, GREATEST_SERIAL, LAST_MINUTE, LONGEST_TIME_TO_LIVE, MOST_CARRIED, MOST_DOCKS,
+    MaxRange, OrderNumber, OrderQuantity, Payment, Price, RentalNumber, RiderNumber, SegmentMinute,
+    TimeToLive, TruckCapacity, TruckNumber,
+};
+pub use text_lengths::{
+    CURRENCY_LENGTH, LONGEST_ASCII, LONGEST_IDENT, LONGEST_KEY, LONGEST_LANGUAGE, LONGEST_NAME,
+    SHORTEST_LANGUAGE,
 };

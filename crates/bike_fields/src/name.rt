@@ -2,15 +2,16 @@
 
 ghost use Rattle.std.specs.Prelude.{◌≡◌, true, IfOk, IfSome, List, ℕ, string_bytes};
 ghost use Rattle.bike_fields.specs.Bytes.{is_name, name_of};
-ghost use Rattle.bike_fields.specs.Fault.{Makes, at_field, name_fault};
+ghost use Rattle.bike_fields.specs.Fault.{Makes, Tests, at_field, name_fault};
 ghost use Rattle.bike_fields.specs.Reads.{Gives, IsReadAs};
 
 use crate::bytes::{are_name_bytes, has_length};
 use crate::fault::{Bound, Field, FieldFault};
+use crate::text_lengths::LONGEST_NAME;
 use std::alloc::{AllocError, Global};
 use std::marker::Model;
 
-/// A name or a description: UTF-8, 1 to 120 bytes, without U+0000.
+/// A name or a description: UTF-8, 1 to `LONGEST_NAME` bytes, without U+0000.
 #[derive(Debug, Drop)]
 pub struct Name {
     text: String,
@@ -28,12 +29,22 @@ impl Model for Name {
 }
 
 impl Name {
-    /// The text as that field of a record, or the first bound that it breaks: its length before its characters.
-    #[tactic(auto, unfolding(crate::specs::Fault::name_fault))]
+    /// The text as that field of a record, or the first bound that it breaks: its length before its characters. Memory
+    /// is asked for only where it keeps both, and `NoMemory` comes where that is refused.
     pub fn new(alloc: Global, field: Field, text: &str) -> Result<Name, FieldFault>
         ensures { Makes text.now (at_field field (name_fault text.now)) result }
     {
-        if !has_length(text, 1, 120) {
+        let tested = Name::tested(field, text)?;
+        Ok(Name::of(alloc, tested)?)
+    }
+
+    /// The text, where it keeps the bounds of that field of a record, else the first that it breaks; this needs no memory.
+    #[tactic(auto, unfolding(crate::specs::Fault::name_fault))]
+    pub fn tested<'a>(field: Field, text: &'a str) -> Result<&'a str, FieldFault>
+        ensures value { Tests (λ tested. tested.now) text.now (at_field field (name_fault text.now)) result }
+        ensures good { IfOk result (λ tested. is_name tested.now ≡ true) }
+    {
+        if !has_length(text, 1, LONGEST_NAME) {
             return Err(FieldFault::Broken {
                 field,
                 bound: Bound::Length,
@@ -45,9 +56,7 @@ impl Name {
                 bound: Bound::Charset,
             });
         }
-        Ok(Name {
-            text: String::from_str(alloc, text)?,
-        })
+        Ok(text)
     }
 
     /// The text, where it is a name; this needs no memory.
@@ -56,7 +65,7 @@ impl Name {
         ensures read { Gives (λ checked. checked.now) result (name_of text.now) }
         ensures good { IfSome result (λ checked. is_name checked.now ≡ true) }
     {
-        if has_length(text, 1, 120) && are_name_bytes(text.as_bytes()) {
+        if has_length(text, 1, LONGEST_NAME) && are_name_bytes(text.as_bytes()) {
             return Some(text);
         }
         None

@@ -2,14 +2,17 @@
 
 use bike_fixed::Within;
 
-/// A rider, 1 to 999,999.
-pub type RiderNumber = Within<1, 999_999>;
+/// The greatest number of a rider, a bicycle or a truck; the least is 1.
+pub const GREATEST_NUMBER: u32 = 999_999;
 
-/// A bicycle, 1 to 999,999.
-pub type BicycleNumber = Within<1, 999_999>;
+/// A rider.
+pub type RiderNumber = Within<1, GREATEST_NUMBER>;
 
-/// A truck, 1 to 999,999.
-pub type TruckNumber = Within<1, 999_999>;
+/// A bicycle.
+pub type BicycleNumber = Within<1, GREATEST_NUMBER>;
+
+/// A truck.
+pub type TruckNumber = Within<1, GREATEST_NUMBER>;
 
 /// A station has at most this many docks, which are numbered from 1.
 pub const MOST_DOCKS: u32 = 200;
@@ -20,29 +23,50 @@ pub type DockNumber = Within<1, MOST_DOCKS>;
 /// How many docks a station has, at least 1.
 pub type DockCount = Within<1, MOST_DOCKS>;
 
-/// How many bicycles a truck holds, 1 to 60.
-pub type TruckCapacity = Within<1, 60>;
+/// The most bicycles that a truck holds or an order moves.
+pub const MOST_CARRIED: u32 = 60;
 
-/// How many bicycles an order moves, 1 to 60.
-pub type OrderQuantity = Within<1, 60>;
+/// How many bicycles a truck holds, at least 1.
+pub type TruckCapacity = Within<1, MOST_CARRIED>;
 
-/// A top-up or a refund, 1 to 1,000,000 hundredths.
-pub type Payment = Within<1, 1_000_000>;
+/// How many bicycles an order moves, at least 1.
+pub type OrderQuantity = Within<1, MOST_CARRIED>;
 
-/// A rental, 1 to 100,000,000.
-pub type RentalNumber = Within<1, 100_000_000>;
+/// The most that is paid at once, in hundredths.
+pub const GREATEST_PAYMENT: u32 = 1_000_000;
 
-/// An order, 1 to 100,000,000.
-pub type OrderNumber = Within<1, 100_000_000>;
+/// A top-up or a refund in hundredths, at least 1.
+pub type Payment = Within<1, GREATEST_PAYMENT>;
 
-/// The price of a plan, 0 to 1,000,000 hundredths.
-pub type Price = Within<0, 1_000_000>;
+/// The greatest number of a rental or an order; the least is 1.
+pub const GREATEST_SERIAL: u32 = 100_000_000;
 
-/// A minute of a rental at which a segment starts, ends or charges again, 0 to 100,000.
-pub type SegmentMinute = Within<0, 100_000>;
+/// A rental.
+pub type RentalNumber = Within<1, GREATEST_SERIAL>;
 
-/// The greatest range of a vehicle, 0 to 1,000,000 metres.
-pub type MaxRange = Within<0, 1_000_000>;
+/// An order.
+pub type OrderNumber = Within<1, GREATEST_SERIAL>;
 
-/// How long a feed stays fresh, 0 to 86,400 seconds.
-pub type TimeToLive = Within<0, 86_400>;
+/// The greatest price of a plan, in hundredths.
+pub const GREATEST_PRICE: u32 = 1_000_000;
+
+/// The price of a plan in hundredths, which may be 0.
+pub type Price = Within<0, GREATEST_PRICE>;
+
+/// The last minute of a rental at which a segment starts or ends, and its longest interval in minutes.
+pub const LAST_MINUTE: u32 = 100_000;
+
+/// A minute of a rental, from 0 on, at which a segment starts, ends or charges again.
+pub type SegmentMinute = Within<0, LAST_MINUTE>;
+
+/// The greatest range of a vehicle, in metres.
+pub const GREATEST_RANGE: u32 = 1_000_000;
+
+/// The range of a vehicle in metres, which may be 0.
+pub type MaxRange = Within<0, GREATEST_RANGE>;
+
+/// The longest that a feed stays fresh, in seconds.
+pub const LONGEST_TIME_TO_LIVE: u32 = 86_400;
+
+/// How long a feed stays fresh, in seconds, which may be 0.
+pub type TimeToLive = Within<0, LONGEST_TIME_TO_LIVE>;

@@ -3,14 +3,15 @@ use Rattle.std.specs.Prelude.{◌≡◌, ℕ, ℤ, ◌+◌, ◌-◌, ◌*◌, �
 use Rattle.std.specs.List.{list_all, position_or_len, before_first, after_first}
 use Rattle.std.specs.Char.{is_ascii_digit}
 use Rattle.std.specs.Str.Parse.{digits_value}
+use Rattle.bike_fixed.specs.declared.micro.TheConstants.{GREATEST_COORDINATE}
 
 -- from -180 to 180 degrees
 abbrev pub IsMicro : ℤ → Type 0
-IsMicro z = (neg_ℤ (pos 180000000) ≤ℤ z) × (z ≤ℤ pos 180000000)
+IsMicro z = (neg_ℤ (pos GREATEST_COORDINATE) ≤ℤ z) × (z ≤ℤ pos GREATEST_COORDINATE)
 
 -- so many microdegrees, where they are from -180 to 180 degrees
 abbrev pub micro_within : ℤ → Option ℤ
-micro_within z = if int_le (neg_ℤ (pos 180000000)) z && int_le z (pos 180000000) then Some z else None
+micro_within z = if int_le (neg_ℤ (pos GREATEST_COORDINATE)) z && int_le z (pos GREATEST_COORDINATE) then Some z else None
 
 -- a minus sign, if the coordinate has one
 abbrev pub minus_text : Bool → List ℕ
@@ -60,7 +61,7 @@ size_of text =
 
 -- the same behind a sign, where they are at most 180 degrees
 abbrev pub within : Bool → List ℕ → Option ℤ
-within minus text = size_of text >>= λ n. if nat_le n 180000000 then Some (with_sign minus n) else None
+within minus text = size_of text >>= λ n. if nat_le n GREATEST_COORDINATE then Some (with_sign minus n) else None
 
 -- the microdegrees that the text spells
 unfoldable pub micro_of : List ℕ → Option ℤ

@@ -14,7 +14,7 @@ mod within;
 
 pub use cents::{Cents, GREATEST_FARE};
 pub use day::{DayFault, day_bounds};
-pub use micro::{Micro, coordinate_laws};
+pub use micro::{GREATEST_COORDINATE, Micro, coordinate_laws};
 pub use moment::Moment;
 pub use whole::{number_laws, read_signed, read_whole, signed_text};
 pub use within::Within;

@@ -10,10 +10,10 @@ use crate::digits::{push_decimal, push_sign, push_six};
 use arrayvec::ArrayString;
 use std::marker::Model;
 
-/// The greatest size, 180 degrees.
-const GREATEST: u32 = 180_000_000;
+/// The greatest size of a coordinate, of either sign, in microdegrees: 180 degrees.
+pub const GREATEST_COORDINATE: u32 = 180_000_000;
 
-/// A latitude or longitude in whole microdegrees, from -180,000,000 to 180,000,000.
+/// A latitude or longitude in whole microdegrees, of a size of at most `GREATEST_COORDINATE`.
 #[derive(Clone, Copy, Debug, PartialEq, Eq)]
 pub struct Micro {
     microdegrees: i32,
@@ -79,7 +79,7 @@ fn within(minus: bool, text: &str) -> Option<Micro>
     ensures { result ≡ within minus text.now }
 {
     let size = size(text)?;
-    if size > GREATEST {
+    if size > GREATEST_COORDINATE {
         return None;
     }
     let microdegrees = if minus { -(size as i32) } else { size as i32 };
@@ -87,11 +87,11 @@ fn within(minus: bool, text: &str) -> Option<Micro>
 }
 
 impl Micro {
-    /// So many microdegrees, where they lie from -180,000,000 to 180,000,000.
+    /// So many microdegrees, where their size is at most `GREATEST_COORDINATE`.
     pub fn new(microdegrees: i32) -> Option<Micro>
         ensures { result ≡ micro_within microdegrees }
     {
-        if -180_000_000 <= microdegrees && microdegrees <= 180_000_000 {
+        if microdegrees.unsigned_abs() <= GREATEST_COORDINATE {
             return Some(Micro { microdegrees });
         }
         None

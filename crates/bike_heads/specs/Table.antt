@@ -7,6 +7,7 @@ use Rattle.matchit.specs.Route.{Scan, parse_route}
 use Rattle.matchit.specs.Router.{RouteOf, route_from}
 use Rattle.matchit.specs.Seek.{first}
 use Rattle.bike_fixed.specs.Whole.{number_of}
+use Rattle.bike_fields.specs.declared.numbers.TheConstants.{GREATEST_NUMBER, GREATEST_SERIAL}
 use Rattle.bike_fields.specs.Bytes.{ident_of}
 use Rattle.bike_texts.specs.Reading.{◌>>=◌, part_at}
 use Rattle.bike_feed_texts.specs.declared.feed.Feed.TheVariants.{Gbfs, SystemInformation, VehicleTypes, StationInformation, StationStatus, SystemPricingPlans}
@@ -80,10 +81,10 @@ named_in read path = part_in path >>= read
 
 -- the number of a rider, a bicycle or a truck; of a rental or an order
 abbrev pub number_in : List ℕ → Option ℕ
-number_in = named_in (number_of 1 999999)
+number_in = named_in (number_of 1 GREATEST_NUMBER)
 
 abbrev pub serial_in : List ℕ → Option ℕ
-serial_in = named_in (number_of 1 100000000)
+serial_in = named_in (number_of 1 GREATEST_SERIAL)
 
 -- the identifier of a station
 abbrev pub ident_in : List ℕ → Option (List ℕ)

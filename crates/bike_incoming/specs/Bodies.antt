@@ -1,6 +1,7 @@
 -- The request that a body makes, a block for each kind.
 use Rattle.std.specs.Prelude.{ℕ, List, ◌==◌, Option, Some, codes}
 use Rattle.std.specs.List.{slice_split}
+use Rattle.bike_fields.specs.declared.numbers.TheConstants.{GREATEST_NUMBER, GREATEST_SERIAL, MOST_DOCKS}
 use Rattle.serde_json.specs.Data.{Data}
 use Rattle.bike_fields.specs.declared.caller.Caller.{Caller}
 use Rattle.bike_fields.specs.declared.caller.Caller.TheVariants as caller
@@ -15,13 +16,13 @@ use Rattle.bike_incoming.specs.Members.{text_in, number_in, key_in, ident_in, ch
 
 -- bicycles; docks; orders
 abbrev pub bike_in : Data → Option ℕ
-bike_in = number_in 1 999999 (codes "bike")
+bike_in = number_in 1 GREATEST_NUMBER (codes "bike")
 
 abbrev pub dock_in : Data → Option ℕ
-dock_in = number_in 1 200 (codes "dock")
+dock_in = number_in 1 MOST_DOCKS (codes "dock")
 
 abbrev pub order_in : Data → Option ℕ
-order_in = number_in 1 100000000 (codes "order")
+order_in = number_in 1 GREATEST_SERIAL (codes "order")
 
 unfoldable pub start_of : ℕ → Data → Option Command
 start_of rider body = do
@@ -59,7 +60,7 @@ unload_of truck body = do
   order ← order_in body
   bike ← bike_in body
   side ← side_in (codes "side") body
-  dock ← number_in 0 200 (codes "dock") body
+  dock ← number_in 0 MOST_DOCKS (codes "dock") body
   Some (Unload truck order bike side dock)
 
 -- the command that the text of the member spells

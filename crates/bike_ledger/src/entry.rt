@@ -3,11 +3,12 @@
 ghost use Rattle.std.specs.Prelude.{◌≡◌, ◌≤◌, ◌≤ℤ◌, pos};
 ghost use Rattle.bike_ledger.specs.Entries.{IsEntry};
 
+use bike_fields::{GREATEST_SERIAL, Payment, RentalNumber, RiderNumber};
 use bike_fixed::{Cents, GREATEST_FARE, Moment, Within};
 use std::marker::Model;
 
-/// The number of an entry, 1 to 100,000,000.
-pub type EntryNumber = Within<1, 100_000_000>;
+/// The number of an entry, 1 to `GREATEST_SERIAL`.
+pub type EntryNumber = Within<1, GREATEST_SERIAL>;
 
 /// What an entry books: from which account to which.
 #[derive(Clone, Copy, Debug, PartialEq, Eq)]
@@ -26,8 +27,8 @@ pub enum EntryKind {
 pub struct Entry {
     number: EntryNumber,
     kind: EntryKind,
-    rider: Within<1, 999_999>,
-    rental: Within<0, 100_000_000>,
+    rider: RiderNumber,
+    rental: Within<0, GREATEST_SERIAL>,
     amount: Cents,
     at: Moment,
 }
@@ -46,12 +47,7 @@ impl Model for Entry {
 
 impl Entry {
     /// The entry of a top-up, of 1 to 1,000,000 hundredths.
-    pub fn top_up(
-        number: EntryNumber,
-        rider: Within<1, 999_999>,
-        amount: Within<1, 1_000_000>,
-        at: Moment,
-    ) -> Entry
+    pub fn top_up(number: EntryNumber, rider: RiderNumber, amount: Payment, at: Moment) -> Entry
         ensures { result ≡ record { number = number; kind = EntryKind.TopUp; rider = rider; rental = 0; amount = pos amount; at = at } }
     {
         Entry {
@@ -67,8 +63,8 @@ impl Entry {
     /// The entry of a rental's fare, of 0 to `GREATEST_FARE` hundredths.
     pub fn fare(
         number: EntryNumber,
-        rider: Within<1, 999_999>,
-        rental: Within<1, 100_000_000>,
+        rider: RiderNumber,
+        rental: RentalNumber,
         amount: Cents,
         at: Moment,
     ) -> Entry
@@ -90,9 +86,9 @@ impl Entry {
     /// The entry of a refund to the rider of a rental, of 1 to 1,000,000 hundredths.
     pub fn refund(
         number: EntryNumber,
-        rider: Within<1, 999_999>,
-        rental: Within<1, 100_000_000>,
-        amount: Within<1, 1_000_000>,
+        rider: RiderNumber,
+        rental: RentalNumber,
+        amount: Payment,
         at: Moment,
     ) -> Entry
         ensures { result ≡ record { number = number; kind = EntryKind.Refund; rider = rider; rental = rental; amount = pos amount; at = at } }
@@ -130,14 +126,14 @@ impl Entry {
     }
 
     /// The rider whose balance it changes.
-    pub fn rider(&self) -> Within<1, 999_999>
+    pub fn rider(&self) -> RiderNumber
         ensures { result ≡ self.now.rider }
     {
         self.rider
     }
 
     /// The rental of a fare or refund, 1 or more; 0 exactly with a top-up.
-    pub fn rental(&self) -> Within<0, 100_000_000>
+    pub fn rental(&self) -> Within<0, GREATEST_SERIAL>
         ensures { result ≡ self.now.rental }
     {
         self.rental
@@ -161,7 +157,7 @@ impl Entry {
 }
 
 /// No rental.
-fn none() -> Within<0, 100_000_000>
+fn none() -> Within<0, GREATEST_SERIAL>
     ensures { result ≡ 0 }
 {
     match Within::new(0) {
@@ -171,7 +167,7 @@ fn none() -> Within<0, 100_000_000>
 }
 
 /// This rental, and that it isn't none.
-fn some(rental: Within<1, 100_000_000>) -> Within<0, 100_000_000>
+fn some(rental: RentalNumber) -> Within<0, GREATEST_SERIAL>
     ensures value { result ≡ rental }
     ensures low { 1 ≤ result }
 {

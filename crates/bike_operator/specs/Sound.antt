@@ -3,6 +3,7 @@ use Rattle.std.specs.Prelude.{◌≡◌, ℕ, ℤ, ◌+◌, ◌≤◌, ◌≤ℤ
 use Rattle.std.specs.FinMap as finmap
 use Rattle.std.specs.FinSet as finset
 use Rattle.bike_fixed.specs.Whole.{last_moment}
+use Rattle.bike_fields.specs.declared.numbers.TheConstants.{GREATEST_NUMBER, GREATEST_PAYMENT, MOST_CARRIED}
 use Rattle.bike_commands.specs.Bytes.{is_key}
 use Rattle.bike_commands.specs.CallerType.{Caller}
 use Rattle.bike_commands.specs.Caller.{IsCaller, caller_text}
@@ -100,7 +101,7 @@ IsPlace s bike type_id place.Depot = Unit {0}
 
 pub record IsBikeAt (s : Operator) (number : ℕ) (b : Bike) : Type 0 where
   pub low : 1 ≤ number
-  pub high : number ≤ 999999
+  pub high : number ≤ GREATEST_NUMBER
   pub type_is : finmap.contains_key s.types b.type_id ≡ true
   pub placed : IsPlace s number b.type_id b.place
   pub retired : is_retired b.state ≡ true → b.place ≡ place.Depot
@@ -117,9 +118,9 @@ pub record AreBikesSound (s : Operator) : Type 0 where
 
 pub record IsTruckAt (s : Operator) (number : ℕ) (t : Truck) : Type 0 where
   pub low : 1 ≤ number
-  pub high : number ≤ 999999
+  pub high : number ≤ GREATEST_NUMBER
   pub some : 1 ≤ t.capacity
-  pub most : t.capacity ≤ 60
+  pub most : t.capacity ≤ MOST_CARRIED
   pub holds : truck_load s number ≤ t.capacity
 
 -- the truck is there, and holds so many bicycles
@@ -207,14 +208,14 @@ pub record AreRentalsSound (s : Operator) : Type 0 where
 
 pub record IsRiderNumber (number : ℕ) : Type 0 where
   pub low : 1 ≤ number
-  pub high : number ≤ 999999
+  pub high : number ≤ GREATEST_NUMBER
 
 -- an amount that may be paid in or refunded, in hundredths
 pub record IsPayment (amount : ℤ) : Type 0 where
   pub hundredths : ℕ
   pub is : amount ≡ pos hundredths
   pub low : 1 ≤ hundredths
-  pub high : hundredths ≤ 1000000
+  pub high : hundredths ≤ GREATEST_PAYMENT
 
 -- the closed rental of an entry, which is its rider's
 pub record IsOfRental (s : Operator) (e : Entry) : Type 0 where

@@ -1,6 +1,7 @@
 -- The bounds that the records of stored rows keep, each of which the row alone tells.
 use Rattle.std.specs.Prelude.{◌≡◌, ℕ, ℤ, pos, ◌≤◌, ◌≤ℤ◌, List, true, Option, Some, None}
 use Rattle.bike_fixed.specs.Whole.{last_moment}
+use Rattle.bike_fields.specs.declared.numbers.TheConstants.{GREATEST_NUMBER, GREATEST_SERIAL, MOST_CARRIED, MOST_DOCKS}
 use Rattle.bike_fields.specs.Bytes.{is_ident}
 use Rattle.bike_catalogue.specs.Rows.{SegmentRow, PlanRow, TypeRow, IsSegment, IsPlan, IsType, IsStation}
 use Rattle.bike_ledger.specs.Entries.{Entry, greatest_amount}
@@ -24,13 +25,13 @@ IsWithin lo hi n = (lo ≤ n) × (n ≤ hi)
 
 -- riders, bicycles and trucks; docks; rentals, orders and entries
 abbrev pub IsNumbered : ℕ → Type 0
-IsNumbered = IsWithin 1 999999
+IsNumbered = IsWithin 1 GREATEST_NUMBER
 
 abbrev pub IsDockNumber : ℕ → Type 0
-IsDockNumber = IsWithin 1 200
+IsDockNumber = IsWithin 1 MOST_DOCKS
 
 abbrev pub IsSerial : ℕ → Type 0
-IsSerial = IsWithin 1 100000000
+IsSerial = IsWithin 1 GREATEST_SERIAL
 
 abbrev pub IsCount : ℕ → Type 0
 IsCount n = n ≤ greatest_count
@@ -83,7 +84,7 @@ pub record IsStoredBike (number : ℕ) (b : Bike) : Type 0 where
 
 pub record IsStoredTruck (number : ℕ) (t : Truck) : Type 0 where
   pub good_number : IsNumbered number
-  pub capacity : IsWithin 1 60 t.capacity
+  pub capacity : IsWithin 1 MOST_CARRIED t.capacity
 
 abbrev pub IsStop : Option (List ℕ) → Type 0
 IsStop None = Unit {0}
@@ -113,8 +114,8 @@ pub record IsStoredOrder (number : ℕ) (o : Order) : Type 0 where
   pub from_end : IsEnd o.from_end
   pub to_end : IsEnd o.to_end
   pub type_id : is_ident o.type_id ≡ true
-  pub count : IsWithin 1 60 o.count
-  pub delivered : o.delivered ≤ 60
+  pub count : IsWithin 1 MOST_CARRIED o.count
+  pub delivered : o.delivered ≤ MOST_CARRIED
 
 -- the rental of an entry of the kind, and its amount
 abbrev pub IsStoredRentalOf : EntryKind → ℕ → Type 0

@@ -3,9 +3,12 @@ use Rattle.std.specs.Prelude.{ℕ, ℤ, pos, neg_ℤ, int_le, ◌==◌, ◌&&◌
 use Rattle.std.specs.Ordering.{int_eq}
 use Rattle.std.specs.List.{list_all, slice_split}
 use Rattle.std.specs.Str.{bytes_eq}
+use Rattle.bike_fixed.specs.declared.micro.TheConstants.{GREATEST_COORDINATE}
 use Rattle.sqlite_value.specs.declared.value.Value.{Value}
 use Rattle.sqlite_value.specs.Order.{Row}
 use Rattle.sqlite_sql.specs.Ops.{is_null}
+use Rattle.bike_fields.specs.declared.numbers.TheConstants.{GREATEST_NUMBER, GREATEST_PAYMENT, GREATEST_SERIAL, MOST_DOCKS}
+use Rattle.bike_catalogue.specs.declared.limits.TheConstants.{GREATEST_LATITUDE, GREATEST_RATE}
 use Rattle.bike_fields.specs.Bytes.{key_of, language_of, currency_of, ascii_of}
 use Rattle.bike_fields.specs.Caller.{◌>>=◌, caller_of}
 use Rattle.bike_fields.specs.declared.caller.Caller.{Caller}
@@ -89,14 +92,14 @@ signed_in lo hi v = whole_in v >>= λ z. if int_le lo z && int_le z hi then Some
 
 -- a rate of a segment, in hundredths
 abbrev pub rate_in : Value → Option ℤ
-rate_in = signed_in (neg_ℤ (pos 100000)) (pos 100000)
+rate_in = signed_in (neg_ℤ (pos GREATEST_RATE)) (pos GREATEST_RATE)
 
 -- microdegrees from the equator, and from the meridian of Greenwich
 abbrev pub latitude_in : Value → Option ℤ
-latitude_in = signed_in (neg_ℤ (pos 90000000)) (pos 90000000)
+latitude_in = signed_in (neg_ℤ (pos GREATEST_LATITUDE)) (pos GREATEST_LATITUDE)
 
 abbrev pub longitude_in : Value → Option ℤ
-longitude_in = signed_in (neg_ℤ (pos 180000000)) (pos 180000000)
+longitude_in = signed_in (neg_ℤ (pos GREATEST_COORDINATE)) (pos GREATEST_COORDINATE)
 
 -- the greatest whole number of 32 bits, which no count reaches
 abbrev pub greatest_count : ℕ
@@ -107,13 +110,13 @@ count_in = number_in 0 greatest_count
 
 -- riders, bicycles and trucks; docks; rentals, orders and entries
 abbrev pub numbered_in : Value → Option ℕ
-numbered_in = number_in 1 999999
+numbered_in = number_in 1 GREATEST_NUMBER
 
 abbrev pub dock_in : Value → Option ℕ
-dock_in = number_in 1 200
+dock_in = number_in 1 MOST_DOCKS
 
 abbrev pub serial_in : Value → Option ℕ
-serial_in = number_in 1 100000000
+serial_in = number_in 1 GREATEST_SERIAL
 
 -- ---- entries
 
@@ -131,7 +134,7 @@ rental_in Refund = serial_in
 
 -- what may be paid in or refunded, in hundredths
 abbrev pub payment_in : Value → Option ℤ
-payment_in = signed_in (pos 1) (pos 1000000)
+payment_in = signed_in (pos 1) (pos GREATEST_PAYMENT)
 
 -- a fare, in hundredths
 abbrev pub fare_in : Value → Option ℤ

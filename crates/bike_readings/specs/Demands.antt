@@ -18,6 +18,7 @@
 --   a number stored beside a record that isn't the figure       the row that has it
 use Rattle.std.specs.Prelude.{◌≡◌, ℕ, ℤ, ◌+◌, ◌<◌, ◌≤◌, ◌≤ℤ◌, pos, List, Bool, true, length, Option, Some, None}
 use Rattle.std.specs.FinMap as fin
+use Rattle.bike_fields.specs.declared.numbers.TheConstants.{GREATEST_NUMBER}
 use Rattle.bike_catalogue.specs.Rows.{SegmentRow, PlanRow, TypeRow}
 use Rattle.bike_ledger.specs.Entries.{Entry}
 use Rattle.bike_ledger.specs.declared.entry.EntryKind.{EntryKind}
@@ -102,7 +103,7 @@ module _ (t : Tables) (s : Operator) where
   pub record IsGoodBike (below : ℕ) (e : ℕ × Bike) : Type 0 where
     pub room : below < MOST_BIKES
     pub low : 1 ≤ e.0
-    pub high : e.0 ≤ 999999
+    pub high : e.0 ≤ GREATEST_NUMBER
     pub type_is : fin.contains_key s.types e.1.type_id ≡ true
     pub placed : IsGoodPlace e.0 e.1.type_id e.1.place
     pub retired : is_retired e.1.state ≡ true → e.1.place ≡ place.Depot

@@ -2,6 +2,8 @@
 -- another kind or out of its bounds, and by columns that don't agree. Whether a name stands for a record isn't asked here.
 use Rattle.std.specs.Prelude.{ℕ, ℤ, List, [], Bool, if◌then◌else◌, Option, Some, None, codes}
 use Rattle.sqlite_value.specs.Order.{Row, column}
+use Rattle.bike_fields.specs.declared.numbers.TheConstants.{GREATEST_PRICE, GREATEST_RANGE, LAST_MINUTE, LONGEST_TIME_TO_LIVE, MOST_CARRIED}
+use Rattle.bike_catalogue.specs.declared.limits.TheConstants.{MOST_SEGMENTS}
 use Rattle.bike_fields.specs.Caller.{◌>>=◌, caller_text}
 use Rattle.bike_catalogue.specs.Rows.{SegmentRow, PlanRow, TypeRow, SystemRow, is_range, is_after}
 use Rattle.bike_ledger.specs.Entries.{Entry}
@@ -34,7 +36,7 @@ system_read row = where_wide 10 row (do
   timezone ← ascii_in (column row 6)
   currency ← currency_in (column row 7)
   base_url ← ascii_in (column row 8)
-  ttl ← number_in 0 86400 (column row 9)
+  ttl ← number_in 0 LONGEST_TIME_TO_LIVE (column row 9)
   Some (record { system_id = system_id; language = language; name = name; opening_hours = opening_hours; feed_contact_email = feed_contact_email; timezone = timezone; currency = currency; base_url = base_url; ttl = ttl }))
 
 -- under its identifier, with no segments: these are rows of their own
@@ -42,7 +44,7 @@ abbrev pub plan_read : Row → Option (List ℕ × PlanRow)
 plan_read row = where_wide 5 row (do
   plan_id ← ident_in (column row 0)
   name ← name_in (column row 1)
-  price ← number_in 0 1000000 (column row 2)
+  price ← number_in 0 GREATEST_PRICE (column row 2)
   taxable ← flag_in (column row 3)
   description ← name_in (column row 4)
   Some (plan_id, record { plan_id = plan_id; name = name; price = price; taxable = taxable; description = description; segments = [] }))
@@ -51,11 +53,11 @@ plan_read row = where_wide 5 row (do
 abbrev pub segment_read : Row → Option (List ℕ × ℕ × SegmentRow)
 segment_read row = where_wide 6 row (do
   plan_id ← ident_in (column row 0)
-  seq ← number_in 1 8 (column row 1)
-  start ← number_in 0 100000 (column row 2)
+  seq ← number_in 1 MOST_SEGMENTS (column row 1)
+  start ← number_in 0 LAST_MINUTE (column row 2)
   rate ← rate_in (column row 3)
-  interval ← number_in 0 100000 (column row 4)
-  end ← or_none (number_in 0 100000) (column row 5)
+  interval ← number_in 0 LAST_MINUTE (column row 4)
+  end ← or_none (number_in 0 LAST_MINUTE) (column row 5)
   if is_after start end then Some (plan_id, seq, record { start = start; rate = rate; interval = interval; end = end }) else None)
 
 abbrev pub type_read : Row → Option (List ℕ × TypeRow)
@@ -64,7 +66,7 @@ type_read row = where_wide 6 row (do
   name ← name_in (column row 1)
   form ← form_in (column row 2)
   propulsion ← propulsion_in (column row 3)
-  max_range ← number_in 0 1000000 (column row 4)
+  max_range ← number_in 0 GREATEST_RANGE (column row 4)
   plan_id ← ident_in (column row 5)
   if is_range propulsion max_range then Some (type_id, record { type_id = type_id; name = name; form = form; propulsion = propulsion; max_range = max_range; plan_id = plan_id }) else None)
 
@@ -114,7 +116,7 @@ bike_read row = where_wide 8 row (do
 abbrev pub truck_read : Row → Option (ℕ × Truck)
 truck_read row = where_wide 2 row (do
   truck ← numbered_in (column row 0)
-  capacity ← number_in 1 60 (column row 1)
+  capacity ← number_in 1 MOST_CARRIED (column row 1)
   Some (truck, record { capacity = capacity }))
 
 -- with his balance in hundredths
@@ -145,8 +147,8 @@ order_read row = where_wide 8 row (do
   from_end ← end_in (column row 2)
   to_end ← end_in (column row 3)
   type_id ← ident_in (column row 4)
-  count ← number_in 1 60 (column row 5)
-  delivered ← number_in 0 60 (column row 6)
+  count ← number_in 1 MOST_CARRIED (column row 5)
+  delivered ← number_in 0 MOST_CARRIED (column row 6)
   is_open ← flag_in (column row 7)
   Some (order, record { truck = truck; from_end = from_end; to_end = to_end; type_id = type_id; count = count; delivered = delivered; is_open = is_open }))
 

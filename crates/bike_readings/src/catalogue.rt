@@ -12,8 +12,8 @@ use crate::columns::{
     moment_in, name_in, number_in, propulsion_in, signed_in,
 };
 use crate::part::Part;
-use bike_catalogue::{Form, Propulsion};
-use bike_fields::{MaxRange, Price, SegmentMinute, TimeToLive};
+use bike_catalogue::{Form, GREATEST_RATE, Propulsion};
+use bike_fields::{GREATEST_RANGE, MaxRange, Price, SegmentMinute, TimeToLive};
 use bike_fixed::{Cents, Moment, Within};
 
 /// The row of `meta`.
@@ -177,7 +177,12 @@ pub fn read_segment(part: Part<'_>) -> Option<StoredSegment<'_>>
     let plan_id = ident_in(&part, 0)?;
     let seq = number_in(&part, 1)?;
     let start: SegmentMinute = number_in(&part, 2)?;
-    let rate = signed_in(&part, 3, -100_000, 100_000)?;
+    let rate = signed_in(
+        &part,
+        3,
+        -i64::from(GREATEST_RATE),
+        i64::from(GREATEST_RATE),
+    )?;
     let interval = number_in(&part, 4)?;
     let end: Option<SegmentMinute> = end_in(&part, 5)?;
     if let Some(end) = end {
@@ -201,7 +206,7 @@ fn suits(propulsion: Propulsion, range: MaxRange) -> bool
 {
     match propulsion {
         Propulsion::Human => range.get() == 0,
-        Propulsion::ElectricAssist => 1 <= range.get() && range.get() <= 1_000_000,
+        Propulsion::ElectricAssist => 1 <= range.get() && range.get() <= GREATEST_RANGE,
     }
 }
 

@@ -10,7 +10,8 @@ use crate::columns::{flag_in, ident_in, is_null_at, number_in, state_in, text_in
 use crate::part::Part;
 use crate::texts::is_ident;
 use bike_fields::{
-    BicycleNumber, DockNumber, OrderNumber, OrderQuantity, RentalNumber, TruckCapacity, TruckNumber,
+    BicycleNumber, DockNumber, MOST_CARRIED, OrderNumber, OrderQuantity, RentalNumber,
+    TruckCapacity, TruckNumber,
 };
 use bike_fixed::Within;
 use bike_operator::BikeState;
@@ -71,7 +72,7 @@ pub struct StoredOrder<'a> {
     pub type_id: &'a str,
     pub count: OrderQuantity,
     /// How many were brought.
-    pub delivered: Within<0, 60>,
+    pub delivered: Within<0, MOST_CARRIED>,
     pub is_open: bool,
 }
 

@@ -11,8 +11,8 @@ use crate::columns::{
     cents_in, flag_in, ident_in, is_null_at, kind_in, moment_in, number_in, signed_in,
 };
 use crate::part::Part;
-use bike_fields::{BicycleNumber, RentalNumber, RiderNumber};
-use bike_fixed::{Cents, Moment, Within};
+use bike_fields::{BicycleNumber, GREATEST_PAYMENT, RentalNumber, RiderNumber};
+use bike_fixed::{Cents, GREATEST_FARE, Moment, Within};
 use bike_ledger::{EntryKind, EntryNumber};
 
 /// A row of `riders`.
@@ -97,7 +97,7 @@ fn closed_in<'a>(part: &Part<'a>) -> Option<Option<StoredClosing<'a>>>
 {
     let to_station = stop_in(part)?;
     let finish = moment_in(part, 7)?;
-    let fare = signed_in(part, 8, 0, 34_561_800_000)?;
+    let fare = signed_in(part, 8, 0, GREATEST_FARE)?;
     Some(Some(StoredClosing {
         to_station,
         finish,
@@ -168,8 +168,8 @@ fn amount_in(kind: EntryKind, part: &Part<'_>) -> Option<i64>
     ensures { result ≡ amount_in kind (column part.now 4) }
 {
     match kind {
-        EntryKind::TopUp | EntryKind::Refund => signed_in(part, 4, 1, 1_000_000),
-        EntryKind::Fare => signed_in(part, 4, 0, 34_561_800_000),
+        EntryKind::TopUp | EntryKind::Refund => signed_in(part, 4, 1, i64::from(GREATEST_PAYMENT)),
+        EntryKind::Fare => signed_in(part, 4, 0, GREATEST_FARE),
     }
 }
 

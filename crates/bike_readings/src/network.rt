@@ -6,8 +6,9 @@ ghost use Rattle.bike_readings.specs.Views.{station_of, dock_of, counts_of};
 
 use crate::columns::{cents_in, flag_in, ident_in, moment_in, name_in, number_in, signed_in};
 use crate::part::Part;
+use bike_catalogue::GREATEST_LATITUDE;
 use bike_fields::{DockCount, DockNumber};
-use bike_fixed::{Moment, Within};
+use bike_fixed::{GREATEST_COORDINATE, Moment, Within};
 
 /// A row of `stations`.
 #[derive(Clone, Copy, Debug)]
@@ -61,8 +62,18 @@ pub fn read_station(part: Part<'_>) -> Option<StoredStation<'_>>
     }
     let station_id = ident_in(&part, 0)?;
     let name = name_in(&part, 1)?;
-    let lat = signed_in(&part, 2, -90_000_000, 90_000_000)?;
-    let lon = signed_in(&part, 3, -180_000_000, 180_000_000)?;
+    let lat = signed_in(
+        &part,
+        2,
+        -i64::from(GREATEST_LATITUDE),
+        i64::from(GREATEST_LATITUDE),
+    )?;
+    let lon = signed_in(
+        &part,
+        3,
+        -i64::from(GREATEST_COORDINATE),
+        i64::from(GREATEST_COORDINATE),
+    )?;
     let docks = number_in(&part, 4)?;
     let is_installed = flag_in(&part, 5)?;
     let is_renting = flag_in(&part, 6)?;

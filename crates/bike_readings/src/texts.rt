@@ -4,6 +4,11 @@ ghost use Rattle.std.specs.Prelude.{◌≡◌};
 ghost use Rattle.std.specs.List.{list_all};
 ghost use Rattle.bike_fields.specs.Bytes.{has_length, is_ident, is_name, is_ascii_field, is_language, is_currency, is_ident_byte, is_language_byte, is_name_byte, is_printable, is_upper};
 
+use bike_fields::{
+    CURRENCY_LENGTH, LONGEST_ASCII, LONGEST_IDENT, LONGEST_LANGUAGE, LONGEST_NAME,
+    SHORTEST_LANGUAGE,
+};
+
 /// Whether the text has from `least` to `most` bytes.
 fn has_length(text: &str, least: usize, most: usize) -> bool
     ensures { result ≡ has_length least most text.now }
@@ -59,33 +64,33 @@ fn are_uppercase(text: &[u8]) -> bool
 pub(crate) fn is_ident(text: &str) -> bool
     ensures { result ≡ is_ident text.now }
 {
-    has_length(text, 1, 36) && are_ident_bytes(text.as_bytes())
+    has_length(text, 1, LONGEST_IDENT) && are_ident_bytes(text.as_bytes())
 }
 
 /// Whether the text is a name.
 pub(crate) fn is_name(text: &str) -> bool
     ensures { result ≡ is_name text.now }
 {
-    has_length(text, 1, 120) && are_name_bytes(text.as_bytes())
+    has_length(text, 1, LONGEST_NAME) && are_name_bytes(text.as_bytes())
 }
 
 /// Whether the text is an ASCII field.
 pub(crate) fn is_ascii_field(text: &str) -> bool
     ensures { result ≡ is_ascii_field text.now }
 {
-    has_length(text, 1, 200) && are_printable(text.as_bytes())
+    has_length(text, 1, LONGEST_ASCII) && are_printable(text.as_bytes())
 }
 
 /// Whether the text is a language.
 pub(crate) fn is_language(text: &str) -> bool
     ensures { result ≡ is_language text.now }
 {
-    has_length(text, 2, 35) && are_language_bytes(text.as_bytes())
+    has_length(text, SHORTEST_LANGUAGE, LONGEST_LANGUAGE) && are_language_bytes(text.as_bytes())
 }
 
 /// Whether the text is a currency.
 pub(crate) fn is_currency(text: &str) -> bool
     ensures { result ≡ is_currency text.now }
 {
-    has_length(text, 3, 3) && are_uppercase(text.as_bytes())
+    has_length(text, CURRENCY_LENGTH, CURRENCY_LENGTH) && are_uppercase(text.as_bytes())
 }

@@ -2,7 +2,7 @@
 use Rattle.std.specs.Prelude.{ℕ, List, Bool, Option, Some, None, if◌then◌else◌, codes}
 use Rattle.std.specs.Str.{bytes_eq}
 use Rattle.bike_fixed.specs.Whole.{number_of}
-use Rattle.bike_fields.specs.declared.numbers.TheConstants.{MOST_DOCKS}
+use Rattle.bike_fields.specs.declared.numbers.TheConstants.{GREATEST_NUMBER, GREATEST_PAYMENT, GREATEST_SERIAL, MOST_CARRIED, MOST_DOCKS}
 use Rattle.bike_fields.specs.Bytes.{ident_of}
 use Rattle.bike_texts.specs.Parts.{Parts}
 use Rattle.bike_texts.specs.Reading.{◌>>=◌, part_at, field_at, no_more, choice_of, side_of, end_of}
@@ -12,7 +12,7 @@ use Rattle.bike_requests.specs.RecordReaders.{set_system_at, add_plan_at, add_ty
 
 -- riders, bicycles and trucks; docks, and 0 at the depot; rentals and orders; payments in hundredths; bicycles on a truck
 abbrev pub numbered_of : List ℕ → Option ℕ
-numbered_of = number_of 1 999999
+numbered_of = number_of 1 GREATEST_NUMBER
 
 abbrev pub dock_of : List ℕ → Option ℕ
 dock_of = number_of 1 MOST_DOCKS
@@ -21,13 +21,13 @@ abbrev pub unload_dock_of : List ℕ → Option ℕ
 unload_dock_of = number_of 0 MOST_DOCKS
 
 abbrev pub serial_of : List ℕ → Option ℕ
-serial_of = number_of 1 100000000
+serial_of = number_of 1 GREATEST_SERIAL
 
 abbrev pub payment_of : List ℕ → Option ℕ
-payment_of = number_of 1 1000000
+payment_of = number_of 1 GREATEST_PAYMENT
 
 abbrev pub few_of : List ℕ → Option ℕ
-few_of = number_of 1 60
+few_of = number_of 1 MOST_CARRIED
 
 -- a truth value
 abbrev pub flag_of : List ℕ → Option Bool

@@ -1,7 +1,9 @@
 -- What is read of a command with a record of the catalogue, a block for each kind.
 use Rattle.std.specs.Prelude.{Option, Some, None, nat_le, length, if◌then◌else◌, codes}
+use Rattle.bike_fixed.specs.declared.micro.TheConstants.{GREATEST_COORDINATE}
 use Rattle.bike_fixed.specs.Whole.{number_of}
-use Rattle.bike_fields.specs.declared.numbers.TheConstants.{MOST_DOCKS}
+use Rattle.bike_catalogue.specs.declared.limits.TheConstants.{GREATEST_LATITUDE}
+use Rattle.bike_fields.specs.declared.numbers.TheConstants.{GREATEST_PRICE, LONGEST_TIME_TO_LIVE, MOST_DOCKS}
 use Rattle.bike_fields.specs.Bytes.{ident_of, language_of, currency_of}
 use Rattle.bike_catalogue.specs.Rows.{is_range, is_latitude}
 use Rattle.bike_catalogue.specs.Vehicle.{form_of, propulsion_of}
@@ -22,7 +24,7 @@ set_system_at ps = do
   timezone ← field_at ascii_at feed_contact_email.1
   currency ← field_at currency_of timezone.1
   base_url ← field_at ascii_at currency.1
-  ttl ← field_at (number_of 0 86400) base_url.1
+  ttl ← field_at (number_of 0 LONGEST_TIME_TO_LIVE) base_url.1
   end ← no_more ttl.1
   Some (SetSystem (record { system_id = system_id.0; language = language.0; name = name.0; opening_hours = opening_hours.0; feed_contact_email = feed_contact_email.0; timezone = timezone.0; currency = currency.0; base_url = base_url.0; ttl = ttl.0 }))
 
@@ -30,7 +32,7 @@ unfoldable pub add_plan_at : Parts → Option Command
 add_plan_at ps = do
   plan_id ← field_at ident_of ps
   name ← field_at name_at plan_id.1
-  price ← field_at (number_of 0 1000000) name.1
+  price ← field_at (number_of 0 GREATEST_PRICE) name.1
   taxable ← field_at (choice_of (codes "true") (codes "false")) price.1
   description ← field_at name_at taxable.1
   segments ← field_at segments_of description.1
@@ -52,8 +54,8 @@ unfoldable pub add_station_at : Parts → Option Command
 add_station_at ps = do
   station_id ← field_at ident_of ps
   name ← field_at name_at station_id.1
-  lat ← field_at (degrees_of 90000000) name.1
-  lon ← field_at (degrees_of 180000000) lat.1
+  lat ← field_at (degrees_of GREATEST_LATITUDE) name.1
+  lon ← field_at (degrees_of GREATEST_COORDINATE) lat.1
   docks ← field_at (number_of 1 MOST_DOCKS) lon.1
   end ← no_more docks.1
   if is_latitude lat.0 then Some (AddStation (record { station_id = station_id.0; name = name.0; lat = lat.0; lon = lon.0; docks = docks.0 })) else None

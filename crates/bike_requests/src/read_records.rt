@@ -3,9 +3,9 @@
 ghost use Rattle.bike_fields.specs.Reads.{IsReadAs};
 ghost use Rattle.bike_requests.specs.RecordReaders.{set_system_at, add_plan_at, add_type_at, add_station_at};
 
-use bike_catalogue::{Plan, Station, System, VehicleType};
+use bike_catalogue::{GREATEST_LATITUDE, Plan, Station, System, VehicleType};
 use bike_commands::Command;
-use bike_fields::{Ascii, Currency, Ident, Language, Name};
+use bike_fields::{Ascii, Currency, GREATEST_COORDINATE, Ident, Language, Name};
 use bike_texts::Fields;
 use std::alloc::{AllocError, Global};
 
@@ -140,10 +140,10 @@ pub fn read_add_station(alloc: Global, mut fields: Fields) -> Result<Option<Comm
     let Some(name) = fields.name() else {
         return Ok(None);
     };
-    let Some(lat) = fields.degrees(90_000_000) else {
+    let Some(lat) = fields.degrees(GREATEST_LATITUDE) else {
         return Ok(None);
     };
-    let Some(lon) = fields.degrees(180_000_000) else {
+    let Some(lon) = fields.degrees(GREATEST_COORDINATE) else {
         return Ok(None);
     };
     let Some(docks) = fields.number() else {

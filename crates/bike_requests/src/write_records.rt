@@ -1,6 +1,7 @@
 //! Writing the fields of the catalogue's records.
 
 ghost use Rattle.std.specs.Prelude.{◌≡◌, ◌++◌, ◌∷◌, [], OnOk, string_bytes};
+ghost use Rattle.bike_fields.specs.declared.numbers.TheConstants.{LONGEST_TIME_TO_LIVE};
 ghost use Rattle.bike_texts.specs.Fields.{Number, Currency, Ascii, fields_text};
 ghost use Rattle.bike_commands.specs.declared.command.Command.TheVariants.{SetSystem, AddPlan, AddType, AddStation};
 ghost use Rattle.bike_commands.specs.Commands.{fields_of};
@@ -24,7 +25,7 @@ fn put_service(out: &mut String, system: &System) -> Result<(), AllocError>
 /// The system's currency, URL and time to live.
 #[tactic(auto, unfolding(bike_texts::specs::Fields::fields_text))]
 fn put_publication(out: &mut String, system: &System) -> Result<(), AllocError>
-    ensures { OnOk result (string_bytes out.new ≡ string_bytes out.old ++ fields_text (Currency system.now.currency ∷ Ascii system.now.base_url ∷ Number 0 86400 system.now.ttl ∷ [])) }
+    ensures { OnOk result (string_bytes out.new ≡ string_bytes out.old ++ fields_text (Currency system.now.currency ∷ Ascii system.now.base_url ∷ Number 0 LONGEST_TIME_TO_LIVE system.now.ttl ∷ [])) }
 {
     put_text(out, system.currency().as_str())?;
     put_escaped(out, system.base_url().as_str())?;

@@ -2,9 +2,11 @@
 use Rattle.std.specs.Prelude.{◌≡◌, ℕ, ℤ, ◌≤◌, ◌<◌, ◌^◌, List, [], ◌∷◌, ◌++◌, ◌==◌, Bool, not, true, Option, Some, None, length, decimal, codes, map, pos, neg_ℤ, ◌≤ℤ◌, if◌then◌else◌}
 use Rattle.std.specs.Fmt.{signed_decimal}
 use Rattle.std.specs.List.{list_all, join_with_byte}
+use Rattle.bike_fixed.specs.declared.micro.TheConstants.{GREATEST_COORDINATE}
 use Rattle.bike_fixed.specs.Coordinate.{IsCoordinate}
 use Rattle.bike_fixed.specs.Text.{micro_text}
-use Rattle.bike_fields.specs.declared.numbers.TheConstants.{MOST_DOCKS}
+use Rattle.bike_fields.specs.declared.numbers.TheConstants.{MOST_DOCKS, GREATEST_NUMBER, GREATEST_SERIAL, GREATEST_PAYMENT}
+use Rattle.bike_catalogue.specs.declared.limits.TheConstants.{MOST_SEGMENTS}
 use Rattle.bike_fields.specs.Bytes.{is_ident, is_language, is_currency, is_name, is_ascii_field}
 use Rattle.bike_catalogue.specs.declared.vehicle.Propulsion.{Propulsion}
 use Rattle.bike_catalogue.specs.Rows.{SegmentRow, IsSegment, IsRange}
@@ -46,20 +48,20 @@ Flag = Choice (codes "true") (codes "false")
 
 -- numbers with a name of their own: riders, bicycles and trucks; docks; rentals and orders; payments in hundredths
 abbrev pub Numbered : ℕ → Field
-Numbered = Number 1 999999
+Numbered = Number 1 GREATEST_NUMBER
 
 abbrev pub Dock : ℕ → Field
 Dock = Number 1 MOST_DOCKS
 
 abbrev pub Serial : ℕ → Field
-Serial = Number 1 100000000
+Serial = Number 1 GREATEST_SERIAL
 
 -- a dock, or 0 at the depot
 abbrev pub DockOrDepot : ℕ → Field
 DockOrDepot = Number 0 MOST_DOCKS
 
 abbrev pub Payment : ℕ → Field
-Payment = Number 1 1000000
+Payment = Number 1 GREATEST_PAYMENT
 
 -- the text has no TAB
 abbrev pub HasNoTab : List ℕ → Type 0
@@ -84,9 +86,9 @@ IsGood (Language bs) = is_language bs ≡ true
 IsGood (Currency bs) = is_currency bs ≡ true
 IsGood (Name bs) = is_name bs ≡ true
 IsGood (Ascii bs) = is_ascii_field bs ≡ true
-IsGood (Degrees greatest z) = (neg_ℤ (pos greatest) ≤ℤ z) × (z ≤ℤ pos greatest) × (greatest ≤ 180000000)
+IsGood (Degrees greatest z) = (neg_ℤ (pos greatest) ≤ℤ z) × (z ≤ℤ pos greatest) × (greatest ≤ GREATEST_COORDINATE)
 IsGood (Metres propulsion n) = IsRange propulsion n
-IsGood (Segments ss) = AreSegments ss × (length ss ≤ 8)
+IsGood (Segments ss) = AreSegments ss × (length ss ≤ MOST_SEGMENTS)
 IsGood (End end) = IsEnd end
 
 abbrev pub AreGood : List Field → Type 0

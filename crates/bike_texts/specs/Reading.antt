@@ -4,6 +4,7 @@ use Rattle.std.specs.Str.{bytes_eq}
 use Rattle.bike_fixed.specs.declared.cents.TheConstants.{GREATEST_FARE}
 use Rattle.bike_fixed.specs.Coordinate.{micro_of}
 use Rattle.bike_fixed.specs.Whole.{number_of, signed_of}
+use Rattle.bike_fields.specs.declared.numbers.TheConstants.{GREATEST_RANGE}
 use Rattle.bike_fields.specs.Bytes.{is_ident, ident_of}
 use Rattle.bike_catalogue.specs.Rows.{is_range}
 use Rattle.bike_catalogue.specs.declared.vehicle.Propulsion.{Propulsion}
@@ -64,7 +65,7 @@ degrees_of greatest text = micro_of text >>= λ z. if is_of_size greatest z then
 
 -- the metres that the text spells, where they suit the propulsion
 unfoldable pub metres_of : Propulsion → List ℕ → Option ℕ
-metres_of propulsion text = number_of 0 1000000 text >>= λ n. if is_range propulsion n then Some n else None
+metres_of propulsion text = number_of 0 GREATEST_RANGE text >>= λ n. if is_range propulsion n then Some n else None
 
 -- which of two words the text is
 unfoldable pub choice_of : List ℕ → List ℕ → List ℕ → Option Bool

@@ -3,17 +3,19 @@ use Rattle.std.specs.Prelude.{ℕ, ℤ, pos, neg_ℤ, List, [], ◌∷◌, ◌==
 use Rattle.std.specs.List.{slice_split}
 use Rattle.std.specs.Str.{bytes_eq}
 use Rattle.bike_fixed.specs.Whole.{number_of, signed_of}
+use Rattle.bike_fields.specs.declared.numbers.TheConstants.{LAST_MINUTE}
+use Rattle.bike_catalogue.specs.declared.limits.TheConstants.{MOST_SEGMENTS, GREATEST_RATE}
 use Rattle.bike_catalogue.specs.Rows.{SegmentRow, is_after}
 use Rattle.bike_texts.specs.Parts.{Parts}
 use Rattle.bike_texts.specs.Reading.{◌>>=◌, field_at, at_most, no_more}
 
 -- a minute of a rental
 abbrev pub minute_of : List ℕ → Option ℕ
-minute_of = number_of 0 100000
+minute_of = number_of 0 LAST_MINUTE
 
 -- a rate in hundredths
 abbrev pub rate_of : List ℕ → Option ℤ
-rate_of = signed_of (neg_ℤ (pos 100000)) (pos 100000)
+rate_of = signed_of (neg_ℤ (pos GREATEST_RATE)) (pos GREATEST_RATE)
 
 -- the minute before which a segment ends, or `-` for no end
 unfoldable pub segment_end_of : List ℕ → Option (Option ℕ)
@@ -36,8 +38,8 @@ all_of (p ∷ ps) = do
   others ← all_of ps
   Some (first ∷ others)
 
--- `-` for none, or up to eight with a semicolon between them
+-- `-` for none, or a few with a semicolon between them
 unfoldable pub segments_of : List ℕ → Option (List SegmentRow)
 segments_of text =
     if bytes_eq text (codes "-") then Some [] else (
-    at_most 8 (all_of (slice_split (λ b. b == 59) text)))
+    at_most MOST_SEGMENTS (all_of (slice_split (λ b. b == 59) text)))

@@ -7,16 +7,16 @@ ghost use Rattle.bike_texts.specs.Reading.{at_most};
 ghost use Rattle.bike_texts.specs.Escapes.{meant_by, is_break, unescape, name_at, ascii_at};
 
 use arrayvec::{ArrayString, ArrayVec};
-use bike_fields::{Ascii, Name};
+use bike_fields::{Ascii, LONGEST_ASCII, LONGEST_NAME, Name};
 
-/// A name has at most 120 bytes, and an ASCII field 200.
-const MOST_BYTES: usize = 200;
+/// No name and no ASCII field has more bytes.
+const MOST_BYTES: usize = LONGEST_ASCII;
 
 /// A name or a description, before it has memory of its own.
-pub type NameText = ArrayString<120>;
+pub type NameText = ArrayString<LONGEST_NAME>;
 
 /// An ASCII field, before it has memory of its own.
-pub type AsciiText = ArrayString<200>;
+pub type AsciiText = ArrayString<LONGEST_ASCII>;
 
 /// The byte for which a letter behind a backslash stands.
 fn meant_by(letter: u8) -> Option<u8>

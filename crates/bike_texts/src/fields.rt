@@ -234,7 +234,7 @@ impl<'a> Fields<'a> {
         read_order_end(text)
     }
 
-    /// The next part as the segments of a plan, at most eight.
+    /// The next part as the segments of a plan, at most `MOST_SEGMENTS`.
     pub fn segments(&mut self) -> Option<SegmentList>
         ensures { Takes (λ list. list.items) result (field_at segments_of self.old) self.new }
     {

@@ -2,16 +2,17 @@
 
 ghost use Rattle.std.specs.Prelude.{◌≡◌};
 ghost use Rattle.bike_fields.specs.Reads.{Gives};
+ghost use Rattle.bike_catalogue.specs.declared.limits.TheConstants.{MOST_SEGMENTS};
 ghost use Rattle.bike_texts.specs.Reading.{at_most};
 ghost use Rattle.bike_texts.specs.SegmentReading.{segment_end_of, segment_of, all_of, segments_of};
 
 use crate::fields::Fields;
 use arrayvec::ArrayVec;
-use bike_catalogue::{Rate, Segment};
+use bike_catalogue::{MOST_SEGMENTS, Rate, Segment};
 use bike_fields::SegmentMinute;
 
-/// The segments of a plan, at most eight, before they have memory of their own.
-pub type SegmentList = ArrayVec<Segment, 8>;
+/// The segments of a plan, at most `MOST_SEGMENTS`, before they have memory of their own.
+pub type SegmentList = ArrayVec<Segment, MOST_SEGMENTS>;
 
 /// The minute before which a segment ends, or none for `-`.
 #[tactic(auto, unfolding(crate::specs::SegmentReading::segment_end_of))]
@@ -39,9 +40,9 @@ fn read_segment(text: &str) -> Option<Segment>
     Segment::from_fields(start, rate, interval, end)
 }
 
-/// The segments that the parts spell, one each and at most eight.
+/// The segments that the parts spell, one each and at most `MOST_SEGMENTS`.
 fn read_all(mut parts: Fields) -> Option<SegmentList>
-    ensures { Gives (λ list. list.items) result (at_most 8 (all_of parts.entry)) }
+    ensures { Gives (λ list. list.items) result (at_most MOST_SEGMENTS (all_of parts.entry)) }
 {
     let mut segments: SegmentList = ArrayVec::new();
     while let Some(text) = parts.part() {
@@ -54,7 +55,7 @@ fn read_all(mut parts: Fields) -> Option<SegmentList>
     Some(segments)
 }
 
-/// The segments that the text spells, at most eight, or none for `-`.
+/// The segments that the text spells, at most `MOST_SEGMENTS`, or none for `-`.
 #[tactic(auto, unfolding(crate::specs::SegmentReading::segments_of))]
 pub fn read_segments(text: &str) -> Option<SegmentList>
     ensures { Gives (λ list. list.items) result (segments_of text.now) }

@@ -7,7 +7,7 @@ ghost use Rattle.bike_fields.specs.Reads.{Gives};
 
 use crate::ends::{EndName, Side};
 use bike_catalogue::Propulsion;
-use bike_fields::{Ident, MaxRange};
+use bike_fields::{GREATEST_RANGE, Ident, MaxRange};
 use bike_fixed::Micro;
 
 /// The coordinate that the text spells, where its size is at most `greatest` microdegrees.
@@ -29,7 +29,7 @@ fn is_range(propulsion: Propulsion, metres: u32) -> bool
 {
     match propulsion {
         Propulsion::Human => metres == 0,
-        Propulsion::ElectricAssist => 1 <= metres && metres <= 1_000_000,
+        Propulsion::ElectricAssist => 1 <= metres && metres <= GREATEST_RANGE,
     }
 }
 

@@ -1,24 +1,37 @@
+use Rattle.std.proofs.Common.{◌∙◌}
 use Rattle.std.specs.Int.{w32}
 use Rattle.std.proofs.lemmas.Int.{to_z-of_z}
 use Rattle.bike_catalogue.specs.RowFaults.{station_fault}
-use Rattle.bike_catalogue.proofs.Checks.{checked_ok, five_clear, same_station, fifth_refused}
+use Rattle.bike_catalogue.proofs.Checks.{checked_ok, five_clear, same_station, fifth_refused, out_of_memory}
 use Rattle.bike_catalogue.proofs.station.Station.new.Goals as goal
 
 pub returns-in_err-docks : goal.returns-in_err-docks
 unfolding station_fault
 returns-in_err-docks c =
-    let id = c.in_ok-station_id.ensures in
-    let name = c.in_ok-name.ensures in
+    let id = c.in_ok-station_id.ensures.value in
+    let name = c.in_ok-name.ensures.value in
     let lat = checked_ok _ c.args.lat _ (rw (to_z-of_z w32 c.args.lat c.ranges.lat) at c.in_ok-lat.ensures.value) in
     let lon = checked_ok _ c.args.lon _ (rw (to_z-of_z w32 c.args.lon c.ranges.lon) at c.in_ok-lon.ensures.value) in
     fifth_refused _ _ _ _ _ _ _ _ _ id.1 name.1 lat.1 lon.1 c.in_err-docks.ensures c.from_residual-in_err-docks.ensures
 
-pub returns : goal.returns
+pub returns-in_err-of-2 : goal.returns-in_err-of-2
 unfolding station_fault
-returns c =
-    let id = c.in_ok-station_id.ensures in
-    let name = c.in_ok-name.ensures in
+returns-in_err-of-2 c =
+    let id = c.in_ok-station_id.ensures.value in
+    let name = c.in_ok-name.ensures.value in
     let lat = checked_ok _ c.args.lat _ (rw (to_z-of_z w32 c.args.lat c.ranges.lat) at c.in_ok-lat.ensures.value) in
     let lon = checked_ok _ c.args.lon _ (rw (to_z-of_z w32 c.args.lon c.ranges.lon) at c.in_ok-lon.ensures.value) in
     let docks = checked_ok _ _ _ c.in_ok-docks.ensures in
-    (same_station _ _ _ _ _ _ id.0 name.0 lat.0 lon.0 docks.0, five_clear _ _ _ _ _ id.1 name.1 lat.1 lon.1 docks.1)
+    out_of_memory _ _ _ (five_clear _ _ _ _ _ id.1 name.1 lat.1 lon.1 docks.1) c.from_residual-in_err-of-2.ensures
+
+pub returns : goal.returns
+unfolding station_fault
+returns c =
+    let id = c.in_ok-station_id.ensures.value in
+    let name = c.in_ok-name.ensures.value in
+    let lat = checked_ok _ c.args.lat _ (rw (to_z-of_z w32 c.args.lat c.ranges.lat) at c.in_ok-lat.ensures.value) in
+    let lon = checked_ok _ c.args.lon _ (rw (to_z-of_z w32 c.args.lon c.ranges.lon) at c.in_ok-lon.ensures.value) in
+    let docks = checked_ok _ _ _ c.in_ok-docks.ensures in (
+      same_station _ _ _ _ _ _ (c.in_ok-of.ensures ∙ id.0) (c.in_ok-of-2.ensures ∙ name.0) lat.0 lon.0 docks.0,
+      five_clear _ _ _ _ _ id.1 name.1 lat.1 lon.1 docks.1,
+    )
