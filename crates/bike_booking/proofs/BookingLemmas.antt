@@ -32,7 +32,7 @@ use Rattle.bike_facts.specs.Touched.{IsTouched, AreOfTouched}
 use Rattle.bike_facts.specs.Bikes.{HasBike}
 use Rattle.bike_facts.specs.Reading.{IsRead, IsReading}
 use Rattle.bike_booking.specs.Booking.{IsAccepted}
-use Rattle.bike_booking.specs.Stages.{BooksRow, IsRowBooked, AreRowsBooked, AreMovesBooked, with_rentals, stage_after, IsAt, IsOn, ChangesRentals, BooksStep, after_change}
+use Rattle.bike_booking.specs.Stages.{BooksRow, BooksRead, IsRowBooked, AreRowsBooked, AreMovesBooked, with_rentals, stage_after, IsAt, IsOn, ChangesRentals, BooksStep, after_change}
 
 pub is_none_there : {A : Type 0} (o : Option A) → is_some o ≡ false → o ≡ None
 is_none_there None e = refl
@@ -52,6 +52,10 @@ row_booked {now = now} {before = before} row result items is told change_is book
   added = added before (row ∷ []) result items is told;
   books = λ s m read. subst (λ (x : Change). BooksRow s m now x row) (sym change_is) (books s m read);
 }
+
+-- a row change books the change
+pub row_books : {command : Command} {view : View} {c d : Change} (now : ℕ) (row : RowChange) → c ≡ d → BooksRead command view now d row → BooksRead command view now c row
+row_books now row change_is books = λ s m read. subst (λ (x : Change). BooksRow s m now x row) (sym change_is) (books s m read)
 
 -- one more step
 pub on_then : (first : Operator) (m : Listed) (s n : Operator) (stage next : Stage) (rows more after : List RowChange) → (on : IsOn first m s stage rows) → (w : Listed)

@@ -1,7 +1,7 @@
 //! Changes that are one row each, as row changes.
 
-ghost use Rattle.std.specs.Prelude.{◌≡◌, true};
-ghost use Rattle.bike_booking.specs.Stages.{IsRowBooked, ChangesRentals};
+ghost use Rattle.std.specs.Prelude.{◌≡◌, true, IfSome};
+ghost use Rattle.bike_booking.specs.Stages.{IsRowBooked, BooksRead, ChangesRentals};
 
 use bike_book::RowChange;
 use bike_commands::Command;
@@ -10,38 +10,27 @@ use bike_fixed::{Cents, Moment};
 use bike_operator::{Change, View};
 use std::alloc::Global;
 
-/// Books a change of the catalogue, where it is one row.
-pub(crate) fn book_catalogue<'a>(
+/// The row change of a change of the catalogue that is one row.
+fn catalogue_row<'a>(
     command: &Command,
     view: &View,
-    rows: &mut Vec<RowChange<'a>, Global>,
     now: Moment,
     change: &Change<'a>,
-) -> bool
-    ensures { result ≡ true → IsRowBooked command.now view.now now change.now rows.old.items rows.new.items }
+) -> Option<RowChange<'a>>
+    ensures { IfSome result (BooksRead command.now view.now now change.now) }
 {
     match change {
-        Change::SetSystem(system) => {
-            let row = RowChange::AddSystem(system);
-            rows.push(row).is_ok()
-        }
-        Change::AddType(vehicle_type) => {
-            let row = RowChange::AddType(vehicle_type);
-            rows.push(row).is_ok()
-        }
-        Change::SetPlan { type_id, plan } => {
-            let row = RowChange::SetDefaultPlan { type_id, plan };
-            rows.push(row).is_ok()
-        }
+        Change::SetSystem(system) => Some(RowChange::AddSystem(system)),
+        Change::AddType(vehicle_type) => Some(RowChange::AddType(vehicle_type)),
+        Change::SetPlan { type_id, plan } => Some(RowChange::SetDefaultPlan { type_id, plan }),
         Change::AddStation(station) => {
             if !lacks_station(command, view, station.station_id()) {
-                return false;
+                return None;
             }
-            let row = RowChange::AddStation {
+            Some(RowChange::AddStation {
                 station,
                 reported: now,
-            };
-            rows.push(row).is_ok()
+            })
         }
         Change::SetStation {
             station,
@@ -49,62 +38,52 @@ pub(crate) fn book_catalogue<'a>(
             is_renting,
             is_returning,
         } => {
-            let row = RowChange::SetFlags {
+            Some(RowChange::SetFlags {
                 station,
                 is_installed: *is_installed,
                 is_renting: *is_renting,
                 is_returning: *is_returning,
                 reported: now,
-            };
-            rows.push(row).is_ok()
+            })
         }
-        _ => false,
+        _ => None,
     }
 }
 
-/// Books a bicycle, truck or rider added, or a rider blocked or opened.
-pub(crate) fn book_fleet<'a>(
+/// The row change of a bicycle, truck or rider added, or of a rider blocked or opened.
+fn fleet_row<'a>(
     command: &Command,
     view: &View,
-    rows: &mut Vec<RowChange<'a>, Global>,
     now: Moment,
     change: &Change<'a>,
-) -> bool
-    ensures { result ≡ true → IsRowBooked command.now view.now now change.now rows.old.items rows.new.items }
+) -> Option<RowChange<'a>>
+    ensures { IfSome result (BooksRead command.now view.now now change.now) }
 {
     let _ = now;
     match change {
         Change::AddBike { bike, type_id } => {
             let bike = *bike;
             if !lacks_bike(command, view, bike) {
-                return false;
+                return None;
             }
-            let row = RowChange::AddBike { bike, type_id };
-            rows.push(row).is_ok()
+            Some(RowChange::AddBike { bike, type_id })
         }
         Change::AddTruck { truck, capacity } => {
-            let row = RowChange::AddTruck {
+            Some(RowChange::AddTruck {
                 truck: *truck,
                 capacity: *capacity,
-            };
-            rows.push(row).is_ok()
+            })
         }
         Change::SetRider { rider, is_blocked } => {
             let rider = *rider;
             let is_blocked = *is_blocked;
             match has_rider(command, view, rider) {
-                None => false,
-                Some(true) => {
-                    let row = RowChange::SetBlocked { rider, is_blocked };
-                    rows.push(row).is_ok()
-                }
-                Some(false) => {
-                    let row = RowChange::AddRider { rider, is_blocked };
-                    rows.push(row).is_ok()
-                }
+                None => None,
+                Some(true) => Some(RowChange::SetBlocked { rider, is_blocked }),
+                Some(false) => Some(RowChange::AddRider { rider, is_blocked }),
             }
         }
-        _ => false,
+        _ => None,
     }
 }
 
@@ -156,15 +135,14 @@ pub(crate) fn book_rental<'a>(
     }
 }
 
-/// Books an order opened or closed.
-pub(crate) fn book_order<'a>(
+/// The row change of an order opened or closed.
+fn order_row<'a>(
     command: &Command,
     view: &View,
-    rows: &mut Vec<RowChange<'a>, Global>,
     now: Moment,
     change: &Change<'a>,
-) -> bool
-    ensures { result ≡ true → IsRowBooked command.now view.now now change.now rows.old.items rows.new.items }
+) -> Option<RowChange<'a>>
+    ensures { IfSome result (BooksRead command.now view.now now change.now) }
 {
     let _ = now;
     match change {
@@ -176,31 +154,49 @@ pub(crate) fn book_order<'a>(
             count,
         } => {
             let Some(order) = next_order(command, view) else {
-                return false;
+                return None;
             };
-            let row = RowChange::AddOrder {
+            Some(RowChange::AddOrder {
                 order,
                 truck: *truck,
                 from_end,
                 to_end,
                 type_id,
                 count: *count,
-            };
-            rows.push(row).is_ok()
+            })
         }
         Change::CloseOrder { order } => {
             let order = *order;
             let Some(read) = order_read(command, view, order) else {
-                return false;
+                return None;
             };
-            let row = RowChange::SetOrder {
+            Some(RowChange::SetOrder {
                 order,
                 delivered: read.delivered,
                 is_open: false,
-            };
-            rows.push(row).is_ok()
+            })
         }
-        _ => false,
+        _ => None,
+    }
+}
+
+/// The row change of a change of a record that is one row, but for rentals and what moves.
+fn record_row<'a>(
+    command: &Command,
+    view: &View,
+    now: Moment,
+    change: &Change<'a>,
+) -> Option<RowChange<'a>>
+    ensures { IfSome result (BooksRead command.now view.now now change.now) }
+{
+    match change {
+        Change::AddBike { .. } | Change::AddTruck { .. } | Change::SetRider { .. } => {
+            fleet_row(command, view, now, change)
+        }
+        Change::AddOrder { .. } | Change::CloseOrder { .. } => {
+            order_row(command, view, now, change)
+        }
+        _ => catalogue_row(command, view, now, change),
     }
 }
 
@@ -214,13 +210,8 @@ pub(crate) fn book_record<'a>(
 ) -> bool
     ensures { result ≡ true → IsRowBooked command.now view.now now change.now rows.old.items rows.new.items }
 {
-    match change {
-        Change::AddBike { .. } | Change::AddTruck { .. } | Change::SetRider { .. } => {
-            book_fleet(command, view, rows, now, change)
-        }
-        Change::AddOrder { .. } | Change::CloseOrder { .. } => {
-            book_order(command, view, rows, now, change)
-        }
-        _ => book_catalogue(command, view, rows, now, change),
-    }
+    let Some(row) = record_row(command, view, now, change) else {
+        return false;
+    };
+    rows.push(row).is_ok()
 }

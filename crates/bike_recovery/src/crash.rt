@@ -51,8 +51,7 @@ pub fn run_adopt_and_read<S: Alter, T: Alter, W: Write>(
 ) -> (Acknowledged, Result<(Desk<T>, Reading), AdoptFault<T>>)
     requires { left.in_transaction ≡ false }
     ensures headline { HasCleanDisk (desk_state S.Store desk.new) → (s : Operator) → IsAt S.Store desk.old s
-        → (desk_state S.Store desk.new).may_leave (state T.Store left).now.trees
-        → IfOk result.1 (λ r. HasCleanDisk (desk_state T.Store r.0)
+        → (desk_state S.Store desk.new).may_leave (state T.Store left).now.trees → IfOk result.1 (λ r. HasCleanDisk (desk_state T.Store r.0)
         → ReadsFront T.Store r.0 s calls.now (length result.0.replies.items) bike moment (W.contents out.old) (W.contents out.new) r.1) }
     ensures refused { HasCleanDisk (desk_state S.Store desk.new) → (s : Operator) → IsAt S.Store desk.old s
         → (desk_state S.Store desk.new).may_leave (state T.Store left).now.trees

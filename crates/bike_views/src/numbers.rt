@@ -89,8 +89,8 @@ fn find_touched_numbers<S: Alter>(
     })
 }
 
-/// What the tables store of the dock that a command touches, where it marks it, of its station, and of a type there: 0 and
-/// `false` for what has no row, and where nothing is touched. Where nothing is touched nothing is read.
+/// What the tables store of what a command touches: a station's numbers, the count of a type there, and, where the command marks
+/// a dock, whether that dock has a row. What has no row is 0 or `false`; where nothing is touched, all is, and nothing is read.
 ///
 /// `NoMemory` comes where the engine wants memory that is refused, and `StoreFailed` where it fails otherwise, or a row
 /// holds what the product never writes. In each case the tables are as before the call, or as before the transaction.
