@@ -17,42 +17,86 @@ enum Spot {
     Depot,
 }
 
-/// What both queries of a bicycle tell: where it is, and that with its state.
-type Told = (Option<Spot>, Option<(Spot, BikeState)>);
+/// What the queries of a desk tell of the city's bicycle 7, its station, rider 17, rental 1, and orders 1 and 2.
+#[derive(Clone, Copy, Debug, PartialEq, Eq)]
+struct Told {
+    /// Where the bicycle is, and its state.
+    bike: (Spot, BikeState),
+    /// Bicycles available, those of its one type, bicycles disabled, docks available, docks disabled.
+    counts: [u32; 5],
+    /// The balance, and the open rental or 0.
+    rider: (i64, u32),
+    /// Whether it is closed, its fare and its refunds.
+    rental: Option<(bool, i64, i64)>,
+    /// How many are delivered, and whether it is open.
+    orders: [Option<(u32, bool)>; 2],
+}
 
-/// What both queries of a rider tell: the balance, and that with the open rental.
-type Paid = (Option<i64>, Option<(i64, u32)>);
+/// The first order is carried out.
+const CARRIED_OUT: Option<(u32, bool)> = Some((1, false));
 
-/// What is served after the city stands, and where bicycle 7 is then, and in what state.
-const SPOTS: [(&[&[Exchange]], Spot, BikeState); 5] = [
-    (&[], Spot::Dock(1), BikeState::Fit),
-    (&[&START], Spot::Rental(1), BikeState::Fit),
-    (&[&START, &END], Spot::Dock(1), BikeState::Fit),
-    (&[&START, &RECOVER], Spot::Depot, BikeState::Disabled),
-    (&[&CARRY], Spot::Truck(3, 2), BikeState::Disabled),
-];
-
-/// What is served after the city stands, and the counts of its station then: available, of its one type, disabled,
-/// docks available, docks disabled.
-const COUNTS: [(&[&[Exchange]], [u32; 5]); 4] = [
-    (&[], [1, 1, 0, 0, 1]),
-    (&[&START], [0, 0, 0, 1, 1]),
-    (&[&BREAK], [0, 0, 1, 0, 2]),
-    (&[&CARRY], [0, 0, 0, 0, 2]),
-];
-
-/// What is served after the city stands, and the balance and the open rental of rider 17 then.
-const RIDERS: [(&[&[Exchange]], (i64, u32)); 3] = [
-    (&[], (2500, 0)),
-    (&[&START], (2500, 1)),
-    (&[&START, &END], (2400, 0)),
-];
-
-/// What is served after the city stands, and rental 1 then: whether it is closed, its fare and its refunds.
-const RENTALS: [(&[&[Exchange]], (bool, i64, i64)); 3] = [
-    (&[&START], (false, 0, 0)),
-    (&[&START, &END], (true, 100, 0)),
-    (&[&START, &RECOVER], (true, 125, 125)),
+/// What is served after the city stands, and what is told then.
+const EXAMPLES: [(&[&[Exchange]], Told); 6] = [
+    (
+        &[],
+        Told {
+            bike: (Spot::Dock(1), BikeState::Fit),
+            counts: [1, 1, 0, 0, 1],
+            rider: (2500, 0),
+            rental: None,
+            orders: [CARRIED_OUT, None],
+        },
+    ),
+    (
+        &[&START],
+        Told {
+            bike: (Spot::Rental(1), BikeState::Fit),
+            counts: [0, 0, 0, 1, 1],
+            rider: (2500, 1),
+            rental: Some((false, 0, 0)),
+            orders: [CARRIED_OUT, None],
+        },
+    ),
+    (
+        &[&START, &END],
+        Told {
+            bike: (Spot::Dock(1), BikeState::Fit),
+            counts: [1, 1, 0, 0, 1],
+            rider: (2400, 0),
+            rental: Some((true, 100, 0)),
+            orders: [CARRIED_OUT, None],
+        },
+    ),
+    (
+        &[&START, &RECOVER],
+        Told {
+            bike: (Spot::Depot, BikeState::Disabled),
+            counts: [0, 0, 0, 1, 1],
+            rider: (2500, 0),
+            rental: Some((true, 125, 125)),
+            orders: [CARRIED_OUT, None],
+        },
+    ),
+    (
+        &[&BREAK],
+        Told {
+            bike: (Spot::Dock(1), BikeState::Fit),
+            counts: [0, 0, 1, 0, 2],
+            rider: (2500, 0),
+            rental: None,
+            orders: [CARRIED_OUT, None],
+        },
+    ),
+    (
+        &[&CARRY],
+        Told {
+            bike: (Spot::Truck(3, 2), BikeState::Disabled),
+            counts: [0, 0, 0, 0, 2],
+            rider: (2500, 0),
+            rental: None,
+            orders: [CARRIED_OUT, Some((0, true))],
+        },
+    ),
 ];
 
 fn spot_of(place: &Place) -> Spot {
@@ -90,15 +134,6 @@ fn bike<S: Alter>(
         return Ok(None);
     };
     Ok(Some((spot_of(&found.place), found.state)))
-}
-
-/// What both queries of a bicycle answer.
-fn place_and_bike<S: Alter>(
-    alloc: Global,
-    desk: &mut Desk<S>,
-    number: u32,
-) -> Result<Told, DeskFault> {
-    Ok((place(alloc, desk, number)?, bike(alloc, desk, number)?))
 }
 
 fn counts<S: Alter>(
@@ -140,11 +175,6 @@ fn rider<S: Alter>(desk: &mut Desk<S>, number: u32) -> Result<Option<(i64, u32)>
     };
     let rental = info.rental.map_or(0, |rental| rental.get());
     Ok(Some((info.balance.hundredths(), rental)))
-}
-
-/// What both queries of a rider answer.
-fn balance_and_rider<S: Alter>(desk: &mut Desk<S>, number: u32) -> Result<Paid, DeskFault> {
-    Ok((balance(desk, number)?, rider(desk, number)?))
 }
 
 fn rental<S: Alter>(
@@ -193,86 +223,58 @@ fn currency_is<S: Alter>(
     }
 }
 
-/// What is told of bicycle 7, and of 8, which isn't there.
-fn bikes_after(alloc: Global, served: &[&[Exchange]]) -> Result<(Told, Told), Fail> {
-    let mut desk = desk_after(alloc, served)?;
-    let one = place_and_bike(alloc, &mut desk, 7);
-    let other = place_and_bike(alloc, &mut desk, 8);
-    drop(desk);
-    Ok((one?, other?))
+/// What the queries tell, where both of the bicycle and both of the rider tell the same.
+fn answers<S: Alter>(
+    alloc: Global,
+    desk: &mut Desk<S>,
+    station: &Ident,
+) -> Result<Option<Told>, DeskFault> {
+    let (Some(bike), Some(spot)) = (bike(alloc, desk, 7)?, place(alloc, desk, 7)?) else {
+        return Ok(None);
+    };
+    let (Some(rider), Some(paid)) = (rider(desk, 17)?, balance(desk, 17)?) else {
+        return Ok(None);
+    };
+    let Some(counts) = counts(alloc, desk, station)? else {
+        return Ok(None);
+    };
+    if bike.0 != spot || rider.0 != paid {
+        return Ok(None);
+    }
+    Ok(Some(Told {
+        bike,
+        counts,
+        rider,
+        rental: rental(alloc, desk, 1)?,
+        orders: [order(alloc, desk, 1)?, order(alloc, desk, 2)?],
+    }))
 }
 
-fn counts_after(alloc: Global, served: &[&[Exchange]]) -> Result<Option<[u32; 5]>, Fail> {
+/// Whether nothing is told of a bicycle and a rider that aren't there, and the system's currency is the euro.
+fn tells_no_others<S: Alter>(alloc: Global, desk: &mut Desk<S>) -> Result<bool, DeskFault> {
+    Ok(
+        bike(alloc, desk, 8)?.is_none()
+            && place(alloc, desk, 8)?.is_none()
+            && rider(desk, 18)?.is_none()
+            && balance(desk, 18)?.is_none()
+            && currency_is(alloc, desk, "EUR")?,
+    )
+}
+
+/// What is told after these lines, and whether nothing is told of what isn't there.
+fn told_after(alloc: Global, served: &[&[Exchange]]) -> Result<(Option<Told>, bool), Fail> {
     let station = Ident::new(alloc, Field::Station, "a1")?;
     let mut desk = desk_after(alloc, served)?;
-    let told = counts(alloc, &mut desk, &station);
+    let told = answers(alloc, &mut desk, &station);
+    let tells_no_others = tells_no_others(alloc, &mut desk);
     drop(desk);
-    Ok(told?)
-}
-
-/// What is told of rider 17, and of 18, who isn't there.
-fn riders_after(alloc: Global, served: &[&[Exchange]]) -> Result<(Paid, Paid), Fail> {
-    let mut desk = desk_after(alloc, served)?;
-    let one = balance_and_rider(&mut desk, 17);
-    let other = balance_and_rider(&mut desk, 18);
-    drop(desk);
-    Ok((one?, other?))
-}
-
-fn rental_after(alloc: Global, served: &[&[Exchange]]) -> Result<Option<(bool, i64, i64)>, Fail> {
-    let mut desk = desk_after(alloc, served)?;
-    let told = rental(alloc, &mut desk, 1);
-    drop(desk);
-    Ok(told?)
-}
-
-/// What is told of order 1, and of 2, which isn't there; and whether the system's currency is the euro.
-fn orders_and_system(alloc: Global) -> Result<([Option<(u32, bool)>; 2], bool), Fail> {
-    let mut desk = desk_after(alloc, &[])?;
-    let one = order(alloc, &mut desk, 1);
-    let other = order(alloc, &mut desk, 2);
-    let is_euro = currency_is(alloc, &mut desk, "EUR");
-    drop(desk);
-    Ok(([one?, other?], is_euro?))
+    Ok((told?, tells_no_others?))
 }
 
 #[test]
-fn tells_of_a_bicycle(rt: HostRuntime) -> Result<(), Fail> {
-    for (served, spot, state) in SPOTS {
-        let wanted = (Some(spot), Some((spot, state)));
-        assert_eq!(rt; bikes_after(rt.alloc(), served)?, (wanted, (None, None)));
+fn queries_tell_of_the_city(rt: HostRuntime) -> Result<(), Fail> {
+    for (served, wanted) in EXAMPLES {
+        assert_eq!(rt; told_after(rt.alloc(), served)?, (Some(wanted), true));
     }
-    Ok(())
-}
-
-#[test]
-fn counts_a_station(rt: HostRuntime) -> Result<(), Fail> {
-    for (served, wanted) in COUNTS {
-        assert_eq!(rt; counts_after(rt.alloc(), served)?, Some(wanted));
-    }
-    Ok(())
-}
-
-#[test]
-fn tells_of_a_rider(rt: HostRuntime) -> Result<(), Fail> {
-    for (served, wanted) in RIDERS {
-        let wanted = (Some(wanted.0), Some(wanted));
-        assert_eq!(rt; riders_after(rt.alloc(), served)?, (wanted, (None, None)));
-    }
-    Ok(())
-}
-
-#[test]
-fn tells_of_a_rental(rt: HostRuntime) -> Result<(), Fail> {
-    for (served, wanted) in RENTALS {
-        assert_eq!(rt; rental_after(rt.alloc(), served)?, Some(wanted));
-    }
-    Ok(())
-}
-
-#[test]
-fn tells_of_an_order_and_the_system(rt: HostRuntime) -> Result<(), Fail> {
-    let told = orders_and_system(rt.alloc())?;
-    assert_eq!(rt; told, ([Some((1, false)), None], true));
     Ok(())
 }

@@ -18,9 +18,11 @@ use bike_rows_example::walks::{
     walk_stocked_parts,
 };
 use sqlite::{Alter, Connection, Error, Row, Rows, Transaction};
+use std::process::Abort;
 use std::test::Fail;
 
-// These have no clause, so that the proof of the test does not carry the state of each call.
+// What follows has no clause, so that the proof of a test does not carry the state of each call, and a test lets its connection go
+// at one place, by a call.
 fn make<S: Alter>(conn: &mut Connection<S>) -> Result<(), Error> {
     conn.execute_batch(
         "CREATE TABLE other (a); CREATE TABLE parts (part INTEGER PRIMARY KEY, stock INTEGER NOT NULL) STRICT; CREATE TABLE notes (author TEXT NOT NULL, title TEXT NOT NULL, body TEXT, PRIMARY KEY (author, title)) STRICT; CREATE TABLE shelves (shelf INTEGER PRIMARY KEY, part INTEGER, room INTEGER NOT NULL) STRICT; CREATE TABLE boxes (box INTEGER PRIMARY KEY, part INTEGER NOT NULL, shelf INTEGER) STRICT",
@@ -258,30 +260,55 @@ fn notes_of<S: Alter>(conn: &mut Connection<S>, author: &str) -> Result<usize, E
     Err(Error::InvalidQuery)
 }
 
+// What is asked of parts and notes.
+fn ask_of_parts_and_notes<S: Alter>(rt: &impl Abort, conn: &mut Connection<S>) -> Result<(), Fail> {
+    make(conn)?;
+    fill(conn)?;
+    for (part, want) in [(1, Some(10)), (2, None), (3, Some(20))] {
+        assert_eq!(rt; stock_of(conn, part)?, want, "part {part}");
+    }
+    for (other, want) in [(2, false), (3, true)] {
+        assert_eq!(rt; has_both(conn, 1, other)?, want, "parts 1 and {other}");
+    }
+    assert_eq!(rt; all_parts(conn)?, 137);
+    assert_eq!(rt; parts_between(conn, 1, 7)?, 13);
+    assert_eq!(rt; greatest(conn)?, Some(7));
+    assert_eq!(rt; count_with(conn, 10)?, Some(2));
+    for (least, first, all) in [(5, Some(1), 137), (15, Some(3), 3), (25, None, 0)] {
+        assert_eq!(rt; stocked(conn, least)?, first, "at least {least}");
+        assert_eq!(rt; stocked_parts(conn, least)?, all, "at least {least}");
+    }
+    for (author, want) in [("ann", Some(true)), ("bob", Some(false)), ("cy", None)] {
+        assert_eq!(rt; has_body(conn, author)?, want, "{author}");
+    }
+    for (author, want) in [("ann", 2), ("bob", 1), ("cy", 0)] {
+        assert_eq!(rt; notes_of(conn, author)?, want, "{author}");
+    }
+    Ok(())
+}
+
 #[test]
 fn statements_do_what_they_say(rt: HostRuntime) -> Result<(), Fail> {
     let mut conn = Connection::open_in_memory(rt.alloc())?;
-    make(&mut conn)?;
-    fill(&mut conn)?;
-    for (part, want) in [(1, Some(10)), (2, None), (3, Some(20))] {
-        assert_eq!(rt; stock_of(&mut conn, part)?, want, "part {part}");
+    let asked = ask_of_parts_and_notes(&rt, &mut conn);
+    drop(conn);
+    asked
+}
+
+// What is asked of shelves.
+fn ask_of_shelves<S: Alter>(rt: &impl Abort, conn: &mut Connection<S>) -> Result<(), Fail> {
+    make(conn)?;
+    fill(conn)?;
+    assert_eq!(rt; shelves_between(conn, 2, 5)?, 24);
+    for (part, want) in [(8, Some(4)), (7, None)] {
+        assert_eq!(rt; shelf_with(conn, part)?, want, "part {part}");
     }
-    for (other, want) in [(2, false), (3, true)] {
-        assert_eq!(rt; has_both(&mut conn, 1, other)?, want, "parts 1 and {other}");
+    for (room, first, all) in [(6, Some(2), 2), (5, None, 0)] {
+        assert_eq!(rt; empty_shelf(conn, room)?, first, "room {room}");
+        assert_eq!(rt; empty_shelves(conn, room)?, all, "room {room}");
     }
-    assert_eq!(rt; all_parts(&mut conn)?, 137);
-    assert_eq!(rt; parts_between(&mut conn, 1, 7)?, 13);
-    assert_eq!(rt; greatest(&mut conn)?, Some(7));
-    assert_eq!(rt; count_with(&mut conn, 10)?, Some(2));
-    for (least, first, all) in [(5, Some(1), 137), (15, Some(3), 3), (25, None, 0)] {
-        assert_eq!(rt; stocked(&mut conn, least)?, first, "at least {least}");
-        assert_eq!(rt; stocked_parts(&mut conn, least)?, all, "at least {least}");
-    }
-    for (author, want) in [("ann", Some(true)), ("bob", Some(false)), ("cy", None)] {
-        assert_eq!(rt; has_body(&mut conn, author)?, want, "{author}");
-    }
-    for (author, want) in [("ann", 2), ("bob", 1), ("cy", 0)] {
-        assert_eq!(rt; notes_of(&mut conn, author)?, want, "{author}");
+    for (room, want) in [(5, Some(1)), (6, Some(0))] {
+        assert_eq!(rt; count_shelves(conn, 3, room)?, want, "room {room}");
     }
     Ok(())
 }
@@ -289,18 +316,29 @@ fn statements_do_what_they_say(rt: HostRuntime) -> Result<(), Fail> {
 #[test]
 fn an_empty_shelf_is_found_by_its_null(rt: HostRuntime) -> Result<(), Fail> {
     let mut conn = Connection::open_in_memory(rt.alloc())?;
-    make(&mut conn)?;
-    fill(&mut conn)?;
-    assert_eq!(rt; shelves_between(&mut conn, 2, 5)?, 24);
-    for (part, want) in [(8, Some(4)), (7, None)] {
-        assert_eq!(rt; shelf_with(&mut conn, part)?, want, "part {part}");
+    let asked = ask_of_shelves(&rt, &mut conn);
+    drop(conn);
+    asked
+}
+
+// What is asked of rows of several tables.
+fn ask_of_several_tables<S: Alter>(rt: &impl Abort, conn: &mut Connection<S>) -> Result<(), Fail> {
+    make(conn)?;
+    fill(conn)?;
+    for (at, want) in [(0, 124), (1, 2000)] {
+        assert_eq!(rt; shelf_stocks(conn, at)?, want, "column {at}");
     }
-    for (room, first, all) in [(6, Some(2), 2), (5, None, 0)] {
-        assert_eq!(rt; empty_shelf(&mut conn, room)?, first, "room {room}");
-        assert_eq!(rt; empty_shelves(&mut conn, room)?, all, "room {room}");
+    for (at, want) in [(0, 25), (1, 20), (2, 5)] {
+        assert_eq!(rt; all_boxes(conn, at)?, want, "column {at}");
     }
-    for (room, want) in [(5, Some(1)), (6, Some(0))] {
-        assert_eq!(rt; count_shelves(&mut conn, 3, room)?, want, "room {room}");
+    for (at, want) in [(0, 111), (1, 137_124)] {
+        assert_eq!(rt; all_inventory(conn, at)?, want, "column {at}");
+    }
+    for (at, want) in [(0, 13_378), (2, 200_104)] {
+        assert_eq!(rt; shelves_by_part(conn, at)?, want, "column {at}");
+    }
+    for (at, want) in [(0, 1_333_789), (1, 10_012_012)] {
+        assert_eq!(rt; stores_by_part(conn, at)?, want, "column {at}");
     }
     Ok(())
 }
@@ -308,22 +346,7 @@ fn an_empty_shelf_is_found_by_its_null(rt: HostRuntime) -> Result<(), Fail> {
 #[test]
 fn rows_of_several_tables_stand_together(rt: HostRuntime) -> Result<(), Fail> {
     let mut conn = Connection::open_in_memory(rt.alloc())?;
-    make(&mut conn)?;
-    fill(&mut conn)?;
-    for (at, want) in [(0, 124), (1, 2000)] {
-        assert_eq!(rt; shelf_stocks(&mut conn, at)?, want, "column {at}");
-    }
-    for (at, want) in [(0, 25), (1, 20), (2, 5)] {
-        assert_eq!(rt; all_boxes(&mut conn, at)?, want, "column {at}");
-    }
-    for (at, want) in [(0, 111), (1, 137_124)] {
-        assert_eq!(rt; all_inventory(&mut conn, at)?, want, "column {at}");
-    }
-    for (at, want) in [(0, 13_378), (2, 200_104)] {
-        assert_eq!(rt; shelves_by_part(&mut conn, at)?, want, "column {at}");
-    }
-    for (at, want) in [(0, 1_333_789), (1, 10_012_012)] {
-        assert_eq!(rt; stores_by_part(&mut conn, at)?, want, "column {at}");
-    }
-    Ok(())
+    let asked = ask_of_several_tables(&rt, &mut conn);
+    drop(conn);
+    asked
 }

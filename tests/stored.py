@@ -1,0 +1,59 @@
+"""The numbers that the tables store beside the rows that they follow from: a rider's balance, cash and revenue, a station's free and broken docks,
+the bicycles that are counted at it."""
+
+import contextlib
+import sqlite3
+from pathlib import Path
+
+# One station of two docks, of which the second is broken, and bicycle 7 in the first; rider 17 has paid 25.00.
+CITY = [
+    ("1699999200|office|f1|set-system|metro|en|Metro Bikes|24/7|feeds@example.org|Etc/UTC|EUR|http://127.0.0.1:8080|30", "ok"),
+    ("1699999200|office|f2|add-plan|basic|Basic|100|false|One euro and then a quarter|30:25:5:-", "ok"),
+    ("1699999200|office|f3|add-type|city|City|bicycle|human|0|basic", "ok"),
+    ("1699999200|office|f4|add-station|a1|Harbour|41.890169|12.492269|2", "ok"),
+    ("1699999200|office|f5|add-bike|7|city", "ok"),
+    ("1699999200|office|f6|add-truck|3|20", "ok"),
+    ("1699999200|office|f7|open-order|3|*|a1|city|1", "order|1"),
+    ("1699999200|office|f8|load|3|1|7", "ok"),
+    ("1699999200|office|f9|unload|3|1|7|to|1", "ok"),
+    ("1699999200|office|f10|close-order|1", "ok"),
+    ("1699999200|office|f11|mark-dock|a1|2|broken", "ok"),
+    ("1699999200|office|g1|add-rider|17", "ok"),
+    ("1699999200|office|g2|top-up|17|2500", "balance|2500"),
+]
+
+# Rider 17 takes bicycle 7.
+START = [("1700000000|rider:17|s1|start|17|a1|1", "rental|1|7")]
+
+# It comes back, by a clock that went back: no time passed.
+END = [("1699990000|dock:a1|e1|end|7|a1|1", "fare|100|2400")]
+
+# The dock in which bicycle 7 stands is broken too.
+BREAK = [("1699999200|office|h1|mark-dock|a1|1|broken", "ok")]
+
+META = "SELECT cash, revenue FROM meta"
+RIDER = "SELECT balance, blocked FROM riders WHERE rider = 17"
+STATION = "SELECT free, broken FROM stations WHERE station_id = 'a1'"
+COUNTS = "SELECT available, disabled FROM counts WHERE station_id = 'a1' AND type_id = 'city'"
+
+# What is served after the city stands, and the two numbers that each query answers then.
+NUMBERS = [
+    (START + END, {RIDER: (2400, 0), META: (2500, 100), STATION: (0, 1), COUNTS: (1, 0)}),
+    (START, {RIDER: (2500, 0), STATION: (1, 1), COUNTS: (0, 0)}),
+    (BREAK, {STATION: (0, 2), COUNTS: (0, 1)}),
+]
+
+
+def text(lines):
+    """The lines as they are sent and answered, with TABs."""
+    return "".join(f"{line}\n" for line in lines).replace("|", "\t").encode()
+
+
+def test_numbers(program):
+    for at, (served, wanted) in enumerate(NUMBERS):
+        name, lines = f"city{at}.db", CITY + served
+        asked, answers = (text(part) for part in zip(*lines))
+        assert program.run("lines", name, given=asked) == (0, answers, b"")
+        with contextlib.closing(sqlite3.connect(Path(program.folder, name))) as base:
+            found = {query: base.execute(query).fetchone() for query in wanted}
+        assert found == wanted, (served, found)
