@@ -4,13 +4,13 @@ use Rattle.sqlite_trees.specs.declared.store.Store.{Ghosts}
 use Rattle.sqlite.specs.State.{HasCleanDisk}
 use Rattle.bike_operator.specs.Operator.{Operator}
 use Rattle.bike_schema.specs.Stands.{AllLeft, TreesStandFor}
-use Rattle.bike_http.specs.Desk.{DeskValue, desk_state, IsAt}
-use Rattle.bike_http.specs.DeskFault.TheVariants.{NoMemory, StoreFailed, Stopped}
+use Rattle.bike_desk.specs.Desk.{DeskValue, desk_state, IsAt}
+use Rattle.bike_desk.specs.declared.fault.DeskFault.TheVariants.{NoMemory, StoreFailed, Stopped}
 use Rattle.bike_day_texts.specs.declared.table.DayTable.{DayTable}
 use Rattle.bike_days.specs.declared.fault.DayTableFault.{DayTableFault}
 use Rattle.bike_days.specs.declared.fault.DayTableFault.TheVariants.{Day, Write, Desk}
 use Rattle.bike_days.specs.Ends.{EndsByDay, WritesDay, LeavesDesk}
-use Rattle.bike_app.specs.declared.end.Fault.TheVariants as fault
+use Rattle.bike_console.specs.declared.end.Fault.TheVariants as fault
 use Rattle.bike_app.specs.Days.{ReportsAt, table_end}
 
 module _ {S : Type 0} (g : Ghosts S) (old new : DeskValue S) (s : Operator) (clean : HasCleanDisk (desk_state g new)) (at : IsAt g old s) where

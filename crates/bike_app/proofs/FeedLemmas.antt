@@ -6,11 +6,11 @@ use Rattle.sqlite.specs.State.{HasCleanDisk}
 use Rattle.bike_operator.specs.Operator.{Operator}
 use Rattle.bike_feed_texts.specs.declared.feed.Feed.{Feed}
 use Rattle.bike_schema.specs.Stands.{AllLeft, TreesStandFor}
-use Rattle.bike_http.specs.DeskFault.TheVariants.{NoMemory, StoreFailed, Stopped}
-use Rattle.bike_http.specs.Desk.{DeskValue, desk_state, IsAt}
-use Rattle.bike_http.specs.FeedFault.{FeedFault}
-use Rattle.bike_http.specs.FeedFault.TheVariants.{SystemMissing, Write, Desk}
-use Rattle.bike_http.specs.Publishing.{IsPublished, IsBegun, LeavesDesk}
+use Rattle.bike_desk.specs.declared.fault.DeskFault.TheVariants.{NoMemory, StoreFailed, Stopped}
+use Rattle.bike_desk.specs.Desk.{DeskValue, desk_state, IsAt}
+use Rattle.bike_feeds.specs.declared.fault.FeedFault.{FeedFault}
+use Rattle.bike_feeds.specs.declared.fault.FeedFault.TheVariants.{SystemMissing, Write, Desk}
+use Rattle.bike_feeds.specs.Publishing.{IsPublished, IsBegun, LeavesDesk}
 use Rattle.bike_app.specs.Feeds.{PublishesAt, feed_end}
 
 module _ {S A : Type 0} (g : Ghosts S) (old new : DeskValue S) (s : Operator) (f : Feed) (moment : ℕ) (a b : Option (List ℕ)) (clean : HasCleanDisk (desk_state g new)) (at : IsAt g old s) where

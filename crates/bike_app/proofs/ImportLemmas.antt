@@ -3,16 +3,16 @@ use Rattle.std.proofs.Common.{◌≡◌, ℕ, List, [], ◌∷◌, ◌++◌, Opt
 use Rattle.sqlite_trees.specs.declared.store.Store.{Ghosts}
 use Rattle.bike_operator.specs.Operator.{Operator}
 use Rattle.bike_schema.specs.Stands.{AllLeft, TreesStandFor}
-use Rattle.bike_http.specs.Desk.{DeskValue, desk_state}
-use Rattle.bike_http.specs.DeskFault.TheVariants.{NoMemory, StoreFailed, Stopped}
+use Rattle.bike_desk.specs.Desk.{DeskValue, desk_state}
+use Rattle.bike_desk.specs.declared.fault.DeskFault.TheVariants.{NoMemory, StoreFailed, Stopped}
 use Rattle.bike_imports.specs.declared.fault.ImportFault.{ImportFault}
 use Rattle.bike_imports.specs.declared.fault.ImportFault.TheVariants.{BadHeader, Unreadable, Row, Read, Desk}
 use Rattle.bike_imports.specs.Imports.{Imports}
-use Rattle.bike_app.specs.declared.end.Fault.{Fault}
+use Rattle.bike_console.specs.declared.end.Fault.{Fault}
 use Rattle.bike_app.specs.Program.{StandsAfterSome}
 use Rattle.bike_app.specs.Imports.{TellsImport}
 use Rattle.bike_app.proofs.ProgramLemmas.{calls_push}
-use Rattle.bike_app.proofs.RunLemmas.{after_one}
+use Rattle.bike_lines.proofs.RunLemmas.{after_one}
 
 module _ {S : Type 0} (g : Ghosts S) (desk : DeskValue S) (s : Operator) where
   -- a crash may leave the operator after a front of the rows

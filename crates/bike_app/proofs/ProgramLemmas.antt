@@ -14,16 +14,16 @@ use Rattle.bike_operator.specs.Runs.{Call}
 use Rattle.bike_operator.specs.Sound.{IsCall, AreCalls}
 use Rattle.bike_schema.specs.Tables.{HasNone}
 use Rattle.bike_schema.specs.Stands.{AllLeft, TreesStandFor}
-use Rattle.bike_http.specs.Desk.{DeskValue, desk_state}
-use Rattle.bike_http.specs.DeskFault.{DeskFault}
-use Rattle.bike_http.specs.DeskFault.TheVariants.{NoMemory, StoreFailed, Stopped}
+use Rattle.bike_desk.specs.Desk.{DeskValue, desk_state}
+use Rattle.bike_desk.specs.declared.fault.DeskFault.{DeskFault}
+use Rattle.bike_desk.specs.declared.fault.DeskFault.TheVariants.{NoMemory, StoreFailed, Stopped}
 use Rattle.bike_adoption.specs.declared.adoption.AdoptFault.{AdoptFault}
 use Rattle.bike_adoption.specs.declared.adoption.AdoptFault.TheVariants as adopt
 use Rattle.bike_adoption.specs.Adoption.{IsWant}
-use Rattle.bike_app.specs.declared.fault.LinesFault.{LinesFault}
-use Rattle.bike_app.specs.declared.end.Fault.{Fault}
-use Rattle.bike_app.specs.Ends.{lines_fault, adopt_fault, end_of}
-use Rattle.bike_app.specs.Runs.{ServesSome}
+use Rattle.bike_lines.specs.declared.fault.LinesFault.{LinesFault}
+use Rattle.bike_console.specs.declared.end.Fault.{Fault}
+use Rattle.bike_console.specs.Ends.{lines_fault, adopt_fault, end_of}
+use Rattle.bike_lines.specs.Runs.{ServesSome}
 use Rattle.bike_app.specs.Program.{StandsAfterSome, Refuses, Serves, FailsToBegin, ServesInMemory}
 
 -- the fault of the lines is told as the program's

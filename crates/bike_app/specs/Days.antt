@@ -4,13 +4,13 @@ use Rattle.sqlite.specs.Store.{Ghosts}
 use Rattle.sqlite.specs.Held.{Held, state}
 use Rattle.bike_operator.specs.Operator.{Operator, no_operator}
 use Rattle.bike_schema.specs.Stands.{IsOf, TreesStandFor}
-use Rattle.bike_http.specs.Desk.{DeskValue, IsAt}
+use Rattle.bike_desk.specs.Desk.{DeskValue, IsAt}
 use Rattle.bike_day_texts.specs.declared.table.DayTable.{DayTable}
 use Rattle.bike_days.specs.declared.fault.DayTableFault.{DayTableFault}
 use Rattle.bike_days.specs.Ends.{EndsByDay, WritesDay}
-use Rattle.bike_app.specs.declared.end.Fault.{Fault}
-use Rattle.bike_app.specs.declared.end.Fault.TheVariants.{StoreFailed}
-use Rattle.bike_app.specs.Ends.{table_fault}
+use Rattle.bike_console.specs.declared.end.Fault.{Fault}
+use Rattle.bike_console.specs.declared.end.Fault.TheVariants.{StoreFailed}
+use Rattle.bike_console.specs.Ends.{table_fault}
 use Rattle.bike_app.specs.Program.{Refuses, FailsToBegin}
 
 -- what the program tells of a table that was asked for

@@ -6,13 +6,13 @@ use Rattle.sqlite.specs.Held.{Held, state}
 use Rattle.bike_operator.specs.Operator.{Operator, no_operator}
 use Rattle.bike_feed_texts.specs.declared.feed.Feed.{Feed}
 use Rattle.bike_schema.specs.Stands.{IsOf, TreesStandFor}
-use Rattle.bike_http.specs.Desk.{DeskValue, IsAt}
-use Rattle.bike_http.specs.FeedFault.{FeedFault}
-use Rattle.bike_http.specs.FeedFault.TheVariants as feed
-use Rattle.bike_http.specs.Publishing.{IsPublished, IsBegun}
-use Rattle.bike_app.specs.declared.end.Fault.{Fault}
-use Rattle.bike_app.specs.declared.end.Fault.TheVariants.{ReadFailed, StoreFailed}
-use Rattle.bike_app.specs.Ends.{feed_fault}
+use Rattle.bike_desk.specs.Desk.{DeskValue, IsAt}
+use Rattle.bike_feeds.specs.declared.fault.FeedFault.{FeedFault}
+use Rattle.bike_feeds.specs.declared.fault.FeedFault.TheVariants as feed
+use Rattle.bike_feeds.specs.Publishing.{IsPublished, IsBegun}
+use Rattle.bike_console.specs.declared.end.Fault.{Fault}
+use Rattle.bike_console.specs.declared.end.Fault.TheVariants.{ReadFailed, StoreFailed}
+use Rattle.bike_console.specs.Ends.{feed_fault}
 use Rattle.bike_app.specs.Program.{Refuses, FailsToBegin}
 
 -- what the program tells of a feed that was asked for

@@ -1,5 +1,5 @@
 -- What the program does over a file, by the bytes that the file and its log held.
-use Rattle.std.specs.Prelude.{◌≡◌, ◌⊎◌, ℕ, List, Option, Result, Ok, Err}
+use Rattle.std.specs.Prelude.{◌≡◌, ℕ, List, Option, Result, Err}
 use Rattle.std.specs.Io.KnownBytes.{Keeps}
 use Rattle.sqlite_disk.specs.declared.Disk as disk
 use Rattle.sqlite_wal.specs.Recovery.{Image}
@@ -11,17 +11,13 @@ use Rattle.sqlite.specs.Files.{over_files, file_state, HoldsDatabase, IsOpened}
 use Rattle.bike_operator.specs.Operator.{Operator}
 use Rattle.bike_schema.specs.Stands.{TreesStandFor}
 use Rattle.bike_words.specs.declared.task.Task.{Task}
-use Rattle.bike_app.specs.declared.end.Fault.{Fault}
-use Rattle.bike_app.specs.declared.end.Fault.TheVariants.{OutOfMemory, StoreFailed}
+use Rattle.bike_console.specs.declared.end.Fault.{Fault}
+use Rattle.bike_console.specs.Files.{IsOpeningFault}
 use Rattle.bike_app.specs.Words.{Does}
 
 -- the bytes hold a database that stands for the operator
 abbrev pub HoldsOperator : Image → Operator → Type 0
 HoldsOperator image s = (db : Trees) × HoldsDatabase image db × TreesStandFor s db
-
--- why a file isn't open
-abbrev pub IsOpeningFault : Fault → Type 0
-IsOpeningFault fault = (fault ≡ OutOfMemory) ⊎ (fault ≡ StoreFailed)
 
 -- nothing was read, and nothing written
 pub record IsUntouched (input ahead old new : Option (List ℕ)) (end : Result ℕ Fault) : Type 0 where

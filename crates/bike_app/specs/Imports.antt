@@ -7,13 +7,13 @@ use Rattle.sqlite.specs.Held.{Held, state}
 use Rattle.sqlite_trees.specs.declared.memory.MemStore.{MemStore}
 use Rattle.bike_operator.specs.Operator.{Operator, no_operator}
 use Rattle.bike_schema.specs.Stands.{IsOf, TreesStandFor}
-use Rattle.bike_http.specs.Desk.{DeskValue, IsAt}
+use Rattle.bike_desk.specs.Desk.{DeskValue, IsAt}
 use Rattle.bike_imports.specs.declared.fault.ImportFault.{ImportFault}
 use Rattle.bike_imports.specs.Imports.{Imports}
-use Rattle.bike_app.specs.declared.end.Fault.{Fault}
-use Rattle.bike_app.specs.declared.end.Fault.TheVariants.{ReadFailed, WriteFailed}
-use Rattle.bike_app.specs.Pieces.{AppendsSome}
-use Rattle.bike_app.specs.Ends.{import_fault}
+use Rattle.bike_console.specs.declared.end.Fault.{Fault}
+use Rattle.bike_console.specs.declared.end.Fault.TheVariants.{ReadFailed, WriteFailed}
+use Rattle.bike_console.specs.Pieces.{AppendsSome}
+use Rattle.bike_console.specs.Ends.{import_fault}
 use Rattle.bike_app.specs.Program.{Refuses, FailsToBegin}
 
 -- the line that tells how many rows were taken

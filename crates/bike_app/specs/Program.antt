@@ -10,16 +10,16 @@ use Rattle.bike_operator.specs.Operator.{Operator, no_operator}
 use Rattle.bike_operator.specs.Runs.{Call, after}
 use Rattle.bike_operator.specs.Sound.{AreCalls}
 use Rattle.bike_schema.specs.Stands.{IsOf, TreesStandFor}
-use Rattle.bike_http.specs.Desk.{DeskValue}
+use Rattle.bike_desk.specs.Desk.{DeskValue}
 use Rattle.bike_adoption.specs.declared.adoption.AdoptFault.{AdoptFault}
 use Rattle.bike_adoption.specs.Adoption.{handed, IsToldOf, IsWant}
 use Rattle.bike_stream.specs.Lines.{lines_of}
-use Rattle.bike_app.specs.declared.fault.LinesFault.{LinesFault}
-use Rattle.bike_app.specs.declared.end.Fault.{Fault}
-use Rattle.bike_app.specs.declared.end.Fault.TheVariants.{OutOfMemory, StoreFailed}
-use Rattle.bike_app.specs.Answers.{AreReadAs, answers}
-use Rattle.bike_app.specs.Ends.{adopt_fault, end_of}
-use Rattle.bike_app.specs.Runs.{RanLines}
+use Rattle.bike_lines.specs.declared.fault.LinesFault.{LinesFault}
+use Rattle.bike_console.specs.declared.end.Fault.{Fault}
+use Rattle.bike_console.specs.declared.end.Fault.TheVariants.{OutOfMemory, StoreFailed}
+use Rattle.bike_lines.specs.Answers.{AreReadAs, answers}
+use Rattle.bike_console.specs.Ends.{adopt_fault, end_of}
+use Rattle.bike_lines.specs.Runs.{RanLines}
 
 -- the trees stand for the operator after good requests
 abbrev pub StandsAfterSome : Operator → Trees → Type 0

@@ -9,8 +9,8 @@ use Rattle.bike_schema.specs.Stands.{IsOf, Keeps, TreesStandFor}
 use Rattle.bike_stream.specs.Writing.{AppendsFront}
 use Rattle.bike_words.specs.declared.task.Task.{Task}
 use Rattle.bike_words.specs.declared.task.Task.TheVariants.{Init, Check, Lines, Feed, Day, Import, Serve}
-use Rattle.bike_app.specs.declared.end.Fault.{Fault}
-use Rattle.bike_app.specs.declared.end.Fault.TheVariants.{WriteFailed}
+use Rattle.bike_console.specs.declared.end.Fault.{Fault}
+use Rattle.bike_console.specs.declared.end.Fault.TheVariants.{WriteFailed}
 use Rattle.bike_app.specs.Program.{StandsAfterSome, Refuses, Serves, FailsToBegin, ServesInMemory}
 use Rattle.bike_app.specs.Feeds.{TellsPublished, PublishesInMemory, moment_of}
 use Rattle.bike_app.specs.Days.{TellsReported, ReportsInMemory}

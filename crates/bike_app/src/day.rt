@@ -6,13 +6,13 @@ ghost use Rattle.sqlite.specs.Held.{state};
 ghost use Rattle.sqlite_trees.specs.View.{doubt};
 ghost use Rattle.bike_operator.specs.Operator.{Operator};
 ghost use Rattle.bike_schema.specs.Stands.{AllLeft, TreesStandFor};
-ghost use Rattle.bike_http.specs.Desk.{desk_state, IsAt};
+ghost use Rattle.bike_desk.specs.Desk.{desk_state, IsAt};
 ghost use Rattle.bike_app.specs.Days.{ReportsAt, TellsReported, table_end};
 
-use crate::end::Fault;
 use bike_adoption::adopt;
+use bike_console::Fault;
 use bike_days::{DayTable, DayTableFault, day_csv};
-use bike_http::Desk;
+use bike_desk::Desk;
 use sqlite::{Alter, Connection};
 use std::alloc::Global;
 use std::io::{Read, Write};

@@ -6,13 +6,14 @@ ghost use Rattle.sqlite.specs.Held.{state};
 ghost use Rattle.sqlite_trees.specs.View.{doubt};
 ghost use Rattle.bike_operator.specs.Operator.{Operator};
 ghost use Rattle.bike_schema.specs.Stands.{AllLeft, TreesStandFor};
-ghost use Rattle.bike_http.specs.Desk.{desk_state, IsAt};
+ghost use Rattle.bike_desk.specs.Desk.{desk_state, IsAt};
 ghost use Rattle.bike_app.specs.Feeds.{PublishesAt, TellsPublished, feed_end, moment_of};
 
-use crate::end::Fault;
 use bike_adoption::adopt;
+use bike_console::Fault;
+use bike_desk::Desk;
+use bike_feeds::{Feed, FeedFault, write_feed};
 use bike_fixed::Moment;
-use bike_http::{Desk, Feed, FeedFault, write_feed};
 use sqlite::{Alter, Connection};
 use std::alloc::Global;
 use std::io::{Read, Write};

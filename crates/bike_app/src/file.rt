@@ -1,41 +1,22 @@
-//! The database file at a path.
+//! The words over the database file at a path.
 
-ghost use Rattle.std.specs.Prelude.{◌≡◌, ◌≤◌, false, IfOk, IfErr, IfSome, IsNone, OnErr};
+ghost use Rattle.std.specs.Prelude.{IfSome, IsNone};
 ghost use Rattle.sqlite.specs.State.{HasCleanDisk};
-ghost use Rattle.sqlite.specs.Start.{FindsIn};
-ghost use Rattle.sqlite.specs.Files.{file_state, IsOpened};
+ghost use Rattle.sqlite.specs.Files.{file_state};
 ghost use Rattle.sqlite_wal.specs.Files.{image_at};
 ghost use Rattle.bike_operator.specs.Operator.{Operator};
 ghost use Rattle.bike_schema.specs.Stands.{AllLeft};
 ghost use Rattle.bike_words.specs.Program.{IsWithin};
 ghost use Rattle.bike_app.specs.Words.{MayStand, ServesSockets};
-ghost use Rattle.bike_app.specs.Files.{DoesOverFile, HoldsOperator, IsUntouched, IsOpeningFault};
+ghost use Rattle.bike_app.specs.Files.{DoesOverFile, HoldsOperator, IsUntouched};
 
-use crate::end::Fault;
 use crate::words::run_words;
 use bike_adoption::Watch;
+use bike_console::{Fault, open_file};
 use bike_fixed::Moment;
 use bike_words::Task;
 use sqlite::{Connection, FileFrom, FileStore, Start};
 use std::io::{Read, Write};
-
-/// Opens the database file at a path, or makes it. `F` stands for the bytes that it and its log hold: what is promised is promised
-/// whatever these are. `OutOfMemory` where memory is refused, and else `StoreFailed`: the file can't be opened, or is no database.
-pub fn open_file<F: Start>(
-    rt: &HostRuntime,
-    path: &str,
-    start: F,
-) -> Result<Connection<FileStore<FileFrom<F>>>, Fault>
-    ensures opened { IfOk result (λ conn. HasCleanDisk (file_state conn) → IsOpened conn) }
-    ensures found { IfOk result (λ conn. HasCleanDisk (file_state conn) → FindsIn (image_at F.Start) (file_state conn)) }
-    ensures autocommit { IfOk result (λ conn. conn.in_transaction ≡ false) }
-    ensures fault { IfErr result IsOpeningFault }
-{
-    match Connection::open_from(rt, path, false, start) {
-        Ok(conn) => Ok(conn),
-        Err((error, _)) => Err(Fault::from(error)),
-    }
-}
 
 /// Does what the words ask, but for `Serve`, over the database file at a path, as `run_words` does over the database that the file's
 /// bytes hold. Gives the connection back, none where the file couldn't be opened: then nothing was read, and nothing written.

@@ -8,9 +8,9 @@ ghost use Rattle.bike_operator.specs.Operator.{Operator};
 ghost use Rattle.bike_schema.specs.Stands.{AllLeft, TreesStandFor};
 ghost use Rattle.bike_app.specs.Program.{Serves, StandsAfterSome, ServesInMemory, AnswersText};
 
-use crate::end::Fault;
-use crate::lines::run_lines;
 use bike_adoption::adopt;
+use bike_console::Fault;
+use bike_lines::run_lines;
 use sqlite::{Alter, Connection};
 use std::alloc::Global;
 use std::io::{Read, Write};

@@ -10,11 +10,11 @@ ghost use Rattle.bike_words.specs.Program.{IsWithin};
 ghost use Rattle.bike_app.specs.Words.{Does, DoesInMemory, MayStand, ServesSockets, TellsTakenUp, WritesLine};
 
 use crate::day::report_day;
-use crate::end::Fault;
 use crate::feed::{moment_of, publish};
 use crate::import::import_from;
 use crate::program::serve;
 use bike_adoption::{Unwatched, Watch, adopt_watched};
+use bike_console::Fault;
 use bike_fixed::Moment;
 use bike_stream::write_whole;
 use bike_words::Task;

@@ -5,9 +5,9 @@ ghost use Rattle.bike_words.specs.Program.{IsWithin};
 ghost use Rattle.bike_app.specs.Words.{ServesSockets};
 
 use bike_app::{
-    Counted, Fault, Progress, clock_moment, exit_code, listen, make_file, open_file, run_file,
-    run_words_in_memory,
+    Counted, Fault, Progress, exit_code, make_file, open_file, run_file, run_words_in_memory,
 };
+use bike_server::{clock_moment, listen};
 use bike_words::{Task, Words, WordsFault, read_words, usage};
 use sqlite::{Connection, Start, Unknown};
 use std::alloc::{AllocError, Global};

@@ -1,7 +1,7 @@
 use Rattle.std.proofs.Common.{true}
 use Rattle.std.specs.Prelude.{codes}
 use Rattle.std.specs.Fmt.{decimal}
-use Rattle.bike_app.proofs.PieceLemmas.{puts_three}
+use Rattle.bike_console.proofs.PieceLemmas.{puts_three}
 use Rattle.bike_app.proofs.import.put_rows.Goals as goal
 
 pub returns : goal.returns

@@ -1,6 +1,6 @@
 use Rattle.std.proofs.Common.{arith, inl, inr, ap, Err, rules, []}
 use Rattle.sqlite.specs.State.{HasCleanDisk}
-use Rattle.bike_http.specs.Desk.{desk_state}
+use Rattle.bike_desk.specs.Desk.{desk_state}
 use Rattle.bike_app.proofs.ProgramLemmas.{end_told, some_left}
 use Rattle.bike_app.proofs.program.serve.Goals as goal
 

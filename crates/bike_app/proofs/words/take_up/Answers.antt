@@ -1,6 +1,6 @@
 use Rattle.std.proofs.Common.{inl, inr, ap, Err, rules}
 use Rattle.sqlite.specs.State.{HasCleanDisk}
-use Rattle.bike_http.specs.Desk.{desk_state}
+use Rattle.bike_desk.specs.Desk.{desk_state}
 use Rattle.bike_app.proofs.words.take_up.Goals as goal
 
 pub returns-in-Ok-clause-told : goal.returns-in-Ok-clause-told

@@ -1,0 +1,280 @@
+//! How the program ends: a line on standard error, and its exit status.
+
+ghost use Rattle.std.specs.Prelude.{◌≡◌, ◌++◌, codes};
+ghost use Rattle.std.specs.Fmt.{decimal};
+ghost use Rattle.std.specs.Process.{exit_status};
+ghost use Rattle.bike_adoption.specs.Adoption.{handed};
+ghost use Rattle.bike_console.specs.Pieces.{AppendsSome, Puts};
+ghost use Rattle.bike_console.specs.Ends.{word_of, row_detail, detail_of, fault_status, status_of, line_of};
+ghost use Rattle.bike_console.specs.Ends.{adopt_fault, day_fault, fault_of_desk, feed_fault, import_fault, table_fault};
+
+use crate::pieces::{put, put_key, put_number};
+use bike_adoption::{AdoptFault, BadRow};
+use bike_commands::Refusal;
+use bike_days::DayTableFault;
+use bike_desk::DeskFault;
+use bike_feeds::FeedFault;
+use bike_fixed::DayFault;
+use bike_imports::ImportFault;
+use bike_lines::LinesFault;
+use sqlite::{Alter, Connection, ErrorCode};
+use std::alloc::AllocError;
+use std::error::Error;
+use std::fmt;
+use std::fmt::{Display, Formatter};
+use std::io::Write;
+use std::process::ExitCode;
+
+/// What the program can't go on after.
+#[derive(Debug, Drop)]
+pub enum Fault {
+    /// No system is set, so there is no feed.
+    SystemMissing,
+    /// The row of this number, from 1, of an import is refused.
+    RowRefused(u64, Refusal),
+    /// The record of this number behind the header of an import is no row.
+    RowUnreadable(u64),
+    /// An import has no header, or another one.
+    BadHeader,
+    /// A day's date is none.
+    BadDate,
+    /// A day's time zone is none.
+    BadZone,
+    /// A day lies outside the years that have tables.
+    DayOutOfRange,
+    /// The store failed.
+    StoreFailed,
+    /// Memory was refused.
+    OutOfMemory,
+    /// The database belongs to another program.
+    Foreign,
+    /// The tables stand for no operator: this is the first row that is not an operator's.
+    Unsound(BadRow),
+    /// The database is of this earlier version of the schema.
+    Older(u64),
+    /// The database is of this later version of the schema.
+    Newer(u64),
+    /// The input failed.
+    ReadFailed,
+    /// The output failed.
+    WriteFailed,
+}
+
+impl Fault {
+    /// The first words of its line on standard error.
+    pub fn word(&self) -> &'static str
+        ensures { result.now ≡ word_of self.now }
+    {
+        match self {
+            Fault::SystemMissing => "system missing",
+            Fault::RowRefused(_, _) | Fault::RowUnreadable(_) => "row",
+            Fault::BadHeader => "bad header",
+            Fault::BadDate => "bad date",
+            Fault::BadZone => "bad zone",
+            Fault::DayOutOfRange => "day out of range",
+            Fault::StoreFailed => "store failed",
+            Fault::OutOfMemory => "out of memory",
+            Fault::Foreign => "foreign",
+            Fault::Unsound(_) => "unsound",
+            Fault::Older(_) => "older",
+            Fault::Newer(_) => "newer",
+            Fault::ReadFailed => "read failed",
+            Fault::WriteFailed => "write failed",
+        }
+    }
+
+    /// The exit status.
+    pub fn status(&self) -> u8
+        ensures { result ≡ fault_status self.now }
+    {
+        match self {
+            Fault::SystemMissing | Fault::RowRefused(_, _) | Fault::RowUnreadable(_) => 1,
+            Fault::BadHeader | Fault::BadDate | Fault::BadZone | Fault::DayOutOfRange => 1,
+            Fault::StoreFailed => 3,
+            Fault::OutOfMemory => 4,
+            Fault::Foreign | Fault::Unsound(_) | Fault::Older(_) | Fault::Newer(_) => 5,
+            Fault::ReadFailed | Fault::WriteFailed => 6,
+        }
+    }
+
+    /// The fault of a desk: one that was stopped is one whose store failed.
+    fn of_desk(fault: DeskFault) -> Fault
+        ensures { result ≡ fault_of_desk fault }
+    {
+        match fault {
+            DeskFault::NoMemory => Fault::OutOfMemory,
+            DeskFault::StoreFailed | DeskFault::Stopped => Fault::StoreFailed,
+        }
+    }
+
+    /// The fault of a day that has no bounds.
+    fn of_day(fault: DayFault) -> Fault
+        ensures { result ≡ day_fault fault }
+    {
+        match fault {
+            DayFault::BadDate => Fault::BadDate,
+            DayFault::BadZone => Fault::BadZone,
+            DayFault::OutOfRange => Fault::DayOutOfRange,
+            DayFault::NoMemory => Fault::OutOfMemory,
+        }
+    }
+
+    /// The fault of a day's table.
+    pub fn of_table(fault: DayTableFault) -> Fault
+        ensures { result ≡ table_fault fault }
+    {
+        match fault {
+            DayTableFault::Day(fault) => Fault::of_day(fault),
+            DayTableFault::Write => Fault::WriteFailed,
+            DayTableFault::Desk(fault) => Fault::of_desk(fault),
+        }
+    }
+
+    /// The fault of an import.
+    pub fn of_import(fault: ImportFault) -> Fault
+        ensures { result ≡ import_fault fault }
+    {
+        match fault {
+            ImportFault::BadHeader => Fault::BadHeader,
+            ImportFault::Unreadable(number) => Fault::RowUnreadable(number),
+            ImportFault::Row(number, refusal) => Fault::RowRefused(number, refusal),
+            ImportFault::Read => Fault::ReadFailed,
+            ImportFault::Desk(fault) => Fault::of_desk(fault),
+        }
+    }
+
+    /// The fault of a feed.
+    pub fn of_feed(fault: FeedFault) -> Fault
+        ensures { result ≡ feed_fault fault }
+    {
+        match fault {
+            FeedFault::SystemMissing => Fault::SystemMissing,
+            FeedFault::Write => Fault::WriteFailed,
+            FeedFault::Desk(fault) => Fault::of_desk(fault),
+        }
+    }
+
+    /// The fault of an adoption, and the connection that it hands back.
+    pub fn taken_from<S: Alter>(fault: AdoptFault<S>) -> (Connection<S>, Fault)
+        ensures conn { result.0 ≡ handed fault }
+        ensures told { result.1 ≡ adopt_fault fault }
+    {
+        match fault {
+            AdoptFault::Foreign(conn) => (conn, Fault::Foreign),
+            AdoptFault::Unsound(conn, bad) => (conn, Fault::Unsound(bad)),
+            AdoptFault::Older(conn, version) => (conn, Fault::Older(version)),
+            AdoptFault::Newer(conn, version) => (conn, Fault::Newer(version)),
+            AdoptFault::NoMemory(conn) => (conn, Fault::OutOfMemory),
+            AdoptFault::StoreFailed(conn) => (conn, Fault::StoreFailed),
+        }
+    }
+}
+
+/// The first words of the fault's line.
+impl Display for Fault {
+    ghost use Rattle.std.specs.Prelude.{Some};
+    ghost use Rattle.bike_console.specs.Ends.{word_of};
+
+    ghost output = { λ fault. Some (word_of fault) };
+
+    fn fmt<W: fmt::Write>(&self, f: &mut Formatter<W>) -> fmt::Result {
+        f.write_str(self.word())
+    }
+}
+
+impl Error for Fault {}
+
+impl From<AllocError> for Fault {
+    ghost use Rattle.std.specs.Prelude.{◌≡◌};
+    ghost use Rattle.bike_console.specs.declared.end.Fault.TheVariants.{OutOfMemory};
+
+    ghost from_gives = { λ _ told. told ≡ OutOfMemory };
+
+    fn from(_: AllocError) -> Fault {
+        Fault::OutOfMemory
+    }
+}
+
+impl From<LinesFault> for Fault {
+    ghost use Rattle.std.specs.Prelude.{◌≡◌};
+    ghost use Rattle.bike_console.specs.Ends.{lines_fault};
+
+    ghost from_gives = { λ fault told. told ≡ lines_fault fault };
+
+    fn from(fault: LinesFault) -> Fault {
+        match fault {
+            LinesFault::Read | LinesFault::TooManyReads => Fault::ReadFailed,
+            LinesFault::Write => Fault::WriteFailed,
+            LinesFault::Desk(fault) => Fault::of_desk(fault),
+        }
+    }
+}
+
+impl From<sqlite::Error> for Fault {
+    ghost use Rattle.std.specs.Prelude.{◌≡◌};
+    ghost use Rattle.bike_console.specs.Ends.{open_fault};
+
+    ghost from_gives = { λ error told. told ≡ open_fault error };
+
+    fn from(error: sqlite::Error) -> Fault {
+        match error {
+            sqlite::Error::SqliteFailure(ErrorCode::OutOfMemory) => Fault::OutOfMemory,
+            _ => Fault::StoreFailed,
+        }
+    }
+}
+
+/// Writes a version, and a space before it.
+fn put_version<W: Write>(out: &mut W, going: bool, version: u64) -> bool
+    ensures { Puts (W.contents out.old) (W.contents out.new) (codes " " ++ decimal version) going result }
+{
+    let going = put(out, going, b" ");
+    put_number(out, going, version)
+}
+
+/// Writes a row's number, with a space on either side, and what is wrong with it.
+fn put_row<W: Write>(out: &mut W, going: bool, number: u64, what: &str) -> bool
+    ensures { Puts (W.contents out.old) (W.contents out.new) (row_detail number what.now) going result }
+{
+    let going = put(out, going, b" ");
+    let going = put_number(out, going, number);
+    let going = put(out, going, b" ");
+    put(out, going, what.as_bytes())
+}
+
+/// Writes what is told of the fault behind its first words.
+fn put_detail<W: Write>(out: &mut W, going: bool, fault: &Fault) -> bool
+    ensures { Puts (W.contents out.old) (W.contents out.new) (detail_of fault.now) going result }
+{
+    match fault {
+        Fault::Unsound(bad) => {
+            let going = put(out, going, b" ");
+            let going = put(out, going, bad.table.name().as_bytes());
+            let going = put(out, going, b" ");
+            put_key(out, going, &bad.key)
+        }
+        Fault::RowRefused(number, refusal) => put_row(out, going, *number, refusal.name()),
+        Fault::RowUnreadable(number) => put_row(out, going, *number, "unreadable"),
+        Fault::Older(version) => put_version(out, going, *version),
+        Fault::Newer(version) => put_version(out, going, *version),
+        _ => going,
+    }
+}
+
+/// Writes the fault at which the program ends, if there is one, as a line, and gives the exit status, which is the same
+/// where that line can't be written. A fault's line is its first words; `row` has the row's number behind them and
+/// the refusal's name or `unreadable`, `unsound` a table and a key, whose columns are parted by `/`, and `older` and `newer` a version.
+pub fn exit_code<W: Write>(errors: &mut W, end: &Result<u64, Fault>) -> ExitCode
+    ensures status { exit_status result ≡ status_of end.now }
+    ensures told { AppendsSome (W.contents errors.old) (W.contents errors.new) (line_of end.now) }
+{
+    match end {
+        Ok(_) => ExitCode::SUCCESS,
+        Err(fault) => {
+            let going = put(errors, true, fault.word().as_bytes());
+            let going = put_detail(errors, going, fault);
+            put(errors, going, b"\n");
+            ExitCode::from(fault.status())
+        }
+    }
+}

@@ -1,0 +1,17 @@
+//! What the program tells on its streams, and the files that it opens.
+//!
+//! How it ends is told by a line on standard error and an exit status, and long work by a line that is taken away at its end. No
+//! line takes memory: each is written in pieces, of which a failure leaves a front.
+#![tactic(auto)]
+
+mod blank;
+mod end;
+mod file;
+mod pieces;
+mod progress;
+
+pub use blank::make_file;
+pub use end::{Fault, exit_code};
+pub use file::open_file;
+pub use pieces::{put, put_number};
+pub use progress::{Counted, Progress};

@@ -1,0 +1,4 @@
+pub mod Faults
+pub mod Answers
+pub mod Serving
+pub mod Runs

@@ -1,0 +1,97 @@
+//! Serving an input of request lines.
+
+ghost use Rattle.std.specs.Prelude.{◌≡◌, ◌≤◌, ◌++◌, ◌∷◌, [], Err};
+ghost use Rattle.std.specs.Io.KnownBytes.{Keeps};
+ghost use Rattle.sqlite.specs.State.{HasCleanDisk};
+ghost use Rattle.sqlite_trees.specs.View.{doubt};
+ghost use Rattle.bike_commands.specs.Replies.{reply_text};
+ghost use Rattle.bike_operator.specs.Operator.{Operator};
+ghost use Rattle.bike_desk.specs.Desk.{desk_state, IsAt};
+ghost use Rattle.bike_desk.specs.Runs.{StopsBy};
+ghost use Rattle.bike_lines.specs.Serving.{RepliesTo};
+ghost use Rattle.bike_lines.specs.Runs.{desk_fault, RanLines, ServesSome};
+
+use crate::fault::LinesFault;
+use arrayvec::ArrayString;
+use bike_commands::{REPLY_LENGTH, Refusal, Reply};
+use bike_desk::{Desk, DeskFault};
+use bike_requests::{LINE_LENGTH, read_line};
+use bike_stream::{Line, LineBuffer, write_whole};
+use sqlite::Alter;
+use std::alloc::Global;
+use std::io::{Read, Write};
+
+/// How many reads of its input a run makes at most.
+pub const MOST_READS: u32 = 1_000_000_000;
+
+/// How many bytes of a line are kept: one more than a request line may have.
+const KEPT: usize = LINE_LENGTH + 1;
+
+/// The bytes of the longest answer line, its line feed counted.
+const ANSWER_LENGTH: usize = REPLY_LENGTH + 1;
+
+/// The reply's text and a line feed.
+fn answer_text(reply: &Reply) -> ArrayString<ANSWER_LENGTH>
+    ensures { result.bytes ≡ reply_text reply.now ++ 10 ∷ [] }
+{
+    let mut out = ArrayString::new();
+    out.push_str(reply.text().as_str());
+    out.push('\n');
+    out
+}
+
+/// The reply to a line: that of the desk, where the line spells a request.
+fn reply_to<S: Alter>(alloc: Global, desk: &mut Desk<S>, line: &[u8]) -> Result<Reply, DeskFault>
+    ensures { RepliesTo S.Store desk.old desk.new line.now result }
+{
+    // Reading a line that is too long would take no memory either; here it can't.
+    if line.len() > LINE_LENGTH {
+        return Ok(Reply::Refused(Refusal::BadField));
+    }
+    let Some(call) = read_line(alloc, line)? else {
+        return Ok(Reply::Refused(Refusal::BadField));
+    };
+    let reply = desk.apply(alloc, call.0, &call.1);
+    // At a way out of the function its letting go would be long to prove.
+    drop(call);
+    reply
+}
+
+/// Serves the input line by line: each line gets one line of the output, its reply's text and a line feed,
+/// before the next one is read. A line that spells no request, is longer than 4,096 bytes or isn't UTF-8 is
+/// answered `refused⇥11⇥bad_field`. The lines are the parts between line feeds, the last one where it isn't
+/// empty. Answers how many lines were served.
+///
+/// Memory is taken for one line and one read of 65,536 bytes, whatever the input's length; where that is
+/// refused the fault is `Desk(NoMemory)`. A stopped desk answers `Desk(Stopped)` before anything is read.
+pub fn run_lines<S: Alter, R: Read, W: Write>(
+    alloc: Global,
+    desk: &mut Desk<S>,
+    reader: &mut R,
+    writer: &mut W,
+) -> Result<u64, LinesFault>
+    ensures clean { doubt (desk_state S.Store desk.old).is_clean ≤ doubt (desk_state S.Store desk.new).is_clean }
+    ensures ran { HasCleanDisk (desk_state S.Store desk.new) → (s : Operator) → IsAt S.Store desk.old s
+        → RanLines S.Store desk.new s (R.remaining reader.old) (R.remaining reader.new)
+        (W.contents writer.old) (W.contents writer.new) result }
+    ensures kept { HasCleanDisk (desk_state S.Store desk.new) → (s : Operator) → IsAt S.Store desk.old s
+        → ServesSome S.Store desk.new s (desk_fault result) }
+    ensures stops { StopsBy desk.old desk.new (desk_fault result) }
+    ensures refused { result ≡ Err (LinesFault.Desk DeskFault.Stopped)
+        → Keeps (R.remaining reader.old) (R.remaining reader.new)
+        × Keeps (W.contents writer.old) (W.contents writer.new) }
+{
+    if desk.stopped() {
+        return Err(LinesFault::Desk(DeskFault::Stopped));
+    }
+    let mut buffer = LineBuffer::new(alloc)?;
+    let mut line = Line::<KEPT>::new(alloc)?;
+    let mut reads = MOST_READS;
+    let mut count = 0;
+    while buffer.next_line(reader, &mut line, &mut reads)? {
+        let reply = reply_to(alloc, desk, line.as_slice())?;
+        write_whole(writer, answer_text(&reply).as_bytes())?;
+        count += 1;
+    }
+    Ok(count)
+}

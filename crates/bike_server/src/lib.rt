@@ -1,0 +1,6 @@
+//! HTTP over sockets: a database is taken into service, and each connection on a port of the loopback address has one request answered.
+#![tactic(auto)]
+
+mod server;
+
+pub use server::{clock_moment, listen, serve_count};

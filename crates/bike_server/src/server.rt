@@ -1,0 +1,186 @@
+//! HTTP/1.1 on the loopback address: one request a connection, one connection after the other.
+
+ghost use Rattle.std.specs.Prelude.{◌≡◌, false};
+
+use bike_adoption::adopt;
+use bike_console::Fault;
+use bike_fixed::Moment;
+use bike_heads::Routes;
+use bike_http::{Desk, ServeFault, Served, serve_one};
+use bike_json::TokenBuffer;
+use bike_stream::write_whole;
+use sqlite::{Alter, Connection};
+use std::alloc::Global;
+use std::io::{Read, Write};
+use std::net::{Shutdown, TcpListener, TcpStream};
+use std::time::{Duration, SystemTime};
+
+/// For how many seconds a client may send nothing, or take nothing, before its connection is given up.
+const PATIENCE: u64 = 10;
+
+/// For how many milliseconds a client is waited for that may still send of a request which was answered before all of it was read.
+const LINGER: u64 = 200;
+
+/// In how many pieces that is read at most.
+const MOST_PIECES: u32 = 64;
+
+/// The clock's moment in whole seconds; none where the clock gives none, or one beyond the last that there is.
+pub fn clock_moment(rt: &HostRuntime) -> Option<Moment> {
+    let Ok(now) = SystemTime::now(rt) else {
+        return None;
+    };
+    let Ok(since) = now.duration_since(SystemTime::UNIX_EPOCH) else {
+        return None;
+    };
+    Moment::new(since.as_secs())
+}
+
+/// Whether the answer may have come before the whole request was read.
+fn may_be_early(served: &Result<Served, ServeFault>) -> bool {
+    matches!(served, Ok(Served::Status(400 | 404 | 405 | 413)))
+}
+
+/// Reads what a client still sends. A connection that is closed while bytes of it are unread is reset, and with that the client may
+/// lose its answer (RFC 9112, section 9.6).
+fn drain(stream: &TcpStream) {
+    let _ = stream.shutdown(Shutdown::Write);
+    let _ = stream.set_read_timeout(Some(Duration::from_millis(LINGER)));
+    let mut piece = [0; 4096];
+    let mut reader = stream;
+    for _ in 0..MOST_PIECES {
+        match reader.read(&mut piece) {
+            Ok(0) | Err(_) => return,
+            Ok(_) => {}
+        }
+    }
+}
+
+/// Serves the one request of a connection. What fails of the connection alone is told to nobody: the client sees it end.
+fn serve_stream<S: Alter>(
+    alloc: Global,
+    desk: &mut Desk<S>,
+    routes: &Routes,
+    moment: Moment,
+    stream: &TcpStream,
+) {
+    let patience = Some(Duration::from_secs(PATIENCE));
+    let _ = stream.set_read_timeout(patience);
+    let _ = stream.set_write_timeout(patience);
+    let mut reader = stream;
+    let mut writer = TokenBuffer::new(stream);
+    let served = serve_one(alloc, desk, routes, moment, &mut reader, &mut writer);
+    // After a failed write the client would be waited for once more.
+    if !matches!(served, Err(ServeFault::Write)) {
+        let _ = writer.flush();
+    }
+    if may_be_early(&served) {
+        drain(stream);
+    }
+}
+
+/// Accepts so many connections and serves one request of each, at the clock's moment of its acceptance. It ends early where
+/// accepting or the clock fails (`ReadFailed`) and where the desk is stopped (`StoreFailed`); a connection that fails ends nothing.
+pub fn serve_count<S: Alter>(
+    rt: &HostRuntime,
+    desk: &mut Desk<S>,
+    routes: &Routes,
+    listener: &TcpListener,
+    count: u64,
+) -> Result<(), Fault> {
+    for _ in 0..count {
+        let Ok((stream, _)) = listener.accept() else {
+            return Err(Fault::ReadFailed);
+        };
+        let Some(moment) = clock_moment(rt) else {
+            return Err(Fault::ReadFailed);
+        };
+        serve_stream(rt.alloc(), desk, routes, moment, &stream);
+        if desk.stopped() {
+            return Err(Fault::StoreFailed);
+        }
+    }
+    Ok(())
+}
+
+/// A listener on this port of 127.0.0.1.
+fn bind(rt: &HostRuntime, port: u16) -> Result<TcpListener, Fault> {
+    let address = format!(in rt.alloc(); "127.0.0.1:{port}")?;
+    match TcpListener::bind(rt, address.as_str()) {
+        Ok(listener) => Ok(listener),
+        Err(_) => Err(Fault::ReadFailed),
+    }
+}
+
+/// Tells the port.
+fn tell_port<W: Write>(
+    rt: &HostRuntime,
+    listener: &TcpListener,
+    writer: &mut W,
+) -> Result<(), Fault> {
+    let Ok(bound) = listener.local_addr() else {
+        return Err(Fault::ReadFailed);
+    };
+    let line = format!(in rt.alloc(); "listening {bound}\n")?;
+    match write_whole(writer, line.as_bytes()) {
+        Ok(()) => Ok(()),
+        Err(_) => Err(Fault::WriteFailed),
+    }
+}
+
+/// Listens on this port of 127.0.0.1 and tells it, and serves so many connections, or without end.
+fn listen_at<S: Alter, W: Write>(
+    rt: &HostRuntime,
+    desk: &mut Desk<S>,
+    routes: &Routes,
+    port: u16,
+    count: Option<u32>,
+    writer: &mut W,
+) -> Result<(), Fault> {
+    let listener = bind(rt, port)?;
+    tell_port(rt, &listener, writer)?;
+    let count = match count {
+        Some(count) => u64::from(count),
+        None => u64::MAX,
+    };
+    serve_count(rt, desk, routes, &listener, count)
+}
+
+/// Listens with all routes, and serves.
+fn listen_all<S: Alter, W: Write>(
+    rt: &HostRuntime,
+    desk: &mut Desk<S>,
+    port: u16,
+    count: Option<u32>,
+    writer: &mut W,
+) -> Result<u64, Fault> {
+    let Ok(routes) = Routes::new(rt.alloc()) else {
+        return Err(Fault::OutOfMemory);
+    };
+    let served = listen_at(rt, desk, &routes, port, count, writer);
+    drop(routes);
+    match served {
+        Ok(()) => Ok(0),
+        Err(fault) => Err(fault),
+    }
+}
+
+/// Takes the connection, which is outside a transaction, into service, listens on this port of 127.0.0.1 (0: a free one), tells that by
+/// the line `listening 127.0.0.1:PORT`, and serves so many connections, or without end. A port that can't be bound is `ReadFailed`.
+pub fn listen<S: Alter + Drop, W: Write>(
+    rt: &HostRuntime,
+    port: u16,
+    count: Option<u32>,
+    conn: Connection<S>,
+    writer: &mut W,
+) -> Result<u64, Fault>
+    requires { conn.in_transaction ≡ false }
+{
+    match adopt(rt.alloc(), conn) {
+        Ok(mut desk) => {
+            let served = listen_all(rt, &mut desk, port, count, writer);
+            drop(desk);
+            served
+        }
+        Err(fault) => Err(Fault::taken_from(fault).1),
+    }
+}
