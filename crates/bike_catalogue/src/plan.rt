@@ -1,14 +1,15 @@
 //! Pricing plans.
 
-ghost use Rattle.std.specs.Prelude.{◌≡◌};
-ghost use Rattle.bike_catalogue.specs.RowFaults.{MakesPlan};
-ghost use Rattle.bike_catalogue.specs.Rows.{IsPlan, plan_within};
+ghost use Rattle.std.specs.Prelude.{◌≡◌, IfOk};
+ghost use Rattle.bike_fields.specs.Fault.{Tests};
+ghost use Rattle.bike_catalogue.specs.RowFaults.{MakesPlan, plan_fault};
+ghost use Rattle.bike_catalogue.specs.Rows.{IsPlan, plan_row, plan_within};
 
 use crate::limits::MOST_SEGMENTS;
 use crate::range::in_range;
 use crate::segment::Segment;
 use bike_fields::{Bound, Field, FieldFault, Ident, Name, Price};
-use std::alloc::Global;
+use std::alloc::{AllocError, Global};
 use std::marker::Model;
 
 /// A pricing plan: a price in hundredths, and up to `MOST_SEGMENTS` segments that charge by the minute (GBFS's
@@ -39,7 +40,6 @@ impl Plan {
     /// The plan of these fields, else the first bad field with the first bound that it breaks: an identifier, a name,
     /// a price of at most `GREATEST_PRICE` hundredths, a description and at most `MOST_SEGMENTS` segments. Memory is asked
     /// for only where all keep their bounds, and `NoMemory` comes where that is refused.
-    #[tactic(auto, unfolding(crate::specs::RowFaults::plan_fault))]
     pub fn new(
         alloc: Global,
         plan_id: &str,
@@ -58,16 +58,51 @@ impl Plan {
           segments = segments.now;
         }) result }
     {
-        let plan_id = Ident::tested(Field::Plan, plan_id)?;
-        let name = Name::tested(Field::Name, name)?;
+        let price = Plan::tested(plan_id, name, price, taxable, description, segments)?;
+        Ok(Plan::keep(alloc, plan_id, name, price, taxable, description, segments)?)
+    }
+
+    // The bounds, and what is let go where memory is refused, stand in two functions: that is less to prove.
+    /// The price, where all fields keep their bounds, else the first bad field; this needs no memory.
+    #[tactic(auto, unfolding(crate::specs::RowFaults::plan_fault))]
+    fn tested(
+        plan_id: &str,
+        name: &str,
+        price: u32,
+        taxable: bool,
+        description: &str,
+        segments: &[Segment],
+    ) -> Result<Price, FieldFault>
+        ensures value { Tests (λ kept. kept) price (plan_fault (plan_row plan_id.now name.now price taxable description.now segments.now)) result }
+        ensures good { IfOk result (λ kept. IsPlan (plan_row plan_id.now name.now kept taxable description.now segments.now)) }
+    {
+        let _ = taxable;
+        let _ = Ident::tested(Field::Plan, plan_id)?;
+        let _ = Name::tested(Field::Name, name)?;
         let price: Price = in_range(Field::Price, price)?;
-        let description = Name::tested(Field::Description, description)?;
+        let _ = Name::tested(Field::Description, description)?;
         if segments.len() > MOST_SEGMENTS {
             return Err(FieldFault::Broken {
                 field: Field::Segments,
                 bound: Bound::Length,
             });
         }
+        Ok(price)
+    }
+
+    /// The plan of fields that keep their bounds; an error where memory was refused.
+    fn keep(
+        alloc: Global,
+        plan_id: &str,
+        name: &str,
+        price: Price,
+        taxable: bool,
+        description: &str,
+        segments: &[Segment],
+    ) -> Result<Plan, AllocError>
+        requires { IsPlan (plan_row plan_id.now name.now price taxable description.now segments.now) }
+        ensures { IfOk result (λ made. made ≡ plan_row plan_id.now name.now price taxable description.now segments.now) }
+    {
         Ok(Plan {
             plan_id: Ident::of(alloc, plan_id)?,
             name: Name::of(alloc, name)?,

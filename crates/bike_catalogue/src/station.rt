@@ -1,13 +1,14 @@
 //! Stations.
 
-ghost use Rattle.std.specs.Prelude.{◌≡◌};
-ghost use Rattle.bike_catalogue.specs.RowFaults.{MakesStation};
-ghost use Rattle.bike_catalogue.specs.Rows.{IsStation, station_within};
+ghost use Rattle.std.specs.Prelude.{◌≡◌, IfOk};
+ghost use Rattle.bike_fields.specs.Fault.{Tests};
+ghost use Rattle.bike_catalogue.specs.RowFaults.{MakesStation, station_fault};
+ghost use Rattle.bike_catalogue.specs.Rows.{IsStation, station_row, station_within};
 
 use crate::limits::GREATEST_LATITUDE;
 use crate::range::{coordinate, in_range};
 use bike_fields::{DockCount, Field, FieldFault, GREATEST_COORDINATE, Ident, Micro, Name};
-use std::alloc::Global;
+use std::alloc::{AllocError, Global};
 use std::marker::Model;
 
 /// A station with its place in microdegrees and its docks (GBFS's `station_information`).
@@ -35,7 +36,6 @@ impl Station {
     /// name, a latitude whose size is at most `GREATEST_LATITUDE` and a longitude of at most 180,000,000 microdegrees,
     /// and 1 to `MOST_DOCKS` docks. Memory is asked for only where all keep their bounds, and `NoMemory` comes where
     /// that is refused.
-    #[tactic(auto, unfolding(crate::specs::RowFaults::station_fault))]
     pub fn new(
         alloc: Global,
         station_id: &str,
@@ -46,11 +46,43 @@ impl Station {
     ) -> Result<Station, FieldFault>
         ensures { MakesStation (record { station_id = station_id.now; name = name.now; lat = lat; lon = lon; docks = docks }) result }
     {
-        let station_id = Ident::tested(Field::Station, station_id)?;
-        let name = Name::tested(Field::Name, name)?;
+        let (lat, lon, docks) = Station::tested(station_id, name, lat, lon, docks)?;
+        Ok(Station::keep(alloc, station_id, name, lat, lon, docks)?)
+    }
+
+    // The bounds, and what is let go where memory is refused, stand in two functions: that is less to prove.
+    /// The place and the docks, where all fields keep their bounds, else the first bad field; this needs no memory.
+    #[tactic(auto, unfolding(crate::specs::RowFaults::station_fault))]
+    fn tested(
+        station_id: &str,
+        name: &str,
+        lat: i32,
+        lon: i32,
+        docks: u32,
+    ) -> Result<(Micro, Micro, DockCount), FieldFault>
+        ensures value { Tests (λ kept. kept) (lat, lon, docks) (station_fault (station_row station_id.now name.now lat lon docks)) result }
+        ensures good { IfOk result (λ kept. IsStation (station_row station_id.now name.now kept.0 kept.1 kept.2)) }
+    {
+        let _ = Ident::tested(Field::Station, station_id)?;
+        let _ = Name::tested(Field::Name, name)?;
         let lat = coordinate(Field::Lat, lat, GREATEST_LATITUDE)?;
         let lon = coordinate(Field::Lon, lon, GREATEST_COORDINATE)?;
         let docks: DockCount = in_range(Field::Docks, docks)?;
+        Ok((lat, lon, docks))
+    }
+
+    /// The station of fields that keep their bounds; an error where memory was refused.
+    fn keep(
+        alloc: Global,
+        station_id: &str,
+        name: &str,
+        lat: Micro,
+        lon: Micro,
+        docks: DockCount,
+    ) -> Result<Station, AllocError>
+        requires { IsStation (station_row station_id.now name.now lat lon docks) }
+        ensures { IfOk result (λ made. made ≡ station_row station_id.now name.now lat lon docks) }
+    {
         Ok(Station {
             station_id: Ident::of(alloc, station_id)?,
             name: Name::of(alloc, name)?,

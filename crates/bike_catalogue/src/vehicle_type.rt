@@ -1,14 +1,14 @@
 //! Vehicle types.
 
-ghost use Rattle.std.specs.Prelude.{◌≡◌};
-ghost use Rattle.bike_fields.specs.Fault.{at_field};
-ghost use Rattle.bike_catalogue.specs.RowFaults.{MakesType, value_or_fault, max_range_fault};
-ghost use Rattle.bike_catalogue.specs.Rows.{IsType, is_range, type_within};
+ghost use Rattle.std.specs.Prelude.{◌≡◌, IfOk};
+ghost use Rattle.bike_fields.specs.Fault.{Tests, at_field};
+ghost use Rattle.bike_catalogue.specs.RowFaults.{MakesType, type_fault, value_or_fault, max_range_fault};
+ghost use Rattle.bike_catalogue.specs.Rows.{IsType, is_range, type_row, type_within};
 
 use crate::range::in_range;
 use crate::vehicle::{Form, Propulsion};
 use bike_fields::{Bound, Field, FieldFault, GREATEST_RANGE, Ident, MaxRange, Name};
-use std::alloc::Global;
+use std::alloc::{AllocError, Global};
 use std::marker::Model;
 
 /// A vehicle type with the plan by which its rentals are priced (GBFS's `vehicle_types`). The greatest range in metres
@@ -61,7 +61,6 @@ impl VehicleType {
     /// The vehicle type of these fields, else the first bad field with the first bound that it breaks: an identifier, a
     /// name, a range of 0 with human propulsion and else from 1 to `GREATEST_RANGE` metres, and the plan's identifier.
     /// Memory is asked for only where all keep their bounds, and `NoMemory` comes where that is refused.
-    #[tactic(auto, unfolding(crate::specs::RowFaults::type_fault))]
     pub fn new(
         alloc: Global,
         type_id: &str,
@@ -80,10 +79,45 @@ impl VehicleType {
           plan_id = plan_id.now;
         }) result }
     {
-        let type_id = Ident::tested(Field::TypeId, type_id)?;
-        let name = Name::tested(Field::Name, name)?;
+        let max_range = VehicleType::tested(type_id, name, form, propulsion, max_range, plan_id)?;
+        Ok(VehicleType::keep(alloc, type_id, name, form, propulsion, max_range, plan_id)?)
+    }
+
+    // The bounds, and what is let go where memory is refused, stand in two functions: that is less to prove.
+    /// The greatest range, where all fields keep their bounds, else the first bad field; this needs no memory.
+    #[tactic(auto, unfolding(crate::specs::RowFaults::type_fault))]
+    fn tested(
+        type_id: &str,
+        name: &str,
+        form: Form,
+        propulsion: Propulsion,
+        max_range: u32,
+        plan_id: &str,
+    ) -> Result<MaxRange, FieldFault>
+        ensures value { Tests (λ range. range) max_range (type_fault (type_row type_id.now name.now form propulsion max_range plan_id.now)) result }
+        ensures good { IfOk result (λ range. IsType (type_row type_id.now name.now form propulsion range plan_id.now)) }
+    {
+        let _ = form;
+        let _ = Ident::tested(Field::TypeId, type_id)?;
+        let _ = Name::tested(Field::Name, name)?;
         let max_range = max_range_of(propulsion, max_range)?;
-        let plan_id = Ident::tested(Field::Plan, plan_id)?;
+        let _ = Ident::tested(Field::Plan, plan_id)?;
+        Ok(max_range)
+    }
+
+    /// The vehicle type of fields that keep their bounds; an error where memory was refused.
+    fn keep(
+        alloc: Global,
+        type_id: &str,
+        name: &str,
+        form: Form,
+        propulsion: Propulsion,
+        max_range: MaxRange,
+        plan_id: &str,
+    ) -> Result<VehicleType, AllocError>
+        requires { IsType (type_row type_id.now name.now form propulsion max_range plan_id.now) }
+        ensures { IfOk result (λ made. made ≡ type_row type_id.now name.now form propulsion max_range plan_id.now) }
+    {
         Ok(VehicleType {
             type_id: Ident::of(alloc, type_id)?,
             name: Name::of(alloc, name)?,
