@@ -49,16 +49,29 @@ pub record SystemRow : Type 0 where
   pub base_url : List ℕ
   pub ttl : ℕ
 
--- the records of their fields, in order
+-- each record from its fields, in order
 
-abbrev pub plan_row : List ℕ → List ℕ → ℕ → Bool → List ℕ → List SegmentRow → PlanRow
-plan_row plan_id name price taxable description segments = record { plan_id = plan_id; name = name; price = price; taxable = taxable; description = description; segments = segments }
+abbrev pub plan_of_fields : List ℕ → List ℕ → ℕ → Bool → List ℕ → List SegmentRow → PlanRow
+plan_of_fields plan_id name price taxable description segments = record { plan_id = plan_id; name = name; price = price; taxable = taxable; description = description; segments = segments }
 
-abbrev pub type_row : List ℕ → List ℕ → Form → Propulsion → ℕ → List ℕ → TypeRow
-type_row type_id name form propulsion max_range plan_id = record { type_id = type_id; name = name; form = form; propulsion = propulsion; max_range = max_range; plan_id = plan_id }
+abbrev pub type_of_fields : List ℕ → List ℕ → Form → Propulsion → ℕ → List ℕ → TypeRow
+type_of_fields type_id name form propulsion max_range plan_id = record { type_id = type_id; name = name; form = form; propulsion = propulsion; max_range = max_range; plan_id = plan_id }
 
-abbrev pub station_row : List ℕ → List ℕ → ℤ → ℤ → ℕ → StationRow
-station_row station_id name lat lon docks = record { station_id = station_id; name = name; lat = lat; lon = lon; docks = docks }
+abbrev pub station_of_fields : List ℕ → List ℕ → ℤ → ℤ → ℕ → StationRow
+station_of_fields station_id name lat lon docks = record { station_id = station_id; name = name; lat = lat; lon = lon; docks = docks }
+
+abbrev pub system_of_fields : List ℕ → List ℕ → List ℕ → List ℕ → List ℕ → List ℕ → List ℕ → List ℕ → ℕ → SystemRow
+system_of_fields system_id language name opening_hours feed_contact_email timezone currency base_url ttl = record {
+  system_id = system_id;
+  language = language;
+  name = name;
+  opening_hours = opening_hours;
+  feed_contact_email = feed_contact_email;
+  timezone = timezone;
+  currency = currency;
+  base_url = base_url;
+  ttl = ttl;
+}
 
 -- the bounds of each record
 

@@ -3,7 +3,7 @@
 ghost use Rattle.std.specs.Prelude.{◌≡◌, IfOk};
 ghost use Rattle.bike_fields.specs.Fault.{Tests};
 ghost use Rattle.bike_catalogue.specs.RowFaults.{MakesPlan, plan_fault};
-ghost use Rattle.bike_catalogue.specs.Rows.{IsPlan, plan_row, plan_within};
+ghost use Rattle.bike_catalogue.specs.Rows.{IsPlan, plan_of_fields, plan_within};
 
 use crate::limits::MOST_SEGMENTS;
 use crate::range::in_range;
@@ -49,14 +49,7 @@ impl Plan {
         description: &str,
         segments: &[Segment],
     ) -> Result<Plan, FieldFault>
-        ensures { MakesPlan (record {
-          plan_id = plan_id.now;
-          name = name.now;
-          price = price;
-          taxable = taxable;
-          description = description.now;
-          segments = segments.now;
-        }) result }
+        ensures { MakesPlan (plan_of_fields plan_id.now name.now price taxable description.now segments.now) result }
     {
         let price = Plan::tested(plan_id, name, price, taxable, description, segments)?;
         Ok(Plan::keep(alloc, plan_id, name, price, taxable, description, segments)?)
@@ -73,8 +66,8 @@ impl Plan {
         description: &str,
         segments: &[Segment],
     ) -> Result<Price, FieldFault>
-        ensures value { Tests (λ kept. kept) price (plan_fault (plan_row plan_id.now name.now price taxable description.now segments.now)) result }
-        ensures good { IfOk result (λ kept. IsPlan (plan_row plan_id.now name.now kept taxable description.now segments.now)) }
+        ensures value { Tests (λ kept. kept) price (plan_fault (plan_of_fields plan_id.now name.now price taxable description.now segments.now)) result }
+        ensures good { IfOk result (λ kept. IsPlan (plan_of_fields plan_id.now name.now kept taxable description.now segments.now)) }
     {
         let _ = taxable;
         let _ = Ident::tested(Field::Plan, plan_id)?;
@@ -100,8 +93,8 @@ impl Plan {
         description: &str,
         segments: &[Segment],
     ) -> Result<Plan, AllocError>
-        requires { IsPlan (plan_row plan_id.now name.now price taxable description.now segments.now) }
-        ensures { IfOk result (λ made. made ≡ plan_row plan_id.now name.now price taxable description.now segments.now) }
+        requires { IsPlan (plan_of_fields plan_id.now name.now price taxable description.now segments.now) }
+        ensures { IfOk result (λ made. made ≡ plan_of_fields plan_id.now name.now price taxable description.now segments.now) }
     {
         Ok(Plan {
             plan_id: Ident::of(alloc, plan_id)?,
@@ -122,14 +115,7 @@ impl Plan {
         description: Name,
         segments: Vec<Segment>,
     ) -> Option<Plan>
-        ensures { result ≡ plan_within (record {
-          plan_id = plan_id;
-          name = name;
-          price = price;
-          taxable = taxable;
-          description = description;
-          segments = segments.items;
-        }) }
+        ensures { result ≡ plan_within (plan_of_fields plan_id name price taxable description segments.items) }
     {
         if segments.len() <= MOST_SEGMENTS {
             return Some(Plan {

@@ -3,7 +3,7 @@
 ghost use Rattle.std.specs.Prelude.{◌≡◌, IfOk};
 ghost use Rattle.bike_fields.specs.Fault.{Tests};
 ghost use Rattle.bike_catalogue.specs.RowFaults.{MakesStation, station_fault};
-ghost use Rattle.bike_catalogue.specs.Rows.{IsStation, station_row, station_within};
+ghost use Rattle.bike_catalogue.specs.Rows.{IsStation, station_of_fields, station_within};
 
 use crate::limits::GREATEST_LATITUDE;
 use crate::range::{coordinate, in_range};
@@ -44,7 +44,7 @@ impl Station {
         lon: i32,
         docks: u32,
     ) -> Result<Station, FieldFault>
-        ensures { MakesStation (record { station_id = station_id.now; name = name.now; lat = lat; lon = lon; docks = docks }) result }
+        ensures { MakesStation (station_of_fields station_id.now name.now lat lon docks) result }
     {
         let (lat, lon, docks) = Station::tested(station_id, name, lat, lon, docks)?;
         Ok(Station::keep(alloc, station_id, name, lat, lon, docks)?)
@@ -60,8 +60,8 @@ impl Station {
         lon: i32,
         docks: u32,
     ) -> Result<(Micro, Micro, DockCount), FieldFault>
-        ensures value { Tests (λ kept. kept) (lat, lon, docks) (station_fault (station_row station_id.now name.now lat lon docks)) result }
-        ensures good { IfOk result (λ kept. IsStation (station_row station_id.now name.now kept.0 kept.1 kept.2)) }
+        ensures value { Tests (λ kept. kept) (lat, lon, docks) (station_fault (station_of_fields station_id.now name.now lat lon docks)) result }
+        ensures good { IfOk result (λ kept. IsStation (station_of_fields station_id.now name.now kept.0 kept.1 kept.2)) }
     {
         let _ = Ident::tested(Field::Station, station_id)?;
         let _ = Name::tested(Field::Name, name)?;
@@ -80,8 +80,8 @@ impl Station {
         lon: Micro,
         docks: DockCount,
     ) -> Result<Station, AllocError>
-        requires { IsStation (station_row station_id.now name.now lat lon docks) }
-        ensures { IfOk result (λ made. made ≡ station_row station_id.now name.now lat lon docks) }
+        requires { IsStation (station_of_fields station_id.now name.now lat lon docks) }
+        ensures { IfOk result (λ made. made ≡ station_of_fields station_id.now name.now lat lon docks) }
     {
         Ok(Station {
             station_id: Ident::of(alloc, station_id)?,
@@ -100,7 +100,7 @@ impl Station {
         lon: Micro,
         docks: DockCount,
     ) -> Option<Station>
-        ensures { result ≡ station_within (record { station_id = station_id; name = name; lat = lat; lon = lon; docks = docks }) }
+        ensures { result ≡ station_within (station_of_fields station_id name lat lon docks) }
     {
         if lat.microdegrees().unsigned_abs() > GREATEST_LATITUDE {
             return None;

@@ -3,7 +3,7 @@
 ghost use Rattle.std.specs.Prelude.{◌≡◌, true, IfOk};
 ghost use Rattle.bike_fields.specs.Bytes.{is_ident, is_name, is_ascii_field, is_language, is_currency};
 ghost use Rattle.bike_catalogue.specs.RowFaults.{MakesSystem};
-ghost use Rattle.bike_catalogue.specs.Rows.{IsSystem};
+ghost use Rattle.bike_catalogue.specs.Rows.{IsSystem, system_of_fields};
 
 use crate::range::in_range;
 use bike_fields::{Ascii, Currency, Field, FieldFault, Ident, Language, Name, TimeToLive};
@@ -60,17 +60,8 @@ impl System {
         base_url: &str,
         ttl: u32,
     ) -> Result<System, FieldFault>
-        ensures { MakesSystem (record {
-          system_id = system_id.now;
-          language = language.now;
-          name = name.now;
-          opening_hours = opening_hours.now;
-          feed_contact_email = feed_contact_email.now;
-          timezone = timezone.now;
-          currency = currency.now;
-          base_url = base_url.now;
-          ttl = ttl;
-        }) result }
+        ensures { MakesSystem (system_of_fields system_id.now language.now name.now opening_hours.now feed_contact_email.now timezone.now
+            currency.now base_url.now ttl) result }
     {
         let system_id = Ident::tested(Field::SystemId, system_id)?;
         let language = Language::tested(Field::Language, language)?;
@@ -117,17 +108,8 @@ impl System {
         requires timezone { is_ascii_field timezone.now ≡ true }
         requires currency { is_currency currency.now ≡ true }
         requires base_url { is_ascii_field base_url.now ≡ true }
-        ensures { IfOk result (λ system. system ≡ record {
-          system_id = system_id.now;
-          language = language.now;
-          name = name.now;
-          opening_hours = opening_hours.now;
-          feed_contact_email = feed_contact_email.now;
-          timezone = timezone.now;
-          currency = currency.now;
-          base_url = base_url.now;
-          ttl = ttl;
-        }) }
+        ensures { IfOk result (λ system. system ≡ system_of_fields system_id.now language.now name.now opening_hours.now
+            feed_contact_email.now timezone.now currency.now base_url.now ttl) }
     {
         Ok(System {
             system_id: Ident::of(alloc, system_id)?,
@@ -154,17 +136,7 @@ impl System {
         base_url: Ascii,
         ttl: TimeToLive,
     ) -> System
-        ensures { result ≡ record {
-          system_id = system_id;
-          language = language;
-          name = name;
-          opening_hours = opening_hours;
-          feed_contact_email = feed_contact_email;
-          timezone = timezone;
-          currency = currency;
-          base_url = base_url;
-          ttl = ttl;
-        } }
+        ensures { result ≡ system_of_fields system_id language name opening_hours feed_contact_email timezone currency base_url ttl }
     {
         System {
             system_id,

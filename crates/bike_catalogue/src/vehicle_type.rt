@@ -3,7 +3,7 @@
 ghost use Rattle.std.specs.Prelude.{◌≡◌, IfOk};
 ghost use Rattle.bike_fields.specs.Fault.{Tests, at_field};
 ghost use Rattle.bike_catalogue.specs.RowFaults.{MakesType, type_fault, value_or_fault, max_range_fault};
-ghost use Rattle.bike_catalogue.specs.Rows.{IsType, is_range, type_row, type_within};
+ghost use Rattle.bike_catalogue.specs.Rows.{IsType, is_range, type_of_fields, type_within};
 
 use crate::range::in_range;
 use crate::vehicle::{Form, Propulsion};
@@ -70,14 +70,7 @@ impl VehicleType {
         max_range: u32,
         plan_id: &str,
     ) -> Result<VehicleType, FieldFault>
-        ensures { MakesType (record {
-          type_id = type_id.now;
-          name = name.now;
-          form = form;
-          propulsion = propulsion;
-          max_range = max_range;
-          plan_id = plan_id.now;
-        }) result }
+        ensures { MakesType (type_of_fields type_id.now name.now form propulsion max_range plan_id.now) result }
     {
         let max_range = VehicleType::tested(type_id, name, form, propulsion, max_range, plan_id)?;
         Ok(VehicleType::keep(alloc, type_id, name, form, propulsion, max_range, plan_id)?)
@@ -94,8 +87,8 @@ impl VehicleType {
         max_range: u32,
         plan_id: &str,
     ) -> Result<MaxRange, FieldFault>
-        ensures value { Tests (λ range. range) max_range (type_fault (type_row type_id.now name.now form propulsion max_range plan_id.now)) result }
-        ensures good { IfOk result (λ range. IsType (type_row type_id.now name.now form propulsion range plan_id.now)) }
+        ensures value { Tests (λ range. range) max_range (type_fault (type_of_fields type_id.now name.now form propulsion max_range plan_id.now)) result }
+        ensures good { IfOk result (λ range. IsType (type_of_fields type_id.now name.now form propulsion range plan_id.now)) }
     {
         let _ = form;
         let _ = Ident::tested(Field::TypeId, type_id)?;
@@ -115,8 +108,8 @@ impl VehicleType {
         max_range: MaxRange,
         plan_id: &str,
     ) -> Result<VehicleType, AllocError>
-        requires { IsType (type_row type_id.now name.now form propulsion max_range plan_id.now) }
-        ensures { IfOk result (λ made. made ≡ type_row type_id.now name.now form propulsion max_range plan_id.now) }
+        requires { IsType (type_of_fields type_id.now name.now form propulsion max_range plan_id.now) }
+        ensures { IfOk result (λ made. made ≡ type_of_fields type_id.now name.now form propulsion max_range plan_id.now) }
     {
         Ok(VehicleType {
             type_id: Ident::of(alloc, type_id)?,
@@ -137,14 +130,7 @@ impl VehicleType {
         max_range: MaxRange,
         plan_id: Ident,
     ) -> Option<VehicleType>
-        ensures { result ≡ type_within (record {
-          type_id = type_id;
-          name = name;
-          form = form;
-          propulsion = propulsion;
-          max_range = max_range;
-          plan_id = plan_id;
-        }) }
+        ensures { result ≡ type_within (type_of_fields type_id name form propulsion max_range plan_id) }
     {
         if !is_range(propulsion, max_range.get()) {
             return None;

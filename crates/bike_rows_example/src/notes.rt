@@ -53,10 +53,9 @@ pub fn set_body<S: Alter>(
     title: &str,
     body: Option<&str>,
 ) -> Result<(), Error>
-    ensures { let body = or_null Text (option_map (λ text. text.now) body.entry) in
-        Writes S.Store tx.old.conn tx.new.conn result (λ t. record t {
-          notes = rows_after_update 2 (Text author.now ∷ Text title.now ∷ []) (with_values ((2, body) ∷ [])) t.notes;
-        }) }
+    ensures { Writes S.Store tx.old.conn tx.new.conn result (λ t. record t {
+      notes = rows_after_update 2 (Text author.now ∷ Text title.now ∷ []) (with_values ((2, or_null Text (option_map (λ text. text.now) body.entry)) ∷ [])) t.notes;
+    }) }
 {
     run(
         tx,
