@@ -4,6 +4,7 @@ use Rattle.std.specs.Str.{IsUtf8}
 use Rattle.bike_texts.specs.Bytes.{is_key}
 use Rattle.bike_texts.specs.Caller.{IsCaller, caller_text}
 use Rattle.bike_commands.specs.declared.request.Request.{Request}
+use Rattle.bike_commands.specs.declared.request.TheConstants.{LINE_LENGTH}
 use Rattle.bike_commands.specs.Commands.{IsCommand, IsSpelling}
 
 -- caller, key and command keep their bounds, as those of every request of the program do
@@ -14,7 +15,7 @@ pub record IsRequest (q : Request) : Type 0 where
 
 -- the greatest length of a line in bytes, its LF not counted
 abbrev pub line_length : ℕ
-line_length = 4096
+line_length = LINE_LENGTH
 
 -- The line is short and UTF-8. It is the moment in seconds, the caller, the key and a text that spells the command, with a TAB between them.
 pub record IsLine (line : List ℕ) (moment : ℕ) (q : Request) : Type 0 where

@@ -18,4 +18,4 @@ pub use bike_texts::{
 pub use command::Command;
 pub use refusal::Refusal;
 pub use reply::{REPLY_LENGTH, Reply};
-pub use request::Request;
+pub use request::{LINE_LENGTH, Request};

@@ -6,10 +6,8 @@ ghost use Rattle.bike_operator.specs.Bounds.{IsChargeable, IsRefundable, IsBound
 ghost use Rattle.bike_operator.specs.Counts.{is_open};
 
 use bike_fixed::Moment;
+use bike_ledger::GREATEST_BALANCE;
 use bike_operator::{Closing, MOST_ENTRIES, RentalView, View};
-
-/// What 99,999,999 entries of the greatest amount come to, in hundredths.
-const GREATEST_BALANCE: i64 = 3_456_179_965_438_200_000;
 
 /// Whether the balance takes one more entry.
 fn is_balance(balance: &i64) -> bool

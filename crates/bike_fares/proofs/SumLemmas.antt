@@ -4,6 +4,7 @@ use Rattle.std.proofs.lemmas.Bool.{cases_lt, le-leb, lt-leb}
 use Rattle.std.proofs.lemmas.Int.{ints}
 use Rattle.bike_catalogue.specs.Rows.{SegmentRow, PlanRow}
 use Rattle.bike_fares.specs.Pricing.{is_charged, segment_charge, per_min_pricing, reached_charge, sum_below, cost_of}
+use Rattle.bike_fares.specs.declared.elapsed.TheConstants.{LONGEST, MINUTES}
 use Rattle.bike_fares.specs.Counting.{count_below, minutes_before, segment_total, segments_total}
 use Rattle.bike_fares.proofs.CountLemmas.{one_if, count-suc_before, count-none}
 
@@ -58,10 +59,10 @@ sum-reached_charge ss seconds (suc n) = step (sum-reached_charge ss seconds n) w
   ]
 
 -- the cost by division
-pub cost_of-division : (plan : PlanRow) (seconds : ℕ) → seconds ≤ 2592000 → cost_of plan seconds ≡ pos plan.price +ℤ segments_total plan.segments (seconds / 60 + 1)
+pub cost_of-division : (plan : PlanRow) (seconds : ℕ) → seconds ≤ LONGEST → cost_of plan seconds ≡ pos plan.price +ℤ segments_total plan.segments (seconds / 60 + 1)
 cost_of-division plan seconds within =
-    let reached : min 43201 (seconds / 60 + 1) ≡ seconds / 60 + 1 = omega arith in
-    ap (λ z. pos plan.price +ℤ z) (sum-reached_charge plan.segments seconds 43201 ∙ rw reached (sum-per_min_pricing plan.segments (seconds / 60 + 1)))
+    let reached : min MINUTES (seconds / 60 + 1) ≡ seconds / 60 + 1 = omega arith in
+    ap (λ z. pos plan.price +ℤ z) (sum-reached_charge plan.segments seconds MINUTES ∙ rw reached (sum-per_min_pricing plan.segments (seconds / 60 + 1)))
 
 -- one segment more, at the end of the list
 pub segments_total-append : (ss : List SegmentRow) (s : SegmentRow) (n : ℕ) → segments_total (ss ++ s ∷ []) n ≡ segments_total ss n +ℤ segment_total s n

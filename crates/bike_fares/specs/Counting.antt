@@ -1,6 +1,8 @@
 -- How often a segment charges, by division.
-use Rattle.std.specs.Prelude.{ℕ, ℤ, ◌+◌, ◌-◌, ◌/◌, ◌+ℤ◌, ◌*ℤ◌, pos, min, List, [], ◌∷◌, nat_le, ◌==◌, if◌then◌else◌, Option, Some, None}
+use Rattle.std.specs.Prelude.{ℕ, ℤ, ◌+◌, ◌-◌, ◌*◌, ◌/◌, ◌+ℤ◌, ◌*ℤ◌, pos, min, List, [], ◌∷◌, nat_le, ◌==◌, if◌then◌else◌, Option, Some, None}
 use Rattle.bike_catalogue.specs.Rows.{SegmentRow}
+use Rattle.bike_catalogue.specs.declared.limits.TheConstants.{MOST_SEGMENTS, GREATEST_RATE}
+use Rattle.bike_fares.specs.declared.elapsed.TheConstants.{MINUTES}
 
 -- how many of the minutes below `minutes` are the start or an interval's end
 abbrev pub count_below : ℕ → ℕ → ℕ → ℕ
@@ -15,7 +17,15 @@ minutes_before (Some end) minutes = min minutes end
 abbrev pub segment_total : SegmentRow → ℕ → ℤ
 segment_total segment minutes = segment.rate *ℤ pos (count_below segment.start segment.interval (minutes_before segment.end minutes))
 
+-- the most that a segment charges in thirty days, or takes off
+abbrev pub most_of_segment : ℕ
+most_of_segment = MINUTES * GREATEST_RATE
+
 -- what all segments charge below `minutes`
 abbrev pub segments_total : List SegmentRow → ℕ → ℤ
 segments_total [] minutes = pos 0
 segments_total (segment ∷ segments) minutes = segment_total segment minutes +ℤ segments_total segments minutes
+
+-- the most that all segments charge in thirty days, or take off
+abbrev pub most_of_segments : ℕ
+most_of_segments = MOST_SEGMENTS * most_of_segment

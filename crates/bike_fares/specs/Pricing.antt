@@ -3,10 +3,12 @@ use Rattle.std.specs.Prelude.{◌≡◌, ℕ, ℤ, zero, suc, ◌+◌, ◌-◌, 
 use Rattle.std.specs.Int.{int_max}
 use Rattle.bike_fixed.specs.declared.cents.TheConstants.{GREATEST_FARE}
 use Rattle.bike_catalogue.specs.Rows.{SegmentRow, PlanRow, IsSegment}
+use Rattle.bike_catalogue.specs.declared.limits.TheConstants.{MOST_SEGMENTS, GREATEST_RATE}
+use Rattle.bike_fares.specs.declared.elapsed.TheConstants.{LONGEST, MINUTES}
 
 -- the seconds that are charged for: from start to end, at most 30 days
 abbrev pub elapsed_seconds : ℕ → ℕ → ℕ
-elapsed_seconds start end = min (end - start) 2592000
+elapsed_seconds start end = min (end - start) LONGEST
 
 -- a segment charges at its start, and again after each interval; with the interval 0 just once
 abbrev pub is_due : ℕ → ℕ → ℕ → Bool
@@ -30,6 +32,10 @@ abbrev pub per_min_pricing : List SegmentRow → ℕ → ℤ
 per_min_pricing [] minute = pos 0
 per_min_pricing (segment ∷ segments) minute = segment_charge segment minute +ℤ per_min_pricing segments minute
 
+-- the most that they charge at a minute, or take off
+abbrev pub most_at_minute : ℕ
+most_at_minute = MOST_SEGMENTS * GREATEST_RATE
+
 -- what all segments charge at a minute that the rental reached
 abbrev pub reached_charge : List SegmentRow → ℕ → ℕ → ℤ
 reached_charge segments seconds minute = if nat_le (60 * minute) seconds then per_min_pricing segments minute else pos 0
@@ -41,7 +47,7 @@ sum_below (suc count) amount = sum_below count amount +ℤ amount count
 
 -- the price and all charges at the minutes 0 to 43,200
 abbrev pub cost_of : PlanRow → ℕ → ℤ
-cost_of plan seconds = pos plan.price +ℤ sum_below 43201 (reached_charge plan.segments seconds)
+cost_of plan seconds = pos plan.price +ℤ sum_below MINUTES (reached_charge plan.segments seconds)
 
 -- the fare of a rental from start to end: its cost, and never below 0
 abbrev pub fare_of : PlanRow → ℕ → ℕ → ℤ

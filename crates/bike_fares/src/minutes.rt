@@ -2,7 +2,8 @@
 
 ghost use Rattle.std.specs.Prelude.{◌≡◌, ◌<◌, ◌≤◌, ◌≤ℤ◌, pos, neg_ℤ, length};
 ghost use Rattle.bike_catalogue.specs.declared.limits.TheConstants.{GREATEST_RATE, MOST_SEGMENTS};
-ghost use Rattle.bike_fares.specs.Pricing.{is_charged, segment_charge, per_min_pricing, reached_charge, fare_of, greatest_fare};
+ghost use Rattle.bike_fares.specs.declared.elapsed.TheConstants.{MINUTES};
+ghost use Rattle.bike_fares.specs.Pricing.{is_charged, segment_charge, per_min_pricing, reached_charge, fare_of, greatest_fare, most_at_minute};
 
 use crate::elapsed::{MINUTES, elapsed_seconds};
 use bike_catalogue::{Plan, Segment};
@@ -41,8 +42,8 @@ fn segment_charge(segment: &Segment, minute: u32) -> i64
 fn charges_at(segments: &[Segment], minute: u32) -> i64
     requires { length segments.now ≤ MOST_SEGMENTS }
     ensures value { result ≡ per_min_pricing segments.now minute }
-    ensures low { neg_ℤ (pos 800000) ≤ℤ result }
-    ensures high { result ≤ℤ pos 800000 }
+    ensures low { neg_ℤ (pos most_at_minute) ≤ℤ result }
+    ensures high { result ≤ℤ pos most_at_minute }
 {
     let mut total = 0;
     for segment in segments {
@@ -53,11 +54,11 @@ fn charges_at(segments: &[Segment], minute: u32) -> i64
 
 /// What all segments charge at a minute, where the rental reached it.
 fn reached_charge(segments: &[Segment], seconds: u32, minute: u32) -> i64
-    requires few { length segments.now ≤ 8 }
-    requires within { minute < 43201 }
+    requires few { length segments.now ≤ MOST_SEGMENTS }
+    requires within { minute < MINUTES }
     ensures value { result ≡ reached_charge segments.now seconds minute }
-    ensures low { neg_ℤ (pos 800000) ≤ℤ result }
-    ensures high { result ≤ℤ pos 800000 }
+    ensures low { neg_ℤ (pos most_at_minute) ≤ℤ result }
+    ensures high { result ≤ℤ pos most_at_minute }
 {
     if 60 * minute <= seconds {
         charges_at(segments, minute)

@@ -1,8 +1,10 @@
 //! Fares by division.
 
 ghost use Rattle.std.specs.Prelude.{◌≡◌, ◌≤◌, ◌≤ℤ◌, ◌+ℤ◌, pos, neg_ℤ, length};
+ghost use Rattle.bike_catalogue.specs.declared.limits.TheConstants.{MOST_SEGMENTS};
+ghost use Rattle.bike_fares.specs.declared.elapsed.TheConstants.{MINUTES};
 ghost use Rattle.bike_fares.specs.Pricing.{fare_of, greatest_fare};
-ghost use Rattle.bike_fares.specs.Counting.{count_below, minutes_before, segment_total, segments_total};
+ghost use Rattle.bike_fares.specs.Counting.{count_below, minutes_before, segment_total, segments_total, most_of_segment, most_of_segments};
 
 use crate::elapsed::elapsed_seconds;
 use bike_catalogue::{Plan, Segment};
@@ -35,10 +37,10 @@ fn minutes_before(end: Option<u32>, minutes: u32) -> u32
 
 /// What a segment charges below `minutes`.
 fn segment_total(segment: &Segment, minutes: u32) -> i64
-    requires { minutes ≤ 43201 }
+    requires { minutes ≤ MINUTES }
     ensures value { result ≡ segment_total segment.now minutes }
-    ensures low { neg_ℤ (pos 4320100000) ≤ℤ result }
-    ensures high { result ≤ℤ pos 4320100000 }
+    ensures low { neg_ℤ (pos most_of_segment) ≤ℤ result }
+    ensures high { result ≤ℤ pos most_of_segment }
 {
     segment.bounds();
     let minutes = minutes_before(segment.end(), minutes);
@@ -48,11 +50,11 @@ fn segment_total(segment: &Segment, minutes: u32) -> i64
 
 /// What all segments charge below `minutes`.
 fn segments_total(segments: &[Segment], minutes: u32) -> i64
-    requires few { length segments.now ≤ 8 }
-    requires within { minutes ≤ 43201 }
+    requires few { length segments.now ≤ MOST_SEGMENTS }
+    requires within { minutes ≤ MINUTES }
     ensures value { result ≡ segments_total segments.now minutes }
-    ensures low { neg_ℤ (pos 34560800000) ≤ℤ result }
-    ensures high { result ≤ℤ pos 34560800000 }
+    ensures low { neg_ℤ (pos most_of_segments) ≤ℤ result }
+    ensures high { result ≤ℤ pos most_of_segments }
 {
     let mut total = 0;
     for segment in segments {

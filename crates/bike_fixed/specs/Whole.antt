@@ -3,6 +3,7 @@ use Rattle.std.specs.Prelude.{◌≡◌, ℕ, ℤ, pos, neg_ℤ, ◌≤◌, ◌�
 use Rattle.std.specs.Fmt.{signed_decimal}
 use Rattle.std.specs.Str.{bytes_eq}
 use Rattle.std.specs.Str.Parse.{digits_value}
+use Rattle.bike_fixed.specs.declared.moment.TheConstants.{LAST_MOMENT}
 
 -- The text is the decimal of n, with no sign and no leading zero, and n lies from low to high.
 pub record IsNumber (low high : ℕ) (text : List ℕ) (n : ℕ) : Type 0 where
@@ -35,4 +36,4 @@ signed_of low high text =
 
 -- the last moment, 9999-12-31T23:59:59Z
 abbrev pub last_moment : ℕ
-last_moment = 253402300799
+last_moment = LAST_MOMENT

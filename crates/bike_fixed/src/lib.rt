@@ -15,6 +15,6 @@ mod within;
 pub use cents::{Cents, GREATEST_FARE};
 pub use day::{DayFault, day_bounds};
 pub use micro::{GREATEST_COORDINATE, Micro, coordinate_laws};
-pub use moment::Moment;
+pub use moment::{LAST_MOMENT, Moment};
 pub use whole::{number_laws, read_signed, read_whole, signed_text};
 pub use within::Within;

@@ -1,6 +1,6 @@
 //! Moments: whole seconds of Unix time.
 
-ghost use Rattle.std.specs.Prelude.{◌≡◌, ◌≤◌, ◌+◌, ◌++◌, ℕ, pos, Some, None, nat_le, if◌then◌else◌, max};
+ghost use Rattle.std.specs.Prelude.{◌≡◌, ◌≤◌, ◌+◌, ◌*◌, ◌++◌, ℕ, pos, Some, None, nat_le, if◌then◌else◌, max};
 ghost use Rattle.arrayvec.specs.ArrayString.{array_string_len};
 ghost use Rattle.bike_fixed.specs.Calendar.{civil_date};
 ghost use Rattle.bike_fixed.specs.Text.{clock_text, moment_text};
@@ -13,13 +13,13 @@ use jiff_core::civil::Date;
 use std::marker::Model;
 
 /// The last moment: 9999-12-31T23:59:59Z.
-const LAST: u64 = 253_402_300_799;
+pub const LAST_MOMENT: u64 = 253_402_300_799;
 
 /// The days from -9999-01-01 to 1970-01-01.
 const DAYS_BEFORE_1970: u32 = 4_371_587;
 
 /// Whole seconds since 1970-01-01T00:00:00Z without leap seconds (POSIX's seconds since the Epoch), from 0
-/// to 253402300799, the last second of the year 9999. Moments are ordered by time.
+/// to `LAST_MOMENT`, the last second of the year 9999. Moments are ordered by time.
 #[derive(Clone, Copy, Debug, PartialEq, Eq, PartialOrd, Ord)]
 pub struct Moment {
     seconds: u64,
@@ -40,7 +40,7 @@ impl Model for Moment {
 
 /// The civil date so many days after 1970-01-01.
 fn date_of(day: u32) -> Date
-    requires { day ≤ 2932896 }
+    requires { 86400 * day ≤ last_moment }
     ensures year { result.year ≡ pos (civil_date day).0 }
     ensures month { result.month ≡ (civil_date day).1 }
     ensures day { result.day ≡ (civil_date day).2 }
@@ -49,11 +49,11 @@ fn date_of(day: u32) -> Date
 }
 
 impl Moment {
-    /// The moment so many seconds after 1970-01-01T00:00:00Z, where it is at most 253402300799.
+    /// The moment so many seconds after 1970-01-01T00:00:00Z, where it is at most `LAST_MOMENT`.
     pub fn new(seconds: u64) -> Option<Moment>
         ensures { result ≡ (if nat_le seconds last_moment then Some seconds else None) }
     {
-        if seconds <= LAST {
+        if seconds <= LAST_MOMENT {
             return Some(Moment { seconds });
         }
         None
@@ -63,7 +63,7 @@ impl Moment {
     pub fn read(text: &str) -> Option<Moment>
         ensures { result ≡ number_of 0 last_moment text.now }
     {
-        let seconds = read_whole(text, 0, LAST)?;
+        let seconds = read_whole(text, 0, LAST_MOMENT)?;
         Some(Moment { seconds })
     }
 

@@ -1,6 +1,7 @@
 -- Sums over entries of bounded amounts are bounded.
-use Rattle.std.proofs.Common.{ℕ, ℤ, pos, neg_ℤ, ◌*ℤ◌, ◌≤◌, ◌≤ℤ◌, List, [], ◌∷◌, length, Bool, true, false, cond, eqb, arith}
+use Rattle.std.proofs.Common.{ℕ, ℤ, pos, neg_ℤ, ◌*ℤ◌, ◌<◌, ◌≤ℤ◌, List, [], ◌∷◌, length, Bool, true, false, cond, eqb, arith}
 use Rattle.std.proofs.lemmas.Int.{ints}
+use Rattle.bike_fields.specs.declared.numbers.TheConstants.{GREATEST_SERIAL}
 use Rattle.bike_ledger.specs.declared.entry.EntryKind.{EntryKind}
 use Rattle.bike_ledger.specs.declared.entry.EntryKind.TheVariants.{TopUp, Fare, Refund}
 use Rattle.bike_ledger.specs.Entries.{Entry}
@@ -27,7 +28,7 @@ total-bound figure each (e ∷ es) are =
     let rest_high = rest.high in
     record { low = omega (arith, ints, first_low, rest_low); high = omega (arith, ints, first_high, rest_high) }
 
-balance-bound : (size : ℕ) (z : ℤ) → size ≤ 99999999 → IsSum size z → IsBalance z
+balance-bound : (size : ℕ) (z : ℤ) → size < GREATEST_SERIAL → IsSum size z → IsBalance z
 balance-bound size z few is =
     let low = is.low in
     let high = is.high in
@@ -52,15 +53,15 @@ either-figure : (own : Bool) (z : ℤ) → IsFigure z → IsFigure (cond own z (
 either-figure true z is = is
 either-figure false z is = record { low = omega (arith, ints); high = omega (arith, ints) }
 
-pub balance_of-bound : (es : List Entry) (rider : ℕ) → AreAmounts es → length es ≤ 99999999 → IsBalance (balance_of rider es)
+pub balance_of-bound : (es : List Entry) (rider : ℕ) → AreAmounts es → length es < GREATEST_SERIAL → IsBalance (balance_of rider es)
 balance_of-bound es rider are few =
     balance-bound (length es) (balance_of rider es) few
     (total-bound (share rider) (λ e is. either-figure (eqb e.rider rider) (credit e.kind e.amount) (credit-figure e.kind e.amount is)) es are)
 
-pub cash_of-bound : (es : List Entry) → AreAmounts es → length es ≤ 99999999 → IsBalance (cash_of es)
+pub cash_of-bound : (es : List Entry) → AreAmounts es → length es < GREATEST_SERIAL → IsBalance (cash_of es)
 cash_of-bound es are few =
     balance-bound (length es) (cash_of es) few (total-bound (λ e. cash_in e.kind e.amount) (λ e is. cash_in-figure e.kind e.amount is) es are)
 
-pub revenue_of-bound : (es : List Entry) → AreAmounts es → length es ≤ 99999999 → IsBalance (revenue_of es)
+pub revenue_of-bound : (es : List Entry) → AreAmounts es → length es < GREATEST_SERIAL → IsBalance (revenue_of es)
 revenue_of-bound es are few =
     balance-bound (length es) (revenue_of es) few (total-bound (λ e. revenue_in e.kind e.amount) (λ e is. revenue_in-figure e.kind e.amount is) es are)

@@ -3,6 +3,7 @@ use Rattle.std.specs.Prelude.{ℕ, ℤ, pos, neg_ℤ, ◌+ℤ◌, ◌≤ℤ◌, 
 use Rattle.bike_ledger.specs.declared.entry.EntryKind.{EntryKind}
 use Rattle.bike_ledger.specs.declared.entry.EntryKind.TheVariants.{TopUp, Fare, Refund}
 use Rattle.bike_ledger.specs.Entries.{Entry, greatest_amount}
+use Rattle.bike_ledger.specs.declared.sums.TheConstants.{GREATEST_BALANCE}
 
 -- the sum of a figure of each entry
 abbrev pub total : (Entry → ℤ) → List Entry → ℤ
@@ -57,9 +58,9 @@ given_back_of rental e = if e.rental == rental then given_back e.kind e.amount e
 abbrev pub refunded_of : ℕ → List Entry → ℤ
 refunded_of rental = total (given_back_of rental)
 
--- what 99,999,999 entries of the greatest amount come to
+-- what one entry fewer than there may be comes to, each of the greatest amount
 abbrev pub greatest_balance : ℤ
-greatest_balance = pos 3456179965438200000
+greatest_balance = GREATEST_BALANCE
 
 -- an amount that an entry may have
 pub record IsAmount (amount : ℤ) : Type 0 where

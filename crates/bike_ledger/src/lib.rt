@@ -9,5 +9,6 @@ mod sums;
 
 pub use entry::{Entry, EntryKind, EntryNumber};
 pub use sums::{
-    balance_after, bound_law, cash_after, entry_law, money_law, refundable, revenue_after,
+    GREATEST_BALANCE, balance_after, bound_law, cash_after, entry_law, money_law, refundable,
+    revenue_after,
 };

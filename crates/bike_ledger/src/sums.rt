@@ -1,12 +1,16 @@
 //! What one more entry does to the sums.
 
-ghost use Rattle.std.specs.Prelude.{◌≡◌, ◌≢◌, ◌≤◌, ◌++◌, ◌∷◌, [], ◌+ℤ◌, ◌-ℤ◌, ◌≤ℤ◌, pos, length, List, ℕ, ℤ};
+ghost use Rattle.std.specs.Prelude.{◌≡◌, ◌≢◌, ◌<◌, ◌++◌, ◌∷◌, [], ◌+ℤ◌, ◌-ℤ◌, ◌≤ℤ◌, pos, length, List, ℕ, ℤ};
+ghost use Rattle.bike_fields.specs.declared.numbers.TheConstants.{GREATEST_SERIAL};
 ghost use Rattle.bike_ledger.specs.Entries.{Entry};
 ghost use Rattle.bike_ledger.specs.Ledger.{total, credit, cash_in, revenue_in, given_back_of, share, balance_of, cash_of, revenue_of, refunded_of, IsAmount, IsBalance, AreAmounts};
 ghost use Rattle.bike_ledger.specs.Money.{AreDistinct, AreOf, IsConserved};
 
 use crate::entry::{Entry, EntryKind};
 use bike_fixed::Cents;
+
+/// What one entry fewer than `GREATEST_SERIAL`, each of `GREATEST_FARE`, come to, in hundredths.
+pub const GREATEST_BALANCE: i64 = 3_456_179_965_438_200_000;
 
 /// The balance of the entry's rider after the entry, in hundredths.
 pub fn balance_after(balance: i64, entry: &Entry) -> i64
@@ -65,12 +69,12 @@ pub fn entry_law()
     ensures any_sum { (figure : Entry → ℤ) (es : List Entry) (e : Entry) → total figure (es ++ e ∷ []) ≡ total figure es +ℤ figure e }
 {}
 
-/// The law of bounds: up to 99,999,999 entries of amounts that an entry may have leave every balance, the
-/// cash and the revenue where one more entry can be added.
+/// The law of bounds: fewer than `GREATEST_SERIAL` entries, of amounts that an entry may have, leave every balance,
+/// the cash and the revenue where one more entry can be added.
 pub fn bound_law()
-    ensures balance { (es : List Entry) (rider : ℕ) → AreAmounts es → length es ≤ 99999999 → IsBalance (balance_of rider es) }
-    ensures cash { (es : List Entry) → AreAmounts es → length es ≤ 99999999 → IsBalance (cash_of es) }
-    ensures revenue { (es : List Entry) → AreAmounts es → length es ≤ 99999999 → IsBalance (revenue_of es) }
+    ensures balance { (es : List Entry) (rider : ℕ) → AreAmounts es → length es < GREATEST_SERIAL → IsBalance (balance_of rider es) }
+    ensures cash { (es : List Entry) → AreAmounts es → length es < GREATEST_SERIAL → IsBalance (cash_of es) }
+    ensures revenue { (es : List Entry) → AreAmounts es → length es < GREATEST_SERIAL → IsBalance (revenue_of es) }
 {}
 
 /// The law of money: over every list of entries, the balances of all riders and the revenue together

@@ -13,9 +13,9 @@ ghost use Rattle.bike_lines.specs.Runs.{desk_fault, RanLines, ServesSome};
 
 use crate::fault::LinesFault;
 use arrayvec::ArrayString;
-use bike_commands::{REPLY_LENGTH, Refusal, Reply};
+use bike_commands::{LINE_LENGTH, REPLY_LENGTH, Refusal, Reply};
 use bike_desk::{Desk, DeskFault};
-use bike_requests::{LINE_LENGTH, read_line};
+use bike_requests::read_line;
 use bike_stream::{Line, LineBuffer, write_whole};
 use sqlite::Alter;
 use std::alloc::Global;

@@ -2,6 +2,7 @@
 
 ghost use Rattle.std.specs.Prelude.{◌≡◌, option_map, codes};
 ghost use Rattle.sqlite_value.specs.Order.{column};
+ghost use Rattle.bike_fields.specs.declared.numbers.TheConstants.{LAST_MINUTE};
 ghost use Rattle.bike_catalogue.specs.Rows.{is_range};
 ghost use Rattle.bike_schema.specs.Columns.{number_in, or_none};
 ghost use Rattle.bike_readings.specs.Readings.{meta_read, system_read, plan_read, segment_read, type_read};
@@ -158,7 +159,7 @@ pub fn read_plan(part: Part<'_>) -> Option<StoredPlan<'_>>
 
 /// The end of a segment, or `Some(None)` where it goes on.
 fn end_in(part: &Part<'_>, at: usize) -> Option<Option<SegmentMinute>>
-    ensures { result ≡ or_none (number_in 0 100000) (column part.now at) }
+    ensures { result ≡ or_none (number_in 0 LAST_MINUTE) (column part.now at) }
 {
     if is_null_at(part, at) {
         return Some(None);

@@ -14,6 +14,6 @@ mod write_fields;
 mod write_records;
 mod writing;
 
-pub use line::{LINE_LENGTH, read_line};
+pub use line::read_line;
 pub use reading::read_command;
 pub use writing::{command_text, command_text_law};

@@ -10,14 +10,11 @@ ghost use Rattle.bike_fields.specs.Bytes.{is_key};
 ghost use Rattle.bike_fields.specs.Reads.{IsReadAs};
 
 use crate::reading::read_rest;
-use bike_commands::{Command, Request};
+use bike_commands::{Command, LINE_LENGTH, Request};
 use bike_fields::{Caller, RequestKey};
 use bike_fixed::Moment;
 use bike_texts::Fields;
 use std::alloc::{AllocError, Global};
-
-/// The greatest length of a request line in bytes, its LF not counted.
-pub const LINE_LENGTH: usize = 4096;
 
 /// The caller, and the key with memory of its own.
 fn keep_names(
@@ -73,7 +70,7 @@ fn read_request(alloc: Global, mut fields: Fields) -> Result<Option<(Moment, Req
 }
 
 /// The request that the line spells, and the moment at which it comes: `MOMENT⇥CALLER⇥KEY⇥COMMAND`,
-/// where `⇥` is a TAB and the moment is in seconds. None where the line is longer than 4,096 bytes, isn't
+/// where `⇥` is a TAB and the moment is in seconds. None where the line is longer than `LINE_LENGTH`, isn't
 /// UTF-8 or spells no request; an error where memory was refused, which only a line that spells a request asks for. The
 /// line stands without its LF.
 pub fn read_line(alloc: Global, line: &[u8]) -> Result<Option<(Moment, Request)>, AllocError>

@@ -1,6 +1,14 @@
 //! HTTP/1.1 on the loopback address: one request a connection, one connection after the other.
 
-ghost use Rattle.std.specs.Prelude.{◌≡◌, false};
+ghost use Rattle.std.specs.Prelude.{◌≡◌, ◌≤◌, false, IsTrue, Err};
+ghost use Rattle.sqlite.specs.State.{HasCleanDisk};
+ghost use Rattle.sqlite.specs.Held.{state};
+ghost use Rattle.sqlite_trees.specs.View.{doubt};
+ghost use Rattle.bike_operator.specs.Operator.{Operator};
+ghost use Rattle.bike_schema.specs.Stands.{AllLeft, TreesStandFor};
+ghost use Rattle.bike_console.specs.declared.end.Fault.{Fault};
+ghost use Rattle.bike_http.specs.Desk.{desk_state, IsAt};
+ghost use Rattle.bike_server.specs.Serving.{ServesRequests, StandsAfterRequests};
 
 use bike_adoption::adopt;
 use bike_console::Fault;
@@ -62,7 +70,11 @@ fn serve_stream<S: Alter>(
     routes: &Routes,
     moment: Moment,
     stream: &TcpStream,
-) {
+)
+    ensures clean { doubt (desk_state S.Store desk.old).is_clean ≤ doubt (desk_state S.Store desk.new).is_clean }
+    ensures kept { HasCleanDisk (desk_state S.Store desk.new) → (s : Operator) → IsAt S.Store desk.old s
+        → ServesRequests S.Store desk.new s }
+{
     let patience = Some(Duration::from_secs(PATIENCE));
     let _ = stream.set_read_timeout(patience);
     let _ = stream.set_write_timeout(patience);
@@ -80,13 +92,22 @@ fn serve_stream<S: Alter>(
 
 /// Accepts so many connections and serves one request of each, at the clock's moment of its acceptance. It ends early where
 /// accepting or the clock fails (`ReadFailed`) and where the desk is stopped (`StoreFailed`); a connection that fails ends nothing.
+///
+/// Whatever clients send and whatever becomes of the sockets, a desk at an operator is at him after some list of requests; or it is
+/// stopped, and all that a crash may leave stands for the operator after such a list or after one request more.
 pub fn serve_count<S: Alter>(
     rt: &HostRuntime,
     desk: &mut Desk<S>,
     routes: &Routes,
     listener: &TcpListener,
     count: u64,
-) -> Result<(), Fault> {
+) -> Result<(), Fault>
+    ensures clean { doubt (desk_state S.Store desk.old).is_clean ≤ doubt (desk_state S.Store desk.new).is_clean }
+    ensures kept { HasCleanDisk (desk_state S.Store desk.new) → (s : Operator) → IsAt S.Store desk.old s
+        → ServesRequests S.Store desk.new s }
+    ensures stopped { result ≡ Err Fault.StoreFailed → IsTrue desk.new.is_stopped }
+    ensures goes_on { desk.old.is_stopped ≡ false → IsTrue desk.new.is_stopped → result ≡ Err Fault.StoreFailed }
+{
     for _ in 0..count {
         let Ok((stream, _)) = listener.accept() else {
             return Err(Fault::ReadFailed);
@@ -135,7 +156,11 @@ fn listen_at<S: Alter, W: Write>(
     port: u16,
     count: Option<u32>,
     writer: &mut W,
-) -> Result<(), Fault> {
+) -> Result<(), Fault>
+    ensures clean { doubt (desk_state S.Store desk.old).is_clean ≤ doubt (desk_state S.Store desk.new).is_clean }
+    ensures kept { HasCleanDisk (desk_state S.Store desk.new) → (s : Operator) → IsAt S.Store desk.old s
+        → ServesRequests S.Store desk.new s }
+{
     let listener = bind(rt, port)?;
     tell_port(rt, &listener, writer)?;
     let count = match count {
@@ -152,7 +177,11 @@ fn listen_all<S: Alter, W: Write>(
     port: u16,
     count: Option<u32>,
     writer: &mut W,
-) -> Result<u64, Fault> {
+) -> Result<u64, Fault>
+    ensures clean { doubt (desk_state S.Store desk.old).is_clean ≤ doubt (desk_state S.Store desk.new).is_clean }
+    ensures kept { HasCleanDisk (desk_state S.Store desk.new) → (s : Operator) → IsAt S.Store desk.old s
+        → ServesRequests S.Store desk.new s }
+{
     let Ok(routes) = Routes::new(rt.alloc()) else {
         return Err(Fault::OutOfMemory);
     };
@@ -165,22 +194,31 @@ fn listen_all<S: Alter, W: Write>(
 }
 
 /// Takes the connection, which is outside a transaction, into service, listens on this port of 127.0.0.1 (0: a free one), tells that by
-/// the line `listening 127.0.0.1:PORT`, and serves so many connections, or without end. A port that can't be bound is `ReadFailed`.
-pub fn listen<S: Alter + Drop, W: Write>(
+/// the line `listening 127.0.0.1:PORT`, and serves so many connections, or without end. Gives the connection back, with the fault where
+/// one ended that: a port that can't be bound is `ReadFailed`.
+///
+/// Where the database stood for an operator, all that a crash may then leave stands for him after some list of requests.
+pub fn listen<S: Alter, W: Write>(
     rt: &HostRuntime,
     port: u16,
     count: Option<u32>,
     conn: Connection<S>,
     writer: &mut W,
-) -> Result<u64, Fault>
+) -> (Connection<S>, Result<u64, Fault>)
     requires { conn.in_transaction ≡ false }
+    ensures clean { doubt (state S.Store conn).is_clean ≤ doubt (state S.Store result.0).is_clean }
+    ensures kept { HasCleanDisk (state S.Store result.0) → (s : Operator)
+        → TreesStandFor s (state S.Store conn).now.trees → IsTrue (state S.Store conn).is_open
+        → AllLeft (state S.Store result.0) (StandsAfterRequests s) }
 {
     match adopt(rt.alloc(), conn) {
         Ok(mut desk) => {
             let served = listen_all(rt, &mut desk, port, count, writer);
-            drop(desk);
-            served
+            (desk.close(), served)
         }
-        Err(fault) => Err(Fault::taken_from(fault).1),
+        Err(fault) => {
+            let (conn, told) = Fault::taken_from(fault);
+            (conn, Err(told))
+        }
     }
 }

@@ -21,8 +21,7 @@ use sqlite::{Alter, Connection, Error, Row, Rows, Transaction};
 use std::process::Abort;
 use std::test::Fail;
 
-// What follows has no clause, so that the proof of a test does not carry the state of each call, and a test lets its connection go
-// at one place, by a call.
+// What follows has no clause, so that the proof of a test does not carry the state of each call.
 fn make<S: Alter>(conn: &mut Connection<S>) -> Result<(), Error> {
     conn.execute_batch(
         "CREATE TABLE other (a); CREATE TABLE parts (part INTEGER PRIMARY KEY, stock INTEGER NOT NULL) STRICT; CREATE TABLE notes (author TEXT NOT NULL, title TEXT NOT NULL, body TEXT, PRIMARY KEY (author, title)) STRICT; CREATE TABLE shelves (shelf INTEGER PRIMARY KEY, part INTEGER, room INTEGER NOT NULL) STRICT; CREATE TABLE boxes (box INTEGER PRIMARY KEY, part INTEGER NOT NULL, shelf INTEGER) STRICT",
@@ -260,93 +259,97 @@ fn notes_of<S: Alter>(conn: &mut Connection<S>, author: &str) -> Result<usize, E
     Err(Error::InvalidQuery)
 }
 
+// Whether that was told, and no error.
+fn is<T: PartialEq + Drop>(told: Result<T, Error>, wanted: T) -> bool {
+    match told {
+        Ok(found) => found == wanted,
+        Err(_) => false,
+    }
+}
+
+// Each assertion looks at a `bool`: an error that is let go at a `?` of its own is followed there anew.
+fn fills<S: Alter>(conn: &mut Connection<S>) -> bool {
+    is(make(conn), ()) && is(fill(conn), ())
+}
+
 // What is asked of parts and notes.
-fn ask_of_parts_and_notes<S: Alter>(rt: &impl Abort, conn: &mut Connection<S>) -> Result<(), Fail> {
-    make(conn)?;
-    fill(conn)?;
-    for (part, want) in [(1, Some(10)), (2, None), (3, Some(20))] {
-        assert_eq!(rt; stock_of(conn, part)?, want, "part {part}");
+fn ask_of_parts_and_notes<S: Alter>(rt: &impl Abort, conn: &mut Connection<S>) {
+    assert!(rt; fills(conn));
+    for (part, wanted) in [(1, Some(10)), (2, None), (3, Some(20))] {
+        assert!(rt; is(stock_of(conn, part), wanted), "part {part}");
     }
-    for (other, want) in [(2, false), (3, true)] {
-        assert_eq!(rt; has_both(conn, 1, other)?, want, "parts 1 and {other}");
+    for (other, wanted) in [(2, false), (3, true)] {
+        assert!(rt; is(has_both(conn, 1, other), wanted), "parts 1 and {other}");
     }
-    assert_eq!(rt; all_parts(conn)?, 137);
-    assert_eq!(rt; parts_between(conn, 1, 7)?, 13);
-    assert_eq!(rt; greatest(conn)?, Some(7));
-    assert_eq!(rt; count_with(conn, 10)?, Some(2));
+    assert!(rt; is(all_parts(conn), 137));
+    assert!(rt; is(parts_between(conn, 1, 7), 13));
+    assert!(rt; is(greatest(conn), Some(7)));
+    assert!(rt; is(count_with(conn, 10), Some(2)));
     for (least, first, all) in [(5, Some(1), 137), (15, Some(3), 3), (25, None, 0)] {
-        assert_eq!(rt; stocked(conn, least)?, first, "at least {least}");
-        assert_eq!(rt; stocked_parts(conn, least)?, all, "at least {least}");
+        assert!(rt; is(stocked(conn, least), first), "at least {least}");
+        assert!(rt; is(stocked_parts(conn, least), all), "at least {least}");
     }
-    for (author, want) in [("ann", Some(true)), ("bob", Some(false)), ("cy", None)] {
-        assert_eq!(rt; has_body(conn, author)?, want, "{author}");
+    for (author, wanted) in [("ann", Some(true)), ("bob", Some(false)), ("cy", None)] {
+        assert!(rt; is(has_body(conn, author), wanted), "{author}");
     }
-    for (author, want) in [("ann", 2), ("bob", 1), ("cy", 0)] {
-        assert_eq!(rt; notes_of(conn, author)?, want, "{author}");
+    for (author, wanted) in [("ann", 2), ("bob", 1), ("cy", 0)] {
+        assert!(rt; is(notes_of(conn, author), wanted), "{author}");
     }
-    Ok(())
 }
 
 #[test]
 fn statements_do_what_they_say(rt: HostRuntime) -> Result<(), Fail> {
     let mut conn = Connection::open_in_memory(rt.alloc())?;
-    let asked = ask_of_parts_and_notes(&rt, &mut conn);
-    drop(conn);
-    asked
+    ask_of_parts_and_notes(&rt, &mut conn);
+    Ok(())
 }
 
 // What is asked of shelves.
-fn ask_of_shelves<S: Alter>(rt: &impl Abort, conn: &mut Connection<S>) -> Result<(), Fail> {
-    make(conn)?;
-    fill(conn)?;
-    assert_eq!(rt; shelves_between(conn, 2, 5)?, 24);
-    for (part, want) in [(8, Some(4)), (7, None)] {
-        assert_eq!(rt; shelf_with(conn, part)?, want, "part {part}");
+fn ask_of_shelves<S: Alter>(rt: &impl Abort, conn: &mut Connection<S>) {
+    assert!(rt; fills(conn));
+    assert!(rt; is(shelves_between(conn, 2, 5), 24));
+    for (part, wanted) in [(8, Some(4)), (7, None)] {
+        assert!(rt; is(shelf_with(conn, part), wanted), "part {part}");
     }
     for (room, first, all) in [(6, Some(2), 2), (5, None, 0)] {
-        assert_eq!(rt; empty_shelf(conn, room)?, first, "room {room}");
-        assert_eq!(rt; empty_shelves(conn, room)?, all, "room {room}");
+        assert!(rt; is(empty_shelf(conn, room), first), "room {room}");
+        assert!(rt; is(empty_shelves(conn, room), all), "room {room}");
     }
-    for (room, want) in [(5, Some(1)), (6, Some(0))] {
-        assert_eq!(rt; count_shelves(conn, 3, room)?, want, "room {room}");
+    for (room, wanted) in [(5, Some(1)), (6, Some(0))] {
+        assert!(rt; is(count_shelves(conn, 3, room), wanted), "room {room}");
     }
-    Ok(())
 }
 
 #[test]
 fn an_empty_shelf_is_found_by_its_null(rt: HostRuntime) -> Result<(), Fail> {
     let mut conn = Connection::open_in_memory(rt.alloc())?;
-    let asked = ask_of_shelves(&rt, &mut conn);
-    drop(conn);
-    asked
+    ask_of_shelves(&rt, &mut conn);
+    Ok(())
 }
 
 // What is asked of rows of several tables.
-fn ask_of_several_tables<S: Alter>(rt: &impl Abort, conn: &mut Connection<S>) -> Result<(), Fail> {
-    make(conn)?;
-    fill(conn)?;
-    for (at, want) in [(0, 124), (1, 2000)] {
-        assert_eq!(rt; shelf_stocks(conn, at)?, want, "column {at}");
+fn ask_of_several_tables<S: Alter>(rt: &impl Abort, conn: &mut Connection<S>) {
+    assert!(rt; fills(conn));
+    for (at, wanted) in [(0, 124), (1, 2000)] {
+        assert!(rt; is(shelf_stocks(conn, at), wanted), "column {at}");
     }
-    for (at, want) in [(0, 25), (1, 20), (2, 5)] {
-        assert_eq!(rt; all_boxes(conn, at)?, want, "column {at}");
+    for (at, wanted) in [(0, 25), (1, 20), (2, 5)] {
+        assert!(rt; is(all_boxes(conn, at), wanted), "column {at}");
     }
-    for (at, want) in [(0, 111), (1, 137_124)] {
-        assert_eq!(rt; all_inventory(conn, at)?, want, "column {at}");
+    for (at, wanted) in [(0, 111), (1, 137_124)] {
+        assert!(rt; is(all_inventory(conn, at), wanted), "column {at}");
     }
-    for (at, want) in [(0, 13_378), (2, 200_104)] {
-        assert_eq!(rt; shelves_by_part(conn, at)?, want, "column {at}");
+    for (at, wanted) in [(0, 13_378), (2, 200_104)] {
+        assert!(rt; is(shelves_by_part(conn, at), wanted), "column {at}");
     }
-    for (at, want) in [(0, 1_333_789), (1, 10_012_012)] {
-        assert_eq!(rt; stores_by_part(conn, at)?, want, "column {at}");
+    for (at, wanted) in [(0, 1_333_789), (1, 10_012_012)] {
+        assert!(rt; is(stores_by_part(conn, at), wanted), "column {at}");
     }
-    Ok(())
 }
 
 #[test]
 fn rows_of_several_tables_stand_together(rt: HostRuntime) -> Result<(), Fail> {
     let mut conn = Connection::open_in_memory(rt.alloc())?;
-    let asked = ask_of_several_tables(&rt, &mut conn);
-    drop(conn);
-    asked
+    ask_of_several_tables(&rt, &mut conn);
+    Ok(())
 }

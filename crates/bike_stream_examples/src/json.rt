@@ -5,6 +5,7 @@ use bike_fixed::{Cents, Micro};
 use bike_json::{JsonWriter, TokenBuffer};
 use bike_stream::WriteFault;
 use serde_json::Value;
+use std::alloc::{AllocError, Global};
 use std::io;
 use std::io::{ErrorKind, Write};
 use std::test::Fail;
@@ -74,51 +75,74 @@ fn write_text<W: Write + Drop>(out: W) -> (Result<(), WriteFault>, u64, W) {
     (last, count, json.into_inner())
 }
 
-#[test]
-fn writes_the_text(rt: HostRuntime) -> Result<(), Fail> {
-    let (last, count, out) = write_text(Vec::new(rt.alloc()));
-    last?;
-    assert_eq!(rt; out.as_slice(), TEXT.as_bytes());
-    assert_eq!(rt; count, TEXT.len() as u64);
+// A value that owns memory is let go by a function of its own, which tells a `bool`: at each `?` of a test it would be followed anew.
+/// Whether every call goes well, and the text stands in the vector.
+fn is_written(alloc: Global) -> bool {
+    let (last, count, out) = write_text(Vec::new(alloc));
+    last.is_ok() && count == TEXT.len() as u64 && out.as_slice() == TEXT.as_bytes()
+}
+
+/// Whether every call goes well where nothing is kept.
+fn is_counted() -> bool {
     let (last, count, _) = write_text(io::sink());
-    last?;
-    assert_eq!(rt; count, TEXT.len() as u64);
-    let (last, count, mut buffer) = write_text(TokenBuffer::new(Vec::new(rt.alloc())));
-    last?;
-    assert_eq!(rt; count, TEXT.len() as u64);
-    buffer.flush()?;
-    assert_eq!(rt; buffer.into_inner().as_slice(), TEXT.as_bytes());
-    Ok(())
+    last.is_ok() && count == TEXT.len() as u64
+}
+
+/// Whether every call goes well, and the text stands in the vector behind a buffer once that is flushed.
+fn is_buffered(alloc: Global) -> bool {
+    let (last, count, mut buffer) = write_text(TokenBuffer::new(Vec::new(alloc)));
+    let is_flushed = buffer.flush().is_ok();
+    let out = buffer.into_inner();
+    last.is_ok() && is_flushed && count == TEXT.len() as u64 && out.as_slice() == TEXT.as_bytes()
+}
+
+#[test]
+fn writes_the_text(rt: HostRuntime) {
+    assert!(rt; is_written(rt.alloc()));
+    assert!(rt; is_counted());
+    assert!(rt; is_buffered(rt.alloc()));
+}
+
+/// Whether the value is what was written, as far as another reader of JSON tells.
+fn is_the_text(value: &Value) -> bool {
+    let Some(numbers) = value.get("n").and_then(Value::as_array) else {
+        return false;
+    };
+    for (i, number) in [-1, -100, i64::MIN, 0, i64::MAX].iter().enumerate() {
+        if numbers.get(i).and_then(Value::as_i64) != Some(*number) {
+            return false;
+        }
+    }
+    numbers.len() == 14 && value.get(NAME).and_then(Value::as_str) == Some("")
 }
 
 #[test]
 fn is_read_back(rt: HostRuntime) -> Result<(), Fail> {
     let value = Value::from_str(rt.alloc(), TEXT)?;
-    assert_eq!(rt; value.get(NAME).and_then(Value::as_str), Some(""));
-    let numbers = value.get("n").and_then(Value::as_array).ok_or("an array")?;
-    assert_eq!(rt; numbers.len(), 14);
-    for (i, number) in [-1, -100, i64::MIN, 0, i64::MAX].iter().enumerate() {
-        assert_eq!(rt; numbers.get(i).and_then(Value::as_i64), Some(*number));
-    }
+    assert!(rt; is_the_text(&value));
     Ok(())
 }
 
+/// Whether this front of the text is written where there is room for no more, and the last call goes well where that is all of it.
+fn stops_at(alloc: Global, front: &[u8], fails: bool) -> bool {
+    let room = front.len();
+    let short = Short {
+        bytes: Vec::new(alloc),
+        room,
+        fails,
+    };
+    let (last, count, out) = write_text(short);
+    last.is_ok() == (room == TEXT.len()) && count <= room as u64 && out.bytes.as_slice() == front
+}
+
 #[test]
-fn stops_at_each_byte(rt: HostRuntime) -> Result<(), Fail> {
+fn stops_at_each_byte(rt: HostRuntime) {
     for fails in [false, true] {
         for room in 0..=TEXT.len() {
-            let short = Short {
-                bytes: Vec::new(rt.alloc()),
-                room,
-                fails,
-            };
-            let (last, count, out) = write_text(short);
-            assert_eq!(rt; last.is_ok(), room == TEXT.len());
-            assert!(rt; count <= room as u64);
-            assert_eq!(rt; out.bytes.as_slice(), &TEXT.as_bytes()[..room]);
+            let front = &TEXT.as_bytes()[..room];
+            assert!(rt; stops_at(rt.alloc(), front, fails), "{room} bytes");
         }
     }
-    Ok(())
 }
 
 /// Gives the numbers, and fails after them where it is to.
@@ -143,22 +167,33 @@ impl<'a> RowSource for Numbers<'a> {
     }
 }
 
+/// The numbers from 0 on.
+fn first_numbers(alloc: Global) -> Result<Vec<i64>, AllocError> {
+    let mut numbers = Vec::new(alloc);
+    for number in 0..5000i64 {
+        numbers.push(number)?;
+    }
+    Ok(numbers)
+}
+
+/// Whether a report of the numbers has the length that is told of it, and begins with the first two.
+fn is_reported(alloc: Global, numbers: &[i64]) -> bool {
+    let fails = false;
+    let length = report_length(&mut Numbers { numbers, fails });
+    let mut buffer = TokenBuffer::new(Vec::new(alloc));
+    let outcome = write_report(&mut buffer, &mut Numbers { numbers, fails });
+    let is_flushed = buffer.flush().is_ok();
+    let text = buffer.into_inner();
+    is_flushed
+        && outcome == length
+        && outcome == Ok(text.len() as u64)
+        && text.as_slice().starts_with(b"[{\"n\":0},{\"n\":1},")
+}
+
 #[test]
 fn writes_many_rows(rt: HostRuntime) -> Result<(), Fail> {
-    let mut rows = Vec::new(rt.alloc());
-    for row in 0..5000i64 {
-        rows.push(row)?;
-    }
-    let numbers = rows.as_slice();
-    let fails = false;
-    let count = report_length(&mut Numbers { numbers, fails }).map_err(|_| "a length")?;
-    let mut buffer = TokenBuffer::new(Vec::new(rt.alloc()));
-    let outcome = write_report(&mut buffer, &mut Numbers { numbers, fails });
-    assert_eq!(rt; outcome, Ok(count));
-    buffer.flush()?;
-    let text = buffer.into_inner();
-    assert_eq!(rt; text.len() as u64, count);
-    assert!(rt; text.as_slice().starts_with(b"[{\"n\":0},{\"n\":1},"));
+    let numbers = first_numbers(rt.alloc())?;
+    assert!(rt; is_reported(rt.alloc(), numbers.as_slice()));
     Ok(())
 }
 
@@ -166,39 +201,48 @@ fn writes_many_rows(rt: HostRuntime) -> Result<(), Fail> {
 const SIGNED_ROWS: &str =
     "[{\"n\":-1},{\"n\":-100},{\"n\":-9223372036854775808},{\"n\":0},{\"n\":9223372036854775807}]";
 
-#[test]
-fn writes_numbers_below_zero(rt: HostRuntime) -> Result<(), Fail> {
-    let mut out = Vec::new(rt.alloc());
-    let mut source = Numbers {
-        numbers: &[-1, -100, i64::MIN, 0, i64::MAX],
-        fails: false,
-    };
-    let outcome = write_report(&mut out, &mut source);
-    assert_eq!(rt; out.as_slice(), SIGNED_ROWS.as_bytes());
-    assert_eq!(rt; outcome, Ok(SIGNED_ROWS.len() as u64));
-    Ok(())
+/// The outcome of a report of the numbers, and whether the vector then holds the text.
+fn reported(
+    alloc: Global,
+    numbers: &[i64],
+    fails: bool,
+    text: &[u8],
+) -> (Result<u64, ReportFault>, bool) {
+    let mut out = Vec::new(alloc);
+    let outcome = write_report(&mut out, &mut Numbers { numbers, fails });
+    (outcome, out.as_slice() == text)
 }
 
 #[test]
-fn stops_at_a_failed_row(rt: HostRuntime) -> Result<(), Fail> {
-    let mut out = Vec::new(rt.alloc());
-    let mut source = Numbers {
-        numbers: &[7, 8],
-        fails: true,
-    };
-    assert_eq!(rt; write_report(&mut out, &mut source), Err(ReportFault::Rows));
-    assert_eq!(rt; out.as_slice(), b"[{\"n\":7},{\"n\":8}".as_slice());
+fn writes_numbers_below_zero(rt: HostRuntime) {
+    let numbers = [-1, -100, i64::MIN, 0, i64::MAX].as_slice();
+    let told = reported(rt.alloc(), numbers, false, SIGNED_ROWS.as_bytes());
+    assert_eq!(rt; told, (Ok(SIGNED_ROWS.len() as u64), true));
+}
+
+/// Whether a report stops where no more is taken.
+fn stops_at_a_failed_write(alloc: Global) -> bool {
     let mut short = Short {
-        bytes: Vec::new(rt.alloc()),
+        bytes: Vec::new(alloc),
         room: 3,
         fails: false,
     };
-    source.numbers = &[7, 8];
-    source.fails = false;
-    assert_eq!(rt;
-        write_report(&mut short, &mut source),
-        Err(ReportFault::Write)
+    let mut source = Numbers {
+        numbers: &[7, 8],
+        fails: false,
+    };
+    write_report(&mut short, &mut source) == Err(ReportFault::Write)
+        && short.bytes.as_slice() == b"[{\"".as_slice()
+}
+
+#[test]
+fn stops_at_a_failed_row(rt: HostRuntime) {
+    let told = reported(
+        rt.alloc(),
+        &[7, 8],
+        true,
+        b"[{\"n\":7},{\"n\":8}".as_slice(),
     );
-    assert_eq!(rt; short.bytes.as_slice(), b"[{\"".as_slice());
-    Ok(())
+    assert_eq!(rt; told, (Err(ReportFault::Rows), true));
+    assert!(rt; stops_at_a_failed_write(rt.alloc()));
 }

@@ -9,6 +9,7 @@ use Rattle.bike_day_texts.specs.declared.table.DayTable.{DayTable}
 use Rattle.bike_feed_texts.specs.Feeds.{feed_of}
 use Rattle.bike_feed_texts.specs.declared.feed.Feed.{Feed as AnyFeed}
 use Rattle.bike_words.specs.Program.{program}
+use Rattle.bike_words.specs.declared.task.TheConstants.{MOST_CONNECTIONS}
 use Rattle.bike_words.specs.declared.task.Task.{Task}
 use Rattle.bike_words.specs.declared.task.Task.TheVariants as task
 use Rattle.bike_words.specs.declared.reading.Words.{Words}
@@ -71,7 +72,7 @@ abbrev pub port_in : Found → Option ℕ
 port_in found = number_in 0 65535 found (codes "port")
 
 abbrev pub count_in : Found → Option (Option ℕ)
-count_in found = number_given 1 1000000000 (value_in found (codes "count"))
+count_in found = number_given 1 MOST_CONNECTIONS (value_in found (codes "count"))
 
 -- ---- tasks
 

@@ -7,6 +7,7 @@ use Rattle.bike_fixed.specs.Whole.{last_moment}
 use Rattle.bike_fields.specs.Bytes.{is_ident}
 use Rattle.bike_day_texts.specs.Tables.{table_name}
 use Rattle.bike_feed_texts.specs.Feeds.{feed_name}
+use Rattle.bike_words.specs.declared.task.TheConstants.{MOST_CONNECTIONS}
 use Rattle.bike_words.specs.declared.task.Task.{Task}
 use Rattle.bike_words.specs.declared.task.Task.TheVariants.{Init, Check, Lines, Feed, Day, Import, Serve}
 
@@ -81,7 +82,7 @@ words_for (Serve port count) file = codes "serve" ∷ file ∷ codes "--port" �
 abbrev pub IsWithin : Task → Type 0
 IsWithin (Feed feed at) = IfSome at (λ seconds. seconds ≤ last_moment)
 IsWithin (Import name at) = (is_ident name.now ≡ true) × IfSome at (λ seconds. seconds ≤ last_moment)
-IsWithin (Serve port count) = (port ≤ 65535) × IfSome count (λ n. (1 ≤ n) × (n ≤ 1000000000))
+IsWithin (Serve port count) = (port ≤ 65535) × IfSome count (λ n. (1 ≤ n) × (n ≤ MOST_CONNECTIONS))
 IsWithin _ = Unit
 
 -- the word with what it takes, as a user is told

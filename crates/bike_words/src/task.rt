@@ -11,6 +11,9 @@ use bike_fields::Ident;
 use bike_fixed::{Moment, read_whole};
 use clap::ArgMatches;
 
+/// After how many connections the serving ends at most, where it has an end.
+pub const MOST_CONNECTIONS: u64 = 1_000_000_000;
+
 /// What the program does with its file.
 #[derive(Clone, Copy, Debug, PartialEq, Eq)]
 pub enum Task<'a> {
@@ -47,7 +50,7 @@ pub enum Task<'a> {
     Serve {
         /// The port that is listened on, or 0 for a free one.
         port: u16,
-        /// After how many connections that ends, from 1 to 1000000000, or none for no end.
+        /// After how many connections that ends, from 1 to `MOST_CONNECTIONS`, or none for no end.
         count: Option<u32>,
     },
 }
@@ -114,7 +117,7 @@ fn count_in(matches: &ArgMatches<'_>) -> Option<Option<u32>>
 {
     match value_in(matches, "count") {
         Some(text) => {
-            let count = read_whole(text, 1, 1_000_000_000)?;
+            let count = read_whole(text, 1, MOST_CONNECTIONS)?;
             Some(Some(count as u32))
         }
         None => Some(None),

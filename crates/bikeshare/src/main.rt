@@ -138,11 +138,13 @@ fn publish(rt: &HostRuntime, words: &Words<'_>) -> Result<u64, Fault>
 fn answer(rt: &HostRuntime, file: &str, port: u16, count: Option<u32>) -> Result<u64, Fault> {
     if file == ":memory:" {
         let conn = Connection::open_in_memory(rt.alloc())?;
-        return listen(rt, port, count, conn, &mut rt.stdout());
+        let (_, end) = listen(rt, port, count, conn, &mut rt.stdout());
+        return end;
     }
     make_file(rt, file);
     let conn = open_file(rt, file, Unknown)?;
-    listen(rt, port, count, conn, &mut rt.stdout())
+    let (_, end) = listen(rt, port, count, conn, &mut rt.stdout());
+    end
 }
 
 /// Opens the database and does what the words ask.

@@ -1,0 +1,57 @@
+"""The numbers of the bounds. Each is one constant of the source, which code, contracts and definitions cite, so a wrong number would be wrong in
+all of them and no proof would tell. Those here are from docs/OPERATOR.md, sections 2 and 11, and docs/FORMATS.md; the greatest fare is a price and
+eight segments' rates in each of 43,201 minutes."""
+
+import re
+from pathlib import Path
+
+CRATES = Path(__file__).resolve().parent.parent / "crates"
+CONSTANT = re.compile(r"^pub const ([A-Z_]+): [iu](?:32|64|size) = ([0-9_]+);", re.M)
+
+BOUNDS = {
+    "LAST_MOMENT": 253402300799,
+    "GREATEST_COORDINATE": 180 * 10**6,
+    "GREATEST_LATITUDE": 90 * 10**6,
+    "GREATEST_NUMBER": 999999,
+    "GREATEST_SERIAL": 10**8,
+    "GREATEST_PAYMENT": 10**6,
+    "GREATEST_PRICE": 10**6,
+    "GREATEST_RATE": 10**5,
+    "GREATEST_RANGE": 10**6,
+    "LAST_MINUTE": 10**5,
+    "LONGEST_TIME_TO_LIVE": 24 * 60 * 60,
+    "MOST_SEGMENTS": 8,
+    "MOST_DOCKS": 200,
+    "MOST_CARRIED": 60,
+    "LONGEST_IDENT": 36,
+    "LONGEST_KEY": 64,
+    "SHORTEST_LANGUAGE": 2,
+    "LONGEST_LANGUAGE": 35,
+    "CURRENCY_LENGTH": 3,
+    "LONGEST_NAME": 120,
+    "LONGEST_ASCII": 200,
+    "LINE_LENGTH": 4096,
+    "LONGEST": 30 * 24 * 60 * 60,
+    "MINUTES": 30 * 24 * 60 + 1,
+    "GREATEST_FARE": 10**6 + 8 * 10**5 * (30 * 24 * 60 + 1),
+    "GREATEST_BALANCE": (10**6 + 8 * 10**5 * (30 * 24 * 60 + 1)) * (10**8 - 1),
+    "MOST_PLANS": 256,
+    "MOST_TYPES": 32,
+    "MOST_STATIONS": 5000,
+    "MOST_BIKES": 10**5,
+    "MOST_TRUCKS": 1000,
+    "MOST_RIDERS": 5 * 10**5,
+    "MOST_ORDERS": 10**7,
+    "MOST_ENTRIES": 10**8,
+    "MOST_CONNECTIONS": 10**9,
+    "MOST_ROWS": 10**6,
+    "MOST_FIELDS": 32,
+    "HEAD_LENGTH": 8192,
+    "BODY_LENGTH": 16384,
+}
+
+
+def test_numbers(program):
+    found = [row for file in CRATES.glob("*/src/**/*.rt") for row in CONSTANT.findall(file.read_text(encoding="utf-8"))]
+    for name, number in BOUNDS.items():
+        assert [int(it.replace("_", "")) for at, it in found if at == name] == [number], f"{name} is not {number}"
