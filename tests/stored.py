@@ -1,5 +1,5 @@
 """The numbers that the tables store beside the rows that they follow from: a rider's balance, cash and revenue, a station's free and broken docks,
-the bicycles that are counted at it."""
+the bicycles that are counted at it; and the texts that are kept of commands."""
 
 import contextlib
 import sqlite3
@@ -44,6 +44,20 @@ NUMBERS = [
 ]
 
 
+# Commands, each with its own text, which is kept whatever spelling was sent.
+OWN = [
+    ("set-system|s|de|N|\\\\|f|t|EUR|u|86400", "set-system|s|de|N|\\\\|f|t|EUR|u|86400"),
+    ('add-plan|p1|Q "1"\\t|1|true|D|-', 'add-plan|p1|Q "1"\\t|1|true|D|-'),
+    ("add-plan|p2|\\n\\r\\\\|1|true|D|0:-100000:0:1;99999:100000:100000:100000", "add-plan|p2|\\n\\r\\\\|1|true|D|0:-100000:0:1;99999:100000:100000:100000"),
+    ("add-plan|p3|Corso, nörd|1|true|\\\\n|-", "add-plan|p3|Corso, nörd|1|true|\\\\n|-"),
+    ("add-station|a1|N|-0.000001|90|1", "add-station|a1|N|-0.000001|90.000000|1"),
+    ("add-station|a2|N|-0|-180|1", "add-station|a2|N|0.000000|-180.000000|1"),
+    ("add-station|a3|N|007|180.000000|1", "add-station|a3|N|7.000000|180.000000|1"),
+    ("add-station|a4|N|45.5|9.1|10", "add-station|a4|N|45.500000|9.100000|10"),
+    ("add-station|a5|N|-90|000.1|200", "add-station|a5|N|-90.000000|0.100000|200"),
+]
+
+
 def text(lines):
     """The lines as they are sent and answered, with TABs."""
     return "".join(f"{line}\n" for line in lines).replace("|", "\t").encode()
@@ -57,3 +71,12 @@ def test_numbers(program):
         with contextlib.closing(sqlite3.connect(Path(program.folder, name))) as base:
             found = {query: base.execute(query).fetchone() for query in wanted}
         assert found == wanted, (served, found)
+
+
+def test_kept_commands(program):
+    rows = [(f"1700000000|office|w{at}|{spelled}", "ok") for at, (spelled, _) in enumerate(OWN)]
+    asked, answers = (text(part) for part in zip(*rows))
+    assert program.run("lines", "kept.db", given=asked) == (0, answers, b"")
+    with contextlib.closing(sqlite3.connect(Path(program.folder, "kept.db"))) as base:
+        found = dict(base.execute("SELECT req_key, command FROM kept"))
+    assert found == {f"w{at}": own.replace("|", "\t") for at, (_, own) in enumerate(OWN)}, found

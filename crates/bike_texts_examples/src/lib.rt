@@ -1,9 +1,7 @@
-//! Texts and what they are read as: fields, commands, request lines and replies, at their bounds and past them.
+//! Texts and what they are read as: fields and replies, at their bounds and past them. Request lines are tested on the program.
 #![tactic(auto)]
 
 #[cfg(test)]
 mod fields;
-#[cfg(test)]
-mod lines;
 #[cfg(test)]
 mod replies;

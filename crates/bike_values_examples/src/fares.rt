@@ -26,9 +26,21 @@ fn plan_of(alloc: Global, price: u32, rows: &[Row]) -> Result<Plan, FieldFault> 
     )
 }
 
+/// What a rental of so many seconds costs, by division and minute by minute.
+fn fares_of(alloc: Global, price: u32, rows: &[Row], seconds: u64) -> Option<(Cents, Cents)> {
+    let start = Moment::new(1_700_000_000)?;
+    let end = Moment::new(seconds.checked_add(1_700_000_000)?)?;
+    let Ok(plan) = plan_of(alloc, price, rows) else {
+        return None;
+    };
+    if end.seconds() < start.seconds() {
+        return None;
+    }
+    Some((fare(&plan, start, end), fare_by_minutes(&plan, start, end)))
+}
+
 #[test]
-fn known_fares(rt: HostRuntime) -> Result<(), FieldFault> {
-    let alloc = rt.alloc();
+fn known_fares(rt: HostRuntime) {
     let most = [(0, 100_000, 1, None); 8];
     let basic: &[Row] = &[(30, 25, 5, None)];
     let stepped: &[Row] = &[(0, 10, 1, Some(20)), (20, 50, 10, None)];
@@ -60,18 +72,8 @@ fn known_fares(rt: HostRuntime) -> Result<(), FieldFault> {
         (0, beyond, 3_456_000, 0),
         (7, [].as_slice(), 3_456_000, 7),
     ] {
-        let plan = plan_of(alloc, price, rows)?;
-        let start = Moment::new(1_700_000_000);
-        let end = Moment::new(1_700_000_000 + seconds);
-        assert!(rt; start.is_some() && end.is_some(), "{seconds}");
-        let (Some(start), Some(end)) = (start, end) else {
-            continue;
-        };
-        assert!(rt; start.seconds() <= end.seconds(), "{seconds}");
-        let found = fare(&plan, start, end);
-        assert!(rt; found == Cents::new(hundredths), "{price} {seconds}");
-        let slow = fare_by_minutes(&plan, start, end);
-        assert!(rt; slow == found, "{price} {seconds}");
+        let found = fares_of(rt.alloc(), price, rows, seconds);
+        let known = Cents::new(hundredths);
+        assert!(rt; found == Some((known, known)), "{price} {seconds}");
     }
-    Ok(())
 }

@@ -15,39 +15,69 @@ fn entries() -> Option<[Entry; 3]> {
     ])
 }
 
+/// What an entry holds: its kind, number, rider, rental and hundredths.
+type Held = (EntryKind, u32, u32, u32, i64);
+
+/// What it makes of a balance of -1.00, of cash of 100.00 and of revenue of 3.00.
+type Made = (i64, Cents, Cents);
+
+fn held(entry: &Entry) -> Held {
+    (
+        entry.kind(),
+        entry.number().get(),
+        entry.rider().get(),
+        entry.rental().get(),
+        entry.amount().hundredths(),
+    )
+}
+
+/// None where the amount is above 25.00.
+fn made(entry: &Entry) -> Option<Made> {
+    let hundredths = entry.amount().hundredths();
+    if hundredths < 0 || 2500 < hundredths {
+        return None;
+    }
+    Some((
+        balance_after(-100, entry),
+        cash_after(Cents::new(10_000), entry),
+        revenue_after(Cents::new(300), entry),
+    ))
+}
+
+/// Whether the entries are these, and make this.
+fn books(rows: &[(Held, Made)]) -> bool {
+    let Some(booked) = entries() else {
+        return false;
+    };
+    for (entry, (holds, makes)) in booked.iter().zip(rows) {
+        if held(entry) != *holds || made(entry) != Some(*makes) {
+            return false;
+        }
+    }
+    rows.len() == booked.len()
+}
+
+/// What is left of a fare in hundredths; none where more was refunded.
+fn rest_of(fare: i64, refunded: i64) -> Option<Cents> {
+    if refunded < 0 || fare < refunded {
+        return None;
+    }
+    Some(refundable(Cents::new(fare), Cents::new(refunded)))
+}
+
 #[test]
 fn books_entries(rt: HostRuntime) {
-    let booked = entries();
-    assert!(rt; booked.is_some());
-    let Some(booked) = booked else {
-        return;
-    };
-    let mut row = 0;
-    for (kind, rental, amount, balance, cash, revenue) in [
-        (EntryKind::TopUp, 0, 2500, 2400, 12_500, 300),
-        (EntryKind::Fare, 1, 125, -225, 10_000, 425),
-        (EntryKind::Refund, 1, 50, -50, 10_000, 250),
-    ] {
-        assert!(rt; row < 3);
-        let entry = booked[row];
-        row += 1;
-        let hundredths = entry.amount().hundredths();
-        assert!(rt; entry.kind() == kind, "{row}");
-        assert!(rt; entry.number().get() as usize == row, "{row}");
-        assert!(rt; entry.rider().get() == 17, "{row}");
-        assert!(rt; entry.rental().get() == rental, "{row}");
-        assert!(rt; hundredths == amount, "{row}");
-        assert!(rt; 0 <= hundredths && hundredths <= 2500, "{row}");
-        assert!(rt; balance_after(-100, &entry) == balance, "{row}");
-        assert!(rt;
-            cash_after(Cents::new(10_000), &entry) == Cents::new(cash),
-            "{row}"
-        );
-        assert!(rt;
-            revenue_after(Cents::new(300), &entry) == Cents::new(revenue),
-            "{row}"
-        );
-    }
+    let (cash, more, less) = (Cents::new(10_000), Cents::new(425), Cents::new(250));
+    assert!(rt;
+        books(&[
+            (
+                (EntryKind::TopUp, 1, 17, 0, 2500),
+                (2400, Cents::new(12_500), Cents::new(300)),
+            ),
+            ((EntryKind::Fare, 2, 17, 1, 125), (-225, cash, more)),
+            ((EntryKind::Refund, 3, 17, 1, 50), (-50, cash, less)),
+        ])
+    );
     for (fare, refunded, left) in [
         (125, 0, 125),
         (125, 124, 1),
@@ -55,8 +85,7 @@ fn books_entries(rt: HostRuntime) {
         (0, 0, 0),
         (34_561_800_000, 0, 34_561_800_000),
     ] {
-        assert!(rt; 0 <= refunded && refunded <= fare, "{fare} {refunded}");
-        let rest = refundable(Cents::new(fare), Cents::new(refunded));
-        assert!(rt; rest == Cents::new(left), "{fare} {refunded}");
+        let rest = rest_of(fare, refunded);
+        assert!(rt; rest == Some(Cents::new(left)), "{fare} {refunded}");
     }
 }
