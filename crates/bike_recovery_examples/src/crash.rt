@@ -22,9 +22,9 @@ const STATUS: &str =
     "{\"last_updated\":\"2023-11-14T22:23:20Z\",\"ttl\":30,\"version\":\"3.0\",\"data\":{\"stations\":[]}}";
 
 /// The requests that the lines spell.
-fn requests(alloc: Global) -> Result<Vec<(Moment, Request)>, Fail> {
+pub(crate) fn requests(alloc: Global, lines: &[&str]) -> Result<Vec<(Moment, Request)>, Fail> {
     let mut calls = Vec::new(alloc);
-    for line in LINES {
+    for line in lines {
         let Ok(Some(call)) = read_line(alloc, line.as_bytes()) else {
             return Err("a line spells a request".into());
         };
@@ -55,7 +55,7 @@ fn read_after_crash(
 
 #[test]
 fn what_a_crash_leaves_is_read(rt: HostRuntime) -> Result<(), Fail> {
-    let calls = requests(rt.alloc())?;
+    let calls = requests(rt.alloc(), &LINES)?;
     let bike = BicycleNumber::new(7).ok_or("a bicycle's number")?;
     let moment = Moment::new(1_700_000_600).ok_or("a moment")?;
     let mut out = Vec::new(rt.alloc());

@@ -1,16 +1,8 @@
-//! Known values: numbers, amounts, coordinates, moments and days as they are printed and read, fields and records at their
-//! bounds, fares, and what entries do to sums.
-//!
-//! What is expected was worked out by hand or comes from outside.
+//! What the program never calls: records made of plain values, a fare reckoned minute by minute, and JSON that another reader
+//! reads back. What is expected was worked out by hand or comes from outside.
 #![tactic(auto)]
 
 #[cfg(test)]
-mod catalogue;
+mod json;
 #[cfg(test)]
-mod fares;
-#[cfg(test)]
-mod fields;
-#[cfg(test)]
-mod fixed;
-#[cfg(test)]
-mod ledger;
+mod records;

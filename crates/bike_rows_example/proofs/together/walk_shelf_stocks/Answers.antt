@@ -1,7 +1,0 @@
-use Rattle.bike_rows.proofs.CallLaws.{walk_returns}
-use Rattle.bike_rows.proofs.ParamLemmas.{bindings}
-use Rattle.bike_rows_example.proofs.JoinLemmas.{lists_stocks}
-use Rattle.bike_rows_example.proofs.together.walk_shelf_stocks.Goals as goal
-
-pub returns : goal.returns
-returns g c = walk_returns g.S.Store lists_stocks c.args.conn c.query.result c.query.follows (search bindings)

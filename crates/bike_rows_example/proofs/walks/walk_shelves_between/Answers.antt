@@ -1,7 +1,0 @@
-use Rattle.bike_rows.proofs.CallLaws.{walk_returns}
-use Rattle.bike_rows.proofs.ParamLemmas.{bindings}
-use Rattle.bike_rows_example.proofs.ShelfLemmas.{lists_between}
-use Rattle.bike_rows_example.proofs.walks.walk_shelves_between.Goals as goal
-
-pub returns : goal.returns
-returns g c = walk_returns g.S.Store (lists_between c.args.from c.args.to) c.args.conn c.query.result c.query.follows (search bindings)

@@ -1,7 +1,0 @@
-use Rattle.bike_rows.proofs.CallLaws.{walk_returns}
-use Rattle.bike_rows.proofs.ParamLemmas.{bindings}
-use Rattle.bike_rows_example.proofs.PartLemmas.{lists_stocked}
-use Rattle.bike_rows_example.proofs.walks.walk_stocked_parts.Goals as goal
-
-pub returns : goal.returns
-returns g c = walk_returns g.S.Store (lists_stocked c.args.least) c.args.conn c.query.result c.query.follows (search bindings)
