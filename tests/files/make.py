@@ -1,0 +1,91 @@
+#!/usr/bin/env python3
+"""Made the files of schema 1 that stand here, once, with the last program that writes that schema. No later program can.
+
+    tests/files/make.py PROGRAM
+
+Each city is served from its request lines, closed, and kept as NAME.db.gz; NAME.json tells what that program showed of it: its feeds for
+one moment, its day tables, the answers of `lines` to some lines sent to a copy, and `check`. README.md tells what a later program owes.
+"""
+
+import gzip
+import importlib.machinery
+import importlib.util
+import json
+import shutil
+import subprocess
+import sys
+import tempfile
+from pathlib import Path
+
+sys.dont_write_bytecode = True
+HERE = Path(__file__).resolve().parent
+TOP = HERE.parent.parent
+FEEDS = ("gbfs", "system_information", "vehicle_types", "station_information", "station_status", "system_pricing_plans")
+EXAMPLE = TOP / "examples/city"
+
+
+class Made:
+    """A city's file in the making."""
+
+    def __init__(self, program, folder):
+        self.program, self.folder = program, folder
+
+    def run(self, *words, given=b""):
+        """Runs the program over a file of the folder, and returns its output; anything but status 0 in silence ends it all."""
+        ran = subprocess.run([self.program, *words], input=given, cwd=self.folder, capture_output=True, timeout=300)
+        assert not ran.returncode and not ran.stderr, (words, ran.returncode, ran.stderr)
+        return ran.stdout
+
+    def keep(self, name, moment, days, again):
+        """Keeps the file and what the program shows of it."""
+        feeds = {it: self.run("feed", "city.db", it, "--at", str(moment)).decode() for it in FEEDS}
+        tables = [[which, date, zone, self.run("day", "city.db", which, date, zone).decode()] for date, zone in days for which in ("entries", "rentals")]
+        assert self.run("check", "city.db") == b"sound\n"
+        assert not (self.folder / "city.db-wal").exists()
+        (HERE / f"{name}.db.gz").write_bytes(gzip.compress((self.folder / "city.db").read_bytes(), 9, mtime=0))
+        shutil.copy(self.folder / "city.db", self.folder / "again.db")
+        answers = self.run("lines", "again.db", given="".join(f"{it}\n" for it in again).encode()).decode().splitlines()
+        shown = {"moment": moment, "feeds": feeds, "days": tables, "lines": [list(it) for it in zip(again, answers, strict=True)]}
+        (HERE / f"{name}.json").write_text(json.dumps(shown, ensure_ascii=False, indent=1) + "\n", encoding="utf-8")
+
+
+def served(program, folder, name, given, moment, days, new):
+    """Serves the lines into a new file and keeps it; all of the lines are sent again, and then the new ones."""
+    made = Made(program, folder)
+    made.run("lines", "city.db", given=given)
+    made.keep(name, moment, days, [*given.decode().splitlines(), *new])
+
+
+def example(program, folder):
+    """The city of the examples after its morning, by the example's own steps, with its feeds at one URL."""
+    sys.path.insert(0, str(EXAMPLE))
+    loader = importlib.machinery.SourceFileLoader("example_city", str(EXAMPLE / "run"))
+    spec = importlib.util.spec_from_loader("example_city", loader)
+    city = importlib.util.module_from_spec(spec)
+    loader.exec_module(city)
+    tour = city.Tour(program, folder, 40)
+    tour.url = "http://127.0.0.1:8080"
+    for step in (city.init, city.setup, city.stations, city.fleet, city.docks, city.morning):
+        step(tour)
+    again = (EXAMPLE / "morning.in").read_text(encoding="utf-8").replace("BASE_URL", tour.url).splitlines()
+    Made(program, folder).keep("city", tour.city.now, [(city.DAY, city.ZONE), ("2024-10-26", city.ZONE)], again)
+
+
+def main(words):
+    program = str(Path(words[0]).resolve())
+    for name in ("tour", "city", "every"):
+        with tempfile.TemporaryDirectory(prefix="bikeshare-files-") as folder:
+            folder = Path(folder)
+            if name == "city":
+                example(program, folder)
+            elif name == "tour":
+                new = ["1700003000\trider:17\ts9\tstart\t17\ta1\t2"]
+                served(program, folder, name, (TOP / "docs/tour.txt").read_bytes(), 1700000600, [("2023-11-14", "UTC0")], new)
+            else:
+                new = ["1700100000\toffice\tn1\ttop-up\t17\t100", "1700100000\toffice\tn2\tadd-station\td4\tNew\t1\t2\t200"]
+                days = [("2023-11-14", "UTC0"), ("2023-11-15", "CET-1CEST,M3.5.0,M10.5.0/3")]
+                served(program, folder, name, (HERE / "every.in").read_bytes(), 1700050000, days, new)
+
+
+if __name__ == "__main__":
+    main(sys.argv[1:])
