@@ -17,7 +17,7 @@ use sqlite::{Alter, Connection, Row, params};
 use std::alloc::Global;
 
 /// What is kept of an accepted request.
-#[derive(Debug, Drop)]
+#[derive(Drop)]
 pub struct KeptRow {
     /// The command's text.
     pub command: String,

@@ -22,7 +22,7 @@ use sqlite::{Alter, Connection, Row, params};
 use std::alloc::Global;
 
 /// A rental, and what was refunded of it.
-#[derive(Debug, Drop)]
+#[derive(Drop)]
 pub struct StoredRental {
     /// The rental.
     pub rental: Rental,

@@ -22,7 +22,7 @@ pub struct RiderRow {
 }
 
 /// What is answered.
-#[derive(Debug, Drop)]
+#[derive(Drop)]
 pub enum Answer {
     /// The request is answered at once.
     Rejected(Rejection),

@@ -24,7 +24,7 @@ use sqlite::{Alter, Connection, Row, params};
 use std::alloc::Global;
 
 /// A bicycle with its number.
-#[derive(Debug, Drop)]
+#[derive(Drop)]
 pub struct NumberedBike {
     /// Its number.
     pub number: BicycleNumber,

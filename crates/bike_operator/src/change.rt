@@ -7,7 +7,7 @@ use bike_commands::{Ident, OrderEnd, Plan, Refusal, Reply, Station, System, Vehi
 use bike_ledger::Entry;
 
 /// Where a bicycle is put.
-#[derive(Clone, Copy, Debug)]
+#[derive(Clone, Copy)]
 pub enum NewPlace<'a> {
     /// In a dock of a station.
     Dock { station: &'a Ident, dock: u32 },
@@ -20,7 +20,7 @@ pub enum NewPlace<'a> {
 }
 
 /// One record that is put or added. Moments are the operator's `now`.
-#[derive(Clone, Copy, Debug)]
+#[derive(Clone, Copy)]
 pub enum Change<'a> {
     /// The system is set.
     SetSystem(&'a System),

@@ -18,7 +18,7 @@ pub enum BikeState {
 }
 
 /// Where a bicycle is. The place rule: each is in exactly one place.
-#[derive(Debug, Drop)]
+#[derive(Drop)]
 pub enum Place {
     /// In a dock of a station.
     Dock {
@@ -39,7 +39,7 @@ pub enum Place {
 }
 
 /// A bicycle.
-#[derive(Debug, Drop)]
+#[derive(Drop)]
 pub struct Bike {
     /// Its vehicle type.
     pub type_id: Ident,
@@ -50,7 +50,7 @@ pub struct Bike {
 }
 
 /// How a rental was closed.
-#[derive(Debug, Drop)]
+#[derive(Drop)]
 pub struct Closing {
     /// The station at which it ended; none where the bicycle was recovered.
     pub to_station: Option<Ident>,
@@ -61,7 +61,7 @@ pub struct Closing {
 }
 
 /// A rental.
-#[derive(Debug, Drop)]
+#[derive(Drop)]
 pub struct Rental {
     /// Who rides.
     pub rider: RiderNumber,
@@ -78,7 +78,7 @@ pub struct Rental {
 }
 
 /// An order of a truck to bring bicycles from one end to the other.
-#[derive(Debug, Drop)]
+#[derive(Drop)]
 pub struct Order {
     /// The truck.
     pub truck: TruckNumber,

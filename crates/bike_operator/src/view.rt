@@ -17,7 +17,7 @@ pub struct StationView {
 }
 
 /// The bicycle in a dock.
-#[derive(Debug, Drop)]
+#[derive(Drop)]
 pub struct DockedBike {
     /// Its number.
     pub bike: BicycleNumber,
@@ -30,7 +30,7 @@ pub struct DockedBike {
 }
 
 /// What a decision needs to know of a rental.
-#[derive(Debug, Drop)]
+#[derive(Drop)]
 pub struct RentalView {
     /// Its number.
     pub number: RentalNumber,
@@ -62,7 +62,7 @@ pub struct TruckView {
 
 /// What a command names, each there or absent, and what is counted for it. A field that is of no use to the command is
 /// `false`, none or 0.
-#[derive(Debug, Drop)]
+#[derive(Drop)]
 pub struct View {
     /// Whether the system is set.
     pub has_system: bool,

@@ -19,7 +19,7 @@ use sqlite::{Alter, Connection, Row, params};
 use std::alloc::Global;
 
 /// The counts of a station: the numbers that GBFS's `station_status` shows.
-#[derive(Debug, Drop)]
+#[derive(Drop)]
 pub struct Counts {
     /// How many bicycles can be rented.
     pub available: u32,

@@ -17,7 +17,7 @@ use sqlite::{Alter, Connection, Row, params};
 use std::alloc::Global;
 
 /// What is shown of how a rental was closed.
-#[derive(Debug, Drop)]
+#[derive(Drop)]
 pub struct ClosingInfo {
     /// The station at which it ended; none where the bicycle was recovered.
     pub to_station: Option<Ident>,
@@ -30,7 +30,7 @@ pub struct ClosingInfo {
 }
 
 /// What is shown of a rental.
-#[derive(Debug, Drop)]
+#[derive(Drop)]
 pub struct RentalInfo {
     /// Who rides.
     pub rider: RiderNumber,

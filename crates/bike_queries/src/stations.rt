@@ -16,7 +16,7 @@ use sqlite::{Alter, Connection, Row, params};
 use std::alloc::Global;
 
 /// A station with its flags as they were set, and when it last reported.
-#[derive(Debug, Drop)]
+#[derive(Drop)]
 pub struct StationInfo {
     /// Its name, its place and its docks.
     pub station: Station,

@@ -17,7 +17,7 @@ use sqlite::{Alter, Connection, Row};
 use std::alloc::Global;
 
 /// A station with its counts: what GBFS's `station_status` shows of it.
-#[derive(Debug, Drop)]
+#[derive(Drop)]
 pub struct StationStatus {
     /// The station.
     pub info: StationInfo,

@@ -16,7 +16,7 @@ use std::alloc::Global;
 use std::io::Write;
 
 /// What was read.
-#[derive(Debug, Drop)]
+#[derive(Drop)]
 pub struct Reading {
     /// Where the bicycle is, or none where the operator has no such bicycle.
     pub place: Result<Option<Place>, DeskFault>,
