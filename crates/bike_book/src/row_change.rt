@@ -7,7 +7,7 @@ use bike_operator::{BikeState, NewPlace};
 
 /// One row that is added, under a key that is free, or columns that are set in the row of a key. Money is in
 /// hundredths, moments in seconds.
-#[derive(Clone, Copy, Debug)]
+#[derive(Clone, Copy)]
 pub enum RowChange<'a> {
     /// Adds the one row of `system`.
     AddSystem(&'a System),
