@@ -2,6 +2,7 @@
 
 ghost use Rattle.std.specs.Prelude.{◌≡◌, ◌++◌, ◌∷◌, [], true, Some};
 ghost use Rattle.bike_operator.specs.declared.change.Change.TheVariants as change;
+ghost use Rattle.bike_book.specs.declared.row_change.RowChange.TheVariants as row;
 ghost use Rattle.bike_operator.specs.Changes.{place_of};
 ghost use Rattle.bike_places.specs.Laws.{IsAway};
 ghost use Rattle.bike_facts.specs.Bikes.{IsBikeRead, HasBike};
@@ -25,6 +26,17 @@ fn is_away(place: &NewPlace) -> bool
     match place {
         NewPlace::Dock { .. } => false,
         NewPlace::Rental { .. } | NewPlace::Truck { .. } | NewPlace::Depot => true,
+    }
+}
+
+/// The row change of a bicycle in that state and place.
+fn bike_row<'a>(bike: u32, state: BikeState, place: &NewPlace<'a>) -> RowChange<'a>
+    ensures { result ≡ row.SetBike bike state place.now }
+{
+    RowChange::SetBike {
+        bike,
+        state,
+        place: *place,
     }
 }
 
@@ -83,11 +95,7 @@ fn book_place_at<'a>(
     let Some(after) = numbers_after(reading.numbers, &less, &more) else {
         return false;
     };
-    let bike_row = RowChange::SetBike {
-        bike,
-        state: row.state,
-        place: *place,
-    };
+    let bike_row = bike_row(bike, row.state, place);
     let docks_row = RowChange::SetDocks {
         station: at.station,
         free: after.free,
@@ -115,11 +123,7 @@ pub(crate) fn book_place<'a>(
         return false;
     };
     if is_away(&row.place) && is_away(place) {
-        let bike_row = RowChange::SetBike {
-            bike,
-            state: row.state,
-            place: *place,
-        };
+        let bike_row = bike_row(bike, row.state, place);
         return rows.push(bike_row).is_ok();
     }
     match reading.touched {
@@ -154,11 +158,7 @@ fn book_state_at<'a>(
     let Some(after) = counts_after(reading.numbers, &less, &more) else {
         return false;
     };
-    let bike_row = RowChange::SetBike {
-        bike,
-        state,
-        place: row.place,
-    };
+    let bike_row = bike_row(bike, state, &row.place);
     if !rows.push(bike_row).is_ok() {
         return false;
     }
@@ -180,11 +180,7 @@ pub(crate) fn book_state<'a>(
         return false;
     };
     if is_away(&row.place) {
-        let bike_row = RowChange::SetBike {
-            bike,
-            state,
-            place: row.place,
-        };
+        let bike_row = bike_row(bike, state, &row.place);
         return rows.push(bike_row).is_ok();
     }
     match reading.touched {

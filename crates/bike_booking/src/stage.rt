@@ -1,7 +1,7 @@
 //! How far the changes of a request are booked.
 
 /// How far the changes of a request are booked, by what is still as it was read.
-#[derive(Clone, Copy, Debug, PartialEq, Eq)]
+#[derive(Clone, Copy)]
 pub enum Stage {
     /// No change is booked: everything.
     First,

@@ -3,7 +3,7 @@
 use bike_fixed::Cents;
 
 /// The operator's sums over his entries, in hundredths.
-#[derive(Clone, Copy, Debug, PartialEq, Eq)]
+#[derive(Clone, Copy)]
 pub struct Sums {
     /// All top-ups.
     pub cash: Cents,

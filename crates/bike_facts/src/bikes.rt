@@ -29,16 +29,15 @@ fn place_read<'a>(touched: &Option<Touched<'a>>, place: &Place) -> Option<NewPla
 {
     match place {
         Place::Dock { station, dock } => {
-            let Some(at) = touched else {
-                return None;
-            };
-            if !is_same(station, at.station) || dock.get() != at.dock {
-                return None;
+            match touched {
+                Some(at) if is_same(station, at.station) && dock.get() == at.dock => {
+                    Some(NewPlace::Dock {
+                        station: at.station,
+                        dock: at.dock,
+                    })
+                }
+                _ => None,
             }
-            Some(NewPlace::Dock {
-                station: at.station,
-                dock: at.dock,
-            })
         }
         Place::Rental { rental } => Some(NewPlace::Rental {
             rental: rental.get(),
@@ -60,15 +59,16 @@ fn shown_bike<'a>(
 ) -> Option<BikeRow<'a>>
     ensures { IfSome result (IsBikeShown view.now named bike) }
 {
-    let row = view.bike.as_ref()?;
-    if named != bike {
-        return None;
+    match &view.bike {
+        Some(row) if named == bike => {
+            let place = place_read(touched, &row.place)?;
+            Some(BikeRow {
+                state: row.state,
+                place,
+            })
+        }
+        _ => None,
     }
-    let place = place_read(touched, &row.place)?;
-    Some(BikeRow {
-        state: row.state,
-        place,
-    })
 }
 
 /// The bicycle in the dock at which a rental starts, where it has that number.
@@ -126,14 +126,14 @@ pub fn bike_read<'a>(reading: &Reading<'_, 'a>, bike: u32) -> Option<BikeRow<'a>
             docked_bike(view, touched, station, dock.get(), bike)
         }
         Command::Recover { .. } => {
-            let Some(rented) = &view.rental else {
-                return None;
-            };
-            shown_bike(view, touched, rented.rental.bike.get(), bike)
+            match &view.rental {
+                Some(rented) => shown_bike(view, touched, rented.rental.bike.get(), bike),
+                None => None,
+            }
         }
-        command => {
-            let named = bike_named(command)?;
-            shown_bike(view, touched, named, bike)
-        }
+        command => match bike_named(command) {
+            Some(named) => shown_bike(view, touched, named, bike),
+            None => None,
+        },
     }
 }

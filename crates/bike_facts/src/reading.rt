@@ -123,21 +123,15 @@ pub fn balance_read(command: &Command, view: &View, rider: u32) -> Option<i64>
 {
     match command {
         Command::TopUp { rider: named, .. } => {
-            let paying = view.rider?;
-            if named.get() == rider {
-                Some(paying.balance)
-            } else {
-                None
+            match &view.rider {
+                Some(paying) if named.get() == rider => Some(paying.balance),
+                _ => None,
             }
         }
-        _ => {
-            let rented = view.rental.as_ref()?;
-            if rented.rental.rider.get() == rider {
-                Some(rented.balance)
-            } else {
-                None
-            }
-        }
+        _ => match &view.rental {
+            Some(rented) if rented.rental.rider.get() == rider => Some(rented.balance),
+            _ => None,
+        },
     }
 }
 
@@ -146,10 +140,8 @@ pub fn refunds_read(command: &Command, view: &View, rental: u32) -> Option<i64>
     ensures { (s : Operator) → view.now ≡ view_of s command.now → IfSome result (λ refunded. refunded ≡ refunded_of rental s.entries) }
 {
     let _ = command;
-    let rented = view.rental.as_ref()?;
-    if rented.number.get() == rental {
-        Some(rented.refunded)
-    } else {
-        None
+    match &view.rental {
+        Some(rented) if rented.number.get() == rental => Some(rented.refunded),
+        _ => None,
     }
 }

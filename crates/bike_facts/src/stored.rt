@@ -2,7 +2,7 @@
 
 /// What the tables store of the dock that a command touches: its station's docks, whether the dock has a row where the
 /// command marks it, and the counts of a type there. All 0 and `false` where it touches none.
-#[derive(Clone, Copy, Debug, PartialEq, Eq)]
+#[derive(Clone, Copy)]
 pub struct StoredNumbers {
     /// How many docks of the station are available.
     pub free: u32,

@@ -3,7 +3,7 @@
 use bike_fields::Ident;
 
 /// A dock whose bicycle or mark a command changes, and the type of that bicycle where there is one.
-#[derive(Clone, Copy, Debug)]
+#[derive(Clone, Copy)]
 pub struct Touched<'a> {
     /// The station.
     pub station: &'a Ident,

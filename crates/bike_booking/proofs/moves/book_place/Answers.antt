@@ -1,5 +1,5 @@
-use Rattle.std.proofs.Common.{[], ◌∷◌}
-use Rattle.bike_book.specs.declared.row_change.RowChange.TheVariants as row
+use Rattle.std.proofs.Common.{[], ◌∷◌, ◌++◌, ap, ◌∙◌}
+use Rattle.bike_book.specs.declared.row_change.RowChange.{RowChange}
 use Rattle.bike_booking.proofs.BookingLemmas.{added}
 use Rattle.bike_booking.proofs.MoveLemmas.{placed_away}
 use Rattle.bike_booking.proofs.moves.book_place.Goals as goal
@@ -9,4 +9,4 @@ returns-then-is_away-2-clause-books c = λ told.
     let b = c.in-Some.row in
     placed_away c.args.reading.now c.args.now c.args.bike b c.args.place.now c.args.rows.now.items c.push.new.self.items c.in-Some.ensures (c.is_away.ensures c.if-is_away.true)
     (c.is_away-then-is_away.ensures c.if-is_away-2.true)
-    (added c.args.rows.now.items (row.SetBike c.args.bike b.state c.args.place.now ∷ []) c.push.result c.push.ensures.items told c.is_ok.ensures.value)
+    (added c.args.rows.now.items (c.bike_row-bike_row.result ∷ []) c.push.result c.push.ensures.items told c.is_ok.ensures.value ∙ ap (λ (r : RowChange). c.args.rows.now.items ++ r ∷ []) c.bike_row-bike_row.ensures)

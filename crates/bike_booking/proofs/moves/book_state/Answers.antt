@@ -1,5 +1,5 @@
-use Rattle.std.proofs.Common.{[], ◌∷◌}
-use Rattle.bike_book.specs.declared.row_change.RowChange.TheVariants as row
+use Rattle.std.proofs.Common.{[], ◌∷◌, ◌++◌, ap, ◌∙◌}
+use Rattle.bike_book.specs.declared.row_change.RowChange.{RowChange}
 use Rattle.bike_booking.proofs.BookingLemmas.{added}
 use Rattle.bike_booking.proofs.MoveLemmas.{turned_away}
 use Rattle.bike_booking.proofs.moves.book_state.Goals as goal
@@ -8,4 +8,4 @@ pub returns-then-is_away : goal.returns-then-is_away
 returns-then-is_away c = λ told.
     let b = c.in-Some.row in
     turned_away c.args.reading.now c.args.now c.args.bike b c.args.state c.args.rows.now.items c.push.new.self.items c.in-Some.ensures (c.is_away.ensures c.if-is_away.true)
-    (added c.args.rows.now.items (row.SetBike c.args.bike c.args.state b.place ∷ []) c.push.result c.push.ensures.items told c.is_ok.ensures.value)
+    (added c.args.rows.now.items (c.bike_row-bike_row.result ∷ []) c.push.result c.push.ensures.items told c.is_ok.ensures.value ∙ ap (λ (r : RowChange). c.args.rows.now.items ++ r ∷ []) c.bike_row-bike_row.ensures)
