@@ -1,7 +1,7 @@
 //! The bounds of a local day.
 
-ghost use Rattle.std.specs.Prelude.{◌≡◌, ℤ, pos, ◌*ℤ◌, ◌+ℤ◌, ◌-◌, ◌<ℤ◌, MatchOption, true, false, IfOk, IfSome, IfNone, Err, ◌&&◌};
-ghost use Rattle.jiff.specs.Words.{epoch_day, plain_zone};
+ghost use Rattle.std.specs.Prelude.{◌≡◌, ℤ, pos, ◌*ℤ◌, ◌+ℤ◌, ◌+◌, ◌-◌, ◌*◌, ◌≤◌, ◌<ℤ◌, MatchOption, true, false, IfOk, IfSome, IfNone, Err, ◌&&◌, [], ◌∷◌};
+ghost use Rattle.jiff.specs.Words.{epoch_day, plain_zone, IsDate, IsYmd};
 ghost use Rattle.bike_fixed.specs.Day.{BeginsAt, BeginsBefore1970, IsCovered, HasBounds, HasBadZone, IsInYears, IsOutOfYears, IsOutOfRange, IsNamed, NamesDate, date_parts, is_digit, pair_value};
 
 use crate::moment::Moment;
@@ -50,13 +50,34 @@ fn digit(byte: u8) -> Option<u8>
 }
 
 /// The number of two digits.
-fn pair(high: u8, low: u8) -> Option<u8>
-    ensures none { IfNone result (is_digit high && is_digit low ≡ false) }
-    ensures some { IfSome result (λ n. (is_digit high && is_digit low ≡ true) × (n ≡ pair_value high low)) }
+fn pair(digits: (u8, u8)) -> Option<u8>
+    ensures none { IfNone result (is_digit digits.0 && is_digit digits.1 ≡ false) }
+    ensures some { IfSome result (λ n. (is_digit digits.0 && is_digit digits.1 ≡ true) × (n ≡ pair_value digits.0 digits.1) × (n ≤ 99)) }
 {
-    let high = digit(high)?;
-    let low = digit(low)?;
+    let high = digit(digits.0)?;
+    let low = digit(digits.1)?;
     Some(high * 10 + low)
+}
+
+/// The date of a century, a year of it, a month and a day.
+fn date_of(century: u8, year: u8, month: u8, day: u8) -> Option<Date>
+    requires century { century ≤ 99 }
+    requires year { year ≤ 99 }
+    requires month { month ≤ 99 }
+    requires day { day ≤ 99 }
+    ensures some { IfSome result (IsYmd (pos (century * 100 + year)) (pos month) (pos day)) }
+    ensures none { IfNone result (IsDate (pos (century * 100 + year)) (pos month) (pos day) → ⊥) }
+{
+    let year = i16::from(century) * 100 + i16::from(year);
+    Date::new(year, month as i8, day as i8).ok()
+}
+
+/// The date that these pairs of digits spell.
+fn date_of_pairs(century: (u8, u8), year: (u8, u8), month: (u8, u8), day: (u8, u8)) -> Option<Date>
+    ensures some { IfSome result (IsNamed (date_parts (century.0 ∷ century.1 ∷ year.0 ∷ year.1 ∷ 45 ∷ month.0 ∷ month.1 ∷ 45 ∷ day.0 ∷ day.1 ∷ []))) }
+    ensures none { IfNone result (NamesDate (date_parts (century.0 ∷ century.1 ∷ year.0 ∷ year.1 ∷ 45 ∷ month.0 ∷ month.1 ∷ 45 ∷ day.0 ∷ day.1 ∷ [])) → ⊥) }
+{
+    date_of(pair(century)?, pair(year)?, pair(month)?, pair(day)?)
 }
 
 /// The date that a text `YYYY-MM-DD` names.
@@ -67,12 +88,7 @@ fn read_date(text: &str) -> Option<Date>
     let [a, b, c, d, b'-', e, f, b'-', g, h] = text.as_bytes() else {
         return None;
     };
-    let century = pair(*a, *b)?;
-    let year = pair(*c, *d)?;
-    let month = pair(*e, *f)?;
-    let day = pair(*g, *h)?;
-    let year = i16::from(century) * 100 + i16::from(year);
-    Date::new(year, month as i8, day as i8).ok()
+    date_of_pairs((*a, *b), (*c, *d), (*e, *f), (*g, *h))
 }
 
 /// Whether the year is 1970 to 9998.
