@@ -11,7 +11,6 @@ import gzip
 import importlib.machinery
 import importlib.util
 import json
-import shutil
 import subprocess
 import sys
 import tempfile
@@ -38,12 +37,13 @@ class Made:
 
     def keep(self, name, moment, days, again):
         """Keeps the file and what the program shows of it."""
-        feeds = {it: self.run("feed", "city.db", it, "--at", str(moment)).decode() for it in FEEDS}
-        tables = [[which, date, zone, self.run("day", "city.db", which, date, zone).decode()] for date, zone in days for which in ("entries", "rentals")]
-        assert self.run("check", "city.db") == b"sound\n"
-        assert not (self.folder / "city.db-wal").exists()
-        (HERE / f"{name}.db.gz").write_bytes(gzip.compress((self.folder / "city.db").read_bytes(), 9, mtime=0))
-        shutil.copy(self.folder / "city.db", self.folder / "again.db")
+        kept = (self.folder / "city.db").read_bytes()
+        for copy in ("alone.db", "again.db"):
+            (self.folder / copy).write_bytes(kept)
+        feeds = {it: self.run("feed", "alone.db", it, "--at", str(moment)).decode() for it in FEEDS}
+        tables = [[which, date, zone, self.run("day", "alone.db", which, date, zone).decode()] for date, zone in days for which in ("entries", "rentals")]
+        assert self.run("check", "alone.db") == b"sound\n"
+        (HERE / f"{name}.db.gz").write_bytes(gzip.compress(kept, 9, mtime=0))
         answers = self.run("lines", "again.db", given="".join(f"{it}\n" for it in again).encode()).decode().splitlines()
         shown = {"moment": moment, "feeds": feeds, "days": tables, "lines": [list(it) for it in zip(again, answers, strict=True)]}
         (HERE / f"{name}.json").write_text(json.dumps(shown, ensure_ascii=False, indent=1) + "\n", encoding="utf-8")

@@ -9,7 +9,7 @@ use bike_heads::{Allow, Rejection};
 use bike_operator::{Bike, Order, Rental};
 
 /// A rider, as it is shown.
-#[derive(Clone, Copy, Debug, PartialEq, Eq)]
+#[derive(Clone, Copy)]
 pub struct RiderRow {
     /// The rider's number.
     pub rider: RiderNumber,

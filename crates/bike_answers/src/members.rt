@@ -9,7 +9,7 @@ use bike_fixed::Within;
 use bike_json::{JsonState, Level, Output};
 
 /// The value of a member.
-#[derive(Clone, Copy, Debug)]
+#[derive(Clone, Copy)]
 pub(crate) enum Scalar<'a> {
     /// A string.
     Text(&'a str),

@@ -7,7 +7,7 @@ use bike_texts::{
 };
 
 /// What a request asks for. Its fields keep their bounds by their types.
-#[derive(Debug, Drop)]
+#[derive(Drop)]
 pub enum Command {
     /// Sets the system, once.
     SetSystem(System),

@@ -8,7 +8,7 @@ pub const LINE_LENGTH: usize = 4_096;
 
 /// A command, by whom it is sent and under which key. A caller that sends the same command again under
 /// the same key is answered as before.
-#[derive(Debug, Drop)]
+#[derive(Drop)]
 pub struct Request {
     /// Who sends it.
     pub caller: Caller,

@@ -11,7 +11,7 @@ use serde_json::Value;
 use std::alloc::{AllocError, Global};
 
 /// What a request asks for.
-#[derive(Debug, Drop)]
+#[derive(Drop)]
 pub enum Asked {
     /// It is answered at once, whatever the operator holds.
     Reject(Rejection),

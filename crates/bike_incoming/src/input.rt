@@ -15,7 +15,7 @@ const INPUT_ROOM: usize = HEAD_LENGTH + BODY_LENGTH;
 pub const MOST_READS: u32 = 20_000;
 
 /// A read failed, or too many were wanted.
-#[derive(Clone, Copy, Debug, PartialEq, Eq)]
+#[derive(Clone, Copy)]
 pub(crate) struct ReadFailed;
 
 /// What was read of an input, in a fixed array and so without memory; seen as the list of its bytes.
