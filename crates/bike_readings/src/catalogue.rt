@@ -18,7 +18,7 @@ use bike_fields::{GREATEST_RANGE, MaxRange, Price, SegmentMinute, TimeToLive};
 use bike_fixed::{Cents, Moment, Within};
 
 /// The row of `meta`.
-#[derive(Clone, Copy, Debug)]
+#[derive(Clone, Copy)]
 pub struct StoredMeta {
     /// The version of the schema.
     pub version: Within<1, 4_294_967_295>,
@@ -31,7 +31,7 @@ pub struct StoredMeta {
 }
 
 /// The row of `system`.
-#[derive(Clone, Copy, Debug)]
+#[derive(Clone, Copy)]
 pub struct StoredSystem<'a> {
     pub system_id: &'a str,
     pub language: &'a str,
@@ -46,7 +46,7 @@ pub struct StoredSystem<'a> {
 }
 
 /// A row of `plans`.
-#[derive(Clone, Copy, Debug)]
+#[derive(Clone, Copy)]
 pub struct StoredPlan<'a> {
     pub plan_id: &'a str,
     pub name: &'a str,
@@ -56,7 +56,7 @@ pub struct StoredPlan<'a> {
 }
 
 /// A row of `segments`.
-#[derive(Clone, Copy, Debug)]
+#[derive(Clone, Copy)]
 pub struct StoredSegment<'a> {
     /// Its plan.
     pub plan_id: &'a str,
@@ -73,7 +73,7 @@ pub struct StoredSegment<'a> {
 }
 
 /// A row of `types`.
-#[derive(Clone, Copy, Debug)]
+#[derive(Clone, Copy)]
 pub struct StoredType<'a> {
     pub type_id: &'a str,
     pub name: &'a str,

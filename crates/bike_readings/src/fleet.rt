@@ -17,7 +17,7 @@ use bike_fixed::Within;
 use bike_operator::BikeState;
 
 /// Where a bicycle is, as its row has it.
-#[derive(Clone, Copy, Debug)]
+#[derive(Clone, Copy)]
 pub enum StoredPlace<'a> {
     /// In a dock of a station.
     Dock {
@@ -38,7 +38,7 @@ pub enum StoredPlace<'a> {
 }
 
 /// A row of `bikes`.
-#[derive(Clone, Copy, Debug)]
+#[derive(Clone, Copy)]
 pub struct StoredBike<'a> {
     pub bike: BicycleNumber,
     pub type_id: &'a str,
@@ -47,14 +47,14 @@ pub struct StoredBike<'a> {
 }
 
 /// A row of `trucks`.
-#[derive(Clone, Copy, Debug)]
+#[derive(Clone, Copy)]
 pub struct StoredTruck {
     pub truck: TruckNumber,
     pub capacity: TruckCapacity,
 }
 
 /// An end of an order.
-#[derive(Clone, Copy, Debug)]
+#[derive(Clone, Copy)]
 pub enum StoredEnd<'a> {
     /// The depot.
     Depot,
@@ -63,7 +63,7 @@ pub enum StoredEnd<'a> {
 }
 
 /// A row of `orders`.
-#[derive(Clone, Copy, Debug)]
+#[derive(Clone, Copy)]
 pub struct StoredOrder<'a> {
     pub order: OrderNumber,
     pub truck: TruckNumber,

@@ -20,7 +20,7 @@ use bike_schema::StatementFault;
 use std::alloc::{AllocError, Global};
 
 /// A row of `kept`.
-#[derive(Debug, Drop)]
+#[derive(Drop)]
 pub struct StoredKept {
     pub caller: Caller,
     pub key: RequestKey,

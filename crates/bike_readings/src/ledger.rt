@@ -16,7 +16,7 @@ use bike_fixed::{Cents, GREATEST_FARE, Moment, Within};
 use bike_ledger::{EntryKind, EntryNumber};
 
 /// A row of `riders`.
-#[derive(Clone, Copy, Debug)]
+#[derive(Clone, Copy)]
 pub struct StoredRider {
     pub rider: RiderNumber,
     pub is_blocked: bool,
@@ -25,7 +25,7 @@ pub struct StoredRider {
 }
 
 /// How a rental was closed.
-#[derive(Clone, Copy, Debug)]
+#[derive(Clone, Copy)]
 pub struct StoredClosing<'a> {
     /// The station at which it ended; none where the bicycle was recovered.
     pub to_station: Option<&'a str>,
@@ -35,7 +35,7 @@ pub struct StoredClosing<'a> {
 }
 
 /// A row of `rentals`.
-#[derive(Clone, Copy, Debug)]
+#[derive(Clone, Copy)]
 pub struct StoredRental<'a> {
     pub rental: RentalNumber,
     pub rider: RiderNumber,
@@ -50,7 +50,7 @@ pub struct StoredRental<'a> {
 }
 
 /// A row of `entries`.
-#[derive(Clone, Copy, Debug)]
+#[derive(Clone, Copy)]
 pub struct StoredEntry {
     pub number: EntryNumber,
     pub kind: EntryKind,

@@ -11,7 +11,7 @@ use bike_fields::{DockCount, DockNumber};
 use bike_fixed::{GREATEST_COORDINATE, Moment, Within};
 
 /// A row of `stations`.
-#[derive(Clone, Copy, Debug)]
+#[derive(Clone, Copy)]
 pub struct StoredStation<'a> {
     pub station_id: &'a str,
     pub name: &'a str,
@@ -33,7 +33,7 @@ pub struct StoredStation<'a> {
 }
 
 /// A row of `docks`.
-#[derive(Clone, Copy, Debug)]
+#[derive(Clone, Copy)]
 pub struct StoredDock<'a> {
     /// Its station.
     pub station: &'a str,
@@ -43,7 +43,7 @@ pub struct StoredDock<'a> {
 }
 
 /// A row of `counts`.
-#[derive(Clone, Copy, Debug)]
+#[derive(Clone, Copy)]
 pub struct StoredCounts<'a> {
     pub station: &'a str,
     pub type_id: &'a str,
