@@ -72,5 +72,8 @@ pub(crate) fn has_table(
     ensures memory { IfErr result (λ fault. fault ≡ NoMemory) }
 {
     let wanted = table.defined(alloc)?;
-    Ok(has_wanted(schema, &wanted))
+    let is_there = has_wanted(schema, &wanted);
+    // At a way out of the function its letting go would be long to prove.
+    drop(wanted);
+    Ok(is_there)
 }

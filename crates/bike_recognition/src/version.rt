@@ -59,13 +59,13 @@ fn version_at(row: &Row, at: usize) -> MetaVersion
 }
 
 /// What the row of `meta` tells.
-fn version_in(row: Option<Row>) -> MetaVersion
-    ensures { result ≡ version_in row }
+fn version_in(row: &Option<Row>) -> MetaVersion
+    ensures { result ≡ version_in row.now }
 {
     match row {
         Some(row) => {
-            if is_app_at(&row, 1) {
-                version_at(&row, 2)
+            if is_app_at(row, 1) {
+                version_at(row, 2)
             } else {
                 MetaVersion::NotOurs
             }
@@ -80,5 +80,8 @@ pub fn find_version<S: Alter>(conn: &mut Connection<S>) -> Result<MetaVersion, S
     ensures { ReadsWhere S.Store (TableStands Meta) conn.old conn.new result (λ db version. version ≡ meta_version db) }
 {
     let row = find_meta_row(conn)?;
-    Ok(version_in(row))
+    let version = version_in(&row);
+    // At a way out of the function its letting go would be long to prove.
+    drop(row);
+    Ok(version)
 }
