@@ -13,7 +13,7 @@ use clap::{ArgMatches, Error};
 use std::alloc::Global;
 
 /// What the program is asked to do.
-#[derive(Clone, Copy, Debug, PartialEq, Eq)]
+#[derive(Clone, Copy)]
 pub struct Words<'a> {
     /// What is done.
     pub task: Task<'a>,
@@ -86,7 +86,10 @@ pub fn read_words<'a>(alloc: Global, words: &'a [&'a str]) -> Result<Words<'a>, 
         });
     }
     let matches = matches_of(alloc, words)?;
-    match words_in(&matches) {
+    let asked = words_in(&matches);
+    // let go by a call, and not at each way out: that is less to prove
+    drop(matches);
+    match asked {
         Some(words) => Ok(words),
         None => Err(WordsFault::Usage),
     }

@@ -15,7 +15,7 @@ use clap::ArgMatches;
 pub const MOST_CONNECTIONS: u64 = 1_000_000_000;
 
 /// What the program does with its file.
-#[derive(Clone, Copy, Debug, PartialEq, Eq)]
+#[derive(Clone, Copy)]
 pub enum Task<'a> {
     /// Makes the tables where there are none.
     Init,

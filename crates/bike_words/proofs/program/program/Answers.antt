@@ -1,18 +1,15 @@
 use Rattle.std.proofs.Common.{codes}
-use Rattle.std.proofs.lemmas.Result.{IfOk-weaker}
 use Rattle.bike_words.specs.Program.{day_word, named_word, on_file, program, serve_word}
-use Rattle.bike_words.proofs.Building.{top_is, word_added}
+use Rattle.bike_words.proofs.Building.{top_is}
 use Rattle.bike_words.proofs.program.program.Goals as goal
 
 pub returns : goal.returns
 unfolding program
 returns c =
-    let empty = top_is _ _ c.new.ensures.app c.no_binary_name.ensures in
-    let init = word_added _ (on_file (codes "init")) empty c.in_ok-on_file.ensures.app c.in_ok-on_file.ensures.local c.in_ok-subcommand.ensures in
-    let check = word_added _ (on_file (codes "check")) init c.in_ok-on_file-2.ensures.app c.in_ok-on_file-2.ensures.local c.in_ok-subcommand-2.ensures in
-    let lines = word_added _ (on_file (codes "lines")) check c.in_ok-on_file-3.ensures.app c.in_ok-on_file-3.ensures.local c.in_ok-subcommand-3.ensures in
-    let feed = word_added _ (named_word (codes "feed")) lines c.in_ok-named_word.ensures.app c.in_ok-named_word.ensures.local c.in_ok-subcommand-4.ensures in
-    let day = word_added _ day_word feed c.in_ok-day_word.ensures.app c.in_ok-day_word.ensures.local c.in_ok-subcommand-5.ensures in
-    let stations = word_added _ (named_word (codes "import")) day c.in_ok-named_word-2.ensures.app c.in_ok-named_word-2.ensures.local c.in_ok-subcommand-6.ensures in
-    IfOk-weaker c.subcommand-7.result _ _ (λ serve added. word_added _ serve_word stations c.in_ok-serve_word.ensures.app c.in_ok-serve_word.ensures.local added)
-    c.subcommand-7.ensures
+    let init = c.with_word-program.ensures _ (on_file (codes "init")) (top_is _ _ c.new.ensures.app c.no_binary_name-program.ensures) c.on_file.ensures.app c.on_file.ensures.local in
+    let check = c.with_word-program-2.ensures _ (on_file (codes "check")) init c.on_file-2.ensures.app c.on_file-2.ensures.local in
+    let lines = c.with_word-program-3.ensures _ (on_file (codes "lines")) check c.on_file-3.ensures.app c.on_file-3.ensures.local in
+    let feed = c.with_word-program-4.ensures _ (named_word (codes "feed")) lines c.named_word.ensures.app c.named_word.ensures.local in
+    let day = c.with_word-program-5.ensures _ day_word feed c.day_word.ensures.app c.day_word.ensures.local in
+    let stations = c.with_word-program-6.ensures _ (named_word (codes "import")) day c.named_word-2.ensures.app c.named_word-2.ensures.local in
+    c.with_word.ensures _ serve_word stations c.serve_word.ensures.app c.serve_word.ensures.local

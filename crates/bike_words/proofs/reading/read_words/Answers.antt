@@ -21,8 +21,8 @@ returns-in-Some-clause-plain c = λ task file is plain within.
     let asks : Ask texts task file = rw is (word_asks task file plain within) in
     told task file c.in-Some.words (subcommand_of program texts) asks.1 (rw c.in_ok-matches.ensures.found at c.in-Some.ensures.some)
 
-pub returns-clause-plain : goal.returns-clause-plain
-returns-clause-plain c = λ task file is plain within.
+pub returns-in-None-clause-plain : goal.returns-in-None-clause-plain
+returns-in-None-clause-plain c = λ task file is plain within.
     let texts = map (λ (w : Bor (List ℕ)). w.now) c.args.words.now in
     let asks : Ask texts task file = rw is (word_asks task file plain within) in
     let none = rw c.in_ok-matches.ensures.found at c.in-None.ensures.none in
