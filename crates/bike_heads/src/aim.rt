@@ -9,7 +9,7 @@ use crate::routes::Routes;
 use std::alloc::{AllocError, Global};
 
 /// The method of a path.
-#[derive(Clone, Copy, Debug, PartialEq, Eq)]
+#[derive(Clone, Copy)]
 pub enum Allow {
     /// GET
     Get,
@@ -18,7 +18,7 @@ pub enum Allow {
 }
 
 /// Why a request is answered at once, whatever the operator holds.
-#[derive(Clone, Copy, Debug, PartialEq, Eq)]
+#[derive(Clone, Copy)]
 pub enum Rejection {
     /// The head or the body can't be read.
     BadRequest,

@@ -16,7 +16,7 @@ pub const HEAD_LENGTH: usize = 8192;
 pub const MOST_FIELDS: usize = 32;
 
 /// What the head of a request says.
-#[derive(Clone, Copy, Debug)]
+#[derive(Clone, Copy)]
 pub struct Head<'b> {
     /// The method, as it stands.
     pub method: &'b [u8],
@@ -29,7 +29,7 @@ pub struct Head<'b> {
 }
 
 /// What the first bytes of an input hold.
-#[derive(Clone, Copy, Debug)]
+#[derive(Clone, Copy)]
 pub enum HeadReading<'b> {
     /// The front of a head.
     Incomplete,

@@ -11,7 +11,7 @@ use httparse::spans::HeaderSpan;
 pub const BODY_LENGTH: usize = 16_384;
 
 /// How long the body of a request is.
-#[derive(Clone, Copy, Debug, PartialEq, Eq)]
+#[derive(Clone, Copy, PartialEq, Eq)]
 pub enum BodyLength {
     /// The fields don't tell: there is a Transfer-Encoding, there is more than one Content-Length, or one isn't
     /// one or more digits.

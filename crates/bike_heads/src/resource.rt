@@ -10,7 +10,7 @@ use bike_fields::{BicycleNumber, Ident, OrderNumber, RentalNumber, RiderNumber, 
 use std::alloc::{AllocError, Global};
 
 /// A request to act, with the one who sends it.
-#[derive(Debug, Drop)]
+#[derive(Drop)]
 pub enum Action {
     /// The rider starts a rental.
     Start(RiderNumber),
@@ -31,7 +31,7 @@ pub enum Action {
 }
 
 /// A row that is shown.
-#[derive(Clone, Copy, Debug, PartialEq, Eq)]
+#[derive(Clone, Copy)]
 pub enum Shown {
     /// The rider of that number.
     Rider(RiderNumber),
@@ -44,7 +44,7 @@ pub enum Shown {
 }
 
 /// What a path names.
-#[derive(Debug, Drop)]
+#[derive(Drop)]
 pub enum Resource {
     /// A request to act, which is sent by POST.
     Act(Action),

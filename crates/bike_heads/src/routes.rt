@@ -8,7 +8,7 @@ use matchit::{InsertError, Router};
 use std::alloc::Global;
 
 /// A route: what a path of its form names.
-#[derive(Clone, Copy, Debug, PartialEq, Eq)]
+#[derive(Clone, Copy)]
 pub enum Route {
     /// `/riders/{rider}/start`
     Start,
