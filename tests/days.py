@@ -28,6 +28,17 @@ CITY = [
     "top-up\t17\t2500",
 ]
 
+# Moments about the bounds of the first day of UTC and of the last, the hundredths that are paid in then, and how both are printed.
+BOUNDS = [
+    (0, 1, "0.01,1970-01-01T00:00:00Z"),
+    (86399, 7, "0.07,1970-01-01T23:59:59Z"),
+    (86400, 350, "3.50,1970-01-02T00:00:00Z"),
+    (253370678399, 99999, "999.99,9998-12-30T23:59:59Z"),
+    (253370678400, 100000, "1000.00,9998-12-31T00:00:00Z"),
+    (253370764799, 1000000, "10000.00,9998-12-31T23:59:59Z"),
+    (253370764800, 2, "0.02,9999-01-01T00:00:00Z"),
+]
+
 FACTS = Path(__file__).resolve().parent / "facts"
 
 
@@ -142,6 +153,49 @@ def test_days_whose_midnight_is_skipped_or_comes_twice(program):
     begins = {day: begin for zone, day, begin, _ in facts() if zone == "AAA3BBB,M10.3.0/0,M2.3.0/1"}
     assert (begins["2024-10-20"], begins["2024-10-21"]) == (1729393200, 1729476000)
     assert (begins["2024-02-18"], begins["2024-02-19"]) == (1708221600, 1708311600)
+
+
+def test_the_first_day_and_the_last(program):
+    given = "0\toffice\tk\tadd-rider\t17\n" + "".join(f"{at}\toffice\tk{at}\ttop-up\t17\t{amount}\n" for at, amount, _ in BOUNDS)
+    status, out, said = program.run("lines", "city.db", given=given.encode())
+    assert (status, said) == (0, b"") and out.startswith(b"ok\n") and out.count(b"balance") == len(BOUNDS), (status, out, said)
+    for day, rows in ("1970-01-01", 2), ("1970-01-02", 1), ("9998-12-30", 1), ("9998-12-31", 2):
+        wanted = [f"{number},topup,17,0,{told}\n" for number, (_, _, told) in enumerate(BOUNDS, 1) if f",{day}T" in told]
+        found = table(program, "entries", day, "UTC0")
+        assert len(wanted) == rows and found == ENTRIES + "".join(wanted), (day, found)
+
+
+# The greatest fare and one of nothing: rentals of 30 days and of no time, under a plan that costs as much as one may and under one that gives back more
+# than its price.
+RIDES = [
+    (0, "add-plan\tmost\tMost\t1000000\tfalse\tMost\t" + ";".join(["0:100000:1:-"] * 8), "ok"),
+    (0, "add-plan\tgift\tGift\t100\tfalse\tGift\t0:-200:0:-", "ok"),
+    (0, "set-plan\tcity\tmost", "ok"),
+    (0, "start\t17\ta1\t1", "rental\t1\t7"),
+    (2592000, "end\t7\ta1\t1", "fare\t34561800000\t-34561797500"),
+    (2592000, "refund\t1\t1000000", "balance\t-34560797500"),
+    (2592000, "refund\t1\t1", "balance\t-34560797499"),
+    (2592000, "set-plan\tcity\tgift", "ok"),
+    (2592000, "add-rider\t18", "ok"),
+    (2592000, "start\t18\ta1\t1", "rental\t2\t7"),
+    (2592000, "end\t7\ta1\t1", "fare\t0\t0"),
+    (2592000, "refund\t2\t1", "refused\t30\trefund_too_large"),
+]
+
+
+def test_the_greatest_amount_and_the_least(program):
+    """The city stands at 2023-11-14, 22 hours; 30 days later it is the 14th of December."""
+    ask(program, CITY)
+    given = "".join(f"{1699999200 + after}\toffice\tr{at}\t{command}\n" for at, (after, command, _) in enumerate(RIDES))
+    assert program.run("lines", "city.db", given=given.encode()) == (0, "".join(f"{answer}\n" for _, _, answer in RIDES).encode(), b"")
+    entries = ["2,fare,17,1,345618000.00", "3,refund,17,1,10000.00", "4,refund,17,1,0.01", "5,fare,18,2,0.00"]
+    assert table(program, "entries", "2023-12-14", "UTC0") == ENTRIES + "".join(f"{it},2023-12-14T22:00:00Z\n" for it in entries)
+    rentals = [
+        "1,17,7,most,a1,2023-11-14T22:00:00Z,a1,2023-12-14T22:00:00Z,345618000.00\n",
+        "2,18,7,gift,a1,2023-12-14T22:00:00Z,a1,2023-12-14T22:00:00Z,0.00\n",
+    ]
+    assert table(program, "rentals", "2023-12-14", "UTC0") == RENTALS + "".join(rentals)
+    assert program.run("check", "city.db") == (0, b"sound\n", b"")
 
 
 def made_city(program, seed):

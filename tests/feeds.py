@@ -4,6 +4,7 @@ its tables by plain SQL."""
 import itertools
 import json
 import random
+import re
 import sqlite3
 import subprocess
 from pathlib import Path
@@ -90,6 +91,152 @@ def test_a_system_alone(program):
     assert feed(program, "station_information") == HEAD + '{"stations":[]}}'
     assert feed(program, "vehicle_types") == HEAD + '{"vehicle_types":[]}}'
     assert feed(program, "system_pricing_plans") == HEAD + '{"plans":[]}}'
+
+
+# Commands after a system alone, and the whole data of a feed then.
+TEXTS = [
+    # Names with escapes, and coordinates at zero and at their bounds.
+    (
+        ['add-station\ta1\tQ "1"\\t\t-0.000001\t0\t1', "add-station\tb2\t\x01\\\\🚲\t90\t-180\t200"],
+        "station_information",
+        '{"stations":[{"station_id":"a1","name":[{"text":"Q \\"1\\"\\t","language":"en"}],"lat":-0.000001,"lon":0.000000,"capacity":1},'
+        '{"station_id":"b2","name":[{"text":"\\u0001\\\\🚲","language":"en"}],"lat":90.000000,"lon":-180.000000,"capacity":200}]}',
+    ),
+    # No segments, and segments with and without an end.
+    (
+        ["add-plan\ttwo\tTwo\t350\tfalse\tLess\t0:-25:1:20;20:100000:0:-", "add-plan\tday\tDay\t0\ttrue\tAll day\t-"],
+        "system_pricing_plans",
+        '{"plans":[{"plan_id":"day","name":[{"text":"Day","language":"en"}],"currency":"EUR","price":0.00,"is_taxable":true,'
+        '"description":[{"text":"All day","language":"en"}]},'
+        '{"plan_id":"two","name":[{"text":"Two","language":"en"}],"currency":"EUR","price":3.50,"is_taxable":false,'
+        '"description":[{"text":"Less","language":"en"}],'
+        '"per_min_pricing":[{"start":0,"rate":-0.25,"interval":1,"end":20},{"start":20,"rate":1000.00,"interval":0}]}]}',
+    ),
+    (
+        ["add-plan\tp\tPlan\t0\tfalse\tPlan\t5:-25:10:60;7:0:0:-"],
+        "system_pricing_plans",
+        '{"plans":[{"plan_id":"p","name":[{"text":"Plan","language":"en"}],"currency":"EUR","price":0.00,"is_taxable":false,'
+        '"description":[{"text":"Plan","language":"en"}],'
+        '"per_min_pricing":[{"start":5,"rate":-0.25,"interval":10,"end":60},{"start":7,"rate":0.00,"interval":0}]}]}',
+    ),
+    (
+        [
+            CITY[1],
+            "add-type\tcity\tCity\tbicycle\thuman\t0\tbasic",
+            "add-type\tcargo\tCity\tcargo_bicycle\telectric_assist\t1000000\tbasic",
+        ],
+        "vehicle_types",
+        '{"vehicle_types":[{"vehicle_type_id":"cargo","form_factor":"cargo_bicycle","propulsion_type":"electric_assist",'
+        '"max_range_meters":1000000,"name":[{"text":"City","language":"en"}],"default_pricing_plan_id":"basic"},'
+        '{"vehicle_type_id":"city","form_factor":"bicycle","propulsion_type":"human","name":[{"text":"City","language":"en"}],'
+        '"default_pricing_plan_id":"basic"}]}',
+    ),
+]
+
+
+def test_texts_of_the_catalogue(program):
+    for commands, name, data in TEXTS:
+        for part in Path(program.folder).glob("city.db*"):
+            part.unlink()
+        assert ask(program, [SYSTEM, *commands]) == ["ok"] * (1 + len(commands)), commands
+        assert feed(program, name) == HEAD + data + "}", (name, feed(program, name))
+
+
+# A station that isn't installed, before there are types and after; and one that takes no bicycle back, with three bicycles in its twelve docks, of
+# which five are broken.
+BARE = [SYSTEM, "add-station\ta1\tHarbour\t0\t0\t2", "set-station\ta1\tfalse\ttrue\ttrue"]
+NOT_INSTALLED = (
+    '{"station_id":"a1","num_vehicles_available":0,"vehicle_types_available":[%s],"num_vehicles_disabled":0,"num_docks_available":2,'
+    '"num_docks_disabled":0,"is_installed":false,"is_renting":false,"is_returning":false,"last_reported":"1970-01-01T00:00:00Z"}'
+)
+BRIDGE = [
+    CITY[1],
+    "add-type\tcity\tCity\tbicycle\thuman\t0\tbasic",
+    "add-type\tcargo\tCargo\tcargo_bicycle\telectric_assist\t60000\tbasic",
+    "add-station\tb2\tBridge\t0\t0\t12",
+    "add-truck\t3\t20",
+    *(f"add-bike\t{bike}\tcity" for bike in (1, 2, 3)),
+    "open-order\t3\t*\tb2\tcity\t3",
+    *(f"load\t3\t1\t{bike}" for bike in (1, 2, 3)),
+    *(f"unload\t3\t1\t{bike}\tto\t{bike}" for bike in (1, 2, 3)),
+    *(f"mark-dock\tb2\t{dock}\tbroken" for dock in (4, 6, 8, 10, 12)),
+    "set-station\tb2\ttrue\ttrue\tfalse",
+]
+NO_VEHICLES = '{"vehicle_type_id":"cargo","count":0},{"vehicle_type_id":"city","count":0}'
+NOT_RETURNING = (
+    '{"station_id":"b2","num_vehicles_available":3,"vehicle_types_available":[{"vehicle_type_id":"cargo","count":0},'
+    '{"vehicle_type_id":"city","count":3}],"num_vehicles_disabled":0,"num_docks_available":4,"num_docks_disabled":5,"is_installed":true,'
+    '"is_renting":true,"is_returning":false,"last_reported":"9999-12-31T23:59:59Z"}'
+)
+
+
+def test_texts_of_two_stations(program):
+    assert ask(program, BARE, at=0) == ["ok"] * 3
+    assert feed(program, "station_status") == HEAD + '{"stations":[' + NOT_INSTALLED % "" + "]}}", feed(program, "station_status")
+    answers = ask(program, BRIDGE, at=253402300799, first=10)
+    assert not [it for it in answers if it.startswith("refused")], answers
+    wanted = HEAD + '{"stations":[' + NOT_INSTALLED % NO_VEHICLES + "," + NOT_RETURNING + "]}}"
+    assert feed(program, "station_status") == wanted, feed(program, "station_status")
+
+
+# Numbers as a command spells them, and as feeds print them.
+PRICES = {"0": "0.00", "7": "0.07", "25": "0.25", "100": "1.00", "350": "3.50", "99999": "999.99", "1000000": "10000.00"}
+RATES = {"0": "0.00", "-1": "-0.01", "-25": "-0.25", "-100": "-1.00", "5": "0.05", "-99999": "-999.99", "100000": "1000.00", "-100000": "-1000.00"}
+DEGREES = {
+    "-0.000001": "-0.000001", "-0": "0.000000", "-000.000000": "0.000000", "0.1": "0.100000", "007": "7.000000", "45.5": "45.500000",
+    "12.034567": "12.034567", "-9.999999": "-9.999999", "180": "180.000000", "-180.000000": "-180.000000",
+}
+MOMENTS = {
+    "0": "1970-01-01T00:00:00Z",
+    "86399": "1970-01-01T23:59:59Z",
+    "951782400": "2000-02-29T00:00:00Z",
+    "1709251199": "2024-02-29T23:59:59Z",
+    "4107542399": "2100-02-28T23:59:59Z",
+    "4107542400": "2100-03-01T00:00:00Z",
+    "253402300799": "9999-12-31T23:59:59Z",
+}
+
+
+def printed(text, member):
+    """The texts of a member, in their order."""
+    return re.findall(f'"{member}":"?([^,"}}]*)', text)
+
+
+def test_numbers_as_they_are_printed(program):
+    """One plan has each price, and all rates; one station each coordinate, and one was added at each moment."""
+    segments = ";".join(f"0:{rate}:0:-" for rate in RATES)
+    commands = [("0", f"add-plan\tp{at}\tPlan\t{price}\tfalse\tPlan\t{segments}") for at, price in enumerate(PRICES)]
+    commands += [("0", f"add-station\ts{at}\tStation\t0\t{spelled}\t1") for at, spelled in enumerate(DEGREES)]
+    commands += [(moment, f"add-station\tt{at}\tStation\t0\t0\t1") for at, moment in enumerate(MOMENTS)]
+    given = "".join(f"{moment}\toffice\tk{at}\t{command}\n" for at, (moment, command) in enumerate([("0", SYSTEM), *commands]))
+    assert program.run("lines", "city.db", given=given.encode()) == (0, b"ok\n" * (1 + len(commands)), b"")
+    text = feed(program, "system_pricing_plans")
+    assert printed(text, "price") == list(PRICES.values()), text
+    assert printed(text, "rate") == list(RATES.values()) * len(PRICES), text
+    text = feed(program, "station_information")
+    assert printed(text, "lon") == [*DEGREES.values(), *(["0.000000"] * len(MOMENTS))], text
+    text = feed(program, "station_status")
+    assert printed(text, "last_reported") == [MOMENTS["0"]] * len(DEGREES) + list(MOMENTS.values()), text
+
+
+# Characters of names, as a command spells them, and as JSON has them.
+CONTROLS = {chr(code): f"\\u{code:04x}" for code in range(1, 0x20) if chr(code) not in "\t\n\r"} | {"\b": "\\b", "\f": "\\f"}
+ESCAPED = {"\\t": "\\t", "\\n": "\\n", "\\r": "\\r", "\\\\": "\\\\", '"': '\\"'}
+PLAIN = {it: it for it in ("/", " ", "~", "\x7f", "\x80", "é", "€", "\u2028", "\ufeff", "\ufffd", "🚲", "\U0010ffff")}
+
+
+def test_characters_as_json_has_them(program):
+    """The last name has them all. Another reader of JSON has the names as they were given."""
+    names = CONTROLS | ESCAPED | PLAIN
+    names["".join(names)] = "".join(names.values())
+    stations = [f"add-station\ts{at:02}\t{spelled}\t0\t0\t1" for at, spelled in enumerate(names)]
+    assert ask(program, [SYSTEM, *stations]) == ["ok"] * (1 + len(stations))
+    text = feed(program, "station_information")
+    for at, written in enumerate(names.values()):
+        assert f'{{"station_id":"s{at:02}","name":[{{"text":"{written}","language":"en"}}],' in text, (written, text)
+    found = [it["name"][0]["text"] for it in json.loads(text)["data"]["stations"]]
+    plain = [{"\\t": "\t", "\\n": "\n", "\\r": "\r", "\\\\": "\\"}.get(spelled, spelled) for spelled in names][:-1]
+    assert found == [*plain, "".join(plain)], found
 
 
 def test_no_system(program):
@@ -250,7 +397,7 @@ def test_a_made_city_is_counted_by_sql(program):
 def test_wrong_names_and_moments(program):
     ask(program, CITY)
     for words in (
-        ["status"], ["Station_Status"], [""], ["gbfs", "gbfs"], [], ["gbfs", "--at"], ["gbfs", "--at", "-1"], ["gbfs", "--at", "+1"],
+        ["status"], ["vehicle_status"], ["Station_Status"], ["Gbfs"], [""], ["gbfs", "gbfs"], [], ["gbfs", "--at"], ["gbfs", "--at", "-1"], ["gbfs", "--at", "+1"],
         ["gbfs", "--at", "253402300800"], ["gbfs", "--at", "1.5"], ["gbfs", "--at", ""], ["gbfs", "--on", "1"], ["gbfs", "--at", "1", "--at", "2"],
     ):
         status, out, said = program.run("feed", "city.db", *words)

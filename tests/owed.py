@@ -350,6 +350,20 @@ def test_a_longer_table_takes_no_more_memory(program):
         assert (ran.returncode, ran.stdout, ran.stderr) == (0, b"rows 2\n", b""), (len(between), ran)
 
 
+def test_a_longer_line_takes_no_more_memory(program):
+    """A line of 64 MB is read to its end in the address space in which a short one is, and the next one whole."""
+    limit = 48_000_000
+
+    def limited():
+        resource.setrlimit(resource.RLIMIT_AS, (limit, limit))
+
+    for size in 1000, 64_000_000:
+        given = LINES + b"x" * size + b"\n" + LINES
+        ran = subprocess.run([program.file], input=given, cwd=program.folder, capture_output=True, timeout=SECONDS, preexec_fn=limited)
+        wanted = ANSWERS + b"refused\t11\tbad_field\n" + ANSWERS
+        assert (ran.returncode, ran.stdout, ran.stderr) == (0, wanted, b""), (size, ran)
+
+
 def cell(pick, value):
     """A field in CSV, with quotes where it needs them and sometimes where it doesn't."""
     quoted = b'"' + value.replace(b'"', b'""') + b'"'
@@ -544,11 +558,13 @@ BYTE_BY_BYTE = {"ONLY_ENDS": 1, "SHORT_FROM": 1}
 
 @quickly
 def test_reads_are_counted(program):
-    """An import ends after 1,000,000 reads, and its rows stand; an exchange after 20,000, without an answer, and the next one is served."""
+    """An import ends after 1,000,000 reads, in a row without end too, and its rows stand; an exchange after 20,000, without an answer, and the next
+    one is served."""
     row = HEADER.encode() + b"c1,Canal,45,9.1,10\n"
     assert faulty(program, IMPORT, row + b"\n" * 900_000, **BYTE_BY_BYTE) == (0, b"rows 1\n", b"")
-    assert faulty(program, IMPORT, row + b"\n" * 1_000_000, **BYTE_BY_BYTE) == (6, b"", b"read failed\n")
-    assert [it[0] for it in imports.stations(program)] == ["c1"]
+    for endless in b"\n", b"x":
+        assert faulty(program, IMPORT, row + endless * 1_000_000, **BYTE_BY_BYTE) == (6, b"", b"read failed\n"), endless
+        assert [it[0] for it in imports.stations(program)] == ["c1"], endless
     removed(program)
     serving.city(program)
     head = b"POST /riders/17/start HTTP/1.1\r\nContent-Length: 16384\r\nX: \r\n\r\n"
@@ -557,6 +573,30 @@ def test_reads_are_counted(program):
         asked = head.replace(b"X: ", b"X: " + b"x" * (size - len(head))) + body
         run = stops.Exchange(program.file, {}, asked, None)
         assert run.disturbed(program.folder, "city.db", stops.environment(program.folder, "city.db", **BYTE_BY_BYTE)) == (0, found, b""), size
+
+
+# Texts, and how many lines each has. None of them spells a request.
+CUT = [
+    (b"", 0),
+    (b"\n", 1),
+    (b"ab", 1),
+    (b"ab\n", 1),
+    (b"ab\n\ncd", 3),
+    (b"\r\n\xff\0\n", 2),
+    (b"a" * 4096 + b"\n" + b"a" * 4097 + b"\nx", 3),
+    (b"a" * 3 * 4096, 1),
+]
+
+
+@quickly
+def test_texts_that_come_byte_by_byte(program):
+    """They have as many lines as where they come at once, and the line behind them is read whole."""
+    for text, count in CUT:
+        behind = b"" if text.endswith(b"\n") or not text else b"\n"
+        for given, answers in (text, b""), (text + behind + LINES, ANSWERS):
+            wanted = (0, b"refused\t11\tbad_field\n" * count + answers, b"")
+            found = program.run("lines", ":memory:", given=given), faulty(program, ["lines", ":memory:"], given, **BYTE_BY_BYTE)
+            assert found == (wanted, wanted), (text[:20], found)
 
 
 # What a server says first is written byte by byte too; a free port has five digits.
@@ -609,6 +649,30 @@ def test_answer_lines_that_fail_behind_each_byte(program):
         assert rows_of(program, "SELECT count(*) FROM kept") == [(min(lines, 2),)], size
         assert program.run("lines", "city.db", given=LINES) == (0, ANSWERS, b""), size
         assert rows_of(program, "SELECT * FROM entries") == [(1, 1, 17, 0, 2500, 1700000001)], size
+
+
+@quickly
+def test_ends_that_take_few_bytes_or_none(program):
+    """An output takes three bytes a write, or twenty, and then fails; or it takes all and then nothing, which is a failure too. What was taken is
+    a front of the answers."""
+    memory, answers = ["lines", ":memory:"], ANSWERS.splitlines(keepends=True)
+    for step in 3, 20:
+        pieces = [line[at : at + step] for line in answers for at in range(0, len(line), step)]
+        assert faulty(program, memory, LINES, ONLY_ENDS=2, SHORT_FROM=1, SHORT_BYTES=step) == (0, ANSWERS, b""), step
+        for count in range(len(pieces)):
+            found = faulty(program, memory, LINES, ONLY_ENDS=2, SHORT_FROM=1, SHORT_BYTES=step, FAIL_AT=count + 1)
+            assert found == (6, b"".join(pieces[:count]), b"write failed\n"), (step, count, found)
+    for count in range(len(answers)):
+        found = faulty(program, memory, LINES, ONLY_ENDS=2, SHORT_FROM=count + 1, SHORT_BYTES=0)
+        assert found == (6, b"".join(answers[:count]), b"write failed\n"), (count, found)
+    serving.city(program)
+    feed = ["feed", "city.db", "station_status", "--at", AT]
+    whole = program.run(*feed)
+    assert whole[0] == 0 and faulty(program, feed, ONLY_ENDS=2, SHORT_FROM=1, SHORT_BYTES=20) == whole
+    assert faulty(program, feed, ONLY_ENDS=2, SHORT_FROM=1, SHORT_BYTES=0) == (6, b"", b"write failed\n")
+    env = stops.environment(program.folder, "city.db", ONLY_ENDS=2, SHORT_FROM=2, SHORT_BYTES=0)
+    assert stops.Exchange(program.file, {}, ROW_13, None).disturbed(program.folder, "city.db", env) == (0, b"", b"")
+    serving.holds(program, [(ROW_13, serving.STARTED)])
 
 
 @quickly
@@ -745,3 +809,31 @@ def test_memory_that_is_refused_behind_the_opening(program):
                 wanted = (0, 1, 2, 3) if words is IMPORT else (min(answers, 2), min(answers + 1, 2)) if given else (0,)
                 assert imports.is_sound(program) and count in wanted, (words, how, out, count)
                 assert program.run(*words, given=given) == (0, whole, b""), (words, how)
+
+
+# A city whose records have every kind of field, asked for by every kind of caller that has a name.
+SET_UP = [
+    "office|k1|set-system|city|pt-BR|City|24/7|a@example.org|Europe/Rome|EUR|https://example.org|60",
+    "crew:7|k1|add-plan|day|Day|1000000|true|d|" + ";".join(["0:25:10:-"] * 8),
+    "dock:a1|k1|add-type|city|City|cargo_bicycle|human|0|day",
+    "import:csv|k1|add-station|a1|Main St|0|0|1",
+]
+
+
+@quickly
+def test_memory_that_is_refused_for_fields(program):
+    """A request for memory that is refused ends the program, whatever field it was for, and all is accepted when it is sent again."""
+    lines = "".join(f"1700000000|{line}\n" for line in SET_UP).replace("|", "\t").encode()
+    program.run("init", "city.db")
+    parts, wants, seen = stops.taken(program.folder, "city.db"), {3: b"store failed\n", 4: b"out of memory\n"}, set()
+    opening, _ = requests_for_memory(program, ["check", "city.db"])
+    total, whole = requests_for_memory(program, ["lines", "city.db"], lines)
+    assert whole == b"ok\n" * len(SET_UP), whole
+    for turn in range(opening - 20, total + 1, 1 if ALL else 59):
+        stops.removed(program.folder, "city.db")
+        stops.put(parts, program.folder, "city.db")
+        status, out, said = faulty(program, ["lines", "city.db"], lines, REFUSE_AT=turn)
+        assert (whole.startswith(out) and said == wants.get(status)) or (status, out, said) == (0, whole, b""), (turn, status, out, said)
+        assert program.run("lines", "city.db", given=lines) == (0, whole, b"") and imports.is_sound(program), turn
+        seen.add((status, len(out)))
+    assert len(seen) > 2, seen

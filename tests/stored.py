@@ -1,5 +1,5 @@
 """The numbers that the tables store beside the rows that they follow from: a rider's balance, cash and revenue, a station's free and broken docks,
-the bicycles that are counted at it; and the texts that are kept of commands."""
+the bicycles that are counted at it; the entries of each kind; the texts that are kept of commands and callers, and the values of their fields."""
 
 import contextlib
 import sqlite3
@@ -31,18 +31,36 @@ END = [("1699990000|dock:a1|e1|end|7|a1|1", "fare|100|2400")]
 # The dock in which bicycle 7 stands is broken too.
 BREAK = [("1699999200|office|h1|mark-dock|a1|1|broken", "ok")]
 
+# It comes back after half an hour, and a part of the fare is paid back.
+REFUND = [*START, ("1700001800|dock:a1|e1|end|7|a1|1", "fare|125|2375"), ("1700001900|office|r1|refund|1|50", "balance|2425")]
+
+# Rider 18 has nothing: rides, gets a part back and pays in.
+DEBT = [
+    ("1700000000|office|d1|add-rider|18", "ok"),
+    ("1700000000|rider:18|d2|start|18|a1|1", "rental|1|7"),
+    ("1700000000|dock:a1|d3|end|7|a1|1", "fare|100|-100"),
+    ("1700000000|office|d4|refund|1|50", "balance|-50"),
+    ("1700000000|office|d5|top-up|18|2500", "balance|2450"),
+]
+
 META = "SELECT cash, revenue FROM meta"
 RIDER = "SELECT balance, blocked FROM riders WHERE rider = 17"
 STATION = "SELECT free, broken FROM stations WHERE station_id = 'a1'"
 COUNTS = "SELECT available, disabled FROM counts WHERE station_id = 'a1' AND type_id = 'city'"
+RENTAL = "SELECT fare, refunded FROM rentals WHERE rental = 1"
+DEBTOR = "SELECT balance, blocked FROM riders WHERE rider = 18"
 
 # What is served after the city stands, and the two numbers that each query answers then.
 NUMBERS = [
     (START + END, {RIDER: (2400, 0), META: (2500, 100), STATION: (0, 1), COUNTS: (1, 0)}),
     (START, {RIDER: (2500, 0), STATION: (1, 1), COUNTS: (0, 0)}),
     (BREAK, {STATION: (0, 2), COUNTS: (0, 1)}),
+    (REFUND, {RIDER: (2425, 0), META: (2500, 75), RENTAL: (125, 50)}),
+    (DEBT, {RIDER: (2500, 0), DEBTOR: (2450, 0), META: (5000, 50), RENTAL: (100, 50)}),
 ]
 
+# The entries of REFUND: number, kind, rider, rental or 0, amount and moment.
+ENTRIES = [(1, 1, 17, 0, 2500, 1699999200), (2, 2, 17, 1, 125, 1700001800), (3, 3, 17, 1, 50, 1700001900)]
 
 # Commands, each with its own text, which is kept whatever spelling was sent.
 OWN = [
@@ -56,6 +74,18 @@ OWN = [
     ("add-station|a4|N|45.5|9.1|10", "add-station|a4|N|45.500000|9.100000|10"),
     ("add-station|a5|N|-90|000.1|200", "add-station|a5|N|-90.000000|0.100000|200"),
 ]
+
+# What the fields of these commands are: escapes are gone, degrees are millionths, and each segment has a row.
+VALUES = {
+    "SELECT language, hours, ttl FROM system": [("de", "\\", 86400)],
+    "SELECT name, description FROM plans ORDER BY plan_id": [('Q "1"\t', "D"), ("\n\r\\", "D"), ("Corso, nörd", "\\n")],
+    "SELECT plan_id, seq, start, rate, every, finish FROM segments": [("p2", 1, 0, -100000, 0, 1), ("p2", 2, 99999, 100000, 100000, 100000)],
+    "SELECT lat, lon, docks FROM stations ORDER BY station_id": [
+        (-1, 90000000, 1), (0, -180000000, 1), (7000000, 180000000, 1), (45500000, 9100000, 10), (-90000000, 100000, 200),
+    ],
+}
+
+CALLERS = ["office", "rider:1", "rider:7", "rider:999999", "dock:a1", "crew:7", "import:csv-2024", "import:" + "a" * 36]
 
 
 def text(lines):
@@ -73,10 +103,28 @@ def test_numbers(program):
         assert found == wanted, (served, found)
 
 
-def test_kept_commands(program):
+def test_kept_commands_and_their_values(program):
     rows = [(f"1700000000|office|w{at}|{spelled}", "ok") for at, (spelled, _) in enumerate(OWN)]
     asked, answers = (text(part) for part in zip(*rows))
     assert program.run("lines", "kept.db", given=asked) == (0, answers, b"")
     with contextlib.closing(sqlite3.connect(Path(program.folder, "kept.db"))) as base:
         found = dict(base.execute("SELECT req_key, command FROM kept"))
+        values = {query: base.execute(query).fetchall() for query in VALUES}
     assert found == {f"w{at}": own.replace("|", "\t") for at, (_, own) in enumerate(OWN)}, found
+    assert values == VALUES, values
+
+
+def test_entries(program):
+    asked, answers = (text(part) for part in zip(*CITY, *REFUND))
+    assert program.run("lines", "city.db", given=asked) == (0, answers, b"")
+    with contextlib.closing(sqlite3.connect(Path(program.folder, "city.db"))) as base:
+        found = base.execute("SELECT entry, kind, rider, rental, amount, at FROM entries ORDER BY entry").fetchall()
+    assert found == ENTRIES, found
+
+
+def test_kept_callers(program):
+    asked = text(f"0|{caller}|k|add-rider|{rider}" for rider, caller in enumerate(CALLERS, 1))
+    assert program.run("lines", "city.db", given=asked) == (0, b"ok\n" * len(CALLERS), b"")
+    with contextlib.closing(sqlite3.connect(Path(program.folder, "city.db"))) as base:
+        found = base.execute("SELECT caller, command FROM kept").fetchall()
+    assert sorted(found) == sorted((caller, f"add-rider\t{rider}") for rider, caller in enumerate(CALLERS, 1)), found
