@@ -829,7 +829,7 @@ def test_memory_that_is_refused_for_fields(program):
     opening, _ = requests_for_memory(program, ["check", "city.db"])
     total, whole = requests_for_memory(program, ["lines", "city.db"], lines)
     assert whole == b"ok\n" * len(SET_UP), whole
-    for turn in range(opening - 20, total + 1, 1 if ALL else 29):
+    for turn in range(opening - 20, total + 1, 1 if ALL else 59):
         stops.removed(program.folder, "city.db")
         stops.put(parts, program.folder, "city.db")
         status, out, said = faulty(program, ["lines", "city.db"], lines, REFUSE_AT=turn)
