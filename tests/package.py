@@ -67,6 +67,7 @@ def wanted_files():
         "usr/bin/bikeshare": None,
         "usr/lib/systemd/system/bikeshare@.service": None,
         "usr/lib/systemd/system/bikeshare-gateway.service": None,
+        "usr/lib/systemd/system-preset/50-bikeshare.preset": TOP / "tools/debian/preset",
         "usr/share/bash-completion/completions/bikeshare": DEPLOY / "bikeshare.bash",
         "usr/share/bikeshare/backup": None,
         "usr/share/man/man1/bikeshare.1.gz": None,
@@ -114,7 +115,7 @@ def has_good_control(control, found):
     assert control.keys() - {"", "."} == {"control", "md5sums", "postinst", "prerm", "postrm"}, sorted(control)
     fields = fields_of(control["control"][1])
     told = dict(it.split(" ", 1) for it in found[f"{DOCUMENTS}/RELEASE"][1].decode().splitlines())
-    assert fields["Version"] == told["version"] and re.fullmatch(r"\d{4}\.\d\d\.\d\d\+\d{4}\.g[0-9a-f]{10}(\.changed)?|0\+unknown", told["version"]), told
+    assert fields["Version"] == told["version"] and re.fullmatch(r"\d{4}\.\d\d\.\d\d\+\d{4}\.g[0-9a-f]{10}(\.changed)?|\d{4}\.\d\d\.\d\d", told["version"]), told
     assert (fields["Package"], fields["Architecture"], fields["Depends"]) == ("bikeshare", "amd64", "libc6 (>= 2.34), adduser")
     sums = dict(reversed(it.split("  ", 1)) for it in control["md5sums"][1].decode().splitlines())
     assert sums == {name: hashlib.md5(data).hexdigest() for name, (_, data) in found.items() if data is not None}
