@@ -7,11 +7,11 @@ brought to a new version and removed is tried by hand (docs/OPERATING.md).
 
 import gzip
 import hashlib
-import importlib.util
 import io
 import os
 import re
 import shlex
+import shutil
 import subprocess
 import tarfile
 from pathlib import Path
@@ -23,20 +23,18 @@ SECONDS = 120
 DOCUMENTS = "usr/share/doc/bikeshare"
 
 
-def by_path(name):
-    """Returns the module of another file of tests."""
-    spec = importlib.util.spec_from_file_location(f"tests_{name}", HERE / f"{name}.py")
-    module = importlib.util.module_from_spec(spec)
-    spec.loader.exec_module(module)
-    return module
-
-
-operating = by_path("operating")
-
-
 def has(tool, test):
     """Whether there is such a program on this machine; where there is none it is told that the test wasn't tried."""
-    return operating.has(tool, f"{test} (tests/package.py)")
+    if shutil.which(tool):
+        return True
+    print(f"package.{test}: not tried, there is no {tool}", flush=True)
+    return False
+
+
+def ran(*words, **how):
+    """Runs a program, and returns its exit status and all that it said."""
+    done = subprocess.run([str(it) for it in words], stdout=subprocess.PIPE, stderr=subprocess.STDOUT, timeout=SECONDS, **how)
+    return done.returncode, done.stdout.decode(errors="replace")
 
 
 # ---- the package
@@ -45,8 +43,7 @@ def has(tool, test):
 def released(program, folder, **how):
     """Makes a release in this folder, and returns its status, what it said, and its packages."""
     told = {**os.environ, "BIKESHARE": program.file, **how.pop("told", {})}
-    done = subprocess.run([TOP / "tools/release", folder / "release"], env=told, capture_output=True, timeout=SECONDS, **how)
-    return done.returncode, (done.stdout + done.stderr).decode(), sorted(folder.glob("*.deb"))
+    return *ran(TOP / "tools/release", folder / "release", env=told, **how), sorted(folder.glob("*.deb"))
 
 
 def files_of(package, what):
@@ -227,13 +224,14 @@ def test_the_manual_page_tells_the_usage_text(program):
 def test_the_manual_page_is_laid_out(program):
     """groff finds nothing wrong in it."""
     if has("groff", "test_the_manual_page_is_laid_out"):
-        assert operating.ran("groff", "-man", "-Tutf8", "-ww", "-z", DEPLOY / "bikeshare.1") == (0, "")
+        said = ran("groff", "-man", "-Tutf8", "-ww", "-z", DEPLOY / "bikeshare.1")
+        assert said == (0, ""), said
 
 
 def completed(folder, *words):
     """What bash proposes in place of the last of these words."""
     script = f'. {shlex.quote(str(DEPLOY / "bikeshare.bash"))}; COMP_WORDS=("$@"); COMP_CWORD=$(($# - 1)); _bikeshare; printf "%s\\n" "${{COMPREPLY[@]}}"'
-    status, said = operating.ran("bash", "-c", script, "bash", "bikeshare", *words, cwd=folder)
+    status, said = ran("bash", "-c", script, "bash", "bikeshare", *words, cwd=folder)
     assert status == 0, said
     return [it for it in said.splitlines() if it]
 
