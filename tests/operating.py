@@ -46,7 +46,8 @@ def has(tool, test):
 
 def ran(*words, **how):
     """Runs a program, and returns its exit status and all that it said."""
-    done = subprocess.run([str(it) for it in words], stdout=subprocess.PIPE, stderr=subprocess.STDOUT, timeout=SECONDS, **how)
+    how = {"timeout": SECONDS, **how}
+    done = subprocess.run([str(it) for it in words], stdout=subprocess.PIPE, stderr=subprocess.STDOUT, **how)
     return done.returncode, done.stdout.decode(errors="replace")
 
 
@@ -245,7 +246,7 @@ def test_every_fault_has_its_row(program):
 def released(program, folder):
     """Makes a release of the program, and returns its folder."""
     made = folder / "release"
-    status, said = ran(TOP / "tools/release", made, env={**os.environ, "BIKESHARE": program.file})
+    status, said = ran(TOP / "tools/release", made, env={**os.environ, "BIKESHARE": program.file}, timeout=4 * SECONDS)
     assert status == 0, said
     return made
 

@@ -67,6 +67,7 @@ def wanted_files():
         "usr/lib/systemd/system-preset/50-bikeshare.preset": TOP / "tools/debian/preset",
         "usr/share/bash-completion/completions/bikeshare": DEPLOY / "bikeshare.bash",
         "usr/share/bikeshare/backup": None,
+        "usr/share/lintian/overrides/bikeshare": TOP / "tools/debian/lintian-overrides",
         "usr/share/man/man1/bikeshare.1.gz": None,
         f"{DOCUMENTS}/RELEASE": None,
         f"{DOCUMENTS}/changelog.gz": None,
