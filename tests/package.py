@@ -157,7 +157,8 @@ def test_package(program):
     assert (one / "release/RELEASE").read_bytes() == found[f"{DOCUMENTS}/RELEASE"][1]
     has_good_changes(gzip.decompress(found[f"{DOCUMENTS}/changelog.gz"][1]).decode(), told["version"])
     page = gzip.decompress(found["usr/share/man/man1/bikeshare.1.gz"][1])
-    assert page == (one / "release/deploy/bikeshare.1").read_bytes() and f'"bikeshare {told["version"]}"'.encode() in page and b"@" not in page.replace(b"bikeshare@CITY", b"")
+    assert page == (one / "release/deploy/bikeshare.1").read_bytes() and f'"{told["version"]}"'.encode() in page
+    assert b"@" not in page.replace(b"bikeshare@CITY", b""), "a mark of the manual page wasn't replaced"
     # Another umask, another time zone, another language; and another package of that name, which isn't written over.
     status, said, again = released(program, two, umask=0o077, told={"TZ": "Asia/Tokyo", "LC_ALL": "C.UTF-8"})
     assert status == 0 and again[0].read_bytes() == packages[0].read_bytes(), (status, said, again)
