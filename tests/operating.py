@@ -46,7 +46,8 @@ def has(tool, test):
 
 def ran(*words, **how):
     """Runs a program, and returns its exit status and all that it said."""
-    done = subprocess.run([str(it) for it in words], stdout=subprocess.PIPE, stderr=subprocess.STDOUT, timeout=SECONDS, **how)
+    how = {"timeout": SECONDS, **how}
+    done = subprocess.run([str(it) for it in words], stdout=subprocess.PIPE, stderr=subprocess.STDOUT, **how)
     return done.returncode, done.stdout.decode(errors="replace")
 
 
@@ -245,7 +246,7 @@ def test_every_fault_has_its_row(program):
 def released(program, folder):
     """Makes a release of the program, and returns its folder."""
     made = folder / "release"
-    status, said = ran(TOP / "tools/release", made, env={**os.environ, "BIKESHARE": program.file})
+    status, said = ran(TOP / "tools/release", made, env={**os.environ, "BIKESHARE": program.file}, timeout=4 * SECONDS)
     assert status == 0, said
     return made
 
@@ -256,7 +257,8 @@ def test_release(program):
     assert ran("sha256sum", "-c", "--quiet", "SHA256SUMS", cwd=made) == (0, "")
     listed = {it.split("  ./", 1)[1] for it in (made / "SHA256SUMS").read_text().splitlines()}
     assert listed == {str(it.relative_to(made)) for it in made.rglob("*") if it.is_file()} - {"SHA256SUMS"}
-    assert {"bikeshare", "README.md", "RELEASE", "docs/OPERATING.md", "deploy/nginx.conf", "deploy/bikeshare@.service"} <= listed
+    assert {"bikeshare", "README.md", "CHANGELOG.md", "RELEASE", "docs/OPERATING.md", "deploy/nginx.conf", "deploy/bikeshare@.service"} <= listed
+    assert re.fullmatch(r"version \S+\ncommit \w+\nchanged files \w+\n", (made / "RELEASE").read_text()), (made / "RELEASE").read_text()
     assert [it for it in sorted(listed) if os.access(made / it, os.X_OK) and (made / it).stat().st_mode & 0o111] == ["bikeshare", "deploy/backup"]
     assert ran(TOP / "tools/release", made, env={**os.environ, "BIKESHARE": program.file})[0] == 2, "a release was written over"
     (made / "docs/tour.txt").write_text("other\n")
