@@ -558,14 +558,14 @@ def test_gateway_feeds_that_are_still_good(program):
                 assert (status, body, readers(head), head["ETag"], head["Vary"]) == (304, None, told, tag, "Accept-Encoding"), (has_it, status)
                 assert "Content-Encoding" not in head, head.items()
         assert gateway.ask("GET", FEED, If_None_Match='"other"')[0] == 200
-        time.sleep(2.5)
+        # nginx counts whole seconds, and the last of them to its end.
+        time.sleep(3.2)
         status, second, _ = gateway.ask("GET", FEED, If_None_Match=tag)
         assert status == 200 and second["ETag"] != tag and second["Date"] != first["Date"], (status, second.items())
         server.stop()
-        time.sleep(2.5)
+        time.sleep(3.2)
         status, head, _ = gateway.ask("GET", FEED)
-        assert (status, head["Date"], head["ETag"]) == (200, second["Date"], second["ETag"]), (status, head.items())
-        assert gateway.ask("GET", FEED, If_None_Match=head["ETag"])[0] == 304
+        assert (status, head["Date"], head["ETag"], readers(head)) == (200, second["Date"], second["ETag"], told), (status, head.items())
 
 
 def test_gateway_answers_preflights(program):
