@@ -1,16 +1,31 @@
-"""What stands in examples/: the tour of the city runs to its end and tells a wrong answer, and the map holds what the feeds say."""
+"""What stands in examples/: the tour of the city runs to its end and tells a wrong answer, and the map holds what the feeds say.
 
+Of the live page what it is made of is tested; what it shows, where there is chromium; that of the tour's city, where there is nginx too.
+Where there is none a line says what wasn't tried.
+"""
+
+import contextlib
 import csv
+import datetime
+import html.parser
+import http.server
 import importlib.machinery
 import importlib.util
 import json
+import os
+import re
+import shutil
 import subprocess
 import sys
+import threading
+import urllib.parse
+import urllib.request
 import xml.etree.ElementTree as xml
 from pathlib import Path
 
 TOP = Path(__file__).resolve().parent.parent
 TOUR, MAP, PICTURE = TOP / "examples/city/run", TOP / "examples/map/map.py", TOP / "docs/pictures/city.svg"
+LIVE, SHOW = TOP / "examples/map/live.html", TOP / "examples/map/show"
 STEPS = ["init", "setup", "stations", "fleet", "docks", "morning", "day", "feeds", "serve", "tables", "check"]
 SECONDS = 60
 
@@ -205,3 +220,200 @@ def test_the_picture_of_the_readme(program):
     text = PICTURE.read_text(encoding="utf-8")
     holds_the_city(text)
     assert xml.fromstring(text).get("width") == "900" and len(text.encode()) < 60000 and "<script" not in text
+
+
+# ---- the live page
+
+# Elements of HTML that have no end.
+ENDLESS = {"br", "input", "meta"}
+
+
+class Page(html.parser.HTMLParser):
+    """A page of HTML: its title, its elements, the text of each that has an identifier, and the rows of its tables, each with its attributes."""
+
+    def __init__(self, text):
+        super().__init__()
+        self.open, self.elements, self.ids, self.texts, self.rows, self.title = [], [], [], {}, [], ""
+        self.feed(text)
+        assert not self.open, f"without an end: {self.open}"
+
+    def handle_starttag(self, tag, attrs):
+        """Keeps an element."""
+        found = dict(attrs)
+        self.elements.append((tag, found))
+        self.ids += [found["id"]] if "id" in found else []
+        if tag == "tr":
+            self.rows.append((found, []))
+        if tag == "td":
+            self.rows[-1][1].append("")
+        if tag not in ENDLESS:
+            self.open.append((tag, found.get("id")))
+
+    def handle_endtag(self, tag):
+        """Holds that the element which ends is the one that began last."""
+        assert self.open and self.open[-1][0] == tag, (tag, self.open)
+        self.open.pop()
+
+    def handle_data(self, data):
+        """Keeps a text under the identifiers of all elements that it stands in, and in its cell."""
+        for _, name in self.open:
+            self.texts[name] = self.texts.get(name, "") + data
+        if self.open and self.open[-1][0] == "title" and ("head", None) in self.open:
+            self.title += data
+        if any(tag == "td" for tag, _ in self.open):
+            self.rows[-1][1][-1] += data
+
+
+def has(tool, test):
+    """Whether there is such a program on this machine; where there is none it is told that the test wasn't tried."""
+    if shutil.which(tool) or os.access(f"/usr/sbin/{tool}", os.X_OK):
+        return True
+    print(f"examples.{test}: not tried, there is no {tool}", flush=True)
+    return False
+
+
+def test_the_live_page_is_one_file(program):
+    """The page asks no site but that of the feeds for anything, makes no elements of texts, and has each element that its program names."""
+    text = LIVE.read_text(encoding="utf-8")
+    page = Page(text)
+    assert len(page.ids) == len(set(page.ids)) and set(re.findall(r'by\("(\w+)"\)', text)) <= set(page.ids), page.ids
+    assert set(re.findall(r"https?://[a-z0-9.]+", text)) == {"https://metro.example", "http://www.w3.org"}
+    assert not [it for it in page.elements if it[0] in ("link", "img", "iframe", "object") or {"src", "href", "action", "onclick"} & set(it[1])]
+    assert not re.search(r"innerHTML|outerHTML|insertAdjacent|document\.write|\beval\b|new Function|@import|url\(", text)
+    policies = [it[1]["content"] for it in page.elements if it[1].get("http-equiv") == "Content-Security-Policy"]
+    assert len(policies) == 1 and policies[0].startswith("default-src 'none'; ") and "connect-src http: https:;" in policies[0]
+    wanted = re.search(r"const WANTED = \[(.*?)\]", text)[1].replace('"', "").split(", ")
+    gbfs = json.loads((TOP / "examples/city/feeds/gbfs.json").read_text(encoding="utf-8"))
+    assert sorted(wanted) == sorted(it["name"] for it in gbfs["feeds"])
+
+
+@contextlib.contextmanager
+def shown(program, folder):
+    """Shows the city of a folder by examples/map/show, and gives the page's address and that of its feed gbfs."""
+    words = [sys.executable, str(SHOW), str(Path(program.folder) / folder), program.file]
+    child = subprocess.Popen(words, cwd=program.folder, stdout=subprocess.PIPE, stderr=subprocess.PIPE)
+    try:
+        address = child.stdout.readline().decode().strip()
+        assert address, f"show: it said {child.communicate(timeout=SECONDS)[1].decode()}"
+        yield address, urllib.parse.parse_qs(urllib.parse.urlsplit(address).query)["feeds"][0]
+    finally:
+        child.terminate()
+        said = child.communicate(timeout=SECONDS)[1]
+        assert (child.returncode, said) == (0, b""), (child.returncode, said)
+
+
+def dumped(program, address, language="en", seconds=8):
+    """What chromium shows of a page after so many seconds."""
+    words = ["chromium", "--headless", "--no-sandbox", "--disable-gpu", "--no-first-run", f"--user-data-dir={program.folder}/chromium"]
+    words += [f"--accept-lang={language}", f"--virtual-time-budget={seconds * 1000}", "--dump-dom", address]
+    ran = subprocess.run(words, cwd=program.folder, capture_output=True, timeout=SECONDS)
+    assert ran.returncode == 0 and b"</html>" in ran.stdout, (ran.returncode, ran.stderr[-2000:])
+    return ran.stdout.decode()
+
+
+def table_of(page):
+    """The rows of the page's table of stations: what stands in the cells, by the station."""
+    return {about["data-station"]: cells for about, cells in page.rows if "data-station" in about}
+
+
+def test_the_live_page_of_the_tour(program):
+    """The page, from a site of its own, draws the tour's city from the feeds that the gateway gives to every page."""
+    if not has("nginx", "test_the_live_page_of_the_tour"):
+        return
+    assert tour(program, "results", 100)[::2] == (0, "")
+    with shown(program, "results") as (address, gbfs):
+        with urllib.request.urlopen(address, timeout=SECONDS) as answer:
+            assert answer.read() == LIVE.read_bytes()
+        assert urllib.parse.urlsplit(address).netloc != urllib.parse.urlsplit(gbfs).netloc
+        feeds = {}
+        with urllib.request.urlopen(gbfs, timeout=SECONDS) as answer:
+            urls = {it["name"]: it["url"] for it in json.load(answer)["data"]["feeds"]}
+        for name, url in urls.items():
+            with urllib.request.urlopen(urllib.request.Request(url, headers={"Origin": "http://127.0.0.1:1"}), timeout=SECONDS) as answer:
+                assert (answer.headers["Access-Control-Allow-Origin"], answer.headers["Cache-Control"]) == ("*", "public, max-age=60"), name
+                feeds[name] = json.load(answer)["data"]
+        if not has("chromium", "test_the_live_page_of_the_tour, what it shows"):
+            return
+        page = Page(dumped(program, address + "&station=h01"))
+    states = {it["station_id"]: it for it in feeds["station_status"]["stations"]}
+    counts = {station: (it["num_vehicles_available"], it["num_docks_available"]) for station, it in states.items()}
+    wanted = {station: [name, *map(str, counts[station]), docks] for station, name, docks in city()}
+    found = {station: [*cells[:3], cells[4]] for station, cells in table_of(page).items()}
+    assert found == wanted, {it: (found.get(it), wanted[it]) for it in wanted if found.get(it) != wanted[it]}
+    drawn = sorted(about["data-station"] for tag, about in page.elements if tag == "g" and "data-station" in about)
+    assert drawn == sorted(wanted) and page.texts["name"] == "Marlmouth Bikes" and "notices" not in page.texts, page.texts.get("notices")
+    assert "Basic£1.00from minute 30: £0.25 each 5 minutes" in page.texts["prices"] and page.texts["card"].startswith("Ferry Terminal")
+    assert re.match(r"As of .* 20\d\d, \d\d:\d\d:\d\d ", page.texts["moment"]), page.texts["moment"]
+    assert page.texts["sums"].startswith(f"Bicycles available{sum(it[0] for it in counts.values())}Free docks"), page.texts["sums"]
+
+
+class Feeds(http.server.BaseHTTPRequestHandler):
+    """Answers with feeds that pages of every site may read; a feed that isn't there is 503."""
+
+    def do_GET(self):
+        """Answers with a feed as it stands."""
+        feed = self.server.feeds.get(Path(self.path).stem)
+        self.send_response(200 if feed else 503)
+        self.send_header("Access-Control-Allow-Origin", "*")
+        self.end_headers()
+        self.wfile.write(feed.encode() if isinstance(feed, str) else json.dumps(feed).encode())
+
+    def log_message(self, *about):
+        """Nothing."""
+
+
+@contextlib.contextmanager
+def served(feeds):
+    """Serves feeds, by name a text or an object, and gives the page's address for them."""
+    with http.server.ThreadingHTTPServer(("127.0.0.1", 0), Feeds) as server:
+        server.feeds = feeds
+        threading.Thread(target=server.serve_forever, daemon=True).start()
+        url = f"http://127.0.0.1:{server.server_address[1]}"
+        feeds["gbfs"]["data"] = {"feeds": [{"name": it["name"], "url": f"{url}/{it['name']}.json"} for it in PLAIN["gbfs"]["feeds"]]}
+        try:
+            yield f"{LIVE.as_uri()}?feeds={url}/gbfs.json"
+        finally:
+            server.shutdown()
+
+
+def test_the_live_page_of_hard_feeds(program):
+    """The page shows texts as they stand and in the browser's language, goes on without a feed that is missing, and says which is late."""
+    if not has("chromium", "test_the_live_page_of_hard_feeds"):
+        return
+    evil = "<img src=x onerror=\"document.title='broken in'\"></title><script>document.title='broken in'</script>&amp;"
+    names = {
+        "A <1>": [{"text": evil, "language": "sv"}],
+        "b": [{"text": "Bee", "language": "en"}, {"text": "Abeille", "language": "fr"}],
+        "c": [{"text": "Drei", "language": "de"}, {"text": "Three", "language": "en-GB"}, {"text": "Tri", "language": "cy"}],
+        "d": [{"text": "  ", "language": "fr"}],
+        "e": "no list",
+    }
+    places = [{"station_id": it, "name": name, "lat": 10 + at / 100, "lon": 1.5} for at, (it, name) in enumerate(names.items())]
+    places += [{"station_id": "nowhere", "name": names["b"], "lat": None, "lon": 2}, None]
+    now = datetime.datetime.now(datetime.timezone.utc)
+    head = {"last_updated": now.isoformat(timespec="seconds"), "ttl": 60, "version": "3.0"}
+    states = [{**PLAIN["station_status"]["stations"][0], "num_vehicles_available": -1}, *PLAIN["station_status"]["stations"][1:]]
+    feeds = {
+        "gbfs": dict(head),
+        "system_information": {**head, "data": {"name": [{"text": evil, "language": "en"}], "timezone": "No/Where"}},
+        "station_information": {**head, "data": {"stations": places}},
+        "station_status": {**head, "last_updated": "2024-10-27T12:00:00Z", "data": {"stations": states}},
+    }
+    with served(feeds) as address:
+        page = Page(dumped(program, address, "fr-CA,de"))
+        found = {station: cells[:2] for station, cells in table_of(page).items()}
+        assert found == {"A <1>": [evil, "0"], "b": ["Abeille", "0"], "c": ["Drei", "?"], "d": ["d", "9"], "e": ["e", "?"]}, found
+        assert (page.texts["name"], page.title) == (evil, evil) and not [it for it in page.elements if it[0] == "img"], page.title
+        assert page.texts["notices"].startswith("Late: station_status, of 27 Oct 2024, 12:00:00 UTC, "), page.texts["notices"]
+        for name, text, wanted in (
+            ("station_status", None, "its site answers with 503; stations are shown without bicycles. Tried again "),
+            ("station_status", '{"version":', "it is no JSON; stations are shown without bicycles. Tried again "),
+            ("system_information", {"version": "2.3", "data": {}}, "it is no feed of GBFS v3; the system has no name here. Tried again "),
+        ):
+            kept, feeds[name] = feeds[name], text
+            page = Page(dumped(program, address))
+            assert len(table_of(page)) == 5 and f"{name} can’t be read: {wanted}" in page.texts["notices"], page.texts["notices"]
+            feeds[name] = kept
+        feeds["station_information"] = None
+        page = Page(dumped(program, address))
+        assert page.texts["notices"].startswith("station_information can’t be read: its site answers with 503; there is no map yet."), page.texts

@@ -5,6 +5,7 @@ The tests of the gateway need nginx, that of the unit files systemd-analyze. Whe
 """
 
 import contextlib
+import gzip
 import http.client
 import importlib.util
 import json
@@ -16,6 +17,8 @@ import sqlite3
 import subprocess
 import threading
 import time
+from datetime import datetime
+from email.utils import parsedate_to_datetime
 from pathlib import Path
 
 HERE = Path(__file__).resolve().parent
@@ -314,9 +317,12 @@ def free_port():
         return found.getsockname()[1]
 
 
-def configuration(port, cities):
+def configuration(port, cities, ttl):
     """The text of deploy/nginx.conf on this port, with its city's lines once for each city, a name and its program's port."""
     text = (DEPLOY / "nginx.conf").read_text()
+    for found, wanted in ("max-age=30", f"max-age={ttl}"), ("127.0.0.1:8079", f"127.0.0.1:{free_port()}"):
+        assert found in text, found
+        text = text.replace(found, wanted)
     before, city, after = re.fullmatch(r"(.*?)(    # Begin of the city metro.*?    # End of the city metro\.\n)(.*)", text, re.S).groups()
     copies = [city.replace("metro", name).replace("127.0.0.1:8080", f"127.0.0.1:{at}") for name, at in cities.items()]
     return (before + "".join(copies) + after).replace("127.0.0.1:8081", f"127.0.0.1:{port}")
@@ -325,11 +331,11 @@ def configuration(port, cities):
 class Gateway:
     """nginx with deploy/nginx.conf on a free port, as a user without rights, before the servers of these cities."""
 
-    def __init__(self, program, cities, tokens=None):
+    def __init__(self, program, cities, tokens=None, ttl=30):
         self.port = free_port()
         self.folder = Path(program.folder, "gateway")
         self.folder.mkdir()
-        (self.folder / "nginx.conf").write_text(configuration(self.port, cities))
+        (self.folder / "nginx.conf").write_text(configuration(self.port, cities, ttl))
         for name in cities:
             lines = (f'"Bearer {token}" {caller};\n' for caller, token in (tokens or {}).get(name, TOKENS).items())
             (self.folder / f"{name}.callers").write_text("".join(lines))
@@ -365,6 +371,8 @@ class Gateway:
             client.request(method, path, body, {"Host": host, **token, **named}, encode_chunked="Transfer-Encoding" in named)
             answer = client.getresponse()
             text = answer.read()
+        if text and answer.headers["Content-Encoding"] == "gzip":
+            text = gzip.decompress(text)
         return answer.status, answer.headers, json.loads(text) if text else None
 
     def told(self, *asked, **how):
@@ -490,3 +498,139 @@ def test_gateway_of_two_cities(program):
             assert gateway.told("GET", "/riders/18", "office:anna", host="rome.example") == UNAUTHORIZED
             for host in "metro.example", "rome.example":
                 assert gateway.told("GET", "/gbfs/3.0/gbfs.json", host=host) == (200, "")
+
+# What an answer's head says: which pages may read it, and how long caches may keep it.
+FEED, KEPT, UNKEPT, PRIVATE = "/gbfs/3.0/gbfs.json", ("*", "public, max-age=30"), ("*", "no-store"), (None, "no-store")
+
+
+def readers(head):
+    """Which pages may read an answer, and how long caches may keep it."""
+    return head["Access-Control-Allow-Origin"], head["Cache-Control"]
+
+
+def test_gateway_feeds_for_pages_and_caches(program):
+    """Pages of every site may read feeds, and caches may keep them as long as their ttl. HEAD tells the same as GET."""
+    if not has("nginx", "test_gateway_feeds_for_pages_and_caches"):
+        return
+    serving.city(program)
+    with serving.Server(program) as server, Gateway(program, {"metro": server.port}) as gateway:
+        found = {f"/gbfs/3.0/{name}.json": gateway.ask("GET", f"/gbfs/3.0/{name}.json") for name in serving.NAMES}
+        server.stop()
+        time.sleep(1.1)
+        for path, (status, head, body) in found.items():
+            assert (status, readers(head), head["Vary"]) == (200, KEPT, "Accept-Encoding"), (path, status, head.items())
+            assert f"max-age={body['ttl']}" in head["Cache-Control"] and re.fullmatch('"[0-9a-f]{32}"', head["ETag"]), head.items()
+            assert head["Content-Type"] == "application/json" and "ETag" in head["Access-Control-Expose-Headers"], head.items()
+            # A cache counts from Date: that is when the program was asked, as the feed's own moment is.
+            asked = parsedate_to_datetime(head["Date"]).timestamp()
+            assert 0 <= asked - datetime.fromisoformat(body["last_updated"].replace("Z", "+00:00")).timestamp() <= 1, (head["Date"], body)
+            for method, wanted in ("GET", body), ("HEAD", None):
+                again = gateway.ask(method, path)
+                assert (again[0], sorted(again[1].items()), again[2]) == (200, sorted(head.items()), wanted), (path, method, again)
+        assert len({head["ETag"] for _, head, _ in found.values()}) == len(found)
+
+
+def test_gateway_feeds_are_pressed(program):
+    """Who takes gzip gets a feed as gzip, also through another proxy; who doesn't gets it as it is."""
+    if not has("nginx", "test_gateway_feeds_are_pressed"):
+        return
+    serving.city(program)
+    with serving.Server(program) as server, Gateway(program, {"metro": server.port}) as gateway:
+        _, plain, body = gateway.ask("GET", FEED)
+        for fields in {"Accept_Encoding": "gzip"}, {"Accept_Encoding": "br, gzip;q=0.5", "Via": "1.1 other"}:
+            status, head, pressed = gateway.ask("GET", FEED, **fields)
+            assert (status, head["Content-Encoding"], pressed, readers(head)) == (200, "gzip", body, KEPT), (status, head.items())
+            assert (head["Vary"], head["ETag"]) == ("Accept-Encoding", f"W/{plain['ETag']}"), head.items()
+        for fields in {"Accept_Encoding": "br"}, {"Accept_Encoding": "gzip;q=0"}, {}:
+            _, head, same = gateway.ask("GET", FEED, **fields)
+            assert (head["Content-Encoding"], same, head["ETag"]) == (None, body, plain["ETag"]), head.items()
+
+
+def test_gateway_feeds_that_are_still_good(program):
+    """Who has a feed is told so until the program is asked anew. While that is away, the feed of before says how old it is."""
+    if not has("nginx", "test_gateway_feeds_that_are_still_good"):
+        return
+    serving.city(program)
+    with serving.Server(program) as server, Gateway(program, {"metro": server.port}, ttl=2) as gateway:
+        _, first, _ = gateway.ask("GET", FEED)
+        tag, told = first["ETag"], ("*", "public, max-age=2")
+        for method in "GET", "HEAD":
+            for has_it in tag, f"W/{tag}", f'"other", {tag}', "*":
+                status, head, body = gateway.ask(method, FEED, If_None_Match=has_it, Accept_Encoding="gzip")
+                assert (status, body, readers(head), head["ETag"], head["Vary"]) == (304, None, told, tag, "Accept-Encoding"), (has_it, status)
+                assert "Content-Encoding" not in head, head.items()
+        assert gateway.ask("GET", FEED, If_None_Match='"other"')[0] == 200
+        # nginx counts whole seconds, and the last of them to its end.
+        time.sleep(3.2)
+        status, second, _ = gateway.ask("GET", FEED, If_None_Match=tag)
+        assert status == 200 and second["ETag"] != tag and second["Date"] != first["Date"], (status, second.items())
+        server.stop()
+        time.sleep(3.2)
+        status, head, _ = gateway.ask("GET", FEED)
+        assert (status, head["Date"], head["ETag"], readers(head)) == (200, second["Date"], second["ETag"], told), (status, head.items())
+
+
+def test_gateway_answers_preflights(program):
+    """What a browser asks before a page's request is answered for feeds alone, and by the gateway itself."""
+    if not has("nginx", "test_gateway_answers_preflights"):
+        return
+    serving.city(program)
+    asked = {"Origin": "https://other.example", "Access_Control_Request_Method": "GET", "Access_Control_Request_Headers": "x-page"}
+    with serving.Server(program) as server, Gateway(program, {"metro": server.port}) as gateway:
+        server.stop()
+        for name in serving.NAMES:
+            status, head, body = gateway.ask("OPTIONS", f"/gbfs/3.0/{name}.json", **asked)
+            found = [head[f"Access-Control-{it}"] for it in ("Allow-Origin", "Allow-Methods", "Allow-Headers", "Allow-Credentials")]
+            assert (status, found, head["Allow"], body) == (204, ["*", "GET, HEAD", "*", None], "GET, HEAD, OPTIONS", None), (name, head.items())
+        for path in ("/", "/gbfs/3.0/", "/gbfs/3.0/system_regions.json", *(path for _, path in ROUTES)):
+            for caller, wanted in (None, 401), ("office:anna", 403):
+                status, head, _ = gateway.ask("OPTIONS", path, caller, **asked)
+                assert (status, readers(head)) == (wanted, PRIVATE), (path, status, head.items())
+                assert not [it for it in head if it.startswith("Access-Control")], head.items()
+
+
+def test_gateway_keeps_callers_answers_to_them(program):
+    """What the office, riders, docks and crews are answered, and errors there, no cache keeps and no page of another site reads."""
+    if not has("nginx", "test_gateway_keeps_callers_answers_to_them"):
+        return
+    serving.city(program)
+    origin = {"Origin": "https://other.example", "Accept_Encoding": "gzip"}
+    with serving.Server(program) as server, Gateway(program, {"metro": server.port}) as gateway:
+        statuses = set()
+        for method, path in [*ROUTES, ("GET", "/gbfs/3.0/system_regions.json"), ("GET", "/riders/17/"), ("POST", "/riders/1/start")]:
+            for caller in (None, *TOKENS):
+                body = "{" + " " * 16384 if caller == "office:anna" and path == "/docks/a1/end" else "{}" if method == "POST" else None
+                status, head, _ = gateway.ask(method, path, caller, body, **origin)
+                statuses.add(status)
+                assert readers(head) == PRIVATE and not set(head) & {"ETag", "Vary", "Content-Encoding", "Age", "Expires"}, (path, head.items())
+                assert head["WWW-Authenticate"] == ("Bearer" if status == 401 else None), (path, head.items())
+        server.stop()
+        for host in "metro.example", "other.example":
+            status, head, _ = gateway.ask("GET", "/riders/17", "office:anna", host=host, **origin)
+            statuses.add(status)
+            assert readers(head) == PRIVATE and head["Retry-After"] == ("5" if status == 503 else None), (status, head.items())
+        assert statuses == {200, 400, 401, 403, 404, 413, 421, 503}, statuses
+
+
+def test_gateway_errors_at_feeds(program):
+    """An error at a feed's path has the form of the program's, pages of every site may read it, and no cache keeps it."""
+    if not has("nginx", "test_gateway_errors_at_feeds"):
+        return
+    assert program.run("init", "city.db") == (0, b"ready\n", b"")
+
+    def error(wanted, name, pause=None, **how):
+        """Holds that a feed is answered by this error."""
+        status, head, body = gateway.ask(path=FEED, **{"method": "GET", **how})
+        assert (status, body, readers(head)) == (wanted, {"result": "error", "name": name}, UNKEPT), (status, body, head.items())
+        assert (head["Content-Type"], head["Retry-After"], head["ETag"]) == ("application/json", pause, None), head.items()
+        assert pause is None or "Retry-After" in head["Access-Control-Expose-Headers"], head.items()
+
+    with serving.Server(program) as server, Gateway(program, {"metro": server.port}) as gateway:
+        error(404, "not_found")
+        error(404, "not_found", If_None_Match="*", Accept_Encoding="gzip")
+        error(403, "forbidden", method="POST", body="{}")
+        server.stop()
+        error(503, "unavailable", "5")
+        found = [gateway.ask("GET", FEED)[0] for _ in range(60)]
+        assert 429 in found, found
+        error(429, "too_many", "1")
