@@ -37,6 +37,7 @@ BOUNDS = {
     "GREATEST_BALANCE": (10**6 + 8 * 10**5 * (30 * 24 * 60 + 1)) * (10**8 - 1),
     "MOST_PLANS": 256,
     "MOST_TYPES": 32,
+    "MOST_REGIONS": 256,
     "MOST_STATIONS": 5000,
     "MOST_BIKES": 10**5,
     "MOST_TRUCKS": 1000,

@@ -26,7 +26,7 @@ from pathlib import Path
 TOP = Path(__file__).resolve().parent.parent
 TOUR, MAP, PICTURE = TOP / "examples/city/run", TOP / "examples/map/map.py", TOP / "docs/pictures/city.svg"
 LIVE, SHOW = TOP / "examples/map/live.html", TOP / "examples/map/show"
-STEPS = ["init", "setup", "stations", "fleet", "docks", "morning", "day", "feeds", "serve", "tables", "check"]
+STEPS = ["init", "setup", "stations", "regions", "fleet", "docks", "morning", "day", "feeds", "serve", "tables", "check"]
 SECONDS = 60
 
 # A system with what GBFS v3.0 requires and no more, but for a feed and members that nobody knows.
@@ -79,6 +79,23 @@ def holds_the_city(text):
     assert len(city()) == 60 and sorted(found) == sorted(city()), found
 
 
+def holds_the_regions(text):
+    """Whether a picture has the name of each region of the tour once, and each station that stands in one tells it last."""
+    feed = json.loads((TOP / "examples/city/feeds/system_regions.json").read_text(encoding="utf-8"))
+    names = {it["region_id"]: it["name"][0]["text"] for it in feed["regions"]}
+    texts = [it.text for it in xml.fromstring(text).iter("{http://www.w3.org/2000/svg}text") if it.get("font-size") == "22"]
+    assert sorted(texts) == sorted(names.values()) and len(texts) == 5, texts
+    # What the request lines of the tour's step say last of each station.
+    wanted = {}
+    answers = (TOP / "examples/city/regions.out").read_text(encoding="utf-8").splitlines()
+    for line, answer in zip((TOP / "examples/city/regions.in").read_text(encoding="utf-8").splitlines(), answers):
+        word, *fields = line.split("\t")[3:]
+        if (word, answer) == ("set-region", "ok"):
+            wanted[fields[0]] = names.get(fields[1], "capacity")
+    found = {station: told[-1] for station, told in stations_of(text)}
+    assert len(wanted) == 60 and all(found[it].startswith(name) for it, name in wanted.items()), {it: (found[it], wanted[it]) for it in wanted}
+
+
 def saved(program, feeds, heads=None):
     """Writes feeds into a folder of the test."""
     folder = Path(program.folder) / "feeds"
@@ -94,6 +111,7 @@ def test_the_tour_and_its_map(program):
     assert lines[0].startswith("results in ") and lines[-1].startswith("all answers are as wanted"), lines
     results = Path(program.folder) / "results"
     holds_the_city((results / "map.svg").read_text(encoding="utf-8"))
+    holds_the_regions((results / "map.svg").read_text(encoding="utf-8"))
     page = (results / "map.html").read_text(encoding="utf-8")
     picture = page[page.index("<svg ") : page.index("</svg>") + 6]
     holds_the_city(picture)
@@ -169,6 +187,26 @@ def test_the_map_of_a_plain_system(program):
     assert '<html lang="ar">' in Path(program.folder, "plain.html").read_text(encoding="utf-8")
 
 
+def test_the_map_of_regions(program):
+    """A region's name stands in the middle of its stations; one that has no name is told by its identifier, and one without stations isn't."""
+    names = [*NAMES, "system_regions"]
+    places = [dict(it, region_id=region) for it, region in zip(PLAIN["station_information"]["stations"], ("east <1>", "x-9"))]
+    saved(program, {
+        **PLAIN, "gbfs": {"feeds": [{"name": it, "url": f"https://example.org/{it}"} for it in names]}, "station_information": {"stations": places},
+        "system_regions": {"regions": [
+            {"region_id": "east <1>", "name": [{"text": "East & South", "language": "en"}, {"text": "L’est", "language": "fr"}]},
+            {"region_id": "none", "name": [{"text": "No stations", "language": "en"}]},
+        ]},
+    })
+    status, out, said = draw(program, "feeds", "--svg", "regions.svg", "--html", "regions.html")
+    assert (status, out, said) == (0, "2 stations, 3 bicycles available, 0 free docks\n", ""), (status, out, said)
+    text = Path(program.folder, "regions.svg").read_text(encoding="utf-8")
+    assert {station: told[-1] for station, told in stations_of(text)} == {"A <1>": "L’est", "b": "x-9"}, stations_of(text)
+    assert text.count(">L’est</text>") == text.count(">x-9</text>") == 1 and "No stations" not in text and "East" not in text
+    page = Path(program.folder, "regions.html").read_text(encoding="utf-8")
+    assert "<th>Station</th><th>Region</th>" in page and "<td>Öst &amp; West</td><td>L’est</td>" in page, page[-3000:]
+
+
 def test_the_map_of_no_stations(program):
     saved(program, {**PLAIN, "station_information": {"stations": []}})
     assert draw(program, "feeds", "--svg", "none.svg", "--html", "none.html") == (0, "0 stations, 0 bicycles available, 0 free docks\n", "")
@@ -201,6 +239,7 @@ def test_the_map_refuses_what_is_no_gbfs(program):
         (changed("station_information", "lat", 91), {}, "station A <1>: lat is not from -90 to 90"),
         (changed("station_information", "lon", "x"), {}, "station A <1>: lon is not a number"),
         (changed("station_information", "station_id", "b"), {}, "station_information: station_id b stands twice"),
+        (changed("station_information", "region_id", 7), {}, "station A <1>: region_id is not a text"),
     ]
     for feeds, heads, wanted in cases:
         saved(program, {**PLAIN, **feeds}, heads)
@@ -219,6 +258,7 @@ def test_the_map_refuses_what_is_no_gbfs(program):
 def test_the_picture_of_the_readme(program):
     text = PICTURE.read_text(encoding="utf-8")
     holds_the_city(text)
+    holds_the_regions(text)
     assert xml.fromstring(text).get("width") == "900" and len(text.encode()) < 60000 and "<script" not in text
 
 
@@ -342,7 +382,7 @@ def test_the_live_page_of_the_tour(program):
     assert found == wanted, {it: (found.get(it), wanted[it]) for it in wanted if found.get(it) != wanted[it]}
     drawn = sorted(about["data-station"] for tag, about in page.elements if tag == "g" and "data-station" in about)
     assert drawn == sorted(wanted) and page.texts["name"] == "Marlmouth Bikes" and "notices" not in page.texts, page.texts.get("notices")
-    assert "Basic£1.00from minute 30: £0.25 each 5 minutes" in page.texts["prices"] and page.texts["card"].startswith("Ferry Terminal")
+    assert "Basic£1.00from minute 30: £0.25 each 5 minutes" in page.texts["prices"] and page.texts["card"].startswith("Ferry TerminalHarbour")
     assert re.match(r"As of .* 20\d\d, \d\d:\d\d:\d\d ", page.texts["moment"]), page.texts["moment"]
     assert page.texts["sums"].startswith(f"Bicycles available{sum(it[0] for it in counts.values())}Free docks"), page.texts["sums"]
 

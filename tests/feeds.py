@@ -1,4 +1,4 @@
-"""The six feeds, as `feed` writes them: the worked texts, names that need escapes, and a made city whose numbers are counted from
+"""The feeds, as `feed` writes them: the worked texts, names that need escapes, regions, and a made city whose numbers are counted from
 its tables by plain SQL."""
 
 import itertools
@@ -9,7 +9,7 @@ import sqlite3
 import subprocess
 from pathlib import Path
 
-NAMES = ["gbfs", "system_information", "vehicle_types", "station_information", "station_status", "system_pricing_plans"]
+NAMES = ["gbfs", "system_information", "vehicle_types", "station_information", "station_status", "system_pricing_plans", "system_regions"]
 NOW = "1700000000"
 HEAD = '{"last_updated":"2023-11-14T22:13:20Z","ttl":30,"version":"3.0","data":'
 
@@ -45,6 +45,7 @@ DATA = {
     "system_pricing_plans": '{"plans":[{"plan_id":"basic","name":[{"text":"Basic","language":"en"}],"currency":"EUR",'
     '"price":1.00,"is_taxable":false,"description":[{"text":"One euro and then a quarter","language":"en"}],'
     '"per_min_pricing":[{"start":30,"rate":0.25,"interval":5}]}]}',
+    "system_regions": '{"regions":[]}',
 }
 
 
@@ -91,6 +92,7 @@ def test_a_system_alone(program):
     assert feed(program, "station_information") == HEAD + '{"stations":[]}}'
     assert feed(program, "vehicle_types") == HEAD + '{"vehicle_types":[]}}'
     assert feed(program, "system_pricing_plans") == HEAD + '{"plans":[]}}'
+    assert feed(program, "system_regions") == HEAD + '{"regions":[]}}'
 
 
 # Commands after a system alone, and the whole data of a feed then.
@@ -131,6 +133,26 @@ TEXTS = [
         '{"vehicle_type_id":"city","form_factor":"bicycle","propulsion_type":"human","name":[{"text":"City","language":"en"}],'
         '"default_pricing_plan_id":"basic"}]}',
     ),
+    # Regions in byte order, whatever order they came in and whether a station stands in them; names with escapes.
+    (
+        ["add-region\ta_b\tÀ \\\\ \\t🚲", 'add-region\tab\tQ "1"', "add-region\t-\t\x7f", "add-station\tb2\tBridge\t0\t0\t1", "set-region\tb2\tab", "add-region\t0\t/"],
+        "system_regions",
+        '{"regions":[{"region_id":"-","name":[{"text":"\x7f","language":"en"}]},{"region_id":"0","name":[{"text":"/","language":"en"}]},'
+        '{"region_id":"a_b","name":[{"text":"À \\\\ \\t🚲","language":"en"}]},{"region_id":"ab","name":[{"text":"Q \\"1\\"","language":"en"}]}]}',
+    ),
+    # A member where there is a region, and none where there isn't.
+    (
+        [
+            "add-region\tr-1\tOne", "add-region\ta1\tTwo",
+            *(f"add-station\t{it}\tStation\t-1\t1\t1" for it in ("a1", "b2", "c3", "d4")),
+            "set-region\tb2\tr-1", "set-region\tc3\tr-1", "set-region\tc3\ta1", "set-region\td4\ta1", "set-region\td4\t*",
+        ],
+        "station_information",
+        '{"stations":[{"station_id":"a1","name":[{"text":"Station","language":"en"}],"lat":-1.000000,"lon":1.000000,"capacity":1},'
+        '{"station_id":"b2","name":[{"text":"Station","language":"en"}],"lat":-1.000000,"lon":1.000000,"region_id":"r-1","capacity":1},'
+        '{"station_id":"c3","name":[{"text":"Station","language":"en"}],"lat":-1.000000,"lon":1.000000,"region_id":"a1","capacity":1},'
+        '{"station_id":"d4","name":[{"text":"Station","language":"en"}],"lat":-1.000000,"lon":1.000000,"capacity":1}]}',
+    ),
 ]
 
 
@@ -140,6 +162,51 @@ def test_texts_of_the_catalogue(program):
             part.unlink()
         assert ask(program, [SYSTEM, *commands]) == ["ok"] * (1 + len(commands)), commands
         assert feed(program, name) == HEAD + data + "}", (name, feed(program, name))
+
+
+# A command after the city, its answer, and what it makes of the city's data where it is accepted. All at a later moment than the city's.
+LON, NORTH = '"lon":12.492269,', '{"region_id":"north","name":[{"text":"North","language":"en"}]}'
+REGIONS = [
+    ("set-region\ta1\tnorth", "refused\t37\tunknown_region", {}),
+    ("add-region\tnorth\tNorth", "ok", {"system_regions": ("[]", f"[{NORTH}]")}),
+    ("set-region\ta1\tnorth", "ok", {"station_information": (LON, f'{LON}"region_id":"north",')}),
+    ("set-region\ta1\tsouth", "refused\t37\tunknown_region", {}),
+    ("set-region\tzz\tsouth", "refused\t1\tunknown_station", {}),
+    ("set-region\tzz\t*", "refused\t1\tunknown_station", {}),
+    ("add-region\tsouth\tSouth", "ok", {"system_regions": (NORTH, NORTH + "," + NORTH.replace("north", "south").replace("North", "South"))}),
+    ("add-region\tnorth\tOther", "refused\t10\talready_there", {}),
+    ("set-region\ta1\tsouth", "ok", {"station_information": ('"region_id":"north"', '"region_id":"south"')}),
+    ("set-region\ta1\tsouth", "ok", {}),
+    ("set-region\ta1\t*", "ok", {"station_information": ('"region_id":"south",', "")}),
+    ("set-region\ta1\t*", "ok", {}),
+]
+
+
+def test_regions(program):
+    """Each answer, and all feeds after it. Neither command reports, so `station_status` stays as it was, its last report too."""
+    ask(program, CITY)
+    data = dict(DATA)
+    for at, (command, answer, changes) in enumerate(REGIONS):
+        assert ask(program, [command], at=1699999300 + at, first=100 + at) == [answer], (command, answer)
+        for name, (old, new) in changes.items():
+            assert data[name].count(old) == 1, (command, data[name])
+            data[name] = data[name].replace(old, new)
+        for name in NAMES:
+            assert feed(program, name) == HEAD + data[name] + "}", (command, name, feed(program, name))
+    assert data == {**DATA, "system_regions": data["system_regions"]}, data
+    assert program.run("check", "city.db") == (0, b"sound\n", b"")
+
+
+def test_256_regions(program):
+    """As many as there may be, in byte order, and a station in the last of them."""
+    regions = [f"r{it}" for it in range(256)]
+    random.Random(7).shuffle(regions)
+    commands = [SYSTEM, *(f"add-region\t{it}\tRegion {it}" for it in regions), "add-station\ta1\tHarbour\t0\t0\t1", "set-region\ta1\tr99"]
+    assert ask(program, commands) == ["ok"] * 259
+    found = json.loads(feed(program, "system_regions"))["data"]["regions"]
+    assert found == [{"region_id": it, "name": [{"text": f"Region {it}", "language": "en"}]} for it in sorted(regions)], found
+    (station,) = json.loads(feed(program, "station_information"))["data"]["stations"]
+    assert station["region_id"] == "r99" == found[-1]["region_id"], (station, found[-1])
 
 
 # A station that isn't installed, before there are types and after; and one that takes no bicycle back, with three bicycles in its twelve docks, of
@@ -336,6 +403,8 @@ def made_city(seed):
     commands += [f"add-type\t{it}\tType {it}\tbicycle\thuman\t0\tbasic" for it in types]
     docks = {f"s{it}": pick.randint(1, 12) for it in range(20)}
     commands += [f"add-station\t{it}\tStation {it}\t{pick.randint(-90, 90)}\t{pick.randint(-180, 180)}\t{n}" for it, n in docks.items()]
+    commands += [f"add-region\tr{it}\tRegion {it}" for it in range(5)]
+    commands += [f"set-region\t{it}\t{pick.choice(['*', 'r0', 'r1', 'r2', 'r3'])}" for it in pick.choices(list(docks), k=30)]
     bike = order = 0
     for station, n in docks.items():
         for dock in pick.sample(range(1, n + 1), pick.randint(0, n)):
@@ -361,7 +430,7 @@ COUNTED = """
 SELECT stations.station_id, types.type_id,
   (SELECT count(*) FROM bikes LEFT JOIN docks ON docks.station_id = bikes.station_id AND docks.dock = bikes.dock
      WHERE bikes.station_id = stations.station_id AND bikes.type_id = types.type_id AND bikes.state = 0 AND coalesce(docks.broken, 0) = 0)
-FROM stations, types ORDER BY 1, 2
+FROM stations_2 AS stations, types ORDER BY 1, 2
 """
 
 
@@ -381,8 +450,14 @@ def test_a_made_city_is_counted_by_sql(program):
         both = dict(db.execute(
             "SELECT bikes.station_id, count(*) FROM bikes JOIN docks USING (station_id, dock) WHERE docks.broken = 1 GROUP BY 1"
         ))
-        capacity = dict(db.execute("SELECT station_id, docks FROM stations"))
+        capacity = dict(db.execute("SELECT station_id, docks FROM stations_2"))
+        region = dict(db.execute("SELECT station_id, region_id FROM stations_2 JOIN regions USING (region_id)"))
+        names = db.execute("SELECT region_id, regions.name FROM regions ORDER BY region_id").fetchall()
         db.close()
+        places = json.loads(feed(program, "station_information"))["data"]["stations"]
+        assert {it["station_id"]: it["region_id"] for it in places if "region_id" in it} == region and 3 < len(region) < len(places), (seed, places)
+        regions = json.loads(feed(program, "system_regions"))["data"]["regions"]
+        assert [(it["region_id"], it["name"][0]["text"]) for it in regions] == names and len(names) == 5, (seed, regions)
         assert list(found) == sorted(capacity), list(found)
         for station, shown in found.items():
             total = sum(it["count"] for it in available[station])
@@ -397,7 +472,7 @@ def test_a_made_city_is_counted_by_sql(program):
 def test_wrong_names_and_moments(program):
     ask(program, CITY)
     for words in (
-        ["status"], ["vehicle_status"], ["Station_Status"], ["Gbfs"], [""], ["gbfs", "gbfs"], [], ["gbfs", "--at"], ["gbfs", "--at", "-1"], ["gbfs", "--at", "+1"],
+        ["status"], ["vehicle_status"], ["regions"], ["system_region"], ["Station_Status"], ["Gbfs"], [""], ["gbfs", "gbfs"], [], ["gbfs", "--at"], ["gbfs", "--at", "-1"], ["gbfs", "--at", "+1"],
         ["gbfs", "--at", "253402300800"], ["gbfs", "--at", "1.5"], ["gbfs", "--at", ""], ["gbfs", "--on", "1"], ["gbfs", "--at", "1", "--at", "2"],
     ):
         status, out, said = program.run("feed", "city.db", *words)

@@ -10,7 +10,7 @@ REFUSALS = dict(enumerate((
     "unknown_station unknown_dock unknown_bike unknown_rider unknown_rental unknown_type unknown_plan unknown_truck unknown_order already_there "
     "bad_field dock_empty dock_full dock_broken bike_disabled not_renting not_returning rider_blocked balance_negative rider_is_riding not_rented "
     "not_in_depot bike_retired truck_too_small wrong_place wrong_type order_closed order_filled bikes_on_truck refund_too_large rental_open "
-    "limit_reached key_reused truck_full rental_closed wrong_truck_or_ends"
+    "limit_reached key_reused truck_full rental_closed wrong_truck_or_ends unknown_region"
 ).split(), 1))
 
 
@@ -23,6 +23,7 @@ def is_key(text):
 
 
 def is_end(text):
+    """Whether the text is an identifier, or `*` in place of one: an end of an order, or the region of a station."""
     return text == b"*" or is_ident(text)
 
 
@@ -122,7 +123,9 @@ COMMANDS = {
     b"add-plan": [is_ident, is_name, within(0, 1_000_000), FLAG, is_name, is_segments],
     b"add-type": [is_ident, is_name, one_of("bicycle", "cargo_bicycle"), one_of("human", "electric_assist"), within(0, 1_000_000), is_ident],
     b"set-plan": [is_ident, is_ident],
+    b"add-region": [is_ident, is_name],
     b"add-station": [is_ident, is_name, lambda it: coordinate(it, 90_000_000) is not None, lambda it: coordinate(it, 180_000_000) is not None, DOCK],
+    b"set-region": [is_ident, is_end],
     b"set-station": [is_ident, FLAG, FLAG, FLAG],
     b"mark-dock": [is_ident, DOCK, one_of("broken", "working")],
     b"add-bike": [COUNTED, is_ident],
@@ -176,7 +179,7 @@ def is_reply(text):
     """Whether the text is one of section 3."""
     word, *fields = text.split(b"\t")
     if word == b"refused":
-        return len(fields) == 2 and within(1, 36)(fields[0]) and REFUSALS[int(fields[0])].encode() == fields[1]
+        return len(fields) == 2 and within(1, len(REFUSALS))(fields[0]) and REFUSALS[int(fields[0])].encode() == fields[1]
     wanted = {
         b"ok": [], b"balance": [is_balance], b"rental": [SERIALS, COUNTED], b"fare": [within(0, GREATEST_FARE), is_balance], b"order": [SERIALS],
     }.get(word)

@@ -47,7 +47,7 @@ def told(data):
 
 # ---- what inputs are made of
 
-TYPES, PLANS, STATIONS = ["city", "cargo", "none"], ["basic", "day", "none"], ["a1", "b2", "c3", "zz"]
+TYPES, PLANS, STATIONS, REGIONS = ["city", "cargo", "none"], ["basic", "day", "none"], ["a1", "b2", "c3", "zz"], ["north", "south", "a1", "zz"]
 TEXTS = [
     "Name", "Łódź 🚲", "a\\tb", "\\\\", "\\n\\r", "\\x", "\\", "", "é" * 60, "é" * 61, "n" * 120, "n" * 121, " ", "\x7f", "\x01", "\u0085", "\u2028",
     "\ufeff", "\U0010ffff", "'; DROP TABLE bikes; --", "%s%n", "../..", '"', "\u202e",
@@ -95,6 +95,9 @@ def command(pick):
     def end():
         return "*" if pick.random() < 0.4 else station()
 
+    def region():
+        return pick.choice(REGIONS) if pick.random() < 0.9 else pick.choice(["North", "", "*", "**", "r" * 36, "r" * 37, "a b"])
+
     def kind():
         return pick.choice(TYPES)
 
@@ -116,6 +119,8 @@ def command(pick):
         "set-plan": lambda: [kind(), pick.choice(PLANS)],
         "add-station": lambda: [pick.choice([station(), f"s{pick.randint(0, 500)}"]), text(), degrees(), degrees(), dock()],
         "set-station": lambda: [station(), flag(), flag(), flag()],
+        "add-region": lambda: [pick.choice([region(), f"r{pick.randint(0, 300)}"]), text()],
+        "set-region": lambda: [station(), "*" if pick.random() < 0.3 else region()],
         "mark-dock": lambda: [station(), dock(), pick.choice(["broken", "working", "fit"])],
         "add-bike": lambda: [bike(), kind()],
         "mark-bike": lambda: [bike(), pick.choice(["disabled", "fit", "broken"])],
@@ -132,6 +137,7 @@ def command(pick):
         "load": lambda: [pick.choice(["1", "2", "3", bike()]), serial(), bike()],
         "unload": lambda: [pick.choice(["1", "2", "3", bike()]), serial(), bike(), pick.choice(["from", "to"]), pick.choice(["0", dock()])],
         "close-order": lambda: [serial()],
+        "add-name": lambda: ["station", station(), pick.choice(LANGUAGES), text()],
         "raise": lambda: [""],
     }
     often = ["start", "end", "load", "unload", "open-order", "add-bike", "top-up", "mark-bike", "mark-dock"]
@@ -202,6 +208,7 @@ CITY = [
     "add-plan\tbasic\tBasic\t100\tfalse\tBasic\t30:25:5:-", "add-plan\tday\tDay\t250\ttrue\tDay\t-",
     "add-type\tcity\tCity\tbicycle\thuman\t0\tbasic", "add-type\tcargo\tCargo\tcargo_bicycle\telectric_assist\t60000\tday",
     "add-station\ta1\tHarbour\t41.890169\t12.492269\t6", "add-station\tb2\tBridge\t-45\t9.1\t5", "add-truck\t3\t20", "add-truck\t1\t3",
+    "add-region\tnorth\tNorth", "set-region\tb2\tnorth",
     *(f"add-bike\t{it}\t{'cargo' if it % 3 == 0 else 'city'}" for it in range(1, 9)),
     *(f"add-rider\t{it}" for it in range(1, 9)), *(f"top-up\t{it}\t10000" for it in range(1, 9)),
     "open-order\t3\t*\ta1\tcity\t4", *(f"load\t3\t1\t{it}" for it in (1, 2, 4)), *(f"unload\t3\t1\t{it}\tto\t{it}" for it in (1, 2, 4)),
@@ -685,7 +692,7 @@ VOCABULARY = [
     "init", "check", "lines", "feed", "serve", "day", "import", "raise", "help", "--port", "--count", "--at", "--", "-", "--help", "-h", "-V", "--version",
     "--port=0", "--port=x", "--port=0=1", "--ports", "--por", "-p", "-p0", "--count=1", "--at=1", "--at=", "0", "1", "2", "65535", "65536", "-1", "+1", "00",
     "1e3", "253402300799", "253402300800", "9" * 400, "", " ", "city.db", "new.db", ":memory:", "text.db", "no/such.db", ".", "file:city.db?mode=ro",
-    "gbfs", "station_status", "nothing", "é", "\udcff", "x" * 300, "x" * 100_000, "a\nb", "%s", "*", "~",
+    "gbfs", "station_status", "system_regions", "nothing", "é", "\udcff", "x" * 300, "x" * 100_000, "a\nb", "%s", "*", "~",
 ]
 ENDS = re.compile(
     rb"system missing|bad header|bad date|bad zone|day out of range|row [0-9]+ [a-z_]+|store failed|out of memory|foreign|unsound [a-z]+ .*"

@@ -19,8 +19,8 @@ def load(program, table, name="spring", *words):
 def stations(program):
     """The stations in the file: identifier, name, latitude, longitude in microdegrees, docks."""
     stored = sqlite3.connect(Path(program.folder) / "city.db")
-    columns = [row[1] for row in stored.execute("PRAGMA table_info(stations)")]
-    rows = [dict(zip(columns, row)) for row in stored.execute("SELECT * FROM stations ORDER BY station_id")]
+    columns = [row[1] for row in stored.execute("PRAGMA table_info(stations_2)")]
+    rows = [dict(zip(columns, row)) for row in stored.execute("SELECT * FROM stations_2 ORDER BY station_id")]
     stored.close()
     return [(row["station_id"], row["name"], row["lat"], row["lon"], row["docks"]) for row in rows]
 

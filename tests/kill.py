@@ -98,12 +98,17 @@ LIST = [
     ("office", "top-up 19 1", 30),
     ("office", "add-bike 8 city"),
     ("office", "top-up 19 1"),
+    ("office", "add-region north North"),
+    ("office", "set-region a1 north"),
+    ("office", "set-region b2 south"),
+    ("office", "set-region b2 north"),
+    ("office", "set-region b2 *"),
     *[("office", f"top-up 17 {it}") for it in range(1, MORE + 1)],
 ]
-REFUSED = {8: 10, 24: 4, 31: 11, 50: 30, 56: 35, 62: 33, 63: 10}
+REFUSED = {8: 10, 24: 4, 31: 11, 50: 30, 56: 35, 62: 33, 63: 10, 67: 37}
 
 # The columns that hold moments: HTTP requests have the clock's.
-MOMENTS = {"meta": ["now"], "stations": ["reported"], "rentals": ["start", "finish"], "entries": ["at"]}
+MOMENTS = {"meta": ["now"], "stations_2": ["reported"], "rentals": ["start", "finish"], "entries": ["at"]}
 
 
 def keyed():
@@ -280,7 +285,7 @@ def undisturbed(program, kind):
     assert refused == REFUSED and len(answers) >= 60, (len(answers), refused, [answers[it] for it in refused])
     # The file before the first request has its tables or not.
     empty = {name: [] for name in fronts[0]}
-    begun = {**empty, "meta": [(1, "bikeshare", 1, True if kind.timeless else 0, 0, 0)]}
+    begun = {**empty, "meta": [(1, "bikeshare", 2, True if kind.timeless else 0, 0, 0)]}
     again = kind(program, "timed.db")
     before = time.monotonic()
     again.begin()

@@ -4,6 +4,7 @@ HEAD = b"0\toffice\t"
 OK = b"ok\n"
 BAD_FIELD = b"refused\t11\tbad_field\n"
 SYSTEM = [b"set-system", b"metro", b"en", b"Metro", b"24/7", b"a@example.org", b"Etc/UTC", b"EUR", b"http://127.0.0.1", b"30"]
+REGION = [b"add-region", b"north", b"North"]
 
 
 def is_read(program, fields, at, text):
@@ -31,6 +32,12 @@ def test_languages(program):
 def test_names(program):
     for unit, most in ((b"N", 120), (b"\\\\", 120), (b"\\n", 120), ("é".encode(), 60), ("🚲".encode(), 30)):
         has_lengths(program, SYSTEM, 3, unit, 1, most)
+
+
+def test_regions(program):
+    has_lengths(program, REGION, 1, b"a", 1, 36)
+    for unit, most in ((b"N", 120), (b"\\t", 120), ("🚲".encode(), 30)):
+        has_lengths(program, REGION, 2, unit, 1, most)
 
 
 def test_printable_fields(program):

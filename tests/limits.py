@@ -22,6 +22,12 @@ def test_256_plans(program):
     reaches(program, [], 256, lambda number: f"add-plan\tp{number}\tName\t0\tfalse\tNone\t-", [])
 
 
+def test_256_regions(program):
+    """A station may stand in the last region, and in none that was refused."""
+    last = [("add-station\ta1\tHarbour\t0\t0\t1", "ok"), ("set-region\ta1\tr256", "ok"), ("set-region\ta1\tr257", "refused\t37\tunknown_region")]
+    reaches(program, [], 256, lambda number: f"add-region\tr{number}\tName", [*last, ("set-region\ta1\t*", "ok")])
+
+
 def test_32_types(program):
     def add(number, plan="basic"):
         return f"add-type\tt{number}\tName\tbicycle\thuman\t0\t{plan}"

@@ -38,7 +38,7 @@ class Operator:
     def __init__(self):
         self.now = 0
         self.system = None
-        self.plans, self.types, self.stations, self.trucks, self.riders, self.bikes = {}, {}, {}, {}, {}, {}
+        self.plans, self.types, self.regions, self.stations, self.trucks, self.riders, self.bikes = {}, {}, {}, {}, {}, {}, {}
         self.broken, self.rentals, self.orders, self.entries, self.kept = set(), [], [], [], {}
 
     def answer(self, line):
@@ -104,11 +104,22 @@ class Operator:
         refuse(7, plan not in self.plans)
         self.types[kind] = plan
 
+    def add_region(self, region, name):
+        refuse(10, region in self.regions)
+        refuse(32, len(self.regions) >= 256)
+        self.regions[region] = name
+
     def add_station(self, station, name, lat, lon, docks):
         refuse(10, station in self.stations)
         refuse(32, len(self.stations) >= 5000)
-        self.stations[station] = {"docks": int(docks), "flags": (True, True, True)}
+        self.stations[station] = {"docks": int(docks), "flags": (True, True, True), "region": None}
         self.report(station)
+
+    def set_region(self, station, region):
+        """It reports nothing, and a station leaves its region for none whether it had one or not."""
+        refuse(1, station not in self.stations)
+        refuse(37, region != "*" and region not in self.regions)
+        self.stations[station]["region"] = None if region == "*" else region
 
     def set_station(self, station, *flags):
         refuse(1, station not in self.stations)

@@ -169,7 +169,7 @@ def test_every_route_is_there(program):
     for method, paths in wanted.items():
         assert sorted(path for path, found, _ in operations() if found == method) == sorted(paths.split()), method
     names = [it["operationId"] for _, _, it in operations()]
-    assert len(names) == len(set(names)) == 18, names
+    assert len(names) == len(set(names)) == 19, names
 
 
 def test_every_reference_names_something(program):

@@ -460,7 +460,7 @@ def test_gateway_feeds(program):
             status, head, body = gateway.ask("GET", path, caller)
             assert (status, head["Retry-After"], body) == (503, "5", {"result": "error", "name": "unavailable"})
         assert gateway.told("POST", "/gbfs/3.0/gbfs.json", body="{}") == FORBIDDEN
-        assert gateway.told("GET", "/gbfs/3.0/system_regions.json") == gateway.told("GET", "/gbfs/3.0/gbfs.json%0a") == UNAUTHORIZED
+        assert gateway.told("GET", "/gbfs/3.0/vehicle_status.json") == gateway.told("GET", "/gbfs/3.0/gbfs.json%0a") == UNAUTHORIZED
 
 
 def test_gateway_slow_clients(program):
@@ -582,7 +582,7 @@ def test_gateway_answers_preflights(program):
             status, head, body = gateway.ask("OPTIONS", f"/gbfs/3.0/{name}.json", **asked)
             found = [head[f"Access-Control-{it}"] for it in ("Allow-Origin", "Allow-Methods", "Allow-Headers", "Allow-Credentials")]
             assert (status, found, head["Allow"], body) == (204, ["*", "GET, HEAD", "*", None], "GET, HEAD, OPTIONS", None), (name, head.items())
-        for path in ("/", "/gbfs/3.0/", "/gbfs/3.0/system_regions.json", *(path for _, path in ROUTES)):
+        for path in ("/", "/gbfs/3.0/", "/gbfs/3.0/vehicle_status.json", *(path for _, path in ROUTES)):
             for caller, wanted in (None, 401), ("office:anna", 403):
                 status, head, _ = gateway.ask("OPTIONS", path, caller, **asked)
                 assert (status, readers(head)) == (wanted, PRIVATE), (path, status, head.items())
@@ -597,7 +597,7 @@ def test_gateway_keeps_callers_answers_to_them(program):
     origin = {"Origin": "https://other.example", "Accept_Encoding": "gzip"}
     with serving.Server(program) as server, Gateway(program, {"metro": server.port}) as gateway:
         statuses = set()
-        for method, path in [*ROUTES, ("GET", "/gbfs/3.0/system_regions.json"), ("GET", "/riders/17/"), ("POST", "/riders/1/start")]:
+        for method, path in [*ROUTES, ("GET", "/gbfs/3.0/vehicle_status.json"), ("GET", "/riders/17/"), ("POST", "/riders/1/start")]:
             for caller in (None, *TOKENS):
                 body = "{" + " " * 16384 if caller == "office:anna" and path == "/docks/a1/end" else "{}" if method == "POST" else None
                 status, head, _ = gateway.ask(method, path, caller, body, **origin)

@@ -483,7 +483,7 @@ def test_no_word_serves_a_file_that_is_refused(program):
     for change, wanted in (
         ("UPDATE riders SET balance = balance + 1 WHERE rider = 17", "unsound riders 17"), ("DELETE FROM meta", "unsound meta 1"),
         ("UPDATE kept SET reply = 'no' WHERE req_key = 'k2'", "unsound kept office/k2"), ("UPDATE meta SET app = 'other'", "foreign"),
-        ("DROP TABLE counts", "foreign"), ("UPDATE meta SET version = 9", "newer 9"),
+        ("DROP TABLE counts", "foreign"), ("UPDATE meta SET version = 9", "newer 9"), ("UPDATE meta SET version = 1", "older 1"),
     ):
         file.write_bytes(city)
         adoption.changed(file, change)
@@ -519,7 +519,7 @@ def test_files_that_are_not_there(program):
         ([*day, UTC], (0, days.ENTRIES.encode(), b"")), ([*day, "UTC"], (1, b"", b"bad zone\n")),
     ):
         assert program.run(*words) == ended, words
-        assert rows_of(program, "SELECT * FROM meta") == [(1, "bikeshare", 1, 0, 0, 0)], words
+        assert rows_of(program, "SELECT * FROM meta") == [(1, "bikeshare", 2, 0, 0, 0)], words
         removed(program)
 
 
@@ -817,6 +817,8 @@ SET_UP = [
     "crew:7|k1|add-plan|day|Day|1000000|true|d|" + ";".join(["0:25:10:-"] * 8),
     "dock:a1|k1|add-type|city|City|cargo_bicycle|human|0|day",
     "import:csv|k1|add-station|a1|Main St|0|0|1",
+    "rider:7|k1|add-region|north|North",
+    "dock:a1|k2|set-region|a1|north",
 ]
 
 

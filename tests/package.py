@@ -257,5 +257,5 @@ def test_completion(program):
             assert completed(folder, name, option, "") == completed(folder, name, option, "=", "1") == [], option
             assert completed(folder, name, option, "1", "ro") == completed(folder, name, option, "=", "1", "ro") == ["rome.db"], option
     assert {it for form, _ in words for it in re.findall(r"--\w+", form)} == {form.split()[0] for form, _ in options}
-    assert len(feeds) == 6 and completed(folder, "feed", "x", "") == feeds and completed(folder, "feed", "x", "gb") == ["gbfs"]
+    assert len(feeds) == 7 and completed(folder, "feed", "x", "") == feeds and completed(folder, "feed", "x", "gb") == ["gbfs"]
     assert len(tables) == 2 and completed(folder, "day", "x", "") == tables and completed(folder, "day", "x", "entries", "") == []

@@ -17,7 +17,7 @@ import time
 from datetime import datetime, timezone
 
 SECONDS = 10
-NAMES = ["gbfs", "system_information", "vehicle_types", "station_information", "station_status", "system_pricing_plans"]
+NAMES = ["gbfs", "system_information", "vehicle_types", "station_information", "station_status", "system_pricing_plans", "system_regions"]
 
 CITY = [
     "set-system\tmetro\ten\tMetro Bikes\t24/7\tfeeds@example.org\tEtc/UTC\tEUR\thttp://127.0.0.1:8080\t30",
@@ -345,7 +345,10 @@ def test_a_recovered_rental_and_a_debt(program):
 
 def test_every_feed_is_the_text_of_feed(program):
     """A feed is for the clock's moment, so each body tells for which moment `feed` is asked."""
-    city(program, "add-station\tb2\tQ \"1\"\\t\\\\ Łódź 🚲\t-0.000001\t90\t3")
+    city(
+        program, "add-station\tb2\tQ \"1\"\\t\\\\ Łódź 🚲\t-0.000001\t90\t3", "add-region\tnorth\tNørd \"1\"\\t🚲", "add-region\teast\tEast",
+        "set-region\tb2\tnorth",
+    )
     with Server(program, len(NAMES)) as server:
         found = {name: server.ask(get(f"/gbfs/3.0/{name}.json")) for name in NAMES}
     for name in NAMES:
@@ -397,6 +400,41 @@ def test_the_worked_status_feed(program):
         '"vehicle_types_available":[{"vehicle_type_id":"city","count":1}],"num_vehicles_disabled":0,"num_docks_available":0,'
         f'"num_docks_disabled":1,"is_installed":true,"is_renting":true,"is_returning":true,"last_reported":"{MOMENT}"}}]}}}}',
     ))])
+
+
+def test_the_worked_regions(program):
+    """The feed of regions and the one of stations, whole, while regions come and a station goes into one and out of it."""
+    city(program)
+    head = f'{{"last_updated":"{MOMENT}","ttl":30,"version":"3.0","data":'
+    place = head + '{"stations":[{"station_id":"a1","name":[{"text":"Harbour","language":"en"}],"lat":41.890169,"lon":12.492269,%s"capacity":2}]}}'
+    north = head + '{"regions":[{"region_id":"north","name":[{"text":"North","language":"en"}]}]}}'
+    regions, places = get("/gbfs/3.0/system_regions.json"), get("/gbfs/3.0/station_information.json")
+    unknown = refused(37, "unknown_region")
+    holds(program, [
+        (regions, answer(200, head + '{"regions":[]}}')),
+        (office("r1", "set-region\ta1\tnorth"), unknown),
+        (office("r1", "add-region\tnorth\tNorth"), DONE),
+        (regions, answer(200, north)),
+        (places, answer(200, place % "")),
+        (office("r2", "set-region\ta1\tnorth"), DONE),
+        (places, answer(200, place % '"region_id":"north",')),
+        (office("r3", "set-region\ta1\tsouth"), unknown),
+        (office("r3", "set-region\tzz\tsouth"), refused(1, "unknown_station")),
+        (office("r3", "add-region\tnorth\tOther"), refused(10, "already_there")),
+        (office("r3", "set-region\ta1\tNorth"), BAD_FIELD),
+        (office("r3", "set-region\ta1\t*"), DONE),
+        (places, answer(200, place % "")),
+        (office("r2", "set-region\ta1\tnorth"), DONE),
+        (office("r2", "set-region\ta1\t*"), refused(33, "key_reused")),
+        (places, answer(200, place % "")),
+        (get("/gbfs/3.0/gbfs.json"), answer(200, head + '{"feeds":[' + ",".join(
+            f'{{"name":"{it}","url":"http://127.0.0.1:8080/gbfs/3.0/{it}.json"}}' for it in NAMES[1:]
+        ) + "]}}")),
+        (post("/gbfs/3.0/system_regions.json", "{}"), error(405, "GET")),
+        (get("/gbfs/3.0/system_regions"), error(404)),
+        (get("/regions/north"), error(404)),
+    ])
+    assert NAMES[-1] == "system_regions" and program.run("check", "city.db") == (0, b"sound\n", b"")
 
 
 def test_no_system(program):

@@ -90,6 +90,9 @@ OTHERS = [
     ("1700004950 crew:3 n11 load 3 2 7", "ok"),
     ("1700004950 crew:3 n12 unload 3 2 7 from 0", "ok"),
     ("1700004950 office n13 retire-bike 7", "ok"),
+    ("1700004950 office n14 add-region north North", "ok"),
+    ("1700004950 office n15 set-region a1 north", "ok"),
+    ("1700004960 office n16 set-region a1 *", "ok"),
 ]
 
 

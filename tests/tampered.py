@@ -46,6 +46,8 @@ ASKED = [
     "add-station a1 Harbour 41.890169 12.492269 3",
     "add-station b2 Bridge -45 -179.999999 4",
     "add-station c3 Closed 0 0 1",
+    "add-region north North", "add-region south South_side", "add-region west West",
+    "set-region a1 south", "set-region a1 north", "set-region b2 south", "set-region c3 west", "set-region c3 *",
     "add-truck 3 20",
     "add-truck 4 1",
     *(f"add-bike {it} city" for it in (7, 8, 9, 10)),
@@ -92,16 +94,17 @@ def made(program):
 
 # ---- the audit, from the document
 
+NEWEST = 2
 TABLES = {
-    "meta": 1, "system": 1, "plans": 1, "segments": 2, "types": 1, "stations": 1, "docks": 2, "bikes": 1, "trucks": 1, "riders": 1,
+    "meta": 1, "system": 1, "plans": 1, "segments": 2, "types": 1, "regions": 1, "stations_2": 1, "docks": 2, "bikes": 1, "trucks": 1, "riders": 1,
     "rentals": 1, "orders": 1, "entries": 1, "kept": 2, "counts": 2,
 }
 TEXTS = {
     "app", "system_id", "language", "name", "hours", "contact", "zone", "currency", "base_url", "plan_id", "description", "type_id", "form",
-    "propulsion", "station_id", "from_station", "to_station", "from_end", "to_end", "caller", "req_key", "command", "reply",
+    "propulsion", "region_id", "station_id", "from_station", "to_station", "from_end", "to_end", "caller", "req_key", "command", "reply",
 }
 MAY_BE_NULL = {
-    "segments": {"finish"}, "bikes": {"station_id", "dock", "rental", "truck", "ord"}, "rentals": {"to_station", "finish", "fare"},
+    "segments": {"finish"}, "stations_2": {"region_id"}, "bikes": {"station_id", "dock", "rental", "truck", "ord"}, "rentals": {"to_station", "finish", "fare"},
 }
 
 
@@ -125,7 +128,7 @@ def word(*words):
 
 
 BOUNDS = {
-    "meta": {"one": is_within(1, 1), "app": word("bikeshare"), "version": is_within(1, 1), "now": MOMENT, "cash": ANY, "revenue": ANY},
+    "meta": {"one": is_within(1, 1), "app": word("bikeshare"), "version": is_within(NEWEST, NEWEST), "now": MOMENT, "cash": ANY, "revenue": ANY},
     "system": {
         "one": is_within(1, 1), "system_id": IDENT, "language": is_text(formats.is_language), "name": NAME, "hours": ASCII, "contact": ASCII,
         "zone": ASCII, "currency": is_text(formats.is_currency), "base_url": ASCII, "ttl": is_within(0, 86_400),
@@ -139,9 +142,11 @@ BOUNDS = {
         "type_id": IDENT, "name": NAME, "form": word("bicycle", "cargo_bicycle"), "propulsion": word("human", "electric_assist"),
         "range_m": is_within(0, 1_000_000), "plan_id": IDENT,
     },
-    "stations": {
+    "regions": {"region_id": IDENT, "name": NAME},
+    "stations_2": {
         "station_id": IDENT, "name": NAME, "lat": is_within(-90_000_000, 90_000_000), "lon": is_within(-180_000_000, 180_000_000), "docks": DOCK,
         "installed": FLAG, "renting": FLAG, "returning": FLAG, "reported": MOMENT, "free": ANY, "broken": ANY,
+        "region_id": IDENT,
     },
     "docks": {"station_id": IDENT, "dock": DOCK, "broken": FLAG},
     "bikes": {
@@ -235,10 +240,10 @@ class Audit:
             return [[1]]
         if table != "counts":
             return []
-        return [[station, kind] for station in self.by["stations"] for kind in self.by["types"] if self.counted(station, kind) != (0, 0)]
+        return [[station, kind] for station in self.by["stations_2"] for kind in self.by["types"] if self.counted(station, kind) != (0, 0)]
 
     def counted(self, station, kind):
-        held = [(broken, it) for broken, it in self.holds(self.by["stations"][station]) if it and it["type_id"] == kind]
+        held = [(broken, it) for broken, it in self.holds(self.by["stations_2"][station]) if it and it["type_id"] == kind]
         fit = [it for broken, it in held if not broken and it["state"] == 0]
         return len(fit), len(held) - len(fit)
 
@@ -273,13 +278,17 @@ class Audit:
     def types(self, row, at):
         return at < 32 and row["plan_id"] in self.by["plans"]
 
-    def stations(self, row, at):
+    def regions(self, row, at):
+        return at < 256
+
+    def stations_2(self, row, at):
         held = list(self.holds(row))
         free = sum(not broken and it is None for broken, it in held)
-        return row["reported"] <= self.now() and row["free"] == free and row["broken"] == sum(broken for broken, _ in held)
+        counted = row["free"] == free and row["broken"] == sum(broken for broken, _ in held)
+        return row["reported"] <= self.now() and counted and (row["region_id"] is None or row["region_id"] in self.by["regions"])
 
     def has_dock(self, station, dock):
-        return station in self.by["stations"] and dock <= self.by["stations"][station]["docks"]
+        return station in self.by["stations_2"] and dock <= self.by["stations_2"][station]["docks"]
 
     def docks(self, row, at):
         return self.has_dock(row["station_id"], row["dock"])
@@ -308,20 +317,20 @@ class Audit:
 
     def rentals(self, row, at):
         number = row["rental"]
-        named = row["rider"] in self.by["riders"] and row["plan_id"] in self.by["plans"] and row["from_station"] in self.by["stations"]
+        named = row["rider"] in self.by["riders"] and row["plan_id"] in self.by["plans"] and row["from_station"] in self.by["stations_2"]
         if number != at + 1 or not named or row["bike"] not in self.by["bikes"] or row["start"] > self.now():
             return False
         if row["refunded"] != self.sum(3, rental=number):
             return False
         if row["finish"] is None:
             return row["refunded"] == 0 and self.by["bikes"][row["bike"]]["place"][0] == ("rental", number)
-        station = row["to_station"] is None or row["to_station"] in self.by["stations"]
+        station = row["to_station"] is None or row["to_station"] in self.by["stations_2"]
         has_fare = any(it["kind"] == 2 and it["rental"] == number for it in self.good["entries"])
         return station and has_fare and row["start"] <= row["finish"] <= self.now() and row["refunded"] <= row["fare"]
 
     def orders(self, row, at):
         truck = self.by["trucks"].get(row["truck"])
-        ends = all(it == b"*" or it in self.by["stations"] for it in (row["from_end"], row["to_end"])) and row["from_end"] != row["to_end"]
+        ends = all(it == b"*" or it in self.by["stations_2"] for it in (row["from_end"], row["to_end"])) and row["from_end"] != row["to_end"]
         if row["ord"] != at + 1 or truck is None or not ends or row["type_id"] not in self.by["types"] or row["quantity"] > truck["capacity"]:
             return False
         held = self.on_truck(row["truck"], row["ord"])
@@ -342,7 +351,7 @@ class Audit:
         return True
 
     def counts(self, row, at):
-        known = row["station_id"] in self.by["stations"] and row["type_id"] in self.by["types"]
+        known = row["station_id"] in self.by["stations_2"] and row["type_id"] in self.by["types"]
         return known and (row["available"], row["disabled"]) == self.counted(row["station_id"], row["type_id"])
 
 
@@ -374,8 +383,8 @@ def verdict(tables):
     row = next((it for it in tables["meta"] if it["one"] == 1), None)
     if row is not None and (row["app"] != b"bikeshare" or row["version"] < 1):
         return FOREIGN
-    if row is not None and row["version"] > 1:
-        return 5, b"", b"newer %d\n" % row["version"]
+    if row is not None and row["version"] != NEWEST:
+        return 5, b"", b"%s %d\n" % (b"newer" if row["version"] > NEWEST else b"older", row["version"])
     bad = Audit(tables).first_bad()
     if bad is None:
         return 0, b"sound\n", b""
@@ -468,9 +477,10 @@ def by_sql(sql, values=(), loose=False):
 
 NUMBERS = [-1, 0, 1, 2, 3, 4, 5, 7, 61, 201, 256, 60_000, 1_000_000, 1_000_001, 100_000_001, 2**31, 2**32 + 1, 2**53 + 1, 2**63 - 1, -(2**63)]
 WORDS = [
-    "", "a1", "b2", "zz", "A1", "*", "city", "cargo", "basic", "day", "a" * 36, "a" * 37, "é", "x\0y", "n" * 120, "n" * 121, "~" * 200, "~" * 201,
+    "", "a1", "b2", "zz", "A1", "*", "city", "cargo", "basic", "day", "north", "south", "west", "a" * 36, "a" * 37, "é", "x\0y", "n" * 120, "n" * 121, "~" * 200, "~" * 201,
     "two\nlines", "a\tb", " ", "true", "NULL", "0", "1", "-1", "bicycle", "human", "electric_assist", "EUR", "office", "rider:17", "rider:0",
     "add-rider\t17", "ok", "balance\t5", "balance\t-0", "refused\t4\tunknown_rider", "rental\t1\t7", "fare\t1\t2", "order\t0", "x" * 9000, "k1",
+    "add-region\tnorth\tNorth", "set-region\ta1\t*", "set-region\ta1\t",
 ]
 
 
@@ -564,6 +574,17 @@ def test_each_column_of_each_table(program):
     holds(program, city, updates(tables_of(city, program)), of_rows, "updates")
 
 
+def test_regions(program):
+    """Each column of regions, the region of each station, and regions that are added or go. All of it in one sample of its own."""
+    city, _ = made(program)
+    tables = tables_of(city, program)
+    begins = ("UPDATE OR IGNORE regions ", 'UPDATE OR IGNORE stations_2 SET "region_id" ')
+    changes = [it for it in updates(tables) if it[0].startswith(begins)]
+    changes += [it for it in rows_added_and_removed({"regions": tables["regions"]})]
+    assert len(changes) > 300, len(changes)
+    holds(program, city, changes, of_rows, "regions")
+
+
 def test_columns_of_another_kind(program):
     city, _ = made(program)
     holds(program, city, unlike(tables_of(city, program)), of_rows_or_no_store, "unlike")
@@ -593,6 +614,8 @@ def test_tables_and_columns(program):
         foreign += [f"CREATE TABLE pointing_{name} (a INTEGER REFERENCES {name})"]
         sound += [f"CREATE INDEX more_{name} ON {name} ({columns[1]})"]
     sound += ["DROP INDEX bikes_by_dock", "DROP INDEX rentals_by_rider", "CREATE TABLE notes (note TEXT)", "CREATE VIEW seen AS SELECT bike FROM bikes"]
+    # The names of tables that other versions have are free here.
+    sound += [f"CREATE TABLE {it} (note TEXT)" for it in ("stations", "stations_3", "more_names")]
     sound += ["CREATE TABLE helmets (helmet INTEGER PRIMARY KEY, size TEXT UNIQUE)", "PRAGMA user_version = 7", "PRAGMA application_id = 77", "VACUUM"]
     holds(program, city, [(it, by_sql(it)) for it in foreign], lambda file, told: [FOREIGN, FAILED], "foreign")
     holds(program, city, [(it, by_sql(it)) for it in sound], lambda file, told: [SOUND], "sound")
@@ -738,8 +761,8 @@ def test_files_of_no_city(program):
         file = folder / f"no{number}.db"
         file.write_bytes(data)
         assert says(program, file) == FAILED, (data[:20], says(program, file))
-    for number, sql in enumerate(["CREATE TABLE meta (a)", "CREATE TABLE regions (a)", "CREATE TABLE more_names (a)", "CREATE TABLE stations_2 (a)",
-                                  "CREATE TABLE stations_3 (a)", "CREATE TABLE counts (a)"]):
+    for number, name in enumerate(["meta", "regions", "more_names", "stations", "stations_2", "stations_3", "counts"]):
+        sql = f"CREATE TABLE {name} (a)"
         file = folder / f"other{number}.db"
         by_sql(sql)(file)
         found = says(program, file)

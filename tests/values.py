@@ -31,6 +31,7 @@ CITY = [
     "add-plan|day|Day|0|true|Day|-",
     "add-type|city|City|bicycle|human|0|day",
     "add-station|a1|Harbour|0|0|1",
+    "add-region|north|North",
 ]
 THERE = "refused|10|already_there"
 BAD_FIELD = "refused|11|bad_field"
@@ -40,6 +41,7 @@ NO_DEGREES = [
 ]
 NO_NUMBERS = ["01", "007", "+1", "-1", "-0", "", " 1", "1 ", "1x", "1.0", "1e1", "0x1", "30000000000000000000000000000", "18446744073709551617"]
 NO_IDENTS = ["EUR", "de-AT", "", "a" * 37, "AZ", "@@@", "[[[", "``", "{{", "//", "::", " ~", "\x7f", "\x01", "été", "aa\0", "*"]
+NO_REGIONS = [it for it in NO_IDENTS if it != "*"]
 SYSTEM = "set-system|{}|{}|{}|{}|{}|{}|{}|{}|{}"
 GOOD = ["metro", "en", "Metro", "24/7", "feeds@example.org", "Etc/UTC", "EUR", "http://127.0.0.1:8080", "30"]
 
@@ -78,6 +80,10 @@ FIELDS = [
     ("set-station|zz|{}|true|true", "refused|1|unknown_station", ["true", "false"], ["True", "1", "0", "yes", ""]),
     ("open-order|9|{}|b2|city|1", "refused|8|unknown_truck", ["*", "a1", "a" * 36], ["A1", "**", "", "*a", "a" * 37]),
     ("set-plan|{}|day", "refused|6|unknown_type", ["az_09-", "a", "a0z9", "a" * 36], NO_IDENTS),
+    ("set-region|{}|north", "refused|1|unknown_station", ["az_09-", "a", "a0z9", "a" * 36], NO_IDENTS),
+    ("set-region|zz|{}", "refused|1|unknown_station", ["*", "north", "south", "a" * 36], ["**", "*a", "a*", " *", *NO_REGIONS]),
+    ("set-region|a1|{}", "refused|37|unknown_region", ["az_09-", "-", "a0z9", "a" * 36, "a1"], ["**", "*a", "a*", " *", *NO_REGIONS]),
+    ("add-region|north|{}", THERE, ["Rue é", "a\\\\b", "\\t\\n\\r", "*", "-", "\\\\" * 120], ["a\rb", "a\\", "a\\x", "a\0", "", "\\\\" * 121]),
     (system(1), THERE, ["en", "EUR", "de-AT", "pt-BR", "a0z9", "a" * 35], ["az_09-", "", "e", "a" * 36, "a" * 37, "aa\0"]),
     (system(6), THERE, ["EUR", "AMZ"], ["EU", "EURO", "eur", "az_09-", "de-AT", "", "a" * 36, "E R", "aa\0", "E0R"]),
     (system(2), THERE, ["Rue é", "a\\\\b", "\\t\\n\\r", "Mo-Su 06:00", "a;b", "\\\\" * 120], ["a\rb", "a\\", "a\\x", "a\\0", "a\\T", "a\0", "", "\\\\" * 121]),
@@ -197,6 +203,7 @@ NO_REPLIES = [
     "", "OK", "ok|", "blocked", "open", "Open", "from", "to", "balance", "balance|1|2", *(f"balance|{it}" for it in BAD_NUMBERS), "rental|1", "rental|0|7",
     "rental|100000001|7", "rental|1|1000000", *(f"fare|{it}|0" for it in [*BAD_NUMBERS, "-1", "34561800001", "9223372036854775807", "-9223372036854775808"]),
     "fare|0", "fare|0|-0", "order|0", "order|100000001", "refused|11", "refused|10|bad_field", "refused|0|bad_field", "refused|11|bad_field", "refused|37|unknown_region",
+    "refused|38|system_missing",
 ]
 
 

@@ -12,7 +12,7 @@ NAMES = {
     14: "dock_broken", 15: "bike_disabled", 16: "not_renting", 17: "not_returning", 18: "rider_blocked", 19: "balance_negative",
     20: "rider_is_riding", 21: "not_rented", 24: "truck_too_small", 25: "wrong_place", 26: "wrong_type", 27: "order_closed",
     28: "order_filled", 29: "bikes_on_truck", 30: "refund_too_large", 31: "rental_open", 33: "key_reused", 34: "truck_full",
-    35: "rental_closed", 36: "wrong_truck_or_ends",
+    35: "rental_closed", 36: "wrong_truck_or_ends", 37: "unknown_region",
 }
 NUMBER = re.compile("0|[1-9][0-9]*")
 # Which fields of a command are numbers: a command with another text there is unreadable.
@@ -21,6 +21,7 @@ NUMBERS = {
     "start": [0, 2], "end": [0, 2], "recover": [0], "add-truck": [0, 1], "open-order": [0, 4], "load": [0, 1, 2], "unload": [0, 1, 2, 4],
     "close-order": [0], "add-station": [4],
 }
+REGION = re.compile("[a-z0-9_-]{1,36}|[*]")
 DEPOT = ("depot",)
 
 
@@ -51,7 +52,7 @@ class City:
     def __init__(self):
         """Begins with the empty operator."""
         self.now = 0
-        self.plans, self.types, self.stations, self.bikes, self.riders, self.trucks = {}, {}, {}, {}, {}, {}
+        self.plans, self.types, self.regions, self.stations, self.bikes, self.riders, self.trucks = {}, {}, {}, {}, {}, {}, {}
         self.docked, self.broken = {}, set()
         self.rentals, self.orders, self.entries, self.kept = [], [], [], {}
 
@@ -59,7 +60,8 @@ class City:
         """The answer to a request line, both without a line end (sections 5 and 6)."""
         moment, caller, key, text = line.split("\t", 3)
         word, *fields = text.split("\t")
-        if not all(NUMBER.fullmatch(fields[it]) for it in NUMBERS.get(word, [])):
+        is_read = word != "set-region" or REGION.fullmatch(fields[1])
+        if not is_read or not all(NUMBER.fullmatch(fields[it]) for it in NUMBERS.get(word, [])):
             return f"refused\t11\t{NAMES[11]}"
         if (caller, key) in self.kept:
             command, reply = self.kept[caller, key]
@@ -99,11 +101,22 @@ class City:
         refuse(7, plan not in self.plans)
         self.types[kind] = plan
 
+    def add_region(self, region, name):
+        """The region is added, without stations."""
+        refuse(10, region in self.regions)
+        self.regions[region] = name
+
     def add_station(self, station, name, lat, lon, docks):
-        """The station is added, installed, renting and returning, with working docks."""
+        """The station is added, installed, renting and returning, with working docks, in no region."""
         refuse(10, station in self.stations)
-        self.stations[station] = {"name": name, "lat": lat, "lon": lon, "docks": docks, "flags": (True, True, True)}
+        self.stations[station] = {"name": name, "lat": lat, "lon": lon, "docks": docks, "flags": (True, True, True), "region": None}
         self.report(station)
+
+    def set_region(self, station, region):
+        """The station stands in the region, or in none. That is no report."""
+        refuse(1, station not in self.stations)
+        refuse(37, region != "*" and region not in self.regions)
+        self.stations[station]["region"] = None if region == "*" else region
 
     def set_station(self, station, *flags):
         """The three flags are set."""

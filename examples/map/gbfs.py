@@ -3,10 +3,11 @@
 It relies on these members, which GBFS v3.0 requires: of every feed `last_updated`, `ttl`, `version` ("3.0") and `data`; of gbfs `name`
 and `url` of `feeds`; of system_information `name` and `languages`; of station_information `station_id`, `name`, `lat` and `lon`; of
 station_status `station_id`, `num_vehicles_available`, `is_installed`, `is_renting`, `is_returning` and `last_reported`; where there is
-the feed vehicle_types, its `vehicle_type_id`; where there is the feed system_pricing_plans, its `plan_id`, `name`, `currency`, `price`
-and `description`, and of each segment `start`, `rate` and `interval`.
+the feed vehicle_types, its `vehicle_type_id`; where there is the feed system_regions, its `region_id` and `name`; where there is the
+feed system_pricing_plans, its `plan_id`, `name`, `currency`, `price` and `description`, and of each segment `start`, `rate` and
+`interval`.
 
-It takes these where they are there: `capacity` of station_information; `num_docks_available`, `num_vehicles_disabled`,
+It takes these where they are there: `capacity` and `region_id` of station_information; `num_docks_available`, `num_vehicles_disabled`,
 `num_docks_disabled` and `vehicle_types_available` (`vehicle_type_id`, `count`) of station_status; `name` and `default_pricing_plan_id`
 of vehicle_types; `per_min_pricing` and `per_km_pricing` of system_pricing_plans, and `end` of a segment. A count that is absent is 0, and
 a station without capacity is as large as its counts together. All other feeds and members are passed over, and so is a station that
@@ -141,6 +142,7 @@ class System:
         self.languages = [it for it in about["languages"] if isinstance(it, str)]
         self.name = self.text(about, "name", "system_information")
         self.types = self.read_types()
+        self.regions = self.read_regions()
         self.plans = self.read_plans()
         _, places = self.feed("station_information")
         self.moment, states = self.feed("station_status")
@@ -175,6 +177,12 @@ class System:
             for kind, row in rows.items()
         }
 
+    def read_regions(self):
+        """Returns the name of each region."""
+        _, data = self.feed("system_regions", required=False)
+        rows = by_key(optional(data, "regions", ROWS, "system_regions", []), "region_id", "system_regions")
+        return {region: self.text(row, "name", f"region {region}") for region, row in rows.items()}
+
     def read_plans(self):
         """Returns the plans."""
         _, data = self.feed("system_pricing_plans", required=False)
@@ -192,7 +200,8 @@ class System:
         return {**texts, "price": price, "charges": charges, "types": types}
 
     def station(self, key, place, state):
-        """Returns a station: its members by their names, but for counts (of each type) and reported (its last report)."""
+        """Returns a station: its members by their names, but for counts (of each type), reported (its last report) and region (the
+        name of its region, or the identifier of one that has none, or nothing)."""
         where = f"station {key}"
         names = ("num_docks_available", "num_vehicles_disabled", "num_docks_disabled")
         found = {name: optional(state, name, WHOLE, where, 0) for name in names}
@@ -207,4 +216,6 @@ class System:
         types = optional(state, "vehicle_types_available", ROWS, where, [])
         found["counts"] = {member(it, "vehicle_type_id", TEXT, where): member(it, "count", WHOLE, where) for it in types}
         found["reported"] = moment_of(member(state, "last_reported", MOMENT, where))
+        region = optional(place, "region_id", TEXT, where, "")
+        found["region"] = self.regions.get(region, region)
         return {"station_id": key, "name": self.text(place, "name", where), **found}

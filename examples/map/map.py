@@ -20,7 +20,7 @@ sys.dont_write_bytecode = True
 import gbfs
 
 FONT = "font-family=\"'Segoe UI', 'Helvetica Neue', Helvetica, Arial, sans-serif\""
-INK, SOFT, FAINT = "#1f2933", "#616e7c", "#cbd2d9"
+INK, SOFT, FAINT, PALE = "#1f2933", "#616e7c", "#cbd2d9", "#d3dce5"
 BICYCLES, DOCKS, BROKEN, GROUND = "#1d6fb8", "#d6e6f5", "#e8590c", "#f7f9fb"
 WIDTH, PANEL, MARGIN = 900, 232, 16
 NAMED = 200
@@ -96,7 +96,7 @@ def drawn_station(station, types, x, y, radius):
         f"{station['num_docks_available']} free docks",
         f"{station['num_vehicles_disabled']} disabled bicycles, {station['num_docks_disabled']} broken docks",
         f"capacity {station['capacity']}",
-        *filter(None, [state_of(station)]),
+        *filter(None, [state_of(station), " ".join(station["region"].split())]),
     ]
     title = escaped("\n".join(told_of))
     shape = disc(x, y, radius, shares_of(station), bool(state_of(station)))
@@ -130,12 +130,22 @@ class Picture:
         return round(x, 1), round(MARGIN + self.height / 2 - (station["lat"] - self.middle[0]) * self.scale, 1)
 
     def draw(self):
-        """The ground, the circles, as many names as there is room for, and a scale."""
+        """The ground, the regions, the circles, as many names as there is room for, and a scale."""
         box = f'x="{MARGIN}" y="{MARGIN}" width="{self.width}" height="{self.height}"'
         parts = [f'<rect {box} rx="6" fill="{GROUND}" stroke="{FAINT}" stroke-width="0.8"/>']
         placed = sorted(((it, *self.place(it), self.radius(it["capacity"])) for it in self.system.stations), key=lambda it: -it[3])
+        parts += self.regions()
         parts += [drawn_station(it, self.system.types, x, y, radius) for it, x, y, radius in placed]
         return "\n".join([*parts, *self.names(placed), self.ruler()])
+
+    def regions(self):
+        """The name of each region, pale and large, in the middle of its stations. What else is drawn stands over it."""
+        places = {}
+        for station in self.system.stations:
+            if station["region"]:
+                places.setdefault(station["region"], []).append(self.place(station))
+        more = ' font-weight="600" text-anchor="middle" pointer-events="none"'
+        return [words(*(sum(it) / len(it) for it in zip(*found)), name, 22, PALE, more) for name, found in sorted(places.items())]
 
     def is_free(self, box, taken):
         """Whether a box (left, top, right, bottom) is on the map, above its scale, and touches none that is taken."""
@@ -281,12 +291,14 @@ td:last-child, td:nth-child(2) { white-space: nowrap; }
 def html_of(system):
     """The page: the picture, the prices and the stations. It loads nothing from elsewhere."""
     plans = [(it["name"], it["price"], "; ".join(it["charges"]), it["description"], ", ".join(it["types"])) for it in system.plans]
-    stations = []
+    stations, has_regions = [], any(it["region"] for it in system.stations)
     for it in sorted(system.stations, key=lambda it: it["name"]):
         counts = [it[f"num_{name}"] for name in COUNTED]
-        stations.append((it["name"], *counts, it["capacity"], state_of(it), told(it["reported"])))
+        region = [it["region"]] if has_regions else []
+        stations.append((it["name"], *region, *counts, it["capacity"], state_of(it), told(it["reported"])))
     language = escaped(system.languages[0]) if system.languages else "en"
-    head = ("Station", "Bicycles available", "Free docks", "Disabled bicycles", "Broken docks", "Capacity", "Closed", "Last reported")
+    head = ("Station", *(["Region"] if has_regions else []), "Bicycles available", "Free docks")
+    head += ("Disabled bicycles", "Broken docks", "Capacity", "Closed", "Last reported")
     return "\n".join([
         f'<!DOCTYPE html>\n<html lang="{language}">\n<head>\n<meta charset="utf-8">',
         '<meta name="viewport" content="width=device-width, initial-scale=1">',

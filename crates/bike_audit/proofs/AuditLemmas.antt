@@ -15,7 +15,7 @@ use Rattle.sqlite.specs.State.{HasCleanDisk, IsLive}
 use Rattle.sqlite.proofs.StateLemmas.{survives_weaker}
 use Rattle.bike_rows.specs.Calls.{ReadsWhere}
 use Rattle.bike_rows.proofs.ChainLaws.{reads_both}
-use Rattle.bike_book.specs.Tables.{TableName, Tables, table_place, Meta, System, Plans, Segments, Types, Stations, Docks, Bikes, Trucks, Riders, Rentals, Orders, Entries, Kept, Counts}
+use Rattle.bike_book.specs.Tables.{TableName, Tables, table_place, Meta, System, Plans, Segments, Types, Regions, Stations, Docks, Bikes, Trucks, Riders, Rentals, Orders, Entries, Kept, Counts}
 use Rattle.bike_schema.specs.Layouts.{every_table}
 use Rattle.bike_schema.specs.Tables.{HasTables, IsOurs, tables_of}
 use Rattle.bike_schema.proofs.AnswerLemmas.{reads_weaker}
@@ -46,15 +46,16 @@ table_at (suc zero) = System
 table_at (suc (suc zero)) = Plans
 table_at (suc (suc (suc zero))) = Segments
 table_at (suc (suc (suc (suc zero)))) = Types
-table_at (suc (suc (suc (suc (suc zero))))) = Stations
-table_at (suc (suc (suc (suc (suc (suc zero)))))) = Docks
-table_at (suc (suc (suc (suc (suc (suc (suc zero))))))) = Bikes
-table_at (suc (suc (suc (suc (suc (suc (suc (suc zero)))))))) = Trucks
-table_at (suc (suc (suc (suc (suc (suc (suc (suc (suc zero))))))))) = Riders
-table_at (suc (suc (suc (suc (suc (suc (suc (suc (suc (suc zero)))))))))) = Rentals
-table_at (suc (suc (suc (suc (suc (suc (suc (suc (suc (suc (suc zero))))))))))) = Orders
-table_at (suc (suc (suc (suc (suc (suc (suc (suc (suc (suc (suc (suc zero)))))))))))) = Entries
-table_at (suc (suc (suc (suc (suc (suc (suc (suc (suc (suc (suc (suc (suc zero))))))))))))) = Kept
+table_at (suc (suc (suc (suc (suc zero))))) = Regions
+table_at (suc (suc (suc (suc (suc (suc zero)))))) = Stations
+table_at (suc (suc (suc (suc (suc (suc (suc zero))))))) = Docks
+table_at (suc (suc (suc (suc (suc (suc (suc (suc zero)))))))) = Bikes
+table_at (suc (suc (suc (suc (suc (suc (suc (suc (suc zero))))))))) = Trucks
+table_at (suc (suc (suc (suc (suc (suc (suc (suc (suc (suc zero)))))))))) = Riders
+table_at (suc (suc (suc (suc (suc (suc (suc (suc (suc (suc (suc zero))))))))))) = Rentals
+table_at (suc (suc (suc (suc (suc (suc (suc (suc (suc (suc (suc (suc zero)))))))))))) = Orders
+table_at (suc (suc (suc (suc (suc (suc (suc (suc (suc (suc (suc (suc (suc zero))))))))))))) = Entries
+table_at (suc (suc (suc (suc (suc (suc (suc (suc (suc (suc (suc (suc (suc (suc zero)))))))))))))) = Kept
 table_at _ = Counts
 
 its_own : (name : TableName) → table_at (table_place name) ≡ name
@@ -64,6 +65,7 @@ its_own System = refl
 its_own Plans = refl
 its_own Segments = refl
 its_own Types = refl
+its_own Regions = refl
 its_own Stations = refl
 its_own Docks = refl
 its_own Bikes = refl
@@ -75,12 +77,13 @@ its_own Entries = refl
 its_own Kept = refl
 its_own Counts = refl
 
-last_place : (name : TableName) → table_place name < 15
+last_place : (name : TableName) → table_place name < 16
 last_place Meta = omega arith
 last_place System = omega arith
 last_place Plans = omega arith
 last_place Segments = omega arith
 last_place Types = omega arith
+last_place Regions = omega arith
 last_place Stations = omega arith
 last_place Docks = omega arith
 last_place Bikes = omega arith
@@ -94,11 +97,11 @@ last_place Counts = omega arith
 
 -- the tables from a place on, in their order
 abbrev AreFrom : ℕ → List TableName → Type 0
-AreFrom place [] = place ≡ 15
+AreFrom place [] = place ≡ 16
 AreFrom place (name ∷ names) = (table_place name ≡ place) × AreFrom (suc place) names
 
 every_from : AreFrom 0 every_table
-every_from = (refl, (refl, (refl, (refl, (refl, (refl, (refl, (refl, (refl, (refl, (refl, (refl, (refl, (refl, (refl, refl)))))))))))))))
+every_from = (refl, (refl, (refl, (refl, (refl, (refl, (refl, (refl, (refl, (refl, (refl, (refl, (refl, (refl, (refl, (refl, refl))))))))))))))))
 
 module _ (db : Database) where
   abbrev t : Tables

@@ -6,7 +6,7 @@ ghost use Rattle.bike_judges.specs.Verdicts.{JudgesTable};
 ghost use Rattle.bike_recognition.specs.Names.{table_named};
 
 use bike_catalogue_rules::{
-    judge_kept, judge_meta, judge_plans, judge_segments, judge_system, judge_types,
+    judge_kept, judge_meta, judge_plans, judge_regions, judge_segments, judge_system, judge_types,
 };
 use bike_count_rules::judge_counts;
 use bike_fleet_rules::{judge_bikes, judge_orders, judge_trucks};
@@ -32,6 +32,7 @@ pub(crate) fn judge_table<S: Alter>(
         TableName::Plans => judge_plans(conn),
         TableName::Segments => judge_segments(conn),
         TableName::Types => judge_types(conn),
+        TableName::Regions => judge_regions(conn),
         TableName::Stations => judge_stations(conn),
         TableName::Docks => judge_docks(conn),
         TableName::Bikes => judge_bikes(conn),

@@ -1,4 +1,4 @@
--- The row changes that book a system set, a type or station added, and a type's default plan or a station's flags set.
+-- The row changes that book a system set, a type, region or station added, and a type's default plan or a station's flags or region set.
 use Rattle.std.proofs.Common.{◌≡◌, ℕ, pos, List, [], ◌∷◌, true, Option, Some, None, refl, sym, ap, ap₂, ◌∙◌, arith}
 use Rattle.std.specs.Prelude.{map}
 use Rattle.std.specs.Ordering.{nat_cmp}
@@ -12,13 +12,13 @@ use Rattle.bike_operator.specs.Rows.{SystemRow}
 use Rattle.bike_operator.specs.declared.change.Change.TheVariants as change
 use Rattle.bike_operator.specs.Operator.{Operator, Station}
 use Rattle.bike_operator.specs.Steps.{key_changed, new_station}
-use Rattle.bike_operator.specs.Changes.{with_change}
+use Rattle.bike_operator.specs.Changes.{with_change, text_in}
 use Rattle.bike_places.proofs.MapLemmas.{number_order, text_order, known_added, known_changed}
 use Rattle.bike_places.proofs.CatalogueLemmas.{same_docks, docks_changed, docks_added}
 use Rattle.bike_book.specs.Rows.{system_row, station_row}
-use Rattle.bike_book.specs.Stored.{system_rows, stored_type}
+use Rattle.bike_book.specs.Stored.{system_rows, stored_type, stored_region}
 use Rattle.bike_book.specs.Between.{docks_left, counted_station, tables_between}
-use Rattle.bike_book.specs.ChangeLaws.{Everywhere, SetSystemLaw, AddTypeLaw, SetPlanLaw, AddStationLaw, SetStationLaw}
+use Rattle.bike_book.specs.ChangeLaws.{Everywhere, SetSystemLaw, AddTypeLaw, SetPlanLaw, AddRegionLaw, AddStationLaw, SetStationLaw, SetRegionLaw}
 use Rattle.bike_book.proofs.MapRows.{put_entries, changed_entries}
 use Rattle.bike_book.proofs.Keys.{numbers, number_key, texts}
 use Rattle.bike_book.proofs.ListingLemmas.{KeepsNames, names_same, listing_same}
@@ -62,6 +62,14 @@ set_plan s m now listing type_id plan =
       listing = listing_same s n m (types_known s n refl (λ q h. known_changed text_order s.types type_id.now (λ t. record t { plan_id = plan.now }) q h)) refl refl listing;
     }
 
+-- ---- regions
+
+pub add_region : Everywhere AddRegionLaw
+add_region s m now listing r =
+    let n = with_change now (change.AddRegion r) s in
+    let regions = put_entries texts stored_region stored_region (λ e. refl) (λ e. refl) s.regions r.now.region_id r.now tt (λ q y found. (tt, λ apart. refl)) in
+    record { leads = λ i. record (tables_between s m) { regions = regions i }; listing = listing_same s n m (names_same s n refl refl) refl refl listing }
+
 -- ---- stations
 
 pub add_station : Everywhere AddStationLaw
@@ -80,7 +88,7 @@ add_station s m now listing x free none_taken none_broken =
       }) refl refl listing;
     }
 
--- a station's flags or its report change, and not its record
+-- a station's flags, report or region change, and not its record
 pub names_station : (s : Operator) (id : List ℕ) (f : Station → Station) → ((x : Station) → (f x).row ≡ x.row) → KeepsNames s (record s { stations = key_changed s.stations id f })
 names_station s id f rows = record {
   docks = docks_changed s (record s { stations = key_changed s.stations id f }) id f rows refl;
@@ -92,6 +100,16 @@ pub set_station : Everywhere SetStationLaw
 set_station s m now listing station installed renting returning =
     let n = with_change now (change.SetStation station installed renting returning) s in
     let f = λ (x : Station). record x { is_installed = installed; is_renting = renting; is_returning = returning; reported = now } in
+    let stations = changed_entries texts (counted_station s) (counted_station s) (λ e. refl) (λ e. refl) s.stations station.now tt _ f (λ v found. refl) (λ q y found. (tt, λ apart. refl)) in
+    record {
+      leads = λ i. record (tables_between s m) { stations = stations i };
+      listing = listing_same s n m (names_station s station.now f (λ x. refl)) refl refl listing;
+    }
+
+pub set_region : Everywhere SetRegionLaw
+set_region s m now listing station region =
+    let n = with_change now (change.SetRegion station region) s in
+    let f = λ (x : Station). record x { region = text_in region } in
     let stations = changed_entries texts (counted_station s) (counted_station s) (λ e. refl) (λ e. refl) s.stations station.now tt _ f (λ v found. refl) (λ q y found. (tt, λ apart. refl)) in
     record {
       leads = λ i. record (tables_between s m) { stations = stations i };

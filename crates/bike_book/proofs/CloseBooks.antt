@@ -95,6 +95,8 @@ leaves now (change.CloseRental rental to_station fare) s = record { entries = re
 leaves now (change.AddOrder truck from_end to_end type_id count) s = record { entries = refl; kept = refl; now = refl }
 leaves now (change.Deliver order) s = record { entries = refl; kept = refl; now = refl }
 leaves now (change.CloseOrder order) s = record { entries = refl; kept = refl; now = refl }
+leaves now (change.AddRegion r) s = record { entries = refl; kept = refl; now = refl }
+leaves now (change.SetRegion station region) s = record { entries = refl; kept = refl; now = refl }
 
 pub changes_leave : ChangesLeaveLedger
 changes_leave now [] s = record { entries = refl; kept = refl; now = refl }

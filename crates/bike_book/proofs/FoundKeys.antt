@@ -12,7 +12,7 @@ use Rattle.bike_book.specs.declared.version.TheConstants.{NEWEST}
 use Rattle.bike_places.specs.Numbers.{disabled_of}
 use Rattle.bike_book.specs.Tables.{Docks, Counts}
 use Rattle.bike_book.specs.Rows.{number_value, system_row, dock_row, count_row}
-use Rattle.bike_book.specs.Stored.{Listed, IsListing, system_rows, stored_plan, stored_type, stored_station, stored_dock, stored_bike, stored_truck, stored_rider, stored_rental, stored_order, stored_entry, stored_kept, stored_count}
+use Rattle.bike_book.specs.Stored.{Listed, IsListing, system_rows, stored_plan, stored_type, stored_region, stored_station, stored_dock, stored_bike, stored_truck, stored_rider, stored_rental, stored_order, stored_entry, stored_kept, stored_count}
 use Rattle.bike_book.specs.Found.{row_under, WhereListed, FoundByKey, FoundListed}
 use Rattle.bike_book.proofs.MapRows.{found_entries}
 use Rattle.bike_book.proofs.Keys.{number_key, numbers, texts, pairs, docks, IsPair, IsDockPair}
@@ -31,6 +31,7 @@ found_by_key s m sound listing = record {
   system = system_found s.system;
   plans = λ id. found_entries texts stored_plan (λ e. refl) id tt s.plans (λ q y found. tt);
   types = λ id. found_entries texts stored_type (λ e. refl) id tt s.types (λ q y found. tt);
+  regions = λ id. found_entries texts stored_region (λ e. refl) id tt s.regions (λ q y found. tt);
   stations = λ id. found_entries texts (stored_station s) (λ e. refl) id tt s.stations (λ q y found. tt);
   bikes = λ bike. found_entries numbers stored_bike (λ e. refl) bike tt s.bikes (λ q y found. tt);
   trucks = λ truck. found_entries numbers stored_truck (λ e. refl) truck tt s.trucks (λ q y found. tt);

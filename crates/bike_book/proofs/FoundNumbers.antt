@@ -13,7 +13,7 @@ use Rattle.bike_operator.specs.declared.records.Rental.{Rental}
 use Rattle.bike_operator.specs.declared.records.Closing.{Closing}
 use Rattle.bike_operator.specs.Counts.{count, is_open}
 use Rattle.bike_book.specs.Rows.{number_value}
-use Rattle.bike_book.specs.Stored.{numbers_from, with_numbers, stored_plan, stored_type, stored_station, stored_bike, stored_truck, stored_rider, stored_rental, stored_order, stored_entry, stored_kept}
+use Rattle.bike_book.specs.Stored.{numbers_from, with_numbers, stored_plan, stored_type, stored_region, stored_station, stored_bike, stored_truck, stored_rider, stored_rental, stored_order, stored_entry, stored_kept}
 use Rattle.bike_book.specs.Found.{WhereListed, FoundNumbers, IsLast, rows_open}
 
 -- ---- the last number
@@ -68,6 +68,7 @@ found_numbers s m sound listing = record {
   last_entry = last_is stored_entry (λ e. refl) s.entries;
   plans = same_len stored_plan s.plans;
   types = same_len stored_type s.types;
+  regions = same_len stored_region s.regions;
   stations = same_len (stored_station s) s.stations;
   bikes = same_len stored_bike s.bikes;
   trucks = same_len stored_truck s.trucks;

@@ -2,7 +2,7 @@
 use Rattle.std.specs.Prelude.{◌≡◌, ◌+◌, ℕ, suc, ℤ, pos, length, List, [], ◌∷◌, ◌++◌, Bool, true, false, Option, Some, None}
 use Rattle.std.specs.Borrow.{Bor}
 use Rattle.std.specs.FinMap as fin
-use Rattle.bike_operator.specs.Rows.{SegmentRow, PlanRow, TypeRow, StationRow, SystemRow}
+use Rattle.bike_operator.specs.Rows.{SegmentRow, PlanRow, TypeRow, RegionRow, StationRow, SystemRow}
 use Rattle.bike_ledger.specs.Ledger.{balance_of, refunded_of}
 use Rattle.bike_commands.specs.OrderEnd.{OrderEnd}
 use Rattle.bike_operator.specs.declared.records.Order.{Order}
@@ -50,6 +50,10 @@ module _ (s : Operator) (m : Listed) (now : ℕ) where
   abbrev pub SetPlanLaw : Type 0
   SetPlanLaw = (type_id plan : Bor (List ℕ)) → BooksChange (row.SetDefaultPlan type_id plan ∷ []) (change.SetPlan type_id plan)
 
+  -- a region, whether it was there or not
+  abbrev pub AddRegionLaw : Type 0
+  AddRegionLaw = (r : Bor RegionRow) → BooksChange (row.AddRegion r ∷ []) (change.AddRegion r)
+
   -- a station that isn't there, with no bicycle in a dock of it and no broken dock
   abbrev pub AddStationLaw : Type 0
   AddStationLaw =
@@ -61,6 +65,12 @@ module _ (s : Operator) (m : Listed) (now : ℕ) where
   SetStationLaw =
       (station : Bor (List ℕ)) (installed renting returning : Bool)
       → BooksChange (row.SetFlags station installed renting returning now ∷ []) (change.SetStation station installed renting returning)
+
+  -- the region of a station, where it is there, or none
+  abbrev pub SetRegionLaw : Type 0
+  SetRegionLaw =
+      (station : Bor (List ℕ)) (region : Option (Bor (List ℕ)))
+      → BooksChange (row.SetRegion station region ∷ []) (change.SetRegion station region)
 
   -- ---- bicycles, trucks and riders
 

@@ -16,8 +16,8 @@ use Rattle.bike_operator.specs.Counts.{count, is_on_truck, is_for_order, docked_
 use Rattle.bike_operator.specs.Sound.{IsSound}
 use Rattle.bike_book.specs.declared.version.TheConstants.{NEWEST}
 use Rattle.bike_places.specs.Numbers.{disabled_of}
-use Rattle.bike_book.specs.Tables.{TableName, rows_in, keys_of, Meta, System, Plans, Segments, Types, Stations, Docks, Bikes, Trucks, Riders, Rentals, Orders, Entries, Kept, Counts}
-use Rattle.bike_book.specs.Rows.{number_value, meta_row, system_row, plan_row, type_row, station_row, dock_row, bike_row, truck_row, rider_row, rental_row, order_row, entry_row, kept_row, count_row}
+use Rattle.bike_book.specs.Tables.{TableName, rows_in, keys_of, Meta, System, Plans, Segments, Types, Regions, Stations, Docks, Bikes, Trucks, Riders, Rentals, Orders, Entries, Kept, Counts}
+use Rattle.bike_book.specs.Rows.{number_value, meta_row, system_row, plan_row, type_row, region_row, station_row, dock_row, bike_row, truck_row, rider_row, rental_row, order_row, entry_row, kept_row, count_row}
 use Rattle.bike_book.specs.Stored.{Listed, IsListing, with_numbers, segment_rows, stored_bike, stored_rental, tables_for}
 
 -- the fact holds of each sound operator whose rows are listed right
@@ -40,6 +40,7 @@ pub record FoundByKey (s : Operator) (m : Listed) : Type 0 where
   pub system : row_under s m System (number_value 1 ∷ []) ≡ option_map system_row s.system
   pub plans : (id : List ℕ) → row_under s m Plans (Text id ∷ []) ≡ option_map (plan_row id) (fin.get s.plans id)
   pub types : (id : List ℕ) → row_under s m Types (Text id ∷ []) ≡ option_map (type_row id) (fin.get s.types id)
+  pub regions : (id : List ℕ) → row_under s m Regions (Text id ∷ []) ≡ option_map (region_row id) (fin.get s.regions id)
   pub stations : (id : List ℕ) → row_under s m Stations (Text id ∷ [])
       ≡ option_map (λ x. station_row id x (pos (docks_available s id x.row.docks)) (docks_broken s id x.row.docks)) (fin.get s.stations id)
   pub bikes : (bike : ℕ) → row_under s m Bikes (number_value bike ∷ []) ≡ option_map (bike_row bike) (fin.get s.bikes bike)
@@ -116,6 +117,7 @@ pub record FoundNumbers (s : Operator) (m : Listed) : Type 0 where
   pub last_entry : IsLast (length s.entries) (last_row s m Entries)
   pub plans : row_count s m Plans ≡ fin.len s.plans
   pub types : row_count s m Types ≡ fin.len s.types
+  pub regions : row_count s m Regions ≡ fin.len s.regions
   pub stations : row_count s m Stations ≡ fin.len s.stations
   pub bikes : row_count s m Bikes ≡ fin.len s.bikes
   pub trucks : row_count s m Trucks ≡ fin.len s.trucks

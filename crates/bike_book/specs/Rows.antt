@@ -4,7 +4,7 @@ use Rattle.sqlite_value.specs.declared.value.Value.{Value}
 use Rattle.sqlite_value.specs.declared.value.Value.TheVariants.{Null, Int, Text}
 use Rattle.sqlite_value.specs.Order.{Row}
 use Rattle.sqlite.specs.Values.{or_null}
-use Rattle.bike_operator.specs.Rows.{SegmentRow, PlanRow, TypeRow, SystemRow}
+use Rattle.bike_operator.specs.Rows.{SegmentRow, PlanRow, TypeRow, RegionRow, SystemRow}
 use Rattle.bike_commands.specs.Vehicle.{form_text, propulsion_text}
 use Rattle.bike_ledger.specs.Entries.{Entry}
 use Rattle.bike_ledger.specs.declared.entry.EntryKind.{EntryKind}
@@ -50,11 +50,15 @@ segment_row id seq g = Text id ∷ number_value seq ∷ number_value g.start ∷
 abbrev pub type_row : List ℕ → TypeRow → Row
 type_row id t = Text id ∷ Text t.name ∷ Text (form_text t.form) ∷ Text (propulsion_text t.propulsion) ∷ number_value t.max_range ∷ Text t.plan_id ∷ []
 
--- station_id, name, lat, lon (microdegrees), docks, installed, renting, returning, reported (seconds), free, broken
+-- region_id, name
+abbrev pub region_row : List ℕ → RegionRow → Row
+region_row id r = Text id ∷ Text r.name ∷ []
+
+-- station_id, name, lat, lon (microdegrees), docks, installed, renting, returning, reported (seconds), free, broken, region_id (or NULL)
 abbrev pub station_row : List ℕ → Station → ℤ → ℕ → Row
 station_row id x free broken =
     Text id ∷ Text x.row.name ∷ Int x.row.lat ∷ Int x.row.lon ∷ number_value x.row.docks ∷ Int (truth x.is_installed) ∷ Int (truth x.is_renting) ∷ Int (truth x.is_returning)
-    ∷ number_value x.reported ∷ Int free ∷ number_value broken ∷ []
+    ∷ number_value x.reported ∷ Int free ∷ number_value broken ∷ or_null Text x.region ∷ []
 
 -- station_id, dock, broken
 abbrev pub dock_row : List ℕ → ℕ → Bool → Row

@@ -4,7 +4,7 @@ use Rattle.std.specs.FinMap as fin
 use Rattle.std.specs.FinMap.{FinMap}
 use Rattle.std.specs.FinSet.{FinSet, contains}
 use Rattle.sqlite_value.specs.Order.{Row}
-use Rattle.bike_operator.specs.Rows.{SegmentRow, PlanRow, TypeRow, SystemRow}
+use Rattle.bike_operator.specs.Rows.{SegmentRow, PlanRow, TypeRow, RegionRow, SystemRow}
 use Rattle.bike_commands.specs.Commands.{text_of}
 use Rattle.bike_commands.specs.Replies.{reply_text}
 use Rattle.bike_ledger.specs.Entries.{Entry}
@@ -18,7 +18,7 @@ use Rattle.bike_operator.specs.Sound.{HasDock}
 use Rattle.bike_book.specs.declared.version.TheConstants.{NEWEST}
 use Rattle.bike_places.specs.Numbers.{disabled_of}
 use Rattle.bike_book.specs.Tables.{Tables}
-use Rattle.bike_book.specs.Rows.{meta_row, system_row, plan_row, segment_row, type_row, station_row, dock_row, bike_row, truck_row, rider_row, rental_row, order_row, entry_row, kept_row, count_row, first_text, second_text, second_number}
+use Rattle.bike_book.specs.Rows.{meta_row, system_row, plan_row, segment_row, type_row, region_row, station_row, dock_row, bike_row, truck_row, rider_row, rental_row, order_row, entry_row, kept_row, count_row, first_text, second_text, second_number}
 
 -- ---- numbered records with their numbers, from 1
 
@@ -36,6 +36,9 @@ stored_plan e = plan_row e.0 e.1
 
 abbrev pub stored_type : List ℕ × TypeRow → Row
 stored_type e = type_row e.0 e.1
+
+abbrev pub stored_region : List ℕ × RegionRow → Row
+stored_region e = region_row e.0 e.1
 
 -- with its docks that are available and those that are broken, as GBFS counts them
 abbrev pub stored_station : Operator → List ℕ × Station → Row
@@ -106,6 +109,7 @@ tables_for s m = record {
   plans = map stored_plan (fin.entries s.plans);
   segments = plans_segments (fin.entries s.plans);
   types = map stored_type (fin.entries s.types);
+  regions = map stored_region (fin.entries s.regions);
   stations = map (stored_station s) (fin.entries s.stations);
   docks = map (stored_dock s.broken) (fin.entries m.docks);
   bikes = map stored_bike (fin.entries s.bikes);

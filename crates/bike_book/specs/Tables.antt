@@ -8,6 +8,7 @@ pub data TableName : Type 0 where
   Plans : TableName
   Segments : TableName
   Types : TableName
+  Regions : TableName
   Stations : TableName
   Docks : TableName
   Bikes : TableName
@@ -26,16 +27,17 @@ table_place System = 1
 table_place Plans = 2
 table_place Segments = 3
 table_place Types = 4
-table_place Stations = 5
-table_place Docks = 6
-table_place Bikes = 7
-table_place Trucks = 8
-table_place Riders = 9
-table_place Rentals = 10
-table_place Orders = 11
-table_place Entries = 12
-table_place Kept = 13
-table_place Counts = 14
+table_place Regions = 5
+table_place Stations = 6
+table_place Docks = 7
+table_place Bikes = 8
+table_place Trucks = 9
+table_place Riders = 10
+table_place Rentals = 11
+table_place Orders = 12
+table_place Entries = 13
+table_place Kept = 14
+table_place Counts = 15
 
 abbrev pub is_table : TableName → TableName → Bool
 is_table a b = table_place a == table_place b
@@ -47,6 +49,7 @@ keys_of System = 1
 keys_of Plans = 1
 keys_of Segments = 2
 keys_of Types = 1
+keys_of Regions = 1
 keys_of Stations = 1
 keys_of Docks = 2
 keys_of Bikes = 1
@@ -65,6 +68,7 @@ pub record Tables : Type 0 where
   pub plans : List Row
   pub segments : List Row
   pub types : List Row
+  pub regions : List Row
   pub stations : List Row
   pub docks : List Row
   pub bikes : List Row
@@ -82,6 +86,7 @@ rows_in t System = t.system
 rows_in t Plans = t.plans
 rows_in t Segments = t.segments
 rows_in t Types = t.types
+rows_in t Regions = t.regions
 rows_in t Stations = t.stations
 rows_in t Docks = t.docks
 rows_in t Bikes = t.bikes
@@ -101,6 +106,7 @@ tables_by rows = record {
   plans = rows Plans;
   segments = rows Segments;
   types = rows Types;
+  regions = rows Regions;
   stations = rows Stations;
   docks = rows Docks;
   bikes = rows Bikes;

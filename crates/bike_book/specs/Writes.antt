@@ -3,6 +3,7 @@ use Rattle.std.specs.Prelude.{ℕ, pos, ◌+◌, true, List, [], ◌∷◌, Some
 use Rattle.sqlite_value.specs.declared.value.Value.{Value}
 use Rattle.sqlite_value.specs.declared.value.Value.TheVariants.{Int, Text}
 use Rattle.sqlite_value.specs.Order.{Row}
+use Rattle.sqlite.specs.Values.{or_null}
 use Rattle.bike_rows.specs.View.{put_row_by, rows_after_update, with_values}
 use Rattle.bike_operator.specs.declared.records.BikeState.TheVariants.{Fit}
 use Rattle.bike_operator.specs.declared.records.Place.TheVariants as place
@@ -10,8 +11,8 @@ use Rattle.bike_operator.specs.Steps.{new_station}
 use Rattle.bike_operator.specs.Changes.{place_of, text_in}
 use Rattle.bike_book.specs.declared.row_change.RowChange.{RowChange}
 use Rattle.bike_book.specs.declared.row_change.RowChange.TheVariants as row
-use Rattle.bike_book.specs.Tables.{TableName, Tables, rows_in, with_rows, keys_of, Meta, System, Plans, Segments, Types, Stations, Docks, Bikes, Trucks, Riders, Rentals, Orders, Entries, Kept, Counts}
-use Rattle.bike_book.specs.Rows.{truth, number_value, state_number, place_columns, closing_columns, system_row, plan_row, segment_row, type_row, station_row, dock_row, bike_row, truck_row, rider_row, rental_row, order_row, entry_row, kept_row, count_row}
+use Rattle.bike_book.specs.Tables.{TableName, Tables, rows_in, with_rows, keys_of, Meta, System, Plans, Segments, Types, Regions, Stations, Docks, Bikes, Trucks, Riders, Rentals, Orders, Entries, Kept, Counts}
+use Rattle.bike_book.specs.Rows.{truth, number_value, state_number, place_columns, closing_columns, system_row, plan_row, segment_row, type_row, region_row, station_row, dock_row, bike_row, truck_row, rider_row, rental_row, order_row, entry_row, kept_row, count_row}
 
 -- columns, counted from 0, and what they are set to
 abbrev pub Columns : Type 0
@@ -51,9 +52,11 @@ write_of (row.AddPlan p) = Add Plans (plan_row p.now.plan_id p.now)
 write_of (row.AddSegment plan seq g) = Add Segments (segment_row plan.now seq g.now)
 write_of (row.AddType t) = Add Types (type_row t.now.type_id t.now)
 write_of (row.SetDefaultPlan type_id plan) = Set Types (Text type_id.now ∷ []) ((5, Text plan.now) ∷ [])
+write_of (row.AddRegion r) = Add Regions (region_row r.now.region_id r.now)
 write_of (row.AddStation x reported) = Add Stations (station_row x.now.station_id (new_station x.now reported) (pos x.now.docks) 0)
 write_of (row.SetFlags station installed renting returning reported) =
     Set Stations (Text station.now ∷ []) ((5, Int (truth installed)) ∷ (6, Int (truth renting)) ∷ (7, Int (truth returning)) ∷ (8, number_value reported) ∷ [])
+write_of (row.SetRegion station region) = Set Stations (Text station.now ∷ []) ((11, or_null Text (text_in region)) ∷ [])
 write_of (row.SetReported station reported) = Set Stations (Text station.now ∷ []) ((8, number_value reported) ∷ [])
 write_of (row.SetDocks station free broken) = Set Stations (Text station.now ∷ []) ((9, number_value free) ∷ (10, number_value broken) ∷ [])
 write_of (row.SetDocksReported station free broken reported) =

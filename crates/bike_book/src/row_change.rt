@@ -1,6 +1,6 @@
 //! Changes of one row each. Their numbers and texts are those of an operator's records.
 
-use bike_commands::{Ident, OrderEnd, Plan, Segment, Station, System, VehicleType};
+use bike_commands::{Ident, OrderEnd, Plan, Region, Segment, Station, System, VehicleType};
 use bike_fixed::{Cents, Moment};
 use bike_ledger::Entry;
 use bike_operator::{BikeState, NewPlace};
@@ -26,7 +26,9 @@ pub enum RowChange<'a> {
         type_id: &'a Ident,
         plan: &'a Ident,
     },
-    /// Adds a row to `stations`: installed, renting, returning, with all docks available.
+    /// Adds a row to `regions`.
+    AddRegion(&'a Region),
+    /// Adds a row to `stations_2`: installed, renting, returning, in no region, with all docks available.
     AddStation {
         station: &'a Station,
         reported: Moment,
@@ -38,6 +40,11 @@ pub enum RowChange<'a> {
         is_renting: bool,
         is_returning: bool,
         reported: Moment,
+    },
+    /// Sets the region of a station, or that it is in none.
+    SetRegion {
+        station: &'a Ident,
+        region: Option<&'a Ident>,
     },
     /// Sets when a station reported last.
     SetReported {

@@ -23,6 +23,7 @@ fn catalogue_row<'a>(
         Change::SetSystem(system) => Some(RowChange::AddSystem(system)),
         Change::AddType(vehicle_type) => Some(RowChange::AddType(vehicle_type)),
         Change::SetPlan { type_id, plan } => Some(RowChange::SetDefaultPlan { type_id, plan }),
+        Change::AddRegion(region) => Some(RowChange::AddRegion(region)),
         Change::AddStation(station) => {
             if !lacks_station(command, view, station.station_id()) {
                 return None;
@@ -44,6 +45,12 @@ fn catalogue_row<'a>(
                 is_renting: *is_renting,
                 is_returning: *is_returning,
                 reported: now,
+            })
+        }
+        Change::SetRegion { station, region } => {
+            Some(RowChange::SetRegion {
+                station,
+                region: *region,
             })
         }
         _ => None,

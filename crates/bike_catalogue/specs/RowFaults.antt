@@ -4,7 +4,7 @@ use Rattle.bike_fixed.specs.declared.micro.TheConstants.{GREATEST_COORDINATE}
 use Rattle.bike_fields.specs.declared.fault.Bound.{Bound}
 use Rattle.bike_fields.specs.declared.fault.Bound.TheVariants.{Length, Range, Order}
 use Rattle.bike_fields.specs.declared.fault.Field.{Field}
-use Rattle.bike_fields.specs.declared.fault.Field.TheVariants.{SystemId, Language, Name, OpeningHours, FeedContactEmail, Timezone, Currency, BaseUrl, Ttl, Plan, Price, Description, Segments, Start, Rate, Interval, End, TypeId, MaxRange, Station, Lat, Lon, Docks}
+use Rattle.bike_fields.specs.declared.fault.Field.TheVariants.{SystemId, Language, Name, OpeningHours, FeedContactEmail, Timezone, Currency, BaseUrl, Ttl, Plan, Price, Description, Segments, Start, Rate, Interval, End, TypeId, MaxRange, Station, Lat, Lon, Docks, Region}
 use Rattle.bike_fields.specs.declared.fault.FieldFault.{FieldFault}
 use Rattle.bike_fields.specs.declared.fault.FieldFault.TheVariants.{Broken}
 use Rattle.bike_catalogue.specs.declared.vehicle.Propulsion.{Propulsion}
@@ -12,7 +12,7 @@ use Rattle.bike_catalogue.specs.declared.vehicle.Propulsion.TheVariants.{Human, 
 use Rattle.bike_fields.specs.declared.numbers.TheConstants.{MOST_DOCKS, LAST_MINUTE, GREATEST_PRICE, GREATEST_RANGE, LONGEST_TIME_TO_LIVE}
 use Rattle.bike_catalogue.specs.declared.limits.TheConstants.{MOST_SEGMENTS, GREATEST_RATE, GREATEST_LATITUDE}
 use Rattle.bike_fields.specs.Fault.{Makes, at_field, ident_fault, name_fault, ascii_fault, language_fault, currency_fault}
-use Rattle.bike_catalogue.specs.Rows.{SegmentRow, PlanRow, TypeRow, StationRow, SystemRow}
+use Rattle.bike_catalogue.specs.Rows.{SegmentRow, PlanRow, TypeRow, StationRow, RegionRow, SystemRow}
 
 -- the first of the fields' faults
 abbrev pub or_else : Option (Field × Bound) → Option (Field × Bound) → Option (Field × Bound)
@@ -65,6 +65,9 @@ station_fault s = first_fault (
     (Station, ident_fault s.station_id) ∷ (Name, name_fault s.name) ∷ (Lat, signed_fault GREATEST_LATITUDE s.lat)
     ∷ (Lon, signed_fault GREATEST_COORDINATE s.lon) ∷ (Docks, range_fault 1 MOST_DOCKS s.docks) ∷ [])
 
+unfoldable pub region_fault : RegionRow → Option (Field × Bound)
+region_fault r = first_fault ((Region, ident_fault r.region_id) ∷ (Name, name_fault r.name) ∷ [])
+
 unfoldable pub system_fault : SystemRow → Option (Field × Bound)
 system_fault s = first_fault (
     (SystemId, ident_fault s.system_id) ∷ (Language, language_fault s.language) ∷ (Name, name_fault s.name)
@@ -82,6 +85,9 @@ MakesType row result = Makes row (type_fault row) result
 
 abbrev pub MakesStation : StationRow → Result StationRow FieldFault → Type 0
 MakesStation row result = Makes row (station_fault row) result
+
+abbrev pub MakesRegion : RegionRow → Result RegionRow FieldFault → Type 0
+MakesRegion row result = Makes row (region_fault row) result
 
 abbrev pub MakesSystem : SystemRow → Result SystemRow FieldFault → Type 0
 MakesSystem row result = Makes row (system_fault row) result

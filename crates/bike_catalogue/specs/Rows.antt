@@ -38,6 +38,10 @@ pub record StationRow : Type 0 where
   pub lon : ℤ
   pub docks : ℕ
 
+pub record RegionRow : Type 0 where
+  pub region_id : List ℕ
+  pub name : List ℕ
+
 pub record SystemRow : Type 0 where
   pub system_id : List ℕ
   pub language : List ℕ
@@ -59,6 +63,9 @@ type_of_fields type_id name form propulsion max_range plan_id = record { type_id
 
 abbrev pub station_of_fields : List ℕ → List ℕ → ℤ → ℤ → ℕ → StationRow
 station_of_fields station_id name lat lon docks = record { station_id = station_id; name = name; lat = lat; lon = lon; docks = docks }
+
+abbrev pub region_of_fields : List ℕ → List ℕ → RegionRow
+region_of_fields region_id name = record { region_id = region_id; name = name }
 
 abbrev pub system_of_fields : List ℕ → List ℕ → List ℕ → List ℕ → List ℕ → List ℕ → List ℕ → List ℕ → ℕ → SystemRow
 system_of_fields system_id language name opening_hours feed_contact_email timezone currency base_url ttl = record {
@@ -145,6 +152,10 @@ pub record IsStation (s : StationRow) : Type 0 where
   pub lon : IsMicro s.lon
   pub some_docks : 1 ≤ s.docks
   pub few_docks : s.docks ≤ MOST_DOCKS
+
+pub record IsRegion (r : RegionRow) : Type 0 where
+  pub region_id : is_ident r.region_id ≡ true
+  pub name : is_name r.name ≡ true
 
 pub record IsSystem (s : SystemRow) : Type 0 where
   pub system_id : is_ident s.system_id ≡ true

@@ -1,4 +1,4 @@
--- The rows of system, of kept, of plans and of vehicle types pass their tests exactly where they are good.
+-- The rows of system, of kept, of plans, of regions and of vehicle types pass their tests exactly where they are good.
 use Rattle.std.proofs.Common.{◌≡◌, ℕ, List, ◌&&◌, Some, is_some, sym, ap, ◌∙◌}
 use Rattle.std.proofs.lemmas.Bool.{ltb-true, lt-ltb, and_from}
 use Rattle.std.specs.Prelude.{nat_lt}
@@ -7,17 +7,17 @@ use Rattle.sqlite_value.specs.Order.{Row, column}
 use Rattle.sqlite_rules.specs.Lists.{Has}
 use Rattle.bike_fields.proofs.Lengths.{both_hold}
 use Rattle.bike_catalogue.specs.Rows.{TypeRow}
-use Rattle.bike_operator.specs.declared.limits.TheConstants.{MOST_PLANS, MOST_TYPES}
-use Rattle.bike_book.specs.Tables.{Tables, System, Plans, Types, Kept}
-use Rattle.bike_readings.specs.Readings.{system_read, plan_read, type_read, kept_read}
+use Rattle.bike_operator.specs.declared.limits.TheConstants.{MOST_PLANS, MOST_TYPES, MOST_REGIONS}
+use Rattle.bike_book.specs.Tables.{Tables, System, Plans, Types, Regions, Kept}
+use Rattle.bike_readings.specs.Readings.{system_read, plan_read, type_read, region_read, kept_read}
 use Rattle.bike_readings.proofs.CatalogueRows.{type_reading}
 use Rattle.bike_readings.proofs.KeptRows.{kept_reading}
 use Rattle.bike_readings.specs.ReadOff.{operator_of}
-use Rattle.bike_readings.specs.Demands.{IsGoodPlan, IsGoodType, IsGoodKept}
+use Rattle.bike_readings.specs.Demands.{IsGoodPlan, IsGoodType, IsGoodRegion, IsGoodKept}
 use Rattle.bike_readings.specs.Rules.{AreInOrder}
 use Rattle.bike_readings.proofs.RowRules.{some_with}
 use Rattle.bike_judges.specs.Lines.{part}
-use Rattle.bike_catalogue_rules.specs.Tests.{is_system, is_kept, is_plan, is_type, has_plan}
+use Rattle.bike_catalogue_rules.specs.Tests.{is_system, is_kept, is_plan, is_region, is_type, has_plan}
 use Rattle.bike_catalogue_rules.proofs.PlanLines.{plan_line, own_part, has_plan_is}
 use Rattle.bike_catalogue_rules.proofs.RowVerdicts.{IsTestOf, good_some, some_good}
 use Rattle.bike_catalogue_rules.proofs.Widths.{AreWide}
@@ -45,6 +45,17 @@ plan_test t = record {
   passes = λ below r has good.
       let it = some_with (IsGoodPlan (operator_of t) below) (plan_read r) good in
       and_from (nat_lt below MOST_PLANS) (is_some (plan_read r)) (lt-ltb below MOST_PLANS it.fact.room) (ap is_some it.value_is);
+}
+
+pub region_test : (t : Tables) → IsTestOf t Regions is_region
+region_test t = record {
+  may_lack = λ key. tt;
+  good = λ below r has passes.
+      let both = both_hold (nat_lt below MOST_REGIONS) (is_some (region_read r)) passes in
+      good_some (IsGoodRegion (operator_of t) below) (region_read r) both.1 (λ x e. record { room = ltb-true below MOST_REGIONS both.0 });
+  passes = λ below r has good.
+      let it = some_with (IsGoodRegion (operator_of t) below) (region_read r) good in
+      and_from (nat_lt below MOST_REGIONS) (is_some (region_read r)) (lt-ltb below MOST_REGIONS it.fact.room) (ap is_some it.value_is);
 }
 
 module _ (t : Tables) (up : AreInOrder t) (wide : AreWide t) where

@@ -5,7 +5,7 @@ use Rattle.std.proofs.lemmas.List.{take-append-le}
 use Rattle.sqlite_value.specs.Order.{Row}
 use Rattle.sqlite_rules.specs.Lists.{Has}
 use Rattle.sqlite.specs.Effect.{Database}
-use Rattle.bike_book.specs.Tables.{TableName, Tables, rows_in, keys_of, System, Plans, Segments, Types, Kept}
+use Rattle.bike_book.specs.Tables.{TableName, Tables, rows_in, keys_of, System, Plans, Segments, Types, Regions, Kept}
 use Rattle.bike_schema.specs.Tables.{IsOurs, tables_of}
 use Rattle.bike_readings.specs.Rules.{AreInOrder}
 use Rattle.bike_readings.proofs.RulesLaws.{stored_in_order}
@@ -16,9 +16,9 @@ use Rattle.bike_judges.specs.Lines.{lines_of}
 use Rattle.bike_judges.specs.Passes.{first_failing}
 use Rattle.bike_judges.specs.Verdicts.{IsTableVerdict, JudgesTable}
 use Rattle.bike_judges.proofs.LineLaw.{lines_verdict}
-use Rattle.bike_catalogue_rules.specs.Tests.{is_system, is_kept, is_plan, is_type, first_astray, is_next, segment_name}
+use Rattle.bike_catalogue_rules.specs.Tests.{is_system, is_kept, is_plan, is_region, is_type, first_astray, is_next, segment_name}
 use Rattle.bike_catalogue_rules.proofs.RowVerdicts.{IsTestOf, test_verdict}
-use Rattle.bike_catalogue_rules.proofs.CatalogueTests.{system_test, kept_test, plan_test, type_test}
+use Rattle.bike_catalogue_rules.proofs.CatalogueTests.{system_test, kept_test, plan_test, region_test, type_test}
 use Rattle.bike_catalogue_rules.proofs.PlanLines.{plan_line}
 use Rattle.bike_catalogue_rules.proofs.SegmentRules.{segments_verdict}
 use Rattle.bike_catalogue_rules.proofs.Widths.{are_wide}
@@ -51,6 +51,10 @@ module _ (db : Database) (before : ℕ) (zero : before ≡ 0) (found : Option Ba
   pub plans_judged : Finds (first_failing is_plan (take 1) before (lines_of query.Plans (tables_of db))) found → JudgesTable Plans db found
   plans_judged finds earlier =
       judged (tables_of db) Plans (stored_in_order db) (λ r. r) is_plan (take 1) (λ r has. refl) (plan_test (tables_of db)) (tables_of db).plans (same_lines (tables_of db).plans) before zero found finds
+
+  pub regions_judged : Finds (first_failing is_region (take 1) before (lines_of query.Regions (tables_of db))) found → JudgesTable Regions db found
+  regions_judged finds earlier =
+      judged (tables_of db) Regions (stored_in_order db) (λ r. r) is_region (take 1) (λ r has. refl) (region_test (tables_of db)) (tables_of db).regions (same_lines (tables_of db).regions) before zero found finds
 
   pub types_judged : IsOurs db → Finds (first_failing is_type (take 1) before (lines_of query.Types (tables_of db))) found → JudgesTable Types db found
   types_judged ours finds earlier =

@@ -1,9 +1,9 @@
--- What is asked of the lines of the catalogue: a row of meta, system, plans or kept, or a segment or a vehicle type with its plan beside it.
+-- What is asked of the lines of the catalogue: a row of meta, system, plans, regions or kept, or a segment or a vehicle type with its plan beside it.
 use Rattle.std.specs.Prelude.{ℕ, ◌+◌, ◌==◌, ◌&&◌, ◌||◌, nat_lt, List, [], ◌∷◌, take, Bool, false, if◌then◌else◌, Option, Some, None, is_some, option_map}
 use Rattle.std.specs.Str.{bytes_eq}
 use Rattle.sqlite_value.specs.Order.{Row}
-use Rattle.bike_operator.specs.declared.limits.TheConstants.{MOST_PLANS, MOST_TYPES}
-use Rattle.bike_readings.specs.Readings.{system_read, plan_read, segment_read, type_read, kept_read}
+use Rattle.bike_operator.specs.declared.limits.TheConstants.{MOST_PLANS, MOST_TYPES, MOST_REGIONS}
+use Rattle.bike_readings.specs.Readings.{system_read, plan_read, segment_read, type_read, region_read, kept_read}
 use Rattle.bike_judges.specs.Lines.{part}
 
 -- ---- lines by themselves
@@ -16,6 +16,9 @@ is_kept before line = is_some (kept_read line)
 
 abbrev pub is_plan : ℕ → Row → Bool
 is_plan before line = nat_lt before MOST_PLANS && is_some (plan_read line)
+
+abbrev pub is_region : ℕ → Row → Bool
+is_region before line = nat_lt before MOST_REGIONS && is_some (region_read line)
 
 -- the plan that a segment or a vehicle type names is there
 abbrev pub has_plan : Row → Bool

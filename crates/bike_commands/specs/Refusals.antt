@@ -41,6 +41,7 @@ number_of r.KeyReused = 33
 number_of r.TruckFull = 34
 number_of r.RentalClosed = 35
 number_of r.WrongTruckOrEnds = 36
+number_of r.UnknownRegion = 37
 
 -- the name that is printed
 abbrev pub name_of : Refusal → List ℕ
@@ -80,6 +81,7 @@ name_of r.KeyReused = codes "key_reused"
 name_of r.TruckFull = codes "truck_full"
 name_of r.RentalClosed = codes "rental_closed"
 name_of r.WrongTruckOrEnds = codes "wrong_truck_or_ends"
+name_of r.UnknownRegion = codes "unknown_region"
 
 -- all refusals, by number
 abbrev pub refusals : List Refusal
@@ -89,7 +91,8 @@ refusals =
     r.DockFull ∷ r.DockBroken ∷ r.BikeDisabled ∷ r.NotRenting ∷ r.NotReturning ∷ r.RiderBlocked ∷
     r.BalanceNegative ∷ r.RiderIsRiding ∷ r.NotRented ∷ r.NotInDepot ∷ r.BikeRetired ∷ r.TruckTooSmall ∷
     r.WrongPlace ∷ r.WrongType ∷ r.OrderClosed ∷ r.OrderFilled ∷ r.BikesOnTruck ∷ r.RefundTooLarge ∷
-    r.RentalOpen ∷ r.LimitReached ∷ r.KeyReused ∷ r.TruckFull ∷ r.RentalClosed ∷ r.WrongTruckOrEnds ∷ []
+    r.RentalOpen ∷ r.LimitReached ∷ r.KeyReused ∷ r.TruckFull ∷ r.RentalClosed ∷ r.WrongTruckOrEnds ∷
+    r.UnknownRegion ∷ []
 
 -- the refusal that has the number
 unfoldable pub refusal_of : ℕ → Option Refusal

@@ -164,6 +164,13 @@ impl Command {
             Command::CloseOrder { order } => {
                 let _ = order.get();
             }
+            Command::AddRegion(region) => region.bounds(),
+            Command::SetRegion { station, region } => {
+                let _ = station.as_str();
+                if let Some(region) = region {
+                    let _ = region.as_str();
+                }
+            }
         }
     }
 }

@@ -1,7 +1,7 @@
 //! Commands: what a request asks the operator to do.
 
 use bike_texts::{
-    BicycleNumber, DockNumber, Ident, OrderEnd, OrderNumber, OrderQuantity, Payment, Plan,
+    BicycleNumber, DockNumber, Ident, OrderEnd, OrderNumber, OrderQuantity, Payment, Plan, Region,
     RentalNumber, RiderNumber, Side, Station, System, TruckCapacity, TruckNumber, UnloadDock,
     VehicleType,
 };
@@ -114,5 +114,12 @@ pub enum Command {
     /// Closes an order.
     CloseOrder {
         order: OrderNumber,
+    },
+    /// Adds a region.
+    AddRegion(Region),
+    /// Puts a station into a region, or into none.
+    SetRegion {
+        station: Ident,
+        region: Option<Ident>,
     },
 }

@@ -12,8 +12,8 @@ mod request;
 
 pub use bike_texts::{
     BicycleNumber, DockCount, DockNumber, Ident, OrderEnd, OrderNumber, OrderQuantity, Plan,
-    RentalNumber, RiderNumber, Segment, Station, System, TruckCapacity, TruckNumber, UnloadDock,
-    VehicleType,
+    Region, RentalNumber, RiderNumber, Segment, Station, System, TruckCapacity, TruckNumber,
+    UnloadDock, VehicleType,
 };
 pub use command::Command;
 pub use refusal::Refusal;

@@ -79,10 +79,12 @@ pub enum Refusal {
     RentalClosed,
     /// The order is another truck's, or its two ends are equal.
     WrongTruckOrEnds,
+    /// No region has the identifier.
+    UnknownRegion,
 }
 
 impl Refusal {
-    /// The number that an answer line prints, 1 to 36.
+    /// The number that an answer line prints, 1 to 37.
     pub fn number(self) -> u32
         ensures { result ≡ number_of self }
     {
@@ -123,6 +125,7 @@ impl Refusal {
             Refusal::TruckFull => 34,
             Refusal::RentalClosed => 35,
             Refusal::WrongTruckOrEnds => 36,
+            Refusal::UnknownRegion => 37,
         }
     }
 
@@ -168,6 +171,7 @@ impl Refusal {
             Refusal::TruckFull => "truck_full",
             Refusal::RentalClosed => "rental_closed",
             Refusal::WrongTruckOrEnds => "wrong_truck_or_ends",
+            Refusal::UnknownRegion => "unknown_region",
         }
     }
 
@@ -213,6 +217,7 @@ impl Refusal {
             34 => Some(Refusal::TruckFull),
             35 => Some(Refusal::RentalClosed),
             36 => Some(Refusal::WrongTruckOrEnds),
+            37 => Some(Refusal::UnknownRegion),
             _ => None,
         }
     }

@@ -1,6 +1,7 @@
 -- A decision over a view is the decision of the operator whose view it is.
 use Rattle.std.proofs.Common.{◌≡◌, ℕ, ℤ, pos, ◌+◌, ◌+ℤ◌, List, [], ◌∷◌, ◌++◌, length, true, false, cond, eqb, Option, Some, None, Ok, refl, sym, ap, ◌∙◌, arith, inl, inr}
 use Rattle.std.specs.Borrow.{Bor}
+use Rattle.std.specs.Option.{option_copied}
 use Rattle.std.specs.FinMap as map
 use Rattle.std.proofs.lemmas.Bool.Decides.{eqb_tells}
 use Rattle.std.proofs.lemmas.Int.{ints}
@@ -29,7 +30,7 @@ use Rattle.bike_operator.specs.Operator.{Operator, Rider, item_numbered}
 use Rattle.bike_operator.specs.Counts.{docked_at}
 use Rattle.bike_operator.specs.View.{view_of, docked_view, rider_view, rental_view, rental_of, rental_in, planned_rental}
 use Rattle.bike_operator.specs.Steps.{first, tests, refusal_of, fare_now}
-use Rattle.bike_operator.specs.Changes.{Decides}
+use Rattle.bike_operator.specs.Changes.{Decides, text_in}
 
 -- the first test that holds over the view is the operator's refusal
 pub refused_as : (s : Operator) (v : View) (c : Command) (o : Option Refusal) → v ≡ view_of s c → o ≡ first (tests v c) → refusal_of s c ≡ o
@@ -46,6 +47,11 @@ start_decided s v now rider dock from plan b e none docked plan_is =
     let found : docked_view s (docked_at s from.now dock) ≡ Some b = ap (λ (w : View). w.docked) (sym e) ∙ docked in
     let count : v.rentals ≡ length s.rentals = ap (λ (w : View). w.rentals) e in
     (refused_as s v c None e none, rw (found, count) refl, rw (found, count, plan_is) refl)
+
+-- the region that is named, read through a reference
+pub region_named : (o : Option (Bor (List ℕ))) (region : Option (List ℕ)) → option_copied o ≡ region → region ≡ text_in o
+region_named None region e = sym e
+region_named (Some text) region e = sym e
 
 -- ---- balances
 

@@ -11,6 +11,7 @@ use crate::decide_catalogue::{
 use crate::decide_orders::{
     decide_add_truck, decide_close_order, decide_load, decide_open_order, decide_unload,
 };
+use crate::decide_regions::{decide_add_region, decide_set_region};
 use crate::decide_rentals::{decide_end, decide_recover, decide_refund, decide_start};
 use crate::decide_riders::{decide_add_rider, decide_set_rider, decide_top_up};
 use bike_commands::Command;
@@ -76,5 +77,9 @@ pub fn decide<'a>(view: &'a View, now: Moment, command: &'a Command) -> Decision
             dock,
         } => decide_unload(view, *truck, *order, *bike, *side, *dock),
         Command::CloseOrder { order } => decide_close_order(view, *order),
+        Command::AddRegion(region) => decide_add_region(view, region),
+        Command::SetRegion { station, region } => {
+            decide_set_region(view, station, region.as_ref())
+        }
     }
 }

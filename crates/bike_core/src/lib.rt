@@ -12,6 +12,7 @@ mod bounds;
 mod decide_bikes;
 mod decide_catalogue;
 mod decide_orders;
+mod decide_regions;
 mod decide_rentals;
 mod decide_riders;
 mod decision;

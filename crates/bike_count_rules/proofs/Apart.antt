@@ -73,7 +73,7 @@ two_tied r s a b tie also = ap₂ row_cmp (first_columns r a) (first_columns s b
 
 -- Each row has all columns.
 pub record AreWide (t : Tables) : Type 0 where
-  pub stations : (r : Row) → Has t.stations r → length r ≡ 11
+  pub stations : (r : Row) → Has t.stations r → length r ≡ 12
   pub types : (r : Row) → Has t.types r → length r ≡ 6
   pub docks : (r : Row) → Has t.docks r → length r ≡ 3
   pub bikes : (r : Row) → Has t.bikes r → length r ≡ 8

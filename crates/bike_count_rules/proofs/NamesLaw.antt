@@ -39,7 +39,7 @@ drop_front n row rest is = ap (λ (k : ℕ). drop k (row ++ rest)) (sym is) ∙ 
 
 module _ (t : Tables) (up : AreInOrder t) (wide : AreWide t) where
   abbrev pub named_line : Row → Row
-  named_line row = with_two 11 6 row (partner 1 (map (column row) (0 ∷ [])) t.stations) (partner 1 (map (column row) (1 ∷ [])) t.types)
+  named_line row = with_two 12 6 row (partner 1 (map (column row) (0 ∷ [])) t.stations) (partner 1 (map (column row) (1 ∷ [])) t.types)
 
   abbrev station_under : List ℕ → Option Row
   station_under id = row_with 1 (Text id ∷ []) t.stations
@@ -70,23 +70,23 @@ module _ (t : Tables) (up : AreInOrder t) (wide : AreWide t) where
   -- the partners beside counts of this station and type
   module _ (id kind : List ℕ) where
     abbrev front : Row
-    front = or_nulls 11 (station_under id)
+    front = or_nulls 12 (station_under id)
 
     abbrev back : Row
     back = or_nulls 6 (type_under kind)
 
-    front_wide : length front ≡ 11
-    front_wide = partner_length 11 refl (station_under id) (λ x q. wide.stations x (under_has 1 (Text id ∷ []) t.stations x q).0)
+    front_wide : length front ≡ 12
+    front_wide = partner_length 12 refl (station_under id) (λ x q. wide.stations x (under_has 1 (Text id ∷ []) t.stations x q).0)
 
     back_wide : length back ≡ 6
     back_wide = partner_length 6 refl (type_under kind) (λ x q. wide.types x (under_has 1 (Text kind ∷ []) t.types x q).0)
 
-    front_reads : is_some (station_read (take 11 (front ++ back))) ≡ fin.contains_key (operator_of t).stations id
-    front_reads = ap (λ (x : Row). is_some (station_read x)) (take_front 11 front back front_wide) ∙ ap is_some (read_partner station_read 11 refl (station_under id)) ∙ sym (station_there id)
+    front_reads : is_some (station_read (take 12 (front ++ back))) ≡ fin.contains_key (operator_of t).stations id
+    front_reads = ap (λ (x : Row). is_some (station_read x)) (take_front 12 front back front_wide) ∙ ap is_some (read_partner station_read 12 refl (station_under id)) ∙ sym (station_there id)
 
-    back_reads : is_some (type_read (take 6 (drop 11 (front ++ back)))) ≡ fin.contains_key (operator_of t).types kind
+    back_reads : is_some (type_read (take 6 (drop 12 (front ++ back)))) ≡ fin.contains_key (operator_of t).types kind
     back_reads =
-        ap (λ (x : Row). is_some (type_read x)) (ap (take 6) (drop_front 11 front back front_wide) ∙ take_all 6 back back_wide) ∙ ap is_some (read_partner type_read 6 refl (type_under kind))
+        ap (λ (x : Row). is_some (type_read x)) (ap (take 6) (drop_front 12 front back front_wide) ∙ take_all 6 back back_wide) ∙ ap is_some (read_partner type_read 6 refl (type_under kind))
         ∙ sym (type_there kind)
 
   -- where counts are read: their station and their type are there
@@ -100,5 +100,5 @@ module _ (t : Tables) (up : AreInOrder t) (wide : AreWide t) where
   -- and where they aren't, the test fails
   pub unread_fails : (r : Row) → Has t.counts r → count_read r ≡ None → is_named (named_line r) ≡ false
   unread_fails r has none =
-      ap (λ (o : Option (List ℕ × List ℕ × ℕ × ℕ)). is_some o && (is_some (station_read (part 4 11 (named_line r))) && is_some (type_read (part 15 6 (named_line r)))))
-      (ap count_read (take_front 4 r (or_nulls 11 (partner 1 (map (column r) (0 ∷ [])) t.stations) ++ or_nulls 6 (partner 1 (map (column r) (1 ∷ [])) t.types)) (wide.counts r has)) ∙ none)
+      ap (λ (o : Option (List ℕ × List ℕ × ℕ × ℕ)). is_some o && (is_some (station_read (part 4 12 (named_line r))) && is_some (type_read (part 16 6 (named_line r)))))
+      (ap count_read (take_front 4 r (or_nulls 12 (partner 1 (map (column r) (0 ∷ [])) t.stations) ++ or_nulls 6 (partner 1 (map (column r) (1 ∷ [])) t.types)) (wide.counts r has)) ∙ none)

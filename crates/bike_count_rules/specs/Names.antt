@@ -6,4 +6,4 @@ use Rattle.bike_judges.specs.Lines.{part}
 
 -- the line has counts, and their station and their type are there
 abbrev pub is_named : Row → Bool
-is_named line = is_some (count_read (part 0 4 line)) && (is_some (station_read (part 4 11 line)) && is_some (type_read (part 15 6 line)))
+is_named line = is_some (count_read (part 0 4 line)) && (is_some (station_read (part 4 12 line)) && is_some (type_read (part 16 6 line)))

@@ -1,6 +1,8 @@
 //! The test of counts by themselves.
 
-ghost use Rattle.std.specs.Prelude.{take};
+ghost use Rattle.std.specs.Prelude.{◌≡◌, is_some, take};
+ghost use Rattle.bike_readings.specs.Readings.{station_read, type_read};
+ghost use Rattle.bike_judges.specs.Lines.{part};
 ghost use Rattle.bike_count_rules.specs.Names.{is_named};
 
 use bike_judges::{BadKey, LineTest};
@@ -12,17 +14,27 @@ use sqlite::Row;
 #[derive(Drop)]
 pub(crate) struct CountTest;
 
+/// Whether the line's station is there.
+fn has_station(line: &Row) -> bool
+    ensures { result ≡ is_some (station_read (part 4 12 line.now)) }
+{
+    read_station(Part::of(line, 4, 12)).is_some()
+}
+
+/// Whether the line's type is there.
+fn has_type(line: &Row) -> bool
+    ensures { result ≡ is_some (type_read (part 16 6 line.now)) }
+{
+    read_type(Part::of(line, 16, 6)).is_some()
+}
+
 impl LineTest for CountTest {
     ghost test = { λ test before line. is_named line };
 
     ghost key = { λ test line. take 2 line };
 
     fn is_good(&self, _before: u64, line: &Row) -> Result<bool, StatementFault> {
-        Ok(
-            read_counts(Part::of(line, 0, 4)).is_some()
-                && read_station(Part::of(line, 4, 11)).is_some()
-                && read_type(Part::of(line, 15, 6)).is_some(),
-        )
+        Ok(read_counts(Part::of(line, 0, 4)).is_some() && has_station(line) && has_type(line))
     }
 
     fn bad_key(&self, line: &Row) -> Result<BadKey, StatementFault> {

@@ -7,12 +7,12 @@ ghost use Rattle.bike_desk.specs.Queries.{Queries};
 
 use crate::desk::Desk;
 use crate::fault::DeskFault;
-use bike_catalogue::{Plan, VehicleType};
+use bike_catalogue::{Plan, Region, VehicleType};
 use bike_fields::Ident;
 use bike_operator::MOST_TYPES;
 use bike_queries::{
-    StationInfo, StationStatus, find_plan_after, find_station_after, find_status_after,
-    find_type_after,
+    StationInfo, StationStatus, find_plan_after, find_region_after, find_station_after,
+    find_status_after, find_type_after,
 };
 use sqlite::Alter;
 use std::alloc::Global;
@@ -35,6 +35,23 @@ impl<S: Alter> Desk<S> {
             return Err(DeskFault::Stopped);
         }
         let read = find_type_after(alloc, &mut self.conn, after);
+        self.answer(read)
+    }
+
+    /// The next region.
+    pub fn region_after(
+        &mut self,
+        alloc: Global,
+        after: Option<&Ident>,
+    ) -> Result<Option<Region>, DeskFault>
+        ensures query { Queries S.Store self.old self.new result
+            (λ s x. IsNext (λ r. r.region_id) (first_after (option_map (λ id. id.now) after.entry) s.regions) x) }
+        ensures takes_none { result ≢ Err DeskFault.NoMemory }
+    {
+        if self.stopped() {
+            return Err(DeskFault::Stopped);
+        }
+        let read = find_region_after(alloc, &mut self.conn, after);
         self.answer(read)
     }
 

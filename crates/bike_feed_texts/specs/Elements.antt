@@ -4,7 +4,7 @@ use Rattle.bike_fixed.specs.Text.{moment_text}
 use Rattle.bike_catalogue.specs.declared.vehicle.Propulsion.{Propulsion}
 use Rattle.bike_catalogue.specs.declared.vehicle.Propulsion.TheVariants.{Human, ElectricAssist}
 use Rattle.bike_catalogue.specs.Vehicle.{form_text, propulsion_text}
-use Rattle.bike_catalogue.specs.Rows.{SegmentRow, PlanRow, TypeRow, StationRow, SystemRow}
+use Rattle.bike_catalogue.specs.Rows.{SegmentRow, PlanRow, TypeRow, StationRow, RegionRow, SystemRow}
 use Rattle.bike_json.specs.Tree.{Tree, object, array, text, whole, cents, micro, flag, Members, no_members, member, no_items, item}
 use Rattle.bike_json.specs.Rows.{items}
 use Rattle.bike_feed_texts.specs.declared.feed.Feed.{Feed}
@@ -58,14 +58,21 @@ type_tree x t = object_of (
 
 -- ---- station_information
 
-abbrev pub station_tree : SystemRow → StationRow → Tree
-station_tree x s = object_of (
+-- a region is told where the station stands in one
+abbrev pub region_members : Option (List ℕ) → List NamedTree
+region_members None = []
+region_members (Some region) = (codes "region_id", text region) ∷ []
+
+-- a station, and the region in which it stands
+abbrev pub station_tree : SystemRow → StationRow → Option (List ℕ) → Tree
+station_tree x s region = object_of (
     (codes "station_id", text s.station_id)
     ∷ (codes "name", localized_text x s.name)
     ∷ (codes "lat", micro s.lat)
     ∷ (codes "lon", micro s.lon)
-    ∷ (codes "capacity", whole (pos s.docks))
-    ∷ [])
+    ∷ (region_members region
+    ++ (codes "capacity", whole (pos s.docks))
+    ∷ []))
 
 -- ---- station_status
 
@@ -137,3 +144,8 @@ plan_tree x p = object_of (
     ∷ (codes "is_taxable", flag p.taxable)
     ∷ (codes "description", localized_text x p.description)
     ∷ pricing_members p.segments)
+
+-- ---- system_regions
+
+abbrev pub region_tree : SystemRow → RegionRow → Tree
+region_tree x r = object_of ((codes "region_id", text r.region_id) ∷ (codes "name", localized_text x r.name) ∷ [])

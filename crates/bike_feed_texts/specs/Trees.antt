@@ -7,10 +7,10 @@ use Rattle.bike_json.specs.Rows.{items}
 use Rattle.bike_operator.specs.Operator.{Operator, Station}
 use Rattle.bike_operator.specs.Counts.{available, available_of, disabled_bikes, docks_available, docks_broken}
 use Rattle.bike_feed_texts.specs.declared.feed.Feed.{Feed}
-use Rattle.bike_feed_texts.specs.declared.feed.Feed.TheVariants.{Gbfs, SystemInformation, VehicleTypes, StationInformation, StationStatus, SystemPricingPlans}
+use Rattle.bike_feed_texts.specs.declared.feed.Feed.TheVariants.{Gbfs, SystemInformation, VehicleTypes, StationInformation, StationStatus, SystemPricingPlans, SystemRegions}
 use Rattle.bike_feed_texts.specs.declared.status.TypeCount.{TypeCount}
 use Rattle.bike_feed_texts.specs.Feeds.{listed_feeds}
-use Rattle.bike_feed_texts.specs.Elements.{NamedTree, object_of, moment_tree, localized_text, link_tree, type_tree, station_tree, CountsRow, ReportRow, status_tree, plan_tree}
+use Rattle.bike_feed_texts.specs.Elements.{NamedTree, object_of, moment_tree, localized_text, link_tree, type_tree, station_tree, CountsRow, ReportRow, status_tree, plan_tree, region_tree}
 
 -- ---- what a feed says of itself
 
@@ -25,7 +25,7 @@ feed_frame x seconds tree = object_of (head_members x seconds ++ (codes "data", 
 abbrev pub listing : List ℕ → Items → Tree
 listing name list = object_of ((name, array list) ∷ [])
 
--- ---- what it says of the operator; types, stations and plans stand in byte order of their identifiers, as in the maps
+-- ---- what it says of the operator; types, stations, plans and regions stand in byte order of their identifiers, as in the maps
 
 abbrev pub information_tree : SystemRow → Tree
 information_tree x = object_of (
@@ -64,9 +64,10 @@ abbrev pub feed_data : Operator → SystemRow → Feed → Tree
 feed_data s x Gbfs = listing (codes "feeds") (items (link_tree x) listed_feeds)
 feed_data s x SystemInformation = information_tree x
 feed_data s x VehicleTypes = listing (codes "vehicle_types") (items (type_tree x) (finmap.values s.types))
-feed_data s x StationInformation = listing (codes "stations") (items (λ station. station_tree x station.row) (finmap.values s.stations))
+feed_data s x StationInformation = listing (codes "stations") (items (λ station. station_tree x station.row station.region) (finmap.values s.stations))
 feed_data s x StationStatus = listing (codes "stations") (items (λ station. status_tree (report_of station) (counts_of s station)) (finmap.values s.stations))
 feed_data s x SystemPricingPlans = listing (codes "plans") (items (plan_tree x) (finmap.values s.plans))
+feed_data s x SystemRegions = listing (codes "regions") (items (region_tree x) (finmap.values s.regions))
 
 abbrev pub feed_tree : Operator → SystemRow → Feed → ℕ → Tree
 feed_tree s x f seconds = feed_frame x seconds (feed_data s x f)

@@ -18,6 +18,8 @@ pub enum Feed {
     StationStatus,
     /// The pricing plans.
     SystemPricingPlans,
+    /// The regions in which stations stand.
+    SystemRegions,
 }
 
 impl Feed {
@@ -32,6 +34,7 @@ impl Feed {
             Feed::StationInformation => "station_information",
             Feed::StationStatus => "station_status",
             Feed::SystemPricingPlans => "system_pricing_plans",
+            Feed::SystemRegions => "system_regions",
         }
     }
 
@@ -47,6 +50,7 @@ impl Feed {
             "station_information" => Some(Feed::StationInformation),
             "station_status" => Some(Feed::StationStatus),
             "system_pricing_plans" => Some(Feed::SystemPricingPlans),
+            "system_regions" => Some(Feed::SystemRegions),
             _ => None,
         }
     }

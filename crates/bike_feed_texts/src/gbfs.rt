@@ -20,12 +20,13 @@ use bike_json::{JsonState, Level, Output};
 use bike_stream::WriteFault;
 
 /// The feeds that are listed.
-const LISTED: [Feed; 5] = [
+const LISTED: [Feed; 6] = [
     Feed::SystemInformation,
     Feed::VehicleTypes,
     Feed::StationInformation,
     Feed::StationStatus,
     Feed::SystemPricingPlans,
+    Feed::SystemRegions,
 ];
 
 /// The room for a URL: a base of at most 200 bytes, the path, and the longest name of a feed.

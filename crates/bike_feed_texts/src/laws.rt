@@ -7,7 +7,7 @@ ghost use Rattle.bike_json.specs.Tree.{text_of, items_text};
 ghost use Rattle.bike_operator.specs.Operator.{Operator};
 ghost use Rattle.bike_catalogue.specs.Rows.{SystemRow};
 ghost use Rattle.bike_feed_texts.specs.declared.feed.Feed.{Feed as AnyFeed};
-ghost use Rattle.bike_feed_texts.specs.Elements.{type_tree, station_tree, status_tree, plan_tree};
+ghost use Rattle.bike_feed_texts.specs.Elements.{type_tree, station_tree, status_tree, plan_tree, region_tree};
 ghost use Rattle.bike_feed_texts.specs.Feeds.{feed_name, feed_of};
 ghost use Rattle.bike_feed_texts.specs.Trees.{feed_tree, report_of, counts_of};
 ghost use Rattle.bike_feed_texts.specs.Writing.{list_head_text, list_end_text};
@@ -26,10 +26,12 @@ pub fn list_text_laws()
         ≡ list_head_text x seconds (codes "vehicle_types") ++ (items_text false (items (type_tree x) (values s.types)) ++ list_end_text) }
     ensures station_information { (s : Operator) (x : SystemRow) (seconds : ℕ) → text_of (feed_tree s x Feed.StationInformation seconds)
         ≡ list_head_text x seconds (codes "stations")
-        ++ (items_text false (items (λ station. station_tree x station.row) (values s.stations)) ++ list_end_text) }
+        ++ (items_text false (items (λ station. station_tree x station.row station.region) (values s.stations)) ++ list_end_text) }
     ensures station_status { (s : Operator) (x : SystemRow) (seconds : ℕ) → text_of (feed_tree s x Feed.StationStatus seconds)
         ≡ list_head_text x seconds (codes "stations")
         ++ (items_text false (items (λ station. status_tree (report_of station) (counts_of s station)) (values s.stations)) ++ list_end_text) }
     ensures system_pricing_plans { (s : Operator) (x : SystemRow) (seconds : ℕ) → text_of (feed_tree s x Feed.SystemPricingPlans seconds)
         ≡ list_head_text x seconds (codes "plans") ++ (items_text false (items (plan_tree x) (values s.plans)) ++ list_end_text) }
+    ensures system_regions { (s : Operator) (x : SystemRow) (seconds : ℕ) → text_of (feed_tree s x Feed.SystemRegions seconds)
+        ≡ list_head_text x seconds (codes "regions") ++ (items_text false (items (region_tree x) (values s.regions)) ++ list_end_text) }
 {}

@@ -2,8 +2,8 @@
 //!
 //! A feed's text depends on the operator, the feed and the moment that is asked for. `write_gbfs` and
 //! `write_system_information` write whole feeds. Of each other feed `open_list` writes what stands before the
-//! elements of its list, `write_type`, `write_station`, `write_status` or `write_plan` an element, and `close_list`
-//! what stands behind them; `list_text_laws` says that these together are the feed's text. So a caller needs no more than
+//! elements of its list, `write_type`, `write_station`, `write_status`, `write_plan` or `write_region` an element, and
+//! `close_list` what stands behind them; `list_text_laws` says that these together are the feed's text. So a caller needs no more than
 //! one element at a time. Nothing here takes memory.
 //!
 //! Each function takes the state of the text and the writer beside it, and fails as the calls of `JsonState` do: after a failed
@@ -16,6 +16,7 @@ mod gbfs;
 mod laws;
 mod members;
 mod plan;
+mod region;
 mod station;
 mod status;
 mod system;
@@ -26,6 +27,7 @@ pub use frame::{close_list, open_list};
 pub use gbfs::write_gbfs;
 pub use laws::{feed_name_laws, list_text_laws};
 pub use plan::write_plan;
+pub use region::write_region;
 pub use station::write_station;
 pub use status::{Counts, StationReport, TypeCount, write_status};
 pub use system::write_system_information;

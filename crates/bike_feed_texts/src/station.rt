@@ -1,25 +1,41 @@
 //! The elements of `station_information`.
 
-ghost use Rattle.std.specs.Prelude.{◌≡◌, ◌<◌, IsTrue, length, is_ok, not};
+ghost use Rattle.std.specs.Prelude.{◌≡◌, ◌<◌, IsTrue, length, is_ok, not, option_map};
 ghost use Rattle.bike_json.specs.State.{IsAt, takes_value, after_value};
-ghost use Rattle.bike_feed_texts.specs.Elements.{station_tree};
-ghost use Rattle.bike_feed_texts.specs.Writing.{WroteValue};
+ghost use Rattle.bike_feed_texts.specs.Elements.{members, region_members, station_tree};
+ghost use Rattle.bike_feed_texts.specs.Writing.{WroteMembers, WroteValue};
 
 use crate::members::{localized_member, micro_member, text_member, whole_member};
 use bike_catalogue::{Station, System};
-use bike_json::{JsonState, Output};
+use bike_fields::Ident;
+use bike_json::{JsonState, Level, Output};
 use bike_stream::WriteFault;
 
-/// Writes a station: its name, its place and how many docks it has.
+/// The region in which a station stands, where it stands in one.
+fn region_member<W: Output>(json: &mut JsonState, out: &mut W, region: Option<&Ident>)
+    requires { json.old.top ≡ Level.FilledObject }
+    ensures wrote { WroteMembers json.old json.new (W.contents out.old) (W.contents out.new)
+        (members (region_members (option_map (λ id. id.now) region.entry))) }
+    ensures place { IsAt json.new Level.FilledObject json.old.round }
+{
+    match region {
+        None => {}
+        Some(region) => text_member(json, out, "region_id", region.as_str()),
+    }
+}
+
+/// Writes a station: its name, its place, the region in which it stands, if any, and how many docks it has.
 pub fn write_station<W: Output>(
     json: &mut JsonState,
     out: &mut W,
     system: &System,
     station: &Station,
+    region: Option<&Ident>,
 ) -> Result<(), WriteFault>
     requires value { IsTrue (takes_value json.old.top) }
     requires room { length json.old.round < 14 }
-    ensures wrote { WroteValue json.old json.new (W.contents out.old) (W.contents out.new) (station_tree system.now station.now) }
+    ensures wrote { WroteValue json.old json.new (W.contents out.old) (W.contents out.new)
+        (station_tree system.now station.now (option_map (λ id. id.now) region.entry)) }
     ensures place { IsAt json.new (after_value json.old.top) json.old.round }
     ensures outcome { is_ok result ≡ not json.new.failed }
 {
@@ -28,6 +44,7 @@ pub fn write_station<W: Output>(
     localized_member(json, out, "name", system, station.name());
     micro_member(json, out, "lat", station.lat());
     micro_member(json, out, "lon", station.lon());
+    region_member(json, out, region);
     whole_member(json, out, "capacity", station.docks().get());
     json.end_object(out)
 }

@@ -12,7 +12,8 @@ ghost use Rattle.bike_feeds.specs.Walking.{IsCounted, WritesText};
 
 use crate::fault::FeedFault;
 use crate::list::{
-    write_pricing_plans, write_station_information, write_station_status, write_vehicle_types,
+    write_pricing_plans, write_station_information, write_station_status, write_system_regions,
+    write_vehicle_types,
 };
 use bike_catalogue::System;
 use bike_desk::Desk;
@@ -48,6 +49,9 @@ fn write_of_system<S: Alter, W: Output>(
         Feed::StationStatus => return write_station_status(alloc, desk, system, moment, json, out),
         Feed::SystemPricingPlans => {
             return write_pricing_plans(alloc, desk, system, moment, json, out);
+        }
+        Feed::SystemRegions => {
+            return write_system_regions(alloc, desk, system, moment, json, out);
         }
     }
     Ok(())

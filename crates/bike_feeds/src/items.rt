@@ -3,7 +3,7 @@
 ghost use Rattle.std.specs.Prelude.{◌≡◌, ◌<◌, IsTrue, length, false, is_ok, not};
 ghost use Rattle.std.specs.FinMap.{values};
 ghost use Rattle.bike_json.specs.State.{IsAt as IsIn, takes_value, after_value};
-ghost use Rattle.bike_feed_texts.specs.Elements.{type_tree, station_tree, status_tree, plan_tree};
+ghost use Rattle.bike_feed_texts.specs.Elements.{type_tree, station_tree, status_tree, plan_tree, region_tree};
 ghost use Rattle.bike_feed_texts.specs.Trees.{report_of, counts_of};
 ghost use Rattle.bike_feed_texts.specs.Writing.{WroteValue, in_list};
 ghost use Rattle.bike_queries.specs.After.{station_of};
@@ -12,7 +12,9 @@ ghost use Rattle.bike_feeds.specs.Walking.{WritesItems, shown_counts};
 use crate::fault::FeedFault;
 use bike_catalogue::System;
 use bike_desk::Desk;
-use bike_feed_texts::{Counts, StationReport, write_plan, write_station, write_status, write_type};
+use bike_feed_texts::{
+    Counts, StationReport, write_plan, write_region, write_station, write_status, write_type,
+};
 use bike_json::{JsonState, Level, Output};
 use bike_queries::StationStatus;
 use bike_stream::WriteFault;
@@ -55,14 +57,14 @@ pub(crate) fn write_stations<S: Alter, W: Output>(
     requires going { desk.old.is_stopped ≡ false }
     requires place { IsIn json.old Level.EmptyArray in_list }
     ensures { WritesItems S.Store desk.old desk.new json.old json.new (W.contents out.old) (W.contents out.new) result
-        (λ s station. station_tree system.now station.row) (λ s. values s.stations) }
+        (λ s station. station_tree system.now station.row station.region) (λ s. values s.stations) }
 {
     let mut next = desk.station_after(alloc, None)?;
     'stations: while json.count() < u64::MAX {
         let Some(info) = next else {
             return Ok(());
         };
-        write_station(json, out, system, &info.station)?;
+        write_station(json, out, system, &info.station, info.region.as_ref())?;
         next = desk.station_after(alloc, Some(info.station.station_id()))?;
     }
     // No count is greater.
@@ -146,6 +148,31 @@ pub(crate) fn write_plans<S: Alter, W: Output>(
         };
         write_plan(json, out, system, &plan)?;
         next = desk.plan_after(alloc, Some(plan.plan_id()))?;
+    }
+    // No count is greater.
+    Err(FeedFault::Write)
+}
+
+/// Writes the regions as items.
+pub(crate) fn write_regions<S: Alter, W: Output>(
+    alloc: Global,
+    desk: &mut Desk<S>,
+    system: &System,
+    json: &mut JsonState,
+    out: &mut W,
+) -> Result<(), FeedFault>
+    requires going { desk.old.is_stopped ≡ false }
+    requires place { IsIn json.old Level.EmptyArray in_list }
+    ensures { WritesItems S.Store desk.old desk.new json.old json.new (W.contents out.old) (W.contents out.new) result
+        (λ s. region_tree system.now) (λ s. values s.regions) }
+{
+    let mut next = desk.region_after(alloc, None)?;
+    'regions: while json.count() < u64::MAX {
+        let Some(region) = next else {
+            return Ok(());
+        };
+        write_region(json, out, system, &region)?;
+        next = desk.region_after(alloc, Some(region.region_id()))?;
     }
     // No count is greater.
     Err(FeedFault::Write)

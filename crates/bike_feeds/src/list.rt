@@ -6,7 +6,7 @@ ghost use Rattle.bike_feeds.specs.Publishing.{feed_text};
 ghost use Rattle.bike_feeds.specs.Walking.{WritesText};
 
 use crate::fault::FeedFault;
-use crate::items::{write_plans, write_stations, write_statuses, write_types};
+use crate::items::{write_plans, write_regions, write_stations, write_statuses, write_types};
 use bike_catalogue::System;
 use bike_desk::Desk;
 use bike_feed_texts::{Feed, close_list, open_list};
@@ -91,6 +91,26 @@ pub(crate) fn write_pricing_plans<S: Alter, W: Output>(
 {
     open_list(json, out, system, moment, "plans")?;
     write_plans(alloc, desk, system, json, out)?;
+    close_list(json, out)?;
+    Ok(())
+}
+
+/// Writes the feed `system_regions`.
+pub(crate) fn write_system_regions<S: Alter, W: Output>(
+    alloc: Global,
+    desk: &mut Desk<S>,
+    system: &System,
+    moment: Moment,
+    json: &mut JsonState,
+    out: &mut W,
+) -> Result<(), FeedFault>
+    requires going { desk.old.is_stopped ≡ false }
+    requires start { json.old ≡ outset }
+    ensures { WritesText S.Store desk.old desk.new (W.contents out.old) (W.contents out.new) json.new.count result
+        (λ s. feed_text s system.now Feed.SystemRegions moment) }
+{
+    open_list(json, out, system, moment, "regions")?;
+    write_regions(alloc, desk, system, json, out)?;
     close_list(json, out)?;
     Ok(())
 }

@@ -44,6 +44,7 @@ pub enum Field {
     Lat,
     Lon,
     Docks,
+    Region,
     Key,
     Caller,
 }

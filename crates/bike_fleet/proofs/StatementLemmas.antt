@@ -9,7 +9,7 @@ use Rattle.bike_rows.specs.View.{row_with, rows_where, last_of}
 use Rattle.bike_rows.proofs.PageLaw.{map_same_list}
 use Rattle.bike_rows.proofs.SelectLaws.{counted_rows, first_with, last_row, every_column}
 use Rattle.bike_rows.proofs.WalkLaw.{Finds}
-use Rattle.bike_book.specs.Tables.{Types, Stations, Docks, Bikes, Trucks, Orders, Counts}
+use Rattle.bike_book.specs.Tables.{Types, Regions, Stations, Docks, Bikes, Trucks, Orders, Counts}
 use Rattle.bike_book.specs.Rows.{number_value}
 use Rattle.bike_schema.specs.Layouts.{layout_of}
 use Rattle.bike_schema.proofs.AnswerLemmas.{FindsIn, keyed_in, in_table}
@@ -18,7 +18,7 @@ use Rattle.bike_schema.proofs.KeyLemmas.{table_key}
 
 -- ---- by the key
 
-pub finds_station : (station : List ℕ) → FindsIn (codes "SELECT * FROM stations WHERE station_id = ?1") (Text station ∷ []) (λ t. row_with 1 (Text station ∷ []) t.stations)
+pub finds_station : (station : List ℕ) → FindsIn (codes "SELECT * FROM stations_2 WHERE station_id = ?1") (Text station ∷ []) (λ t. row_with 1 (Text station ∷ []) t.stations)
 unfolding everything
 finds_station station = keyed_in Stations (λ tree. refl, refl) refl
 
@@ -33,6 +33,10 @@ finds_counts station type_id = keyed_in Counts (λ tree. refl, refl) refl
 pub finds_type : (type_id : List ℕ) → FindsIn (codes "SELECT * FROM types WHERE type_id = ?1") (Text type_id ∷ []) (λ t. row_with 1 (Text type_id ∷ []) t.types)
 unfolding everything
 finds_type type_id = keyed_in Types (λ tree. refl, refl) refl
+
+pub finds_region : (region : List ℕ) → FindsIn (codes "SELECT * FROM regions WHERE region_id = ?1") (Text region ∷ []) (λ t. row_with 1 (Text region ∷ []) t.regions)
+unfolding everything
+finds_region region = keyed_in Regions (λ tree. refl, refl) refl
 
 pub finds_bike : (bike : ℕ) → FindsIn (codes "SELECT * FROM bikes WHERE bike = ?1") (number_value bike ∷ []) (λ t. row_with 1 (number_value bike ∷ []) t.bikes)
 unfolding everything
@@ -83,13 +87,17 @@ counts_on_truck_for truck order =
 
 -- of all rows
 
-pub counts_stations : FindsIn (codes "SELECT count(*) FROM stations") [] (λ t. count_row_of t.stations)
+pub counts_stations : FindsIn (codes "SELECT count(*) FROM stations_2") [] (λ t. count_row_of t.stations)
 unfolding everything
 counts_stations = counted_in Stations (λ tree. refl, refl)
 
 pub counts_types : FindsIn (codes "SELECT count(*) FROM types") [] (λ t. count_row_of t.types)
 unfolding everything
 counts_types = counted_in Types (λ tree. refl, refl)
+
+pub counts_regions : FindsIn (codes "SELECT count(*) FROM regions") [] (λ t. count_row_of t.regions)
+unfolding everything
+counts_regions = counted_in Regions (λ tree. refl, refl)
 
 pub counts_bikes : FindsIn (codes "SELECT count(*) FROM bikes") [] (λ t. count_row_of t.bikes)
 unfolding everything

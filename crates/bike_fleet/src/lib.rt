@@ -1,5 +1,5 @@
-//! Reads of stations, docks, counts, types, bicycles, trucks and orders. Each answers what is so of the operator whose
-//! tables stand in the database, and changes nothing.
+//! Reads of stations, docks, counts, types, regions, bicycles, trucks and orders. Each answers what is so of the operator
+//! whose tables stand in the database, and changes nothing.
 //!
 //! A private function sends one statement and gives its row, another reads the row's columns, and the public function
 //! joins both. A row that holds what the product never writes is `StoreFailed`; memory that is refused is `NoMemory`.
@@ -11,6 +11,7 @@ mod counts;
 mod docks;
 mod orders;
 mod places;
+mod regions;
 mod stations;
 mod trucks;
 mod types;
@@ -19,6 +20,7 @@ pub use bikes::{NumberedBike, are_bikes_full, find_bike, find_docked, truck_load
 pub use counts::{TypeCounts, find_counts};
 pub use docks::find_mark;
 pub use orders::{find_order, order_count, order_load};
+pub use regions::{are_regions_full, has_region};
 pub use stations::{DockNumbers, are_stations_full, find_dock_numbers, find_station, has_station};
 pub use trucks::{are_trucks_full, find_truck};
 pub use types::{are_types_full, find_default_plan, has_type};

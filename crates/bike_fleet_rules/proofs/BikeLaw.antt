@@ -59,7 +59,7 @@ module _ (t : Tables) (up : AreInOrder t) (wide : AreWide t) where
   -- ---- lines
 
   abbrev pub names_line : Row → Row
-  names_line row = with_two 6 11 row (partner 1 (column row 1 ∷ []) t.types) (partner 1 (column row 3 ∷ []) t.stations)
+  names_line row = with_two 6 12 row (partner 1 (column row 1 ∷ []) t.types) (partner 1 (column row 3 ∷ []) t.stations)
 
   abbrev pub uses_line : Row → Row
   uses_line row = with_two 10 8 row (partner 1 (column row 5 ∷ []) t.rentals) (partner 1 (column row 7 ∷ []) t.orders)
@@ -83,10 +83,10 @@ module _ (t : Tables) (up : AreInOrder t) (wide : AreWide t) where
       let q = partner 1 (column row 3 ∷ []) t.stations in
       let row_wide = wide Bikes row has in
       let p_wide = partner_wide type_read t.types 6 (column row 1) (wide Types) in
-      let q_wide = partner_wide station_read t.stations 11 (column row 3) (wide Stations) in
-      let own = own_part 8 row (or_nulls 6 p ++ or_nulls 11 q) row_wide in
-      let kind = ap type_read (first_of_line 8 6 11 row p q row_wide p_wide q_wide) ∙ or_nulls_read type_read t.types 6 p refl in
-      let station = ap station_read (second_of_line 8 6 11 row p q row_wide p_wide q_wide) ∙ or_nulls_read station_read t.stations 11 q refl in
+      let q_wide = partner_wide station_read t.stations 12 (column row 3) (wide Stations) in
+      let own = own_part 8 row (or_nulls 6 p ++ or_nulls 12 q) row_wide in
+      let kind = ap type_read (first_of_line 8 6 12 row p q row_wide p_wide q_wide) ∙ or_nulls_read type_read t.types 6 p refl in
+      let station = ap station_read (second_of_line 8 6 12 row p q row_wide p_wide q_wide) ∙ or_nulls_read station_read t.stations 12 q refl in
       λ i. is_bike_named n (bike_read (own i)) (kind i) (station i)
 
   uses_is : (n : ℕ) (row : Row) → Has t.bikes row → bike_uses n (uses_line row) ≡ is_bike_used (bike_read row) (rental_of row) (order_of row)

@@ -70,7 +70,7 @@ module _ (t : Tables) (up : AreInOrder t) (wide : AreWide t) where
   names_line row = with_two 2 6 row (partner 1 (column row 1 ∷ []) t.trucks) (partner 1 (column row 4 ∷ []) t.types)
 
   abbrev pub ends_line : Row → Row
-  ends_line row = with_two 11 11 row (partner 1 (column row 2 ∷ []) t.stations) (partner 1 (column row 3 ∷ []) t.stations)
+  ends_line row = with_two 12 12 row (partner 1 (column row 2 ∷ []) t.stations) (partner 1 (column row 3 ∷ []) t.stations)
 
   abbrev truck_of : Row → Option (ℕ × Truck)
   truck_of row = partner_read truck_read t.trucks (column row 1)
@@ -100,11 +100,11 @@ module _ (t : Tables) (up : AreInOrder t) (wide : AreWide t) where
       let p = partner 1 (column row 2 ∷ []) t.stations in
       let q = partner 1 (column row 3 ∷ []) t.stations in
       let row_wide = wide Orders row has in
-      let p_wide = partner_wide station_read t.stations 11 (column row 2) (wide Stations) in
-      let q_wide = partner_wide station_read t.stations 11 (column row 3) (wide Stations) in
-      let own = own_part 8 row (or_nulls 11 p ++ or_nulls 11 q) row_wide in
-      let from = ap station_read (first_of_line 8 11 11 row p q row_wide p_wide q_wide) ∙ or_nulls_read station_read t.stations 11 p refl in
-      let to = ap station_read (second_of_line 8 11 11 row p q row_wide p_wide q_wide) ∙ or_nulls_read station_read t.stations 11 q refl in
+      let p_wide = partner_wide station_read t.stations 12 (column row 2) (wide Stations) in
+      let q_wide = partner_wide station_read t.stations 12 (column row 3) (wide Stations) in
+      let own = own_part 8 row (or_nulls 12 p ++ or_nulls 12 q) row_wide in
+      let from = ap station_read (first_of_line 8 12 12 row p q row_wide p_wide q_wide) ∙ or_nulls_read station_read t.stations 12 p refl in
+      let to = ap station_read (second_of_line 8 12 12 row p q row_wide p_wide q_wide) ∙ or_nulls_read station_read t.stations 12 q refl in
       λ i. are_ends_there (order_read (own i)) (from i) (to i)
 
   -- ---- what partners tell

@@ -15,7 +15,7 @@ use Rattle.bike_rows.proofs.OrderLemmas.{order_has}
 use Rattle.bike_rows.proofs.TreeLemmas.{by_key_total}
 use Rattle.bike_rows.proofs.ListLemmas.{map_has}
 use Rattle.bike_rows.proofs.FrameLemmas.{rows_of_is}
-use Rattle.bike_book.specs.Tables.{TableName, Tables, tables_by, keys_of, rows_in as table_rows, Meta, System, Plans, Segments, Types, Stations, Docks, Bikes, Trucks, Riders, Rentals, Orders, Entries, Kept, Counts}
+use Rattle.bike_book.specs.Tables.{TableName, Tables, tables_by, keys_of, rows_in as table_rows, Meta, System, Plans, Segments, Types, Regions, Stations, Docks, Bikes, Trucks, Riders, Rentals, Orders, Entries, Kept, Counts}
 use Rattle.bike_schema.specs.Layouts.{layout_of, name_of}
 use Rattle.bike_schema.specs.Tables.{tables_of, HasTables}
 use Rattle.bike_judges.specs.Lines.{part, nulls, or_nulls, with_two}
@@ -82,6 +82,7 @@ rows_by rows System = refl
 rows_by rows Plans = refl
 rows_by rows Segments = refl
 rows_by rows Types = refl
+rows_by rows Regions = refl
 rows_by rows Stations = refl
 rows_by rows Docks = refl
 rows_by rows Bikes = refl

@@ -48,7 +48,7 @@ are_ends_there None from to = false
 are_ends_there (Some x) from to = is_end_there x.1.from_end from && (is_end_there x.1.to_end to && not (is_same_end x.1.from_end x.1.to_end))
 
 unfoldable pub order_ends : ℕ → Row → Bool
-order_ends below line = are_ends_there (order_read (part 0 8 line)) (station_read (part 8 11 line)) (station_read (part 19 11 line))
+order_ends below line = are_ends_there (order_read (part 0 8 line)) (station_read (part 8 12 line)) (station_read (part 20 12 line))
 
 -- ---- bicycles
 
@@ -74,7 +74,7 @@ is_bike_named below None kind station = false
 is_bike_named below (Some x) kind station = nat_lt below MOST_BIKES && (is_some kind && (is_dock_there x.1.place station && is_where_retired x.1.state x.1.place))
 
 unfoldable pub bike_names : ℕ → Row → Bool
-bike_names below line = is_bike_named below (bike_read (part 0 8 line)) (type_read (part 8 6 line)) (station_read (part 14 11 line))
+bike_names below line = is_bike_named below (bike_read (part 0 8 line)) (type_read (part 8 6 line)) (station_read (part 14 12 line))
 
 -- the open rental of the bicycle
 abbrev pub is_ridden : ℕ → Option (ℕ × Rental × ℤ) → Bool

@@ -36,9 +36,9 @@ fn bike_of(line: &Row) -> Option<StoredBike<'_>>
 
 /// Whether the line's station has the dock.
 fn has_dock(line: &Row, dock: DockNumber) -> bool
-    ensures { result ≡ has_dock dock (station_read (part 14 11 line.now)) }
+    ensures { result ≡ has_dock dock (station_read (part 14 12 line.now)) }
 {
-    match read_station(Part::of(line, 14, 11)) {
+    match read_station(Part::of(line, 14, 12)) {
         Some(station) => dock.get() <= station.docks.get(),
         None => false,
     }
@@ -46,7 +46,7 @@ fn has_dock(line: &Row, dock: DockNumber) -> bool
 
 /// Whether a dock in which the bicycle is is there.
 fn is_dock_there(place: &StoredPlace<'_>, line: &Row) -> bool
-    ensures { result ≡ is_dock_there (place_of place.now) (station_read (part 14 11 line.now)) }
+    ensures { result ≡ is_dock_there (place_of place.now) (station_read (part 14 12 line.now)) }
 {
     match place {
         StoredPlace::Dock { station: _, dock } => has_dock(line, *dock),

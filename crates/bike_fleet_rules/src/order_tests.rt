@@ -44,7 +44,7 @@ fn are_ends_there(before: u64, line: &Row) -> bool
         return false;
     };
     is_end_there(order.from_end, line, 8)
-        && is_end_there(order.to_end, line, 19)
+        && is_end_there(order.to_end, line, 20)
         && !is_same_end(order.from_end, order.to_end)
 }
 

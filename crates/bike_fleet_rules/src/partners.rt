@@ -20,9 +20,9 @@ pub(crate) fn has_type(line: &Row, first: usize) -> bool
 
 /// Whether a station stands in the line from the column `first` on.
 pub(crate) fn has_station(line: &Row, first: usize) -> bool
-    ensures { result ≡ is_some (station_read (part first 11 line.now)) }
+    ensures { result ≡ is_some (station_read (part first 12 line.now)) }
 {
-    read_station(Part::of(line, first, 11)).is_some()
+    read_station(Part::of(line, first, 12)).is_some()
 }
 
 /// Whether the truck that stands in the line from the column `first` on holds so many bicycles.
@@ -37,7 +37,7 @@ pub(crate) fn holds(line: &Row, first: usize, count: OrderQuantity) -> bool
 
 /// Whether the end is the depot, or its station stands in the line from the column `first` on.
 pub(crate) fn is_end_there(end: StoredEnd<'_>, line: &Row, first: usize) -> bool
-    ensures { result ≡ is_end_there (end_of end.entry) (station_read (part first 11 line.now)) }
+    ensures { result ≡ is_end_there (end_of end.entry) (station_read (part first 12 line.now)) }
 {
     match end {
         StoredEnd::Depot => true,

@@ -10,7 +10,7 @@ use Rattle.bike_fixed.specs.Whole.{number_of}
 use Rattle.bike_fields.specs.declared.numbers.TheConstants.{GREATEST_NUMBER, GREATEST_SERIAL}
 use Rattle.bike_fields.specs.Bytes.{ident_of}
 use Rattle.bike_texts.specs.Reading.{◌>>=◌, part_at}
-use Rattle.bike_feed_texts.specs.declared.feed.Feed.TheVariants.{Gbfs, SystemInformation, VehicleTypes, StationInformation, StationStatus, SystemPricingPlans}
+use Rattle.bike_feed_texts.specs.declared.feed.Feed.TheVariants.{Gbfs, SystemInformation, VehicleTypes, StationInformation, StationStatus, SystemPricingPlans, SystemRegions}
 use Rattle.bike_heads.specs.declared.resource.Action.TheVariants as action
 use Rattle.bike_heads.specs.declared.resource.Shown.TheVariants as shown
 use Rattle.bike_heads.specs.declared.resource.Resource.{Resource}
@@ -39,6 +39,7 @@ routes =
     ∷ (codes "/gbfs/3.0/station_information.json", route.Publish StationInformation)
     ∷ (codes "/gbfs/3.0/station_status.json", route.Publish StationStatus)
     ∷ (codes "/gbfs/3.0/system_pricing_plans.json", route.Publish SystemPricingPlans)
+    ∷ (codes "/gbfs/3.0/system_regions.json", route.Publish SystemRegions)
     ∷ []
 
 -- .. as rows of a router

@@ -38,7 +38,7 @@ pub enum Route {
     Publish(Feed),
 }
 
-const ROUTES: [(&str, Route); 18] = [
+const ROUTES: [(&str, Route); 19] = [
     ("/riders/{rider}/start", Route::Start),
     ("/docks/{station}/end", Route::End),
     ("/docks/{station}/mark-dock", Route::MarkDock),
@@ -71,6 +71,10 @@ const ROUTES: [(&str, Route); 18] = [
     (
         "/gbfs/3.0/system_pricing_plans.json",
         Route::Publish(Feed::SystemPricingPlans),
+    ),
+    (
+        "/gbfs/3.0/system_regions.json",
+        Route::Publish(Feed::SystemRegions),
     ),
 ];
 

@@ -130,9 +130,9 @@ module _ (t : Tables) (up : AreInOrder t) (whole : AreWhole t) where
   pub stations_apart : AreApartAll (by_key_total 3) ((map station_line t.stations ++ map station_dock_line t.docks) ++ map station_bike_line t.bikes)
   stations_apart =
       apart_append (by_key_total 3) (map station_line t.stations ++ map station_dock_line t.docks) (map station_bike_line t.bikes)
-      (apart_append (by_key_total 3) (map station_line t.stations) (map station_dock_line t.docks) (heads Stations refl 0) docks (at_two (at 0) (at 0) zero_value (at 1) 0 1 0 8 t.stations t.docks (omega arith)))
-      (numbered Bikes refl (at 3) 2 3)
+      (apart_append (by_key_total 3) (map station_line t.stations) (map station_dock_line t.docks) (heads Stations refl 0) docks (at_two (at 0) (at 0) zero_value (at 1) 0 1 0 9 t.stations t.docks (omega arith)))
+      (numbered Bikes refl (at 3) 2 4)
       (λ x y h g. elim (has_append (map station_line t.stations) (map station_dock_line t.docks) x h) [
-        | inl first ↦ at_two (at 0) (at 3) zero_value (at 0) 0 2 0 3 t.stations t.bikes (omega arith) x y first g
-        | inr second ↦ at_two (at 0) (at 3) (at 1) (at 0) 1 2 8 3 t.docks t.bikes (omega arith) x y second g
+        | inl first ↦ at_two (at 0) (at 3) zero_value (at 0) 0 2 0 4 t.stations t.bikes (omega arith) x y first g
+        | inr second ↦ at_two (at 0) (at 3) (at 1) (at 0) 1 2 9 4 t.docks t.bikes (omega arith) x y second g
       ])

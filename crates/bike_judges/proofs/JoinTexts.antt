@@ -1,7 +1,7 @@
 -- The queries that answer each row of a table with its partner in another.
 use Rattle.std.proofs.Common.{ℕ, List, [], ◌∷◌, ◌++◌, refl}
 use Rattle.bike_rows.proofs.SelectLaws.{rows_joined}
-use Rattle.bike_book.specs.Tables.{Plans, Segments, Types, Stations, Docks, Bikes, Riders, Rentals, Entries}
+use Rattle.bike_book.specs.Tables.{Plans, Segments, Types, Regions, Stations, Docks, Bikes, Riders, Rentals, Entries}
 use Rattle.bike_schema.proofs.KeyLemmas.{table_key}
 use Rattle.bike_judges.specs.Lines.{with_one}
 use Rattle.bike_judges.specs.declared.query.Query.TheVariants as query
@@ -14,11 +14,14 @@ segments_lines is db has = rows_joined (table_key Segments) (table_key Plans) (h
 pub types_lines : {text : List ℕ} → IsJoinOf Types Plans (5 ∷ []) text → AsksLines text query.Types
 types_lines is db has = rows_joined (table_key Types) (table_key Plans) (has Types) (has Plans) (5 ∷ []) (columns_in 1 Types ++ columns_in 2 Plans) (with_one 5) is refl (λ r. refl) (λ r. refl) (λ r s. refl)
 
+pub station_rows_lines : {text : List ℕ} → IsJoinOf Stations Regions (11 ∷ []) text → AsksLines text query.StationRows
+station_rows_lines is db has = rows_joined (table_key Stations) (table_key Regions) (has Stations) (has Regions) (11 ∷ []) (columns_in 1 Stations ++ columns_in 2 Regions) (with_one 2) is refl (λ r. refl) (λ r. refl) (λ r s. refl)
+
 pub docks_lines : {text : List ℕ} → IsJoinOf Docks Stations (0 ∷ []) text → AsksLines text query.Docks
-docks_lines is db has = rows_joined (table_key Docks) (table_key Stations) (has Docks) (has Stations) (0 ∷ []) (columns_in 1 Docks ++ columns_in 2 Stations) (with_one 11) is refl (λ r. refl) (λ r. refl) (λ r s. refl)
+docks_lines is db has = rows_joined (table_key Docks) (table_key Stations) (has Docks) (has Stations) (0 ∷ []) (columns_in 1 Docks ++ columns_in 2 Stations) (with_one 12) is refl (λ r. refl) (λ r. refl) (λ r s. refl)
 
 pub rental_ends_lines : {text : List ℕ} → IsJoinOf Rentals Stations (6 ∷ []) text → AsksLines text query.RentalEnds
-rental_ends_lines is db has = rows_joined (table_key Rentals) (table_key Stations) (has Rentals) (has Stations) (6 ∷ []) (columns_in 1 Rentals ++ columns_in 2 Stations) (with_one 11) is refl (λ r. refl) (λ r. refl) (λ r s. refl)
+rental_ends_lines is db has = rows_joined (table_key Rentals) (table_key Stations) (has Rentals) (has Stations) (6 ∷ []) (columns_in 1 Rentals ++ columns_in 2 Stations) (with_one 12) is refl (λ r. refl) (λ r. refl) (λ r s. refl)
 
 pub rental_riders_lines : {text : List ℕ} → IsJoinOf Rentals Riders (1 ∷ []) text → AsksLines text query.RentalRiders
 rental_riders_lines is db has = rows_joined (table_key Rentals) (table_key Riders) (has Rentals) (has Riders) (1 ∷ []) (columns_in 1 Rentals ++ columns_in 2 Riders) (with_one 3) is refl (λ r. refl) (λ r. refl) (λ r s. refl)
@@ -30,7 +33,7 @@ pub rental_plans_lines : {text : List ℕ} → IsJoinOf Rentals Plans (3 ∷ [])
 rental_plans_lines is db has = rows_joined (table_key Rentals) (table_key Plans) (has Rentals) (has Plans) (3 ∷ []) (columns_in 1 Rentals ++ columns_in 2 Plans) (with_one 5) is refl (λ r. refl) (λ r. refl) (λ r s. refl)
 
 pub rental_stations_lines : {text : List ℕ} → IsJoinOf Rentals Stations (4 ∷ []) text → AsksLines text query.RentalStations
-rental_stations_lines is db has = rows_joined (table_key Rentals) (table_key Stations) (has Rentals) (has Stations) (4 ∷ []) (columns_in 1 Rentals ++ columns_in 2 Stations) (with_one 11) is refl (λ r. refl) (λ r. refl) (λ r s. refl)
+rental_stations_lines is db has = rows_joined (table_key Rentals) (table_key Stations) (has Rentals) (has Stations) (4 ∷ []) (columns_in 1 Rentals ++ columns_in 2 Stations) (with_one 12) is refl (λ r. refl) (λ r. refl) (λ r s. refl)
 
 pub entry_riders_lines : {text : List ℕ} → IsJoinOf Entries Riders (2 ∷ []) text → AsksLines text query.EntryRiders
 entry_riders_lines is db has = rows_joined (table_key Entries) (table_key Riders) (has Entries) (has Riders) (2 ∷ []) (columns_in 1 Entries ++ columns_in 2 Riders) (with_one 3) is refl (λ r. refl) (λ r. refl) (λ r s. refl)

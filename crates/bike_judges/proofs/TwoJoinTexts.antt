@@ -11,7 +11,7 @@ use Rattle.bike_judges.proofs.Forms.{columns_in, AreJoinsOf, AreSelfJoinsOf}
 
 pub bike_names_lines : {text : List ℕ} → AreJoinsOf Bikes Types (1 ∷ []) Stations (3 ∷ []) text → AsksLines text query.BikeNames
 bike_names_lines is db has =
-    rows_joined_twice (table_key Bikes) (table_key Types) (table_key Stations) (has Bikes) (has Types) (has Stations) (1 ∷ []) (3 ∷ []) (columns_in 1 Bikes ++ columns_in 2 Types ++ columns_in 3 Stations) (with_two 6 11)
+    rows_joined_twice (table_key Bikes) (table_key Types) (table_key Stations) (has Bikes) (has Types) (has Stations) (1 ∷ []) (3 ∷ []) (columns_in 1 Bikes ++ columns_in 2 Types ++ columns_in 3 Stations) (with_two 6 12)
     is refl refl (λ r. refl) (λ r. refl) (λ r. refl) (λ r s. refl) (λ r t. refl) (λ r s t. refl)
 
 pub bike_uses_lines : {text : List ℕ} → AreJoinsOf Bikes Rentals (5 ∷ []) Orders (7 ∷ []) text → AsksLines text query.BikeUses
@@ -26,11 +26,11 @@ order_names_lines is db has =
 
 pub count_names_lines : {text : List ℕ} → AreJoinsOf Counts Stations (0 ∷ []) Types (1 ∷ []) text → AsksLines text query.CountNames
 count_names_lines is db has =
-    rows_joined_twice (table_key Counts) (table_key Stations) (table_key Types) (has Counts) (has Stations) (has Types) (0 ∷ []) (1 ∷ []) (columns_in 1 Counts ++ columns_in 2 Stations ++ columns_in 3 Types) (with_two 11 6)
+    rows_joined_twice (table_key Counts) (table_key Stations) (table_key Types) (has Counts) (has Stations) (has Types) (0 ∷ []) (1 ∷ []) (columns_in 1 Counts ++ columns_in 2 Stations ++ columns_in 3 Types) (with_two 12 6)
     is refl refl (λ r. refl) (λ r. refl) (λ r. refl) (λ r s. refl) (λ r t. refl) (λ r s t. refl)
 
 -- both partners are stations
 pub order_ends_lines : {text : List ℕ} → AreSelfJoinsOf Orders Stations (2 ∷ []) (3 ∷ []) text → AsksLines text query.OrderEnds
 order_ends_lines is db has =
-    rows_joined_with_one (table_key Orders) (table_key Stations) (has Orders) (has Stations) (2 ∷ []) (3 ∷ []) (columns_in 1 Orders ++ columns_in 2 Stations ++ columns_in 3 Stations) (with_two 11 11)
+    rows_joined_with_one (table_key Orders) (table_key Stations) (has Orders) (has Stations) (2 ∷ []) (3 ∷ []) (columns_in 1 Orders ++ columns_in 2 Stations ++ columns_in 3 Stations) (with_two 12 12)
     is refl refl (λ r. refl) (λ r. refl) (λ r. refl) (λ r s. refl) (λ r t. refl) (λ r s t. refl)

@@ -33,10 +33,10 @@ abbrev pub station_terms : List Term
 station_terms = line_terms (col 1 1 ∷ lit (Int (pos 0)) ∷ lit (Int (pos 0)) ∷ []) Stations 0
 
 abbrev pub station_dock_terms : List Term
-station_dock_terms = line_terms (col 1 1 ∷ lit (Int (pos 1)) ∷ col 1 2 ∷ []) Docks 8
+station_dock_terms = line_terms (col 1 1 ∷ lit (Int (pos 1)) ∷ col 1 2 ∷ []) Docks 9
 
 abbrev pub station_bike_terms : List Term
-station_bike_terms = line_terms (col 1 4 ∷ lit (Int (pos 2)) ∷ col 1 0 ∷ []) Bikes 3
+station_bike_terms = line_terms (col 1 4 ∷ lit (Int (pos 2)) ∷ col 1 0 ∷ []) Bikes 4
 
 pub stations_lines : {text : List ℕ} → IsMixOfThree Stations station_terms Docks station_dock_terms Bikes station_bike_terms (1 ∷ 2 ∷ 3 ∷ []) text → AsksLines text query.Stations
 stations_lines is db has =

@@ -48,10 +48,10 @@ abbrev pub station_line : Row → Row
 station_line = head 0
 
 abbrev pub station_dock_line : Row → Row
-station_dock_line row = line (column row 0) (pos 1) (column row 1) 8 row
+station_dock_line row = line (column row 0) (pos 1) (column row 1) 9 row
 
 abbrev pub station_bike_line : Row → Row
-station_bike_line row = line (column row 3) (pos 2) (column row 0) 3 row
+station_bike_line row = line (column row 3) (pos 2) (column row 0) 4 row
 
 -- docks with the bicycles in them: the station, the dock, the place of the table and the bicycle
 abbrev pub dock_line : Row → Row
@@ -100,10 +100,11 @@ lines_of query.System t = t.system
 lines_of query.Plans t = t.plans
 lines_of query.Segments t = left_joined (with_one 5) (0 ∷ []) 1 t.plans t.segments
 lines_of query.Types t = left_joined (with_one 5) (5 ∷ []) 1 t.plans t.types
-lines_of query.StationRows t = t.stations
+lines_of query.Regions t = t.regions
+lines_of query.StationRows t = left_joined (with_one 2) (11 ∷ []) 1 t.regions t.stations
 lines_of query.Stations t = merge_of_three 3 station_line t.stations station_dock_line t.docks station_bike_line t.bikes
-lines_of query.Docks t = left_joined (with_one 11) (0 ∷ []) 1 t.stations t.docks
-lines_of query.BikeNames t = twice_joined (with_two 6 11) (1 ∷ []) 1 t.types (3 ∷ []) 1 t.stations t.bikes
+lines_of query.Docks t = left_joined (with_one 12) (0 ∷ []) 1 t.stations t.docks
+lines_of query.BikeNames t = twice_joined (with_two 6 12) (1 ∷ []) 1 t.types (3 ∷ []) 1 t.stations t.bikes
 lines_of query.BikeUses t = twice_joined (with_two 10 8) (5 ∷ []) 1 t.rentals (7 ∷ []) 1 t.orders t.bikes
 lines_of query.BikeDocks t = merge_of_two 4 dock_line t.docks docked_line t.bikes
 lines_of query.Trucks t = merge_of_two 3 truck_line t.trucks truck_bike_line t.bikes
@@ -112,14 +113,14 @@ lines_of query.Rentals t = t.rentals
 lines_of query.RentalRiders t = left_joined (with_one 3) (1 ∷ []) 1 t.riders t.rentals
 lines_of query.RentalBikes t = left_joined (with_one 8) (2 ∷ []) 1 t.bikes t.rentals
 lines_of query.RentalPlans t = left_joined (with_one 5) (3 ∷ []) 1 t.plans t.rentals
-lines_of query.RentalStations t = left_joined (with_one 11) (4 ∷ []) 1 t.stations t.rentals
-lines_of query.RentalEnds t = left_joined (with_one 11) (6 ∷ []) 1 t.stations t.rentals
+lines_of query.RentalStations t = left_joined (with_one 12) (4 ∷ []) 1 t.stations t.rentals
+lines_of query.RentalEnds t = left_joined (with_one 12) (6 ∷ []) 1 t.stations t.rentals
 lines_of query.OrderNames t = twice_joined (with_two 2 6) (1 ∷ []) 1 t.trucks (4 ∷ []) 1 t.types t.orders
-lines_of query.OrderEnds t = twice_joined (with_two 11 11) (2 ∷ []) 1 t.stations (3 ∷ []) 1 t.stations t.orders
+lines_of query.OrderEnds t = twice_joined (with_two 12 12) (2 ∷ []) 1 t.stations (3 ∷ []) 1 t.stations t.orders
 lines_of query.OrderBikes t = merge_of_two 3 order_line t.orders order_bike_line t.bikes
 lines_of query.Entries t = t.entries
 lines_of query.EntryRiders t = left_joined (with_one 3) (2 ∷ []) 1 t.riders t.entries
 lines_of query.EntryRentals t = left_joined (with_one 10) (3 ∷ []) 1 t.rentals t.entries
 lines_of query.Kept t = t.kept
-lines_of query.CountNames t = twice_joined (with_two 11 6) (0 ∷ []) 1 t.stations (1 ∷ []) 1 t.types t.counts
+lines_of query.CountNames t = twice_joined (with_two 12 6) (0 ∷ []) 1 t.stations (1 ∷ []) 1 t.types t.counts
 lines_of query.Counts t = merge_of_three 5 count_dock_line t.docks count_bike_line t.bikes count_line t.counts

@@ -13,7 +13,9 @@ pub enum Query {
     Segments,
     /// Vehicle types, each with its default plan.
     Types,
-    /// The rows of `stations`.
+    /// The rows of `regions`.
+    Regions,
+    /// Stations, each with its region.
     StationRows,
     /// Stations with their docks and the bicycles there.
     Stations,

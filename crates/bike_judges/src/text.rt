@@ -18,18 +18,21 @@ pub(crate) fn text(query: Query) -> &'static str
         Query::Types => "SELECT types.*, plans.* FROM types \
              LEFT JOIN plans ON plans.plan_id = types.plan_id \
              ORDER BY types.type_id",
-        Query::StationRows => "SELECT * FROM stations ORDER BY station_id",
-        Query::Stations => "SELECT station_id, 0, 0, stations.* FROM stations \
-             UNION ALL SELECT station_id, 1, dock, docks.*, NULL, NULL, NULL, NULL, NULL, NULL, NULL, NULL \
-             FROM docks \
-             UNION ALL SELECT station_id, 2, bike, bikes.*, NULL, NULL, NULL FROM bikes \
+        Query::Regions => "SELECT * FROM regions ORDER BY region_id",
+        Query::StationRows => "SELECT stations_2.*, regions.* FROM stations_2 \
+             LEFT JOIN regions ON regions.region_id = stations_2.region_id \
+             ORDER BY stations_2.station_id",
+        Query::Stations => "SELECT station_id, 0, 0, stations_2.* FROM stations_2 \
+             UNION ALL SELECT station_id, 1, dock, docks.*, \
+             NULL, NULL, NULL, NULL, NULL, NULL, NULL, NULL, NULL FROM docks \
+             UNION ALL SELECT station_id, 2, bike, bikes.*, NULL, NULL, NULL, NULL FROM bikes \
              ORDER BY 1, 2, 3",
-        Query::Docks => "SELECT docks.*, stations.* FROM docks \
-             LEFT JOIN stations ON stations.station_id = docks.station_id \
+        Query::Docks => "SELECT docks.*, stations_2.* FROM docks \
+             LEFT JOIN stations_2 ON stations_2.station_id = docks.station_id \
              ORDER BY docks.station_id, docks.dock",
-        Query::BikeNames => "SELECT bikes.*, types.*, stations.* FROM bikes \
+        Query::BikeNames => "SELECT bikes.*, types.*, stations_2.* FROM bikes \
              LEFT JOIN types ON types.type_id = bikes.type_id \
-             LEFT JOIN stations ON stations.station_id = bikes.station_id \
+             LEFT JOIN stations_2 ON stations_2.station_id = bikes.station_id \
              ORDER BY bikes.bike",
         Query::BikeUses => "SELECT bikes.*, rentals.*, orders.* FROM bikes \
              LEFT JOIN rentals ON rentals.rental = bikes.rental \
@@ -54,19 +57,19 @@ pub(crate) fn text(query: Query) -> &'static str
         Query::RentalPlans => "SELECT rentals.*, plans.* FROM rentals \
              LEFT JOIN plans ON plans.plan_id = rentals.plan_id \
              ORDER BY rentals.rental",
-        Query::RentalStations => "SELECT rentals.*, stations.* FROM rentals \
-             LEFT JOIN stations ON stations.station_id = rentals.from_station \
+        Query::RentalStations => "SELECT rentals.*, stations_2.* FROM rentals \
+             LEFT JOIN stations_2 ON stations_2.station_id = rentals.from_station \
              ORDER BY rentals.rental",
-        Query::RentalEnds => "SELECT rentals.*, stations.* FROM rentals \
-             LEFT JOIN stations ON stations.station_id = rentals.to_station \
+        Query::RentalEnds => "SELECT rentals.*, stations_2.* FROM rentals \
+             LEFT JOIN stations_2 ON stations_2.station_id = rentals.to_station \
              ORDER BY rentals.rental",
         Query::OrderNames => "SELECT orders.*, trucks.*, types.* FROM orders \
              LEFT JOIN trucks ON trucks.truck = orders.truck \
              LEFT JOIN types ON types.type_id = orders.type_id \
              ORDER BY orders.ord",
         Query::OrderEnds => "SELECT orders.*, origins.*, targets.* FROM orders \
-             LEFT JOIN stations AS origins ON origins.station_id = orders.from_end \
-             LEFT JOIN stations AS targets ON targets.station_id = orders.to_end \
+             LEFT JOIN stations_2 AS origins ON origins.station_id = orders.from_end \
+             LEFT JOIN stations_2 AS targets ON targets.station_id = orders.to_end \
              ORDER BY orders.ord",
         Query::OrderBikes => "SELECT ord, 0, 0, orders.* FROM orders \
              UNION ALL SELECT ord, 1, bike, bikes.* FROM bikes \
@@ -79,8 +82,8 @@ pub(crate) fn text(query: Query) -> &'static str
              LEFT JOIN rentals ON rentals.rental = entries.rental \
              ORDER BY entries.entry",
         Query::Kept => "SELECT * FROM kept ORDER BY caller, req_key",
-        Query::CountNames => "SELECT counts.*, stations.*, types.* FROM counts \
-             LEFT JOIN stations ON stations.station_id = counts.station_id \
+        Query::CountNames => "SELECT counts.*, stations_2.*, types.* FROM counts \
+             LEFT JOIN stations_2 ON stations_2.station_id = counts.station_id \
              LEFT JOIN types ON types.type_id = counts.type_id \
              ORDER BY counts.station_id, counts.type_id",
         Query::Counts =>

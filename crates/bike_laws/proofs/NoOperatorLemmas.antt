@@ -3,7 +3,7 @@ use Rattle.std.proofs.Common.{◌≡◌, ℕ, zero, suc, List, [], true, Some, a
 use Rattle.std.specs.FinMap as finmap
 use Rattle.std.specs.FinSet as finset
 use Rattle.std.specs.Ordering.{nat_cmp}
-use Rattle.bike_catalogue.specs.Rows.{PlanRow, TypeRow}
+use Rattle.bike_catalogue.specs.Rows.{PlanRow, TypeRow, RegionRow}
 use Rattle.bike_operator.specs.declared.records.Bike.{Bike}
 use Rattle.bike_operator.specs.Operator.{Station, Truck, Rider, Kept, Key, text_cmp, texts_cmp, no_operator, item_numbered}
 use Rattle.bike_operator.specs.Sound.{IsSound, IsCatalogueSound, AreBikesSound, AreOrdersSound, AreRentalsSound, IsLedgerSound}
@@ -17,6 +17,9 @@ no_plan id x e = let none = finmap.get-empty {X = PlanRow} text_cmp id in absurd
 
 no_type : (id : List ℕ) (x : TypeRow) → finmap.get (finmap.empty {X = TypeRow} {R = text_cmp}) id ≡ Some x → ⊥
 no_type id x e = let none = finmap.get-empty {X = TypeRow} text_cmp id in absurd cc
+
+no_region : (id : List ℕ) (x : RegionRow) → finmap.get (finmap.empty {X = RegionRow} {R = text_cmp}) id ≡ Some x → ⊥
+no_region id x e = let none = finmap.get-empty {X = RegionRow} text_cmp id in absurd cc
 
 no_station : (id : List ℕ) (x : Station) → finmap.get (finmap.empty {X = Station} {R = text_cmp}) id ≡ Some x → ⊥
 no_station id x e = let none = finmap.get-empty {X = Station} text_cmp id in absurd cc
@@ -35,10 +38,12 @@ none_catalogue = record {
   system = tt;
   plans = λ id x e. absurd (no_plan id x e);
   types = λ id x e. absurd (no_type id x e);
+  regions = λ id x e. absurd (no_region id x e);
   stations = λ id x e. absurd (no_station id x e);
   broken = λ key e. absurd (no_broken key e);
   few_plans = omega (arith, finmap.len-empty text_cmp PlanRow);
   few_types = omega (arith, finmap.len-empty text_cmp TypeRow);
+  few_regions = omega (arith, finmap.len-empty text_cmp RegionRow);
   few_stations = omega (arith, finmap.len-empty text_cmp Station);
 }
 

@@ -97,6 +97,15 @@ quiet_kind s now (command.Load truck order bike) free none =
 quiet_kind s now (command.Unload truck order bike side dock) free none =
     let tests_free = none_holds (tests (view_of s (command.Unload truck order bike side dock)) (command.Unload truck order bike side dock)) none in
     quiet_unloaded s order bike side dock now (item_numbered order s.orders) (loaded_in s truck order bike tests_free.1.1.1.1.1.0)
+quiet_kind s now (command.SetRegion station region) free none = record {
+  rentals = refl;
+  entries = refl;
+  riders = λ id h. h;
+  bikes = λ id h. h;
+  plans = λ id h. h;
+  stations = λ id h. changed_keeps nat_list_cmp_total s.stations station (λ x. record x { region = region }) id h;
+  out = λ number bike o. record { row = o.row; found = o.found; place_is = o.place_is };
+}
 quiet_kind s now c free none = quiet_fields s (effect s now c) refl refl refl refl refl refl
 
 -- ---- riders

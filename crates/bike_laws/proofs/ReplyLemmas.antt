@@ -165,3 +165,5 @@ reply_good s now (command.OpenOrder truck from_end to_end type_id count) order g
 reply_good s now (command.Load truck number bike) order good none later = done
 reply_good s now (command.Unload truck number bike side dock) order good none later = done
 reply_good s now (command.CloseOrder number) order good none later = done
+reply_good s now (command.AddRegion r) order good none later = done
+reply_good s now (command.SetRegion station region) order good none later = done

@@ -214,3 +214,5 @@ view_bounded s now (command.CloseOrder order) sound later = record {
   ends = tt;
   filled = order_filled s order sound;
 }
+view_bounded s now (command.AddRegion r) sound later = plain_bounded now (view_of s (command.AddRegion r)) refl refl refl refl refl
+view_bounded s now (command.SetRegion station region) sound later = plain_bounded now (view_of s (command.SetRegion station region)) refl refl refl refl refl

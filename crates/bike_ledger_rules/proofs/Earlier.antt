@@ -107,8 +107,8 @@ module _ (t : Tables) (up : AreInOrder t) where
     stations_are : AreRowsOf texts (stored_station s) (λ e. refl) station_in t.stations s.stations
     stations_are = read_map texts (stored_station s) (λ e. refl) station_in t.stations (up Stations) stored_stations (λ r e has is. tt)
 
-    pub station_partner : (id : List ℕ) → is_some (station_read (or_nulls 11 (row_with 1 (text_key id) t.stations))) ≡ fin.contains_key s.stations id
+    pub station_partner : (id : List ℕ) → is_some (station_read (or_nulls 12 (row_with 1 (text_key id) t.stations))) ≡ fin.contains_key s.stations id
     station_partner id =
-        sym (mapped_some (λ e. (e.0, e.1)) (station_read (or_nulls 11 (row_with 1 (text_key id) t.stations))))
-        ∙ ap (λ (o : Option _). is_some o) (reads_partner texts (λ q. tt) (stored_station s) (λ e. refl) station_in t.stations s.stations stations_are stored_stations 11 station_in refl (λ r has. refl) id)
+        sym (mapped_some (λ e. (e.0, e.1)) (station_read (or_nulls 12 (row_with 1 (text_key id) t.stations))))
+        ∙ ap (λ (o : Option _). is_some o) (reads_partner texts (λ q. tt) (stored_station s) (λ e. refl) station_in t.stations s.stations stations_are stored_stations 12 station_in refl (λ r has. refl) id)
         ∙ mapped_some (λ v. (id, v)) (fin.get s.stations id)

@@ -148,7 +148,7 @@ pub record AreNamed (t : Tables) (up : AreInOrder t) : Type 0 where
   pub bikes : AreGood t up Bikes
   pub wide_riders : AreWide 3 t.riders
   pub wide_plans : AreWide 5 t.plans
-  pub wide_stations : AreWide 11 t.stations
+  pub wide_stations : AreWide 12 t.stations
   pub wide_bikes : AreWide 8 t.bikes
 
 module _ (t : Tables) (up : AreInOrder t) (are : AreNamed t up)
@@ -180,9 +180,9 @@ module _ (t : Tables) (up : AreInOrder t) (are : AreNamed t up)
   plan_there : is_some (plan_read (part 10 5 (named_line named.Plan t r))) ≡ fin.contains_key s.plans e.1.plan
   plan_there = ap (λ (x : Row). is_some (plan_read x)) (beside_is 5 3 t.plans are.wide_plans) ∙ plan_partner t up are.plans e.1.plan
 
-  from_there : is_some (station_read (part 10 11 (named_line named.Station t r))) ≡ fin.contains_key s.stations e.1.from_station
+  from_there : is_some (station_read (part 10 12 (named_line named.Station t r))) ≡ fin.contains_key s.stations e.1.from_station
   from_there =
-      ap (λ (x : Row). is_some (station_read x)) (beside_is 11 4 t.stations are.wide_stations)
+      ap (λ (x : Row). is_some (station_read x)) (beside_is 12 4 t.stations are.wide_stations)
       ∙ station_partner t up are.stations e.1.from_station
 
   bike_there : bike_read (part 10 8 (bike_line t r)) ≡ bike_under s e.1.bike
@@ -216,10 +216,10 @@ module _ (t : Tables) (up : AreInOrder t) (are : AreNamed t up)
   to_column c closed station to = ap (λ (o : Option Closing). column (closing_columns o ++ Int e.2 ∷ []) 0) closed ∙ ap (or_null Text) to
 
   to_there : (c : Closing) → e.1.closing ≡ Some c → (station : List ℕ) → c.to_station ≡ Some station
-      → is_some (station_read (part 10 11 (ends_line t r))) ≡ fin.contains_key s.stations station
+      → is_some (station_read (part 10 12 (ends_line t r))) ≡ fin.contains_key s.stations station
   to_there c closed station to =
-      ap (λ (x : Row). is_some (station_read x)) (beside_is 11 6 t.stations are.wide_stations)
-      ∙ ap (λ (v : Value). is_some (station_read (or_nulls 11 (partner 1 (v ∷ []) t.stations)))) (to_column c closed station to)
+      ap (λ (x : Row). is_some (station_read x)) (beside_is 12 6 t.stations are.wide_stations)
+      ∙ ap (λ (v : Value). is_some (station_read (or_nulls 12 (partner 1 (v ∷ []) t.stations)))) (to_column c closed station to)
       ∙ station_partner t up are.stations station
 
   closes_decide : (o : Option Closing) → e.1.closing ≡ o → Decides (closes s.now (ends_line t r) e.1.start o) (EndedWell s e.1.start o)
@@ -241,6 +241,6 @@ module _ (t : Tables) (up : AreInOrder t) (are : AreNamed t up)
       let by_now = nat_le e.1.start s.now in
       let ended = closes s.now (ends_line t r) e.1.start e.1.closing in
       subst (λ (o : Option (ℕ × Rental × ℤ)). Decides (ends_hold s.now (ends_line t r) o) (EndsGood s e))
-      (sym (own_read 11 6 t.stations are.wide_stations))
+      (sym (own_read 12 6 t.stations are.wide_stations))
       (Decides-like (by_now && ended) (λ h. record { by_now = h.0; ended = h.1 }) (λ (g : EndsGood s e). (g.by_now, g.ended))
       (Decides-and by_now ended (at_most e.1.start s.now) (closes_decide e.1.closing refl)))

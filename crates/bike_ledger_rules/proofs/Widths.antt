@@ -35,8 +35,8 @@ module _ (db : Database) (has : HasTables db) where
   pub plans_wide : AreWide 5 (tables_of db).plans
   plans_wide = wide 5 1 (layout_of Plans) db (has Plans) (λ r. refl)
 
-  pub stations_wide : AreWide 11 (tables_of db).stations
-  stations_wide = wide 11 1 (layout_of Stations) db (has Stations) (λ r. refl)
+  pub stations_wide : AreWide 12 (tables_of db).stations
+  stations_wide = wide 12 1 (layout_of Stations) db (has Stations) (λ r. refl)
 
   pub bikes_wide : AreWide 8 (tables_of db).bikes
   bikes_wide = wide 8 1 (layout_of Bikes) db (has Bikes) (λ r. refl)

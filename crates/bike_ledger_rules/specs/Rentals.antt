@@ -27,13 +27,13 @@ use Rattle.bike_ledger_rules.specs.Sums.{sum_at, with_added, with_read}
 abbrev pub named_line : Named → Tables → Row → Row
 named_line named.Rider t row = with_one 3 row (partner 1 (column row 1 ∷ []) t.riders)
 named_line named.Plan t row = with_one 5 row (partner 1 (column row 3 ∷ []) t.plans)
-named_line named.Station t row = with_one 11 row (partner 1 (column row 4 ∷ []) t.stations)
+named_line named.Station t row = with_one 12 row (partner 1 (column row 4 ∷ []) t.stations)
 
 -- it is there
 abbrev pub has_named : Named → ℕ → Row → Bool
 has_named named.Rider before line = is_some (rider_read (part 10 3 line))
 has_named named.Plan before line = is_some (plan_read (part 10 5 line))
-has_named named.Station before line = is_some (station_read (part 10 11 line))
+has_named named.Station before line = is_some (station_read (part 10 12 line))
 
 abbrev pub named_test : Named → Tables → ℕ → Row → Bool
 named_test it t before row = has_named it before (named_line it t row)
@@ -75,11 +75,11 @@ names_test t before row =
 -- ---- with the station where it ended
 
 abbrev pub ends_line : Tables → Row → Row
-ends_line t row = with_one 11 row (partner 1 (column row 6 ∷ []) t.stations)
+ends_line t row = with_one 12 row (partner 1 (column row 6 ∷ []) t.stations)
 
 abbrev pub stops : Row → Option (List ℕ) → Bool
 stops line None = true
-stops line (Some station) = is_some (station_read (part 10 11 line))
+stops line (Some station) = is_some (station_read (part 10 12 line))
 
 -- it ended no earlier than it began, by now, and at a station that is there
 abbrev pub closes : ℕ → Row → ℕ → Option Closing → Bool

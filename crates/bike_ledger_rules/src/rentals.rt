@@ -44,7 +44,7 @@ impl LineTest for Named {
         Ok(match self {
             Named::Rider => read_rider(Part::of(line, 10, 3)).is_some(),
             Named::Plan => read_plan(Part::of(line, 10, 5)).is_some(),
-            Named::Station => read_station(Part::of(line, 10, 11)).is_some(),
+            Named::Station => read_station(Part::of(line, 10, 12)).is_some(),
         })
     }
 
@@ -120,7 +120,7 @@ fn closes(moment: Moment, line: &Row, start: Moment, closing: &StoredClosing<'_>
     ensures { result ≡ closes moment line.now start (Some (closing_of closing.now)) }
 {
     let is_stop = match closing.to_station {
-        Some(_) => read_station(Part::of(line, 10, 11)).is_some(),
+        Some(_) => read_station(Part::of(line, 10, 12)).is_some(),
         None => true,
     };
     start.seconds() <= closing.finish.seconds()

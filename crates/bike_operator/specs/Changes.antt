@@ -52,6 +52,8 @@ with_change now (change.AddOrder truck from_end to_end type_id count) s =
     order_added (record { truck = truck; from_end = from_end.now; to_end = to_end.now; type_id = type_id.now; count = count; delivered = 0; is_open = true }) s
 with_change now (change.Deliver order) s = order_changed order (λ o. record o { delivered = o.delivered + 1 }) s
 with_change now (change.CloseOrder order) s = order_changed order (λ o. record o { is_open = false }) s
+with_change now (change.AddRegion r) s = record s { regions = map.insert s.regions r.now.region_id r.now }
+with_change now (change.SetRegion station region) s = record s { stations = key_changed s.stations station.now (λ x. record x { region = text_in region }) }
 
 abbrev pub with_changes : ℕ → List Change → Operator → Operator
 with_changes now [] s = s

@@ -8,7 +8,7 @@ use Rattle.std.specs.FinMap as map
 use Rattle.std.specs.FinMap.{FinMap}
 use Rattle.std.specs.FinSet as set
 use Rattle.std.specs.FinSet.{FinSet}
-use Rattle.bike_commands.specs.Rows.{PlanRow, TypeRow, StationRow, SystemRow}
+use Rattle.bike_commands.specs.Rows.{PlanRow, TypeRow, StationRow, RegionRow, SystemRow}
 use Rattle.bike_ledger.specs.Entries.{Entry}
 use Rattle.bike_commands.specs.declared.command.Command.{Command}
 use Rattle.bike_commands.specs.declared.reply.Reply.{Reply}
@@ -16,13 +16,14 @@ use Rattle.bike_operator.specs.declared.records.Bike.{Bike}
 use Rattle.bike_operator.specs.declared.records.Rental.{Rental}
 use Rattle.bike_operator.specs.declared.records.Order.{Order}
 
--- a station: its catalogue record, its flags, and when it last reported
+-- a station: its catalogue record, its flags, when it last reported, and the region in which it stands
 pub record Station : Type 0 where
   pub row : StationRow
   pub is_installed : Bool
   pub is_renting : Bool
   pub is_returning : Bool
   pub reported : ℕ
+  pub region : Option (List ℕ)
 
 pub record Truck : Type 0 where
   pub capacity : ℕ
@@ -62,6 +63,7 @@ pub record Operator : Type 0 where
   pub plans : FinMap text_cmp PlanRow
   -- a type's plan is its default plan
   pub types : FinMap text_cmp TypeRow
+  pub regions : FinMap text_cmp RegionRow
   pub stations : FinMap text_cmp Station
   pub broken : FinSet texts_cmp
   pub bikes : FinMap nat_cmp Bike
@@ -81,6 +83,7 @@ no_operator = record {
   system = None;
   plans = map.empty;
   types = map.empty;
+  regions = map.empty;
   stations = map.empty;
   broken = set.empty;
   bikes = map.empty;

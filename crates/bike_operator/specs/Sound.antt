@@ -7,7 +7,7 @@ use Rattle.bike_fields.specs.declared.numbers.TheConstants.{GREATEST_NUMBER, GRE
 use Rattle.bike_commands.specs.Bytes.{is_key}
 use Rattle.bike_commands.specs.CallerType.{Caller}
 use Rattle.bike_commands.specs.Caller.{IsCaller, caller_text}
-use Rattle.bike_commands.specs.Rows.{PlanRow, TypeRow, SystemRow, IsPlan, IsType, IsStation, IsSystem}
+use Rattle.bike_commands.specs.Rows.{PlanRow, TypeRow, RegionRow, SystemRow, IsPlan, IsType, IsStation, IsRegion, IsSystem}
 use Rattle.bike_ledger.specs.Entries.{Entry}
 use Rattle.bike_ledger.specs.declared.entry.EntryKind.{EntryKind}
 use Rattle.bike_ledger.specs.declared.entry.EntryKind.TheVariants.{TopUp, Fare, Refund}
@@ -19,7 +19,7 @@ use Rattle.bike_commands.specs.declared.reply.Reply.{Reply}
 use Rattle.bike_commands.specs.declared.reply.Reply.TheVariants.{Done, Balance, Started, Ended, Ordered, Refused}
 use Rattle.bike_commands.specs.Replies.{IsReply}
 use Rattle.bike_commands.specs.Requests.{IsRequest}
-use Rattle.bike_operator.specs.declared.limits.TheConstants.{MOST_PLANS, MOST_TYPES, MOST_STATIONS, MOST_BIKES, MOST_TRUCKS, MOST_RIDERS, MOST_ORDERS, MOST_ENTRIES}
+use Rattle.bike_operator.specs.declared.limits.TheConstants.{MOST_PLANS, MOST_TYPES, MOST_REGIONS, MOST_STATIONS, MOST_BIKES, MOST_TRUCKS, MOST_RIDERS, MOST_ORDERS, MOST_ENTRIES}
 use Rattle.bike_operator.specs.declared.records.Place.{Place}
 use Rattle.bike_operator.specs.declared.records.Place.TheVariants as place
 use Rattle.bike_operator.specs.declared.records.Bike.{Bike}
@@ -28,7 +28,7 @@ use Rattle.bike_operator.specs.declared.records.Closing.{Closing}
 use Rattle.bike_operator.specs.declared.records.Order.{Order}
 use Rattle.bike_operator.specs.Operator.{Operator, Station, Truck, Rider, Kept, Key, key_of, DockKey, dock_key, item_numbered}
 use Rattle.bike_operator.specs.Counts.{is_open, is_retired, truck_load, order_load, open_rentals}
-use Rattle.bike_operator.specs.View.{has_end}
+use Rattle.bike_operator.specs.View.{has_end, has_region}
 use Rattle.bike_operator.specs.Steps.{is_same_end}
 use Rattle.bike_operator.specs.Runs.{Call}
 
@@ -48,10 +48,16 @@ pub record IsTypeAt (s : Operator) (id : List ℕ) (t : TypeRow) : Type 0 where
   pub good : IsType t
   pub plan : finmap.contains_key s.plans t.plan_id ≡ true
 
+pub record IsRegionAt (id : List ℕ) (r : RegionRow) : Type 0 where
+  pub id_is : id ≡ r.region_id
+  pub good : IsRegion r
+
+-- the region in which it stands is there
 pub record IsStationAt (s : Operator) (id : List ℕ) (x : Station) : Type 0 where
   pub id_is : id ≡ x.row.station_id
   pub good : IsStation x.row
   pub by_now : x.reported ≤ s.now
+  pub region : has_region s x.region ≡ true
 
 -- the station is there and has the dock
 pub record HasDock (s : Operator) (station : List ℕ) (dock : ℕ) : Type 0 where
@@ -70,10 +76,12 @@ pub record IsCatalogueSound (s : Operator) : Type 0 where
   pub system : IsSetSystem s.system
   pub plans : (id : List ℕ) (p : PlanRow) → finmap.get s.plans id ≡ Some p → IsPlanAt id p
   pub types : (id : List ℕ) (t : TypeRow) → finmap.get s.types id ≡ Some t → IsTypeAt s id t
+  pub regions : (id : List ℕ) (r : RegionRow) → finmap.get s.regions id ≡ Some r → IsRegionAt id r
   pub stations : (id : List ℕ) (x : Station) → finmap.get s.stations id ≡ Some x → IsStationAt s id x
   pub broken : (key : DockKey) → finset.contains s.broken key ≡ true → IsBrokenDock s key
   pub few_plans : finmap.len s.plans ≤ MOST_PLANS
   pub few_types : finmap.len s.types ≤ MOST_TYPES
+  pub few_regions : finmap.len s.regions ≤ MOST_REGIONS
   pub few_stations : finmap.len s.stations ≤ MOST_STATIONS
 
 -- ---- bicycles and places

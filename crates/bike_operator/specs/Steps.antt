@@ -135,6 +135,8 @@ tests v (command.Unload truck order bike side dock) =
     ∷ (is_none v.bike, refusal.UnknownBike) ∷ (is_not_loaded truck order v.bike, refusal.WrongPlace) ∷ (on v.order (λ o. ends_apart (end_at side o) v.station dock), refusal.UnknownDock)
     ∷ (v.is_dock_broken, refusal.DockBroken) ∷ (is_some v.docked, refusal.DockFull) ∷ []
 tests v (command.CloseOrder order) = (is_none v.order, refusal.UnknownOrder) ∷ (is_closed_order v.order, refusal.OrderClosed) ∷ (nat_lt 0 v.on_truck, refusal.BikesOnTruck) ∷ []
+tests v (command.AddRegion r) = (v.has_region, refusal.AlreadyThere) ∷ (v.is_full, refusal.LimitReached) ∷ []
+tests v (command.SetRegion station region) = (is_none v.station, refusal.UnknownStation) ∷ (not v.has_region, refusal.UnknownRegion) ∷ []
 
 abbrev pub refusal_of : Operator → Command → Option Refusal
 refusal_of s c = first (tests (view_of s c) c)
@@ -164,9 +166,9 @@ abbrev pub bike_reported : Option Bike → ℕ → Operator → Operator
 bike_reported None now s = s
 bike_reported (Some b) now s = place_reported b.place now s
 
--- a station is new: it is installed, renting and returning, and reports
+-- a station is new: it is installed, renting and returning, reports, and stands in no region
 abbrev pub new_station : StationRow → ℕ → Station
-new_station x now = record { row = x; is_installed = true; is_renting = true; is_returning = true; reported = now }
+new_station x now = record { row = x; is_installed = true; is_renting = true; is_returning = true; reported = now; region = None }
 
 abbrev pub dock_marked : List ℕ → ℕ → Bool → Operator → Operator
 dock_marked station dock broken s = record s { broken = if broken then set.insert s.broken (dock_key station dock) else set.remove s.broken (dock_key station dock) }
@@ -265,6 +267,8 @@ effect s now (command.OpenOrder truck from_end to_end type_id count) =
 effect s now (command.Load truck order bike) = bike_reported (map.get s.bikes bike) now (bike_placed bike (place.Truck truck order) s)
 effect s now (command.Unload truck order bike side dock) = after_unload order bike side dock now (item_numbered order s.orders) s
 effect s now (command.CloseOrder order) = order_changed order (λ o. record o { is_open = false }) s
+effect s now (command.AddRegion r) = record s { regions = map.insert s.regions r.region_id r }
+effect s now (command.SetRegion station region) = record s { stations = key_changed s.stations station (λ x. record x { region = region }) }
 
 -- ---- replies
 
@@ -305,3 +309,5 @@ reply_of s now (command.OpenOrder truck from_end to_end type_id count) = Ordered
 reply_of s now (command.Load truck order bike) = Done
 reply_of s now (command.Unload truck order bike side dock) = Done
 reply_of s now (command.CloseOrder order) = Done
+reply_of s now (command.AddRegion r) = Done
+reply_of s now (command.SetRegion station region) = Done

@@ -10,7 +10,7 @@ use Rattle.bike_commands.specs.Side.{Side}
 use Rattle.bike_commands.specs.Side.TheVariants.{From, To}
 use Rattle.bike_commands.specs.declared.command.Command.{Command}
 use Rattle.bike_commands.specs.declared.command.Command.TheVariants as command
-use Rattle.bike_operator.specs.declared.limits.TheConstants.{MOST_PLANS, MOST_TYPES, MOST_STATIONS, MOST_BIKES, MOST_TRUCKS, MOST_RIDERS, MOST_ENTRIES}
+use Rattle.bike_operator.specs.declared.limits.TheConstants.{MOST_PLANS, MOST_TYPES, MOST_REGIONS, MOST_STATIONS, MOST_BIKES, MOST_TRUCKS, MOST_RIDERS, MOST_ENTRIES}
 use Rattle.bike_operator.specs.declared.records.Place.{Place}
 use Rattle.bike_operator.specs.declared.records.Place.TheVariants as place
 use Rattle.bike_operator.specs.declared.records.Bike.{Bike}
@@ -107,6 +107,11 @@ abbrev pub is_in_broken_dock : Operator → Option Bike → Bool
 is_in_broken_dock s None = false
 is_in_broken_dock s (Some b) = is_broken_dock s b.place
 
+-- the region is there, or none is named
+abbrev pub has_region : Operator → Option (List ℕ) → Bool
+has_region s None = true
+has_region s (Some region) = map.contains_key s.regions region
+
 -- an end of an order that is there: the depot, or a station
 abbrev pub has_end : Operator → OrderEnd → Bool
 has_end s end.Depot = true
@@ -125,6 +130,7 @@ empty_view = record {
   has_system = false;
   has_plan = false;
   has_type = false;
+  has_region = false;
   has_from = false;
   has_to = false;
   has_rider = false;
@@ -196,3 +202,5 @@ view_of s (command.Load truck order bike) =
 view_of s (command.Unload truck order bike side dock) =
     record (side_view s (item_numbered order s.orders) side dock) { truck = truck_at s truck; order = item_numbered order s.orders; bike = map.get s.bikes bike }
 view_of s (command.CloseOrder order) = record empty_view { order = item_numbered order s.orders; on_truck = order_load s order }
+view_of s (command.AddRegion r) = record empty_view { has_region = map.contains_key s.regions r.region_id; is_full = is_at_limit MOST_REGIONS s.regions }
+view_of s (command.SetRegion station region) = record empty_view { station = station_at s station; has_region = has_region s region }

@@ -3,7 +3,7 @@
 ghost use Rattle.std.specs.Prelude.{◌≡◌, ◌∷◌, []};
 
 use crate::records::BikeState;
-use bike_commands::{Ident, OrderEnd, Plan, Refusal, Reply, Station, System, VehicleType};
+use bike_commands::{Ident, OrderEnd, Plan, Refusal, Region, Reply, Station, System, VehicleType};
 use bike_ledger::Entry;
 
 /// Where a bicycle is put.
@@ -109,6 +109,13 @@ pub enum Change<'a> {
     /// An order is closed.
     CloseOrder {
         order: u32,
+    },
+    /// A region is added.
+    AddRegion(&'a Region),
+    /// A station is put into a region, or into none.
+    SetRegion {
+        station: &'a Ident,
+        region: Option<&'a Ident>,
     },
 }
 

@@ -6,6 +6,9 @@ pub const MOST_PLANS: u32 = 256;
 /// There are at most this many vehicle types.
 pub const MOST_TYPES: u32 = 32;
 
+/// There are at most this many regions.
+pub const MOST_REGIONS: u32 = 256;
+
 /// There are at most this many stations.
 pub const MOST_STATIONS: u32 = 5_000;
 

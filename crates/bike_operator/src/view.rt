@@ -70,6 +70,8 @@ pub struct View {
     pub has_plan: bool,
     /// Whether the vehicle type is there.
     pub has_type: bool,
+    /// Whether the region is there that the command names; where it names none, that one is.
+    pub has_region: bool,
     /// Whether the end is there from which an order takes bicycles.
     pub has_from: bool,
     /// Whether the end is there to which it brings them.

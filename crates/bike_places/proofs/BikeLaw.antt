@@ -248,3 +248,8 @@ bikes_law s now (command.CloseOrder order) k o good free late =
     let none = no_more (order_load s order) tested.1.1.0 in
     order_changed_bikes (at_moment s now k) order (λ o. record o { is_open = false }) (λ bike b truck found is. for_order order truck b.place is (uncounted number_order (λ (y : Bike). is_for_order order y.place) s.bikes bike b none found))
     (later_bikes s now k o.bikes)
+bikes_law s now (command.AddRegion r) k order good free late = unchanged s now (command.AddRegion r) k refl order.bikes
+bikes_law s now (command.SetRegion station region) k order good free late =
+    let at : Operator = at_moment s now k in
+    let f : Station → Station = λ x. record x { region = region } in
+    stations_bikes at (key_changed s.stations station f) (docks_changed at (record at { stations = key_changed s.stations station f }) station f (λ x. refl) refl) (later_bikes s now k order.bikes)

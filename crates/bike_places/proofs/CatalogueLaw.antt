@@ -1,5 +1,5 @@
 -- An accepted command keeps the catalogue sound.
-use Rattle.std.proofs.Common.{◌≡◌, ℕ, ◌≤◌, List, Option, Some, None, refl, arith, if◌then◌else◌}
+use Rattle.std.proofs.Common.{◌≡◌, ℕ, ◌≤◌, List, true, Option, Some, None, refl, arith, if◌then◌else◌}
 use Rattle.std.specs.Ordering.{nat_cmp}
 use Rattle.std.specs.FinMap as map
 use Rattle.std.specs.FinMap.{FinMap}
@@ -18,13 +18,13 @@ use Rattle.bike_operator.specs.declared.view.DockedBike.{DockedBike}
 use Rattle.bike_operator.specs.declared.view.RentalView.{RentalView}
 use Rattle.bike_operator.specs.Operator.{Operator, Kept, texts_cmp, item_numbered}
 use Rattle.bike_operator.specs.Counts.{docked_at}
-use Rattle.bike_operator.specs.View.{view_of, docked_view, rental_of, rental_view}
+use Rattle.bike_operator.specs.View.{view_of, docked_view, rental_of, rental_view, has_region}
 use Rattle.bike_operator.specs.Steps.{tests, effect, key_changed, place_reported, bike_reported, bike_marked, bike_placed, after_start, after_end, after_recovery, refunded_by, placed_at_end, after_unload, new_station, dock_marked}
 use Rattle.bike_operator.specs.Sound.{IsCatalogueSound}
 use Rattle.bike_places.specs.Accepted.{AcceptedKeeps}
 use Rattle.bike_places.proofs.Moment.{at_moment, reports}
 use Rattle.bike_places.proofs.TestLemmas.{none_holds, dock_of, no_station, holds}
-use Rattle.bike_places.proofs.CatalogueLemmas.{catalogue_of, same_catalogue, system_set, plan_added, type_added, type_changed, station_added, station_changed, station_reported, dock_marked_catalogue}
+use Rattle.bike_places.proofs.CatalogueLemmas.{region_stands, catalogue_of, same_catalogue, system_set, plan_added, type_added, type_changed, region_added, station_added, station_changed, station_reported, dock_marked_catalogue}
 
 later_catalogue : (s : Operator) (now : ℕ) (k : FinMap texts_cmp Kept) → s.now ≤ now → IsCatalogueSound s → IsCatalogueSound (at_moment s now k)
 later_catalogue s now k late h = same_catalogue s (at_moment s now k) late refl h
@@ -117,9 +117,10 @@ catalogue_law s now (command.AddStation x) k order good free late =
       id_is = refl;
       good = record { station_id = good.0; name = good.1.0; lat = (good.1.1.0.0, good.1.1.0.1); lon = (good.1.1.1.0.0, good.1.1.1.0.1); some_docks = good.1.1.1.1.0.0; few_docks = good.1.1.1.1.0.1 };
       by_now = omega arith;
+      region = refl;
     }) (no_station (map.get s.stations x.station_id) no.0) no.1.0 (later_catalogue s now k late order.catalogue)
 catalogue_law s now (command.SetStation station installed renting returning) k order good free late =
-    station_changed (at_moment s now k) station (λ x. record x { is_installed = installed; is_renting = renting; is_returning = returning; reported = now }) (λ x. refl) (λ x. omega arith)
+    station_changed (at_moment s now k) station (λ x. record x { is_installed = installed; is_renting = renting; is_returning = returning; reported = now }) (λ x. refl) (λ x old. omega arith) (λ x known. known)
     (later_catalogue s now k late order.catalogue)
 catalogue_law s now (command.MarkDock station dock broken) k order good free late =
     let no = none_holds (tests (view_of s (command.MarkDock station dock broken)) (command.MarkDock station dock broken)) free in
@@ -147,3 +148,10 @@ catalogue_law s now (command.Load truck order bike) k o good free late =
 catalogue_law s now (command.Unload truck order bike side dock) k o good free late =
     unloaded_catalogue s now k (later_catalogue s now k late o.catalogue) order bike side dock (item_numbered order s.orders)
 catalogue_law s now (command.CloseOrder order) k o good free late = unchanged s now (command.CloseOrder order) k late refl o.catalogue
+catalogue_law s now (command.AddRegion r) k order good free late =
+    let no = none_holds (tests (view_of s (command.AddRegion r)) (command.AddRegion r)) free in
+    region_added (at_moment s now k) r (record { id_is = refl; good = record { region_id = good.0; name = good.1.0 } }) no.1.0 (later_catalogue s now k late order.catalogue)
+catalogue_law s now (command.SetRegion station region) k order good free late =
+    let no = none_holds (tests (view_of s (command.SetRegion station region)) (command.SetRegion station region)) free in
+    let there : has_region (at_moment s now k) region ≡ true = region_stands s (at_moment s now k) (λ id known. known) region (holds (has_region s region) no.1.0) in
+    station_changed (at_moment s now k) station (λ x. record x { region = region }) (λ x. refl) (λ x old. old) (λ x known. there) (later_catalogue s now k late order.catalogue)

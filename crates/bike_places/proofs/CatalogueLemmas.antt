@@ -6,11 +6,12 @@ use Rattle.std.specs.FinMap.{FinMap}
 use Rattle.std.specs.FinSet as set
 use Rattle.std.specs.FinSet.{FinSet}
 use Rattle.bike_operator.specs.Bytes.{is_ident}
-use Rattle.bike_operator.specs.Rows.{PlanRow, TypeRow, StationRow, SystemRow, IsStation, IsSystem}
+use Rattle.bike_operator.specs.Rows.{PlanRow, TypeRow, RegionRow, StationRow, SystemRow, IsStation, IsSystem}
 use Rattle.bike_operator.specs.Operator.{Operator, Station, text_cmp, texts_cmp, DockKey, dock_key}
-use Rattle.bike_operator.specs.declared.limits.TheConstants.{MOST_PLANS, MOST_TYPES, MOST_STATIONS}
+use Rattle.bike_operator.specs.declared.limits.TheConstants.{MOST_PLANS, MOST_TYPES, MOST_REGIONS, MOST_STATIONS}
+use Rattle.bike_operator.specs.View.{has_region}
 use Rattle.bike_operator.specs.Steps.{key_changed, with_report, dock_marked}
-use Rattle.bike_operator.specs.Sound.{IsCatalogueSound, IsSetSystem, IsPlanAt, IsTypeAt, IsStationAt, HasDock, IsBrokenDock}
+use Rattle.bike_operator.specs.Sound.{IsCatalogueSound, IsSetSystem, IsPlanAt, IsTypeAt, IsRegionAt, IsStationAt, HasDock, IsBrokenDock}
 use Rattle.bike_places.proofs.MapLemmas.{text_order, texts_order, tied, IsAdded, New, Old, IsChanged, Changed, Other, added_at, changed_at, kept_added, known_added, few_added, len_changed, IsKept, Same, Turned, kept_changed}
 
 -- ---- docks that go on being there
@@ -37,33 +38,45 @@ docks_added s n k x free e station dock h =
 broken_stand : (s n : Operator) (key : DockKey) → ((station : List ℕ) (dock : ℕ) → HasDock s station dock → HasDock n station dock) → IsBrokenDock s key → IsBrokenDock n key
 broken_stand s n key docks h = record { station = h.station; dock = h.dock; key_is = h.key_is; has = docks h.station h.dock h.has }
 
+-- ---- regions that go on being there
+
+pub region_stands : (s n : Operator) → ((id : List ℕ) → map.contains_key s.regions id ≡ true → map.contains_key n.regions id ≡ true) → (region : Option (List ℕ)) → has_region s region ≡ true → has_region n region ≡ true
+region_stands s n known None h = refl
+region_stands s n known (Some region) h = known region h
+
+station_stands : (s n : Operator) → s.now ≤ n.now → ((id : List ℕ) → map.contains_key s.regions id ≡ true → map.contains_key n.regions id ≡ true) → (id : List ℕ) (x : Station) → IsStationAt s id x → IsStationAt n id x
+station_stands s n later known id x h = record { id_is = h.id_is; good = h.good; by_now = omega (arith, h.by_now, later); region = region_stands s n known x.region h.region }
+
 -- ---- the catalogue where other records change
 
 abbrev pub CatalogueParts : Type 0
-CatalogueParts = Option SystemRow × FinMap text_cmp PlanRow × FinMap text_cmp TypeRow × FinMap text_cmp Station × FinSet texts_cmp
+CatalogueParts = Option SystemRow × FinMap text_cmp PlanRow × FinMap text_cmp TypeRow × FinMap text_cmp RegionRow × FinMap text_cmp Station × FinSet texts_cmp
 
 abbrev pub catalogue_of : Operator → CatalogueParts
-catalogue_of s = (s.system, s.plans, s.types, s.stations, s.broken)
+catalogue_of s = (s.system, s.plans, s.types, s.regions, s.stations, s.broken)
 
 pub same_catalogue : (s n : Operator) → s.now ≤ n.now → catalogue_of n ≡ catalogue_of s → IsCatalogueSound s → IsCatalogueSound n
 same_catalogue s n later e h =
     let system : n.system ≡ s.system = ap (λ (c : CatalogueParts). c.0) e in
     let plans : n.plans ≡ s.plans = ap (λ (c : CatalogueParts). c.1) e in
     let types : n.types ≡ s.types = ap (λ (c : CatalogueParts). c.2) e in
-    let stations : n.stations ≡ s.stations = ap (λ (c : CatalogueParts). c.3) e in
-    let broken : n.broken ≡ s.broken = ap (λ (c : CatalogueParts). c.4) e in
+    let regions : n.regions ≡ s.regions = ap (λ (c : CatalogueParts). c.3) e in
+    let stations : n.stations ≡ s.stations = ap (λ (c : CatalogueParts). c.4) e in
+    let broken : n.broken ≡ s.broken = ap (λ (c : CatalogueParts). c.5) e in
     record {
       system = subst IsSetSystem (sym system) h.system;
       plans = λ id p found. h.plans id p (ap (λ (m : FinMap text_cmp PlanRow). map.get m id) (sym plans) ∙ found);
       types = λ id t found.
           let x = h.types id t (ap (λ (m : FinMap text_cmp TypeRow). map.get m id) (sym types) ∙ found) in
           record { id_is = x.id_is; good = x.good; plan = ap (λ (m : FinMap text_cmp PlanRow). map.contains_key m t.plan_id) plans ∙ x.plan };
-      stations = λ id r found.
-          let x = h.stations id r (ap (λ (m : FinMap text_cmp Station). map.get m id) (sym stations) ∙ found) in
-          record { id_is = x.id_is; good = x.good; by_now = omega (arith, x.by_now, later) };
+      regions = λ id r found. h.regions id r (ap (λ (m : FinMap text_cmp RegionRow). map.get m id) (sym regions) ∙ found);
+      stations = λ id x found.
+          station_stands s n later (λ region known. ap (λ (m : FinMap text_cmp RegionRow). map.contains_key m region) regions ∙ known) id x
+          (h.stations id x (ap (λ (m : FinMap text_cmp Station). map.get m id) (sym stations) ∙ found));
       broken = λ key found. broken_stand s n key (same_docks s n stations) (h.broken key (ap (λ (b : FinSet texts_cmp). set.contains b key) (sym broken) ∙ found));
       few_plans = rw plans h.few_plans;
       few_types = rw types h.few_types;
+      few_regions = rw regions h.few_regions;
       few_stations = rw stations h.few_stations;
     }
 
@@ -74,10 +87,12 @@ system_set s x good h = record {
   system = good;
   plans = h.plans;
   types = λ id t found. let x = h.types id t found in record { id_is = x.id_is; good = x.good; plan = x.plan };
-  stations = λ id r found. let x = h.stations id r found in record { id_is = x.id_is; good = x.good; by_now = x.by_now };
+  regions = h.regions;
+  stations = λ id y found. station_stands s (record s { system = Some x }) (omega arith) (λ region known. known) id y (h.stations id y found);
   broken = λ key found. broken_stand s (record s { system = Some x }) key (same_docks s (record s { system = Some x }) refl) (h.broken key found);
   few_plans = h.few_plans;
   few_types = h.few_types;
+  few_regions = h.few_regions;
   few_stations = h.few_stations;
 }
 
@@ -88,10 +103,12 @@ plan_added s p good full h =
       system = h.system;
       plans = λ id q found. is_plan id q (added_at text_order s.plans p.plan_id p id q found);
       types = λ id t found. let x = h.types id t found in record { id_is = x.id_is; good = x.good; plan = known_added text_order s.plans p.plan_id p t.plan_id x.plan };
-      stations = λ id r found. let x = h.stations id r found in record { id_is = x.id_is; good = x.good; by_now = x.by_now };
+      regions = h.regions;
+      stations = λ id x found. station_stands s n (omega arith) (λ region known. known) id x (h.stations id x found);
       broken = λ key found. broken_stand s n key (same_docks s n refl) (h.broken key found);
       few_plans = few_added text_order s.plans p.plan_id p MOST_PLANS full;
       few_types = h.few_types;
+      few_regions = h.few_regions;
       few_stations = h.few_stations;
     }
   where
@@ -108,10 +125,12 @@ types_changed s types each few h =
       system = h.system;
       plans = h.plans;
       types = λ id t found. let x = each id t found in record { id_is = x.id_is; good = x.good; plan = x.plan };
-      stations = λ id r found. let x = h.stations id r found in record { id_is = x.id_is; good = x.good; by_now = x.by_now };
+      regions = h.regions;
+      stations = λ id x found. station_stands s n (omega arith) (λ region known. known) id x (h.stations id x found);
       broken = λ key found. broken_stand s n key (same_docks s n refl) (h.broken key found);
       few_plans = h.few_plans;
       few_types = few;
+      few_regions = h.few_regions;
       few_stations = h.few_stations;
     }
 
@@ -143,6 +162,26 @@ type_changed s type_id plan known good h =
         })
     is_type id q (Other apart found) = h.types id q found
 
+pub region_added : (s : Operator) (r : RegionRow) → IsRegionAt r.region_id r → leb MOST_REGIONS (map.len s.regions) ≡ false → IsCatalogueSound s → IsCatalogueSound (record s { regions = map.insert s.regions r.region_id r })
+region_added s r good full h =
+    let n : Operator = record s { regions = map.insert s.regions r.region_id r } in
+    record {
+      system = h.system;
+      plans = h.plans;
+      types = λ id t found. let x = h.types id t found in record { id_is = x.id_is; good = x.good; plan = x.plan };
+      regions = λ id q found. is_region id q (added_at text_order s.regions r.region_id r id q found);
+      stations = λ id x found. station_stands s n (omega arith) (known_added text_order s.regions r.region_id r) id x (h.stations id x found);
+      broken = λ key found. broken_stand s n key (same_docks s n refl) (h.broken key found);
+      few_plans = h.few_plans;
+      few_types = h.few_types;
+      few_regions = few_added text_order s.regions r.region_id r MOST_REGIONS full;
+      few_stations = h.few_stations;
+    }
+  where
+    is_region : (id : List ℕ) (q : RegionRow) → IsAdded s.regions r.region_id r id q → IsRegionAt id q
+    is_region id q (New same is) = rw (same, is) good
+    is_region id q (Old apart found) = h.regions id q found
+
 -- stations with another list of them
 stations_changed : (s : Operator) (stations : FinMap text_cmp Station) → ((id : List ℕ) (x : Station) → map.get stations id ≡ Some x → IsStationAt s id x) → map.len stations ≤ MOST_STATIONS
     → ((station : List ℕ) (dock : ℕ) → HasDock s station dock → HasDock (record s { stations = stations }) station dock)
@@ -153,10 +192,12 @@ stations_changed s stations each few docks h =
       system = h.system;
       plans = h.plans;
       types = λ id t found. let x = h.types id t found in record { id_is = x.id_is; good = x.good; plan = x.plan };
-      stations = λ id r found. let x = each id r found in record { id_is = x.id_is; good = x.good; by_now = x.by_now };
+      regions = h.regions;
+      stations = λ id x found. station_stands s n (omega arith) (λ region known. known) id x (each id x found);
       broken = λ key found. broken_stand s n key docks (h.broken key found);
       few_plans = h.few_plans;
       few_types = h.few_types;
+      few_regions = h.few_regions;
       few_stations = few;
     }
 
@@ -170,10 +211,10 @@ station_added s x good free full h =
     is_station id q (New same is) = rw (same, is) good
     is_station id q (Old apart found) = h.stations id q found
 
--- a station gets other flags or reports: its row stays
-pub station_changed : (s : Operator) (station : List ℕ) (f : Station → Station) → ((x : Station) → (f x).row ≡ x.row) → ((x : Station) → (f x).reported ≤ s.now)
-    → IsCatalogueSound s → IsCatalogueSound (record s { stations = key_changed s.stations station f })
-station_changed s station f keeps by_now h =
+-- a station gets other flags or another region, or reports: its row stays
+pub station_changed : (s : Operator) (station : List ℕ) (f : Station → Station) → ((x : Station) → (f x).row ≡ x.row) → ((x : Station) → x.reported ≤ s.now → (f x).reported ≤ s.now)
+    → ((x : Station) → has_region s x.region ≡ true → has_region s (f x).region ≡ true) → IsCatalogueSound s → IsCatalogueSound (record s { stations = key_changed s.stations station f })
+station_changed s station f keeps by_now known h =
     stations_changed s (key_changed s.stations station f) (λ id q found. is_station id q (changed_at text_order s.stations station f id q found))
     (rw (len_changed text_order s.stations station f) h.few_stations) (docks_changed s (record s { stations = key_changed s.stations station f }) station f keeps refl) h
   where
@@ -184,12 +225,13 @@ station_changed s station f keeps by_now h =
         record {
           id_is = same ∙ old.id_is ∙ ap (λ (r : StationRow). r.station_id) (sym row);
           good = subst IsStation (sym row) old.good;
-          by_now = subst (λ (z : Station). z.reported ≤ s.now) (sym is) (by_now x);
+          by_now = subst (λ (z : Station). z.reported ≤ s.now) (sym is) (by_now x old.by_now);
+          region = subst (λ (z : Station). has_region s z.region ≡ true) (sym is) (known x old.region);
         }
     is_station id q (Other apart found) = h.stations id q found
 
 pub station_reported : (s : Operator) (station : List ℕ) (now : ℕ) → now ≤ s.now → IsCatalogueSound s → IsCatalogueSound (with_report station now s)
-station_reported s station now late h = station_changed s station (λ x. record x { reported = now }) (λ x. refl) (λ x. late) h
+station_reported s station now late h = station_changed s station (λ x. record x { reported = now }) (λ x. refl) (λ x old. late) (λ x known. known) h
 
 -- broken docks with another list of them
 broken_changed : (s : Operator) (broken : FinSet texts_cmp) → ((key : DockKey) → set.contains broken key ≡ true → IsBrokenDock s key) → IsCatalogueSound s → IsCatalogueSound (record s { broken = broken })
@@ -199,10 +241,12 @@ broken_changed s broken each h =
       system = h.system;
       plans = h.plans;
       types = λ id t found. let x = h.types id t found in record { id_is = x.id_is; good = x.good; plan = x.plan };
-      stations = λ id r found. let x = h.stations id r found in record { id_is = x.id_is; good = x.good; by_now = x.by_now };
+      regions = h.regions;
+      stations = λ id x found. station_stands s n (omega arith) (λ region known. known) id x (h.stations id x found);
       broken = λ key found. broken_stand s n key (same_docks s n refl) (each key found);
       few_plans = h.few_plans;
       few_types = h.few_types;
+      few_regions = h.few_regions;
       few_stations = h.few_stations;
     }
 

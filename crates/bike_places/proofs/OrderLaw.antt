@@ -197,3 +197,7 @@ orders_law s now (command.Unload truck order bike side dock) k o good free late 
 orders_law s now (command.CloseOrder order) k o good free late =
     let h = later_orders s now k o.orders in
     order_changed_orders (at_moment s now k) order (λ x. record x { is_open = false }) (λ x found. closed_order (at_moment s now k) order x (h.orders order x found)) h
+orders_law s now (command.AddRegion r) k order good free late = unchanged s now (command.AddRegion r) k refl order.orders
+orders_law s now (command.SetRegion station region) k order good free late =
+    let f : Station → Station = λ x. record x { region = region } in
+    known_orders (at_moment s now k) s.types (key_changed s.stations station f) (λ id known. known) (known_changed text_order s.stations station f) (later_orders s now k order.orders)

@@ -3,7 +3,7 @@
 ghost use Rattle.bike_operator.specs.Sound.{IsCatalogueSound, AreBikesSound, AreOrdersSound};
 ghost use Rattle.bike_places.specs.Accepted.{AcceptedKeeps};
 
-/// The law that an accepted command keeps the system, plans, types, stations and broken docks sound.
+/// The law that an accepted command keeps the system, plans, types, regions, stations and broken docks sound.
 pub fn keeps_catalogue()
     ensures { AcceptedKeeps IsCatalogueSound }
 {}

@@ -1,4 +1,4 @@
--- What is read of the row of the next type, station or plan.
+-- What is read of the row of the next type, region, station or plan.
 use Rattle.std.proofs.Common.{◌≡◌, inl, inr, ℕ, ℤ, List, [], ◌∷◌, codes, filter, find, slice_get, Bool, true, false, cond, Option, Some, None, Result, Ok, IfOk, refl, sym, ap, subst, ◌∙◌}
 use Rattle.std.specs.Prelude.{option_map}
 use Rattle.std.specs.Option.{ok_or}
@@ -13,19 +13,19 @@ use Rattle.sqlite_tied.specs.Compute.{everything}
 use Rattle.sqlite_rules.specs.Lists.{Has}
 use Rattle.bike_catalogue.specs.declared.vehicle.Form.{Form}
 use Rattle.bike_catalogue.specs.declared.vehicle.Propulsion.{Propulsion}
-use Rattle.bike_catalogue.specs.Rows.{PlanRow, TypeRow, StationRow}
+use Rattle.bike_catalogue.specs.Rows.{PlanRow, TypeRow, StationRow, RegionRow, region_of_fields}
 use Rattle.bike_catalogue.specs.Vehicle.{form_text, propulsion_text}
 use Rattle.bike_operator.specs.Operator.{Operator, Station, text_cmp}
 use Rattle.bike_operator.specs.Sound.{IsSound}
-use Rattle.bike_book.specs.Tables.{Types, Stations, Plans}
-use Rattle.bike_book.specs.Rows.{type_row, station_row}
+use Rattle.bike_book.specs.Tables.{Types, Regions, Stations, Plans}
+use Rattle.bike_book.specs.Rows.{type_row, region_row, station_row}
 use Rattle.bike_book.specs.Stored.{stored_plan}
 use Rattle.bike_book.proofs.Keys.{texts}
 use Rattle.bike_book.proofs.MapRows.{has_get}
 use Rattle.bike_schema.specs.declared.fault.StatementFault.{StatementFault}
-use Rattle.bike_schema.specs.Columns.{number_in, moment_in, flag_in, text_in, ident_in, name_in, read_or_failed}
+use Rattle.bike_schema.specs.Columns.{number_in, moment_in, flag_in, text_in, ident_in, name_in, or_none, read_or_failed}
 use Rattle.bike_schema.proofs.AnswerLemmas.{FindsIn}
-use Rattle.bike_schema.proofs.ReadLemmas.{number_read, moment_read, flag_read, text_read, ident_read, name_read}
+use Rattle.bike_schema.proofs.ReadLemmas.{number_read, moment_read, flag_read, text_read, ident_read, name_read, optional_ident_read}
 use Rattle.bike_queries.specs.After.{HoldsStation, IsNext, first_after, station_of}
 use Rattle.bike_queries.specs.declared.stations.StationInfo.{StationInfo}
 use Rattle.bike_queries.proofs.AfterLaw.{is_behind, after_in}
@@ -36,7 +36,11 @@ pub finds_type_after : (id : List ℕ) → FindsIn (codes "SELECT * FROM types W
 unfolding everything
 finds_type_after id = after_in Types 1 id (λ r. refl) (λ tree. refl, refl)
 
-pub finds_station_after : (id : List ℕ) → FindsIn (codes "SELECT * FROM stations WHERE station_id > ?1 ORDER BY station_id LIMIT 1") (Text id ∷ []) (λ t. slice_get (filter (is_behind id) t.stations) 0)
+pub finds_region_after : (id : List ℕ) → FindsIn (codes "SELECT * FROM regions WHERE region_id > ?1 ORDER BY region_id LIMIT 1") (Text id ∷ []) (λ t. slice_get (filter (is_behind id) t.regions) 0)
+unfolding everything
+finds_region_after id = after_in Regions 1 id (λ r. refl) (λ tree. refl, refl)
+
+pub finds_station_after : (id : List ℕ) → FindsIn (codes "SELECT * FROM stations_2 WHERE station_id > ?1 ORDER BY station_id LIMIT 1") (Text id ∷ []) (λ t. slice_get (filter (is_behind id) t.stations) 0)
 unfolding everything
 finds_station_after id = after_in Stations 1 id (λ r. refl) (λ tree. refl, refl)
 
@@ -106,6 +110,14 @@ type_read x row y id name form propulsion range plan is =
     let plan_is = ident_read plan (at 5) in
     λ i. record { type_id = id_is i; name = name_is i; form = form_is i; propulsion = propulsion_is i; max_range = range_is i; plan_id = plan_is i }
 
+-- a region's columns likewise
+pub region_read : {id name : List ℕ} (row : Row) (y : RegionRow) → ident_in (column row 0) ≡ Some id → name_in (column row 1) ≡ Some name
+    → row ≡ region_row y.region_id y → region_of_fields id name ≡ y
+region_read row y id name is =
+    let id_is = ident_read id (ap (λ r. column r 0) is) in
+    let name_is = name_read name (ap (λ r. column r 1) is) in
+    λ i. record { region_id = id_is i; name = name_is i }
+
 -- a station's columns likewise
 pub station_read : (x : StationRow) (row : Row) (y : Station) → ident_in (column row 0) ≡ Some x.station_id → name_in (column row 1) ≡ Some x.name
     → ((z : ℤ) → column row 2 ≡ Int z → x.lat ≡ z) → ((z : ℤ) → column row 3 ≡ Int z → x.lon ≡ z)
@@ -121,14 +133,22 @@ station_read x row y id name lat lon docks holds =
 
 pub info_read : (x : StationInfo) (row : Row) (y : Station) → x.station ≡ y.row → Told x.is_installed (flag_in (column row 5))
     → Told x.is_renting (flag_in (column row 6)) → Told x.is_returning (flag_in (column row 7))
-    → Told x.reported (moment_in (column row 8)) → HoldsStation row y → station_of x ≡ y
-info_read x row y station installed renting returning reported holds =
+    → Told x.reported (moment_in (column row 8)) → or_none ident_in (column row 11) ≡ Some x.region → HoldsStation row y → station_of x ≡ y
+info_read x row y station installed renting returning reported region holds =
     let at : (k : ℕ) → column row k ≡ column (station_row y.row.station_id y holds.free holds.broken) k = λ k. ap (λ r. column r k) holds.is in
     let installed_is = flag_read y.is_installed installed (at 5) in
     let renting_is = flag_read y.is_renting renting (at 6) in
     let returning_is = flag_read y.is_returning returning (at 7) in
     let reported_is = moment_read reported (at 8) in
-    λ i. record { row = station i; is_installed = installed_is i; is_renting = renting_is i; is_returning = returning_is i; reported = reported_is i }
+    let region_is = optional_ident_read y.region region (at 11) in
+    λ i. record {
+      row = station i;
+      is_installed = installed_is i;
+      is_renting = renting_is i;
+      is_returning = returning_is i;
+      reported = reported_is i;
+      region = region_is i;
+    }
 
 -- ---- plans
 

@@ -21,7 +21,14 @@ IsNext id (Some e) None = ⊥
 
 -- a station as the operator keeps it
 abbrev pub station_of : StationInfo → Station
-station_of x = record { row = x.station; is_installed = x.is_installed; is_renting = x.is_renting; is_returning = x.is_returning; reported = x.reported }
+station_of x = record {
+  row = x.station;
+  is_installed = x.is_installed;
+  is_renting = x.is_renting;
+  is_returning = x.is_returning;
+  reported = x.reported;
+  region = x.region;
+}
 
 abbrev pub IsNextStation : Option (List ℕ × Station) → Option StationInfo → Type 0
 IsNextStation next x = IsNext (λ (s : Station). s.row.station_id) next (option_map station_of x)

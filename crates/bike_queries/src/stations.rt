@@ -11,11 +11,13 @@ use bike_catalogue::Station;
 use bike_fields::Ident;
 use bike_fixed::Moment;
 use bike_rows::lookup::first_row;
-use bike_schema::{StatementFault, flag_at, ident_at, moment_at, name_at, number_at};
+use bike_schema::{
+    StatementFault, flag_at, ident_at, moment_at, name_at, number_at, optional_ident_at,
+};
 use sqlite::{Alter, Connection, Row, params};
 use std::alloc::Global;
 
-/// A station with its flags as they were set, and when it last reported.
+/// A station with its flags as they were set, when it last reported, and the region in which it stands.
 #[derive(Drop)]
 pub struct StationInfo {
     /// Its name, its place and its docks.
@@ -28,6 +30,8 @@ pub struct StationInfo {
     pub is_returning: bool,
     /// When it last reported.
     pub reported: Moment,
+    /// The region in which it stands; none where it stands in none.
+    pub region: Option<Ident>,
 }
 
 /// The row of the first station whose identifier comes after this one, or of the first of all.
@@ -40,12 +44,12 @@ pub(crate) fn select_station<S: Alter>(
 {
     first_row(
         conn,
-        "SELECT * FROM stations WHERE station_id > ?1 ORDER BY station_id LIMIT 1",
+        "SELECT * FROM stations_2 WHERE station_id > ?1 ORDER BY station_id LIMIT 1",
         params![start_of(after)],
     )
 }
 
-/// The name, the place and the docks that stand in a row of `stations`.
+/// The name, the place and the docks that stand in a row of `stations_2`.
 fn read_station(alloc: Global, row: &Row) -> Result<Station, StatementFault>
     ensures { IfOk result (λ x. (y : _) → HoldsStation row.now y → x ≡ y.row) }
 {
@@ -57,7 +61,7 @@ fn read_station(alloc: Global, row: &Row) -> Result<Station, StatementFault>
     Station::from_fields(station_id, name, lat, lon, docks).ok_or(StatementFault::StoreFailed)
 }
 
-/// The station that stands in a row of `stations`.
+/// The station that stands in a row of `stations_2`.
 pub(crate) fn read_info(alloc: Global, row: &Row) -> Result<StationInfo, StatementFault>
     ensures { IfOk result (λ x. (y : _) → HoldsStation row.now y → station_of x ≡ y) }
 {
@@ -66,12 +70,14 @@ pub(crate) fn read_info(alloc: Global, row: &Row) -> Result<StationInfo, Stateme
     let is_renting = flag_at(row, 6)?;
     let is_returning = flag_at(row, 7)?;
     let reported = moment_at(row, 8)?;
+    let region = optional_ident_at(alloc, row, 11)?;
     Ok(StationInfo {
         station,
         is_installed,
         is_renting,
         is_returning,
         reported,
+        region,
     })
 }
 

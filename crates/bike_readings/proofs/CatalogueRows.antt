@@ -6,15 +6,15 @@ use Rattle.bike_fields.specs.Bytes.{is_ident}
 use Rattle.bike_fields.proofs.Lengths.{both_hold}
 use Rattle.bike_catalogue.specs.declared.vehicle.Propulsion.{Propulsion}
 use Rattle.bike_catalogue.specs.declared.vehicle.Propulsion.TheVariants.{Human, ElectricAssist}
-use Rattle.bike_catalogue.specs.Rows.{SegmentRow, PlanRow, TypeRow, IsEnd, is_after, IsRange, is_range, IsSystem}
+use Rattle.bike_catalogue.specs.Rows.{SegmentRow, PlanRow, TypeRow, RegionRow, IsEnd, is_after, IsRange, is_range, IsSystem}
 use Rattle.sqlite_value.specs.declared.value.Value.TheVariants.{Int, Text}
 use Rattle.sqlite.specs.Values.{or_null}
 use Rattle.bike_operator.specs.Operator.{Station}
-use Rattle.bike_book.specs.Rows.{number_value, meta_row, system_row, plan_row, segment_row, type_row, station_row, dock_row}
+use Rattle.bike_book.specs.Rows.{number_value, meta_row, system_row, plan_row, segment_row, type_row, region_row, station_row, dock_row}
 use Rattle.bike_schema.specs.Columns.{number_in, or_none}
-use Rattle.bike_readings.specs.Bounds.{IsWithin, IsStoredMeta, IsStoredPlan, IsStoredSegment, IsStoredType, IsStoredStation, IsStoredDock}
-use Rattle.bike_readings.specs.BothWays.{MetaReading, SystemReading, PlanReading, SegmentReading, TypeReading, StationReading, DockReading}
-use Rattle.bike_readings.proofs.ColumnLaws.{IsColumn, IfAny, whole_column, number_column, moment_column, flag_column, signed_column, word_column, word_utf8, ident_column, name_column, ascii_column, language_column, currency_column, form_column, propulsion_column, or_none_column}
+use Rattle.bike_readings.specs.Bounds.{IsWithin, IsStoredMeta, IsStoredPlan, IsStoredSegment, IsStoredType, IsStoredRegion, IsStoredStation, IsStoredDock}
+use Rattle.bike_readings.specs.BothWays.{MetaReading, SystemReading, PlanReading, SegmentReading, TypeReading, RegionReading, StationReading, DockReading}
+use Rattle.bike_readings.proofs.ColumnLaws.{IsColumn, IfAny, whole_column, number_column, moment_column, flag_column, signed_column, word_column, word_utf8, ident_column, name_column, ascii_column, language_column, currency_column, form_column, propulsion_column, or_none_column, ident_or_none_column}
 use Rattle.bike_readings.proofs.ChainLaws.{wide, takes, ends, ends_if, gives, gives_if}
 
 -- an identifier that is that of the record
@@ -155,10 +155,23 @@ type_reading = record {
       (λ i. (x.0, record { type_id = g.id_is i; name = x.1.name; form = x.1.form; propulsion = x.1.propulsion; max_range = x.1.max_range; plan_id = x.1.plan_id }))))))));
 }
 
+pub region_reading : RegionReading
+region_reading = record {
+  sound = λ row x e.
+      wide 2 row e (λ width e.
+      takes _ ident_column e (λ id id_is id_good e.
+      takes _ name_column e (λ name name_is name_good e.
+      ends (λ (x : List ℕ × RegionRow). region_row x.0 x.1) (λ x. IsStoredRegion x.0 x.1) x e width (id_is, (name_is, tt)) (record { id_is = refl; good = record { region_id = id_good; name = name_good } }))));
+  full = λ x g.
+      gives _ x.0 ident_column (same_ident _ _ g.id_is g.good.region_id) (
+      gives _ x.1.name name_column g.good.name
+      (λ i. Some (x.0, record { region_id = g.id_is i; name = x.1.name })));
+}
+
 pub station_reading : StationReading
 station_reading = record {
   sound = λ row x e.
-      wide 11 row e (λ width e.
+      wide 12 row e (λ width e.
       takes _ ident_column e (λ id id_is id_good e.
       takes _ name_column e (λ name name_is name_good e.
       takes _ (signed_column (neg_ℤ (pos 90000000)) (pos 90000000)) e (λ lat lat_is lat_good e.
@@ -170,8 +183,15 @@ station_reading = record {
       takes _ moment_column e (λ reported reported_is reported_good e.
       takes _ whole_column e (λ free free_is _ e.
       takes _ (number_column 0 _) e (λ broken broken_is broken_good e.
-      ends (λ (x : List ℕ × Station × ℤ × ℕ). station_row x.0 x.1 x.2 x.3) (λ x. IsStoredStation x.0 x.1 x.3) x e width (id_is, (name_is, (lat_is, (lon_is, (docks_is, (installed_is, (renting_is, (returning_is, (reported_is, (free_is, (broken_is, tt)))))))))))
-      (record { id_is = refl; good = record { station_id = id_good; name = name_good; lat = lat_good; lon = lon_good; some_docks = docks_good.0; few_docks = docks_good.1 }; reported = reported_good; good_broken = broken_good.1 })))))))))))));
+      takes _ ident_or_none_column e (λ region region_is region_good e.
+      ends (λ (x : List ℕ × Station × ℤ × ℕ). station_row x.0 x.1 x.2 x.3) (λ x. IsStoredStation x.0 x.1 x.3) x e width (id_is, (name_is, (lat_is, (lon_is, (docks_is, (installed_is, (renting_is, (returning_is, (reported_is, (free_is, (broken_is, (region_is, tt))))))))))))
+      (record {
+        id_is = refl;
+        good = record { station_id = id_good; name = name_good; lat = lat_good; lon = lon_good; some_docks = docks_good.0; few_docks = docks_good.1 };
+        reported = reported_good;
+        good_broken = broken_good.1;
+        region = region_good;
+      }))))))))))))));
   full = λ x g.
       gives _ x.0 ident_column (same_ident _ _ g.id_is g.good.station_id) (
       gives _ x.1.row.name name_column g.good.name (
@@ -182,7 +202,8 @@ station_reading = record {
       gives _ x.1.is_renting flag_column tt (
       gives _ x.1.is_returning flag_column tt (
       gives _ x.1.reported moment_column g.reported (
-      gives _ x.3 (number_column 0 _) (omega arith, g.good_broken)
+      gives _ x.3 (number_column 0 _) (omega arith, g.good_broken) (
+      gives _ x.1.region ident_or_none_column g.region
       (λ i. Some (
         x.0,
         record {
@@ -191,10 +212,11 @@ station_reading = record {
           is_renting = x.1.is_renting;
           is_returning = x.1.is_returning;
           reported = x.1.reported;
+          region = x.1.region;
         },
         x.2,
         x.3,
-      )))))))))));
+      ))))))))))));
 }
 
 pub dock_reading : DockReading

@@ -35,7 +35,7 @@ use Rattle.bike_operator.specs.declared.records.BikeState.TheVariants.{Fit, Disa
 use Rattle.bike_book.specs.Rows.{number_value, truth, state_number, kind_number, end_text}
 use Rattle.bike_schema.specs.Columns.{number_of, flag_of, state_of, whole_in, text_in, number_in, moment_in, flag_in, state_in, ident_in, name_in, or_none}
 use Rattle.bike_readings.specs.ColumnReaders.{language_in, currency_in, ascii_in, key_in, form_in, propulsion_in, end_in, word_in, signed_in, kind_of, kind_in}
-use Rattle.bike_readings.specs.Bounds.{IsWithin, IsMoment}
+use Rattle.bike_readings.specs.Bounds.{IsWithin, IsMoment, IsIdentOrNone}
 
 -- The reader gives exactly the values within their bounds from which columns are made.
 pub record IsColumn {A : Type 0} (read : Value → Option A) (write : A → Value) (Good : A → Type 0) : Type 0 where
@@ -337,3 +337,17 @@ or_none_column {A} {read} {write} {Good} column there = record { sound = sound; 
     full : (a : Option A) → IfAny Good a → or_none read (or_null write a) ≡ Some a
     full None g = refl
     full (Some a) g = rw (there a, column.full a g) refl
+
+pub ident_or_none_column : IsColumn (or_none ident_in) (or_null Text) IsIdentOrNone
+ident_or_none_column = record { sound = λ v name e. let s = any.sound v name e in (s.0, good name s.1); full = λ name g. any.full name (held name g) }
+  where
+    any : IsColumn (or_none ident_in) (or_null Text) (IfAny (λ bs. is_ident bs ≡ true))
+    any = or_none_column ident_column (λ bs. refl)
+
+    good : (name : Option (List ℕ)) → IfAny (λ bs. is_ident bs ≡ true) name → IsIdentOrNone name
+    good None g = tt
+    good (Some id) g = g
+
+    held : (name : Option (List ℕ)) → IsIdentOrNone name → IfAny (λ bs. is_ident bs ≡ true) name
+    held None g = tt
+    held (Some id) g = g

@@ -26,18 +26,18 @@ use Rattle.bike_operator.specs.Sound.{IsSound, IsPlace, IsBooking, IsSetSystem, 
 use Rattle.bike_places.specs.Numbers.{disabled_of}
 use Rattle.bike_places.proofs.ItemLemmas.{number_within}
 use Rattle.bike_book.specs.declared.version.TheConstants.{NEWEST}
-use Rattle.bike_book.specs.Tables.{Meta, System, Plans, Segments, Types, Stations, Docks, Bikes, Trucks, Riders, Rentals, Orders, Entries, Kept as KeptTable, Counts}
+use Rattle.bike_book.specs.Tables.{Meta, System, Plans, Segments, Types, Regions, Stations, Docks, Bikes, Trucks, Riders, Rentals, Orders, Entries, Kept as KeptTable, Counts}
 use Rattle.bike_book.specs.Rows.{number_value, meta_row}
-use Rattle.bike_book.specs.Stored.{Listed, IsListing, tables_for, meta_rows, system_rows, with_numbers, plans_segments, stored_plan, stored_type, stored_station, stored_dock, stored_bike, stored_truck, stored_rider, stored_rental, stored_order, stored_entry, stored_kept, stored_count}
+use Rattle.bike_book.specs.Stored.{Listed, IsListing, tables_for, meta_rows, system_rows, with_numbers, plans_segments, stored_plan, stored_type, stored_region, stored_station, stored_dock, stored_bike, stored_truck, stored_rider, stored_rental, stored_order, stored_entry, stored_kept, stored_count}
 use Rattle.bike_book.proofs.MapRows.{StoresKeys, BeginsWithKey, has_get}
 use Rattle.bike_book.proofs.Keys.{numbers, texts, pairs, docks}
 use Rattle.bike_book.proofs.FoundKeys.{found_listed}
 use Rattle.bike_book.proofs.FoundNumbers.{same_length}
-use Rattle.bike_readings.specs.Readings.{meta_read, system_read, plan_read, segment_read, type_read, station_read, dock_read, bike_read, truck_read, rider_read, rental_read, order_read, entry_read, kept_read, count_read}
+use Rattle.bike_readings.specs.Readings.{meta_read, system_read, plan_read, segment_read, type_read, region_read, station_read, dock_read, bike_read, truck_read, rider_read, rental_read, order_read, entry_read, kept_read, count_read}
 use Rattle.bike_readings.proofs.CatalogueRows.{system_reading, segment_reading}
 use Rattle.bike_readings.specs.Bounds.{IsStoredSegment}
 use Rattle.bike_readings.proofs.SoundBounds.{segment_stored}
-use Rattle.bike_readings.specs.Demands.{IsGoodMeta, IsGoodPlan, IsGoodSegment, IsGoodType, IsGoodStation, IsGoodDock, IsGoodPlace, IsGoodBike, IsGoodTruck, IsGoodRider, IsGoodRental, IsGoodOrder, IsGoodEntry, IsGoodKept, IsGoodCount, HasFare, IsOneFare}
+use Rattle.bike_readings.specs.Demands.{IsGoodMeta, IsGoodPlan, IsGoodSegment, IsGoodType, IsGoodRegion, IsGoodStation, IsGoodDock, IsGoodPlace, IsGoodBike, IsGoodTruck, IsGoodRider, IsGoodRental, IsGoodOrder, IsGoodEntry, IsGoodKept, IsGoodCount, HasFare, IsOneFare}
 use Rattle.bike_readings.specs.ReadOff.{rental_in}
 use Rattle.bike_readings.specs.Rules.{HasNone}
 use Rattle.bike_readings.proofs.ByNumber.{at_number}
@@ -45,7 +45,7 @@ use Rattle.bike_readings.proofs.Places.{lesser, lesser_fewer, lesser_numbered, h
 use Rattle.bike_readings.proofs.ReadBack.{has_numbered}
 use Rattle.bike_readings.proofs.Segments.{row_among}
 use Rattle.bike_readings.proofs.Fares.{fare_passes, fare_among, two_fares}
-use Rattle.bike_readings.proofs.ReadOffBack.{meta_is, plan_is, type_is, station_is, dock_is, bike_is, truck_is, rider_is, rental_is, order_is, entry_is, kept_is, count_is}
+use Rattle.bike_readings.proofs.ReadOffBack.{meta_is, plan_is, type_is, region_is, station_is, dock_is, bike_is, truck_is, rider_is, rental_is, order_is, entry_is, kept_is, count_is}
 use Rattle.bike_readings.proofs.RowRules.{some_and, AreGoodRows, LacksNone}
 
 -- ---- rows of maps and of numbered lists
@@ -200,6 +200,10 @@ module _ (s : Operator) (m : Listed) (sound : IsSound s) (listing : IsListing s 
       map_good texts stored_type type_read (IsGoodType s) s.types (λ k v below found low.
       let few = sound.catalogue.few_types in
       some_and (IsGoodType s below) (type_read (stored_type (k, v))) (k, v) (type_is s m sound listing k v found) (record { room = omega (arith, low, few); good = sound.catalogue.types k v found })) row has
+  all_rows_good Regions row has =
+      map_good texts stored_region region_read (IsGoodRegion s) s.regions (λ k v below found low.
+      let few = sound.catalogue.few_regions in
+      some_and (IsGoodRegion s below) (region_read (stored_region (k, v))) (k, v) (region_is s m sound listing k v found) (record { room = omega (arith, low, few) })) row has
   all_rows_good Stations row has =
       map_good texts (stored_station s) station_read (IsGoodStation s) s.stations (λ k v below found low.
       let few = sound.catalogue.few_stations in
@@ -265,6 +269,7 @@ module _ (s : Operator) (m : Listed) (sound : IsSound s) (listing : IsListing s 
   none_lacking Plans key none = tt
   none_lacking Segments key none = tt
   none_lacking Types key none = tt
+  none_lacking Regions key none = tt
   none_lacking Stations key none = tt
   none_lacking Docks key none = tt
   none_lacking Bikes key none = tt

@@ -1,12 +1,11 @@
 -- The rows of riders, rentals, entries and counts are read exactly.
-use Rattle.std.proofs.Common.{◌≡◌, ℕ, ℤ, pos, negsuc, List, [], ◌∷◌, ◌++◌, length, true, Option, Some, None, refl, sym, subst, arith}
+use Rattle.std.proofs.Common.{◌≡◌, ℕ, ℤ, pos, negsuc, List, [], ◌∷◌, ◌++◌, length, Option, Some, None, refl, sym, subst, arith}
 use Rattle.std.specs.Prelude.{option_and_then}
 use Rattle.std.proofs.lemmas.Int.{ints}
 use Rattle.std.proofs.lemmas.Option.{option_and_then_some, same_Some}
 use Rattle.sqlite_value.specs.declared.value.Value.TheVariants.{Int, Text}
 use Rattle.sqlite_value.specs.Order.{Row, column}
 use Rattle.sqlite.specs.Values.{or_null}
-use Rattle.bike_fields.specs.Bytes.{is_ident}
 use Rattle.bike_ledger.specs.Entries.{greatest_amount}
 use Rattle.bike_ledger.specs.declared.entry.EntryKind.{EntryKind}
 use Rattle.bike_ledger.specs.declared.entry.EntryKind.TheVariants.{TopUp, Fare, Refund}
@@ -16,11 +15,11 @@ use Rattle.bike_operator.specs.declared.records.Rental.{Rental}
 use Rattle.bike_operator.specs.Operator.{Rider}
 use Rattle.bike_operator.specs.Sound.{IsPayment}
 use Rattle.bike_book.specs.Rows.{number_value, closing_columns, rider_row, rental_row, entry_row, count_row}
-use Rattle.bike_schema.specs.Columns.{ident_in, or_none, whole_in, moment_in}
+use Rattle.bike_schema.specs.Columns.{whole_in, moment_in}
 use Rattle.bike_readings.specs.ColumnReaders.{closing_in, fare_in, rental_in, amount_in, signed_in}
-use Rattle.bike_readings.specs.Bounds.{IsNumbered, IsMoment, IsFare, IsStoredRental, IsStoredEntry, IsStoredCount, IsStop, IsOpenOrStored, IsStoredRentalOf, IsStoredAmount}
+use Rattle.bike_readings.specs.Bounds.{IsNumbered, IsMoment, IsFare, IsStoredRental, IsStoredEntry, IsStoredCount, IsIdentOrNone, IsOpenOrStored, IsStoredRentalOf, IsStoredAmount}
 use Rattle.bike_readings.specs.BothWays.{RiderReading, RentalReading, EntryReading, CountReading}
-use Rattle.bike_readings.proofs.ColumnLaws.{IsColumn, IfAny, IsBetween, whole_column, number_column, moment_column, signed_column, flag_column, kind_column, ident_column, or_none_column}
+use Rattle.bike_readings.proofs.ColumnLaws.{IsColumn, IsBetween, whole_column, number_column, moment_column, signed_column, flag_column, kind_column, ident_column, ident_or_none_column}
 use Rattle.bike_readings.proofs.ChainLaws.{HasColumns, wide, takes, ends, gives, gives_wide, given, pick_null}
 
 -- ---- riders
@@ -40,20 +39,6 @@ rider_reading = record {
 
 -- ---- rentals
 
-stop_column : IsColumn (or_none ident_in) (or_null Text) IsStop
-stop_column = record { sound = λ v to e. let s = any.sound v to e in (s.0, stop to s.1); full = λ to g. any.full to (stopped to g) }
-  where
-    any : IsColumn (or_none ident_in) (or_null Text) (IfAny (λ bs. is_ident bs ≡ true))
-    any = or_none_column ident_column (λ bs. refl)
-
-    stop : (to : Option (List ℕ)) → IfAny (λ bs. is_ident bs ≡ true) to → IsStop to
-    stop None g = tt
-    stop (Some station) g = g
-
-    stopped : (to : Option (List ℕ)) → IsStop to → IfAny (λ bs. is_ident bs ≡ true) to
-    stopped None g = tt
-    stopped (Some station) g = g
-
 -- the closing stands in the columns behind the first six, and behind it what was refunded
 abbrev Closed : Row → ℤ → Option Closing → Type 0
 Closed row refunded o = HasColumns row 6 (closing_columns o ++ Int refunded ∷ []) × IsOpenOrStored o
@@ -61,7 +46,7 @@ Closed row refunded o = HasColumns row 6 (closing_columns o ++ Int refunded ∷ 
 closing_sound : (row : Row) (o : Option Closing) (refunded : ℤ) → closing_in (column row 6) (column row 7) (column row 8) ≡ Some o → column row 9 ≡ Int refunded → Closed row refunded o
 closing_sound row o refunded e refunded_is =
     pick_null (column row 6 ∷ column row 7 ∷ column row 8 ∷ []) e (λ null e. subst (Closed row refunded) (same_Some None o e) ((null.0, (null.1.0, (null.1.1.0, (refunded_is, tt)))), tt)) (λ e.
-    takes _ stop_column e (λ to to_is to_good e.
+    takes _ ident_or_none_column e (λ to to_is to_good e.
     takes _ moment_column e (λ finish finish_is finish_good e.
     takes _ (signed_column (pos 0) greatest_amount) e (λ fare fare_is fare_good e.
     subst (Closed row refunded) (same_Some (Some (record { to_station = to; finish = finish; fare = fare })) o e)
@@ -75,9 +60,9 @@ paid : (to : Option (List ℕ)) (finish : ℕ) (fare : ℤ) → IsMoment finish 
     → option_and_then (λ at. option_and_then (λ amount. Some (closed to at amount)) (fare_in (Int fare))) (moment_in (number_value finish)) ≡ Some (closed to finish fare)
 paid to finish fare finish_good fare_good = gives _ finish moment_column finish_good (gives _ fare (signed_column (pos 0) greatest_amount) fare_good refl)
 
-closed_full : (to : Option (List ℕ)) (finish : ℕ) (fare : ℤ) → IsStop to → IsMoment finish → IsFare fare → closing_in (or_null Text to) (number_value finish) (Int fare) ≡ Some (closed to finish fare)
+closed_full : (to : Option (List ℕ)) (finish : ℕ) (fare : ℤ) → IsIdentOrNone to → IsMoment finish → IsFare fare → closing_in (or_null Text to) (number_value finish) (Int fare) ≡ Some (closed to finish fare)
 closed_full None finish fare stop finish_good fare_good = paid None finish fare finish_good fare_good
-closed_full (Some station) finish fare stop finish_good fare_good = rw (stop_column.full (Some station) stop) (paid (Some station) finish fare finish_good fare_good)
+closed_full (Some station) finish fare stop finish_good fare_good = rw (ident_or_none_column.full (Some station) stop) (paid (Some station) finish fare finish_good fare_good)
 
 closing_full : (o : Option Closing) (refunded : ℤ) → IsOpenOrStored o
     → closing_in (column (closing_columns o ++ Int refunded ∷ []) 0) (column (closing_columns o ++ Int refunded ∷ []) 1) (column (closing_columns o ++ Int refunded ∷ []) 2) ≡ Some o

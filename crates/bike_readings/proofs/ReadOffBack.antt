@@ -4,7 +4,7 @@ use Rattle.std.specs.Prelude.{option_map, unwrap_or}
 use Rattle.std.specs.List.{filter_map, cons_option}
 use Rattle.std.specs.FinMap as fin
 use Rattle.std.specs.FinSet as set
-use Rattle.bike_catalogue.specs.Rows.{SegmentRow, PlanRow, TypeRow, SystemRow, IsPlan}
+use Rattle.bike_catalogue.specs.Rows.{SegmentRow, PlanRow, TypeRow, RegionRow, SystemRow, IsPlan}
 use Rattle.bike_ledger.specs.Entries.{Entry}
 use Rattle.bike_ledger.specs.Ledger.{balance_of, cash_of, revenue_of, refunded_of}
 use Rattle.bike_operator.specs.declared.records.Bike.{Bike}
@@ -15,11 +15,11 @@ use Rattle.bike_operator.specs.Counts.{docks_available, docks_broken, available_
 use Rattle.bike_operator.specs.Sound.{IsSound, IsSetSystem, HasDock}
 use Rattle.bike_places.specs.Numbers.{disabled_of}
 use Rattle.bike_book.specs.declared.version.TheConstants.{NEWEST}
-use Rattle.bike_book.specs.Stored.{Listed, IsListing, tables_for, meta_rows, system_rows, plans_segments, stored_plan, stored_type, stored_station, stored_dock, stored_bike, stored_truck, stored_rider, stored_rental, stored_order, stored_entry, stored_kept, stored_count}
+use Rattle.bike_book.specs.Stored.{Listed, IsListing, tables_for, meta_rows, system_rows, plans_segments, stored_plan, stored_type, stored_region, stored_station, stored_dock, stored_bike, stored_truck, stored_rider, stored_rental, stored_order, stored_entry, stored_kept, stored_count}
 use Rattle.bike_book.proofs.Keys.{numbers, texts, pairs, docks}
-use Rattle.bike_readings.specs.Readings.{meta_read, system_read, plan_read, type_read, station_read, dock_read, bike_read, truck_read, rider_read, rental_read, order_read, entry_read, kept_read, count_read}
+use Rattle.bike_readings.specs.Readings.{meta_read, system_read, plan_read, type_read, region_read, station_read, dock_read, bike_read, truck_read, rider_read, rental_read, order_read, entry_read, kept_read, count_read}
 use Rattle.bike_readings.specs.Bounds.{IsStoredSegment}
-use Rattle.bike_readings.proofs.CatalogueRows.{meta_reading, plan_reading, type_reading, station_reading, dock_reading, system_reading}
+use Rattle.bike_readings.proofs.CatalogueRows.{meta_reading, plan_reading, type_reading, region_reading, station_reading, dock_reading, system_reading}
 use Rattle.bike_readings.proofs.FleetRows.{bike_reading, truck_reading, order_reading}
 use Rattle.bike_readings.proofs.LedgerRows.{rider_reading, rental_reading, entry_reading, count_reading}
 use Rattle.bike_readings.proofs.KeptRows.{kept_reading}
@@ -27,7 +27,7 @@ use Rattle.bike_readings.specs.ReadOff.{first, moment_of, with_segments, plan_in
 use Rattle.bike_readings.proofs.ReadBack.{map_back, numbered_back}
 use Rattle.bike_readings.proofs.Segments.{segments_back}
 use Rattle.bike_readings.proofs.Broken.{broken_back}
-use Rattle.bike_readings.proofs.SoundBounds.{meta_stored, segment_stored, dock_stored, type_stored, station_stored, bike_stored, truck_stored, rider_stored, rental_stored, order_stored, entry_stored, count_stored}
+use Rattle.bike_readings.proofs.SoundBounds.{meta_stored, segment_stored, dock_stored, type_stored, region_stored, station_stored, bike_stored, truck_stored, rider_stored, rental_stored, order_stored, entry_stored, count_stored}
 use Rattle.bike_book.specs.Rows.{meta_row}
 
 module _ (s : Operator) (m : Listed) (sound : IsSound s) (listing : IsListing s m) where
@@ -58,6 +58,9 @@ module _ (s : Operator) (m : Listed) (sound : IsSound s) (listing : IsListing s 
 
   pub type_is : (id : List ℕ) (x : TypeRow) → fin.get s.types id ≡ Some x → type_read (stored_type (id, x)) ≡ Some (id, x)
   type_is id x found = type_reading.full (id, x) (type_stored s sound id x found)
+
+  pub region_is : (id : List ℕ) (x : RegionRow) → fin.get s.regions id ≡ Some x → region_read (stored_region (id, x)) ≡ Some (id, x)
+  region_is id x found = region_reading.full (id, x) (region_stored s sound id x found)
 
   pub station_is : (id : List ℕ) (x : Station) → fin.get s.stations id ≡ Some x
       → station_read (stored_station s (id, x)) ≡ Some (id, x, pos (docks_available s id x.row.docks), docks_broken s id x.row.docks)
@@ -128,6 +131,7 @@ module _ (s : Operator) (m : Listed) (sound : IsSound s) (listing : IsListing s 
       let system = system_back s.system sound.catalogue.system in
       let plans = map_back texts (plan_in (plans_segments (fin.entries s.plans))) stored_plan s.plans plan_back in
       let types = map_back texts type_read stored_type s.types type_is in
+      let regions = map_back texts region_read stored_region s.regions region_is in
       let stations = map_back texts station_in (stored_station s) s.stations (λ id x found. ap (option_map (λ (e : _). (e.0, e.1))) (station_is id x found)) in
       let broken = broken_back s.broken m.docks listing.marked dock_back in
       let bikes = map_back numbers bike_in stored_bike s.bikes bike_back in
@@ -144,6 +148,7 @@ module _ (s : Operator) (m : Listed) (sound : IsSound s) (listing : IsListing s 
         system = system i;
         plans = plans i;
         types = types i;
+        regions = regions i;
         stations = stations i;
         broken = broken i;
         bikes = bikes i;

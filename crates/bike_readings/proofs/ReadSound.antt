@@ -12,11 +12,11 @@ use Rattle.sqlite_value.specs.declared.value.Value.TheVariants.{Text}
 use Rattle.sqlite_value.specs.Order.{Row}
 use Rattle.sqlite_rules.specs.Lists.{Has}
 use Rattle.bike_rows.specs.View.{row_with}
-use Rattle.bike_catalogue.specs.Rows.{TypeRow}
+use Rattle.bike_catalogue.specs.Rows.{TypeRow, RegionRow}
 use Rattle.bike_ledger.specs.Entries.{Entry}
 use Rattle.bike_ledger.specs.declared.entry.EntryKind.{EntryKind}
 use Rattle.bike_ledger.specs.declared.entry.EntryKind.TheVariants.{TopUp, Fare, Refund}
-use Rattle.bike_operator.specs.declared.limits.TheConstants.{MOST_PLANS, MOST_TYPES, MOST_STATIONS, MOST_BIKES, MOST_TRUCKS, MOST_RIDERS, MOST_ORDERS, MOST_ENTRIES}
+use Rattle.bike_operator.specs.declared.limits.TheConstants.{MOST_PLANS, MOST_TYPES, MOST_REGIONS, MOST_STATIONS, MOST_BIKES, MOST_TRUCKS, MOST_RIDERS, MOST_ORDERS, MOST_ENTRIES}
 use Rattle.bike_operator.specs.declared.records.Place.{Place}
 use Rattle.bike_operator.specs.declared.records.Place.TheVariants as place
 use Rattle.bike_operator.specs.declared.records.Bike.{Bike}
@@ -25,17 +25,18 @@ use Rattle.bike_operator.specs.declared.records.Closing.{Closing}
 use Rattle.bike_operator.specs.declared.records.Order.{Order}
 use Rattle.bike_operator.specs.Operator.{Operator, Station, Truck, Rider, Kept, Key, DockKey, dock_key, key_of, item_numbered}
 use Rattle.bike_operator.specs.Counts.{is_open, open_rentals}
-use Rattle.bike_operator.specs.Sound.{IsSound, IsCatalogueSound, AreBikesSound, AreOrdersSound, AreRentalsSound, IsLedgerSound, IsTypeAt, IsStationAt, HasDock, IsBrokenDock, IsBikeAt, IsPlace, IsTruckAt, IsOrderAt, IsRentalAt, IsRiderNumber, IsEntryAt, IsKept as IsKeptAt, fares_of, fares_in}
+use Rattle.bike_operator.specs.Sound.{IsSound, IsCatalogueSound, AreBikesSound, AreOrdersSound, AreRentalsSound, IsLedgerSound, IsTypeAt, IsRegionAt, IsStationAt, HasDock, IsBrokenDock, IsBikeAt, IsPlace, IsTruckAt, IsOrderAt, IsRentalAt, IsRiderNumber, IsEntryAt, IsKept as IsKeptAt, fares_of, fares_in}
 use Rattle.bike_places.proofs.MapLemmas.{there_of}
-use Rattle.bike_book.specs.Tables.{TableName, Tables, keys_of, Meta, Plans, Types, Stations, Docks, Bikes, Trucks, Riders, Rentals, Orders, Entries, Kept as KeptTable, Counts}
+use Rattle.bike_book.specs.Tables.{TableName, Tables, keys_of, Meta, Plans, Types, Regions, Stations, Docks, Bikes, Trucks, Riders, Rentals, Orders, Entries, Kept as KeptTable, Counts}
 use Rattle.bike_book.specs.Rows.{number_value}
-use Rattle.bike_book.specs.Stored.{IsListing, IsDockKey, IsCountKey, tables_for, stored_plan, stored_type, stored_station, stored_bike, stored_truck, stored_rider, stored_rental, stored_order, stored_count}
+use Rattle.bike_book.specs.Stored.{IsListing, IsDockKey, IsCountKey, tables_for, stored_plan, stored_type, stored_region, stored_station, stored_bike, stored_truck, stored_rider, stored_rental, stored_order, stored_count}
 use Rattle.bike_book.proofs.MapRows.{found_entries, has_get}
 use Rattle.bike_book.proofs.Keys.{numbers, texts, pairs, docks, IsPair}
-use Rattle.bike_readings.specs.Readings.{type_read, station_read, dock_read, bike_read, truck_read, rider_read, rental_read, order_read, entry_read, kept_read, count_read, plan_read}
+use Rattle.bike_readings.specs.Readings.{type_read, region_read, station_read, dock_read, bike_read, truck_read, rider_read, rental_read, order_read, entry_read, kept_read, count_read, plan_read}
+use Rattle.bike_readings.proofs.CatalogueRows.{region_reading}
 use Rattle.bike_readings.proofs.LedgerRows.{rental_reading}
 use Rattle.bike_readings.specs.ReadOff.{plan_in, station_in, rider_in, rental_in, dock_in, operator_of, listed_of, first_of, misplaced_bike, bike_in}
-use Rattle.bike_readings.specs.Demands.{IsGoodPlan, IsGoodType, IsGoodStation, IsGoodDock, IsGoodPlace, IsGoodBike, IsGoodTruck, IsGoodRider, IsGoodRental, IsGoodOrder, IsGoodEntry, IsGoodKept, IsGoodCount, IsRiding, HasFare, IsFareOf, IsFirstFare, IsOneFare}
+use Rattle.bike_readings.specs.Demands.{IsGoodPlan, IsGoodType, IsGoodRegion, IsGoodStation, IsGoodDock, IsGoodPlace, IsGoodBike, IsGoodTruck, IsGoodRider, IsGoodRental, IsGoodOrder, IsGoodEntry, IsGoodKept, IsGoodCount, IsRiding, HasFare, IsFareOf, IsFirstFare, IsOneFare}
 use Rattle.bike_readings.specs.Rules.{AreInOrder, rows_below, HasNone, AreOf}
 use Rattle.bike_readings.proofs.ReadLists.{has_read}
 use Rattle.bike_readings.proofs.ByNumber.{at_number}
@@ -44,7 +45,7 @@ use Rattle.bike_readings.proofs.Broken.{broken_has}
 use Rattle.bike_readings.proofs.Fares.{counted, is_fare_of, fare_parts, no_fares, one_fare, rentals_few}
 use Rattle.bike_readings.proofs.RowRules.{some_with, some_is, AreGoodRows, LacksNone}
 use Rattle.bike_readings.proofs.ReadRows.{mapped, few_in, IsMeta, meta_are}
-use Rattle.bike_readings.proofs.TablesRead.{system_table, plans_table, plan_read_off, segments_table, types_table, stations_table, docks_table, counts_table, bikes_table, trucks_table, riders_table, kept_table, rentals_table, orders_table, entries_table}
+use Rattle.bike_readings.proofs.TablesRead.{system_table, plans_table, plan_read_off, segments_table, types_table, regions_table, stations_table, docks_table, counts_table, bikes_table, trucks_table, riders_table, kept_table, rentals_table, orders_table, entries_table}
 
 module _ (t : Tables) (up : AreInOrder t) (rows : AreGoodRows (operator_of t) t) where
   abbrev s : Operator
@@ -59,6 +60,12 @@ module _ (t : Tables) (up : AreInOrder t) (rows : AreGoodRows (operator_of t) t)
   type_fact id x found =
       let at = (types_table t up rows).found id x found in
       (some_is (IsGoodType s (below_of Types at.item)) (type_read at.item) (id, x) (rows Types at.item at.has) at.read_is).good
+
+  region_fact : (id : List ℕ) (x : RegionRow) → fin.get s.regions id ≡ Some x → IsRegionAt id x
+  region_fact id x found =
+      let at = (regions_table t up rows).found id x found in
+      let law = (region_reading.sound at.item (id, x) at.read_is).1 in
+      record { id_is = law.id_is; good = law.good }
 
   station_fact : (id : List ℕ) (x : Station) → fin.get s.stations id ≡ Some x → IsStationAt s id x
   station_fact id x found =
@@ -138,18 +145,22 @@ module _ (t : Tables) (up : AreInOrder t) (rows : AreGoodRows (operator_of t) t)
   catalogue_sound =
       let plans = few_in texts stored_plan (λ e. refl) (plan_in t.segments) t.plans s.plans (plans_table t up rows) in
       let types = few_in texts stored_type (λ e. refl) type_read t.types s.types (types_table t up rows) in
+      let regions = few_in texts stored_region (λ e. refl) region_read t.regions s.regions (regions_table t up rows) in
       let stations = few_in texts (stored_station s) (λ e. refl) station_in t.stations s.stations (stations_table t up rows) in
       let most_plans = within 1 t.plans MOST_PLANS (up Plans) (λ r has. (some_with (IsGoodPlan s (below_of Plans r)) (plan_read r) (rows Plans r has)).fact.room) in
       let most_types = within 1 t.types MOST_TYPES (up Types) (λ r has. (some_with (IsGoodType s (below_of Types r)) (type_read r) (rows Types r has)).fact.room) in
+      let most_regions = within 1 t.regions MOST_REGIONS (up Regions) (λ r has. (some_with (IsGoodRegion s (below_of Regions r)) (region_read r) (rows Regions r has)).fact.room) in
       let most_stations = within 1 t.stations MOST_STATIONS (up Stations) (λ r has. (some_with (IsGoodStation s (below_of Stations r)) (station_read r) (rows Stations r has)).fact.room) in
       record {
         system = (system_table t up rows).good;
         plans = λ id p found. (plan_read_off t up rows id p found).0;
         types = type_fact;
+        regions = region_fact;
         stations = station_fact;
         broken = broken_fact;
         few_plans = omega (arith, plans, most_plans);
         few_types = omega (arith, types, most_types);
+        few_regions = omega (arith, regions, most_regions);
         few_stations = omega (arith, stations, most_stations);
       }
 
@@ -351,6 +362,7 @@ module _ (t : Tables) (up : AreInOrder t) (rows : AreGoodRows (operator_of t) t)
         let plans = (plans_table t up rows).rows_are in
         let segments = segments_table t up rows in
         let types = (types_table t up rows).rows_are in
+        let regions = (regions_table t up rows).rows_are in
         let stations = (stations_table t up rows).rows_are in
         let dock_rows = (docks_table t up rows).rows_are in
         let bikes = (bikes_table t up rows).rows_are in
@@ -367,6 +379,7 @@ module _ (t : Tables) (up : AreInOrder t) (rows : AreGoodRows (operator_of t) t)
           plans = plans i;
           segments = segments i;
           types = types i;
+          regions = regions i;
           stations = stations i;
           docks = dock_rows i;
           bikes = bikes i;

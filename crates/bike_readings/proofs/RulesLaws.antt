@@ -15,7 +15,7 @@ use Rattle.bike_rows.specs.Stands.{rows_of}
 use Rattle.bike_rows.proofs.OrderLemmas.{Rises, rises}
 use Rattle.bike_rows.proofs.TreeLemmas.{by_key_total}
 use Rattle.bike_operator.specs.Operator.{Operator}
-use Rattle.bike_book.specs.Tables.{TableName, Tables, rows_in as rows_in_tables, tables_by, keys_of, table_place, Meta, System, Plans, Segments, Types, Stations, Docks, Bikes, Trucks, Riders, Rentals, Orders, Entries, Kept, Counts}
+use Rattle.bike_book.specs.Tables.{TableName, Tables, rows_in as rows_in_tables, tables_by, keys_of, table_place, Meta, System, Plans, Segments, Types, Regions, Stations, Docks, Bikes, Trucks, Riders, Rentals, Orders, Entries, Kept, Counts}
 use Rattle.bike_book.specs.Stored.{tables_for}
 use Rattle.sqlite_trees.specs.Tree.{Trees}
 use Rattle.bike_schema.specs.Layouts.{name_of}
@@ -57,16 +57,17 @@ table_at (suc zero) = System
 table_at (suc (suc zero)) = Plans
 table_at (suc (suc (suc zero))) = Segments
 table_at (suc (suc (suc (suc zero)))) = Types
-table_at (suc (suc (suc (suc (suc zero))))) = Stations
-table_at (suc (suc (suc (suc (suc (suc zero)))))) = Docks
-table_at (suc (suc (suc (suc (suc (suc (suc zero))))))) = Bikes
-table_at (suc (suc (suc (suc (suc (suc (suc (suc zero)))))))) = Trucks
-table_at (suc (suc (suc (suc (suc (suc (suc (suc (suc zero))))))))) = Riders
-table_at (suc (suc (suc (suc (suc (suc (suc (suc (suc (suc zero)))))))))) = Rentals
-table_at (suc (suc (suc (suc (suc (suc (suc (suc (suc (suc (suc zero))))))))))) = Orders
-table_at (suc (suc (suc (suc (suc (suc (suc (suc (suc (suc (suc (suc zero)))))))))))) = Entries
-table_at (suc (suc (suc (suc (suc (suc (suc (suc (suc (suc (suc (suc (suc zero))))))))))))) = Kept
-table_at (suc (suc (suc (suc (suc (suc (suc (suc (suc (suc (suc (suc (suc (suc n)))))))))))))) = Counts
+table_at (suc (suc (suc (suc (suc zero))))) = Regions
+table_at (suc (suc (suc (suc (suc (suc zero)))))) = Stations
+table_at (suc (suc (suc (suc (suc (suc (suc zero))))))) = Docks
+table_at (suc (suc (suc (suc (suc (suc (suc (suc zero)))))))) = Bikes
+table_at (suc (suc (suc (suc (suc (suc (suc (suc (suc zero))))))))) = Trucks
+table_at (suc (suc (suc (suc (suc (suc (suc (suc (suc (suc zero)))))))))) = Riders
+table_at (suc (suc (suc (suc (suc (suc (suc (suc (suc (suc (suc zero))))))))))) = Rentals
+table_at (suc (suc (suc (suc (suc (suc (suc (suc (suc (suc (suc (suc zero)))))))))))) = Orders
+table_at (suc (suc (suc (suc (suc (suc (suc (suc (suc (suc (suc (suc (suc zero))))))))))))) = Entries
+table_at (suc (suc (suc (suc (suc (suc (suc (suc (suc (suc (suc (suc (suc (suc zero)))))))))))))) = Kept
+table_at (suc (suc (suc (suc (suc (suc (suc (suc (suc (suc (suc (suc (suc (suc (suc n))))))))))))))) = Counts
 
 its_own : (name : TableName) → table_at (table_place name) ≡ name
 unfolding table_at
@@ -75,6 +76,7 @@ its_own System = refl
 its_own Plans = refl
 its_own Segments = refl
 its_own Types = refl
+its_own Regions = refl
 its_own Stations = refl
 its_own Docks = refl
 its_own Bikes = refl
@@ -121,6 +123,7 @@ rows_by rows System = refl
 rows_by rows Plans = refl
 rows_by rows Segments = refl
 rows_by rows Types = refl
+rows_by rows Regions = refl
 rows_by rows Stations = refl
 rows_by rows Docks = refl
 rows_by rows Bikes = refl

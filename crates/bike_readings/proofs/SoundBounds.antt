@@ -3,7 +3,7 @@ use Rattle.std.proofs.Common.{◌≡◌, ℕ, zero, suc, ◌+◌, ◌≤◌, Lis
 use Rattle.std.specs.FinMap as fin
 use Rattle.std.proofs.lemmas.List.{length-append}
 use Rattle.bike_fields.specs.Bytes.{is_ident}
-use Rattle.bike_catalogue.specs.Rows.{SegmentRow, PlanRow, TypeRow, SystemRow, IsSystem}
+use Rattle.bike_catalogue.specs.Rows.{SegmentRow, PlanRow, TypeRow, RegionRow, SystemRow, IsSystem}
 use Rattle.bike_ledger.specs.Entries.{Entry}
 use Rattle.bike_ledger.specs.declared.entry.EntryKind.{EntryKind}
 use Rattle.bike_ledger.specs.declared.entry.EntryKind.TheVariants.{TopUp, Fare, Refund}
@@ -18,13 +18,13 @@ use Rattle.bike_operator.specs.declared.records.Closing.{Closing}
 use Rattle.bike_operator.specs.declared.records.Order.{Order}
 use Rattle.bike_operator.specs.Operator.{Operator, Station, Truck, Rider, item_at, item_numbered}
 use Rattle.bike_operator.specs.Counts.{count, docks_up_to, docks_broken, available_of, is_broken}
-use Rattle.bike_operator.specs.View.{has_end}
-use Rattle.bike_operator.specs.Sound.{IsSetSystem, HasDock, IsPlace, IsStop as IsStopOf, IsOpenOrClosed, IsBooking, IsSound}
+use Rattle.bike_operator.specs.View.{has_end, has_region}
+use Rattle.bike_operator.specs.Sound.{IsSetSystem, HasDock, IsPlace, IsStop, IsOpenOrClosed, IsBooking, IsSound}
 use Rattle.bike_places.specs.Numbers.{disabled_of}
 use Rattle.bike_places.proofs.ItemLemmas.{number_within}
 use Rattle.bike_book.specs.declared.version.TheConstants.{NEWEST}
 use Rattle.bike_readings.specs.SoundRows.{HasBounds}
-use Rattle.bike_readings.specs.Bounds.{IsNumbered, IsSerial, IsCount, IsMoment, IsStop, IsStoredMeta, IsStoredPlan, IsStoredSegment, IsStoredType, IsStoredStation, IsStoredDock, IsStoredPlace, IsStoredBike, IsStoredTruck, IsOpenOrStored, IsStoredRental, IsStoredOrder, IsStoredRentalOf, IsStoredAmount, IsStoredEntry, IsStoredCount}
+use Rattle.bike_readings.specs.Bounds.{IsNumbered, IsSerial, IsCount, IsMoment, IsIdentOrNone, IsStoredMeta, IsStoredPlan, IsStoredSegment, IsStoredType, IsStoredRegion, IsStoredStation, IsStoredDock, IsStoredPlace, IsStoredBike, IsStoredTruck, IsOpenOrStored, IsStoredRental, IsStoredOrder, IsStoredRentalOf, IsStoredAmount, IsStoredEntry, IsStoredCount}
 
 -- ---- what is there
 
@@ -58,6 +58,9 @@ module _ (s : Operator) (sound : IsSound s) where
 
   plan_ident : (id : List ℕ) → fin.contains_key s.plans id ≡ true → is_ident id ≡ true
   plan_ident id there = some_there (fin.get s.plans id) there (λ p found. let it = sound.catalogue.plans id p found in ap is_ident it.id_is ∙ it.good.plan_id)
+
+  region_ident : (id : List ℕ) → fin.contains_key s.regions id ≡ true → is_ident id ≡ true
+  region_ident id there = some_there (fin.get s.regions id) there (λ r found. let it = sound.catalogue.regions id r found in ap is_ident it.id_is ∙ it.good.region_id)
 
   station_ident : (id : List ℕ) → fin.contains_key s.stations id ≡ true → is_ident id ≡ true
   station_ident id there = some_there (fin.get s.stations id) there (λ x found. let it = sound.catalogue.stations id x found in ap is_ident it.id_is ∙ it.good.station_id)
@@ -132,13 +135,21 @@ module _ (s : Operator) (sound : IsSound s) where
   pub type_stored : (id : List ℕ) (t : TypeRow) → fin.get s.types id ≡ Some t → IsStoredType id t
   type_stored id t found = let it = sound.catalogue.types id t found in record { id_is = it.id_is; good = it.good }
 
+  pub region_stored : (id : List ℕ) (r : RegionRow) → fin.get s.regions id ≡ Some r → IsStoredRegion id r
+  region_stored id r found = let it = sound.catalogue.regions id r found in record { id_is = it.id_is; good = it.good }
+
+  -- the region in which a station stands
+  named_region : (name : Option (List ℕ)) → has_region s name ≡ true → IsIdentOrNone name
+  named_region None there = tt
+  named_region (Some region) there = region_ident region there
+
   pub station_stored : (id : List ℕ) (x : Station) → fin.get s.stations id ≡ Some x → IsStoredStation id x (docks_broken s id x.row.docks)
   station_stored id x found =
       let it = sound.catalogue.stations id x found in
       let few = it.good.few_docks in
       let all = docks_length x.row.docks in
       let broken = filtered_within (λ n. is_broken s id n) (docks_up_to x.row.docks) in
-      record { id_is = it.id_is; good = it.good; reported = by_now x.reported it.by_now; good_broken = omega (arith, few, all, broken) }
+      record { id_is = it.id_is; good = it.good; reported = by_now x.reported it.by_now; good_broken = omega (arith, few, all, broken); region = named_region x.region it.region }
 
   carried : (truck order : ℕ) (row : Order) → item_numbered order s.orders ≡ Some row → row.truck ≡ truck → IsNumbered truck × IsSerial order
   carried truck order row found is =
@@ -163,7 +174,7 @@ module _ (s : Operator) (sound : IsSound s) where
   pub rider_stored : (number : ℕ) (r : Rider) → fin.get s.riders number ≡ Some r → IsNumbered number
   rider_stored number r found = let it = sound.ledger.riders number r found in (it.low, it.high)
 
-  stop_stored : (to : Option (List ℕ)) → IsStopOf s to → IsStop to
+  stop_stored : (to : Option (List ℕ)) → IsStop s to → IsIdentOrNone to
   stop_stored None stop = tt
   stop_stored (Some station) stop = station_ident station stop
 
@@ -246,6 +257,7 @@ has_bounds s sound = record {
   plans = plan_stored s sound;
   segments = segment_stored s sound;
   types = type_stored s sound;
+  regions = region_stored s sound;
   stations = station_stored s sound;
   docks = dock_stored s sound;
   bikes = bike_stored s sound;

@@ -11,16 +11,16 @@ use Rattle.bike_operator.specs.declared.records.Bike.{Bike}
 use Rattle.bike_operator.specs.declared.records.Rental.{Rental}
 use Rattle.bike_operator.specs.Operator.{Operator, Key, DockKey, dock_key, key_of, item_at}
 use Rattle.bike_operator.specs.Sound.{IsPlanAt}
-use Rattle.bike_book.specs.Tables.{Tables, System, Plans, Segments, Types, Stations, Docks, Bikes, Trucks, Riders, Rentals, Orders, Entries, Kept, Counts, TableName, keys_of}
-use Rattle.bike_book.specs.Stored.{plans_segments, stored_plan, stored_type, stored_station, stored_dock, stored_bike, stored_truck, stored_rider, stored_rental, stored_order, stored_entry, stored_kept, stored_count}
+use Rattle.bike_book.specs.Tables.{Tables, System, Plans, Segments, Types, Regions, Stations, Docks, Bikes, Trucks, Riders, Rentals, Orders, Entries, Kept, Counts, TableName, keys_of}
+use Rattle.bike_book.specs.Stored.{plans_segments, stored_plan, stored_type, stored_region, stored_station, stored_dock, stored_bike, stored_truck, stored_rider, stored_rental, stored_order, stored_entry, stored_kept, stored_count}
 use Rattle.bike_book.proofs.Keys.{numbers, texts, pairs, docks, IsPair, IsDockPair}
-use Rattle.bike_readings.specs.Readings.{plan_read, segment_read, type_read, dock_read, truck_read, rental_read, order_read, entry_read, kept_read, count_read}
-use Rattle.bike_readings.proofs.CatalogueRows.{plan_reading, segment_reading, type_reading, station_reading, dock_reading}
+use Rattle.bike_readings.specs.Readings.{plan_read, segment_read, type_read, region_read, dock_read, truck_read, rental_read, order_read, entry_read, kept_read, count_read}
+use Rattle.bike_readings.proofs.CatalogueRows.{plan_reading, segment_reading, type_reading, region_reading, station_reading, dock_reading}
 use Rattle.bike_readings.proofs.LedgerRows.{count_reading, rider_reading, rental_reading, entry_reading}
 use Rattle.bike_readings.proofs.FleetRows.{bike_reading, truck_reading, order_reading}
 use Rattle.bike_readings.proofs.KeptRows.{kept_reading}
 use Rattle.bike_readings.specs.ReadOff.{with_segments, plan_in, station_in, rider_in, rental_in, entry_in, dock_in, count_in, segments_of, most_segments, operator_of, listed_of, first_of, misplaced_bike, bike_in}
-use Rattle.bike_readings.specs.Demands.{IsGoodPlan, IsGoodSegment, IsGoodType, IsGoodStation, IsGoodDock, IsGoodBike, IsGoodTruck, IsGoodRider, IsGoodRental, IsGoodOrder, IsGoodEntry, IsGoodKept, IsGoodCount}
+use Rattle.bike_readings.specs.Demands.{IsGoodPlan, IsGoodSegment, IsGoodType, IsGoodRegion, IsGoodStation, IsGoodDock, IsGoodBike, IsGoodTruck, IsGoodRider, IsGoodRental, IsGoodOrder, IsGoodEntry, IsGoodKept, IsGoodCount}
 use Rattle.bike_readings.specs.Rules.{AreInOrder, rows_below}
 use Rattle.bike_readings.proofs.ReadLists.{IsStored, AreRowsOf, read_map}
 use Rattle.bike_readings.proofs.Segments.{IsOfPlan, segments_are, item_found, segment_found, few_found}
@@ -87,6 +87,10 @@ module _ (t : Tables) (up : AreInOrder t) (rows : AreGoodRows (operator_of t) t)
   pub types_table : AreRowsOf texts stored_type (λ e. refl) type_read t.types s.types
   types_table =
       read_map texts stored_type (λ e. refl) type_read t.types (up Types) (λ r has. stored_plain type_reading (IsGoodType s (below_of Types r)) r (rows Types r has)) (λ r e has is. tt)
+
+  pub regions_table : AreRowsOf texts stored_region (λ e. refl) region_read t.regions s.regions
+  regions_table =
+      read_map texts stored_region (λ e. refl) region_read t.regions (up Regions) (λ r has. stored_plain region_reading (IsGoodRegion s (below_of Regions r)) r (rows Regions r has)) (λ r e has is. tt)
 
   pub stations_table : AreRowsOf texts (stored_station s) (λ e. refl) station_in t.stations s.stations
   stations_table =

@@ -26,7 +26,7 @@ use Rattle.bike_catalogue.specs.Vehicle.{form_text, propulsion_text}
 use Rattle.bike_texts.specs.declared.ends.OrderEnd.TheVariants as end
 use Rattle.bike_texts.specs.declared.ends.Side.{Side}
 use Rattle.bike_texts.specs.declared.ends.Side.TheVariants.{From, To}
-use Rattle.bike_texts.specs.Fields.{Field, Number, Signed, Fixed, Id, Language, Currency, Name, Ascii, Degrees, Metres, Segments, End, AreSegments, IsGood, AreGood, escapes_of, segment_text, segment_end_text, segments_text, field_text, fields_text, side_text}
+use Rattle.bike_texts.specs.Fields.{Field, Number, Signed, Fixed, Id, Language, Currency, Name, Ascii, Degrees, Metres, Segments, End, IdOrNone, AreSegments, IsGood, AreGood, escapes_of, segment_text, segment_end_text, segments_text, field_text, fields_text, side_text}
 use Rattle.bike_commands.specs.declared.command.Command.{Command}
 use Rattle.bike_commands.specs.declared.command.Command.TheVariants as command
 use Rattle.bike_commands.specs.Commands.{word_of, fields_of, IsCommand, text_of}
@@ -194,6 +194,10 @@ choice_word word other w o false = o
 flag_word : (b : Bool) → Printable (cond b (codes "true") (codes "false"))
 flag_word = choice_word (codes "true") (codes "false") refl refl
 
+region_word : (region : Option (List ℕ)) → IsWord (IdOrNone region)
+region_word None = refl
+region_word (Some id) = tt
+
 command_words : (c : Command) → AreWords (fields_of c)
 command_words (command.SetSystem s) = (tt, (tt, (tt, (tt, (tt, (tt, (tt, (tt, (tt, tt)))))))))
 command_words (command.AddPlan p) = (tt, (tt, (tt, (flag_word p.taxable, (tt, (tt, tt))))))
@@ -217,6 +221,8 @@ command_words (command.OpenOrder truck from_end to_end type_id count) = (tt, (tt
 command_words (command.Load truck order bike) = (tt, (tt, (tt, tt)))
 command_words (command.Unload truck order bike side dock) = (tt, (tt, (tt, (side_word side, (tt, tt)))))
 command_words (command.CloseOrder order) = (tt, tt)
+command_words (command.AddRegion r) = (tt, (tt, tt))
+command_words (command.SetRegion station region) = (tt, (region_word region, tt))
 
 word_printable : (c : Command) → Printable (word_of c)
 word_printable (command.SetSystem s) = refl
@@ -241,6 +247,8 @@ word_printable (command.OpenOrder truck from_end to_end type_id count) = refl
 word_printable (command.Load truck order bike) = refl
 word_printable (command.Unload truck order bike side dock) = refl
 word_printable (command.CloseOrder order) = refl
+word_printable (command.AddRegion r) = refl
+word_printable (command.SetRegion station region) = refl
 
 pub command_utf8 : (c : Command) → IsCommand c → is_utf8 (text_of c) ≡ true
 command_utf8 c g =

@@ -1,7 +1,7 @@
 -- Readings are exact: what is read of a row is that of which the row is made, within its bounds, and each record within its bounds is read of its row.
 use Rattle.std.specs.Prelude.{◌≡◌, ℕ, ℤ, List, [], Bool, Option, Some}
 use Rattle.sqlite_value.specs.Order.{Row}
-use Rattle.bike_catalogue.specs.Rows.{SegmentRow, PlanRow, TypeRow, IsSystem}
+use Rattle.bike_catalogue.specs.Rows.{SegmentRow, PlanRow, TypeRow, RegionRow, IsSystem}
 use Rattle.bike_commands.specs.Commands.{text_of}
 use Rattle.bike_commands.specs.Replies.{reply_text}
 use Rattle.bike_ledger.specs.Entries.{Entry}
@@ -10,9 +10,9 @@ use Rattle.bike_operator.specs.declared.records.Rental.{Rental}
 use Rattle.bike_operator.specs.declared.records.Order.{Order}
 use Rattle.bike_operator.specs.Operator.{Station, Truck, Rider, Key, Kept}
 use Rattle.bike_operator.specs.Sound.{IsKept}
-use Rattle.bike_book.specs.Rows.{meta_row, system_row, plan_row, segment_row, type_row, station_row, dock_row, bike_row, truck_row, rider_row, rental_row, order_row, entry_row, kept_row, count_row, first_text, second_text}
-use Rattle.bike_readings.specs.Readings.{meta_read, system_read, plan_read, segment_read, type_read, station_read, dock_read, bike_read, truck_read, rider_read, rental_read, order_read, entry_read, kept_read, count_read}
-use Rattle.bike_readings.specs.Bounds.{IsNumbered, IsStoredMeta, IsStoredPlan, IsStoredSegment, IsStoredType, IsStoredStation, IsStoredDock, IsStoredBike, IsStoredTruck, IsStoredRental, IsStoredOrder, IsStoredEntry, IsStoredCount}
+use Rattle.bike_book.specs.Rows.{meta_row, system_row, plan_row, segment_row, type_row, region_row, station_row, dock_row, bike_row, truck_row, rider_row, rental_row, order_row, entry_row, kept_row, count_row, first_text, second_text}
+use Rattle.bike_readings.specs.Readings.{meta_read, system_read, plan_read, segment_read, type_read, region_read, station_read, dock_read, bike_read, truck_read, rider_read, rental_read, order_read, entry_read, kept_read, count_read}
+use Rattle.bike_readings.specs.Bounds.{IsNumbered, IsStoredMeta, IsStoredPlan, IsStoredSegment, IsStoredType, IsStoredRegion, IsStoredStation, IsStoredDock, IsStoredBike, IsStoredTruck, IsStoredRental, IsStoredOrder, IsStoredEntry, IsStoredCount}
 
 -- The reader gives exactly the values within their bounds of which rows are made.
 pub record IsReading {X : Type 0} (read : Row → Option X) (row_of : X → Row) (Good : X → Type 0) : Type 0 where
@@ -34,6 +34,9 @@ SegmentReading = IsReading segment_read (λ (x : List ℕ × ℕ × SegmentRow).
 
 abbrev pub TypeReading : Type 0
 TypeReading = IsReading type_read (λ (x : List ℕ × TypeRow). type_row x.0 x.1) (λ x. IsStoredType x.0 x.1)
+
+abbrev pub RegionReading : Type 0
+RegionReading = IsReading region_read (λ (x : List ℕ × RegionRow). region_row x.0 x.1) (λ x. IsStoredRegion x.0 x.1)
 
 abbrev pub StationReading : Type 0
 StationReading = IsReading station_read (λ (x : List ℕ × Station × ℤ × ℕ). station_row x.0 x.1 x.2 x.3) (λ x. IsStoredStation x.0 x.1 x.3)

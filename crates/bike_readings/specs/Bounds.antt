@@ -3,7 +3,7 @@ use Rattle.std.specs.Prelude.{◌≡◌, ℕ, ℤ, pos, ◌≤◌, ◌≤ℤ◌,
 use Rattle.bike_fixed.specs.Whole.{last_moment}
 use Rattle.bike_fields.specs.declared.numbers.TheConstants.{GREATEST_NUMBER, GREATEST_SERIAL, MOST_CARRIED, MOST_DOCKS}
 use Rattle.bike_fields.specs.Bytes.{is_ident}
-use Rattle.bike_catalogue.specs.Rows.{SegmentRow, PlanRow, TypeRow, IsSegment, IsPlan, IsType, IsStation}
+use Rattle.bike_catalogue.specs.Rows.{SegmentRow, PlanRow, TypeRow, RegionRow, IsSegment, IsPlan, IsType, IsStation, IsRegion}
 use Rattle.bike_ledger.specs.Entries.{Entry, greatest_amount}
 use Rattle.bike_ledger.specs.declared.entry.EntryKind.{EntryKind}
 use Rattle.bike_ledger.specs.declared.entry.EntryKind.TheVariants.{TopUp, Fare, Refund}
@@ -42,6 +42,13 @@ IsMoment n = n ≤ last_moment
 abbrev pub IsFare : ℤ → Type 0
 IsFare z = (pos 0 ≤ℤ z) × (z ≤ℤ greatest_amount)
 
+-- ---- names
+
+-- the region of a station; the station at which a rental ended
+abbrev pub IsIdentOrNone : Option (List ℕ) → Type 0
+IsIdentOrNone None = Unit {0}
+IsIdentOrNone (Some id) = is_ident id ≡ true
+
 -- ---- records
 
 pub record IsStoredMeta (version now : ℕ) : Type 0 where
@@ -61,11 +68,16 @@ pub record IsStoredType (id : List ℕ) (t : TypeRow) : Type 0 where
   pub id_is : id ≡ t.type_id
   pub good : IsType t
 
+pub record IsStoredRegion (id : List ℕ) (r : RegionRow) : Type 0 where
+  pub id_is : id ≡ r.region_id
+  pub good : IsRegion r
+
 pub record IsStoredStation (id : List ℕ) (x : Station) (broken : ℕ) : Type 0 where
   pub id_is : id ≡ x.row.station_id
   pub good : IsStation x.row
   pub reported : IsMoment x.reported
   pub good_broken : IsCount broken
+  pub region : IsIdentOrNone x.region
 
 pub record IsStoredDock (station : List ℕ) (dock : ℕ) : Type 0 where
   pub good_station : is_ident station ≡ true
@@ -86,12 +98,8 @@ pub record IsStoredTruck (number : ℕ) (t : Truck) : Type 0 where
   pub good_number : IsNumbered number
   pub capacity : IsWithin 1 MOST_CARRIED t.capacity
 
-abbrev pub IsStop : Option (List ℕ) → Type 0
-IsStop None = Unit {0}
-IsStop (Some station) = is_ident station ≡ true
-
 pub record IsStoredClosing (c : Closing) : Type 0 where
-  pub to_station : IsStop c.to_station
+  pub to_station : IsIdentOrNone c.to_station
   pub finish : IsMoment c.finish
   pub fare : IsFare c.fare
 

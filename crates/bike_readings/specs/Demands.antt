@@ -19,12 +19,12 @@
 use Rattle.std.specs.Prelude.{◌≡◌, ℕ, ℤ, ◌+◌, ◌<◌, ◌≤◌, ◌≤ℤ◌, pos, List, Bool, true, length, Option, Some, None}
 use Rattle.std.specs.FinMap as fin
 use Rattle.bike_fields.specs.declared.numbers.TheConstants.{GREATEST_NUMBER}
-use Rattle.bike_catalogue.specs.Rows.{SegmentRow, PlanRow, TypeRow}
+use Rattle.bike_catalogue.specs.Rows.{SegmentRow, PlanRow, TypeRow, RegionRow}
 use Rattle.bike_ledger.specs.Entries.{Entry}
 use Rattle.bike_ledger.specs.declared.entry.EntryKind.{EntryKind}
 use Rattle.bike_ledger.specs.declared.entry.EntryKind.TheVariants.{TopUp, Fare, Refund}
 use Rattle.bike_ledger.specs.Ledger.{balance_of, cash_of, revenue_of, refunded_of}
-use Rattle.bike_operator.specs.declared.limits.TheConstants.{MOST_PLANS, MOST_TYPES, MOST_STATIONS, MOST_BIKES, MOST_TRUCKS, MOST_RIDERS, MOST_ORDERS, MOST_ENTRIES}
+use Rattle.bike_operator.specs.declared.limits.TheConstants.{MOST_PLANS, MOST_TYPES, MOST_REGIONS, MOST_STATIONS, MOST_BIKES, MOST_TRUCKS, MOST_RIDERS, MOST_ORDERS, MOST_ENTRIES}
 use Rattle.bike_operator.specs.declared.records.Place.{Place}
 use Rattle.bike_operator.specs.declared.records.Place.TheVariants as place
 use Rattle.bike_operator.specs.declared.records.Bike.{Bike}
@@ -130,6 +130,9 @@ module _ (s : Operator) (below : ℕ) where
   pub record IsGoodType (e : List ℕ × TypeRow) : Type 0 where
     pub room : below < MOST_TYPES
     pub good : IsTypeAt s e.0 e.1
+
+  pub record IsGoodRegion (e : List ℕ × RegionRow) : Type 0 where
+    pub room : below < MOST_REGIONS
 
   pub record IsGoodStation (e : List ℕ × Station × ℤ × ℕ) : Type 0 where
     pub room : below < MOST_STATIONS

@@ -21,7 +21,7 @@ use Rattle.bike_book.specs.Rows.{number_value}
 use Rattle.bike_book.specs.Stored.{Listed}
 use Rattle.bike_schema.specs.Columns.{ident_in, state_in}
 use Rattle.bike_readings.specs.ColumnReaders.{where_wide, numbered_in, in_dock, in_rental, on_truck}
-use Rattle.bike_readings.specs.Readings.{meta_read, system_read, plan_read, segment_read, type_read, station_read, dock_read, bike_read, truck_read, rider_read, rental_read, order_read, entry_read, kept_read, count_read}
+use Rattle.bike_readings.specs.Readings.{meta_read, system_read, plan_read, segment_read, type_read, region_read, station_read, dock_read, bike_read, truck_read, rider_read, rental_read, order_read, entry_read, kept_read, count_read}
 
 abbrev pub first : {A : Type 0} → List A → Option A
 first [] = None
@@ -129,6 +129,7 @@ operator_of t = record {
   system = first (filter_map system_read t.system);
   plans = fin.from_sorted (filter_map (plan_in t.segments) t.plans);
   types = fin.from_sorted (filter_map type_read t.types);
+  regions = fin.from_sorted (filter_map region_read t.regions);
   stations = fin.from_sorted (filter_map station_in t.stations);
   broken = set.from_list (filter_map broken_in t.docks);
   bikes = fin.from_sorted (filter_map bike_in t.bikes);

@@ -5,7 +5,7 @@ use Rattle.sqlite_value.specs.Order.{Row, column}
 use Rattle.bike_fields.specs.declared.numbers.TheConstants.{GREATEST_PRICE, GREATEST_RANGE, LAST_MINUTE, LONGEST_TIME_TO_LIVE, MOST_CARRIED}
 use Rattle.bike_catalogue.specs.declared.limits.TheConstants.{MOST_SEGMENTS}
 use Rattle.bike_fields.specs.Caller.{◌>>=◌, caller_text}
-use Rattle.bike_catalogue.specs.Rows.{SegmentRow, PlanRow, TypeRow, SystemRow, is_range, is_after}
+use Rattle.bike_catalogue.specs.Rows.{SegmentRow, PlanRow, TypeRow, RegionRow, SystemRow, is_range, is_after}
 use Rattle.bike_ledger.specs.Entries.{Entry}
 use Rattle.bike_operator.specs.declared.records.Bike.{Bike}
 use Rattle.bike_operator.specs.declared.records.Rental.{Rental}
@@ -70,9 +70,15 @@ type_read row = where_wide 6 row (do
   plan_id ← ident_in (column row 5)
   if is_range propulsion max_range then Some (type_id, record { type_id = type_id; name = name; form = form; propulsion = propulsion; max_range = max_range; plan_id = plan_id }) else None)
 
+abbrev pub region_read : Row → Option (List ℕ × RegionRow)
+region_read row = where_wide 2 row (do
+  region_id ← ident_in (column row 0)
+  name ← name_in (column row 1)
+  Some (region_id, record { region_id = region_id; name = name }))
+
 -- with its numbers of docks that are available and that are broken
 abbrev pub station_read : Row → Option (List ℕ × Station × ℤ × ℕ)
-station_read row = where_wide 11 row (do
+station_read row = where_wide 12 row (do
   station_id ← ident_in (column row 0)
   name ← name_in (column row 1)
   lat ← latitude_in (column row 2)
@@ -84,6 +90,7 @@ station_read row = where_wide 11 row (do
   reported ← moment_in (column row 8)
   free ← whole_in (column row 9)
   broken ← count_in (column row 10)
+  region ← or_none ident_in (column row 11)
   Some (
     station_id,
     record {
@@ -92,6 +99,7 @@ station_read row = where_wide 11 row (do
       is_renting = renting;
       is_returning = returning;
       reported = reported;
+      region = region;
     },
     free,
     broken,

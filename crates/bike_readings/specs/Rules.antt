@@ -10,12 +10,12 @@ use Rattle.bike_operator.specs.Operator.{Operator}
 use Rattle.bike_operator.specs.Counts.{count, available_of}
 use Rattle.bike_operator.specs.Sound.{IsSound}
 use Rattle.bike_places.specs.Numbers.{disabled_of}
-use Rattle.bike_book.specs.Tables.{TableName, Tables, rows_in, keys_of, table_place, Meta, System, Plans, Segments, Types, Stations, Docks, Bikes, Trucks, Riders, Rentals, Orders, Entries, Kept, Counts}
+use Rattle.bike_book.specs.Tables.{TableName, Tables, rows_in, keys_of, table_place, Meta, System, Plans, Segments, Types, Regions, Stations, Docks, Bikes, Trucks, Riders, Rentals, Orders, Entries, Kept, Counts}
 use Rattle.bike_book.specs.Rows.{number_value}
 use Rattle.bike_book.specs.Stored.{Listed, IsListing, tables_for}
-use Rattle.bike_readings.specs.Readings.{meta_read, system_read, plan_read, segment_read, type_read, station_read, dock_read, bike_read, truck_read, rider_read, rental_read, order_read, entry_read, kept_read, count_read}
+use Rattle.bike_readings.specs.Readings.{meta_read, system_read, plan_read, segment_read, type_read, region_read, station_read, dock_read, bike_read, truck_read, rider_read, rental_read, order_read, entry_read, kept_read, count_read}
 use Rattle.bike_readings.specs.ReadOff.{operator_of}
-use Rattle.bike_readings.specs.Demands.{IsGoodMeta, IsGoodPlan, IsGoodSegment, IsGoodType, IsGoodStation, IsGoodDock, IsGoodBike, IsGoodTruck, IsGoodRider, IsGoodRental, IsGoodOrder, IsGoodEntry, IsGoodKept, IsGoodCount}
+use Rattle.bike_readings.specs.Demands.{IsGoodMeta, IsGoodPlan, IsGoodSegment, IsGoodType, IsGoodRegion, IsGoodStation, IsGoodDock, IsGoodBike, IsGoodTruck, IsGoodRider, IsGoodRental, IsGoodOrder, IsGoodEntry, IsGoodKept, IsGoodCount}
 
 -- ---- tables
 
@@ -39,6 +39,7 @@ IsGoodRow t s below System row = IsSomeAnd (system_read row) (λ x. Unit {0})
 IsGoodRow t s below Plans row = IsSomeAnd (plan_read row) (IsGoodPlan s below)
 IsGoodRow t s below Segments row = IsSomeAnd (segment_read row) (IsGoodSegment s below)
 IsGoodRow t s below Types row = IsSomeAnd (type_read row) (IsGoodType s below)
+IsGoodRow t s below Regions row = IsSomeAnd (region_read row) (IsGoodRegion s below)
 IsGoodRow t s below Stations row = IsSomeAnd (station_read row) (IsGoodStation s below)
 IsGoodRow t s below Docks row = IsSomeAnd (dock_read row) (IsGoodDock s below)
 IsGoodRow t s below Bikes row = IsSomeAnd (bike_read row) (IsGoodBike t s below)

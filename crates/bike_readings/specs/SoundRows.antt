@@ -1,7 +1,7 @@
 -- Which bounds the records of a sound operator keep as rows.
 use Rattle.std.specs.Prelude.{◌≡◌, ℕ, ◌+◌, List, true, Some}
 use Rattle.std.specs.FinMap as fin
-use Rattle.bike_catalogue.specs.Rows.{SegmentRow, PlanRow, TypeRow, SystemRow, IsSystem}
+use Rattle.bike_catalogue.specs.Rows.{SegmentRow, PlanRow, TypeRow, RegionRow, SystemRow, IsSystem}
 use Rattle.bike_ledger.specs.Entries.{Entry}
 use Rattle.bike_operator.specs.declared.records.Bike.{Bike}
 use Rattle.bike_operator.specs.declared.records.Rental.{Rental}
@@ -11,7 +11,7 @@ use Rattle.bike_operator.specs.Counts.{docks_broken, available_of}
 use Rattle.bike_operator.specs.Sound.{HasDock}
 use Rattle.bike_places.specs.Numbers.{disabled_of}
 use Rattle.bike_book.specs.declared.version.TheConstants.{NEWEST}
-use Rattle.bike_readings.specs.Bounds.{IsNumbered, IsStoredMeta, IsStoredPlan, IsStoredSegment, IsStoredType, IsStoredStation, IsStoredDock, IsStoredBike, IsStoredTruck, IsStoredRental, IsStoredOrder, IsStoredEntry, IsStoredCount}
+use Rattle.bike_readings.specs.Bounds.{IsNumbered, IsStoredMeta, IsStoredPlan, IsStoredSegment, IsStoredType, IsStoredRegion, IsStoredStation, IsStoredDock, IsStoredBike, IsStoredTruck, IsStoredRental, IsStoredOrder, IsStoredEntry, IsStoredCount}
 
 -- Each record keeps the bounds of its row. The segment at position n of its plan, from 0, has the number n + 1.
 pub record HasBounds (s : Operator) : Type 0 where
@@ -20,6 +20,7 @@ pub record HasBounds (s : Operator) : Type 0 where
   pub plans : (id : List ℕ) (p : PlanRow) → fin.get s.plans id ≡ Some p → IsStoredPlan id p
   pub segments : (id : List ℕ) (p : PlanRow) → fin.get s.plans id ≡ Some p → (n : ℕ) (g : SegmentRow) → item_at n p.segments ≡ Some g → IsStoredSegment id (n + 1) g
   pub types : (id : List ℕ) (t : TypeRow) → fin.get s.types id ≡ Some t → IsStoredType id t
+  pub regions : (id : List ℕ) (r : RegionRow) → fin.get s.regions id ≡ Some r → IsStoredRegion id r
   pub stations : (id : List ℕ) (x : Station) → fin.get s.stations id ≡ Some x → IsStoredStation id x (docks_broken s id x.row.docks)
   pub docks : (station : List ℕ) (dock : ℕ) → HasDock s station dock → IsStoredDock station dock
   pub bikes : (number : ℕ) (b : Bike) → fin.get s.bikes number ≡ Some b → IsStoredBike number b

@@ -1,7 +1,7 @@
 -- What the functions answer, as the records that rows spell.
 use Rattle.std.specs.Prelude.{ℕ, ℤ, List, [], Bool, option_map}
 use Rattle.bike_fields.specs.Caller.{caller_text}
-use Rattle.bike_catalogue.specs.Rows.{SegmentRow, PlanRow, TypeRow, SystemRow}
+use Rattle.bike_catalogue.specs.Rows.{SegmentRow, PlanRow, TypeRow, RegionRow, SystemRow}
 use Rattle.bike_ledger.specs.Entries.{Entry}
 use Rattle.bike_texts.specs.declared.ends.OrderEnd.{OrderEnd}
 use Rattle.bike_texts.specs.declared.ends.OrderEnd.TheVariants as end
@@ -17,6 +17,7 @@ use Rattle.bike_readings.specs.declared.catalogue.StoredSystem.{StoredSystem}
 use Rattle.bike_readings.specs.declared.catalogue.StoredPlan.{StoredPlan}
 use Rattle.bike_readings.specs.declared.catalogue.StoredSegment.{StoredSegment}
 use Rattle.bike_readings.specs.declared.catalogue.StoredType.{StoredType}
+use Rattle.bike_readings.specs.declared.network.StoredRegion.{StoredRegion}
 use Rattle.bike_readings.specs.declared.network.StoredStation.{StoredStation}
 use Rattle.bike_readings.specs.declared.network.StoredDock.{StoredDock}
 use Rattle.bike_readings.specs.declared.network.StoredCounts.{StoredCounts}
@@ -59,6 +60,9 @@ segment_of x = (x.plan_id.now, x.seq, record { start = x.start; rate = x.rate; i
 abbrev pub type_of : StoredType → List ℕ × TypeRow
 type_of x = (x.type_id.now, record { type_id = x.type_id.now; name = x.name.now; form = x.form; propulsion = x.propulsion; max_range = x.max_range; plan_id = x.plan_id.now })
 
+abbrev pub region_of : StoredRegion → List ℕ × RegionRow
+region_of x = (x.region_id.now, record { region_id = x.region_id.now; name = x.name.now })
+
 abbrev pub station_of : StoredStation → List ℕ × Station × ℤ × ℕ
 station_of x = (
   x.station_id.now,
@@ -68,6 +72,7 @@ station_of x = (
     is_renting = x.is_renting;
     is_returning = x.is_returning;
     reported = x.reported;
+    region = option_map (λ text. text.now) x.region;
   },
   x.free,
   x.broken,

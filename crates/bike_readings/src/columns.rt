@@ -132,6 +132,17 @@ pub(crate) fn ident_in<'a>(part: &Part<'a>, at: usize) -> Option<&'a str>
     None
 }
 
+/// The identifier, or `Some(None)` where the column is NULL.
+pub(crate) fn ident_or_none_in<'a>(part: &Part<'a>, at: usize) -> Option<Option<&'a str>>
+    ensures { option_map (option_map (λ text. text.now)) result ≡ or_none ident_in (column part.now at) }
+{
+    if is_null_at(part, at) {
+        return Some(None);
+    }
+    let id = ident_in(part, at)?;
+    Some(Some(id))
+}
+
 /// The name.
 #[tactic(auto, unfolding(bike_fields::specs::Bytes::name_of))]
 pub(crate) fn name_in<'a>(part: &Part<'a>, at: usize) -> Option<&'a str>

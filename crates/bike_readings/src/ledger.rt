@@ -2,13 +2,13 @@
 
 ghost use Rattle.std.specs.Prelude.{◌≡◌, option_map};
 ghost use Rattle.sqlite_value.specs.Order.{column};
-ghost use Rattle.bike_schema.specs.Columns.{ident_in, or_none};
 ghost use Rattle.bike_readings.specs.ColumnReaders.{closing_in, closed_in, rental_in, amount_in};
 ghost use Rattle.bike_readings.specs.Readings.{rider_read, rental_read, entry_read};
 ghost use Rattle.bike_readings.specs.Views.{rider_of, closing_of, rental_of, entry_of};
 
 use crate::columns::{
-    cents_in, flag_in, ident_in, is_null_at, kind_in, moment_in, number_in, signed_in,
+    cents_in, flag_in, ident_in, ident_or_none_in, is_null_at, kind_in, moment_in, number_in,
+    signed_in,
 };
 use crate::part::Part;
 use bike_fields::{BicycleNumber, GREATEST_PAYMENT, RentalNumber, RiderNumber};
@@ -79,23 +79,12 @@ pub fn read_rider(part: Part<'_>) -> Option<StoredRider>
     })
 }
 
-/// The station at which a rental ended, or `Some(None)` where there is none.
-fn stop_in<'a>(part: &Part<'a>) -> Option<Option<&'a str>>
-    ensures { option_map (option_map (λ text. text.now)) result ≡ or_none ident_in (column part.now 6) }
-{
-    if is_null_at(part, 6) {
-        return Some(None);
-    }
-    let station = ident_in(part, 6)?;
-    Some(Some(station))
-}
-
 /// How a closed rental was closed.
 fn closed_in<'a>(part: &Part<'a>) -> Option<Option<StoredClosing<'a>>>
     ensures { option_map (option_map closing_of) result
         ≡ closed_in (column part.now 6) (column part.now 7) (column part.now 8) }
 {
-    let to_station = stop_in(part)?;
+    let to_station = ident_or_none_in(part, 6)?;
     let finish = moment_in(part, 7)?;
     let fare = signed_in(part, 8, 0, GREATEST_FARE)?;
     Some(Some(StoredClosing {

@@ -33,6 +33,9 @@ pub use laws::{keeps_bounds, reads_both_ways};
 pub use ledger::{
     StoredClosing, StoredEntry, StoredRental, StoredRider, read_entry, read_rental, read_rider,
 };
-pub use network::{StoredCounts, StoredDock, StoredStation, read_counts, read_dock, read_station};
+pub use network::{
+    StoredCounts, StoredDock, StoredRegion, StoredStation, read_counts, read_dock, read_region,
+    read_station,
+};
 pub use part::Part;
 pub use rules::{rules_law, stored_law, verdict_law};

@@ -1,16 +1,25 @@
-//! The rows of stations, docks and counts.
+//! The rows of regions, stations, docks and counts.
 
 ghost use Rattle.std.specs.Prelude.{◌≡◌, option_map};
-ghost use Rattle.bike_readings.specs.Readings.{station_read, dock_read, count_read};
-ghost use Rattle.bike_readings.specs.Views.{station_of, dock_of, counts_of};
+ghost use Rattle.bike_readings.specs.Readings.{region_read, station_read, dock_read, count_read};
+ghost use Rattle.bike_readings.specs.Views.{region_of, station_of, dock_of, counts_of};
 
-use crate::columns::{cents_in, flag_in, ident_in, moment_in, name_in, number_in, signed_in};
+use crate::columns::{
+    cents_in, flag_in, ident_in, ident_or_none_in, moment_in, name_in, number_in, signed_in,
+};
 use crate::part::Part;
 use bike_catalogue::GREATEST_LATITUDE;
 use bike_fields::{DockCount, DockNumber};
 use bike_fixed::{GREATEST_COORDINATE, Moment, Within};
 
-/// A row of `stations`.
+/// A row of `regions`.
+#[derive(Clone, Copy)]
+pub struct StoredRegion<'a> {
+    pub region_id: &'a str,
+    pub name: &'a str,
+}
+
+/// A row of `stations_2`.
 #[derive(Clone, Copy)]
 pub struct StoredStation<'a> {
     pub station_id: &'a str,
@@ -30,6 +39,8 @@ pub struct StoredStation<'a> {
     pub free: i64,
     /// How many docks are broken, as the row has it.
     pub broken: Within<0, 4_294_967_295>,
+    /// The region in which it stands, if any.
+    pub region: Option<&'a str>,
 }
 
 /// A row of `docks`.
@@ -53,11 +64,23 @@ pub struct StoredCounts<'a> {
     pub disabled: Within<0, 4_294_967_295>,
 }
 
-/// What a row of `stations` spells.
+/// What a row of `regions` spells.
+pub fn read_region(part: Part<'_>) -> Option<StoredRegion<'_>>
+    ensures { option_map region_of result ≡ region_read part.entry }
+{
+    if part.column_count() != 2 {
+        return None;
+    }
+    let region_id = ident_in(&part, 0)?;
+    let name = name_in(&part, 1)?;
+    Some(StoredRegion { region_id, name })
+}
+
+/// What a row of `stations_2` spells.
 pub fn read_station(part: Part<'_>) -> Option<StoredStation<'_>>
     ensures { option_map station_of result ≡ station_read part.entry }
 {
-    if part.column_count() != 11 {
+    if part.column_count() != 12 {
         return None;
     }
     let station_id = ident_in(&part, 0)?;
@@ -81,6 +104,7 @@ pub fn read_station(part: Part<'_>) -> Option<StoredStation<'_>>
     let reported = moment_in(&part, 8)?;
     let free = cents_in(&part, 9)?;
     let broken = number_in(&part, 10)?;
+    let region = ident_or_none_in(&part, 11)?;
     Some(StoredStation {
         station_id,
         name,
@@ -93,6 +117,7 @@ pub fn read_station(part: Part<'_>) -> Option<StoredStation<'_>>
         reported,
         free: free.hundredths(),
         broken,
+        region,
     })
 }
 

@@ -1,5 +1,5 @@
 -- The calls of a pass over rowids, one after another.
-use Rattle.std.proofs.Common.{◌≡◌, List, ℕ, [], ◌∷◌, ◌++◌, map, true, false, Option, Some, None, Result, Ok, Err, IfOk, OnErr, IsTrue, refl, sym, subst, arith}
+use Rattle.std.proofs.Common.{◌≡◌, List, ℕ, [], ◌∷◌, ◌++◌, map, true, false, Option, Some, Result, Ok, Err, IfOk, OnErr, IsTrue, refl, sym, subst, arith}
 use Rattle.std.specs.Borrow.{MutBor}
 use Rattle.std.proofs.lemmas.List.{map-append}
 use Rattle.std.proofs.lemmas.Result.{IfOk-weaker}

@@ -1,7 +1,7 @@
 -- Which table of the schema each name of the code is.
 use Rattle.bike_book.specs.Tables as book
 use Rattle.bike_recognition.specs.declared.table.TableName.{TableName}
-use Rattle.bike_recognition.specs.declared.table.TableName.TheVariants.{Meta, System, Plans, Segments, Types, Stations, Docks, Bikes, Trucks, Riders, Rentals, Orders, Entries, Kept, Counts}
+use Rattle.bike_recognition.specs.declared.table.TableName.TheVariants.{Meta, System, Plans, Segments, Types, Regions, Stations, Docks, Bikes, Trucks, Riders, Rentals, Orders, Entries, Kept, Counts}
 
 abbrev pub table_named : TableName → book.TableName
 table_named Meta = book.Meta
@@ -9,6 +9,7 @@ table_named System = book.System
 table_named Plans = book.Plans
 table_named Segments = book.Segments
 table_named Types = book.Types
+table_named Regions = book.Regions
 table_named Stations = book.Stations
 table_named Docks = book.Docks
 table_named Bikes = book.Bikes

@@ -13,12 +13,13 @@ use sqlite::{Alter, Connection};
 use std::alloc::Global;
 
 /// The tables in the order of the schema.
-pub const EVERY_TABLE: [TableName; 15] = [
+pub const EVERY_TABLE: [TableName; 16] = [
     TableName::Meta,
     TableName::System,
     TableName::Plans,
     TableName::Segments,
     TableName::Types,
+    TableName::Regions,
     TableName::Stations,
     TableName::Docks,
     TableName::Bikes,

@@ -1,5 +1,5 @@
 -- Commands are read exactly, kind by kind: what is read is spelled by the parts, and what the parts spell is read.
-use Rattle.std.proofs.Common.{◌≡◌, ℕ, List, [], Bool, Some, refl, lit<, codes}
+use Rattle.std.proofs.Common.{◌≡◌, ℕ, List, [], Bool, Option, Some, refl, lit<, codes}
 use Rattle.bike_fields.specs.declared.numbers.TheConstants.{MOST_DOCKS}
 use Rattle.bike_texts.specs.declared.ends.OrderEnd.{OrderEnd}
 use Rattle.bike_texts.specs.declared.ends.Side.{Side}
@@ -7,11 +7,11 @@ use Rattle.bike_texts.specs.Parts.{Parts}
 use Rattle.bike_texts.specs.Fields.{Field, Number, Choice}
 use Rattle.bike_texts.specs.Reading.{choice_of}
 use Rattle.bike_texts.proofs.TabFree.{AreRead}
-use Rattle.bike_texts.proofs.Chains.{IsReader, Rest, number_reader, choice_reader, ident_reader, side_reader, end_reader, takes, ends, gives, given_all}
+use Rattle.bike_texts.proofs.Chains.{IsReader, Rest, number_reader, choice_reader, ident_reader, side_reader, end_reader, ident_or_none_reader, takes, ends, gives, given_all}
 use Rattle.bike_commands.specs.declared.command.Command.{Command}
-use Rattle.bike_commands.specs.declared.command.Command.TheVariants.{SetPlan, SetStation, MarkDock, AddBike, MarkBike, RetireBike, AddTruck, AddRider, SetRider, TopUp, Start, End, Recover, Refund, OpenOrder, Load, Unload, CloseOrder}
+use Rattle.bike_commands.specs.declared.command.Command.TheVariants.{SetPlan, SetStation, MarkDock, AddBike, MarkBike, RetireBike, AddTruck, AddRider, SetRider, TopUp, Start, End, Recover, Refund, OpenOrder, Load, Unload, CloseOrder, SetRegion}
 use Rattle.bike_commands.specs.Commands.{word_of, fields_of}
-use Rattle.bike_requests.specs.Readers.{numbered_of, dock_of, unload_dock_of, serial_of, payment_of, few_of, flag_of, set_plan_at, set_station_at, mark_dock_at, add_bike_at, mark_bike_at, retire_bike_at, add_truck_at, add_rider_at, set_rider_at, top_up_at, start_at, end_at, recover_at, refund_at, open_order_at, load_at, unload_at, close_order_at}
+use Rattle.bike_requests.specs.Readers.{numbered_of, dock_of, unload_dock_of, serial_of, payment_of, few_of, flag_of, set_plan_at, set_station_at, mark_dock_at, add_bike_at, mark_bike_at, retire_bike_at, add_truck_at, add_rider_at, set_rider_at, top_up_at, start_at, end_at, recover_at, refund_at, open_order_at, load_at, unload_at, close_order_at, set_region_at}
 
 abbrev pub Left : List ℕ → Command → List Field → Parts → Type 0
 Left = Rest word_of fields_of
@@ -295,3 +295,16 @@ pub close_order_full : (order : ℕ) (ps : Parts) → AreRead (fields_of (CloseO
 unfolding close_order_at
 close_order_full order ps whole =
     gives _ order ps serial_reader whole given_all
+
+pub set_region_sound : (ps : Parts) (c : Command) → set_region_at ps ≡ Some c → Left (codes "set-region") c [] ps
+unfolding set_region_at
+set_region_sound ps c e =
+    takes _ ps ident_reader e (λ station ps e.
+    takes _ ps ident_or_none_reader e (λ region ps e.
+    ends (SetRegion station region) ps refl refl e))
+
+pub set_region_full : (station : List ℕ) (region : Option (List ℕ)) (ps : Parts) → AreRead (fields_of (SetRegion station region)) ps → set_region_at ps ≡ Some (SetRegion station region)
+unfolding set_region_at
+set_region_full station region ps whole =
+    gives _ station ps ident_reader whole (λ ps read.
+    gives _ region ps ident_or_none_reader read given_all)

@@ -5,7 +5,7 @@ use Rattle.std.proofs.lemmas.Bool.{le-leb}
 use Rattle.std.proofs.lemmas.Int.{ints}
 use Rattle.std.proofs.lemmas.Option.{cond_some}
 use Rattle.bike_fixed.specs.Whole.{number_of}
-use Rattle.bike_catalogue.specs.Rows.{SystemRow, PlanRow, TypeRow, StationRow, IsRange, is_range, IsLatitude, is_latitude}
+use Rattle.bike_catalogue.specs.Rows.{SystemRow, PlanRow, TypeRow, StationRow, RegionRow, IsRange, is_range, IsLatitude, is_latitude}
 use Rattle.bike_catalogue.specs.declared.vehicle.Propulsion.{Propulsion}
 use Rattle.bike_catalogue.specs.declared.vehicle.Propulsion.TheVariants.{Human, ElectricAssist}
 use Rattle.bike_texts.specs.Parts.{Parts}
@@ -14,9 +14,9 @@ use Rattle.bike_texts.specs.Reading.{◌>>=◌, no_more, degrees_of}
 use Rattle.bike_texts.proofs.TabFree.{AreRead}
 use Rattle.bike_texts.proofs.Chains.{IsReader, number_reader, ident_reader, language_reader, currency_reader, name_reader, ascii_reader, form_reader, propulsion_reader, metres_reader, degrees_reader, segments_reader, takes, ends, gives, given_all}
 use Rattle.bike_commands.specs.declared.command.Command.{Command}
-use Rattle.bike_commands.specs.declared.command.Command.TheVariants.{SetSystem, AddPlan, AddType, AddStation}
+use Rattle.bike_commands.specs.declared.command.Command.TheVariants.{SetSystem, AddPlan, AddType, AddStation, AddRegion}
 use Rattle.bike_commands.specs.Commands.{word_of, fields_of}
-use Rattle.bike_requests.specs.RecordReaders.{set_system_at, add_plan_at, add_type_at, add_station_at}
+use Rattle.bike_requests.specs.RecordReaders.{set_system_at, add_plan_at, add_type_at, add_station_at, add_region_at}
 use Rattle.bike_requests.proofs.KindLaws.{Left, dock_reader, flag_reader}
 
 price_reader : IsReader (number_of 0 1000000) (Number 0 1000000)
@@ -138,3 +138,16 @@ add_station_full row ps whole =
     gives _ row.lat ps latitude_reader read (λ ps read.
     gives _ row.lon ps longitude_reader read (λ ps read.
     gives _ row.docks ps dock_reader read (given_if (is_latitude row.lat) (latitude_holds row.lat (whole.good.1.1.0.0, whole.good.1.1.0.1)))))))
+
+pub add_region_sound : (ps : Parts) (c : Command) → add_region_at ps ≡ Some c → Left (codes "add-region") c [] ps
+unfolding add_region_at
+add_region_sound ps c e =
+    takes _ ps ident_reader e (λ region_id ps e.
+    takes _ ps name_reader e (λ name ps e.
+    ends (AddRegion (record { region_id = region_id; name = name })) ps refl refl e))
+
+pub add_region_full : (row : RegionRow) (ps : Parts) → AreRead (fields_of (AddRegion row)) ps → add_region_at ps ≡ Some (AddRegion row)
+unfolding add_region_at
+add_region_full row ps whole =
+    gives _ row.region_id ps ident_reader whole (λ ps read.
+    gives _ row.name ps name_reader read given_all)

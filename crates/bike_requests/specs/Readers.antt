@@ -5,10 +5,10 @@ use Rattle.bike_fixed.specs.Whole.{number_of}
 use Rattle.bike_fields.specs.declared.numbers.TheConstants.{GREATEST_NUMBER, GREATEST_PAYMENT, GREATEST_SERIAL, MOST_CARRIED, MOST_DOCKS}
 use Rattle.bike_fields.specs.Bytes.{ident_of}
 use Rattle.bike_texts.specs.Parts.{Parts}
-use Rattle.bike_texts.specs.Reading.{◌>>=◌, part_at, field_at, no_more, choice_of, side_of, end_of}
+use Rattle.bike_texts.specs.Reading.{◌>>=◌, part_at, field_at, no_more, choice_of, side_of, end_of, ident_or_none_of}
 use Rattle.bike_commands.specs.declared.command.Command.{Command}
-use Rattle.bike_commands.specs.declared.command.Command.TheVariants.{SetPlan, SetStation, MarkDock, AddBike, MarkBike, RetireBike, AddTruck, AddRider, SetRider, TopUp, Start, End, Recover, Refund, OpenOrder, Load, Unload, CloseOrder}
-use Rattle.bike_requests.specs.RecordReaders.{set_system_at, add_plan_at, add_type_at, add_station_at}
+use Rattle.bike_commands.specs.declared.command.Command.TheVariants.{SetPlan, SetStation, MarkDock, AddBike, MarkBike, RetireBike, AddTruck, AddRider, SetRider, TopUp, Start, End, Recover, Refund, OpenOrder, Load, Unload, CloseOrder, SetRegion}
+use Rattle.bike_requests.specs.RecordReaders.{set_system_at, add_plan_at, add_type_at, add_station_at, add_region_at}
 
 -- riders, bicycles and trucks; docks, and 0 at the depot; rentals and orders; payments in hundredths; bicycles on a truck
 abbrev pub numbered_of : List ℕ → Option ℕ
@@ -167,6 +167,13 @@ close_order_at ps = do
   end ← no_more order.1
   Some (CloseOrder order.0)
 
+unfoldable pub set_region_at : Parts → Option Command
+set_region_at ps = do
+  station ← field_at ident_of ps
+  region ← field_at ident_or_none_of station.1
+  end ← no_more region.1
+  Some (SetRegion station.0 region.0)
+
 unfoldable pub command_by : List ℕ → Parts → Option Command
 command_by word ps =
     if bytes_eq word (codes "set-system") then set_system_at ps else (
@@ -191,7 +198,9 @@ command_by word ps =
     if bytes_eq word (codes "load") then load_at ps else (
     if bytes_eq word (codes "unload") then unload_at ps else (
     if bytes_eq word (codes "close-order") then close_order_at ps else (
-    None))))))))))))))))))))))
+    if bytes_eq word (codes "add-region") then add_region_at ps else (
+    if bytes_eq word (codes "set-region") then set_region_at ps else (
+    None))))))))))))))))))))))))
 
 unfoldable pub command_at : Parts → Option Command
 command_at ps = do

@@ -12,7 +12,7 @@ use Rattle.bike_texts.specs.Reading.{◌>>=◌, field_at, no_more, degrees_of, m
 use Rattle.bike_texts.specs.Escapes.{name_at, ascii_at}
 use Rattle.bike_texts.specs.SegmentReading.{segments_of}
 use Rattle.bike_commands.specs.declared.command.Command.{Command}
-use Rattle.bike_commands.specs.declared.command.Command.TheVariants.{SetSystem, AddPlan, AddType, AddStation}
+use Rattle.bike_commands.specs.declared.command.Command.TheVariants.{SetSystem, AddPlan, AddType, AddStation, AddRegion}
 
 unfoldable pub set_system_at : Parts → Option Command
 set_system_at ps = do
@@ -59,3 +59,10 @@ add_station_at ps = do
   docks ← field_at (number_of 1 MOST_DOCKS) lon.1
   end ← no_more docks.1
   if is_latitude lat.0 then Some (AddStation (record { station_id = station_id.0; name = name.0; lat = lat.0; lon = lon.0; docks = docks.0 })) else None
+
+unfoldable pub add_region_at : Parts → Option Command
+add_region_at ps = do
+  region_id ← field_at ident_of ps
+  name ← field_at name_at region_id.1
+  end ← no_more name.1
+  Some (AddRegion (record { region_id = region_id.0; name = name.0 }))

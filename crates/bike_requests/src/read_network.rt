@@ -1,8 +1,9 @@
-//! Reading the commands of the network: plans of types, stations, docks, bicycles and trucks.
+//! Reading the commands of the network: plans of types, stations and their regions, docks, bicycles and trucks.
 
-ghost use Rattle.std.specs.Prelude.{◌≡◌};
+ghost use Rattle.std.specs.Prelude.{◌≡◌, true, IfOk, IfSome, option_map};
+ghost use Rattle.bike_fields.specs.Bytes.{is_ident};
 ghost use Rattle.bike_fields.specs.Reads.{IsReadAs};
-ghost use Rattle.bike_requests.specs.Readers.{set_plan_at, set_station_at, mark_dock_at, add_bike_at, mark_bike_at, retire_bike_at, add_truck_at};
+ghost use Rattle.bike_requests.specs.Readers.{set_plan_at, set_station_at, mark_dock_at, add_bike_at, mark_bike_at, retire_bike_at, add_truck_at, set_region_at};
 
 use bike_commands::Command;
 use bike_fields::Ident;
@@ -123,4 +124,33 @@ pub fn read_add_truck(mut fields: Fields) -> Option<Command>
     let capacity = fields.number()?;
     fields.end()?;
     Some(Command::AddTruck { truck, capacity })
+}
+
+/// The region with memory of its own.
+fn keep_region(alloc: Global, region: Option<&str>) -> Result<Option<Ident>, AllocError>
+    requires { IfSome region (λ id. is_ident id.now ≡ true) }
+    ensures { IfOk result (λ kept. kept ≡ option_map (λ id. id.now) region.entry) }
+{
+    match region {
+        None => Ok(None),
+        Some(region) => Ok(Some(Ident::of(alloc, region)?)),
+    }
+}
+
+#[tactic(auto, unfolding(crate::specs::Readers::set_region_at))]
+pub fn read_set_region(alloc: Global, mut fields: Fields) -> Result<Option<Command>, AllocError>
+    ensures { IsReadAs (set_region_at fields.entry) result }
+{
+    let Some(station) = fields.ident() else {
+        return Ok(None);
+    };
+    let Some(region) = fields.ident_or_none() else {
+        return Ok(None);
+    };
+    let Some(()) = fields.end() else {
+        return Ok(None);
+    };
+    let station = Ident::of(alloc, station)?;
+    let region = keep_region(alloc, region)?;
+    Ok(Some(Command::SetRegion { station, region }))
 }

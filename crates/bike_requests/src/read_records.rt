@@ -1,9 +1,9 @@
 //! Reading the commands with a record of the catalogue.
 
 ghost use Rattle.bike_fields.specs.Reads.{IsReadAs};
-ghost use Rattle.bike_requests.specs.RecordReaders.{set_system_at, add_plan_at, add_type_at, add_station_at};
+ghost use Rattle.bike_requests.specs.RecordReaders.{set_system_at, add_plan_at, add_type_at, add_station_at, add_region_at};
 
-use bike_catalogue::{GREATEST_LATITUDE, Plan, Station, System, VehicleType};
+use bike_catalogue::{GREATEST_LATITUDE, Plan, Region, Station, System, VehicleType};
 use bike_commands::Command;
 use bike_fields::{Ascii, Currency, GREATEST_COORDINATE, Ident, Language, Name};
 use bike_texts::Fields;
@@ -156,4 +156,22 @@ pub fn read_add_station(alloc: Global, mut fields: Fields) -> Result<Option<Comm
     let name = Name::of(alloc, name.as_str())?;
     let made = Station::from_fields(station_id, name, lat, lon, docks);
     Ok(made.map(Command::AddStation))
+}
+
+#[tactic(auto, unfolding(crate::specs::RecordReaders::add_region_at))]
+pub fn read_add_region(alloc: Global, mut fields: Fields) -> Result<Option<Command>, AllocError>
+    ensures { IsReadAs (add_region_at fields.entry) result }
+{
+    let Some(region_id) = fields.ident() else {
+        return Ok(None);
+    };
+    let Some(name) = fields.name() else {
+        return Ok(None);
+    };
+    let Some(()) = fields.end() else {
+        return Ok(None);
+    };
+    let region_id = Ident::of(alloc, region_id)?;
+    let name = Name::of(alloc, name.as_str())?;
+    Ok(Some(Command::AddRegion(Region::from_fields(region_id, name))))
 }

@@ -9,10 +9,12 @@ ghost use Rattle.bike_fields.specs.Reads.{IsReadAs};
 
 use crate::read_network::{
     read_add_bike, read_add_truck, read_mark_bike, read_mark_dock, read_retire_bike, read_set_plan,
-    read_set_station,
+    read_set_region, read_set_station,
 };
 use crate::read_orders::{read_close_order, read_load, read_open_order, read_unload};
-use crate::read_records::{read_add_plan, read_add_station, read_add_type, read_set_system};
+use crate::read_records::{
+    read_add_plan, read_add_region, read_add_station, read_add_type, read_set_system,
+};
 use crate::read_riding::{
     read_add_rider, read_end, read_recover, read_refund, read_set_rider, read_start, read_top_up,
 };
@@ -47,6 +49,8 @@ fn read_kind(alloc: Global, word: &str, fields: Fields) -> Result<Option<Command
         "load" => Ok(read_load(fields)),
         "unload" => Ok(read_unload(fields)),
         "close-order" => Ok(read_close_order(fields)),
+        "add-region" => read_add_region(alloc, fields),
+        "set-region" => read_set_region(alloc, fields),
         _ => Ok(None),
     }
 }

@@ -4,7 +4,7 @@ ghost use Rattle.std.specs.Prelude.{◌≡◌, ◌++◌, ◌∷◌, decimal, OnO
 ghost use Rattle.std.specs.Char.{encode_utf8};
 ghost use Rattle.std.specs.Fmt.{signed_decimal};
 ghost use Rattle.bike_fixed.specs.Text.{micro_text};
-ghost use Rattle.bike_texts.specs.Fields.{escapes_of, segment_end_text, segment_text, segments_text, end_text};
+ghost use Rattle.bike_texts.specs.Fields.{escapes_of, segment_end_text, segment_text, segments_text, end_text, IdOrNone, field_text};
 ghost use Rattle.bike_requests.specs.Writing.{others_text};
 
 use bike_catalogue::Segment;
@@ -62,6 +62,16 @@ pub fn put_end(out: &mut String, end: &OrderEnd) -> Result<(), AllocError>
     match end {
         OrderEnd::Depot => put_text(out, "*"),
         OrderEnd::Station(station) => put_ident(out, station),
+    }
+}
+
+/// `*` for none, else the identifier.
+pub fn put_ident_or_none(out: &mut String, ident: &Option<Ident>) -> Result<(), AllocError>
+    ensures { OnOk result (string_bytes out.new ≡ string_bytes out.old ++ 9 ∷ field_text (IdOrNone ident.now)) }
+{
+    match ident {
+        None => put_text(out, "*"),
+        Some(ident) => put_ident(out, ident),
     }
 }
 

@@ -3,13 +3,13 @@
 ghost use Rattle.std.specs.Prelude.{◌≡◌, ◌++◌, ◌∷◌, [], OnOk, string_bytes};
 ghost use Rattle.bike_fields.specs.declared.numbers.TheConstants.{LONGEST_TIME_TO_LIVE};
 ghost use Rattle.bike_texts.specs.Fields.{Number, Currency, Ascii, fields_text};
-ghost use Rattle.bike_commands.specs.declared.command.Command.TheVariants.{SetSystem, AddPlan, AddType, AddStation};
+ghost use Rattle.bike_commands.specs.declared.command.Command.TheVariants.{SetSystem, AddPlan, AddType, AddStation, AddRegion};
 ghost use Rattle.bike_commands.specs.Commands.{fields_of};
 
 use crate::write_fields::{
     put_choice, put_degrees, put_escaped, put_ident, put_number, put_segments, put_text,
 };
-use bike_catalogue::{Plan, Station, System, VehicleType};
+use bike_catalogue::{Plan, Region, Station, System, VehicleType};
 use std::alloc::AllocError;
 
 /// The system's opening hours, contact and time zone.
@@ -76,4 +76,12 @@ pub fn put_station(out: &mut String, station: &Station) -> Result<(), AllocError
     put_degrees(out, &station.lat())?;
     put_degrees(out, &station.lon())?;
     put_number(out, &station.docks())
+}
+
+#[tactic(auto, unfolding(bike_texts::specs::Fields::fields_text))]
+pub fn put_region(out: &mut String, region: &Region) -> Result<(), AllocError>
+    ensures { OnOk result (string_bytes out.new ≡ string_bytes out.old ++ fields_text (fields_of (AddRegion region.now))) }
+{
+    put_ident(out, region.region_id())?;
+    put_escaped(out, region.name().as_str())
 }

@@ -6,8 +6,10 @@ ghost use Rattle.bike_commands.specs.declared.command.Command.{Command};
 ghost use Rattle.bike_commands.specs.declared.command.Command.TheVariants.{SetStation, MarkDock, Start, End, OpenOrder, Load, Unload};
 ghost use Rattle.bike_commands.specs.Commands.{text_of, word_of, fields_of, IsCommand, IsSpelling, IsWrittenSpelling};
 
-use crate::write_fields::{put_choice, put_end, put_ident, put_number, put_text};
-use crate::write_records::{put_plan, put_station, put_system, put_type};
+use crate::write_fields::{
+    put_choice, put_end, put_ident, put_ident_or_none, put_number, put_text,
+};
+use crate::write_records::{put_plan, put_region, put_station, put_system, put_type};
 use bike_commands::Command;
 use bike_fields::{
     BicycleNumber, DockNumber, Ident, OrderNumber, OrderQuantity, RiderNumber, TruckNumber,
@@ -41,6 +43,8 @@ fn word(command: &Command) -> &'static str
         Command::Load { .. } => "load",
         Command::Unload { .. } => "unload",
         Command::CloseOrder { .. } => "close-order",
+        Command::AddRegion(_) => "add-region",
+        Command::SetRegion { .. } => "set-region",
     }
 }
 
@@ -226,6 +230,11 @@ fn put_fields(out: &mut String, command: &Command) -> Result<(), AllocError>
             dock,
         } => put_unloading(out, truck, order, bike, *side, dock),
         Command::CloseOrder { order } => put_number(out, order),
+        Command::AddRegion(region) => put_region(out, region),
+        Command::SetRegion { station, region } => {
+            put_ident(out, station)?;
+            put_ident_or_none(out, region)
+        }
     }
 }
 

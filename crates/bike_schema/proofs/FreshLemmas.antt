@@ -19,12 +19,12 @@ use Rattle.bike_rows.proofs.IndexLaw.{IsOnlyIndex, index_made}
 use Rattle.bike_rows.proofs.CallLaws.{Does}
 use Rattle.bike_rows.proofs.WriteLaws.{Inserts, row_put}
 use Rattle.bike_operator.specs.Operator.{no_operator}
-use Rattle.bike_book.specs.Tables.{TableName, Tables, keys_of, rows_in, tables_by, with_rows, Meta, System, Plans, Segments, Types, Stations, Docks, Bikes, Trucks, Riders, Rentals, Orders, Entries, Kept, Counts}
+use Rattle.bike_book.specs.Tables.{TableName, Tables, keys_of, rows_in, tables_by, with_rows, Meta, System, Plans, Segments, Types, Regions, Stations, Docks, Bikes, Trucks, Riders, Rentals, Orders, Entries, Kept, Counts}
 use Rattle.bike_book.specs.Rows.{meta_row}
-use Rattle.bike_book.specs.Stored.{none_listed, tables_for, stored_plan, plans_segments, stored_type, stored_station, stored_dock, stored_bike, stored_truck, stored_rider, stored_kept, stored_count}
+use Rattle.bike_book.specs.Stored.{none_listed, tables_for, stored_plan, plans_segments, stored_type, stored_region, stored_station, stored_dock, stored_bike, stored_truck, stored_rider, stored_kept, stored_count}
 use Rattle.bike_book.specs.declared.version.TheConstants.{NEWEST}
 use Rattle.bike_schema.specs.Layouts.{layout_of, name_of, every_table}
-use Rattle.bike_schema.specs.Tables.{IsOurs, tables_of, is_parent, is_unused, HasNone, planned_names}
+use Rattle.bike_schema.specs.Tables.{IsOurs, tables_of, is_parent, is_unused, HasNone, other_names}
 use Rattle.bike_schema.specs.Makes.{Continues, Puts}
 use Rattle.bike_schema.specs.Calls.{WasFree}
 use Rattle.bike_book.specs.Writes.{tables_after}
@@ -103,7 +103,7 @@ module _ {S : Type 0} (g : Ghosts S) where
 none_named : (db : Database) → HasNone db.schema → AreUnnamed db
 none_named db none t =
     let unused = is_unused db.schema in
-    let ours = (and_parts (list_all unused (map name_of every_table)) (list_all unused planned_names) (sym (list_all-append unused (map name_of every_table) planned_names) ∙ none)).0 in
+    let ours = (and_parts (list_all unused (map name_of every_table)) (list_all unused other_names) (sym (list_all-append unused (map name_of every_table) other_names) ∙ none)).0 in
     let one = every_true (λ u. unused (name_of u)) (sym (list_all-map unused name_of every_table) ∙ ours) t in
     not-true (is_parent db.schema (name_of t)) (and_parts (is_none (table_named db.schema (name_of t))) (not (is_parent db.schema (name_of t))) one).1
 
@@ -136,6 +136,7 @@ first_rows System = refl
 first_rows Plans = sym (ap (map stored_plan) (none_in _))
 first_rows Segments = sym (ap plans_segments (none_in _))
 first_rows Types = sym (ap (map stored_type) (none_in _))
+first_rows Regions = sym (ap (map stored_region) (none_in _))
 first_rows Stations = sym (ap (map (stored_station no_operator)) (none_in _))
 first_rows Docks = sym (ap (map (stored_dock no_operator.broken)) (none_in _))
 first_rows Bikes = sym (ap (map stored_bike) (none_in _))

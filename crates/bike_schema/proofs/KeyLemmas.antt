@@ -1,7 +1,7 @@
 -- Each table's first columns are its key.
 use Rattle.std.proofs.Common.{List, ℕ, refl}
 use Rattle.bike_rows.proofs.KeyLemmas.{IsKeyAt, number_key_at, columns_key_at}
-use Rattle.bike_book.specs.Tables.{TableName, keys_of, Meta, System, Plans, Segments, Types, Stations, Docks, Bikes, Trucks, Riders, Rentals, Orders, Entries, Kept, Counts}
+use Rattle.bike_book.specs.Tables.{TableName, keys_of, Meta, System, Plans, Segments, Types, Regions, Stations, Docks, Bikes, Trucks, Riders, Rentals, Orders, Entries, Kept, Counts}
 use Rattle.bike_schema.specs.Layouts.{layout_of}
 
 -- where the columns of the key stand in a stored row
@@ -14,6 +14,7 @@ table_key System = number_key_at (layout_of System) (λ row. refl)
 table_key Plans = columns_key_at 1 (layout_of Plans) 0 (key_places Plans) refl refl refl (λ row. refl)
 table_key Segments = columns_key_at 2 (layout_of Segments) 0 (key_places Segments) refl refl refl (λ row. refl)
 table_key Types = columns_key_at 1 (layout_of Types) 0 (key_places Types) refl refl refl (λ row. refl)
+table_key Regions = columns_key_at 1 (layout_of Regions) 0 (key_places Regions) refl refl refl (λ row. refl)
 table_key Stations = columns_key_at 1 (layout_of Stations) 0 (key_places Stations) refl refl refl (λ row. refl)
 table_key Docks = columns_key_at 2 (layout_of Docks) 0 (key_places Docks) refl refl refl (λ row. refl)
 table_key Bikes = number_key_at (layout_of Bikes) (λ row. refl)

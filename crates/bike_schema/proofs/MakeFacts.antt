@@ -5,7 +5,7 @@ use Rattle.sqlite_resolve.specs.Compile.{first, table_defined_by}
 use Rattle.sqlite_tied.specs.Compute.{everything}
 use Rattle.bike_rows.specs.Layout.{Layout, table_of}
 use Rattle.bike_rows.proofs.IndexLaw.{IsOnlyIndex}
-use Rattle.bike_book.specs.Tables.{TableName, table_place, Meta, System, Plans, Segments, Types, Stations, Docks, Bikes, Trucks, Riders, Rentals, Orders, Entries, Kept, Counts}
+use Rattle.bike_book.specs.Tables.{TableName, table_place, Meta, System, Plans, Segments, Types, Regions, Stations, Docks, Bikes, Trucks, Riders, Rentals, Orders, Entries, Kept, Counts}
 use Rattle.bike_schema.specs.Layouts.{layout_of, every_table}
 use Rattle.bike_schema.specs.Creates.{table_texts, index_texts}
 use Rattle.bike_schema.proofs.MakeTexts.{IsOnlyCreate}
@@ -28,6 +28,7 @@ declared System = record { only = (refl, refl); defined = refl }
 declared Plans = record { only = (refl, refl); defined = refl }
 declared Segments = record { only = (refl, refl); defined = refl }
 declared Types = record { only = (refl, refl); defined = refl }
+declared Regions = record { only = (refl, refl); defined = refl }
 declared Stations = record { only = (refl, refl); defined = refl }
 declared Docks = record { only = (refl, refl); defined = refl }
 declared Bikes = record { only = (refl, refl); defined = refl }

@@ -5,7 +5,7 @@ use Rattle.std.proofs.lemmas.Bool.{and_parts, or_parts, eqb-true}
 use Rattle.sqlite_value.specs.Order.{Row}
 use Rattle.bike_rows.specs.Stands.{is_same_text}
 use Rattle.bike_rows.proofs.ListLemmas.{same_some, all_at}
-use Rattle.bike_book.specs.Tables.{TableName, table_place, is_table, rows_in, tables_by, Meta, System, Plans, Segments, Types, Stations, Docks, Bikes, Trucks, Riders, Rentals, Orders, Entries, Kept, Counts}
+use Rattle.bike_book.specs.Tables.{TableName, table_place, is_table, rows_in, tables_by, Meta, System, Plans, Segments, Types, Regions, Stations, Docks, Bikes, Trucks, Riders, Rentals, Orders, Entries, Kept, Counts}
 use Rattle.bike_schema.specs.Layouts.{name_of, every_table}
 
 -- ---- a line for each table
@@ -16,6 +16,7 @@ at_place System = refl
 at_place Plans = refl
 at_place Segments = refl
 at_place Types = refl
+at_place Regions = refl
 at_place Stations = refl
 at_place Docks = refl
 at_place Bikes = refl
@@ -33,6 +34,7 @@ rows_in_by rows System = refl
 rows_in_by rows Plans = refl
 rows_in_by rows Segments = refl
 rows_in_by rows Types = refl
+rows_in_by rows Regions = refl
 rows_in_by rows Stations = refl
 rows_in_by rows Docks = refl
 rows_in_by rows Bikes = refl

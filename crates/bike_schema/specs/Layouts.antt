@@ -4,7 +4,7 @@ use Rattle.sqlite_value.specs.Keys.{plain}
 use Rattle.sqlite_schema.specs.declared.schema.Column.{Column}
 use Rattle.sqlite_schema.specs.declared.schema.Kind.TheVariants.{Integer, Text}
 use Rattle.bike_rows.specs.Layout.{Layout, strict}
-use Rattle.bike_book.specs.Tables.{TableName, Meta, System, Plans, Segments, Types, Stations, Docks, Bikes, Trucks, Riders, Rentals, Orders, Entries, Kept, Counts}
+use Rattle.bike_book.specs.Tables.{TableName, Meta, System, Plans, Segments, Types, Regions, Stations, Docks, Bikes, Trucks, Riders, Rentals, Orders, Entries, Kept, Counts}
 
 -- a column of whole numbers or of texts, NOT NULL
 abbrev pub number : List ℕ → Column
@@ -40,8 +40,10 @@ layout_of Segments = keyed_layout (codes "segments") (1 ∷ 2 ∷ [])
     (text (codes "plan_id") ∷ number (codes "seq") ∷ number (codes "start") ∷ number (codes "rate") ∷ number (codes "every") ∷ number_or_null (codes "finish") ∷ [])
 layout_of Types = keyed_layout (codes "types") (1 ∷ [])
     (text (codes "type_id") ∷ text (codes "name") ∷ text (codes "form") ∷ text (codes "propulsion") ∷ number (codes "range_m") ∷ text (codes "plan_id") ∷ [])
-layout_of Stations = keyed_layout (codes "stations") (1 ∷ [])
-    (text (codes "station_id") ∷ text (codes "name") ∷ number (codes "lat") ∷ number (codes "lon") ∷ number (codes "docks") ∷ number (codes "installed") ∷ number (codes "renting") ∷ number (codes "returning") ∷ number (codes "reported") ∷ number (codes "free") ∷ number (codes "broken") ∷ [])
+layout_of Regions = keyed_layout (codes "regions") (1 ∷ [])
+    (text (codes "region_id") ∷ text (codes "name") ∷ [])
+layout_of Stations = keyed_layout (codes "stations_2") (1 ∷ [])
+    (text (codes "station_id") ∷ text (codes "name") ∷ number (codes "lat") ∷ number (codes "lon") ∷ number (codes "docks") ∷ number (codes "installed") ∷ number (codes "renting") ∷ number (codes "returning") ∷ number (codes "reported") ∷ number (codes "free") ∷ number (codes "broken") ∷ text_or_null (codes "region_id") ∷ [])
 layout_of Docks = keyed_layout (codes "docks") (1 ∷ 2 ∷ [])
     (text (codes "station_id") ∷ number (codes "dock") ∷ number (codes "broken") ∷ [])
 layout_of Bikes = numbered_layout (codes "bikes") (codes "bike")
@@ -66,4 +68,4 @@ name_of t = (layout_of t).name
 
 -- the tables in the order of the schema
 abbrev pub every_table : List TableName
-every_table = Meta ∷ System ∷ Plans ∷ Segments ∷ Types ∷ Stations ∷ Docks ∷ Bikes ∷ Trucks ∷ Riders ∷ Rentals ∷ Orders ∷ Entries ∷ Kept ∷ Counts ∷ []
+every_table = Meta ∷ System ∷ Plans ∷ Segments ∷ Types ∷ Regions ∷ Stations ∷ Docks ∷ Bikes ∷ Trucks ∷ Riders ∷ Rentals ∷ Orders ∷ Entries ∷ Kept ∷ Counts ∷ []

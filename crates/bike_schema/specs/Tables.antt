@@ -22,12 +22,12 @@ pub record IsOurs (db : Database) : Type 0 where
   pub sound : IsDatabase db
   pub has : HasTables db
 
--- the names of tables that later schemas are to have
-abbrev pub planned_names : List (List ℕ)
-planned_names = codes "regions" ∷ codes "stations_2" ∷ codes "stations_3" ∷ codes "more_names" ∷ []
+-- the names of tables that only an earlier or a later schema has
+abbrev pub other_names : List (List ℕ)
+other_names = codes "stations" ∷ codes "stations_3" ∷ codes "more_names" ∷ []
 
 abbrev pub product_names : List (List ℕ)
-product_names = map name_of every_table ++ planned_names
+product_names = map name_of every_table ++ other_names
 
 -- some foreign key of the table names this name
 abbrev pub names_parent : List ℕ → Table → Bool

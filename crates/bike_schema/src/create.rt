@@ -19,7 +19,7 @@ pub type Staged<'conn, S> = Transaction<'conn, S>;
 pub const APP: &str = "bikeshare";
 
 /// The statements that make the tables, in the order of the schema.
-pub const TABLES: [&str; 15] = [
+pub const TABLES: [&str; 16] = [
     "CREATE TABLE meta (one INTEGER PRIMARY KEY, app TEXT NOT NULL, version INTEGER NOT NULL, \
      now INTEGER NOT NULL, cash INTEGER NOT NULL, revenue INTEGER NOT NULL) STRICT",
     "CREATE TABLE system (one INTEGER PRIMARY KEY, system_id TEXT NOT NULL, language TEXT NOT NULL, \
@@ -31,10 +31,11 @@ pub const TABLES: [&str; 15] = [
      rate INTEGER NOT NULL, every INTEGER NOT NULL, finish INTEGER, PRIMARY KEY (plan_id, seq)) STRICT",
     "CREATE TABLE types (type_id TEXT PRIMARY KEY NOT NULL, name TEXT NOT NULL, form TEXT NOT NULL, \
      propulsion TEXT NOT NULL, range_m INTEGER NOT NULL, plan_id TEXT NOT NULL) STRICT",
-    "CREATE TABLE stations (station_id TEXT PRIMARY KEY NOT NULL, name TEXT NOT NULL, lat INTEGER NOT NULL, \
+    "CREATE TABLE regions (region_id TEXT PRIMARY KEY NOT NULL, name TEXT NOT NULL) STRICT",
+    "CREATE TABLE stations_2 (station_id TEXT PRIMARY KEY NOT NULL, name TEXT NOT NULL, lat INTEGER NOT NULL, \
      lon INTEGER NOT NULL, docks INTEGER NOT NULL, installed INTEGER NOT NULL, renting INTEGER NOT NULL, \
      \"returning\" INTEGER NOT NULL, reported INTEGER NOT NULL, free INTEGER NOT NULL, \
-     broken INTEGER NOT NULL) STRICT",
+     broken INTEGER NOT NULL, region_id TEXT) STRICT",
     "CREATE TABLE docks (station_id TEXT NOT NULL, dock INTEGER NOT NULL, broken INTEGER NOT NULL, \
      PRIMARY KEY (station_id, dock)) STRICT",
     "CREATE TABLE bikes (bike INTEGER PRIMARY KEY, type_id TEXT NOT NULL, state INTEGER NOT NULL, \

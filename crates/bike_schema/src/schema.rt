@@ -8,14 +8,15 @@ use sqlite::{Alter, Connection};
 use sqlite_schema::names::same_name;
 use sqlite_schema::schema::{Schema, Table};
 
-/// The names of the tables, and of those that later schemas are to have.
+/// The names of the tables, and of those that only an earlier or a later schema has.
 const NAMES: [&str; 19] = [
     "meta",
     "system",
     "plans",
     "segments",
     "types",
-    "stations",
+    "regions",
+    "stations_2",
     "docks",
     "bikes",
     "trucks",
@@ -25,8 +26,7 @@ const NAMES: [&str; 19] = [
     "entries",
     "kept",
     "counts",
-    "regions",
-    "stations_2",
+    "stations",
     "stations_3",
     "more_names",
 ];
@@ -57,7 +57,7 @@ fn is_unused(schema: &Schema, name: &[u8]) -> bool
     schema.table_named(name).is_none() && !is_parent(schema, name)
 }
 
-/// Whether the database has none of the product's tables, of this schema or a later one, and no foreign key that
+/// Whether the database has none of the product's tables, of this schema or another one, and no foreign key that
 /// names one of them.
 pub fn has_none<S: Alter>(conn: &Connection<S>) -> bool
     ensures { IsTrue result ↔ HasNone (state S.Store conn.now).now.schema }

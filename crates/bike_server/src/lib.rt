@@ -2,5 +2,6 @@
 #![tactic(auto)]
 
 mod server;
+mod timed;
 
 pub use server::{clock_moment, listen, serve_count};

@@ -10,6 +10,7 @@ ghost use Rattle.bike_console.specs.declared.end.Fault.{Fault};
 ghost use Rattle.bike_http.specs.Desk.{desk_state, IsAt};
 ghost use Rattle.bike_server.specs.Serving.{ServesRequests, StandsAfterRequests};
 
+use crate::timed::TimedStream;
 use bike_adoption::adopt;
 use bike_console::Fault;
 use bike_fixed::Moment;
@@ -18,15 +19,15 @@ use bike_http::{Desk, ServeFault, Served, serve_one};
 use bike_json::TokenBuffer;
 use bike_stream::write_whole;
 use sqlite::{Alter, Connection};
-use std::alloc::Global;
 use std::io::{Read, Write};
-use std::net::{Shutdown, TcpListener, TcpStream};
+use std::net::{TcpListener, TcpStream};
 use std::time::{Duration, SystemTime};
 
-/// For how many seconds a client may send nothing, or take nothing, before its connection is given up.
+/// How many seconds an exchange takes at most, from its acceptance to the last byte of its answer, whatever its client does.
 const PATIENCE: u64 = 10;
 
-/// For how many milliseconds a client is waited for that may still send of a request which was answered before all of it was read.
+/// For how many milliseconds in all a client is waited for that may still send of a request which was answered before all of it was
+/// read.
 const LINGER: u64 = 200;
 
 /// In how many pieces that is read at most.
@@ -50,11 +51,12 @@ fn may_be_early(served: &Result<Served, ServeFault>) -> bool {
 
 /// Reads what a client still sends. A connection that is closed while bytes of it are unread is reset, and with that the client may
 /// lose its answer (RFC 9112, section 9.6).
-fn drain(stream: &TcpStream) {
-    let _ = stream.shutdown(Shutdown::Write);
-    let _ = stream.set_read_timeout(Some(Duration::from_millis(LINGER)));
+fn drain(stream: TimedStream) {
+    stream.shut_writes();
+    let Some(mut reader) = stream.for_at_most(Duration::from_millis(LINGER)) else {
+        return;
+    };
     let mut piece = [0; 4096];
-    let mut reader = stream;
     for _ in 0..MOST_PIECES {
         match reader.read(&mut piece) {
             Ok(0) | Err(_) => return,
@@ -63,9 +65,10 @@ fn drain(stream: &TcpStream) {
     }
 }
 
-/// Serves the one request of a connection. What fails of the connection alone is told to nobody: the client sees it end.
+/// Serves the one request of a connection, in at most so many seconds. What fails of the connection alone is told to nobody: the client
+/// sees it end. What was accepted of it stands, and is answered as before when it is sent again.
 fn serve_stream<S: Alter>(
-    alloc: Global,
+    rt: &HostRuntime,
     desk: &mut Desk<S>,
     routes: &Routes,
     moment: Moment,
@@ -75,18 +78,18 @@ fn serve_stream<S: Alter>(
     ensures kept { HasCleanDisk (desk_state S.Store desk.new) → (s : Operator) → IsAt S.Store desk.old s
         → ServesRequests S.Store desk.new s }
 {
-    let patience = Some(Duration::from_secs(PATIENCE));
-    let _ = stream.set_read_timeout(patience);
-    let _ = stream.set_write_timeout(patience);
-    let mut reader = stream;
-    let mut writer = TokenBuffer::new(stream);
-    let served = serve_one(alloc, desk, routes, moment, &mut reader, &mut writer);
+    let Some(timed) = TimedStream::new(rt, stream, Duration::from_secs(PATIENCE)) else {
+        return;
+    };
+    let mut reader = timed;
+    let mut writer = TokenBuffer::new(timed);
+    let served = serve_one(rt.alloc(), desk, routes, moment, &mut reader, &mut writer);
     // After a failed write the client would be waited for once more.
     if !matches!(served, Err(ServeFault::Write)) {
         let _ = writer.flush();
     }
     if may_be_early(&served) {
-        drain(stream);
+        drain(timed);
     }
 }
 
@@ -115,7 +118,7 @@ pub fn serve_count<S: Alter>(
         let Some(moment) = clock_moment(rt) else {
             return Err(Fault::ReadFailed);
         };
-        serve_stream(rt.alloc(), desk, routes, moment, &stream);
+        serve_stream(rt, desk, routes, moment, &stream);
         if desk.stopped() {
             return Err(Fault::StoreFailed);
         }

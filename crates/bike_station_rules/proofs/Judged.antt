@@ -1,8 +1,7 @@
 -- What the queries of docks and stations tell of their tables.
-use Rattle.std.proofs.Common.{◌≡◌, ℕ, ℤ, List, map, false, Option, Some, None, refl, sym, ap, subst, ◌∙◌}
+use Rattle.std.proofs.Common.{◌≡◌, ℕ, ℤ, List, false, Option, Some, None, refl, sym, ap, subst, ◌∙◌}
 use Rattle.std.specs.Prelude.{take, replicate, option_map}
 use Rattle.sqlite_value.specs.Order.{Row, column}
-use Rattle.bike_rows.proofs.PageLaw.{map_same_list}
 use Rattle.bike_operator.specs.Operator.{Station}
 use Rattle.bike_readings.specs.Readings.{station_read}
 use Rattle.bike_readings.specs.ReadOff.{moment_of}
@@ -24,9 +23,10 @@ use Rattle.bike_judges.proofs.QueryLaws.{stations_verdict, stored_whole}
 use Rattle.bike_judges.proofs.LeastLaw.{least_verdict}
 use Rattle.bike_station_rules.specs.StationRows.{is_good_station}
 use Rattle.bike_station_rules.specs.Stations.{begins, more, good, key, owner, station_opening}
-use Rattle.bike_station_rules.specs.StationVerdicts.{FindsByRow, FindsByNumber, meta_in, now_in, is_accounted}
+use Rattle.bike_station_rules.specs.StationVerdicts.{FindsByRow, FindsByNumber, meta_in, now_in, with_region, is_good_row, is_accounted}
 use Rattle.bike_station_rules.specs.declared.account.StationAccount.{StationAccount}
 use Rattle.bike_station_rules.proofs.Folds.{others_same, in_any_order}
+use Rattle.bike_station_rules.proofs.RegionLines.{station_key}
 use Rattle.bike_station_rules.proofs.StationVerdict.{now_known, station_verdict}
 use Rattle.bike_station_rules.specs.Docks.{is_good_dock}
 use Rattle.bike_station_rules.proofs.Widths.{wide}
@@ -47,20 +47,22 @@ docks_judged db ours found before zero told earlier =
 
 -- ---- stations
 
--- what is found where stations are tested by themselves
+-- what is found where stations are tested by their rows
 pub rows_judged : (db : Database) → IsOurs db → (now asked : Option ℕ) → asked ≡ now → (found : Option BadKey) (before : ℕ) → before ≡ 0
     → ((verdict : Option Row) → first_failing (is_good_station asked) (take 1) before (lines_of query.StationRows (tables_of db)) ≡ verdict → option_map key_row found ≡ verdict)
     → FindsByRow now db found
 rows_judged db ours now asked same found before zero told =
     let t = tables_of db in
-    let verdict : first_failing (is_good_station now) (take 1) 0 (map (λ r. r) t.stations) ≡ option_map key_row found =
-    ap (first_failing (is_good_station now) (take 1) 0) (map_same_list t.stations) ∙ (λ i. first_failing (is_good_station (sym same i)) (take 1) (sym zero i) t.stations) ∙ sym (told _ refl) in
-    lines_verdict t Stations (stored_in_order db) (λ r. r) (is_good_station now) (take 1) (λ row has. refl) (option_map key_row found) verdict
+    let up = stored_in_order db in
+    let widths = wide db ours.has in
+    let verdict : first_failing (is_good_station now) (take 1) 0 (lines_of query.StationRows t) ≡ option_map key_row found =
+    (λ i. first_failing (is_good_station (sym same i)) (take 1) (sym zero i) (lines_of query.StationRows t)) ∙ sym (told _ refl) in
+    lines_verdict t Stations up (with_region t) (is_good_station now) (take 1) (λ row has. station_key t up widths row has) (option_map key_row found) verdict
 
 are_accounts : AreAccounts begins more good key owner 0
 are_accounts = record {
-  heads = λ row. not_item row (station_read (part 3 11 (station_line row)));
-  owner_is = λ row a. opens row (station_read (part 3 11 (station_line row))) a;
+  heads = λ row. not_item row (station_read (part 3 12 (station_line row)));
+  owner_is = λ row a. opens row (station_read (part 3 12 (station_line row))) a;
   key_is = λ a. refl;
   keeps = λ a x. refl;
   others = others_same;
@@ -108,4 +110,4 @@ stations_judged db now row number least least_is found earlier =
     let known : now ≡ Some (moment_of t.meta) = found.now_is ∙ now_known t up earlier in
     subst (IsTableVerdict t Stations) (sym least_is)
     (station_verdict t up (wide db found.ours.has) now known (least_key (option_map key_row row) (option_map key_row number))
-    (least_verdict t Stations (Demands t Stations (is_good_station now)) (Demands t Stations (is_accounted t)) (option_map key_row row) (option_map key_row number) found.by_row found.by_number))
+    (least_verdict t Stations (Demands t Stations (is_good_row now t)) (Demands t Stations (is_accounted t)) (option_map key_row row) (option_map key_row number) found.by_row found.by_number))

@@ -9,5 +9,6 @@ pub mod Bits
 pub mod Folds
 pub mod Judged
 pub mod StationTest
+pub mod RegionLines
 mod MetaText
 pub mod StationVerdict

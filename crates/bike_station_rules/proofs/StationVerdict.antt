@@ -1,4 +1,4 @@
--- The verdict on stations: of each by itself and of its numbers.
+-- The verdict on stations: of the row of each and of its numbers.
 use Rattle.std.proofs.Common.{◌≡◌, inl, inr, ℕ, ℤ, List, [], ◌∷◌, Bool, true, ◌&&◌, Option, Some, None, refl, sym, ap, ◌∙◌, subst, arith}
 use Rattle.std.specs.Prelude.{take, nat_lt, option_map, unwrap_or}
 use Rattle.std.specs.List.{cons_option}
@@ -9,10 +9,11 @@ use Rattle.sqlite_value.specs.Order.{Row}
 use Rattle.sqlite_rules.specs.Lists.{Has}
 use Rattle.bike_rows.specs.View.{row_with}
 use Rattle.bike_operator.specs.declared.limits.TheConstants.{MOST_STATIONS}
+use Rattle.bike_operator.specs.Rows.{RegionRow}
 use Rattle.bike_operator.specs.Operator.{Station}
 use Rattle.bike_book.specs.Tables.{Tables, Meta, Stations}
 use Rattle.bike_book.specs.Rows.{number_value}
-use Rattle.bike_readings.specs.Readings.{meta_read, station_read}
+use Rattle.bike_readings.specs.Readings.{meta_read, region_read, station_read}
 use Rattle.bike_readings.proofs.CatalogueRows.{station_reading}
 use Rattle.bike_readings.specs.ReadOff.{operator_of, moment_of, first}
 use Rattle.bike_readings.specs.Demands.{IsGoodMeta, IsGoodStation}
@@ -20,12 +21,14 @@ use Rattle.bike_readings.specs.Rules.{AreInOrder, row_under, rows_below, IsGoodK
 use Rattle.bike_readings.proofs.Places.{has_under, under_has}
 use Rattle.bike_readings.proofs.ReadRows.{IsMeta, meta_are}
 use Rattle.bike_readings.proofs.RowRules.{some_with}
+use Rattle.bike_judges.specs.Lines.{part}
 use Rattle.bike_judges.specs.Passes.{Demands, OfRow}
 use Rattle.bike_judges.specs.Verdicts.{EarlierGood, IsFirstFailing, IsTableVerdict}
-use Rattle.bike_station_rules.specs.StationRows.{is_by, has_room, is_good_station}
-use Rattle.bike_station_rules.specs.StationVerdicts.{meta_in, now_in, is_accounted}
+use Rattle.bike_station_rules.specs.StationRows.{is_by, has_region, stands_well}
+use Rattle.bike_station_rules.specs.StationVerdicts.{meta_in, now_in, with_region, is_good_row, is_accounted}
 use Rattle.bike_station_rules.proofs.OfRows.{IsTestOf, demands_good, good_demands, same_verdict}
 use Rattle.bike_station_rules.proofs.DockTest.{AreWide}
+use Rattle.bike_station_rules.proofs.RegionLines.{own_part, region_is}
 use Rattle.bike_station_rules.proofs.StationTest.{HasNumbers, with_all_good, good_with_all}
 
 -- ---- the operator's moment
@@ -61,23 +64,32 @@ module _ (t : Tables) (up : AreInOrder t) (earlier : EarlierGood t Stations) whe
 
 module _ (t : Tables) (up : AreInOrder t) (wide : AreWide t) (now : Option ℕ) (now_is : now ≡ Some (moment_of t.meta)) where
   abbrev both : ℕ → Row → Bool
-  both n row = is_good_station now n row && is_accounted t n row
+  both n row = is_good_row now t n row && is_accounted t n row
+
+  -- the region of a station, where its line has it
+  abbrev region_beside : Row → Option (List ℕ × RegionRow)
+  region_beside row = region_read (part 12 2 (with_region t row))
+
+  -- what is asked of the row of a station
+  asked : (below : ℕ) (row : Row) → Has t.stations row → is_good_row now t below row ≡ stands_well now below (station_read row) (region_beside row)
+  asked below row has = ap (λ (r : Row). stands_well now below (station_read r) (region_beside row)) (own_part t up wide row has)
 
   station_good : (below : ℕ) (row : Row) → Has t.stations row → both below row ≡ true → IsSomeAnd (station_read row) (IsGoodStation (operator_of t) below)
   station_good below row has is =
-      let parts = and_parts (is_good_station now below row) (is_accounted t below row) is in
-      go (station_read row) refl parts.0 (with_all_good t up wide row has below parts.1)
+      let parts = and_parts (is_good_row now t below row) (is_accounted t below row) is in
+      go (station_read row) refl (sym (asked below row has) ∙ parts.0) (with_all_good t up wide row has below parts.1)
     where
-      go : (o : Option (List ℕ × Station × ℤ × ℕ)) → station_read row ≡ o → has_room now below o ≡ true → IsSomeAnd o (HasNumbers t up wide) → IsSomeAnd o (IsGoodStation (operator_of t) below)
+      go : (o : Option (List ℕ × Station × ℤ × ℕ)) → station_read row ≡ o → stands_well now below o (region_beside row) ≡ true → IsSomeAnd o (HasNumbers t up wide) → IsSomeAnd o (IsGoodStation (operator_of t) below)
       go None e room numbers = absurd cc
       go (Some x) e room numbers =
           let law = (station_reading.sound row x e).1 in
-          let two = and_parts (nat_lt below MOST_STATIONS) (is_by now x.1.reported) room in
+          let there = and_parts (nat_lt below MOST_STATIONS && is_by now x.1.reported) (has_region x.1.region (region_beside row)) room in
+          let two = and_parts (nat_lt below MOST_STATIONS) (is_by now x.1.reported) there.0 in
           let fits = two.0 in
           let by = ap (λ (o : Option ℕ). is_by o x.1.reported) (sym now_is) ∙ two.1 in
           record {
             room = grind (arith, nat_tests, fits);
-            good = record { id_is = law.id_is; good = law.good; by_now = leb-true x.1.reported (moment_of t.meta) by };
+            good = record { id_is = law.id_is; good = law.good; by_now = leb-true x.1.reported (moment_of t.meta) by; region = sym (region_is t up wide row x has e) ∙ there.1 };
             free_is = numbers.free_is;
             broken_is = numbers.broken_is;
           }
@@ -90,7 +102,8 @@ module _ (t : Tables) (up : AreInOrder t) (wide : AreWide t) (now : Option ℕ) 
         let room = g.room in
         let fits : nat_lt below MOST_STATIONS ≡ true = grind (arith, nat_tests, room) in
         let by : is_by now x.1.reported ≡ true = ap (λ (o : Option ℕ). is_by o x.1.reported) now_is ∙ le-leb x.1.reported (moment_of t.meta) g.good.by_now in
-        let alone : is_good_station now below row ≡ true = ap (has_room now below) e ∙ (λ i. (fits i && by i)) in
+        let there = region_is t up wide row x has e ∙ g.good.region in
+        let alone : is_good_row now t below row ≡ true = asked below row has ∙ ap (λ (o : Option (List ℕ × Station × ℤ × ℕ)). stands_well now below o (region_beside row)) e ∙ (λ i. ((fits i && by i) && there i)) in
         let numbers : IsSomeAnd (station_read row) (HasNumbers t up wide) = subst (λ (o : Option (List ℕ × Station × ℤ × ℕ)). IsSomeAnd o (HasNumbers t up wide)) (sym e) (record { free_is = g.free_is; broken_is = g.broken_is }) in
         let accounted : is_accounted t below row ≡ true = good_with_all t up wide row has below numbers in
         (λ i. (alone i && accounted i))
@@ -99,13 +112,13 @@ module _ (t : Tables) (up : AreInOrder t) (wide : AreWide t) (now : Option ℕ) 
   station_test = record { good = station_good; passes = good_station }
 
   abbrev pub Both : Row → Type 0
-  Both key = Demands t Stations (is_good_station now) key × Demands t Stations (is_accounted t) key
+  Both key = Demands t Stations (is_good_row now t) key × Demands t Stations (is_accounted t) key
 
-  two_of : (n : ℕ) (o : Option Row) → OfRow both n o → OfRow (is_good_station now) n o × OfRow (is_accounted t) n o
+  two_of : (n : ℕ) (o : Option Row) → OfRow both n o → OfRow (is_good_row now t) n o × OfRow (is_accounted t) n o
   two_of n None h = (tt, tt)
-  two_of n (Some row) h = let parts = and_parts (is_good_station now n row) (is_accounted t n row) h in (parts.0, parts.1)
+  two_of n (Some row) h = let parts = and_parts (is_good_row now t n row) (is_accounted t n row) h in (parts.0, parts.1)
 
-  of_two : (n : ℕ) (o : Option Row) → OfRow (is_good_station now) n o → OfRow (is_accounted t) n o → OfRow both n o
+  of_two : (n : ℕ) (o : Option Row) → OfRow (is_good_row now t) n o → OfRow (is_accounted t) n o → OfRow both n o
   of_two n None a b = tt
   of_two n (Some row) a b = λ i. (a i && b i)
 

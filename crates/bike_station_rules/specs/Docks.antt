@@ -13,4 +13,4 @@ has_dock None station = false
 
 -- the dock is one of its station's
 abbrev pub is_good_dock : Row → Bool
-is_good_dock line = has_dock (dock_read (part 0 3 line)) (station_read (part 3 11 line))
+is_good_dock line = has_dock (dock_read (part 0 3 line)) (station_read (part 3 12 line))

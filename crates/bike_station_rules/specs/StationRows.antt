@@ -1,18 +1,26 @@
--- The test of stations by themselves: how many there may be, and that each reported by now.
-use Rattle.std.specs.Prelude.{ℕ, ℤ, leb, nat_lt, List, Bool, false, ◌&&◌, Option, Some, None}
+-- The test of stations by their rows: how many there may be, that each reported by now, and that its region is there.
+use Rattle.std.specs.Prelude.{ℕ, ℤ, leb, nat_lt, List, Bool, true, false, ◌&&◌, Option, Some, None, is_some}
 use Rattle.sqlite_value.specs.Order.{Row}
+use Rattle.bike_operator.specs.Rows.{RegionRow}
 use Rattle.bike_operator.specs.declared.limits.TheConstants.{MOST_STATIONS}
 use Rattle.bike_operator.specs.Operator.{Station}
-use Rattle.bike_readings.specs.Readings.{station_read}
+use Rattle.bike_readings.specs.Readings.{region_read, station_read}
+use Rattle.bike_judges.specs.Lines.{part}
 
 -- not after now, where that is known
 abbrev pub is_by : Option ℕ → ℕ → Bool
 is_by None moment = false
 is_by (Some now) moment = leb moment now
 
-abbrev pub has_room : Option ℕ → ℕ → Option (List ℕ × Station × ℤ × ℕ) → Bool
-has_room now before None = false
-has_room now before (Some e) = nat_lt before MOST_STATIONS && is_by now e.1.reported
+-- the region that was read is there, or the station names none
+abbrev pub has_region : Option (List ℕ) → Option (List ℕ × RegionRow) → Bool
+has_region None region = true
+has_region (Some id) region = is_some region
 
+abbrev pub stands_well : Option ℕ → ℕ → Option (List ℕ × Station × ℤ × ℕ) → Option (List ℕ × RegionRow) → Bool
+stands_well now before None region = false
+stands_well now before (Some e) region = (nat_lt before MOST_STATIONS && is_by now e.1.reported) && has_region e.1.region region
+
+-- a line has a station's row and that of its region
 abbrev pub is_good_station : Option ℕ → ℕ → Row → Bool
-is_good_station now before line = has_room now before (station_read line)
+is_good_station now before line = stands_well now before (station_read (part 0 12 line)) (region_read (part 12 2 line))

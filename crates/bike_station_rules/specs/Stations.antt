@@ -45,7 +45,7 @@ station_opening line (Some e) =
     Head (record { head = line; docks = e.1.row.docks; free = e.2; broken = e.3; is_broken = replicate 201 false; is_taken = replicate 201 false })
 
 abbrev pub begins : Row → Opening StationAccount
-begins line = if is_place 0 (column line 1) then station_opening line (station_read (part 3 11 line)) else Item
+begins line = if is_place 0 (column line 1) then station_opening line (station_read (part 3 12 line)) else Item
 
 abbrev pub owner : StationAccount → Value
 owner a = column a.head 0

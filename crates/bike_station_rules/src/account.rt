@@ -42,7 +42,7 @@ impl Account for StationAccount {
         if !is_of(line, 0) {
             return Ok(Opening::Item);
         }
-        let Some(station) = read_station(Part::of(line, 3, 11)) else {
+        let Some(station) = read_station(Part::of(line, 3, 12)) else {
             return Ok(Opening::Unread);
         };
         Ok(Opening::Head(StationAccount {

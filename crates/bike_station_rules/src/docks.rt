@@ -21,7 +21,7 @@ impl LineTest for DockTest {
         let Some(dock) = read_dock(Part::of(line, 0, 3)) else {
             return Ok(false);
         };
-        let Some(station) = read_station(Part::of(line, 3, 11)) else {
+        let Some(station) = read_station(Part::of(line, 3, 12)) else {
             return Ok(false);
         };
         Ok(dock.dock.get() <= station.docks.get())

@@ -1,16 +1,19 @@
-//! The test of stations by themselves.
+//! The test of stations by their rows, each with its region.
 
-ghost use Rattle.std.specs.Prelude.{◌≡◌, take};
-ghost use Rattle.bike_station_rules.specs.StationRows.{is_by, is_good_station};
+ghost use Rattle.std.specs.Prelude.{◌≡◌, take, option_map};
+ghost use Rattle.bike_readings.specs.Readings.{region_read};
+ghost use Rattle.bike_judges.specs.Lines.{part};
+ghost use Rattle.bike_station_rules.specs.StationRows.{is_by, has_region, is_good_station};
 
 use bike_fixed::Moment;
 use bike_judges::{BadKey, LineTest};
 use bike_operator::MOST_STATIONS;
-use bike_readings::{Part, read_station};
+use bike_readings::{Part, read_region, read_station};
 use bike_schema::StatementFault;
 use sqlite::Row;
 
-/// A station is good of which there is room, and which reported by now. A line is a row of stations.
+/// A station is good for which there is room, which reported by now, and of which the region is there, if it names one.
+/// A line has the row of a station with that of its region.
 #[derive(Drop)]
 pub(crate) struct StationTest {
     /// The operator's moment, where it is known.
@@ -27,16 +30,30 @@ fn is_by(now: Option<Moment>, moment: Moment) -> bool
     }
 }
 
+/// Whether the region is there that a station names, if it names one.
+fn has_region(region: Option<&str>, line: &Row) -> bool
+    ensures { result ≡ has_region (option_map (λ text. text.now) region.entry) (region_read (part 12 2 line.now)) }
+{
+    match region {
+        Some(_) => read_region(Part::of(line, 12, 2)).is_some(),
+        None => true,
+    }
+}
+
 impl LineTest for StationTest {
     ghost test = { λ test before line. is_good_station test.now before line };
 
     ghost key = { λ test line. take 1 line };
 
     fn is_good(&self, before: u64, line: &Row) -> Result<bool, StatementFault> {
-        let Some(station) = read_station(Part::whole(line)) else {
+        let Some(station) = read_station(Part::of(line, 0, 12)) else {
             return Ok(false);
         };
-        Ok(before < u64::from(MOST_STATIONS) && is_by(self.now, station.reported))
+        Ok(
+            before < u64::from(MOST_STATIONS)
+                && is_by(self.now, station.reported)
+                && has_region(station.region, line),
+        )
     }
 
     fn bad_key(&self, line: &Row) -> Result<BadKey, StatementFault> {

@@ -28,8 +28,8 @@ use Rattle.bike_texts.specs.declared.ends.OrderEnd.TheVariants.{Depot, Station}
 use Rattle.bike_texts.specs.declared.ends.Side.{Side}
 use Rattle.bike_texts.specs.declared.ends.Side.TheVariants.{From, To}
 use Rattle.bike_texts.specs.Parts.{Parts}
-use Rattle.bike_texts.specs.Fields.{Field, Number, Signed, Fixed, Id, Language, Currency, Name, Ascii, Degrees, Metres, Segments, End, IsEnd, end_text, IsGood, Spells, HasNoTab, Choice, side_text}
-use Rattle.bike_texts.specs.Reading.{◌>>=◌, field_at, no_more, exactly, degrees_of, metres_of, choice_of, side_of, end_of}
+use Rattle.bike_texts.specs.Fields.{Field, Number, Signed, Fixed, Id, Language, Currency, Name, Ascii, Degrees, Metres, Segments, End, IsEnd, end_text, IsGood, Spells, HasNoTab, Choice, IdOrNone, side_text}
+use Rattle.bike_texts.specs.Reading.{◌>>=◌, field_at, no_more, exactly, degrees_of, metres_of, choice_of, side_of, end_of, ident_or_none_of}
 use Rattle.bike_texts.specs.Escapes.{name_at, ascii_at}
 use Rattle.bike_texts.specs.SegmentReading.{segments_of}
 use Rattle.bike_texts.proofs.SegmentLaws.{segments_sound, segments_full}
@@ -238,6 +238,23 @@ end_full (Station station) g = rw (not_star station g, ident_full station g) ref
 
 pub end_reader : IsReader end_of End
 end_reader = record { sound = end_sound; full = λ text end e g. ap end_of e ∙ end_full end g }
+
+-- ---- identifiers, or none
+
+ident_or_none_sound : (text : List ℕ) (id : Option (List ℕ)) → ident_or_none_of text ≡ Some id → Spells (IdOrNone id) text × IsGood (IdOrNone id)
+unfolding ident_or_none_of
+ident_or_none_sound text id e =
+    pick e (λ is e. subst (λ (x : Option (List ℕ)). Spells (IdOrNone x) text × IsGood (IdOrNone x)) (same_Some None id e) (is, refl)) (λ e.
+    option_and_then_some (λ i. Some (Some i)) (ident_of text) id e (λ i read made.
+    subst (λ (x : Option (List ℕ)). Spells (IdOrNone x) text × IsGood (IdOrNone x)) (same_Some (Some i) id made) (ident_sound text i read)))
+
+ident_or_none_full : (text : List ℕ) (id : Option (List ℕ)) → Spells (IdOrNone id) text → IsGood (IdOrNone id) → ident_or_none_of text ≡ Some id
+unfolding ident_or_none_of
+ident_or_none_full text None e g = rw e refl
+ident_or_none_full text (Some id) e g = rw (e, not_star id g, ident_full id g) refl
+
+pub ident_or_none_reader : IsReader ident_or_none_of IdOrNone
+ident_or_none_reader = record { sound = ident_or_none_sound; full = ident_or_none_full }
 
 -- ---- segments
 

@@ -63,6 +63,11 @@ DockOrDepot = Number 0 MOST_DOCKS
 abbrev pub Payment : ℕ → Field
 Payment = Number 1 GREATEST_PAYMENT
 
+-- an identifier, or `*` for none
+abbrev pub IdOrNone : Option (List ℕ) → Field
+IdOrNone None = Fixed (codes "*")
+IdOrNone (Some id) = Id id
+
 -- the text has no TAB
 abbrev pub HasNoTab : List ℕ → Type 0
 HasNoTab text = list_all (λ b. not (b == 9)) text ≡ true

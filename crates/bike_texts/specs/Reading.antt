@@ -80,6 +80,10 @@ side_of text =
 unfoldable pub end_of : List ℕ → Option OrderEnd
 end_of text = if bytes_eq text (codes "*") then Some Depot else (ident_of text >>= λ i. Some (Station i))
 
+-- `*` for none, or an identifier
+unfoldable pub ident_or_none_of : List ℕ → Option (Option (List ℕ))
+ident_or_none_of text = if bytes_eq text (codes "*") then Some None else (ident_of text >>= λ i. Some (Some i))
+
 -- the end that is named
 abbrev pub end_meant : EndName → OrderEnd
 end_meant name.Depot = Depot

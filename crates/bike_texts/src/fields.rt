@@ -1,6 +1,6 @@
 //! The parts of a text between its separators, from left to right.
 
-ghost use Rattle.std.specs.Prelude.{◌≡◌, ◌<◌, ◌==◌, true, IfSome};
+ghost use Rattle.std.specs.Prelude.{◌≡◌, ◌<◌, ◌==◌, true, IfSome, option_map};
 ghost use Rattle.std.specs.List.{slice_split};
 ghost use Rattle.bike_fixed.specs.Whole.{number_of, last_moment};
 ghost use Rattle.bike_fields.specs.Caller as callers;
@@ -12,13 +12,15 @@ ghost use Rattle.bike_catalogue.specs.Vehicle.{form_of, propulsion_of};
 ghost use Rattle.bike_texts.specs.Escapes.{name_at, ascii_at};
 ghost use Rattle.bike_texts.specs.SegmentReading.{segments_of};
 ghost use Rattle.bike_texts.specs.Reading.{Takes, HasIdent, part_at, field_at, no_more, exactly, i64_of, fare_of};
-ghost use Rattle.bike_texts.specs.Reading.{degrees_of, is_of_size, metres_of, choice_of, side_of, end_of, end_meant};
+ghost use Rattle.bike_texts.specs.Reading.{degrees_of, is_of_size, metres_of, choice_of, side_of, end_of, end_meant, ident_or_none_of};
 
 use crate::ends::{EndName, Side};
 use crate::escapes::{AsciiText, NameText, read_ascii, read_name};
 use crate::fare::Fare;
 use crate::segments::{SegmentList, read_segments};
-use crate::values::{read_choice, read_degrees, read_metres, read_order_end, read_side};
+use crate::values::{
+    read_choice, read_degrees, read_ident_or_none, read_metres, read_order_end, read_side,
+};
 use bike_catalogue::{Form, Propulsion};
 use bike_fields::{CallerName, Currency, Ident, Language, MaxRange, RequestKey};
 use bike_fixed::{GREATEST_FARE, Micro, Moment, Within, read_signed};
@@ -232,6 +234,15 @@ impl<'a> Fields<'a> {
     {
         let text = self.part()?;
         read_order_end(text)
+    }
+
+    /// The next part as an identifier, or `*` for none.
+    pub fn ident_or_none(&mut self) -> Option<Option<&'a str>>
+        ensures read { Takes (λ name. option_map (λ id. id.now) name) result (field_at ident_or_none_of self.old) self.new }
+        ensures good { IfSome result (λ name. IfSome name (λ id. is_ident id.now ≡ true)) }
+    {
+        let text = self.part()?;
+        read_ident_or_none(text)
     }
 
     /// The next part as the segments of a plan, at most `MOST_SEGMENTS`.

@@ -14,7 +14,7 @@ mod fields;
 mod segments;
 mod values;
 
-pub use bike_catalogue::{Plan, Segment, Station, System, VehicleType};
+pub use bike_catalogue::{Plan, Region, Segment, Station, System, VehicleType};
 pub use bike_fields::{
     BicycleNumber, Caller, DockCount, DockNumber, Ident, OrderNumber, OrderQuantity, Payment,
     RentalNumber, RequestKey, RiderNumber, TruckCapacity, TruckNumber,

@@ -1,8 +1,9 @@
 //! The values that one part of a text spells.
 
-ghost use Rattle.std.specs.Prelude.{◌≡◌, true, IfSome};
+ghost use Rattle.std.specs.Prelude.{◌≡◌, true, IfSome, option_map};
 ghost use Rattle.bike_catalogue.specs.Rows.{is_range};
-ghost use Rattle.bike_texts.specs.Reading.{HasIdent, degrees_of, is_of_size, metres_of, choice_of, side_of, end_of, end_meant};
+ghost use Rattle.bike_fields.specs.Bytes.{is_ident};
+ghost use Rattle.bike_texts.specs.Reading.{HasIdent, degrees_of, is_of_size, metres_of, choice_of, side_of, end_of, end_meant, ident_or_none_of};
 ghost use Rattle.bike_fields.specs.Reads.{Gives};
 
 use crate::ends::{EndName, Side};
@@ -70,6 +71,18 @@ pub fn read_side(text: &str) -> Option<Side>
         "to" => Some(Side::To),
         _ => None,
     }
+}
+
+/// None, written `*`, or the identifier.
+#[tactic(auto, unfolding(crate::specs::Reading::ident_or_none_of))]
+pub fn read_ident_or_none(text: &str) -> Option<Option<&str>>
+    ensures read { Gives (λ name. option_map (λ id. id.now) name) result (ident_or_none_of text.now) }
+    ensures good { IfSome result (λ name. IfSome name (λ id. is_ident id.now ≡ true)) }
+{
+    if text == "*" {
+        return Some(None);
+    }
+    Some(Some(Ident::checked(text)?))
 }
 
 /// The depot, written `*`, or the station of that identifier.

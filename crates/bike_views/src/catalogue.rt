@@ -1,4 +1,4 @@
-//! What the commands on the system, pricing plans and vehicle types name.
+//! What the commands on the system, pricing plans, vehicle types and new regions name.
 
 ghost use Rattle.std.specs.Prelude.{◌≡◌};
 ghost use Rattle.bike_catalogue.specs.Rows.{SystemRow};
@@ -8,9 +8,9 @@ ghost use Rattle.bike_schema.specs.Answers.{Answers};
 
 use crate::empty::empty_view;
 use bike_accounts::{are_plans_full, has_plan, has_system};
-use bike_catalogue::{Plan, VehicleType};
+use bike_catalogue::{Plan, Region, VehicleType};
 use bike_fields::Ident;
-use bike_fleet::{are_types_full, has_type};
+use bike_fleet::{are_regions_full, are_types_full, has_region, has_type};
 use bike_operator::View;
 use bike_schema::StatementFault;
 use sqlite::{Alter, Connection};
@@ -82,4 +82,21 @@ pub(crate) fn view_to_set_plan<S: Alter>(
         (λ s m view. view ≡ view_of s (command.SetPlan type_id.now plan.now)) }
 {
     find_type_view(conn, type_id, plan)
+}
+
+/// The view for a new region.
+pub(crate) fn view_to_add_region<S: Alter>(
+    conn: &mut Connection<S>,
+    added: &Region,
+) -> Result<View, StatementFault>
+    ensures { Answers S.Store conn.old conn.new result
+        (λ s m view. view ≡ view_of s (command.AddRegion added.now)) }
+{
+    let has_region = has_region(conn, added.region_id())?;
+    let is_full = are_regions_full(conn)?;
+    Ok(View {
+        has_region,
+        is_full,
+        ..empty_view()
+    })
 }

@@ -13,6 +13,7 @@ pub(crate) fn empty_view() -> View
         has_system: false,
         has_plan: false,
         has_type: false,
+        has_region: false,
         has_from: false,
         has_to: false,
         has_rider: false,

@@ -2,14 +2,15 @@
 
 ghost use Rattle.std.specs.Prelude.{◌≡◌, Bool};
 ghost use Rattle.bike_commands.specs.declared.command.Command.TheVariants as command;
-ghost use Rattle.bike_operator.specs.View.{view_of};
+ghost use Rattle.bike_operator.specs.View.{has_region, view_of};
 ghost use Rattle.bike_schema.specs.Answers.{Answers};
+ghost use Rattle.bike_views.specs.Open.{AnswersOpen};
 
 use crate::docks::find_dock_view;
 use crate::empty::empty_view;
 use bike_catalogue::Station;
 use bike_fields::{DockNumber, Ident};
-use bike_fleet::{are_stations_full, find_station};
+use bike_fleet::{are_stations_full, find_station, has_region};
 use bike_operator::View;
 use bike_schema::StatementFault;
 use sqlite::{Alter, Connection};
@@ -58,4 +59,35 @@ pub(crate) fn view_to_mark_dock<S: Alter>(
         (λ s m view. (broken : Bool) → view ≡ view_of s (command.MarkDock station.now dock broken)) }
 {
     find_dock_view(alloc, conn, station, dock.get())
+}
+
+/// Whether the region is there, or none is named.
+fn is_region_there<S: Alter>(
+    conn: &mut Connection<S>,
+    region: &Option<Ident>,
+) -> Result<bool, StatementFault>
+    ensures { AnswersOpen S.Store conn.old conn.new result (λ s m there. there ≡ has_region s region.now) }
+{
+    match region {
+        None => Ok(true),
+        Some(region) => has_region(conn, region),
+    }
+}
+
+/// The view for another region of a station, or for none.
+pub(crate) fn view_to_set_region<S: Alter>(
+    conn: &mut Connection<S>,
+    station: &Ident,
+    region: &Option<Ident>,
+) -> Result<View, StatementFault>
+    ensures { Answers S.Store conn.old conn.new result
+        (λ s m view. view ≡ view_of s (command.SetRegion station.now region.now)) }
+{
+    let station = find_station(conn, station)?;
+    let has_region = is_region_there(conn, region)?;
+    Ok(View {
+        station,
+        has_region,
+        ..empty_view()
+    })
 }

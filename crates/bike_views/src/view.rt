@@ -5,13 +5,17 @@ ghost use Rattle.bike_operator.specs.View.{view_of};
 ghost use Rattle.bike_schema.specs.Answers.{Answers};
 
 use crate::bikes::{view_to_add_bike, view_to_mark_bike, view_to_retire_bike};
-use crate::catalogue::{view_to_add_plan, view_to_add_type, view_to_set_plan, view_to_set_system};
+use crate::catalogue::{
+    view_to_add_plan, view_to_add_region, view_to_add_type, view_to_set_plan, view_to_set_system,
+};
 use crate::orders::{
     view_to_add_truck, view_to_close_order, view_to_load, view_to_open_order, view_to_unload,
 };
 use crate::rentals::{view_to_end, view_to_recover, view_to_refund, view_to_start};
 use crate::riders::{view_to_add_rider, view_to_set_rider, view_to_top_up};
-use crate::stations::{view_to_add_station, view_to_mark_dock, view_to_set_station};
+use crate::stations::{
+    view_to_add_station, view_to_mark_dock, view_to_set_region, view_to_set_station,
+};
 use bike_commands::Command;
 use bike_operator::View;
 use bike_schema::StatementFault;
@@ -73,5 +77,7 @@ pub fn find_view<S: Alter>(
             dock,
         } => view_to_unload(alloc, conn, *truck, *order, *bike, *side, *dock),
         Command::CloseOrder { order } => view_to_close_order(alloc, conn, *order),
+        Command::AddRegion(added) => view_to_add_region(conn, added),
+        Command::SetRegion { station, region } => view_to_set_region(conn, station, region),
     }
 }

@@ -34,6 +34,7 @@ feed_plain feeds.VehicleTypes = refl
 feed_plain feeds.StationInformation = refl
 feed_plain feeds.StationStatus = refl
 feed_plain feeds.SystemPricingPlans = refl
+feed_plain feeds.SystemRegions = refl
 
 feed_named : (feed : AnyFeed) → feed_of (feed_name feed) ≡ Some feed
 unfolding feed_of
@@ -43,6 +44,7 @@ feed_named feeds.VehicleTypes = refl
 feed_named feeds.StationInformation = refl
 feed_named feeds.StationStatus = refl
 feed_named feeds.SystemPricingPlans = refl
+feed_named feeds.SystemRegions = refl
 
 table_named : (table : DayTable) → table_of (table_name table) ≡ Some table
 unfolding table_of

@@ -26,7 +26,7 @@ usage: bikeshare [WORD FILE ..]
   --port P   the port, 0 to 65535; 0 is a free one
   --count N  ends after N connections, 1 to 1000000000; has no end where it is left out
 
-A feed's NAME is gbfs, system_information, vehicle_types, station_information, station_status or system_pricing_plans.
+A feed's NAME is gbfs, system_information, vehicle_types, station_information, station_status, system_pricing_plans or system_regions.
 WHICH is entries or rentals, DATE is the day's date as 2024-03-31, and ZONE a POSIX time zone as CET-1CEST,M3.5.0,M10.5.0/3.
 An import's NAME is 1 to 36 of a-z 0-9 _ -, and stands for the caller import:NAME.
 FILE is an SQLite database, or :memory: for one that is gone at the end.

@@ -2,9 +2,9 @@
 use Rattle.std.proofs.Common.{List, ℕ, [], ◌∷◌, codes, refl}
 use Rattle.std.specs.Borrow.{Bor}
 use Rattle.sqlite_value.specs.declared.value.Value.TheVariants.{Text}
-use Rattle.bike_catalogue.specs.Rows.{SegmentRow, PlanRow, TypeRow, SystemRow}
-use Rattle.bike_book.specs.Tables.{System, Plans, Segments, Types}
-use Rattle.bike_book.specs.Rows.{system_row, plan_row, segment_row, type_row}
+use Rattle.bike_catalogue.specs.Rows.{SegmentRow, PlanRow, TypeRow, RegionRow, SystemRow}
+use Rattle.bike_book.specs.Tables.{System, Plans, Segments, Types, Regions}
+use Rattle.bike_book.specs.Rows.{system_row, plan_row, segment_row, type_row, region_row}
 use Rattle.bike_writes.proofs.TextLemmas.{Makes, number_suits}
 use Rattle.sqlite_tied.specs.Compute.{everything}
 use Rattle.bike_rows.proofs.WriteLaws.{row_put, row_updated}
@@ -31,3 +31,7 @@ adds_type t = adds_row Types (row_put (table_key Types) (λ s tree. (refl, refl,
 pub sets_default_plan : (type_id plan : Bor (List ℕ)) → Makes (codes "UPDATE types SET plan_id = ?2 WHERE type_id = ?1") (Text type_id.now ∷ Text plan.now ∷ []) (row.SetDefaultPlan type_id plan)
 unfolding everything
 sets_default_plan type_id plan = sets_columns Types _ _ (row_updated (table_key Types) 0 ((5, 1) ∷ []) _ (λ tree. (refl, refl, refl), refl) refl refl refl (λ r. refl) (λ r. refl))
+
+pub adds_region : (r : Bor RegionRow) → Makes (codes "INSERT INTO regions VALUES (?1, ?2)") (region_row r.now.region_id r.now) (row.AddRegion r)
+unfolding everything
+adds_region r = adds_row Regions (row_put (table_key Regions) (λ s tree. (refl, refl, refl, λ base. refl)) refl refl (λ rows. refl))

@@ -1,10 +1,10 @@
-//! The statements on `system`, `plans`, `segments` and `types`.
+//! The statements on `system`, `plans`, `segments`, `types` and `regions`.
 
 ghost use Rattle.bike_book.specs.declared.row_change.RowChange.TheVariants as row;
 ghost use Rattle.bike_book.specs.Writes.{write_of};
 ghost use Rattle.bike_schema.specs.Calls.{Writes};
 
-use bike_catalogue::{Plan, Segment, System, VehicleType};
+use bike_catalogue::{Plan, Region, Segment, System, VehicleType};
 use bike_fields::Ident;
 use bike_rows::write::run;
 use bike_schema::{Staged, StatementFault};
@@ -108,5 +108,19 @@ pub(crate) fn set_default_plan<S: Alter>(
         tx,
         "UPDATE types SET plan_id = ?2 WHERE type_id = ?1",
         params![type_id.as_str(), plan.as_str()],
+    )
+}
+
+/// Adds a region.
+pub(crate) fn add_region<S: Alter>(
+    tx: &mut Staged<'_, S>,
+    region: &Region,
+) -> Result<(), StatementFault>
+    ensures { Writes S.Store tx.old.conn tx.new.conn result (write_of (row.AddRegion region.entry)) }
+{
+    run(
+        tx,
+        "INSERT INTO regions VALUES (?1, ?2)",
+        params![region.region_id().as_str(), region.name().as_str()],
     )
 }

@@ -3,7 +3,7 @@
 ghost use Rattle.bike_book.specs.Writes.{write_of};
 ghost use Rattle.bike_schema.specs.Calls.{Writes};
 
-use crate::catalogue::{add_plan, add_segment, add_system, add_type, set_default_plan};
+use crate::catalogue::{add_plan, add_region, add_segment, add_system, add_type, set_default_plan};
 use crate::fleet::{add_bike, add_truck, set_bike};
 use crate::ledger::{add_entry, add_kept, set_meta};
 use crate::orders::{add_order, set_order};
@@ -11,7 +11,7 @@ use crate::rentals::{add_rental, close_rental, set_refunded};
 use crate::riders::{add_rider, set_balance, set_blocked};
 use crate::stations::{
     add_count, add_dock, add_station, set_count, set_dock, set_docks, set_docks_reported,
-    set_flags, set_reported,
+    set_flags, set_region, set_reported,
 };
 use bike_book::RowChange;
 use bike_schema::{Staged, StatementFault};
@@ -30,6 +30,7 @@ pub fn put<S: Alter>(tx: &mut Staged<'_, S>, change: &RowChange<'_>) -> Result<(
         RowChange::AddSegment { plan, seq, segment } => add_segment(tx, plan, seq, segment),
         RowChange::AddType(vehicle_type) => add_type(tx, vehicle_type),
         RowChange::SetDefaultPlan { type_id, plan } => set_default_plan(tx, type_id, plan),
+        RowChange::AddRegion(region) => add_region(tx, region),
         RowChange::AddStation { station, reported } => add_station(tx, station, reported),
         RowChange::SetFlags {
             station,
@@ -57,6 +58,7 @@ pub fn put<S: Alter>(tx: &mut Staged<'_, S>, change: &RowChange<'_>) -> Result<(
             broken,
             reported,
         } => set_docks_reported(tx, station, free, broken, reported),
+        RowChange::SetRegion { station, region } => set_region(tx, station, region),
         RowChange::AddDock {
             station,
             dock,

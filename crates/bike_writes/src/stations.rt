@@ -1,10 +1,10 @@
-//! The statements on `stations`, `docks` and `counts`.
+//! The statements on `stations_2`, `docks` and `counts`.
 
 ghost use Rattle.bike_book.specs.declared.row_change.RowChange.TheVariants as row;
 ghost use Rattle.bike_book.specs.Writes.{write_of};
 ghost use Rattle.bike_schema.specs.Calls.{Writes};
 
-use crate::columns::seconds_of;
+use crate::columns::{seconds_of, text_in};
 use bike_catalogue::Station;
 use bike_fields::Ident;
 use bike_fixed::Moment;
@@ -12,7 +12,7 @@ use bike_rows::write::run;
 use bike_schema::{Staged, StatementFault};
 use sqlite::{Alter, params};
 
-/// Adds a station: installed, renting, returning, with all docks available.
+/// Adds a station: installed, renting, returning, with all docks available, and in no region.
 pub(crate) fn add_station<S: Alter>(
     tx: &mut Staged<'_, S>,
     station: &Station,
@@ -22,7 +22,7 @@ pub(crate) fn add_station<S: Alter>(
 {
     run(
         tx,
-        "INSERT INTO stations VALUES (?1, ?2, ?3, ?4, ?5, ?6, ?7, ?8, ?9, ?10, ?11)",
+        "INSERT INTO stations_2 VALUES (?1, ?2, ?3, ?4, ?5, ?6, ?7, ?8, ?9, ?10, ?11, ?12)",
         params![
             station.station_id().as_str(),
             station.name().as_str(),
@@ -34,7 +34,8 @@ pub(crate) fn add_station<S: Alter>(
             true,
             seconds_of(reported),
             station.docks().get(),
-            0_i64
+            0_i64,
+            None::<i64>
         ],
     )
 }
@@ -53,7 +54,7 @@ pub(crate) fn set_flags<S: Alter>(
 {
     run(
         tx,
-        "UPDATE stations SET installed = ?2, renting = ?3, \"returning\" = ?4, reported = ?5 WHERE station_id = ?1",
+        "UPDATE stations_2 SET installed = ?2, renting = ?3, \"returning\" = ?4, reported = ?5 WHERE station_id = ?1",
         params![
             station.as_str(),
             is_installed,
@@ -74,7 +75,7 @@ pub(crate) fn set_reported<S: Alter>(
 {
     run(
         tx,
-        "UPDATE stations SET reported = ?2 WHERE station_id = ?1",
+        "UPDATE stations_2 SET reported = ?2 WHERE station_id = ?1",
         params![station.as_str(), seconds_of(reported)],
     )
 }
@@ -90,7 +91,7 @@ pub(crate) fn set_docks<S: Alter>(
 {
     run(
         tx,
-        "UPDATE stations SET free = ?2, broken = ?3 WHERE station_id = ?1",
+        "UPDATE stations_2 SET free = ?2, broken = ?3 WHERE station_id = ?1",
         params![station.as_str(), free, broken],
     )
 }
@@ -107,8 +108,23 @@ pub(crate) fn set_docks_reported<S: Alter>(
 {
     run(
         tx,
-        "UPDATE stations SET free = ?2, broken = ?3, reported = ?4 WHERE station_id = ?1",
+        "UPDATE stations_2 SET free = ?2, broken = ?3, reported = ?4 WHERE station_id = ?1",
         params![station.as_str(), free, broken, seconds_of(reported)],
+    )
+}
+
+/// Sets the region in which a station stands; with none it stands in none.
+pub(crate) fn set_region<S: Alter>(
+    tx: &mut Staged<'_, S>,
+    station: &Ident,
+    region: Option<&Ident>,
+) -> Result<(), StatementFault>
+    ensures { Writes S.Store tx.old.conn tx.new.conn result (write_of (row.SetRegion station.entry region.entry)) }
+{
+    run(
+        tx,
+        "UPDATE stations_2 SET region_id = ?2 WHERE station_id = ?1",
+        params![station.as_str(), text_in(region)],
     )
 }
 

@@ -1,4 +1,4 @@
-use Rattle.bike_book.proofs.CatalogueBooks.{set_system, add_type, set_plan, add_station, set_station}
+use Rattle.bike_book.proofs.CatalogueBooks.{set_system, add_type, set_plan, add_region, add_station, set_station, set_region}
 use Rattle.bike_book.proofs.PlanBooks.{add_plan}
 use Rattle.bike_book.proofs.laws.books_catalogue.Goals as goal
 
@@ -14,8 +14,14 @@ returns-clause-add_type c = add_type
 pub returns-clause-set_plan : goal.returns-clause-set_plan
 returns-clause-set_plan c = set_plan
 
+pub returns-clause-add_region : goal.returns-clause-add_region
+returns-clause-add_region c = add_region
+
 pub returns-clause-add_station : goal.returns-clause-add_station
 returns-clause-add_station c = add_station
 
 pub returns-clause-set_station : goal.returns-clause-set_station
 returns-clause-set_station c = set_station
+
+pub returns-clause-set_region : goal.returns-clause-set_region
+returns-clause-set_region c = set_region

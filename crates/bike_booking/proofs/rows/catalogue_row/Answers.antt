@@ -1,7 +1,7 @@
 use Rattle.std.proofs.Common.{◌≡◌, None, sym, ap, ◌∙◌}
 use Rattle.std.specs.FinMap as fin
 use Rattle.bike_book.specs.declared.row_change.RowChange.TheVariants as row
-use Rattle.bike_book.proofs.CatalogueBooks.{set_system, add_type, set_plan, add_station, set_station}
+use Rattle.bike_book.proofs.CatalogueBooks.{set_system, add_type, set_plan, add_region, add_station, set_station, set_region}
 use Rattle.bike_book.proofs.SoundNumbers.{none_docked, none_broken}
 use Rattle.bike_booking.proofs.BookingLemmas.{row_books}
 use Rattle.bike_booking.proofs.rows.catalogue_row.Goals as goal
@@ -21,6 +21,11 @@ returns-in-SetPlan c =
     let a = c.in-SetPlan in
     row_books c.args.now (row.SetDefaultPlan a.type_id a.plan) a.is (λ s m read. set_plan s m c.args.now read.listing a.type_id a.plan)
 
+pub returns-in-AddRegion : goal.returns-in-AddRegion
+returns-in-AddRegion c =
+    let x = c.in-AddRegion.region in
+    row_books c.args.now (row.AddRegion x) c.in-AddRegion.is (λ s m read. add_region s m c.args.now read.listing x)
+
 pub returns-else-not-lacks_station : goal.returns-else-not-lacks_station
 returns-else-not-lacks_station c =
     let x = c.in-AddStation.station in
@@ -33,3 +38,8 @@ returns-in-SetStation c =
     let a = c.in-SetStation in
     row_books c.args.now (row.SetFlags a.station a.is_installed a.is_renting a.is_returning c.args.now) a.is
     (λ s m read. set_station s m c.args.now read.listing a.station a.is_installed a.is_renting a.is_returning)
+
+pub returns-in-SetRegion : goal.returns-in-SetRegion
+returns-in-SetRegion c =
+    let a = c.in-SetRegion in
+    row_books c.args.now (row.SetRegion a.station a.region) a.is (λ s m read. set_region s m c.args.now read.listing a.station a.region)

@@ -1,3 +1,4 @@
+use Rattle.bike_core.proofs.Decisions.{region_named}
 use Rattle.bike_core.proofs.decision.decide.Goals as goal
 
 pub returns-in-SetSystem : goal.returns-in-SetSystem
@@ -50,3 +51,9 @@ returns-in-Unload c = rw c.in-Unload.is (λ s e. c.decide_unload.ensures s c.arg
 
 pub returns-in-CloseOrder : goal.returns-in-CloseOrder
 returns-in-CloseOrder c = rw c.in-CloseOrder.is (λ s e. c.decide_close_order.ensures s c.args.now e)
+
+pub returns-in-AddRegion : goal.returns-in-AddRegion
+returns-in-AddRegion c = rw c.in-AddRegion.is (λ s e. c.decide_add_region.ensures s c.args.now e)
+
+pub returns-in-SetRegion : goal.returns-in-SetRegion
+returns-in-SetRegion c = rw (c.in-SetRegion.is, region_named c.as_ref.result c.in-SetRegion.region c.as_ref.ensures.value) (λ s e. c.decide_set_region.ensures s c.args.now e)

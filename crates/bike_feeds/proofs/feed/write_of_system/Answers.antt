@@ -1,4 +1,4 @@
-use Rattle.bike_feed_texts.specs.declared.feed.Feed.TheVariants.{Gbfs, SystemInformation, VehicleTypes, StationInformation, StationStatus, SystemPricingPlans}
+use Rattle.bike_feed_texts.specs.declared.feed.Feed.TheVariants.{Gbfs, SystemInformation, VehicleTypes, StationInformation, StationStatus, SystemPricingPlans, SystemRegions}
 use Rattle.bike_feeds.proofs.FeedLemmas.{feed_as, value_done, value_cut}
 use Rattle.bike_feeds.proofs.feed.write_of_system.Goals as goal
 
@@ -33,3 +33,6 @@ returns-in-StationStatus g c = feed_as g.S.Store c.args.system.now c.args.moment
 
 pub returns-in-SystemPricingPlans : goal.returns-in-SystemPricingPlans
 returns-in-SystemPricingPlans g c = feed_as g.S.Store c.args.system.now c.args.moment SystemPricingPlans c.in-SystemPricingPlans.is c.write_pricing_plans.ensures
+
+pub returns-in-SystemRegions : goal.returns-in-SystemRegions
+returns-in-SystemRegions g c = feed_as g.S.Store c.args.system.now c.args.moment SystemRegions c.in-SystemRegions.is c.write_system_regions.ensures

@@ -7,7 +7,7 @@ use Rattle.bike_feeds.proofs.items.write_stations.Given as goal
 
 abbrev pub invariant-stations : goal.invariant-stations
 invariant-stations g l =
-    Walks g.S.Store (λ x. x.row.station_id) (λ s x. station_tree l.fn.system x.row) (λ s. s.stations) (option_map station_of l.next) l.fn.desk l.desk l.fn.json l.json
+    Walks g.S.Store (λ x. x.row.station_id) (λ s x. station_tree l.fn.system x.row x.region) (λ s. s.stations) (option_map station_of l.next) l.fn.desk l.desk l.fn.json l.json
     (g.W.Output.contents l.fn.out) (g.W.Output.contents l.out)
 
 abbrev pub decreases-stations : goal.decreases-stations

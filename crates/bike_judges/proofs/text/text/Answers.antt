@@ -1,8 +1,8 @@
 use Rattle.std.proofs.Common.{refl}
 use Rattle.sqlite_tied.specs.Compute.{everything}
-use Rattle.bike_book.specs.Tables.{Meta, System, Plans, Stations, Riders, Rentals, Entries, Kept}
+use Rattle.bike_book.specs.Tables.{Meta, System, Plans, Regions, Riders, Rentals, Entries, Kept}
 use Rattle.bike_judges.proofs.RowTexts.{table_lines}
-use Rattle.bike_judges.proofs.JoinTexts.{segments_lines, types_lines, docks_lines, rental_riders_lines, rental_bikes_lines, rental_plans_lines, rental_stations_lines, rental_ends_lines, entry_riders_lines, entry_rentals_lines}
+use Rattle.bike_judges.proofs.JoinTexts.{segments_lines, types_lines, station_rows_lines, docks_lines, rental_riders_lines, rental_bikes_lines, rental_plans_lines, rental_stations_lines, rental_ends_lines, entry_riders_lines, entry_rentals_lines}
 use Rattle.bike_judges.proofs.TwoJoinTexts.{bike_names_lines, bike_uses_lines, order_names_lines, count_names_lines, order_ends_lines}
 use Rattle.bike_judges.proofs.UnionTexts.{bike_docks_lines, trucks_lines, order_bikes_lines}
 use Rattle.bike_judges.proofs.UnionOfThreeTexts.{stations_lines, counts_lines}
@@ -28,9 +28,13 @@ pub returns-in-Types : goal.returns-in-Types
 unfolding everything
 returns-in-Types c = rw c.in-Types.is (types_lines (λ tree more. refl, refl))
 
+pub returns-in-Regions : goal.returns-in-Regions
+unfolding everything
+returns-in-Regions c = rw c.in-Regions.is (table_lines Regions (λ tree. refl, refl))
+
 pub returns-in-StationRows : goal.returns-in-StationRows
 unfolding everything
-returns-in-StationRows c = rw c.in-StationRows.is (table_lines Stations (λ tree. refl, refl))
+returns-in-StationRows c = rw c.in-StationRows.is (station_rows_lines (λ tree more. refl, refl))
 
 pub returns-in-Stations : goal.returns-in-Stations
 unfolding everything

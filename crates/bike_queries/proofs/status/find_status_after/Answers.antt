@@ -1,4 +1,5 @@
-use Rattle.std.proofs.Common.{sym, subst, ◌∙◌}
+use Rattle.std.proofs.Common.{rules, sym, subst, ◌∙◌}
+use Rattle.bike_rows.proofs.ChainLaws.{reads_failed, reads_both}
 use Rattle.bike_schema.proofs.AnswerLemmas.{answers_then, answers_both}
 use Rattle.bike_queries.specs.StationCounts.{IsTally}
 use Rattle.bike_queries.proofs.StatusLemmas.{status_next, no_status}
@@ -7,6 +8,9 @@ use Rattle.bike_queries.proofs.status.find_status_after.Goals as goal
 pub returns-in_default : goal.returns-in_default
 returns-in_default g c =
     answers_then _ _ c.in_ok-row.ensures (λ s m sound listing is. no_status s sound _ (sym c.in_default.is ∙ is) c.args.type_ids.now)
+
+pub returns-in_err-tally : goal.returns-in_err-tally
+returns-in_err-tally g c = reads_failed (reads_both c.in_ok-row.ensures c.in_err-tally.ensures) (search rules)
 
 pub returns : goal.returns
 returns g c =

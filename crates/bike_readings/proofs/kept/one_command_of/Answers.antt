@@ -1,4 +1,4 @@
-use Rattle.std.proofs.Common.{rules, ◌≡◌, Ok, refl, subst, IfOk, IfSome, MatchOption, None, sym}
+use Rattle.std.proofs.Common.{rules, ◌≡◌, IfSome, MatchOption, None}
 use Rattle.std.specs.Bool.{then_some}
 use Rattle.std.specs.Str.{bytes_eq}
 use Rattle.bike_commands.specs.Commands.{text_of}

@@ -1,4 +1,4 @@
-use Rattle.bike_readings.proofs.CatalogueRows.{meta_reading, system_reading, plan_reading, segment_reading, type_reading, station_reading, dock_reading}
+use Rattle.bike_readings.proofs.CatalogueRows.{meta_reading, system_reading, plan_reading, segment_reading, type_reading, region_reading, station_reading, dock_reading}
 use Rattle.bike_readings.proofs.FleetRows.{bike_reading, truck_reading, order_reading}
 use Rattle.bike_readings.proofs.LedgerRows.{rider_reading, rental_reading, entry_reading, count_reading}
 use Rattle.bike_readings.proofs.KeptRows.{kept_reading}
@@ -18,6 +18,9 @@ returns-clause-segments c = segment_reading
 
 pub returns-clause-types : goal.returns-clause-types
 returns-clause-types c = type_reading
+
+pub returns-clause-regions : goal.returns-clause-regions
+returns-clause-regions c = region_reading
 
 pub returns-clause-stations : goal.returns-clause-stations
 returns-clause-stations c = station_reading

@@ -1,6 +1,9 @@
-use Rattle.std.proofs.Common.{None}
-use Rattle.bike_server.proofs.ServingLemmas.{exchanged}
+use Rattle.std.proofs.Common.{None, []}
+use Rattle.bike_server.proofs.ServingLemmas.{exchanged, served}
 use Rattle.bike_server.proofs.server.serve_stream.Goals as goal
+
+pub returns-in_default-clause-kept : goal.returns-in_default-clause-kept
+returns-in_default-clause-kept g c clean s at = served g.S.Store c.args.desk.now s [] at
 
 pub returns-then-may_be_early-clause-kept : goal.returns-then-may_be_early-clause-kept
 returns-then-may_be_early-clause-kept g c clean s at =

@@ -1,7 +1,7 @@
-use Rattle.std.proofs.Common.{◌≡◌, refl, ap, ◌∙◌}
+use Rattle.std.proofs.Common.{◌≡◌, rules, refl, ap, ◌∙◌}
 use Rattle.std.specs.Prelude.{option_map, unwrap_or, Some}
 use Rattle.std.specs.FinMap as map
-use Rattle.bike_rows.proofs.ChainLaws.{reads_as}
+use Rattle.bike_rows.proofs.ChainLaws.{reads_as, reads_failed}
 use Rattle.bike_operator.specs.Operator.{Station}
 use Rattle.bike_fleet.specs.declared.stations.DockNumbers.{DockNumbers}
 use Rattle.bike_fleet.specs.Fleet.{dock_numbers_of}
@@ -21,3 +21,6 @@ returns g c = reads_as (open_both (open_both c.in_ok-docks.ensures c.in_ok-has_d
       has_row = it.0.1 s h;
       counts = counts_kept s h.listed station (λ id. id.now) c.args.touched.now.type_id _ c.in_ok-counted.counted refl refl refl (it.1 s h);
     })
+
+pub returns-in_err-counted : goal.returns-in_err-counted
+returns-in_err-counted g c = reads_failed (open_both (open_both c.in_ok-docks.ensures c.in_ok-has_dock_row.ensures) c.in_err-counted.ensures) (search rules)

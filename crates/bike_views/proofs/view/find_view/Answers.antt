@@ -78,3 +78,9 @@ returns-in-Unload g c = view_for c.view_to_unload.ensures c.in-Unload.is
 
 pub returns-in-CloseOrder : goal.returns-in-CloseOrder
 returns-in-CloseOrder g c = view_for c.view_to_close_order.ensures c.in-CloseOrder.is
+
+pub returns-in-AddRegion : goal.returns-in-AddRegion
+returns-in-AddRegion g c = view_for c.view_to_add_region.ensures c.in-AddRegion.is
+
+pub returns-in-SetRegion : goal.returns-in-SetRegion
+returns-in-SetRegion g c = view_for c.view_to_set_region.ensures c.in-SetRegion.is

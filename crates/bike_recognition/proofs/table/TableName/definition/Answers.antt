@@ -1,4 +1,4 @@
-use Rattle.bike_book.specs.Tables.{Meta, System, Plans, Segments, Types, Stations, Docks, Bikes, Trucks, Riders, Rentals, Orders, Entries, Kept, Counts}
+use Rattle.bike_book.specs.Tables.{Meta, System, Plans, Segments, Types, Regions, Stations, Docks, Bikes, Trucks, Riders, Rentals, Orders, Entries, Kept, Counts}
 use Rattle.bike_schema.proofs.MakeFacts.{declared}
 use Rattle.bike_recognition.proofs.table.TableName.definition.Goals as goal
 
@@ -16,6 +16,9 @@ returns-in-Segments c = rw c.in-Segments.is (declared Segments).defined
 
 pub returns-in-Types : goal.returns-in-Types
 returns-in-Types c = rw c.in-Types.is (declared Types).defined
+
+pub returns-in-Regions : goal.returns-in-Regions
+returns-in-Regions c = rw c.in-Regions.is (declared Regions).defined
 
 pub returns-in-Stations : goal.returns-in-Stations
 returns-in-Stations c = rw c.in-Stations.is (declared Stations).defined

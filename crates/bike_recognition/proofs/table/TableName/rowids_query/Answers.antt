@@ -1,4 +1,4 @@
-use Rattle.bike_recognition.proofs.RowidTexts.{meta_rowids, system_rowids, plans_rowids, segments_rowids, types_rowids, stations_rowids, docks_rowids, bikes_rowids, trucks_rowids, riders_rowids, rentals_rowids, orders_rowids, entries_rowids, kept_rowids, counts_rowids}
+use Rattle.bike_recognition.proofs.RowidTexts.{meta_rowids, system_rowids, plans_rowids, segments_rowids, types_rowids, regions_rowids, stations_rowids, docks_rowids, bikes_rowids, trucks_rowids, riders_rowids, rentals_rowids, orders_rowids, entries_rowids, kept_rowids, counts_rowids}
 use Rattle.bike_recognition.proofs.table.TableName.rowids_query.Goals as goal
 
 pub returns-in-Meta : goal.returns-in-Meta
@@ -15,6 +15,9 @@ returns-in-Segments c = rw c.in-Segments.is segments_rowids
 
 pub returns-in-Types : goal.returns-in-Types
 returns-in-Types c = rw c.in-Types.is types_rowids
+
+pub returns-in-Regions : goal.returns-in-Regions
+returns-in-Regions c = rw c.in-Regions.is regions_rowids
 
 pub returns-in-Stations : goal.returns-in-Stations
 returns-in-Stations c = rw c.in-Stations.is stations_rowids

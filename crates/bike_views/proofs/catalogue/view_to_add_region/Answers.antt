@@ -1,0 +1,9 @@
+use Rattle.std.proofs.Common.{ap, ◌∙◌}
+use Rattle.std.specs.FinMap as map
+use Rattle.bike_rows.proofs.ChainLaws.{reads_as, reads_both}
+use Rattle.bike_views.proofs.catalogue.view_to_add_region.Goals as goal
+
+pub returns : goal.returns
+returns g c = reads_as (reads_both c.in_ok-has_region.ensures c.in_ok-is_full.ensures) (λ db it s h.
+    let has = it.0 s h ∙ ap (map.contains_key s.regions) c.region_id.ensures in
+    λ i. record (c.empty_view.ensures i) { has_region = has i; is_full = it.1 s h i })
