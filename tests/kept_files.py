@@ -93,6 +93,12 @@ def test_every_kind_of_row(program):
     is_older(program, "every")
 
 
+def test_a_file_with_regions(program):
+    """Kept when regions came in, of schema 2: the program of this schema serves it."""
+    unpacked(program, "regions")
+    shows(program, "regions.db", json.loads((FILES / "regions.json").read_text(encoding="utf-8")))
+
+
 def test_the_tour_made_anew(program):
     made_anew_shows(program, "tour", TOUR.read_bytes())
 

@@ -1,7 +1,7 @@
 #!/usr/bin/env python3
-"""Made the files of schema 1 that stand here, once, with the last program that writes that schema. No later program can.
+"""Made the files that stand here, each once, with the last program that writes its schema. No later program can.
 
-    tests/files/make.py PROGRAM
+    tests/files/make.py PROGRAM NAME ..
 
 Each city is served from its request lines, closed, and kept as NAME.db.gz; NAME.json tells what that program showed of it: its feeds for
 one moment, its day tables, the answers of `lines` to some lines sent to a copy, and `check`. README.md tells what a later program owes.
@@ -19,7 +19,7 @@ from pathlib import Path
 sys.dont_write_bytecode = True
 HERE = Path(__file__).resolve().parent
 TOP = HERE.parent.parent
-FEEDS = ("gbfs", "system_information", "vehicle_types", "station_information", "station_status", "system_pricing_plans")
+FEEDS = ["gbfs", "system_information", "vehicle_types", "station_information", "station_status", "system_pricing_plans"]
 EXAMPLE = TOP / "examples/city"
 
 
@@ -35,12 +35,12 @@ class Made:
         assert not ran.returncode and not ran.stderr, (words, ran.returncode, ran.stderr)
         return ran.stdout
 
-    def keep(self, name, moment, days, again):
+    def keep(self, name, moment, days, again, feeds=FEEDS):
         """Keeps the file and what the program shows of it."""
         kept = (self.folder / "city.db").read_bytes()
         for copy in ("alone.db", "again.db"):
             (self.folder / copy).write_bytes(kept)
-        feeds = {it: self.run("feed", "alone.db", it, "--at", str(moment)).decode() for it in FEEDS}
+        feeds = {it: self.run("feed", "alone.db", it, "--at", str(moment)).decode() for it in feeds}
         tables = [[which, date, zone, self.run("day", "alone.db", which, date, zone).decode()] for date, zone in days for which in ("entries", "rentals")]
         assert self.run("check", "alone.db") == b"sound\n"
         (HERE / f"{name}.db.gz").write_bytes(gzip.compress(kept, 9, mtime=0))
@@ -49,11 +49,11 @@ class Made:
         (HERE / f"{name}.json").write_text(json.dumps(shown, ensure_ascii=False, indent=1) + "\n", encoding="utf-8")
 
 
-def served(program, folder, name, given, moment, days, new):
+def served(program, folder, name, given, moment, days, new, feeds=FEEDS):
     """Serves the lines into a new file and keeps it; all of the lines are sent again, and then the new ones."""
     made = Made(program, folder)
     made.run("lines", "city.db", given=given)
-    made.keep(name, moment, days, [*given.decode().splitlines(), *new])
+    made.keep(name, moment, days, [*given.decode().splitlines(), *new], feeds)
 
 
 def example(program, folder):
@@ -73,7 +73,7 @@ def example(program, folder):
 
 def main(words):
     program = str(Path(words[0]).resolve())
-    for name in ("tour", "city", "every"):
+    for name in words[1:]:
         with tempfile.TemporaryDirectory(prefix="bikeshare-files-") as folder:
             folder = Path(folder)
             if name == "city":
@@ -81,6 +81,10 @@ def main(words):
             elif name == "tour":
                 new = ["1700003000\trider:17\ts9\tstart\t17\ta1\t2"]
                 served(program, folder, name, (TOP / "docs/tour.txt").read_bytes(), 1700000600, [("2023-11-14", "UTC0")], new)
+            elif name == "regions":
+                new = ["1700100000\toffice\tn1\tset-region\ta1\t*", "1700100000\toffice\tn2\tset-region\tb2\twest"]
+                days = [("2023-11-15", "UTC0")]
+                served(program, folder, name, (HERE / "regions.in").read_bytes(), 1700050000, days, new, [*FEEDS, "system_regions"])
             else:
                 new = ["1700100000\toffice\tn1\ttop-up\t17\t100", "1700100000\toffice\tn2\tadd-station\td4\tNew\t1\t2\t200"]
                 days = [("2023-11-14", "UTC0"), ("2023-11-15", "CET-1CEST,M3.5.0,M10.5.0/3")]
