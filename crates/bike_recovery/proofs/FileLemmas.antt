@@ -1,5 +1,5 @@
 -- What an open finds after a stop.
-use Rattle.std.proofs.Common.{◌≡◌, ℕ, IsTrue, Bool, true, false, List, ◌∷◌, [], Option, Some, None, Result, Ok, Err, inl, inr, refl, sym, subst, arith}
+use Rattle.std.proofs.Common.{◌≡◌, IsTrue, Bool, true, false, Option, Some, None, Result, Ok, Err, inl, inr, refl, sym, subst, arith}
 use Rattle.std.proofs.Math.Logic.{∥∥₁_map, ∥∥₁_elim}
 use Rattle.std.specs.Prelude.{◌≤◌, ◌⊎◌, ◌+◌, IfOk, IfErr, IfSome, if◌then◌else◌}
 use Rattle.sqlite_disk.specs.declared.Disk as disk
@@ -8,11 +8,10 @@ use Rattle.sqlite_trees.specs.View.{IsClean}
 use Rattle.sqlite_trees.specs.Tree.{Trees}
 use Rattle.sqlite_store.specs.declared.store.FileStore.{FileStore}
 use Rattle.sqlite_store.specs.FileStore as store
-use Rattle.sqlite.specs.State.{State, HasCleanDisk}
 use Rattle.sqlite.specs.Held.{Held, AreDatabases}
 use Rattle.sqlite.specs.Files.{file_state, IsOpened}
 use Rattle.sqlite.specs.Start.{FindsIn}
-use Rattle.sqlite.specs.Files.{image_of, faults_of, faults_left, HoldsDatabase, IsNothing, IsCleanLeft, IsFullLeft, FailsToOpenFiles, LeavesFiles}
+use Rattle.sqlite.specs.Files.{image_of, faults_of, faults_left, HoldsDatabase, IsCleanLeft, IsFullLeft, FailsToOpenFiles}
 use Rattle.sqlite.specs.declared.error.Error.{Error}
 use Rattle.sqlite.specs.declared.error.Error.TheVariants.{SqliteFailure}
 use Rattle.sqlite.specs.declared.error.ErrorCode.TheVariants.{OutOfMemory, CannotOpen, DatabaseBusy, DiskFull}
@@ -27,7 +26,7 @@ use Rattle.sqlite_disk.specs.Events.{replay}
 use Rattle.sqlite_disk.specs.Modelled.{start_of}
 use Rattle.sqlite_wal.specs.Files.{image_at}
 use Rattle.sqlite.proofs.Theorems.{next_run, opens_again}
-use Rattle.bike_recovery.specs.Files.{MayHold, LeavesTrees, IsExcused}
+use Rattle.bike_recovery.specs.Files.{MayHold, IsExcused}
 
 -- two things that are told of what came well tell a third
 pub both_tell : {T E : Type 0} {P Q R : T → Type 0} (r : Result T E) → ((x : T) → P x → Q x → R x) → IfOk r P → IfOk r Q → IfOk r R

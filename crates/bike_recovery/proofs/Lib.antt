@@ -2,3 +2,4 @@ pub mod ReadingLemmas
 pub mod FrontLemmas
 pub mod FileLemmas
 pub mod StopLemmas
+pub mod SessionsLemmas

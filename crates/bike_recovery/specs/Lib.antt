@@ -2,3 +2,4 @@ pub mod Recovery
 pub mod Losses
 pub mod Reopening
 pub mod Files
+pub mod SessionsServed

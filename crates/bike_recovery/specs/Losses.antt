@@ -1,9 +1,12 @@
 -- Why what a crash left may be refused.
 use Rattle.std.specs.Prelude.{◌≤◌}
+use Rattle.sqlite_trees.specs.Tree.{Trees}
 use Rattle.sqlite_trees.specs.View.{IsClean}
 use Rattle.sqlite_trees.specs.declared.store.Store.{Ghosts}
 use Rattle.sqlite.specs.State.{HasCleanDisk}
 use Rattle.sqlite.specs.Held.{state}
+use Rattle.bike_operator.specs.Operator.{Operator}
+use Rattle.bike_schema.specs.Stands.{TreesStandFor}
 use Rattle.bike_adoption.specs.Adoption.{handed, IsWant}
 use Rattle.bike_recovery.specs.declared.reopening.Shut.{Shut as ShutStore}
 use Rattle.bike_recovery.specs.declared.reopening.Shut.TheVariants.{NoMemory, StoreFailed}
@@ -19,3 +22,7 @@ IsShutOnlyFor g (StoreFailed left) = IsClean (g.view left) → 1 ≤ g.faults le
 abbrev pub IsOnlyWant : {S : Type 0} → Ghosts S → Lost S → Type 0
 IsOnlyWant g (Shut shut) = IsShutOnlyFor g shut
 IsOnlyWant g (Refused e) = HasCleanDisk (state g (handed e)) → IsWant e
+
+-- the trees stand for an operator, whoever he is
+abbrev pub StandForSome : Trees → Type 0
+StandForSome trees = (s : Operator) × TreesStandFor s trees

@@ -11,7 +11,7 @@ ghost use Rattle.bike_adoption.specs.Adoption.{handed, IsWant};
 ghost use Rattle.bike_feeds.specs.Runs.{IsAfterFront, IsAtFront, Ran, StopsBy};
 ghost use Rattle.bike_schema.specs.Stands.{AllLeft};
 ghost use Rattle.bike_recovery.specs.Recovery.{ReadsFront, AreReplies, TellsStopped};
-ghost use Rattle.bike_recovery.specs.Losses.{IsOnlyWant};
+ghost use Rattle.bike_recovery.specs.Losses.{IsOnlyWant, StandForSome};
 
 use crate::reading::{Reading, read_again};
 use crate::reopening::{Shut, open_again};
@@ -84,12 +84,14 @@ pub enum Lost<S: Alter> {
 }
 
 /// A crash of the desk's store at this moment, and an adoption of what it leaves.
-fn resume<S: Alter + Reopen + Drop>(alloc: Global, desk: Desk<S>) -> Result<Desk<S>, Lost<S>>
+pub(crate) fn resume<S: Alter + Reopen + Drop>(
+    alloc: Global,
+    desk: Desk<S>,
+) -> Result<Desk<S>, Lost<S>>
     ensures clean { IfOk result (λ again. doubt (desk_state S.Store desk).is_clean ≤ doubt (desk_state S.Store again).is_clean) }
     ensures front { IfOk result (λ again. HasCleanDisk (desk_state S.Store again) → (s : Operator) (calls : _) (k : _)
         → AllLeft (desk_state S.Store desk) (IsAfterFront s calls k) → IsAtFront S.Store again s calls k) }
-    ensures refused { (s : Operator) (calls : _) (k : _) → (HasCleanDisk (desk_state S.Store desk) → AllLeft (desk_state S.Store desk) (IsAfterFront s calls k))
-        → IfErr result (IsOnlyWant S.Store) }
+    ensures refused { (HasCleanDisk (desk_state S.Store desk) → AllLeft (desk_state S.Store desk) StandForSome) → IfErr result (IsOnlyWant S.Store) }
 {
     let conn = match open_again(alloc, desk.close()) {
         Ok(conn) => conn,

@@ -8,10 +8,12 @@ mod crash;
 mod files;
 mod reading;
 mod reopening;
+mod sessions;
 mod stop;
 
 pub use crash::{Acknowledged, Lost, run_adopt_and_read, run_crash_and_read, run_in_memory};
 pub use files::{NotOpened, stop_and_open};
 pub use reading::{Reading, read_again};
 pub use reopening::{Shut, open_again};
+pub use sessions::{SessionsServed, serve_sessions, serve_sessions_in_memory};
 pub use stop::{LostFiles, run_stop_and_read};

@@ -1,5 +1,6 @@
-use Rattle.std.proofs.Common.{arith}
+use Rattle.std.proofs.Common.{take, arith}
 use Rattle.sqlite.specs.State.{HasCleanDisk}
+use Rattle.bike_operator.specs.Runs.{after}
 use Rattle.bike_feeds.specs.Desk.{desk_state}
 use Rattle.bike_recovery.proofs.FrontLemmas.{sound_at}
 use Rattle.bike_recovery.proofs.crash.run_crash_and_read.Goals as goal
@@ -19,4 +20,6 @@ returns-in-Ok-clause-replies g c s at clean =
     record { within = ran.within; front = ran.front }
 
 pub returns-in-Err-clause-refused : goal.returns-in-Err-clause-refused
-returns-in-Err-clause-refused g c s at = c.in-Err.ensures.refused s c.args.calls.now _ (λ run. c.run_list-run.ensures.front run s at)
+returns-in-Err-clause-refused g c s at = c.in-Err.ensures.refused (λ run trees may.
+    let it = c.run_list-run.ensures.front run s at trees may in
+    (after s (take it.0 c.args.calls.now), it.4))

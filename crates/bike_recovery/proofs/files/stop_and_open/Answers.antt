@@ -1,5 +1,4 @@
 use Rattle.std.proofs.Math.Logic.{∥∥₁_map}
-use Rattle.sqlite.specs.Files.{file_state}
 use Rattle.sqlite_wal.specs.Files.{image_at}
 use Rattle.bike_recovery.proofs.FileLemmas.{both_tell, both_blame, finds_left, holds_some, excused, some_tells, seen_of, none_of}
 use Rattle.bike_recovery.proofs.files.stop_and_open.Goals as goal
