@@ -1,4 +1,4 @@
--- The row changes that book a system set, a type, region or station added, and a type's default plan or a station's flags or region set.
+-- The row changes that book a system set, a type, region, station or further name added, and a type's default plan or a station's flags or region set.
 use Rattle.std.proofs.Common.{◌≡◌, ℕ, pos, List, [], ◌∷◌, true, Option, Some, None, refl, sym, ap, ap₂, ◌∙◌, arith}
 use Rattle.std.specs.Prelude.{map}
 use Rattle.std.specs.Ordering.{nat_cmp}
@@ -10,17 +10,18 @@ use Rattle.sqlite_value.specs.Order.{Row, row_cmp}
 use Rattle.bike_rows.specs.View.{put_row_by}
 use Rattle.bike_operator.specs.Rows.{SystemRow}
 use Rattle.bike_operator.specs.declared.change.Change.TheVariants as change
-use Rattle.bike_operator.specs.Operator.{Operator, Station}
+use Rattle.bike_operator.specs.Operator.{Operator, Station, NameKey, name_key}
 use Rattle.bike_operator.specs.Steps.{key_changed, new_station}
 use Rattle.bike_operator.specs.Changes.{with_change, text_in}
+use Rattle.bike_operator.specs.Sound.{AreNamesSound}
 use Rattle.bike_places.proofs.MapLemmas.{number_order, text_order, known_added, known_changed}
 use Rattle.bike_places.proofs.CatalogueLemmas.{same_docks, docks_changed, docks_added}
 use Rattle.bike_book.specs.Rows.{system_row, station_row}
-use Rattle.bike_book.specs.Stored.{system_rows, stored_type, stored_region}
+use Rattle.bike_book.specs.Stored.{system_rows, stored_type, stored_region, stored_name}
 use Rattle.bike_book.specs.Between.{docks_left, counted_station, tables_between}
-use Rattle.bike_book.specs.ChangeLaws.{Everywhere, SetSystemLaw, AddTypeLaw, SetPlanLaw, AddRegionLaw, AddStationLaw, SetStationLaw, SetRegionLaw}
+use Rattle.bike_book.specs.ChangeLaws.{Everywhere, SetSystemLaw, AddTypeLaw, SetPlanLaw, AddRegionLaw, AddStationLaw, SetStationLaw, SetRegionLaw, AddNameLaw}
 use Rattle.bike_book.proofs.MapRows.{put_entries, changed_entries}
-use Rattle.bike_book.proofs.Keys.{numbers, number_key, texts}
+use Rattle.bike_book.proofs.Keys.{numbers, number_key, texts, triples, name_triple, IsTriple}
 use Rattle.bike_book.proofs.ListingLemmas.{KeepsNames, names_same, listing_same}
 
 -- the one key of `system` and `meta`
@@ -115,3 +116,16 @@ set_region s m now listing station region =
       leads = λ i. record (tables_between s m) { stations = stations i };
       listing = listing_same s n m (names_station s station.now f (λ x. refl)) refl refl listing;
     }
+
+-- ---- names in further languages
+
+pub named_triple : (s : Operator) → AreNamesSound s → (key : NameKey) (name : List ℕ) → fin.get s.more_names key ≡ Some name → IsTriple key
+named_triple s are key name found = let it = are.names key name found in record { first = _; second = it.id; third = it.language; is = it.key_is }
+
+pub add_name : Everywhere AddNameLaw
+add_name s m now listing kind id language name are =
+    let n = with_change now (change.AddName kind id language name) s in
+    let names =
+    put_entries triples stored_name stored_name (λ e. refl) (λ e. refl) s.more_names (name_key kind id.now language.now) name.now (name_triple kind id.now language.now)
+    (λ q y found. (named_triple s are q y found, λ apart. refl)) in
+    record { leads = λ i. record (tables_between s m) { more_names = names i }; listing = listing_same s n m (names_same s n refl refl) refl refl listing }

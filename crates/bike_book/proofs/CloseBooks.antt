@@ -97,6 +97,7 @@ leaves now (change.Deliver order) s = record { entries = refl; kept = refl; now 
 leaves now (change.CloseOrder order) s = record { entries = refl; kept = refl; now = refl }
 leaves now (change.AddRegion r) s = record { entries = refl; kept = refl; now = refl }
 leaves now (change.SetRegion station region) s = record { entries = refl; kept = refl; now = refl }
+leaves now (change.AddName kind id language name) s = record { entries = refl; kept = refl; now = refl }
 
 pub changes_leave : ChangesLeaveLedger
 changes_leave now [] s = record { entries = refl; kept = refl; now = refl }

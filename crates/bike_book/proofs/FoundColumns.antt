@@ -1,4 +1,4 @@
--- The rows found by columns that are no key: the segments of a plan, bicycles by their places, and a rider's open rental.
+-- The rows found by columns that are no key: the segments of a plan, bicycles by their places, names in further languages, and a rider's open rental.
 use Rattle.std.proofs.Common.{◌≡◌, inl, inr, ℕ, suc, List, [], ◌∷◌, ◌++◌, length, filter, find, Bool, true, false, cond, ◌&&◌, ◌||◌, T, Some, is_some, refl, sym, ap, ap₂, ◌∙◌}
 use Rattle.std.specs.Prelude.{map, slice_get, option_map, ◌==◌}
 use Rattle.std.specs.List.{list_any}
@@ -8,23 +8,27 @@ use Rattle.std.specs.declared.cmp.Ordering.TheVariants.{Less, Equal, Greater}
 use Rattle.std.specs.Cmp.{eq_by_cmp_equiv, unsigned_tied}
 use Rattle.std.specs.FinMap as fin
 use Rattle.std.specs.FinMap.Entries as entries
+use Rattle.std.proofs.lemmas.List.{length-map}
 use Rattle.std.proofs.lemmas.Map.Text.{is_eq-slice_cmp}
 use Rattle.sqlite_value.specs.declared.value.Value.TheVariants.{Text}
 use Rattle.sqlite_value.specs.Order.{Row, column, row_cmp, value_cmp}
 use Rattle.sqlite_value.proofs.OrderLemmas.{value_cmp-Text, value_cmp-Null, then-Equal}
 use Rattle.sqlite_rules.specs.Lists.{Has}
 use Rattle.bike_rows.specs.View.{rows_where}
+use Rattle.bike_operator.specs.NameKinds.{kind_text}
+use Rattle.bike_operator.specs.NameKind.{NameKind}
 use Rattle.bike_operator.specs.Rows.{SegmentRow, PlanRow}
 use Rattle.bike_ledger.specs.Entries.{Entry}
 use Rattle.bike_operator.specs.declared.records.Place.{Place}
 use Rattle.bike_operator.specs.declared.records.Place.TheVariants as place
 use Rattle.bike_operator.specs.declared.records.Bike.{Bike}
 use Rattle.bike_operator.specs.declared.records.Rental.{Rental}
-use Rattle.bike_operator.specs.Operator.{text_cmp}
+use Rattle.bike_operator.specs.Operator.{Operator, NameKey, text_cmp}
 use Rattle.bike_operator.specs.Counts.{is_dock, is_on_truck, is_for_order, is_open}
+use Rattle.bike_operator.specs.Names.{part_at, is_name_of, further_names}
 use Rattle.bike_places.proofs.MapLemmas.{text_order, tied}
-use Rattle.bike_book.specs.Rows.{number_value, bike_row, segment_row}
-use Rattle.bike_book.specs.Stored.{numbers_from, with_numbers, segment_rows, plans_segments, stored_bike, stored_rental}
+use Rattle.bike_book.specs.Rows.{number_value, bike_row, segment_row, name_row}
+use Rattle.bike_book.specs.Stored.{numbers_from, with_numbers, segment_rows, plans_segments, stored_bike, stored_rental, stored_name}
 use Rattle.bike_book.specs.Found.{WhereListed, FoundByColumns, segments_in, rows_open}
 use Rattle.bike_book.proofs.MapRows.{both, below_has}
 use Rattle.bike_book.proofs.Keys.{value_cmp-number_value}
@@ -92,6 +96,19 @@ for_order_at order bike b (place.Dock at dock) = rw (value_cmp-Null (number_valu
 for_order_at order bike b (place.Rental rental) = rw (value_cmp-Null (number_value order)) refl
 for_order_at order bike b (place.Truck truck for) = same_number for order
 for_order_at order bike b place.Depot = rw (value_cmp-Null (number_value order)) refl
+
+-- ---- names in further languages
+
+of_kind : (kind : NameKind) (id : List ℕ) (key : NameKey) (name : List ℕ) → is_eq (row_cmp (map (column (name_row key name)) (0 ∷ 1 ∷ [])) (Text (kind_text kind) ∷ Text id ∷ [])) ≡ is_name_of kind id key
+of_kind kind id key name =
+    rw (value_cmp-Text (part_at key 0) (kind_text kind), value_cmp-Text (part_at key 1) id)
+    (both_eq (text_cmp (part_at key 0) (kind_text kind)) (text_cmp (part_at key 1) id) ∙ ap₂ (λ (x y : Bool). x && y) (is_eq-slice_cmp (part_at key 0) (kind_text kind)) (is_eq-slice_cmp (part_at key 1) id))
+
+names_found : (s : Operator) (kind : NameKind) (id : List ℕ) → length (rows_where (0 ∷ 1 ∷ []) (Text (kind_text kind) ∷ Text id ∷ []) (map stored_name (fin.entries s.more_names))) ≡ length (further_names s kind id)
+names_found s kind id =
+    ap length (filtered stored_name _ (λ e. is_name_of kind id e.0) (λ e. of_kind kind id e.0 e.1) (fin.entries s.more_names))
+    ∙ same_length stored_name (filter (λ e. is_name_of kind id e.0) (fin.entries s.more_names))
+    ∙ sym (length-map (filter (λ e. is_name_of kind id e.0) (fin.entries s.more_names)) (λ e. record { language = part_at e.0 2; name = e.1 }))
 
 -- ---- segments of a plan
 
@@ -180,6 +197,7 @@ found_by_columns s m sound listing = record {
   for_order = λ order.
       ap length (filtered stored_bike _ (λ e. is_for_order order e.1.place) (λ e. for_order_at order e.0 e.1 e.1.place) (fin.entries s.bikes))
       ∙ same_length stored_bike (filter (λ e. is_for_order order e.1.place) (fin.entries s.bikes));
+  named = λ kind id. names_found s kind id;
   open_rental_is = λ rider. open_found s.entries rider s.rentals;
   riding = λ rider. ap is_some (open_found s.entries rider s.rentals) ∙ mapped_some (stored_rental s.entries) (find (is_open_of_rider s.entries rider s.rentals) (with_numbers s.rentals)) ∙ any_found rider 1 s.rentals;
 }

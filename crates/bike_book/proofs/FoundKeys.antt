@@ -6,18 +6,18 @@ use Rattle.sqlite_value.specs.declared.value.Value.TheVariants.{Text}
 use Rattle.bike_rows.specs.View.{row_with}
 use Rattle.bike_operator.specs.Rows.{SystemRow}
 use Rattle.bike_ledger.specs.Ledger.{cash_of, revenue_of}
-use Rattle.bike_operator.specs.Operator.{Operator, Key, DockKey, key_of, dock_key}
+use Rattle.bike_operator.specs.Operator.{Operator, Key, DockKey, key_of, name_key, dock_key}
 use Rattle.bike_operator.specs.Counts.{is_broken, available_of}
 use Rattle.bike_book.specs.declared.version.TheConstants.{NEWEST}
 use Rattle.bike_places.specs.Numbers.{disabled_of}
 use Rattle.bike_book.specs.Tables.{Docks, Counts}
 use Rattle.bike_book.specs.Rows.{number_value, system_row, dock_row, count_row}
-use Rattle.bike_book.specs.Stored.{Listed, IsListing, system_rows, stored_plan, stored_type, stored_region, stored_station, stored_dock, stored_bike, stored_truck, stored_rider, stored_rental, stored_order, stored_entry, stored_kept, stored_count}
+use Rattle.bike_book.specs.Stored.{Listed, IsListing, system_rows, stored_plan, stored_type, stored_region, stored_station, stored_dock, stored_bike, stored_truck, stored_rider, stored_rental, stored_order, stored_entry, stored_kept, stored_count, stored_name}
 use Rattle.bike_book.specs.Found.{row_under, WhereListed, FoundByKey, FoundListed}
 use Rattle.bike_book.proofs.MapRows.{found_entries}
-use Rattle.bike_book.proofs.Keys.{number_key, numbers, texts, pairs, docks, IsPair, IsDockPair}
+use Rattle.bike_book.proofs.Keys.{number_key, numbers, texts, pairs, triples, name_triple, docks, IsPair, IsDockPair}
 use Rattle.bike_book.proofs.NumberRows.{found_number}
-use Rattle.bike_book.proofs.CatalogueBooks.{one_key}
+use Rattle.bike_book.proofs.CatalogueBooks.{one_key, named_triple}
 use Rattle.bike_book.proofs.LedgerRows.{meta_found}
 use Rattle.bike_book.proofs.CloseBooks.{kept_pair}
 
@@ -40,6 +40,8 @@ found_by_key s m sound listing = record {
   orders = λ order. found_number stored_order (λ e. refl) order s.orders;
   entries = λ entry. found_number stored_entry (λ e. refl) entry s.entries;
   kept = λ caller key. found_entries pairs stored_kept (λ e. refl) (key_of caller key) (record { first = caller; second = key; is = refl }) s.kept (λ k y found. kept_pair s sound.kept k y found);
+  more_names = λ kind id language.
+      found_entries triples stored_name (λ e. refl) (name_key kind id language) (name_triple kind id language) s.more_names (λ k y found. named_triple s sound.names k y found);
 }
 
 -- ---- docks and counts

@@ -1,4 +1,4 @@
--- The keys of the tables: numbers, texts, two texts, and a dock of a station.
+-- The keys of the tables: numbers, texts, two texts, three texts, and a dock of a station.
 use Rattle.std.proofs.Common.{◌≡◌, ℕ, ◌<◌, pos, ◌<ℤ◌, List, [], ◌∷◌, refl, sym, ap, ◌∙◌, arith}
 use Rattle.std.specs.Ordering.{nat_cmp, int_cmp, ordering_then, MatchOrdering}
 use Rattle.std.specs.declared.cmp.Ordering.{Ordering}
@@ -9,9 +9,11 @@ use Rattle.std.proofs.lemmas.Int.{ints}
 use Rattle.sqlite_value.specs.declared.value.Value.TheVariants.{Text}
 use Rattle.sqlite_value.specs.Order.{Row, row_cmp, value_cmp}
 use Rattle.sqlite_value.proofs.OrderLemmas.{value_cmp-Int, value_cmp-Text, then-Equal}
-use Rattle.bike_operator.specs.Operator.{Key, DockKey, key_of, dock_key, text_cmp, texts_cmp}
+use Rattle.bike_operator.specs.NameKinds.{kind_text}
+use Rattle.bike_operator.specs.NameKind.{NameKind}
+use Rattle.bike_operator.specs.Operator.{Key, NameKey, DockKey, key_of, name_key, dock_key, text_cmp, texts_cmp}
 use Rattle.bike_places.proofs.MapLemmas.{number_order, text_order, texts_order}
-use Rattle.bike_book.specs.Rows.{number_value, first_text, second_text, second_number}
+use Rattle.bike_book.specs.Rows.{number_value, first_text, second_text, third_text, second_number}
 use Rattle.bike_book.proofs.MapRows.{StoresKeys}
 
 -- ---- numbers
@@ -52,6 +54,27 @@ pairs_compare a b c d = rw (value_cmp-Text a c, value_cmp-Text b d) refl
 
 pub pairs : StoresKeys texts_cmp 2 pair_key IsPair
 pairs = record { total = texts_order.total; same = texts_order.same; compares = λ a b p q. rw (p.is, q.is) (pairs_compare p.first p.second q.first q.second) }
+
+-- ---- three texts
+
+pub record IsTriple (k : NameKey) : Type 0 where
+  pub first : List ℕ
+  pub second : List ℕ
+  pub third : List ℕ
+  pub is : k ≡ first ∷ second ∷ third ∷ []
+
+abbrev pub triple_key : NameKey → Row
+triple_key k = Text (first_text k) ∷ Text (second_text k) ∷ Text (third_text k) ∷ []
+
+triples_compare : (a b c d e f : List ℕ) → row_cmp (Text a ∷ Text b ∷ Text c ∷ []) (Text d ∷ Text e ∷ Text f ∷ []) ≡ texts_cmp (a ∷ b ∷ c ∷ []) (d ∷ e ∷ f ∷ [])
+triples_compare a b c d e f = rw (value_cmp-Text a d, value_cmp-Text b e, value_cmp-Text c f) refl
+
+pub triples : StoresKeys texts_cmp 3 triple_key IsTriple
+triples = record { total = texts_order.total; same = texts_order.same; compares = λ a b p q. rw (p.is, q.is) (triples_compare p.first p.second p.third q.first q.second q.third) }
+
+-- the key of a name in a further language
+pub name_triple : (kind : NameKind) (id language : List ℕ) → IsTriple (name_key kind id language)
+name_triple kind id language = record { first = kind_text kind; second = id; third = language; is = refl }
 
 -- ---- a dock of a station
 

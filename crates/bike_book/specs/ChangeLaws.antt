@@ -2,6 +2,7 @@
 use Rattle.std.specs.Prelude.{◌≡◌, ◌+◌, ℕ, suc, ℤ, pos, length, List, [], ◌∷◌, ◌++◌, Bool, true, false, Option, Some, None}
 use Rattle.std.specs.Borrow.{Bor}
 use Rattle.std.specs.FinMap as fin
+use Rattle.bike_operator.specs.NameKind.{NameKind}
 use Rattle.bike_operator.specs.Rows.{SegmentRow, PlanRow, TypeRow, RegionRow, StationRow, SystemRow}
 use Rattle.bike_ledger.specs.Ledger.{balance_of, refunded_of}
 use Rattle.bike_commands.specs.OrderEnd.{OrderEnd}
@@ -11,6 +12,7 @@ use Rattle.bike_operator.specs.declared.change.Change.TheVariants as change
 use Rattle.bike_operator.specs.Operator.{Operator, item_numbered}
 use Rattle.bike_operator.specs.Counts.{docks_broken}
 use Rattle.bike_operator.specs.Changes.{with_change, with_changes}
+use Rattle.bike_operator.specs.Sound.{AreNamesSound}
 use Rattle.bike_places.specs.Numbers.{occupied_docks}
 use Rattle.bike_book.specs.declared.row_change.RowChange.{RowChange}
 use Rattle.bike_book.specs.declared.row_change.RowChange.TheVariants as row
@@ -71,6 +73,12 @@ module _ (s : Operator) (m : Listed) (now : ℕ) where
   SetRegionLaw =
       (station : Bor (List ℕ)) (region : Option (Bor (List ℕ)))
       → BooksChange (row.SetRegion station region ∷ []) (change.SetRegion station region)
+
+  -- a name in a further language, whether it was there or not, where those that are there stand under three texts
+  abbrev pub AddNameLaw : Type 0
+  AddNameLaw =
+      (kind : NameKind) (id language name : Bor (List ℕ)) → AreNamesSound s
+      → BooksChange (row.AddName kind id language name ∷ []) (change.AddName kind id language name)
 
   -- ---- bicycles, trucks and riders
 

@@ -6,18 +6,21 @@ use Rattle.sqlite_value.specs.declared.value.Value.TheVariants.{Text}
 use Rattle.sqlite_value.specs.Order.{Row, column}
 use Rattle.sqlite_sql.specs.Ops.{is_null}
 use Rattle.bike_rows.specs.View.{row_with, rows_where, last_of}
+use Rattle.bike_operator.specs.NameKinds.{kind_text}
+use Rattle.bike_operator.specs.NameKind.{NameKind}
 use Rattle.bike_operator.specs.Rows.{PlanRow}
 use Rattle.bike_commands.specs.Commands.{text_of}
 use Rattle.bike_commands.specs.Replies.{reply_text}
 use Rattle.bike_ledger.specs.Ledger.{balance_of, cash_of, revenue_of, refunded_of}
 use Rattle.bike_operator.specs.declared.records.Rental.{Rental}
-use Rattle.bike_operator.specs.Operator.{Operator, item_numbered, key_of, dock_key}
+use Rattle.bike_operator.specs.Operator.{Operator, item_numbered, key_of, name_key, dock_key}
 use Rattle.bike_operator.specs.Counts.{count, is_on_truck, is_for_order, docked_at, is_broken, is_open, is_riding, open_rentals, available_of, docks_available, docks_broken}
+use Rattle.bike_operator.specs.Names.{further_names}
 use Rattle.bike_operator.specs.Sound.{IsSound}
 use Rattle.bike_book.specs.declared.version.TheConstants.{NEWEST}
 use Rattle.bike_places.specs.Numbers.{disabled_of}
-use Rattle.bike_book.specs.Tables.{TableName, rows_in, keys_of, Meta, System, Plans, Segments, Types, Regions, Stations, Docks, Bikes, Trucks, Riders, Rentals, Orders, Entries, Kept, Counts}
-use Rattle.bike_book.specs.Rows.{number_value, meta_row, system_row, plan_row, type_row, region_row, station_row, dock_row, bike_row, truck_row, rider_row, rental_row, order_row, entry_row, kept_row, count_row}
+use Rattle.bike_book.specs.Tables.{TableName, rows_in, keys_of, Meta, System, Plans, Segments, Types, Regions, Stations, Docks, Bikes, Trucks, Riders, Rentals, Orders, Entries, Kept, Counts, MoreNames}
+use Rattle.bike_book.specs.Rows.{number_value, meta_row, system_row, plan_row, type_row, region_row, station_row, dock_row, bike_row, truck_row, rider_row, rental_row, order_row, entry_row, kept_row, count_row, name_row}
 use Rattle.bike_book.specs.Stored.{Listed, IsListing, with_numbers, segment_rows, stored_bike, stored_rental, tables_for}
 
 -- the fact holds of each sound operator whose rows are listed right
@@ -51,6 +54,8 @@ pub record FoundByKey (s : Operator) (m : Listed) : Type 0 where
   pub entries : (entry : ℕ) → row_under s m Entries (number_value entry ∷ []) ≡ option_map (entry_row entry) (item_numbered entry s.entries)
   pub kept : (caller key : List ℕ) → row_under s m Kept (Text caller ∷ Text key ∷ [])
       ≡ option_map (λ k. kept_row caller key (text_of k.command) (reply_text k.reply)) (fin.get s.kept (key_of caller key))
+  pub more_names : (kind : NameKind) (id language : List ℕ) → row_under s m MoreNames (Text (kind_text kind) ∷ Text id ∷ Text language ∷ [])
+      ≡ option_map (name_row (name_key kind id language)) (fin.get s.more_names (name_key kind id language))
 
 -- A dock has a row where it is listed, and works where it has none. Counts have a row where they are listed, and are 0 where they have none.
 pub record FoundListed (s : Operator) (m : Listed) : Type 0 where
@@ -92,6 +97,7 @@ pub record FoundByColumns (s : Operator) (m : Listed) : Type 0 where
   pub docked : (station : List ℕ) (dock : ℕ) → slice_get (rows_by s m Bikes (3 ∷ 4 ∷ []) (Text station ∷ number_value dock ∷ [])) 0 ≡ option_map stored_bike (docked_at s station dock)
   pub on_truck : (truck : ℕ) → length (rows_by s m Bikes (6 ∷ []) (number_value truck ∷ [])) ≡ count (λ b. is_on_truck truck b.1.place) (fin.entries s.bikes)
   pub for_order : (order : ℕ) → length (rows_by s m Bikes (7 ∷ []) (number_value order ∷ [])) ≡ count (λ b. is_for_order order b.1.place) (fin.entries s.bikes)
+  pub named : (kind : NameKind) (id : List ℕ) → length (rows_by s m MoreNames (0 ∷ 1 ∷ []) (Text (kind_text kind) ∷ Text id ∷ [])) ≡ length (further_names s kind id)
   pub open_rental_is : (rider : ℕ) → open_row s m rider ≡ option_map (stored_rental s.entries) (open_rental s rider)
   pub riding : (rider : ℕ) → is_some (open_row s m rider) ≡ is_riding s rider
 

@@ -19,7 +19,7 @@ use Rattle.bike_operator.specs.declared.records.Bike.{Bike}
 use Rattle.bike_operator.specs.declared.records.Rental.{Rental}
 use Rattle.bike_operator.specs.declared.records.Closing.{Closing}
 use Rattle.bike_operator.specs.declared.records.Order.{Order}
-use Rattle.bike_operator.specs.Operator.{Station}
+use Rattle.bike_operator.specs.Operator.{Station, NameKey}
 
 -- a truth value as its column holds it
 abbrev pub truth : Bool → ℤ
@@ -128,7 +128,7 @@ kept_row caller key command reply = Text caller ∷ Text key ∷ Text command �
 abbrev pub count_row : List ℕ → List ℕ → ℕ → ℕ → Row
 count_row station type_id available disabled = Text station ∷ Text type_id ∷ number_value available ∷ number_value disabled ∷ []
 
--- ---- the parts of a key of two
+-- ---- the parts of a key of two, or of three
 
 abbrev pub first_text : List (List ℕ) → List ℕ
 first_text k = slice_index_or k 0 []
@@ -136,6 +136,15 @@ first_text k = slice_index_or k 0 []
 abbrev pub second_text : List (List ℕ) → List ℕ
 second_text k = slice_index_or k 1 []
 
+abbrev pub third_text : List (List ℕ) → List ℕ
+third_text k = slice_index_or k 2 []
+
 -- the number of a dock in the key of a dock
 abbrev pub second_number : List (List ℕ) → ℕ
 second_number k = slice_index_or (second_text k) 0 0
+
+-- ---- names in further languages
+
+-- kind (its word), id, language, name
+abbrev pub name_row : NameKey → List ℕ → Row
+name_row key name = Text (first_text key) ∷ Text (second_text key) ∷ Text (third_text key) ∷ Text name ∷ []

@@ -12,13 +12,13 @@ use Rattle.bike_ledger.specs.Ledger.{balance_of, cash_of, revenue_of, refunded_o
 use Rattle.bike_operator.specs.declared.records.Bike.{Bike}
 use Rattle.bike_operator.specs.declared.records.Rental.{Rental}
 use Rattle.bike_operator.specs.declared.records.Order.{Order}
-use Rattle.bike_operator.specs.Operator.{Operator, Station, Truck, Rider, Kept, Key, DockKey, texts_cmp, key_of, dock_key}
+use Rattle.bike_operator.specs.Operator.{Operator, Station, Truck, Rider, Kept, Key, NameKey, DockKey, texts_cmp, key_of, dock_key}
 use Rattle.bike_operator.specs.Counts.{available_of, docks_available, docks_broken}
 use Rattle.bike_operator.specs.Sound.{HasDock}
 use Rattle.bike_book.specs.declared.version.TheConstants.{NEWEST}
 use Rattle.bike_places.specs.Numbers.{disabled_of}
 use Rattle.bike_book.specs.Tables.{Tables}
-use Rattle.bike_book.specs.Rows.{meta_row, system_row, plan_row, segment_row, type_row, region_row, station_row, dock_row, bike_row, truck_row, rider_row, rental_row, order_row, entry_row, kept_row, count_row, first_text, second_text, second_number}
+use Rattle.bike_book.specs.Rows.{meta_row, system_row, plan_row, segment_row, type_row, region_row, station_row, dock_row, bike_row, truck_row, rider_row, rental_row, order_row, entry_row, kept_row, count_row, name_row, first_text, second_text, second_number}
 
 -- ---- numbered records with their numbers, from 1
 
@@ -75,6 +75,9 @@ abbrev pub stored_count : Operator → Key × Unit {0} → Row
 stored_count s e =
     count_row (first_text e.0) (second_text e.0) (available_of s (first_text e.0) (second_text e.0)) (disabled_of s (first_text e.0) (second_text e.0))
 
+abbrev pub stored_name : NameKey × List ℕ → Row
+stored_name e = name_row e.0 e.1
+
 -- ---- the rows of each table
 
 -- cash and revenue are sums over the entries
@@ -120,6 +123,7 @@ tables_for s m = record {
   entries = map stored_entry (with_numbers s.entries);
   kept = map stored_kept (fin.entries s.kept);
   counts = map (stored_count s) (fin.entries m.counts);
+  more_names = map stored_name (fin.entries s.more_names);
 }
 
 -- the key is that of a dock of a station

@@ -19,6 +19,7 @@ pub data TableName : Type 0 where
   Entries : TableName
   Kept : TableName
   Counts : TableName
+  MoreNames : TableName
 
 -- the place of the table in the order of the schema
 abbrev pub table_place : TableName → ℕ
@@ -38,6 +39,7 @@ table_place Orders = 12
 table_place Entries = 13
 table_place Kept = 14
 table_place Counts = 15
+table_place MoreNames = 16
 
 abbrev pub is_table : TableName → TableName → Bool
 is_table a b = table_place a == table_place b
@@ -60,6 +62,7 @@ keys_of Orders = 1
 keys_of Entries = 1
 keys_of Kept = 2
 keys_of Counts = 2
+keys_of MoreNames = 3
 
 -- the rows of each table
 pub record Tables : Type 0 where
@@ -79,6 +82,7 @@ pub record Tables : Type 0 where
   pub entries : List Row
   pub kept : List Row
   pub counts : List Row
+  pub more_names : List Row
 
 abbrev pub rows_in : Tables → TableName → List Row
 rows_in t Meta = t.meta
@@ -97,6 +101,7 @@ rows_in t Orders = t.orders
 rows_in t Entries = t.entries
 rows_in t Kept = t.kept
 rows_in t Counts = t.counts
+rows_in t MoreNames = t.more_names
 
 -- the tables whose rows a function of the name gives
 abbrev pub tables_by : (TableName → List Row) → Tables
@@ -117,6 +122,7 @@ tables_by rows = record {
   entries = rows Entries;
   kept = rows Kept;
   counts = rows Counts;
+  more_names = rows MoreNames;
 }
 
 -- the tables with these rows in one of them

@@ -7,12 +7,13 @@ use Rattle.sqlite.specs.Values.{or_null}
 use Rattle.bike_rows.specs.View.{put_row_by, rows_after_update, with_values}
 use Rattle.bike_operator.specs.declared.records.BikeState.TheVariants.{Fit}
 use Rattle.bike_operator.specs.declared.records.Place.TheVariants as place
+use Rattle.bike_operator.specs.Operator.{name_key}
 use Rattle.bike_operator.specs.Steps.{new_station}
 use Rattle.bike_operator.specs.Changes.{place_of, text_in}
 use Rattle.bike_book.specs.declared.row_change.RowChange.{RowChange}
 use Rattle.bike_book.specs.declared.row_change.RowChange.TheVariants as row
-use Rattle.bike_book.specs.Tables.{TableName, Tables, rows_in, with_rows, keys_of, Meta, System, Plans, Segments, Types, Regions, Stations, Docks, Bikes, Trucks, Riders, Rentals, Orders, Entries, Kept, Counts}
-use Rattle.bike_book.specs.Rows.{truth, number_value, state_number, place_columns, closing_columns, system_row, plan_row, segment_row, type_row, region_row, station_row, dock_row, bike_row, truck_row, rider_row, rental_row, order_row, entry_row, kept_row, count_row}
+use Rattle.bike_book.specs.Tables.{TableName, Tables, rows_in, with_rows, keys_of, Meta, System, Plans, Segments, Types, Regions, Stations, Docks, Bikes, Trucks, Riders, Rentals, Orders, Entries, Kept, Counts, MoreNames}
+use Rattle.bike_book.specs.Rows.{truth, number_value, state_number, place_columns, closing_columns, system_row, plan_row, segment_row, type_row, region_row, station_row, dock_row, bike_row, truck_row, rider_row, rental_row, order_row, entry_row, kept_row, count_row, name_row}
 
 -- columns, counted from 0, and what they are set to
 abbrev pub Columns : Type 0
@@ -83,6 +84,7 @@ write_of (row.AddCount station type_id available disabled) = Add Counts (count_r
 write_of (row.SetCount station type_id available disabled) =
     Set Counts (Text station.now ∷ Text type_id.now ∷ []) ((2, number_value available) ∷ (3, number_value disabled) ∷ [])
 write_of (row.SetMeta now cash revenue) = Set Meta (Int (pos 1) ∷ []) ((3, number_value now) ∷ (4, Int cash) ∷ (5, Int revenue) ∷ [])
+write_of (row.AddName kind id language name) = Add MoreNames (name_row (name_key kind id.now language.now) name.now)
 
 abbrev pub writes_of : List RowChange → List RowWrite
 writes_of [] = []

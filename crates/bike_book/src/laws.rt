@@ -1,7 +1,7 @@
 //! The laws: which row changes book each change of the operator.
 
 ghost use Rattle.bike_book.specs.ChangeLaws.{Everywhere, NoneInTurn, BothInTurn, ChangesLeaveLedger};
-ghost use Rattle.bike_book.specs.ChangeLaws.{SetSystemLaw, AddPlanLaw, AddTypeLaw, SetPlanLaw, AddRegionLaw, AddStationLaw, SetStationLaw, SetRegionLaw};
+ghost use Rattle.bike_book.specs.ChangeLaws.{SetSystemLaw, AddPlanLaw, AddTypeLaw, SetPlanLaw, AddRegionLaw, AddStationLaw, SetStationLaw, SetRegionLaw, AddNameLaw};
 ghost use Rattle.bike_book.specs.ChangeLaws.{AddBikeLaw, AddTruckLaw, AddRiderLaw, SetRiderLaw};
 ghost use Rattle.bike_book.specs.ChangeLaws.{AddRentalLaw, CloseRentalLaw, AddOrderLaw, DeliverLaw, CloseOrderLaw};
 ghost use Rattle.bike_book.specs.CloseLaws.{AtEachClose, QuietCloseLaw, EntryCloseLaw, RefundCloseLaw};
@@ -20,6 +20,7 @@ pub fn books_catalogue()
     ensures add_station { Everywhere AddStationLaw }
     ensures set_station { Everywhere SetStationLaw }
     ensures set_region { Everywhere SetRegionLaw }
+    ensures add_name { Everywhere AddNameLaw }
 {}
 
 /// The laws of a bicycle, truck or rider added, and of a rider blocked or opened.

@@ -1,6 +1,8 @@
 //! Changes of one row each. Their numbers and texts are those of an operator's records.
 
-use bike_commands::{Ident, OrderEnd, Plan, Region, Segment, Station, System, VehicleType};
+use bike_commands::{
+    Ident, Language, Name, NameKind, OrderEnd, Plan, Region, Segment, Station, System, VehicleType,
+};
 use bike_fixed::{Cents, Moment};
 use bike_ledger::Entry;
 use bike_operator::{BikeState, NewPlace};
@@ -28,7 +30,7 @@ pub enum RowChange<'a> {
     },
     /// Adds a row to `regions`.
     AddRegion(&'a Region),
-    /// Adds a row to `stations_2`: installed, renting, returning, in no region, with all docks available.
+    /// Adds a row to `stations_3`: installed, renting, returning, in no region, with all docks available.
     AddStation {
         station: &'a Station,
         reported: Moment,
@@ -171,5 +173,12 @@ pub enum RowChange<'a> {
         now: Moment,
         cash: Cents,
         revenue: Cents,
+    },
+    /// Adds a row to `more_names`: a name in a further language.
+    AddName {
+        kind: NameKind,
+        id: &'a Ident,
+        language: &'a Language,
+        name: &'a Name,
     },
 }

@@ -53,6 +53,19 @@ fn catalogue_row<'a>(
                 region: *region,
             })
         }
+        Change::AddName {
+            kind,
+            id,
+            language,
+            name,
+        } => {
+            Some(RowChange::AddName {
+                kind: *kind,
+                id,
+                language,
+                name,
+            })
+        }
         _ => None,
     }
 }

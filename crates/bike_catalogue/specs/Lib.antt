@@ -1,3 +1,4 @@
 pub mod Rows
 pub mod RowFaults
 pub mod Vehicle
+pub mod NameKinds

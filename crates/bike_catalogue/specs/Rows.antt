@@ -42,6 +42,11 @@ pub record RegionRow : Type 0 where
   pub region_id : List ℕ
   pub name : List ℕ
 
+-- a text in a further language
+pub record MoreNameRow : Type 0 where
+  pub language : List ℕ
+  pub name : List ℕ
+
 pub record SystemRow : Type 0 where
   pub system_id : List ℕ
   pub language : List ℕ
@@ -66,6 +71,9 @@ station_of_fields station_id name lat lon docks = record { station_id = station_
 
 abbrev pub region_of_fields : List ℕ → List ℕ → RegionRow
 region_of_fields region_id name = record { region_id = region_id; name = name }
+
+abbrev pub more_name_of_fields : List ℕ → List ℕ → MoreNameRow
+more_name_of_fields language name = record { language = language; name = name }
 
 abbrev pub system_of_fields : List ℕ → List ℕ → List ℕ → List ℕ → List ℕ → List ℕ → List ℕ → List ℕ → ℕ → SystemRow
 system_of_fields system_id language name opening_hours feed_contact_email timezone currency base_url ttl = record {
@@ -156,6 +164,10 @@ pub record IsStation (s : StationRow) : Type 0 where
 pub record IsRegion (r : RegionRow) : Type 0 where
   pub region_id : is_ident r.region_id ≡ true
   pub name : is_name r.name ≡ true
+
+pub record IsMoreName (m : MoreNameRow) : Type 0 where
+  pub language : is_language m.language ≡ true
+  pub name : is_name m.name ≡ true
 
 pub record IsSystem (s : SystemRow) : Type 0 where
   pub system_id : is_ident s.system_id ≡ true

@@ -5,6 +5,8 @@
 #![tactic(auto)]
 
 mod limits;
+mod more_name;
+mod name_kind;
 mod plan;
 mod range;
 mod rate;
@@ -16,6 +18,8 @@ mod vehicle;
 mod vehicle_type;
 
 pub use limits::{GREATEST_LATITUDE, GREATEST_RATE, MOST_SEGMENTS};
+pub use more_name::MoreName;
+pub use name_kind::{NameKind, name_kind_laws};
 pub use plan::Plan;
 pub use rate::Rate;
 pub use region::Region;

@@ -4,6 +4,7 @@ use Rattle.bike_fixed.specs.declared.micro.TheConstants.{GREATEST_COORDINATE}
 use Rattle.bike_fields.specs.declared.numbers.TheConstants.{GREATEST_PRICE, LONGEST_TIME_TO_LIVE, MOST_CARRIED}
 use Rattle.bike_catalogue.specs.declared.limits.TheConstants.{GREATEST_LATITUDE}
 use Rattle.bike_texts.specs.Vehicle.{form_text, propulsion_text}
+use Rattle.bike_texts.specs.NameKinds.{kind_text}
 use Rattle.bike_texts.specs.Fields.{Field, Number, Fixed, Id, Language, Currency, Name, Ascii, Degrees, Metres, Segments, End, Choice, Flag, Numbered, Dock, DockOrDepot, Serial, Payment, IdOrNone, side_text, AreGood, IsSpelled, IsWritten, fields_text}
 use Rattle.bike_commands.specs.declared.command.Command.{Command}
 use Rattle.bike_commands.specs.declared.command.Command.TheVariants as command
@@ -34,6 +35,7 @@ word_of (command.Unload truck order bike side dock) = codes "unload"
 word_of (command.CloseOrder order) = codes "close-order"
 word_of (command.AddRegion r) = codes "add-region"
 word_of (command.SetRegion station region) = codes "set-region"
+word_of (command.AddName kind id language name) = codes "add-name"
 
 -- .. and its fields, in order
 abbrev pub fields_of : Command → List Field
@@ -65,6 +67,7 @@ fields_of (command.Unload truck order bike side dock) = Numbered truck ∷ Seria
 fields_of (command.CloseOrder order) = Serial order ∷ []
 fields_of (command.AddRegion r) = Id r.region_id ∷ Name r.name ∷ []
 fields_of (command.SetRegion station region) = Id station ∷ IdOrNone region ∷ []
+fields_of (command.AddName kind id language name) = Fixed (kind_text kind) ∷ Id id ∷ Language language ∷ Name name ∷ []
 
 -- the fields keep their bounds, as those of every command of the program do
 abbrev pub IsCommand : Command → Type 0

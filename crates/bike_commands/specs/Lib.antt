@@ -5,6 +5,8 @@ pub mod ReplyReaders
 pub mod Requests
 pub use Rattle.bike_texts.specs.Rows
 pub use Rattle.bike_texts.specs.Vehicle
+pub use Rattle.bike_texts.specs.NameKinds
+pub use Rattle.bike_texts.specs.NameKind
 pub use Rattle.bike_texts.specs.Bytes
 pub use Rattle.bike_texts.specs.Caller
 pub use Rattle.bike_texts.specs.CallerType

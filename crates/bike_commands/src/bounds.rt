@@ -171,6 +171,16 @@ impl Command {
                     let _ = region.as_str();
                 }
             }
+            Command::AddName {
+                id,
+                language,
+                name,
+                ..
+            } => {
+                let _ = id.as_str();
+                let _ = language.as_str();
+                let _ = name.as_str();
+            }
         }
     }
 }

@@ -1,9 +1,9 @@
 //! Commands: what a request asks the operator to do.
 
 use bike_texts::{
-    BicycleNumber, DockNumber, Ident, OrderEnd, OrderNumber, OrderQuantity, Payment, Plan, Region,
-    RentalNumber, RiderNumber, Side, Station, System, TruckCapacity, TruckNumber, UnloadDock,
-    VehicleType,
+    BicycleNumber, DockNumber, Ident, Language, Name, NameKind, OrderEnd, OrderNumber,
+    OrderQuantity, Payment, Plan, Region, RentalNumber, RiderNumber, Side, Station, System,
+    TruckCapacity, TruckNumber, UnloadDock, VehicleType,
 };
 
 /// What a request asks for. Its fields keep their bounds by their types.
@@ -121,5 +121,12 @@ pub enum Command {
     SetRegion {
         station: Ident,
         region: Option<Ident>,
+    },
+    /// Adds a name in a further language to what has one.
+    AddName {
+        kind: NameKind,
+        id: Ident,
+        language: Language,
+        name: Name,
     },
 }

@@ -11,9 +11,9 @@ mod reply;
 mod request;
 
 pub use bike_texts::{
-    BicycleNumber, DockCount, DockNumber, Ident, OrderEnd, OrderNumber, OrderQuantity, Plan,
-    Region, RentalNumber, RiderNumber, Segment, Station, System, TruckCapacity, TruckNumber,
-    UnloadDock, VehicleType,
+    BicycleNumber, DockCount, DockNumber, Ident, Language, Name, NameKind, OrderEnd, OrderNumber,
+    OrderQuantity, Plan, Region, RentalNumber, RiderNumber, Segment, Station, System,
+    TruckCapacity, TruckNumber, UnloadDock, VehicleType,
 };
 pub use command::Command;
 pub use refusal::Refusal;

@@ -81,10 +81,12 @@ pub enum Refusal {
     WrongTruckOrEnds,
     /// No region has the identifier.
     UnknownRegion,
+    /// No system is set.
+    SystemMissing,
 }
 
 impl Refusal {
-    /// The number that an answer line prints, 1 to 37.
+    /// The number that an answer line prints, 1 to 38.
     pub fn number(self) -> u32
         ensures { result ≡ number_of self }
     {
@@ -126,6 +128,7 @@ impl Refusal {
             Refusal::RentalClosed => 35,
             Refusal::WrongTruckOrEnds => 36,
             Refusal::UnknownRegion => 37,
+            Refusal::SystemMissing => 38,
         }
     }
 
@@ -172,6 +175,7 @@ impl Refusal {
             Refusal::RentalClosed => "rental_closed",
             Refusal::WrongTruckOrEnds => "wrong_truck_or_ends",
             Refusal::UnknownRegion => "unknown_region",
+            Refusal::SystemMissing => "system_missing",
         }
     }
 
@@ -218,6 +222,7 @@ impl Refusal {
             35 => Some(Refusal::RentalClosed),
             36 => Some(Refusal::WrongTruckOrEnds),
             37 => Some(Refusal::UnknownRegion),
+            38 => Some(Refusal::SystemMissing),
             _ => None,
         }
     }

@@ -8,6 +8,7 @@ use crate::decide_catalogue::{
     decide_add_plan, decide_add_station, decide_add_type, decide_mark_dock, decide_set_plan,
     decide_set_station, decide_set_system,
 };
+use crate::decide_names::decide_add_name;
 use crate::decide_orders::{
     decide_add_truck, decide_close_order, decide_load, decide_open_order, decide_unload,
 };
@@ -81,5 +82,11 @@ pub fn decide<'a>(view: &'a View, now: Moment, command: &'a Command) -> Decision
         Command::SetRegion { station, region } => {
             decide_set_region(view, station, region.as_ref())
         }
+        Command::AddName {
+            kind,
+            id,
+            language,
+            name,
+        } => decide_add_name(view, *kind, id, language, name),
     }
 }

@@ -11,6 +11,7 @@ mod booking;
 mod bounds;
 mod decide_bikes;
 mod decide_catalogue;
+mod decide_names;
 mod decide_orders;
 mod decide_regions;
 mod decide_rentals;

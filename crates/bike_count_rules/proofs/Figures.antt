@@ -3,6 +3,7 @@ use Rattle.std.proofs.Common.{◌≡◌, ℕ, ◌+◌, List, [], ◌∷◌, ◌+
 use Rattle.std.specs.Prelude.{take, replicate, get_or, option_and_then, IfSome}
 use Rattle.std.specs.List.{filter_map, list_any}
 use Rattle.std.specs.FinMap as fin
+use Rattle.std.proofs.lemmas.List.{length-replicate}
 use Rattle.std.specs.declared.cmp.Ordering.TheVariants.{Equal}
 use Rattle.sqlite_value.specs.declared.value.Value.{Value}
 use Rattle.sqlite_value.specs.declared.value.Value.TheVariants.{Null, Int, Real, Text, Blob}
@@ -31,6 +32,7 @@ use Rattle.bike_readings.proofs.ReadRows.{stored_plain}
 use Rattle.bike_readings.proofs.Places.{has_under, under_has}
 use Rattle.bike_judges.specs.Lines.{count_dock_line, count_bike_line, count_line}
 use Rattle.bike_judges.specs.Verdicts.{EarlierGood, IsFirstFailing}
+use Rattle.bike_count_rules.specs.declared.marks.TheConstants.{PLACES}
 use Rattle.bike_count_rules.specs.declared.marks.Marks.{Marks}
 use Rattle.bike_count_rules.specs.declared.tally.Tally.{Tally}
 use Rattle.bike_count_rules.specs.Tallies.{is_station, has_mark, count_tally, tally_in, first_uneven, run}
@@ -161,10 +163,10 @@ module _ (t : Tables) (up : AreInOrder t) (wide : AreWide t) (earlier : EarlierG
           let at = under_has 2 key t.counts r e in
           key_same (take 2 r) it.tally.station it.tally.type_id (ap (row_cmp (take 2 r)) (sym it.key_is) ∙ at.1) ∙ sym it.key_is
 
-  module _ (m : Marks) (no_station : m.station ≡ None) (no_dock : m.broken ≡ replicate 201 false) where
+  module _ (m : Marks) (no_station : m.station ≡ None) (no_dock : m.broken ≡ replicate PLACES false) where
     ran : run m None (sorted t up wide) ≡ first_uneven None tallies
     ran =
-        run_is broken (sorted t up wide) m None (sorted_lines t up wide) (rises (by_key_total 5) (all_lines t up wide)) (ap (λ (xs : List Bool). length xs) no_dock)
+        run_is broken (sorted t up wide) m None (sorted_lines t up wide) (rises (by_key_total 5) (all_lines t up wide)) (ap (λ (xs : List Bool). length xs) no_dock ∙ length-replicate PLACES false)
         (λ at is. absurd (let two = sym no_station ∙ is in cc))
         (λ y h station dock asks.
         let none : has_mark m station dock ≡ false = ap (λ (o : Option (List ℕ)). is_station o station && get_or m.broken dock false) no_station in

@@ -8,7 +8,7 @@ use Rattle.std.specs.declared.cmp.Ordering.{Ordering}
 use Rattle.std.specs.declared.cmp.Ordering.TheVariants.{Less, Equal, Greater}
 use Rattle.std.proofs.lemmas.Slice.Eq.{bytes_eq-Decides}
 use Rattle.std.proofs.lemmas.Bool.Decides.{eqb_tells}
-use Rattle.std.proofs.lemmas.List.{get_or-set_same, get_or-set_other, length-set}
+use Rattle.std.proofs.lemmas.List.{get_or-set_same, get_or-set_other, length-set, length-replicate}
 use Rattle.std.proofs.lemmas.Cmp.{tied_itself}
 use Rattle.sqlite_value.specs.declared.value.Value.{Value}
 use Rattle.sqlite_value.specs.declared.value.Value.TheVariants.{Int, Text}
@@ -27,6 +27,7 @@ use Rattle.bike_book.proofs.Keys.{value_cmp-number_value}
 use Rattle.bike_readings.specs.ReadOff.{first_of}
 use Rattle.bike_readings.specs.Readings.{dock_read, bike_read, count_read}
 use Rattle.bike_judges.specs.Lines.{part}
+use Rattle.bike_count_rules.specs.declared.marks.TheConstants.{PLACES}
 use Rattle.bike_count_rules.specs.declared.marks.Marks.{Marks}
 use Rattle.bike_count_rules.specs.declared.tally.Tally.{Tally}
 use Rattle.bike_count_rules.specs.Tallies.{is_place, is_station, is_at, has_mark, marks_of, with_mark, marked_by, marks_after, count_tally, docked_tally, placed_tally, bike_tally, tally_in, tally_key, next_of, found_of, first_uneven, run}
@@ -74,7 +75,7 @@ pub record IsLine (x : Row) : Type 0 where
   pub shape : x ≡ column x 0 ∷ column x 1 ∷ column x 2 ∷ column x 3 ∷ column x 4 ∷ rest
   pub asks_at : (station : List ℕ) (dock : ℕ) → Asks x station dock → (column x 0 ≡ Text station) × (column x 1 ≡ Int (pos 1))
   pub tally_at : (g : List ℕ → ℕ → Bool) (a : Tally) → tally_in g x ≡ Some a → (column x 0 ≡ Text a.station) × (column x 1 ≡ Int (pos 1)) × (column x 2 ≡ Text a.type_id)
-  pub dock_at : (e : List ℕ × ℕ × Bool) → is_place 0 (column x 1) ≡ true → dock_read (part 5 3 x) ≡ Some e → (column x 0 ≡ Text e.0) × (column x 1 ≡ Int (pos 0)) × (e.1 < 201)
+  pub dock_at : (e : List ℕ × ℕ × Bool) → is_place 0 (column x 1) ≡ true → dock_read (part 5 3 x) ≡ Some e → (column x 0 ≡ Text e.0) × (column x 1 ≡ Int (pos 0)) × (e.1 < PLACES)
 
 abbrev pub AreLines : List Row → Type 0
 AreLines xs = (x : Row) → Has xs x → IsLine x
@@ -163,7 +164,7 @@ module _ (g : List ℕ → ℕ → Bool) where
 abbrev Marked : Marks → Row → Type 0
 Marked m x =
     ((marks_after m x ≡ m) × ((station : List ℕ) (dock : ℕ) → marks station dock x ≡ false))
-    ⊎ ((e : List ℕ × ℕ) × (marks_after m x ≡ with_mark m e.0 e.1) × ((station : List ℕ) (dock : ℕ) → marks station dock x ≡ (bytes_eq e.0 station && (e.1 == dock))) × (column x 0 ≡ Text e.0) × (e.1 < 201))
+    ⊎ ((e : List ℕ × ℕ) × (marks_after m x ≡ with_mark m e.0 e.1) × ((station : List ℕ) (dock : ℕ) → marks station dock x ≡ (bytes_eq e.0 station && (e.1 == dock))) × (column x 0 ≡ Text e.0) × (e.1 < PLACES))
 
 effect : (m : Marks) (x : Row) → IsLine x → Marked m x
 effect m x line = go (is_place 0 (column x 1)) refl where
@@ -218,15 +219,15 @@ station_of m station is = go m.station refl is where
   go (Some at) e t = e ∙ ap (λ (s : List ℕ). Some s) ((bytes_eq-Decides at station).0 t)
 
 -- with a dock of another station marked, a station to come isn't that of the marks
-marks_step : (m : Marks) (x y : Row) (xs : List Row) (e : List ℕ × ℕ) (station : List ℕ) (dock : ℕ) → length m.broken ≡ 201 → IsReached m (x ∷ xs) → Ranks x y → column x 0 ≡ Text e.0 → column y 0 ≡ Text station → e.1 < 201
+marks_step : (m : Marks) (x y : Row) (xs : List Row) (e : List ℕ × ℕ) (station : List ℕ) (dock : ℕ) → length m.broken ≡ PLACES → IsReached m (x ∷ xs) → Ranks x y → column x 0 ≡ Text e.0 → column y 0 ≡ Text station → e.1 < PLACES
     → has_mark (with_mark m e.0 e.1) station dock ≡ (has_mark m station dock || (bytes_eq e.0 station && (e.1 == dock)))
 marks_step m x y xs e station dock long reached low a b within = go (is_at m e.0) refl where
-  length_new : length (replicate 201 false) ≡ 201
-  length_new = refl
+  length_new : length (replicate PLACES false) ≡ PLACES
+  length_new = length-replicate PLACES false
 
   go : (c : Bool) → is_at m e.0 ≡ c
-      → (is_at (record (cond c m (record { station = Some e.0; broken = replicate 201 false })) { broken = slice_set (cond c m (record { station = Some e.0; broken = replicate 201 false })).broken e.1 true }) station
-      && get_or (slice_set (cond c m (record { station = Some e.0; broken = replicate 201 false })).broken e.1 true) dock false)
+      → (is_at (record (cond c m (record { station = Some e.0; broken = replicate PLACES false })) { broken = slice_set (cond c m (record { station = Some e.0; broken = replicate PLACES false })).broken e.1 true }) station
+      && get_or (slice_set (cond c m (record { station = Some e.0; broken = replicate PLACES false })).broken e.1 true) dock false)
       ≡ (has_mark m station dock || (bytes_eq e.0 station && (e.1 == dock)))
   go true f =
       let own : is_at m station ≡ bytes_eq e.0 station = ap (λ (o : Option (List ℕ)). is_station o station) (station_of m e.0 f) in
@@ -234,7 +235,7 @@ marks_step m x y xs e station dock long reached low a b within = go (is_at m e.0
       ∙ and_or (is_at m station) (get_or m.broken dock false) (e.1 == dock)
       ∙ ap (λ (c : Bool). has_mark m station dock || (c && (e.1 == dock))) own
   go false f =
-      ap (λ (c : Bool). bytes_eq e.0 station && c) (set_has (replicate 201 false) e.1 dock (subst (λ (n : ℕ). e.1 < n) (sym length_new) within) ∙ ap (λ (c : Bool). c || (e.1 == dock)) (none_set 201 dock))
+      ap (λ (c : Bool). bytes_eq e.0 station && c) (set_has (replicate PLACES false) e.1 dock (subst (λ (n : ℕ). e.1 < n) (sym length_new) within) ∙ ap (λ (c : Bool). c || (e.1 == dock)) (none_set PLACES dock))
       ∙ ap (λ (c : Bool). (c && get_or m.broken dock false) || (bytes_eq e.0 station && (e.1 == dock))) (sym (away (is_at m station) refl))
     where
       away : (c : Bool) → is_at m station ≡ c → is_at m station ≡ false
@@ -251,15 +252,15 @@ marks_step m x y xs e station dock long reached low a b within = go (is_at m e.0
               let t : is_at m e.0 ≡ true = ap (is_at m) same ∙ h in
               cc
 
-marks_length : (m : Marks) (x : Row) → IsLine x → length m.broken ≡ 201 → length (marks_after m x).broken ≡ 201
+marks_length : (m : Marks) (x : Row) → IsLine x → length m.broken ≡ PLACES → length (marks_after m x).broken ≡ PLACES
 marks_length m x line long = elim (effect m x line) [
   | inl same ↦ ap (λ (k : Marks). length k.broken) same.0 ∙ long
   | inr it ↦ ap (λ (k : Marks). length k.broken) it.1 ∙ length-set (marks_of m it.0.0).broken it.0.1 true ∙ go (is_at m it.0.0) it.0.0
 ]
   where
-    go : (c : Bool) (s : List ℕ) → length (cond c m (record { station = Some s; broken = replicate 201 false })).broken ≡ 201
+    go : (c : Bool) (s : List ℕ) → length (cond c m (record { station = Some s; broken = replicate PLACES false })).broken ≡ PLACES
     go true s = long
-    go false s = refl
+    go false s = length-replicate PLACES false
 
 still_reached : (m : Marks) (x : Row) (xs : List Row) → AreLines (x ∷ xs) → Rises (by_key_total 5) (x ∷ xs) → IsReached m (x ∷ xs) → IsReached (marks_after m x) xs
 still_reached m x xs lines up reached at is y h fall = elim (effect m x (lines x (inl refl))) [
@@ -270,10 +271,10 @@ still_reached m x xs lines up reached at is y h fall = elim (effect m x (lines x
     low : Ranks x y
     low = ranks x y (lines x (inl refl)) (lines y (inr h)) (all_has (λ z. by_key 5 x z ≡ Less) xs y up.0 h)
 
-    go : (c : Bool) {d : Bool} → d ≡ c → (e : List ℕ × ℕ) → column x 0 ≡ Text e.0 → (cond d m (record { station = Some e.0; broken = replicate 201 false })).station ≡ Some at → ⊥
-    go true q e a now = reached at (ap (λ (c : Bool). (cond c m (record { station = Some e.0; broken = replicate 201 false })).station) (sym q) ∙ now) y (inr h) fall
+    go : (c : Bool) {d : Bool} → d ≡ c → (e : List ℕ × ℕ) → column x 0 ≡ Text e.0 → (cond d m (record { station = Some e.0; broken = replicate PLACES false })).station ≡ Some at → ⊥
+    go true q e a now = reached at (ap (λ (c : Bool). (cond c m (record { station = Some e.0; broken = replicate PLACES false })).station) (sym q) ∙ now) y (inr h) fall
     go false q e a now =
-        let named : ◌≡◌ {A = Option (List ℕ)} (Some e.0) (Some at) = ap (λ (c : Bool). (cond c m (record { station = Some e.0; broken = replicate 201 false })).station) (sym q) ∙ now in
+        let named : ◌≡◌ {A = Option (List ℕ)} (Some e.0) (Some at) = ap (λ (c : Bool). (cond c m (record { station = Some e.0; broken = replicate PLACES false })).station) (sym q) ∙ now in
         let same : e.0 ≡ at = cc in
         no_fall x y low (ap (value_cmp (column y 0)) (a ∙ ap (λ (s : List ℕ). Text s) same) ∙ fall)
 
@@ -342,7 +343,7 @@ module _ (is_broken : List ℕ → ℕ → Bool) where
       let own : marks station dock x ≡ false = ap (λ (v : Value). is_place 0 v && says_broken station dock (dock_read (part 5 3 x))) at.1 in
       sym (known x (inl refl) station dock asks ∙ ap₂ (λ (p q : Bool). has_mark m station dock || (p || q)) own none ∙ or_false (has_mark m station dock))
 
-  still_marked : (m : Marks) (x : Row) (xs : List Row) → AreLines (x ∷ xs) → Rises (by_key_total 5) (x ∷ xs) → length m.broken ≡ 201 → IsReached m (x ∷ xs) → IsMarked m (x ∷ xs) → IsMarked (marks_after m x) xs
+  still_marked : (m : Marks) (x : Row) (xs : List Row) → AreLines (x ∷ xs) → Rises (by_key_total 5) (x ∷ xs) → length m.broken ≡ PLACES → IsReached m (x ∷ xs) → IsMarked m (x ∷ xs) → IsMarked (marks_after m x) xs
   still_marked m x xs lines up long reached known y h station dock asks =
       known y (inr h) station dock asks ∙ sym (or_assoc (has_mark m station dock) (marks station dock x) (list_any (marks station dock) xs))
       ∙ ap (λ (c : Bool). c || list_any (marks station dock) xs) (sym step)
@@ -358,7 +359,7 @@ module _ (is_broken : List ℕ → ℕ → Bool) where
       ]
 
   -- THE PASS
-  pub run_is : (xs : List Row) (m : Marks) (last : Option Tally) → AreLines xs → Rises (by_key_total 5) xs → length m.broken ≡ 201 → IsReached m xs → IsMarked m xs
+  pub run_is : (xs : List Row) (m : Marks) (last : Option Tally) → AreLines xs → Rises (by_key_total 5) xs → length m.broken ≡ PLACES → IsReached m xs → IsMarked m xs
       → run m last xs ≡ first_uneven last (filter_map (tally_in is_broken) xs)
   unfolding run first_uneven
   run_is [] m last lines up long reached known = refl

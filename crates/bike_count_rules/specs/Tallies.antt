@@ -14,6 +14,7 @@ use Rattle.bike_places.specs.Laws.{one}
 use Rattle.bike_readings.specs.ReadOff.{first_of}
 use Rattle.bike_readings.specs.Readings.{dock_read, bike_read, count_read}
 use Rattle.bike_judges.specs.Lines.{part}
+use Rattle.bike_count_rules.specs.declared.marks.TheConstants.{PLACES}
 use Rattle.bike_count_rules.specs.declared.marks.Marks.{Marks}
 use Rattle.bike_count_rules.specs.declared.tally.Tally.{Tally}
 
@@ -37,7 +38,7 @@ has_mark m station dock = is_at m station && get_or m.broken dock false
 
 -- the marks of the station: none where the marks are another's
 abbrev pub marks_of : Marks → List ℕ → Marks
-marks_of m station = if is_at m station then m else record { station = Some station; broken = replicate 201 false }
+marks_of m station = if is_at m station then m else record { station = Some station; broken = replicate PLACES false }
 
 abbrev pub with_mark : Marks → List ℕ → ℕ → Marks
 with_mark m station dock = record (marks_of m station) { broken = slice_set (marks_of m station).broken dock true }

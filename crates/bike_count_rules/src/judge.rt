@@ -6,6 +6,7 @@ ghost use Rattle.bike_rows.specs.Calls.{ReadsWhere};
 ghost use Rattle.bike_schema.specs.Tables.{IsOurs};
 ghost use Rattle.bike_judges.specs.Judging.{key_row};
 ghost use Rattle.bike_judges.specs.Verdicts.{JudgesTable};
+ghost use Rattle.bike_count_rules.specs.declared.marks.TheConstants.{PLACES};
 ghost use Rattle.bike_count_rules.specs.Tallies.{run, marks_after, tally_in, has_mark, next_of, found_of, bad_key};
 
 use crate::marks::Marks;
@@ -30,7 +31,7 @@ impl CountJudge {
     /// Before the first line.
     fn new(alloc: Global) -> CountJudge
         ensures station { result.marks.station ≡ None }
-        ensures broken { result.marks.broken ≡ replicate 201 false }
+        ensures broken { result.marks.broken ≡ replicate PLACES false }
         ensures tally { result.tally ≡ None }
     {
         CountJudge {

@@ -2,14 +2,18 @@
 
 ghost use Rattle.std.specs.Prelude.{◌≡◌, IfOk, OnOk, None, replicate, false, get_or};
 ghost use Rattle.sqlite_value.specs.Order.{column};
+ghost use Rattle.bike_count_rules.specs.declared.marks.TheConstants.{PLACES};
 ghost use Rattle.bike_count_rules.specs.Tallies.{is_place, has_mark, is_at, marks_after};
 
-use bike_fields::{DockNumber, Ident};
+use bike_fields::{DockNumber, Ident, MOST_DOCKS};
 use bike_readings::{Part, read_dock};
 use bike_schema::StatementFault;
 use sqlite::Row;
 use sqlite::types::ValueRef;
 use std::alloc::Global;
+
+/// A station's docks have these places by their numbers, of which 0 is no dock's.
+pub(crate) const PLACES: usize = MOST_DOCKS as usize + 1;
 
 /// Whether the column holds that number.
 pub(crate) fn is_place(line: &Row, at: usize, place: u32) -> bool
@@ -38,18 +42,18 @@ pub(crate) struct Marks {
     /// The station, where one was begun.
     station: Option<Ident>,
     /// Whether its dock of that number is broken.
-    broken: [bool; 201],
+    broken: [bool; PLACES],
 }
 
 impl Marks {
     /// Of no station.
     pub(crate) fn new() -> Marks
         ensures station { result.station ≡ None }
-        ensures broken { result.broken ≡ replicate 201 false }
+        ensures broken { result.broken ≡ replicate PLACES false }
     {
         Marks {
             station: None,
-            broken: [false; 201],
+            broken: [false; PLACES],
         }
     }
 
@@ -95,7 +99,7 @@ impl Marks {
         }
         if !self.is_at(dock.station) {
             self.station = Some(ident(alloc, dock.station)?);
-            self.broken = [false; 201];
+            self.broken = [false; PLACES];
         }
         let at = dock.dock.get() as usize;
         self.broken[at] = true;

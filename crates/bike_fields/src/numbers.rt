@@ -15,7 +15,7 @@ pub type BicycleNumber = Within<1, GREATEST_NUMBER>;
 pub type TruckNumber = Within<1, GREATEST_NUMBER>;
 
 /// A station has at most this many docks, which are numbered from 1.
-pub const MOST_DOCKS: u32 = 200;
+pub const MOST_DOCKS: u32 = 500;
 
 /// A dock of a station.
 pub type DockNumber = Within<1, MOST_DOCKS>;

@@ -12,9 +12,9 @@ use Rattle.bike_operator.specs.declared.records.Bike.{Bike}
 use Rattle.bike_schema.specs.declared.fault.StatementFault.{StatementFault}
 use Rattle.bike_schema.specs.Columns.{read_or_failed, whole_in, text_in}
 use Rattle.bike_readings.proofs.ColumnLaws.{whole_column}
-use Rattle.bike_readings.specs.ReadOff.{misplaced_bike, first_place}
+use Rattle.bike_readings.specs.ReadOff.{misplaced_bike, first_place_in}
 use Rattle.bike_judges.specs.Lines.{part}
-use Rattle.bike_fleet_rules.specs.Counted.{counted_in, counted_at, spelled_by, named_place, place_at}
+use Rattle.bike_fleet_rules.specs.Counted.{counted_in, counted_at, spelled_by, place_at}
 use Rattle.bike_fleet_rules.proofs.CountedRows.{counted_first}
 
 -- ---- single columns
@@ -49,7 +49,7 @@ part_column first width k line low = get_or-take width (drop first line) k Null 
 
 -- the bicycle of a row's columns
 abbrev misplaced_columns : Row → Option (ℕ × Bike)
-misplaced_columns row = spelled_by (column row 0) (column row 1) (column row 2) (first_place row)
+misplaced_columns row = spelled_by (column row 0) (column row 1) (column row 2) (first_place_in (column row 3) (column row 4) (column row 5) (column row 6) (column row 7))
 
 pub counted_part : (first : ℕ) (line : Row) → counted_at first line ≡ counted_in (part first 8 line)
 unfolding counted_in
@@ -72,7 +72,7 @@ counted_part first line = go (leb (first + 8) (length line)) refl ∙ sym (count
       let c5 : column line (first + 3 + 2) ≡ column (part first 8 line) 5 = ap (column line) (omega arith) ∙ at 5 (omega arith) in
       let c6 : column line (first + 3 + 3) ≡ column (part first 8 line) 6 = ap (column line) (omega arith) ∙ at 6 (omega arith) in
       let c7 : column line (first + 3 + 4) ≡ column (part first 8 line) 7 = ap (column line) (omega arith) ∙ at 7 (omega arith) in
-      (λ i. spelled_by (c0 i) (c1 i) (c2 i) (named_place (c3 i) (c4 i) (c5 i) (c6 i) (c7 i)))
+      (λ i. spelled_by (c0 i) (c1 i) (c2 i) (first_place_in (c3 i) (c4 i) (c5 i) (c6 i) (c7 i)))
       ∙ sym (ap (λ (b : Bool). cond b (misplaced_columns (part first 8 line)) None) width)
   go false e =
       let short : length line < first + 8 = grind (arith, nat_tests, e) in

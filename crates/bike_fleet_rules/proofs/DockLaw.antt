@@ -37,7 +37,7 @@ use Rattle.bike_fleet_rules.specs.Docks.{Docked, docked_at, docked_of, docked_in
 use Rattle.bike_fleet_rules.proofs.Parts.{AreWide, begins_with_one}
 use Rattle.bike_fleet_rules.proofs.OfRows.{OfEach}
 use Rattle.bike_fleet_rules.proofs.Lookups.{bikes_read, bike_key}
-use Rattle.bike_fleet_rules.proofs.CountedRows.{counted_is, HasPlace, place_columns_are}
+use Rattle.bike_fleet_rules.proofs.CountedRows.{counted_is, HasPlace}
 use Rattle.bike_fleet_rules.proofs.DockOrder.{dock_key, dock_cmp, keys_cmp, Crowds, crowd_of, crowds_of, IsLeastOf, pass_least, AreInOrder as AreDocksInOrder}
 
 -- ---- the bicycle of a row
@@ -79,7 +79,7 @@ dock_not row = refl
 key_is : (row : Row) (d : Docked) → IsDockedRow row d → take 4 (docked_line row) ≡ dock_key d
 key_is row d it =
     let counted = counted_is row (d.bike, it.bike) it.read_is in
-    let has : HasPlace row (place.Dock d.station d.dock) = subst (HasPlace row) (sym counted.place_is ∙ it.place_is) (place_columns_are row) in
+    let has : HasPlace row (place.Dock d.station d.dock) = subst (HasPlace row) it.place_is counted.placed in
     let station = has.0 in
     let dock = has.1 in
     let number = counted.number_is in

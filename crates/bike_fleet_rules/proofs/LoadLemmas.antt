@@ -1,5 +1,5 @@
 -- What is added to a truck, and to an order, comes to its load in the operator.
-use Rattle.std.proofs.Common.{◌≡◌, inl, inr, ℕ, ◌+◌, ◌≤◌, ◌==◌, ◌&&◌, List, [], ◌∷◌, ◌++◌, length, map, fold, Bool, true, false, cond, Option, Some, None, refl, sym, ap, ◌∙◌, subst, arith}
+use Rattle.std.proofs.Common.{◌≡◌, inl, inr, ℕ, ◌+◌, ◌≤◌, ◌==◌, ◌&&◌, List, [], ◌∷◌, ◌++◌, length, map, fold, Bool, true, false, cond, Option, Some, None, refl, sym, ap, ◌∙◌, arith}
 use Rattle.std.specs.Prelude.{take}
 use Rattle.std.specs.List.{filter_map, cons_option}
 use Rattle.std.specs.declared.cmp.Ordering.TheVariants.{Equal}
@@ -29,7 +29,7 @@ use Rattle.bike_fleet_rules.specs.Counted.{counted_in}
 use Rattle.bike_fleet_rules.specs.Loads.{is_of, is_number, is_placed, loads, truck_more, order_more}
 use Rattle.bike_fleet_rules.specs.declared.trucks.TruckAccount.{TruckAccount}
 use Rattle.bike_fleet_rules.specs.declared.orders.OrderAccount.{OrderAccount}
-use Rattle.bike_fleet_rules.proofs.CountedRows.{counted_is, HasPlace, place_columns_are}
+use Rattle.bike_fleet_rules.proofs.CountedRows.{counted_is, HasPlace}
 use Rattle.bike_fleet_rules.proofs.Lookups.{bikes_read}
 
 -- ---- an owner's lines
@@ -99,19 +99,13 @@ read_same n owner v is low high = ap (λ (o : Option ℕ). is_number owner o && 
 on_truck : (truck : ℕ) (row : Row) (p : Place) → HasPlace row p → is_of truck (truck_bike_line row) && is_on_truck truck p ≡ is_on_truck truck p
 on_truck truck row (place.Dock station dock) has = none_of (is_of truck (truck_bike_line row))
 on_truck truck row (place.Rental rental) has = none_of (is_of truck (truck_bike_line row))
-on_truck truck row (place.Truck n for) has =
-    let same : has.truck ≡ n = let e = has.place_is in cc in
-    let good = has.good_truck in
-    read_same n truck (column row 6) (has.truck_is ∙ ap number_value same) (omega (arith, same, good.0)) (omega (arith, same, good.1))
+on_truck truck row (place.Truck n for) has = read_same n truck (column row 6) has.truck_is has.good_truck.0 (let high = has.good_truck.1 in omega (arith, high))
 on_truck truck row place.Depot has = none_of (is_of truck (truck_bike_line row))
 
 for_order : (order : ℕ) (row : Row) (p : Place) → HasPlace row p → is_of order (order_bike_line row) && is_for_order order p ≡ is_for_order order p
 for_order order row (place.Dock station dock) has = none_of (is_of order (order_bike_line row))
 for_order order row (place.Rental rental) has = none_of (is_of order (order_bike_line row))
-for_order order row (place.Truck n for) has =
-    let same : has.order ≡ for = let e = has.place_is in cc in
-    let good = has.good_order in
-    read_same for order (column row 7) (has.order_is ∙ ap number_value same) (omega (arith, same, good.0)) (omega (arith, same, good.1))
+for_order order row (place.Truck n for) has = read_same for order (column row 7) has.order_is has.good_order.0 has.good_order.1
 for_order order row place.Depot has = none_of (is_of order (order_bike_line row))
 
 -- a line adds to its owner where the bicycle is there
@@ -120,7 +114,7 @@ module _ (test : Place → Bool) (owner : ℕ) (row : Row) (owned : Bool) (its :
   placed_own = go (bike_in row) refl where
     go : (o : Option (ℕ × Bike)) → bike_in row ≡ o → owned && is_placed test o ≡ is_placed test o
     go None e = none_of owned
-    go (Some b) e = its b.1.place (subst (HasPlace row) (sym (counted_is row b e).place_is) (place_columns_are row))
+    go (Some b) e = its b.1.place (counted_is row b e).placed
 
 truck_line_loads : (truck : ℕ) (row : Row) → length row ≡ 8 → loads (is_on_truck truck) truck (truck_bike_line row) ≡ is_placed (is_on_truck truck) (bike_in row)
 unfolding counted_in

@@ -99,3 +99,18 @@ is_bike_used (Some x) rental order = is_used x.0 x.1.type_id x.1.place rental or
 
 unfoldable pub bike_uses : ℕ → Row → Bool
 bike_uses below line = is_bike_used (bike_read (part 0 8 line)) (rental_read (part 8 10 line)) (order_read (part 18 8 line))
+
+-- a truck on which the bicycle is
+abbrev pub is_truck_there : Place → Option (ℕ × Truck) → Bool
+is_truck_there (place.Dock station dock) found = true
+is_truck_there (place.Rental rental) found = true
+is_truck_there (place.Truck truck order) found = is_some found
+is_truck_there place.Depot found = true
+
+-- what the bicycle is on
+abbrev pub is_bike_borne : Option (ℕ × Bike) → Option (ℕ × Truck) → Bool
+is_bike_borne None truck = false
+is_bike_borne (Some x) truck = is_truck_there x.1.place truck
+
+unfoldable pub bike_trucks : ℕ → Row → Bool
+bike_trucks below line = is_bike_borne (bike_read (part 0 8 line)) (truck_read (part 8 2 line))

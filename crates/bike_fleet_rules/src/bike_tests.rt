@@ -4,12 +4,12 @@ ghost use Rattle.std.specs.Prelude.{◌≡◌, IfOk, option_map};
 ghost use Rattle.bike_operator.specs.Counts.{is_depot};
 ghost use Rattle.bike_judges.specs.Judging.{key_row};
 ghost use Rattle.bike_judges.specs.Lines.{part};
-ghost use Rattle.bike_readings.specs.Readings.{bike_read, order_read, rental_read, station_read};
+ghost use Rattle.bike_readings.specs.Readings.{bike_read, order_read, rental_read, station_read, truck_read};
 ghost use Rattle.bike_readings.specs.Views.{bike_of, place_of};
-ghost use Rattle.bike_fleet_rules.specs.Tests.{first_key, has_dock, is_dock_there, is_where_retired, is_ridden, is_carried, is_used, bike_names, bike_uses};
+ghost use Rattle.bike_fleet_rules.specs.Tests.{first_key, has_dock, is_dock_there, is_where_retired, is_ridden, is_carried, is_used, is_truck_there, bike_names, bike_uses, bike_trucks};
 
 use crate::key::number_key;
-use crate::partners::has_type;
+use crate::partners::{has_truck, has_type};
 use bike_fields::{BicycleNumber, DockNumber, TruckNumber};
 use bike_judges::{BadKey, LineTest};
 use bike_operator::{BikeState, MOST_BIKES};
@@ -26,6 +26,10 @@ pub(crate) struct BikeNames;
 /// Bicycles, each with its rental and its order.
 #[derive(Debug, Drop)]
 pub(crate) struct BikeUses;
+
+/// Bicycles, each with its truck.
+#[derive(Debug, Drop)]
+pub(crate) struct BikeTrucks;
 
 /// The bicycle of the line's row, where that names one place.
 fn bike_of(line: &Row) -> Option<StoredBike<'_>>
@@ -103,6 +107,16 @@ fn is_used(line: &Row, bike: BicycleNumber, type_id: &str, place: StoredPlace<'_
     }
 }
 
+/// Whether a truck on which the bicycle is is there.
+fn is_truck_there(place: &StoredPlace<'_>, line: &Row) -> bool
+    ensures { result ≡ is_truck_there (place_of place.now) (truck_read (part 8 2 line.now)) }
+{
+    match place {
+        StoredPlace::Truck { truck: _, order: _ } => has_truck(line, 8),
+        _ => true,
+    }
+}
+
 /// Whether the bicycle before which so many stand has a type and a dock that are there, and is in the depot if it is
 /// retired.
 #[tactic(auto, unfolding(crate::specs::Tests::bike_names))]
@@ -129,6 +143,17 @@ fn is_own(before: u64, line: &Row) -> bool
     is_used(line, bike.bike, bike.type_id, bike.place)
 }
 
+/// Whether the bicycle's truck is there.
+#[tactic(auto, unfolding(crate::specs::Tests::bike_trucks))]
+fn is_borne(before: u64, line: &Row) -> bool
+    ensures { result ≡ bike_trucks before line.now }
+{
+    let Some(bike) = bike_of(line) else {
+        return false;
+    };
+    is_truck_there(&bike.place, line)
+}
+
 impl LineTest for BikeNames {
     ghost test = { λ _ before line. bike_names before line };
 
@@ -150,6 +175,20 @@ impl LineTest for BikeUses {
 
     fn is_good(&self, before: u64, line: &Row) -> Result<bool, StatementFault> {
         Ok(is_own(before, line))
+    }
+
+    fn bad_key(&self, line: &Row) -> Result<BadKey, StatementFault> {
+        number_key(line)
+    }
+}
+
+impl LineTest for BikeTrucks {
+    ghost test = { λ _ before line. bike_trucks before line };
+
+    ghost key = { λ _ line. first_key line };
+
+    fn is_good(&self, before: u64, line: &Row) -> Result<bool, StatementFault> {
+        Ok(is_borne(before, line))
     }
 
     fn bad_key(&self, line: &Row) -> Result<BadKey, StatementFault> {

@@ -3,19 +3,21 @@
 ghost use Rattle.std.specs.Prelude.{◌≡◌, ◌+◌, ◌≤◌, option_map};
 ghost use Rattle.std.specs.List.{list_all};
 ghost use Rattle.sqlite_value.specs.Order.{column};
+ghost use Rattle.sqlite_sql.specs.Ops.{is_null};
 ghost use Rattle.bike_fields.specs.Bytes.{is_ident, is_ident_byte};
-ghost use Rattle.bike_schema.specs.Columns.{text_in, number_in, state_in, ident_in};
-ghost use Rattle.bike_readings.specs.ColumnReaders.{serial_in, in_dock, in_rental, on_truck};
+ghost use Rattle.bike_schema.specs.Columns.{text_in, number_in, state_in, ident_in, or_none};
+ghost use Rattle.bike_readings.specs.ColumnReaders.{serial_in};
+ghost use Rattle.bike_readings.specs.ReadOff.{dock_place, truck_place, first_place};
 ghost use Rattle.bike_readings.specs.Views.{bike_of, place_of};
 ghost use Rattle.bike_judges.specs.Lines.{part};
 ghost use Rattle.bike_fleet_rules.specs.Counted.{counted_at, counted_in, place_at};
 ghost use Rattle.bike_fleet_rules.specs.Loads.{is_of};
 
-use bike_fields::RentalNumber;
+use bike_fields::{DockNumber, OrderNumber, RentalNumber, TruckNumber};
 use bike_fixed::Within;
 use bike_operator::BikeState;
 use bike_readings::{StoredBike, StoredPlace};
-use bike_schema::{number_at, state_at};
+use bike_schema::{number_at, optional_number_at, state_at};
 use sqlite::Row;
 use sqlite::types::ValueRef;
 
@@ -51,6 +53,13 @@ pub(crate) fn number_in<const LO: u32, const HI: u32>(
         Ok(number) => Some(number),
         Err(_) => None,
     }
+}
+
+/// Whether a column is NULL.
+fn is_null(line: &Row, at: usize) -> bool
+    ensures { result ≡ is_null (column line.now at) }
+{
+    matches!(line.get_ref(at), Ok(ValueRef::Null) | Err(_))
 }
 
 /// The number of a rental, an order or an entry in a column.
@@ -107,49 +116,85 @@ fn ident_in(line: &Row, at: usize) -> Option<&str>
     None
 }
 
-/// The place in a dock.
-fn in_dock(line: &Row, at: usize) -> Option<StoredPlace<'_>>
-    requires { at ≤ 64 }
-    ensures { option_map place_of result ≡ in_dock (column line.now at) (column line.now (at + 1)) }
+/// The identifier in a column, or `Some(None)` where the column is NULL.
+fn ident_or_none(line: &Row, at: usize) -> Option<Option<&str>>
+    ensures { option_map (option_map (λ text. text.now)) result ≡ or_none ident_in (column line.now at) }
 {
-    let station = ident_in(line, at)?;
-    let dock = number_in(line, at + 1)?;
+    if is_null(line, at) {
+        return Some(None);
+    }
+    let ident = ident_in(line, at)?;
+    Some(Some(ident))
+}
+
+/// The number in a column, in the same way.
+#[tactic(auto, using(crate::proofs::ColumnLemmas::read_some, crate::proofs::ColumnLemmas::read_none))]
+fn number_or_none<const LO: u32, const HI: u32>(
+    line: &Row,
+    at: usize,
+) -> Option<Option<Within<LO, HI>>>
+    ensures { result ≡ or_none (number_in LO HI) (column line.now at) }
+{
+    match optional_number_at(line, at) {
+        Ok(number) => Some(number),
+        Err(_) => None,
+    }
+}
+
+/// The place in a dock, where both parts are there.
+fn dock_place<'a>(station: Option<&'a str>, dock: Option<DockNumber>) -> Option<StoredPlace<'a>>
+    ensures { option_map place_of result ≡ dock_place (option_map (λ text. text.now) station.entry) dock }
+{
+    let station = station?;
+    let dock = dock?;
     Some(StoredPlace::Dock { station, dock })
 }
 
-/// The place in a rental.
-fn in_rental(line: &Row, at: usize) -> Option<StoredPlace<'_>>
-    ensures { option_map place_of result ≡ in_rental (column line.now at) }
+/// The place on a truck, in the same way.
+fn truck_place<'a>(
+    truck: Option<TruckNumber>,
+    order: Option<OrderNumber>,
+) -> Option<StoredPlace<'a>>
+    ensures { option_map place_of result ≡ truck_place truck order }
 {
-    let rental = number_in(line, at)?;
-    Some(StoredPlace::Rental { rental })
-}
-
-/// The place on a truck.
-fn on_truck(line: &Row, at: usize) -> Option<StoredPlace<'_>>
-    requires { at ≤ 64 }
-    ensures { option_map place_of result ≡ on_truck (column line.now at) (column line.now (at + 1)) }
-{
-    let truck = number_in(line, at)?;
-    let order = number_in(line, at + 1)?;
+    let truck = truck?;
+    let order = order?;
     Some(StoredPlace::Truck { truck, order })
 }
 
-/// The first place that five columns name.
-fn place_at(line: &Row, at: usize) -> StoredPlace<'_>
-    requires { at ≤ 32 }
-    ensures { place_of result ≡ place_at at line.now }
+/// The first whole place among these parts of places.
+fn first_place<'a>(
+    station: Option<&'a str>,
+    dock: Option<DockNumber>,
+    rental: Option<RentalNumber>,
+    truck: Option<TruckNumber>,
+    order: Option<OrderNumber>,
+) -> StoredPlace<'a>
+    ensures { place_of result ≡ first_place (option_map (λ text. text.now) station.entry) dock rental truck order }
 {
-    if let Some(dock) = in_dock(line, at) {
-        return dock;
+    if let Some(place) = dock_place(station, dock) {
+        return place;
     }
-    if let Some(rental) = in_rental(line, at + 2) {
-        return rental;
+    if let Some(rental) = rental {
+        return StoredPlace::Rental { rental };
     }
-    if let Some(truck) = on_truck(line, at + 3) {
-        return truck;
+    if let Some(place) = truck_place(truck, order) {
+        return place;
     }
     StoredPlace::Depot
+}
+
+/// The first place that five columns name, where each of them is NULL or keeps its bounds.
+fn place_at(line: &Row, at: usize) -> Option<StoredPlace<'_>>
+    requires { at ≤ 32 }
+    ensures { option_map place_of result ≡ place_at at line.now }
+{
+    let station = ident_or_none(line, at)?;
+    let dock = number_or_none(line, at + 1)?;
+    let rental = number_or_none(line, at + 2)?;
+    let truck = number_or_none(line, at + 3)?;
+    let order = number_or_none(line, at + 4)?;
+    Some(first_place(station, dock, rental, truck, order))
 }
 
 /// The bicycle that eight columns spell, at the first place that they name.
@@ -164,13 +209,15 @@ fn counted_at(line: &Row, first: usize) -> Option<StoredBike<'_>>
     let bike = number_in(line, first)?;
     let type_id = ident_in(line, first + 1)?;
     let state = state_in(line, first + 2)?;
-    let place = place_at(line, first + 3);
-    Some(StoredBike {
-        bike,
-        type_id,
-        state,
-        place,
-    })
+    match place_at(line, first + 3) {
+        Some(place) => Some(StoredBike {
+            bike,
+            type_id,
+            state,
+            place,
+        }),
+        None => None,
+    }
 }
 
 /// The bicycle that the row counts which stands in a line from the column `first` on.

@@ -25,6 +25,13 @@ pub(crate) fn has_station(line: &Row, first: usize) -> bool
     read_station(Part::of(line, first, 12)).is_some()
 }
 
+/// Whether a truck stands in the line from the column `first` on.
+pub(crate) fn has_truck(line: &Row, first: usize) -> bool
+    ensures { result ≡ is_some (truck_read (part first 2 line.now)) }
+{
+    read_truck(Part::of(line, first, 2)).is_some()
+}
+
 /// Whether the truck that stands in the line from the column `first` on holds so many bicycles.
 pub(crate) fn holds(line: &Row, first: usize, count: OrderQuantity) -> bool
     ensures { result ≡ holds count (truck_read (part first 2 line.now)) }

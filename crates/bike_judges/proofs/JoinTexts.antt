@@ -1,7 +1,7 @@
 -- The queries that answer each row of a table with its partner in another.
 use Rattle.std.proofs.Common.{ℕ, List, [], ◌∷◌, ◌++◌, refl}
 use Rattle.bike_rows.proofs.SelectLaws.{rows_joined}
-use Rattle.bike_book.specs.Tables.{Plans, Segments, Types, Regions, Stations, Docks, Bikes, Riders, Rentals, Entries}
+use Rattle.bike_book.specs.Tables.{Plans, Segments, Types, Regions, Stations, Docks, Bikes, Trucks, Riders, Rentals, Entries}
 use Rattle.bike_schema.proofs.KeyLemmas.{table_key}
 use Rattle.bike_judges.specs.Lines.{with_one}
 use Rattle.bike_judges.specs.declared.query.Query.TheVariants as query
@@ -19,6 +19,9 @@ station_rows_lines is db has = rows_joined (table_key Stations) (table_key Regio
 
 pub docks_lines : {text : List ℕ} → IsJoinOf Docks Stations (0 ∷ []) text → AsksLines text query.Docks
 docks_lines is db has = rows_joined (table_key Docks) (table_key Stations) (has Docks) (has Stations) (0 ∷ []) (columns_in 1 Docks ++ columns_in 2 Stations) (with_one 12) is refl (λ r. refl) (λ r. refl) (λ r s. refl)
+
+pub bike_trucks_lines : {text : List ℕ} → IsJoinOf Bikes Trucks (6 ∷ []) text → AsksLines text query.BikeTrucks
+bike_trucks_lines is db has = rows_joined (table_key Bikes) (table_key Trucks) (has Bikes) (has Trucks) (6 ∷ []) (columns_in 1 Bikes ++ columns_in 2 Trucks) (with_one 2) is refl (λ r. refl) (λ r. refl) (λ r s. refl)
 
 pub rental_ends_lines : {text : List ℕ} → IsJoinOf Rentals Stations (6 ∷ []) text → AsksLines text query.RentalEnds
 rental_ends_lines is db has = rows_joined (table_key Rentals) (table_key Stations) (has Rentals) (has Stations) (6 ∷ []) (columns_in 1 Rentals ++ columns_in 2 Stations) (with_one 12) is refl (λ r. refl) (λ r. refl) (λ r s. refl)

@@ -106,6 +106,7 @@ lines_of query.Stations t = merge_of_three 3 station_line t.stations station_doc
 lines_of query.Docks t = left_joined (with_one 12) (0 ∷ []) 1 t.stations t.docks
 lines_of query.BikeNames t = twice_joined (with_two 6 12) (1 ∷ []) 1 t.types (3 ∷ []) 1 t.stations t.bikes
 lines_of query.BikeUses t = twice_joined (with_two 10 8) (5 ∷ []) 1 t.rentals (7 ∷ []) 1 t.orders t.bikes
+lines_of query.BikeTrucks t = left_joined (with_one 2) (6 ∷ []) 1 t.trucks t.bikes
 lines_of query.BikeDocks t = merge_of_two 4 dock_line t.docks docked_line t.bikes
 lines_of query.Trucks t = merge_of_two 3 truck_line t.trucks truck_bike_line t.bikes
 lines_of query.RiderRows t = t.riders

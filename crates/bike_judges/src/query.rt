@@ -25,6 +25,8 @@ pub enum Query {
     BikeNames,
     /// Bicycles, each with its rental and its order.
     BikeUses,
+    /// Bicycles, each with its truck.
+    BikeTrucks,
     /// Docks with the bicycles in them.
     BikeDocks,
     /// Trucks with the bicycles on them.

@@ -38,6 +38,9 @@ pub(crate) fn text(query: Query) -> &'static str
              LEFT JOIN rentals ON rentals.rental = bikes.rental \
              LEFT JOIN orders ON orders.ord = bikes.ord \
              ORDER BY bikes.bike",
+        Query::BikeTrucks => "SELECT bikes.*, trucks.* FROM bikes \
+             LEFT JOIN trucks ON trucks.truck = bikes.truck \
+             ORDER BY bikes.bike",
         Query::BikeDocks =>
             "SELECT station_id, dock, 0, 0, docks.*, NULL, NULL, NULL, NULL, NULL FROM docks \
              UNION ALL SELECT station_id, dock, 1, bike, bikes.* FROM bikes \

@@ -1,12 +1,16 @@
 -- The operator of whom nothing was asked yet is sound.
-use Rattle.std.proofs.Common.{◌≡◌, ℕ, zero, suc, List, [], true, Some, arith}
+use Rattle.std.proofs.Common.{◌≡◌, ℕ, zero, suc, List, [], ◌∷◌, length, true, Some, refl, sym, ap, ◌∙◌, arith}
 use Rattle.std.specs.FinMap as finmap
 use Rattle.std.specs.FinSet as finset
 use Rattle.std.specs.Ordering.{nat_cmp}
 use Rattle.bike_catalogue.specs.Rows.{PlanRow, TypeRow, RegionRow}
 use Rattle.bike_operator.specs.declared.records.Bike.{Bike}
-use Rattle.bike_operator.specs.Operator.{Station, Truck, Rider, Kept, Key, text_cmp, texts_cmp, no_operator, item_numbered}
-use Rattle.bike_operator.specs.Sound.{IsSound, IsCatalogueSound, AreBikesSound, AreOrdersSound, AreRentalsSound, IsLedgerSound}
+use Rattle.bike_operator.specs.Operator.{Station, Truck, Rider, Kept, Key, NameKey, text_cmp, texts_cmp, no_operator, item_numbered}
+use Rattle.bike_operator.specs.NameKind.{NameKind}
+use Rattle.bike_operator.specs.Counts.{count}
+use Rattle.bike_operator.specs.Names.{is_name_of, further_names}
+use Rattle.bike_operator.specs.Sound.{IsSound, IsCatalogueSound, AreNamesSound, AreBikesSound, AreOrdersSound, AreRentalsSound, IsLedgerSound}
+use Rattle.bike_places.proofs.NameLemmas.{names_counted}
 
 no_number : {A : Type 0} (n : ℕ) (x : A) → item_numbered n [] ≡ Some x → ⊥
 no_number zero x e = absurd cc
@@ -29,6 +33,9 @@ no_key X n x e = let none = finmap.get-empty {X = X} nat_cmp n in absurd cc
 
 no_kept : (key : Key) (k : Kept) → finmap.get (finmap.empty {X = Kept} {R = texts_cmp}) key ≡ Some k → ⊥
 no_kept key k e = let none = finmap.get-empty {X = Kept} texts_cmp key in absurd cc
+
+no_name : (key : NameKey) (name : List ℕ) → finmap.get (finmap.empty {X = List ℕ} {R = texts_cmp}) key ≡ Some name → ⊥
+no_name key name e = let none = finmap.get-empty {X = List ℕ} texts_cmp key in absurd cc
 
 no_broken : (key : Key) → finset.contains (finset.empty {R = texts_cmp}) key ≡ true → ⊥
 no_broken key e = let none = finset.contains-empty texts_cmp key in absurd cc
@@ -59,6 +66,19 @@ none_rentals = record { rentals = λ n r e. absurd (no_number n r e); riding = �
 none_ledger : IsLedgerSound no_operator
 none_ledger = record { riders = λ n r e. absurd (no_key Rider n r e); entries = λ n e i. absurd (no_number n e i); few_riders = omega (arith, finmap.len-empty nat_cmp Rider); few_entries = omega arith }
 
+no_items : {A : Type 0} (xs : List A) → length xs ≡ 0 → xs ≡ []
+no_items [] e = refl
+no_items (x ∷ xs) e = absurd (omega arith)
+
+none_further : (kind : NameKind) (id : List ℕ) → length (further_names no_operator kind id) ≡ 0
+none_further kind id =
+    let names = no_operator.more_names in
+    let none : finmap.entries names ≡ [] = no_items (finmap.entries names) (sym (finmap.len-entries names) ∙ finmap.len-empty texts_cmp (List ℕ)) in
+    names_counted no_operator kind id ∙ ap (count (λ (e : NameKey × List ℕ). is_name_of kind id e.0)) none
+
+none_names : AreNamesSound no_operator
+none_names = record { names = λ key name e. absurd (no_name key name e); few = λ kind id. let none = none_further kind id in omega (arith, none) }
+
 pub none_sound : IsSound no_operator
 none_sound = record {
   catalogue = none_catalogue;
@@ -67,5 +87,6 @@ none_sound = record {
   rentals = none_rentals;
   ledger = none_ledger;
   kept = λ key k e. absurd (no_kept key k e);
+  names = none_names;
   now = omega arith;
 }

@@ -13,6 +13,7 @@ use Rattle.bike_operator.specs.Steps.{refusal_of, reply_of}
 use Rattle.bike_operator.specs.Runs.{Call, key_in, step, after, after_acceptance, outcome, outcome_with_kept}
 use Rattle.bike_operator.specs.Sound.{IsKept, IsSound, AreCalls}
 use Rattle.bike_places.proofs.CatalogueLaw.{catalogue_law}
+use Rattle.bike_places.proofs.NameLaw.{names_law}
 use Rattle.bike_places.proofs.BikeLaw.{bikes_law}
 use Rattle.bike_places.proofs.OrderLaw.{orders_law}
 use Rattle.bike_laws.proofs.RetryLemmas.{texts_total, same_key}
@@ -49,6 +50,7 @@ accepted_sound s now q order good none later last =
         reply = reply.0;
         accepted = reply.1;
       });
+      names = names_law s now q.command kept order good.command none later;
       now = last;
     }
 

@@ -167,3 +167,4 @@ reply_good s now (command.Unload truck number bike side dock) order good none la
 reply_good s now (command.CloseOrder number) order good none later = done
 reply_good s now (command.AddRegion r) order good none later = done
 reply_good s now (command.SetRegion station region) order good none later = done
+reply_good s now (command.AddName kind id language name) order good none later = done

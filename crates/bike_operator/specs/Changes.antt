@@ -14,7 +14,7 @@ use Rattle.bike_operator.specs.declared.change.Change.{Change}
 use Rattle.bike_operator.specs.declared.change.Change.TheVariants as change
 use Rattle.bike_operator.specs.declared.change.Accepted.{Accepted}
 use Rattle.bike_operator.specs.declared.view.View.{View}
-use Rattle.bike_operator.specs.Operator.{Operator}
+use Rattle.bike_operator.specs.Operator.{Operator, name_key}
 use Rattle.bike_operator.specs.View.{view_of}
 use Rattle.bike_operator.specs.Steps.{refusal_of, effect, reply_of, key_changed, with_report, new_station, dock_marked, bike_placed, bike_marked, rental_added, rental_closed, order_added, order_changed}
 
@@ -54,6 +54,7 @@ with_change now (change.Deliver order) s = order_changed order (λ o. record o {
 with_change now (change.CloseOrder order) s = order_changed order (λ o. record o { is_open = false }) s
 with_change now (change.AddRegion r) s = record s { regions = map.insert s.regions r.now.region_id r.now }
 with_change now (change.SetRegion station region) s = record s { stations = key_changed s.stations station.now (λ x. record x { region = text_in region }) }
+with_change now (change.AddName kind id language name) s = record s { more_names = map.insert s.more_names (name_key kind id.now language.now) name.now }
 
 abbrev pub with_changes : ℕ → List Change → Operator → Operator
 with_changes now [] s = s

@@ -1,5 +1,6 @@
 pub mod Operator
 pub mod Counts
+pub mod Names
 pub mod View
 pub mod Steps
 pub mod Runs
@@ -7,6 +8,8 @@ pub mod Changes
 pub mod Sound
 pub mod Bounds
 pub use Rattle.bike_commands.specs.Rows
+pub use Rattle.bike_commands.specs.NameKinds
+pub use Rattle.bike_commands.specs.NameKind
 pub use Rattle.bike_commands.specs.Bytes
 pub use Rattle.bike_commands.specs.Commands
 pub use Rattle.bike_commands.specs.OrderEnd

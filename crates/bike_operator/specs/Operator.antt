@@ -9,6 +9,8 @@ use Rattle.std.specs.FinMap.{FinMap}
 use Rattle.std.specs.FinSet as set
 use Rattle.std.specs.FinSet.{FinSet}
 use Rattle.bike_commands.specs.Rows.{PlanRow, TypeRow, StationRow, RegionRow, SystemRow}
+use Rattle.bike_commands.specs.NameKinds.{kind_text}
+use Rattle.bike_commands.specs.NameKind.{NameKind}
 use Rattle.bike_ledger.specs.Entries.{Entry}
 use Rattle.bike_commands.specs.declared.command.Command.{Command}
 use Rattle.bike_commands.specs.declared.reply.Reply.{Reply}
@@ -51,6 +53,13 @@ Key = List (List ℕ)
 abbrev pub key_of : List ℕ → List ℕ → Key
 key_of caller key = caller ∷ key ∷ []
 
+-- what has a name in a further language, with the language: the word of its kind, its identifier, and the language
+abbrev pub NameKey : Type 0
+NameKey = List (List ℕ)
+
+abbrev pub name_key : NameKind → List ℕ → List ℕ → NameKey
+name_key kind id language = kind_text kind ∷ id ∷ language ∷ []
+
 -- a dock of a station
 abbrev pub DockKey : Type 0
 DockKey = List (List ℕ)
@@ -74,6 +83,8 @@ pub record Operator : Type 0 where
   pub orders : List Order
   pub entries : List Entry
   pub kept : FinMap texts_cmp Kept
+  -- names in languages that aren't the system's
+  pub more_names : FinMap texts_cmp (List ℕ)
   -- the greatest moment of an accepted request, in seconds
   pub now : ℕ
 
@@ -93,6 +104,7 @@ no_operator = record {
   orders = [];
   entries = [];
   kept = map.empty;
+  more_names = map.empty;
   now = 0;
 }
 

@@ -1,13 +1,14 @@
 -- When an operator is sound: every name exists, each bicycle is in one place, numbers have no gaps, and bounds and limits hold.
-use Rattle.std.specs.Prelude.{◌≡◌, ℕ, ℤ, ◌+◌, ◌≤◌, ◌≤ℤ◌, ◌==◌, ◌&&◌, List, [], ◌∷◌, length, map, filter, Bool, true, false, Option, Some, None, pos}
+use Rattle.std.specs.Prelude.{◌≡◌, ℕ, ℤ, ◌+◌, ◌≤◌, ◌≤ℤ◌, ◌==◌, ◌&&◌, List, [], ◌∷◌, length, map, filter, Bool, true, false, Option, Some, None, is_some, pos}
 use Rattle.std.specs.FinMap as finmap
 use Rattle.std.specs.FinSet as finset
 use Rattle.bike_fixed.specs.Whole.{last_moment}
 use Rattle.bike_fields.specs.declared.numbers.TheConstants.{GREATEST_NUMBER, GREATEST_PAYMENT, MOST_CARRIED}
-use Rattle.bike_commands.specs.Bytes.{is_key}
+use Rattle.bike_commands.specs.Bytes.{is_key, is_ident}
+use Rattle.bike_commands.specs.NameKind.{NameKind}
 use Rattle.bike_commands.specs.CallerType.{Caller}
 use Rattle.bike_commands.specs.Caller.{IsCaller, caller_text}
-use Rattle.bike_commands.specs.Rows.{PlanRow, TypeRow, RegionRow, SystemRow, IsPlan, IsType, IsStation, IsRegion, IsSystem}
+use Rattle.bike_commands.specs.Rows.{PlanRow, TypeRow, RegionRow, SystemRow, IsPlan, IsType, IsStation, IsRegion, IsMoreName, IsSystem}
 use Rattle.bike_ledger.specs.Entries.{Entry}
 use Rattle.bike_ledger.specs.declared.entry.EntryKind.{EntryKind}
 use Rattle.bike_ledger.specs.declared.entry.EntryKind.TheVariants.{TopUp, Fare, Refund}
@@ -19,16 +20,17 @@ use Rattle.bike_commands.specs.declared.reply.Reply.{Reply}
 use Rattle.bike_commands.specs.declared.reply.Reply.TheVariants.{Done, Balance, Started, Ended, Ordered, Refused}
 use Rattle.bike_commands.specs.Replies.{IsReply}
 use Rattle.bike_commands.specs.Requests.{IsRequest}
-use Rattle.bike_operator.specs.declared.limits.TheConstants.{MOST_PLANS, MOST_TYPES, MOST_REGIONS, MOST_STATIONS, MOST_BIKES, MOST_TRUCKS, MOST_RIDERS, MOST_ORDERS, MOST_ENTRIES}
+use Rattle.bike_operator.specs.declared.limits.TheConstants.{MOST_PLANS, MOST_TYPES, MOST_REGIONS, MOST_FURTHER_NAMES, MOST_STATIONS, MOST_BIKES, MOST_TRUCKS, MOST_RIDERS, MOST_ORDERS, MOST_ENTRIES}
 use Rattle.bike_operator.specs.declared.records.Place.{Place}
 use Rattle.bike_operator.specs.declared.records.Place.TheVariants as place
 use Rattle.bike_operator.specs.declared.records.Bike.{Bike}
 use Rattle.bike_operator.specs.declared.records.Rental.{Rental}
 use Rattle.bike_operator.specs.declared.records.Closing.{Closing}
 use Rattle.bike_operator.specs.declared.records.Order.{Order}
-use Rattle.bike_operator.specs.Operator.{Operator, Station, Truck, Rider, Kept, Key, key_of, DockKey, dock_key, item_numbered}
+use Rattle.bike_operator.specs.Operator.{Operator, Station, Truck, Rider, Kept, Key, key_of, NameKey, name_key, DockKey, dock_key, item_numbered}
 use Rattle.bike_operator.specs.Counts.{is_open, is_retired, truck_load, order_load, open_rentals}
 use Rattle.bike_operator.specs.View.{has_end, has_region}
+use Rattle.bike_operator.specs.Names.{has_named, is_own_language, further_names}
 use Rattle.bike_operator.specs.Steps.{is_same_end}
 use Rattle.bike_operator.specs.Runs.{Call}
 
@@ -83,6 +85,24 @@ pub record IsCatalogueSound (s : Operator) : Type 0 where
   pub few_types : finmap.len s.types ≤ MOST_TYPES
   pub few_regions : finmap.len s.regions ≤ MOST_REGIONS
   pub few_stations : finmap.len s.stations ≤ MOST_STATIONS
+
+-- ---- names in further languages
+
+-- a further name of something that is there, in a language that isn't the system's
+pub record IsNameAt (s : Operator) (key : NameKey) (name : List ℕ) : Type 0 where
+  pub kind : NameKind
+  pub id : List ℕ
+  pub language : List ℕ
+  pub key_is : key ≡ name_key kind id language
+  pub good_id : is_ident id ≡ true
+  pub good : IsMoreName (record { language = language; name = name })
+  pub set : is_some s.system ≡ true
+  pub named : has_named s kind id ≡ true
+  pub further : is_own_language s.system language ≡ false
+
+pub record AreNamesSound (s : Operator) : Type 0 where
+  pub names : (key : NameKey) (name : List ℕ) → finmap.get s.more_names key ≡ Some name → IsNameAt s key name
+  pub few : (kind : NameKind) (id : List ℕ) → length (further_names s kind id) ≤ MOST_FURTHER_NAMES
 
 -- ---- bicycles and places
 
@@ -280,6 +300,7 @@ pub record IsSound (s : Operator) : Type 0 where
   pub rentals : AreRentalsSound s
   pub ledger : IsLedgerSound s
   pub kept : (key : Key) (k : Kept) → finmap.get s.kept key ≡ Some k → IsKept key k
+  pub names : AreNamesSound s
   pub now : s.now ≤ last_moment
 
 -- a request of the program at a moment of the program: by the unreadable-request rule no other comes

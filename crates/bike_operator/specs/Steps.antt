@@ -11,6 +11,8 @@ use Rattle.bike_ledger.specs.declared.entry.EntryKind.TheVariants as kind
 use Rattle.bike_ledger.specs.Ledger.{balance_of}
 use Rattle.bike_commands.specs.OrderEnd.{OrderEnd}
 use Rattle.bike_commands.specs.OrderEnd.TheVariants as end
+use Rattle.bike_commands.specs.NameKind.{NameKind}
+use Rattle.bike_commands.specs.NameKind.TheVariants as named
 use Rattle.bike_commands.specs.Side.{Side}
 use Rattle.bike_commands.specs.Side.TheVariants.{From, To}
 use Rattle.bike_commands.specs.declared.command.Command.{Command}
@@ -31,7 +33,7 @@ use Rattle.bike_operator.specs.declared.view.StationView.{StationView}
 use Rattle.bike_operator.specs.declared.view.DockedBike.{DockedBike}
 use Rattle.bike_operator.specs.declared.view.RentalView.{RentalView}
 use Rattle.bike_operator.specs.declared.view.View.{View}
-use Rattle.bike_operator.specs.Operator.{Operator, Station, dock_key, number_changed, item_numbered}
+use Rattle.bike_operator.specs.Operator.{Operator, Station, name_key, dock_key, number_changed, item_numbered}
 use Rattle.bike_operator.specs.Counts.{is_at, is_depot, is_on_truck, is_for_order, is_fit, is_retired, is_open, docked_at}
 use Rattle.bike_operator.specs.View.{view_of, end_at, docked_view, rental_view, rental_of}
 
@@ -92,6 +94,15 @@ is_closed_order order = on order (λ o. not o.is_open)
 abbrev pub is_of_another : ℕ → Option Order → Bool
 is_of_another truck order = on order (λ o. not (o.truck == truck))
 
+-- why a name isn't taken where there is nothing of its kind: the system has one identifier, and any other is a bad field
+abbrev pub unknown_of : NameKind → Refusal
+unknown_of named.System = refusal.BadField
+unknown_of named.Station = refusal.UnknownStation
+unknown_of named.Type = refusal.UnknownType
+unknown_of named.Plan = refusal.UnknownPlan
+unknown_of named.Description = refusal.UnknownPlan
+unknown_of named.Region = refusal.UnknownRegion
+
 -- THE TABLE: each command's tests, in order.
 -- The no-change rule: no mark, and no setting but that of the system, asks whether it changes anything.
 -- The crew rule: loading asks neither for flags, nor for a fit bicycle, nor for the dock's mark; unloading for the mark alone.
@@ -137,6 +148,8 @@ tests v (command.Unload truck order bike side dock) =
 tests v (command.CloseOrder order) = (is_none v.order, refusal.UnknownOrder) ∷ (is_closed_order v.order, refusal.OrderClosed) ∷ (nat_lt 0 v.on_truck, refusal.BikesOnTruck) ∷ []
 tests v (command.AddRegion r) = (v.has_region, refusal.AlreadyThere) ∷ (v.is_full, refusal.LimitReached) ∷ []
 tests v (command.SetRegion station region) = (is_none v.station, refusal.UnknownStation) ∷ (not v.has_region, refusal.UnknownRegion) ∷ []
+tests v (command.AddName kind id language name) =
+    (not v.has_system, refusal.SystemMissing) ∷ (not v.has_named, unknown_of kind) ∷ (v.has_language, refusal.AlreadyThere) ∷ (v.is_full, refusal.LimitReached) ∷ []
 
 abbrev pub refusal_of : Operator → Command → Option Refusal
 refusal_of s c = first (tests (view_of s c) c)
@@ -269,6 +282,7 @@ effect s now (command.Unload truck order bike side dock) = after_unload order bi
 effect s now (command.CloseOrder order) = order_changed order (λ o. record o { is_open = false }) s
 effect s now (command.AddRegion r) = record s { regions = map.insert s.regions r.region_id r }
 effect s now (command.SetRegion station region) = record s { stations = key_changed s.stations station (λ x. record x { region = region }) }
+effect s now (command.AddName kind id language name) = record s { more_names = map.insert s.more_names (name_key kind id language) name }
 
 -- ---- replies
 
@@ -311,3 +325,4 @@ reply_of s now (command.Unload truck order bike side dock) = Done
 reply_of s now (command.CloseOrder order) = Done
 reply_of s now (command.AddRegion r) = Done
 reply_of s now (command.SetRegion station region) = Done
+reply_of s now (command.AddName kind id language name) = Done

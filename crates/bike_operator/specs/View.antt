@@ -23,6 +23,7 @@ use Rattle.bike_operator.specs.declared.view.RiderView.{RiderView}
 use Rattle.bike_operator.specs.declared.view.TruckView.{TruckView}
 use Rattle.bike_operator.specs.declared.view.View.{View}
 use Rattle.bike_operator.specs.Operator.{Operator, Station, Truck, Rider, item_numbered}
+use Rattle.bike_operator.specs.Names.{has_named, has_language, has_all_names}
 use Rattle.bike_operator.specs.Counts.{docked_at, is_broken, truck_load, order_load, open_rentals, is_riding}
 
 -- ---- limits
@@ -131,6 +132,8 @@ empty_view = record {
   has_plan = false;
   has_type = false;
   has_region = false;
+  has_named = false;
+  has_language = false;
   has_from = false;
   has_to = false;
   has_rider = false;
@@ -204,3 +207,5 @@ view_of s (command.Unload truck order bike side dock) =
 view_of s (command.CloseOrder order) = record empty_view { order = item_numbered order s.orders; on_truck = order_load s order }
 view_of s (command.AddRegion r) = record empty_view { has_region = map.contains_key s.regions r.region_id; is_full = is_at_limit MOST_REGIONS s.regions }
 view_of s (command.SetRegion station region) = record empty_view { station = station_at s station; has_region = has_region s region }
+view_of s (command.AddName kind id language name) =
+    record empty_view { has_system = is_some s.system; has_named = has_named s kind id; has_language = has_language s kind id language; is_full = has_all_names s kind id }

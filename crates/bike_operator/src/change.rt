@@ -3,7 +3,10 @@
 ghost use Rattle.std.specs.Prelude.{◌≡◌, ◌∷◌, []};
 
 use crate::records::BikeState;
-use bike_commands::{Ident, OrderEnd, Plan, Refusal, Region, Reply, Station, System, VehicleType};
+use bike_commands::{
+    Ident, Language, Name, NameKind, OrderEnd, Plan, Refusal, Region, Reply, Station, System,
+    VehicleType,
+};
 use bike_ledger::Entry;
 
 /// Where a bicycle is put.
@@ -116,6 +119,13 @@ pub enum Change<'a> {
     SetRegion {
         station: &'a Ident,
         region: Option<&'a Ident>,
+    },
+    /// A name in a further language is added.
+    AddName {
+        kind: NameKind,
+        id: &'a Ident,
+        language: &'a Language,
+        name: &'a Name,
     },
 }
 

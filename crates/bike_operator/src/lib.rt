@@ -1,4 +1,4 @@
-//! The operator of a bike share, defined: what it keeps, when it is sound, its 24 commands with their tests, effects and
+//! The operator of a bike share, defined: what it keeps, when it is sound, its 25 commands with their tests, effects and
 //! replies, and the view by which a command is decided.
 //!
 //! The code here is data alone: the records and how many there may be, the view of an operator for a command, and the
@@ -12,8 +12,8 @@ mod view;
 
 pub use change::{Accepted, Change, Decision, NewPlace};
 pub use limits::{
-    MOST_BIKES, MOST_ENTRIES, MOST_ORDERS, MOST_PLANS, MOST_REGIONS, MOST_RIDERS, MOST_STATIONS,
-    MOST_TRUCKS, MOST_TYPES,
+    MOST_BIKES, MOST_ENTRIES, MOST_FURTHER_NAMES, MOST_ORDERS, MOST_PLANS, MOST_REGIONS,
+    MOST_RIDERS, MOST_STATIONS, MOST_TRUCKS, MOST_TYPES,
 };
 pub use records::{Bike, BikeState, Closing, Order, Place, Rental};
 pub use view::{DockedBike, RentalView, RiderView, StationView, TruckView, View};

@@ -9,6 +9,9 @@ pub const MOST_TYPES: u32 = 32;
 /// There are at most this many regions.
 pub const MOST_REGIONS: u32 = 256;
 
+/// A text has at most this many further languages.
+pub const MOST_FURTHER_NAMES: u32 = 3;
+
 /// There are at most this many stations.
 pub const MOST_STATIONS: u32 = 5_000;
 

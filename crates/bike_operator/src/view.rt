@@ -72,6 +72,10 @@ pub struct View {
     pub has_type: bool,
     /// Whether the region is there that the command names; where it names none, that one is.
     pub has_region: bool,
+    /// Whether that is there to which the command gives a name in a further language.
+    pub has_named: bool,
+    /// Whether it has a name in that language: the language is the system's, or one of its further ones.
+    pub has_language: bool,
     /// Whether the end is there from which an order takes bicycles.
     pub has_from: bool,
     /// Whether the end is there to which it brings them.

@@ -253,3 +253,4 @@ bikes_law s now (command.SetRegion station region) k order good free late =
     let at : Operator = at_moment s now k in
     let f : Station → Station = λ x. record x { region = region } in
     stations_bikes at (key_changed s.stations station f) (docks_changed at (record at { stations = key_changed s.stations station f }) station f (λ x. refl) refl) (later_bikes s now k order.bikes)
+bikes_law s now (command.AddName kind id language name) k order good free late = unchanged s now (command.AddName kind id language name) k refl order.bikes

@@ -155,3 +155,4 @@ catalogue_law s now (command.SetRegion station region) k order good free late =
     let no = none_holds (tests (view_of s (command.SetRegion station region)) (command.SetRegion station region)) free in
     let there : has_region (at_moment s now k) region ≡ true = region_stands s (at_moment s now k) (λ id known. known) region (holds (has_region s region) no.1.0) in
     station_changed (at_moment s now k) station (λ x. record x { region = region }) (λ x. refl) (λ x old. old) (λ x known. there) (later_catalogue s now k late order.catalogue)
+catalogue_law s now (command.AddName kind id language name) k order good free late = unchanged s now (command.AddName kind id language name) k late refl order.catalogue

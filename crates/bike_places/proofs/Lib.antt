@@ -7,6 +7,8 @@ pub mod FoundLemmas
 pub mod ItemLemmas
 pub mod MapLemmas
 pub mod Moment
+pub mod NameLaw
+pub mod NameLemmas
 pub mod OrderLaw
 pub mod OrderLemmas
 pub mod TestLemmas

@@ -201,3 +201,4 @@ orders_law s now (command.AddRegion r) k order good free late = unchanged s now 
 orders_law s now (command.SetRegion station region) k order good free late =
     let f : Station → Station = λ x. record x { region = region } in
     known_orders (at_moment s now k) s.types (key_changed s.stations station f) (λ id known. known) (known_changed text_order s.stations station f) (later_orders s now k order.orders)
+orders_law s now (command.AddName kind id language name) k order good free late = unchanged s now (command.AddName kind id language name) k refl order.orders

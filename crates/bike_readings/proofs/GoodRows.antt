@@ -1,5 +1,5 @@
 -- All rows of the tables of an operator are good, and none is missing.
-use Rattle.std.proofs.Common.{◌≡◌, inl, inr, ℕ, ℤ, suc, ◌+◌, ◌<◌, pos, List, [], ◌∷◌, length, map, Option, Some, None, is_some, refl, sym, ap, ◌∙◌, subst, arith}
+use Rattle.std.proofs.Common.{◌≡◌, inl, inr, ℕ, ℤ, suc, ◌+◌, ◌<◌, pos, List, [], ◌∷◌, length, map, Option, Some, None, is_some, true, refl, sym, ap, ◌∙◌, subst, arith}
 use Rattle.std.specs.Prelude.{take, option_map}
 use Rattle.std.specs.Option.{IsSomeAnd}
 use Rattle.std.specs.declared.cmp.Ordering.{Ordering}
@@ -168,7 +168,16 @@ module _ (s : Operator) (m : Listed) (sound : IsSound s) (listing : IsListing s 
       record { row = it.row; found = same ∙ it.found; not_closed = it.not_closed; bike_is = it.bike_is }
   place_good bike type_id (place.Truck truck order) it =
       let same = at_number stored_order (λ e. refl) order_read (tables_for s m).orders s.orders refl (order_is s m sound listing) order in
-      record { row = it.row; found = same ∙ it.found; not_closed = it.not_closed; truck_is = it.truck_is; type_is = it.type_is }
+      let truck = (sound.orders.orders order it.row it.found).truck_is in
+      let there : fin.contains_key s.trucks it.row.truck ≡ true = ap is_some truck.found in
+      record {
+        row = it.row;
+        found = same ∙ it.found;
+        not_closed = it.not_closed;
+        truck_is = it.truck_is;
+        truck_there = subst (λ (n : ℕ). fin.contains_key s.trucks n ≡ true) it.truck_is there;
+        type_is = it.type_is;
+      }
   place_good bike type_id place.Depot it = tt
 
   -- ---- docks and counts

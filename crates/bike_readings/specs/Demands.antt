@@ -6,6 +6,7 @@
 --   a missing dock of a row of docks                            the row of docks
 --   two bicycles in one dock                                    the later bicycle
 --   a bicycle in a rental or on a truck that isn't its own      the bicycle
+--   a bicycle on a truck that isn't there                       the bicycle
 --   a truck over its capacity                                   the truck
 --   two open rentals of a rider                                 the rider
 --   an open rental whose bicycle is elsewhere                   the rental
@@ -86,12 +87,13 @@ module _ (t : Tables) (s : Operator) where
     pub not_closed : is_open row ≡ true
     pub bike_is : row.bike ≡ bike
 
-  -- an open order of this truck, and of the bicycle's type
+  -- an open order of this truck, which is there, and of the bicycle's type
   pub record IsForOrder (type_id : List ℕ) (truck order : ℕ) : Type 0 where
     pub row : Order
     pub found : order_at t order ≡ Some row
     pub not_closed : row.is_open ≡ true
     pub truck_is : row.truck ≡ truck
+    pub truck_there : fin.contains_key s.trucks truck ≡ true
     pub type_is : row.type_id ≡ type_id
 
   abbrev pub IsGoodPlace : ℕ → List ℕ → Place → Type 0

@@ -4,6 +4,7 @@ use Rattle.std.specs.Prelude.{ℕ, zero, suc, List, [], ◌∷◌, map, if◌the
 use Rattle.std.specs.List.{filter_map}
 use Rattle.std.specs.FinMap as fin
 use Rattle.std.specs.FinSet as set
+use Rattle.sqlite_value.specs.declared.value.Value.{Value}
 use Rattle.sqlite_value.specs.declared.value.Value.TheVariants.{Text}
 use Rattle.sqlite_value.specs.Order.{Row, column}
 use Rattle.bike_fields.specs.Caller.{◌>>=◌}
@@ -19,8 +20,8 @@ use Rattle.bike_rows.specs.View.{row_with}
 use Rattle.bike_book.specs.Tables.{Tables}
 use Rattle.bike_book.specs.Rows.{number_value}
 use Rattle.bike_book.specs.Stored.{Listed}
-use Rattle.bike_schema.specs.Columns.{ident_in, state_in}
-use Rattle.bike_readings.specs.ColumnReaders.{where_wide, numbered_in, in_dock, in_rental, on_truck}
+use Rattle.bike_schema.specs.Columns.{ident_in, state_in, or_none}
+use Rattle.bike_readings.specs.ColumnReaders.{where_wide, numbered_in, serial_in, dock_in as dock_number_in}
 use Rattle.bike_readings.specs.Readings.{meta_read, system_read, plan_read, segment_read, type_read, region_read, station_read, dock_read, bike_read, truck_read, rider_read, rental_read, order_read, entry_read, kept_read, count_read}
 
 abbrev pub first : {A : Type 0} → List A → Option A
@@ -77,10 +78,32 @@ abbrev pub first_of : {A : Type 0} → Option A → Option A → Option A
 first_of (Some x) other = Some x
 first_of None other = other
 
--- the first whole place that the columns name: a dock, a rental, a truck with its order; the depot where they name none
-abbrev pub first_place : Row → Place
-first_place row =
-    unwrap_or (first_of (in_dock (column row 3) (column row 4)) (first_of (in_rental (column row 5)) (on_truck (column row 6) (column row 7)))) place.Depot
+-- a dock, and a truck with its order, where both parts are there
+abbrev pub dock_place : Option (List ℕ) → Option ℕ → Option Place
+dock_place station dock = do
+  at ← station
+  n ← dock
+  Some (place.Dock at n)
+
+abbrev pub truck_place : Option ℕ → Option ℕ → Option Place
+truck_place truck order = do
+  n ← truck
+  for ← order
+  Some (place.Truck n for)
+
+-- the first whole place among what the columns of a place hold: a dock, a rental, a truck with its order; the depot where there is none
+abbrev pub first_place : Option (List ℕ) → Option ℕ → Option ℕ → Option ℕ → Option ℕ → Place
+first_place station dock rental truck order = unwrap_or (first_of (dock_place station dock) (first_of (option_map place.Rental rental) (truck_place truck order))) place.Depot
+
+-- the first place that the columns name: each of them is NULL or keeps its bounds, and else they name none
+abbrev pub first_place_in : Value → Value → Value → Value → Value → Option Place
+first_place_in station dock rental truck order = do
+  at ← or_none ident_in station
+  n ← or_none dock_number_in dock
+  ridden ← or_none serial_in rental
+  on ← or_none numbered_in truck
+  for ← or_none serial_in order
+  Some (first_place at n ridden on for)
 
 -- the bicycle of a row, at the first place that it names
 abbrev pub misplaced_bike : Row → Option (ℕ × Bike)
@@ -88,9 +111,11 @@ misplaced_bike row = where_wide 8 row (do
   bike ← numbered_in (column row 0)
   type_id ← ident_in (column row 1)
   state ← state_in (column row 2)
-  Some (bike, record { type_id = type_id; state = state; place = first_place row }))
+  place ← first_place_in (column row 3) (column row 4) (column row 5) (column row 6) (column row 7)
+  Some (bike, record { type_id = type_id; state = state; place = place }))
 
--- A row that names several places is bad, yet its bicycle is there, at the first of them: no other row that counts it is to blame.
+-- A row that names several places, or a part of one, is bad, yet its bicycle is there, at the first of them: no other row that counts it is to
+-- blame. A row with a column out of its bounds spells nothing, whatever place it names beside.
 abbrev pub bike_in : Row → Option (ℕ × Bike)
 bike_in row = first_of (bike_read row) (misplaced_bike row)
 

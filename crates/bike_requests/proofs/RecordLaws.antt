@@ -6,17 +6,18 @@ use Rattle.std.proofs.lemmas.Int.{ints}
 use Rattle.std.proofs.lemmas.Option.{cond_some}
 use Rattle.bike_fixed.specs.Whole.{number_of}
 use Rattle.bike_catalogue.specs.Rows.{SystemRow, PlanRow, TypeRow, StationRow, RegionRow, IsRange, is_range, IsLatitude, is_latitude}
+use Rattle.bike_catalogue.specs.declared.name_kind.NameKind.{NameKind}
 use Rattle.bike_catalogue.specs.declared.vehicle.Propulsion.{Propulsion}
 use Rattle.bike_catalogue.specs.declared.vehicle.Propulsion.TheVariants.{Human, ElectricAssist}
 use Rattle.bike_texts.specs.Parts.{Parts}
 use Rattle.bike_texts.specs.Fields.{Field, Number, Degrees}
 use Rattle.bike_texts.specs.Reading.{◌>>=◌, no_more, degrees_of}
 use Rattle.bike_texts.proofs.TabFree.{AreRead}
-use Rattle.bike_texts.proofs.Chains.{IsReader, number_reader, ident_reader, language_reader, currency_reader, name_reader, ascii_reader, form_reader, propulsion_reader, metres_reader, degrees_reader, segments_reader, takes, ends, gives, given_all}
+use Rattle.bike_texts.proofs.Chains.{IsReader, number_reader, ident_reader, language_reader, currency_reader, name_reader, ascii_reader, form_reader, kind_reader, propulsion_reader, metres_reader, degrees_reader, segments_reader, takes, ends, gives, given_all}
 use Rattle.bike_commands.specs.declared.command.Command.{Command}
-use Rattle.bike_commands.specs.declared.command.Command.TheVariants.{SetSystem, AddPlan, AddType, AddStation, AddRegion}
+use Rattle.bike_commands.specs.declared.command.Command.TheVariants.{SetSystem, AddPlan, AddType, AddStation, AddRegion, AddName}
 use Rattle.bike_commands.specs.Commands.{word_of, fields_of}
-use Rattle.bike_requests.specs.RecordReaders.{set_system_at, add_plan_at, add_type_at, add_station_at, add_region_at}
+use Rattle.bike_requests.specs.RecordReaders.{set_system_at, add_plan_at, add_type_at, add_station_at, add_region_at, add_name_at}
 use Rattle.bike_requests.proofs.KindLaws.{Left, dock_reader, flag_reader}
 
 price_reader : IsReader (number_of 0 1000000) (Number 0 1000000)
@@ -151,3 +152,20 @@ unfolding add_region_at
 add_region_full row ps whole =
     gives _ row.region_id ps ident_reader whole (λ ps read.
     gives _ row.name ps name_reader read given_all)
+
+pub add_name_sound : (ps : Parts) (c : Command) → add_name_at ps ≡ Some c → Left (codes "add-name") c [] ps
+unfolding add_name_at
+add_name_sound ps c e =
+    takes _ ps kind_reader e (λ kind ps e.
+    takes _ ps ident_reader e (λ id ps e.
+    takes _ ps language_reader e (λ language ps e.
+    takes _ ps name_reader e (λ name ps e.
+    ends (AddName kind id language name) ps refl refl e))))
+
+pub add_name_full : (kind : NameKind) (id : List ℕ) (language : List ℕ) (name : List ℕ) (ps : Parts) → AreRead (fields_of (AddName kind id language name)) ps → add_name_at ps ≡ Some (AddName kind id language name)
+unfolding add_name_at
+add_name_full kind id language name ps whole =
+    gives _ kind ps kind_reader whole (λ ps read.
+    gives _ id ps ident_reader read (λ ps read.
+    gives _ language ps language_reader read (λ ps read.
+    gives _ name ps name_reader read given_all)))

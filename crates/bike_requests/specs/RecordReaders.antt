@@ -7,12 +7,13 @@ use Rattle.bike_fields.specs.declared.numbers.TheConstants.{GREATEST_PRICE, LONG
 use Rattle.bike_fields.specs.Bytes.{ident_of, language_of, currency_of}
 use Rattle.bike_catalogue.specs.Rows.{is_range, is_latitude}
 use Rattle.bike_catalogue.specs.Vehicle.{form_of, propulsion_of}
+use Rattle.bike_catalogue.specs.NameKinds.{kind_of}
 use Rattle.bike_texts.specs.Parts.{Parts}
 use Rattle.bike_texts.specs.Reading.{◌>>=◌, field_at, no_more, degrees_of, metres_of, choice_of}
 use Rattle.bike_texts.specs.Escapes.{name_at, ascii_at}
 use Rattle.bike_texts.specs.SegmentReading.{segments_of}
 use Rattle.bike_commands.specs.declared.command.Command.{Command}
-use Rattle.bike_commands.specs.declared.command.Command.TheVariants.{SetSystem, AddPlan, AddType, AddStation, AddRegion}
+use Rattle.bike_commands.specs.declared.command.Command.TheVariants.{SetSystem, AddPlan, AddType, AddStation, AddRegion, AddName}
 
 unfoldable pub set_system_at : Parts → Option Command
 set_system_at ps = do
@@ -66,3 +67,12 @@ add_region_at ps = do
   name ← field_at name_at region_id.1
   end ← no_more name.1
   Some (AddRegion (record { region_id = region_id.0; name = name.0 }))
+
+unfoldable pub add_name_at : Parts → Option Command
+add_name_at ps = do
+  kind ← field_at kind_of ps
+  id ← field_at ident_of kind.1
+  language ← field_at language_of id.1
+  name ← field_at name_at language.1
+  end ← no_more name.1
+  Some (AddName kind.0 id.0 language.0 name.0)

@@ -1,7 +1,7 @@
-//! Reading the commands with a record of the catalogue.
+//! Reading the commands with a record of the catalogue, or with a name in a further language.
 
 ghost use Rattle.bike_fields.specs.Reads.{IsReadAs};
-ghost use Rattle.bike_requests.specs.RecordReaders.{set_system_at, add_plan_at, add_type_at, add_station_at, add_region_at};
+ghost use Rattle.bike_requests.specs.RecordReaders.{set_system_at, add_plan_at, add_type_at, add_station_at, add_region_at, add_name_at};
 
 use bike_catalogue::{GREATEST_LATITUDE, Plan, Region, Station, System, VehicleType};
 use bike_commands::Command;
@@ -174,4 +174,34 @@ pub fn read_add_region(alloc: Global, mut fields: Fields) -> Result<Option<Comma
     let region_id = Ident::of(alloc, region_id)?;
     let name = Name::of(alloc, name.as_str())?;
     Ok(Some(Command::AddRegion(Region::from_fields(region_id, name))))
+}
+
+#[tactic(auto, unfolding(crate::specs::RecordReaders::add_name_at))]
+pub fn read_add_name(alloc: Global, mut fields: Fields) -> Result<Option<Command>, AllocError>
+    ensures { IsReadAs (add_name_at fields.entry) result }
+{
+    let Some(kind) = fields.name_kind() else {
+        return Ok(None);
+    };
+    let Some(id) = fields.ident() else {
+        return Ok(None);
+    };
+    let Some(language) = fields.language() else {
+        return Ok(None);
+    };
+    let Some(name) = fields.name() else {
+        return Ok(None);
+    };
+    let Some(()) = fields.end() else {
+        return Ok(None);
+    };
+    let id = Ident::of(alloc, id)?;
+    let language = Language::of(alloc, language)?;
+    let name = Name::of(alloc, name.as_str())?;
+    Ok(Some(Command::AddName {
+        kind,
+        id,
+        language,
+        name,
+    }))
 }

@@ -1,15 +1,16 @@
-//! Writing the fields of the catalogue's records.
+//! Writing the fields of the catalogue's records, and of names in further languages.
 
 ghost use Rattle.std.specs.Prelude.{◌≡◌, ◌++◌, ◌∷◌, [], OnOk, string_bytes};
 ghost use Rattle.bike_fields.specs.declared.numbers.TheConstants.{LONGEST_TIME_TO_LIVE};
 ghost use Rattle.bike_texts.specs.Fields.{Number, Currency, Ascii, fields_text};
-ghost use Rattle.bike_commands.specs.declared.command.Command.TheVariants.{SetSystem, AddPlan, AddType, AddStation, AddRegion};
+ghost use Rattle.bike_commands.specs.declared.command.Command.TheVariants.{SetSystem, AddPlan, AddType, AddStation, AddRegion, AddName};
 ghost use Rattle.bike_commands.specs.Commands.{fields_of};
 
 use crate::write_fields::{
     put_choice, put_degrees, put_escaped, put_ident, put_number, put_segments, put_text,
 };
-use bike_catalogue::{Plan, Region, Station, System, VehicleType};
+use bike_catalogue::{NameKind, Plan, Region, Station, System, VehicleType};
+use bike_fields::{Ident, Language, Name};
 use std::alloc::AllocError;
 
 /// The system's opening hours, contact and time zone.
@@ -84,4 +85,20 @@ pub fn put_region(out: &mut String, region: &Region) -> Result<(), AllocError>
 {
     put_ident(out, region.region_id())?;
     put_escaped(out, region.name().as_str())
+}
+
+#[tactic(auto, unfolding(bike_texts::specs::Fields::fields_text))]
+pub fn put_name(
+    out: &mut String,
+    kind: NameKind,
+    id: &Ident,
+    language: &Language,
+    name: &Name,
+) -> Result<(), AllocError>
+    ensures { OnOk result (string_bytes out.new ≡ string_bytes out.old ++ fields_text (fields_of (AddName kind id.now language.now name.now))) }
+{
+    put_text(out, kind.as_str())?;
+    put_ident(out, id)?;
+    put_text(out, language.as_str())?;
+    put_escaped(out, name.as_str())
 }

@@ -9,7 +9,7 @@ ghost use Rattle.bike_commands.specs.Commands.{text_of, word_of, fields_of, IsCo
 use crate::write_fields::{
     put_choice, put_end, put_ident, put_ident_or_none, put_number, put_text,
 };
-use crate::write_records::{put_plan, put_region, put_station, put_system, put_type};
+use crate::write_records::{put_name, put_plan, put_region, put_station, put_system, put_type};
 use bike_commands::Command;
 use bike_fields::{
     BicycleNumber, DockNumber, Ident, OrderNumber, OrderQuantity, RiderNumber, TruckNumber,
@@ -45,6 +45,7 @@ fn word(command: &Command) -> &'static str
         Command::CloseOrder { .. } => "close-order",
         Command::AddRegion(_) => "add-region",
         Command::SetRegion { .. } => "set-region",
+        Command::AddName { .. } => "add-name",
     }
 }
 
@@ -235,6 +236,12 @@ fn put_fields(out: &mut String, command: &Command) -> Result<(), AllocError>
             put_ident(out, station)?;
             put_ident_or_none(out, region)
         }
+        Command::AddName {
+            kind,
+            id,
+            language,
+            name,
+        } => put_name(out, *kind, id, language, name),
     }
 }
 

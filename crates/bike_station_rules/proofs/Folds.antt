@@ -9,15 +9,17 @@ use Rattle.sqlite_value.specs.declared.value.Value.TheVariants.{Null, Int, Real,
 use Rattle.sqlite_value.specs.Order.{Row, column, value_cmp}
 use Rattle.sqlite_value.proofs.OrderLemmas.{value_cmp_total}
 use Rattle.std.proofs.lemmas.Cmp.{tied_itself}
+use Rattle.bike_fields.specs.declared.numbers.TheConstants.{MOST_DOCKS}
 use Rattle.bike_readings.specs.Readings.{dock_read}
 use Rattle.bike_readings.specs.ColumnReaders.{dock_in}
 use Rattle.bike_readings.proofs.CatalogueRows.{dock_reading}
 use Rattle.bike_readings.proofs.ColumnLaws.{number_column}
 use Rattle.bike_judges.specs.Lines.{part}
 use Rattle.bike_station_rules.specs.DockSets.{has_bit, with_bit}
-use Rattle.bike_station_rules.specs.Docked.{docked_in}
+use Rattle.bike_station_rules.specs.Docked.{docked_in, dock_named}
 use Rattle.bike_station_rules.specs.Stations.{is_same_text, is_place, broken_dock, broken_at, taken_at, owner, of_owner, more}
 use Rattle.bike_station_rules.specs.declared.account.StationAccount.{StationAccount}
+use Rattle.bike_station_rules.specs.declared.dock_set.TheConstants.{PLACES}
 use Rattle.bike_station_rules.proofs.Bits.{is_bit, or_false, or_assoc, IsWithinSet, with_bit_has, with_bit_length, with_bit_commutes}
 use Rattle.bike_station_rules.proofs.DockedRows.{docked_is}
 
@@ -57,9 +59,9 @@ in_any_order a x y = λ i. record a {
 
 abbrev IsLow : Option ℕ → Type 0
 IsLow None = Unit {0}
-IsLow (Some n) = n ≤ 200
+IsLow (Some n) = n ≤ MOST_DOCKS
 
-low_within : (o : Option ℕ) (set : List Bool) → length set ≡ 201 → IsLow o → IsWithinSet set o
+low_within : (o : Option ℕ) (set : List Bool) → length set ≡ PLACES → IsLow o → IsWithinSet set o
 low_within None set wide low = tt
 low_within (Some n) set wide low = omega (arith, wide, low)
 
@@ -74,14 +76,19 @@ broken_low line = low_if (is_place 1 (column line 1)) (broken_dock (dock_read (p
   go (Some d) e = low_if d.2 (Some d.1) (dock_reading.sound (part 3 3 line) d e).1.good_dock.1
 
 taken_low : (line : Row) → IsLow (taken_at line)
-taken_low line = low_if (is_place 2 (column line 1)) (docked_in (part 3 8 line)) (subst IsLow (docked_is line) (low_if _ (dock_in (column line 7)) (go (dock_in (column line 7)) refl))) where
-  go : (o : Option ℕ) → dock_in (column line 7) ≡ o → IsLow o
-  go None e = tt
-  go (Some n) e = ((number_column 1 200).sound (column line 7) n e).1.1
+taken_low line =
+    low_if (is_place 2 (column line 1)) (docked_in (part 3 8 line)) (
+    subst IsLow (docked_is line) (
+    low_if _ (dock_named (column line 6) (column line 7) (column line 8) (column line 9) (column line 10)) (
+    low_if _ (dock_in (column line 7)) (go (dock_in (column line 7)) refl))))
+  where
+    go : (o : Option ℕ) → dock_in (column line 7) ≡ o → IsLow o
+    go None e = tt
+    go (Some n) e = ((number_column 1 MOST_DOCKS).sound (column line 7) n e).1.1
 
 -- ---- after many lines
 
-pub broken_after : (xs : List Row) (a : StationAccount) (n : ℕ) → length a.is_broken ≡ 201
+pub broken_after : (xs : List Row) (a : StationAccount) (n : ℕ) → length a.is_broken ≡ PLACES
     → has_bit (fold more a xs).is_broken n ≡ (has_bit a.is_broken n || list_any (λ x. is_bit n (of_owner (owner a) x (broken_at x))) xs)
 broken_after [] a n wide = sym (or_false (has_bit a.is_broken n))
 broken_after (x ∷ xs) a n wide =
@@ -91,7 +98,7 @@ broken_after (x ∷ xs) a n wide =
     ∙ ap (λ (b : Bool). b || later) (with_bit_has said a.is_broken n (low_within said a.is_broken wide (low_if (is_same_text (column x 0) (owner a)) (broken_at x) (broken_low x))))
     ∙ or_assoc (has_bit a.is_broken n) (is_bit n said) later
 
-pub taken_after : (xs : List Row) (a : StationAccount) (n : ℕ) → length a.is_taken ≡ 201
+pub taken_after : (xs : List Row) (a : StationAccount) (n : ℕ) → length a.is_taken ≡ PLACES
     → has_bit (fold more a xs).is_taken n ≡ (has_bit a.is_taken n || list_any (λ x. is_bit n (of_owner (owner a) x (taken_at x))) xs)
 taken_after [] a n wide = sym (or_false (has_bit a.is_taken n))
 taken_after (x ∷ xs) a n wide =

@@ -25,6 +25,7 @@ use Rattle.bike_station_rules.specs.StationRows.{is_good_station}
 use Rattle.bike_station_rules.specs.Stations.{begins, more, good, key, owner, station_opening}
 use Rattle.bike_station_rules.specs.StationVerdicts.{FindsByRow, FindsByNumber, meta_in, now_in, with_region, is_good_row, is_accounted}
 use Rattle.bike_station_rules.specs.declared.account.StationAccount.{StationAccount}
+use Rattle.bike_station_rules.specs.declared.dock_set.TheConstants.{PLACES}
 use Rattle.bike_station_rules.proofs.Folds.{others_same, in_any_order}
 use Rattle.bike_station_rules.proofs.RegionLines.{station_key}
 use Rattle.bike_station_rules.proofs.StationVerdict.{now_known, station_verdict}
@@ -76,7 +77,7 @@ are_accounts = record {
     opens : (row : Row) (o : Option (List ℕ × Station × ℤ × ℕ)) (a : StationAccount) → station_opening (station_line row) o ≡ Head a → owner a ≡ column row 0
     opens row None a e = absurd cc
     opens row (Some x) a e =
-        let same : a ≡ record { head = station_line row; docks = x.1.row.docks; free = x.2; broken = x.3; is_broken = replicate 201 false; is_taken = replicate 201 false } = cc in
+        let same : a ≡ record { head = station_line row; docks = x.1.row.docks; free = x.2; broken = x.3; is_broken = replicate PLACES false; is_taken = replicate PLACES false } = cc in
         ap owner same
 
 dock_items : AreItems begins more good key owner station_dock_line

@@ -9,6 +9,7 @@ use Rattle.std.specs.Str.{bytes_eq}
 use Rattle.std.specs.FinSet as set
 use Rattle.std.proofs.lemmas.Bool.{and_parts}
 use Rattle.std.proofs.lemmas.Bool.Decides.{eqb_tells, Decides-int_eq}
+use Rattle.std.proofs.lemmas.List.{length-replicate}
 use Rattle.std.proofs.lemmas.List.Folds.{list_any-append}
 use Rattle.std.proofs.lemmas.Slice.Eq.{bytes_eq-Decides}
 use Rattle.sqlite_value.specs.declared.value.Value.{Value}
@@ -36,6 +37,7 @@ use Rattle.bike_station_rules.specs.DockSets.{has_bit, many_in, many_in_neither}
 use Rattle.bike_station_rules.specs.Docked.{dock_of, docked_in}
 use Rattle.bike_station_rules.specs.Stations.{is_same_text, broken_dock, broken_at, taken_at, owner, of_owner, station_opening, begins, more, good, key}
 use Rattle.bike_station_rules.specs.declared.account.StationAccount.{StationAccount}
+use Rattle.bike_station_rules.specs.declared.dock_set.TheConstants.{PLACES}
 use Rattle.bike_station_rules.proofs.Lookups.{entries_read}
 use Rattle.bike_station_rules.proofs.DockTest.{AreWide, take_front}
 use Rattle.bike_station_rules.proofs.DockedRows.{row_is}
@@ -153,16 +155,16 @@ module _ (t : Tables) (up : AreInOrder t) (wide : AreWide t) where
   all_items = map station_dock_line t.docks ++ map station_bike_line t.bikes
 
   module _ (a : StationAccount) (id : List ℕ) (n : ℕ) (own : owner a ≡ Text id) where
-    broken_now : a.is_broken ≡ replicate 201 false → has_bit (fold more a all_items).is_broken n ≡ is_broken s id n
+    broken_now : a.is_broken ≡ replicate PLACES false → has_bit (fold more a all_items).is_broken n ≡ is_broken s id n
     broken_now none =
         let said = λ (v : Value) (x : Row). is_bit n (of_owner v x (broken_at x)) in
         let here : list_any (λ (r : Row). says_broken id n (station_dock_line r)) t.docks ≡ list_any (λ (r : Row). of_key id n (broken_in r)) t.docks =
         any_same (λ (r : Row). says_broken id n (station_dock_line r)) (λ (r : Row). of_key id n (broken_in r)) t.docks (λ r has. dock_says id n r (wide Docks r has)) in
         let bikes : list_any (says_broken id n) (map station_bike_line t.bikes) ≡ false =
         any_map (says_broken id n) station_bike_line t.bikes ∙ any_none (λ (r : Row). says_broken id n (station_bike_line r)) t.bikes (λ r. none_of_owner (Text id) (station_bike_line r) n None refl) in
-        broken_after all_items a n (ap (λ (xs : List Bool). length xs) none)
+        broken_after all_items a n (ap (λ (xs : List Bool). length xs) none ∙ length-replicate PLACES false)
         ∙ (λ i. (has_bit (none i) n || list_any (said (own i)) all_items))
-        ∙ ap (λ (b : Bool). b || list_any (says_broken id n) all_items) (none_set 201 n)
+        ∙ ap (λ (b : Bool). b || list_any (says_broken id n) all_items) (none_set PLACES n)
         ∙ list_any-append (says_broken id n) (map station_dock_line t.docks) (map station_bike_line t.bikes)
         ∙ ap (λ (b : Bool). list_any (says_broken id n) (map station_dock_line t.docks) || b) bikes
         ∙ or_false (list_any (says_broken id n) (map station_dock_line t.docks))
@@ -170,7 +172,7 @@ module _ (t : Tables) (up : AreInOrder t) (wide : AreWide t) where
         ∙ here
         ∙ sym (set.contains-from_list texts_order.total (filter_map broken_in t.docks) (dock_key id n) ∙ any_read (eq_by_cmp texts_cmp (dock_key id n)) broken_in t.docks)
 
-    taken_now : a.is_taken ≡ replicate 201 false → not (has_bit (fold more a all_items).is_taken n) ≡ is_none (docked_at s id n)
+    taken_now : a.is_taken ≡ replicate PLACES false → not (has_bit (fold more a all_items).is_taken n) ≡ is_none (docked_at s id n)
     taken_now none =
         let said = λ (v : Value) (x : Row). is_bit n (of_owner v x (taken_at x)) in
         let here : list_any (λ (r : Row). says_taken id n (station_bike_line r)) t.bikes ≡ list_any (λ (r : Row). of_read (is_in id n) (bike_in r)) t.bikes =
@@ -178,9 +180,9 @@ module _ (t : Tables) (up : AreInOrder t) (wide : AreWide t) where
         let docks : list_any (says_taken id n) (map station_dock_line t.docks) ≡ false =
         any_map (says_taken id n) station_dock_line t.docks ∙ any_none (λ (r : Row). says_taken id n (station_dock_line r)) t.docks (λ r. none_of_owner (Text id) (station_dock_line r) n None refl) in
         ap not (
-        taken_after all_items a n (ap (λ (xs : List Bool). length xs) none)
+        taken_after all_items a n (ap (λ (xs : List Bool). length xs) none ∙ length-replicate PLACES false)
         ∙ (λ i. (has_bit (none i) n || list_any (said (own i)) all_items))
-        ∙ ap (λ (b : Bool). b || list_any (says_taken id n) all_items) (none_set 201 n)
+        ∙ ap (λ (b : Bool). b || list_any (says_taken id n) all_items) (none_set PLACES n)
         ∙ list_any-append (says_taken id n) (map station_dock_line t.docks) (map station_bike_line t.bikes)
         ∙ ap (λ (b : Bool). b || list_any (says_taken id n) (map station_bike_line t.bikes)) docks
         ∙ any_map (says_taken id n) station_bike_line t.bikes
@@ -196,7 +198,7 @@ module _ (t : Tables) (up : AreInOrder t) (wide : AreWide t) where
     pub broken_is : e.3 ≡ docks_broken s e.0 e.1.row.docks
 
   abbrev begun : Row → List ℕ × Station × ℤ × ℕ → StationAccount
-  begun line e = record { head = line; docks = e.1.row.docks; free = e.2; broken = e.3; is_broken = replicate 201 false; is_taken = replicate 201 false }
+  begun line e = record { head = line; docks = e.1.row.docks; free = e.2; broken = e.3; is_broken = replicate PLACES false; is_taken = replicate PLACES false }
 
   module _ (row : Row) (e : List ℕ × Station × ℤ × ℕ) (read : station_read row ≡ Some e) where
     abbrev closed : StationAccount

@@ -13,6 +13,7 @@ use Rattle.bike_judges.specs.declared.pass.Opening.TheVariants.{Head, Unread, It
 use Rattle.bike_station_rules.specs.DockSets.{with_bit, many_in, many_in_neither}
 use Rattle.bike_station_rules.specs.Docked.{docked_in}
 use Rattle.bike_station_rules.specs.declared.account.StationAccount.{StationAccount}
+use Rattle.bike_station_rules.specs.declared.dock_set.TheConstants.{PLACES}
 
 -- ---- lines
 
@@ -42,7 +43,7 @@ taken_at line = if is_place 2 (column line 1) then docked_in (part 3 8 line) els
 abbrev pub station_opening : Row → Option (List ℕ × Station × ℤ × ℕ) → Opening StationAccount
 station_opening line None = Unread
 station_opening line (Some e) =
-    Head (record { head = line; docks = e.1.row.docks; free = e.2; broken = e.3; is_broken = replicate 201 false; is_taken = replicate 201 false })
+    Head (record { head = line; docks = e.1.row.docks; free = e.2; broken = e.3; is_broken = replicate PLACES false; is_taken = replicate PLACES false })
 
 abbrev pub begins : Row → Opening StationAccount
 begins line = if is_place 0 (column line 1) then station_opening line (station_read (part 3 12 line)) else Item

@@ -1,16 +1,20 @@
 //! A set of docks of one station.
 
 ghost use Rattle.std.specs.Prelude.{◌≡◌, ◌≤◌, Some, true, false, not, ◌&&◌, replicate};
+ghost use Rattle.bike_station_rules.specs.declared.dock_set.TheConstants.{PLACES};
 ghost use Rattle.bike_station_rules.specs.DockSets.{has_bit, with_bit, many_in, many_in_neither};
 
-use bike_fields::{DockCount, DockNumber};
+use bike_fields::{DockCount, DockNumber, MOST_DOCKS};
 use std::marker::Model;
+
+/// The docks of a station have these places by their numbers, of which 0 is no dock's.
+pub(crate) const PLACES: usize = MOST_DOCKS as usize + 1;
 
 /// A set of docks of one station.
 #[derive(Drop)]
 pub(crate) struct DockSet {
     /// Whether it has the dock of that number.
-    has: [bool; 201],
+    has: [bool; PLACES],
 }
 
 impl Model for DockSet {
@@ -24,9 +28,11 @@ impl Model for DockSet {
 impl DockSet {
     /// No dock.
     pub(crate) fn new() -> DockSet
-        ensures { result ≡ replicate 201 false }
+        ensures { result ≡ replicate PLACES false }
     {
-        DockSet { has: [false; 201] }
+        DockSet {
+            has: [false; PLACES],
+        }
     }
 
     /// Puts the dock into the set.
@@ -53,7 +59,7 @@ impl DockSet {
 }
 
 /// Whether the dock of that number is in the set.
-fn has_dock(set: &[bool; 201], dock: u32) -> bool
+fn has_dock(set: &[bool; PLACES], dock: u32) -> bool
     ensures { result ≡ has_bit set.now dock }
 {
     match set.get(dock as usize) {
@@ -63,7 +69,7 @@ fn has_dock(set: &[bool; 201], dock: u32) -> bool
 }
 
 /// How many of so many first docks are in the set.
-fn count_in(set: &[bool; 201], docks: u32) -> u32
+fn count_in(set: &[bool; PLACES], docks: u32) -> u32
     ensures { result ≡ many_in set.now docks }
 {
     let mut many: u32 = 0;
@@ -78,14 +84,14 @@ fn count_in(set: &[bool; 201], docks: u32) -> u32
 }
 
 /// Whether the dock of that number is in neither of the sets.
-fn is_in_neither(first: &[bool; 201], second: &[bool; 201], dock: u32) -> bool
+fn is_in_neither(first: &[bool; PLACES], second: &[bool; PLACES], dock: u32) -> bool
     ensures { result ≡ (not (has_bit first.now dock) && not (has_bit second.now dock)) }
 {
     !has_dock(first, dock) && !has_dock(second, dock)
 }
 
 /// How many of so many first docks are in neither of the sets.
-fn count_in_neither(first: &[bool; 201], second: &[bool; 201], docks: u32) -> u32
+fn count_in_neither(first: &[bool; PLACES], second: &[bool; PLACES], docks: u32) -> u32
     ensures { result ≡ many_in_neither first.now second.now docks }
 {
     let mut many: u32 = 0;

@@ -6,11 +6,11 @@ ghost use Rattle.bike_judges.specs.Judging.{key_row};
 ghost use Rattle.bike_judges.specs.Lines.{part};
 ghost use Rattle.bike_station_rules.specs.Stations.{is_same_text, is_place};
 ghost use Rattle.bike_schema.specs.Columns.{text_in, ident_in};
-ghost use Rattle.bike_station_rules.specs.Docked.{docked_in, docked_columns};
+ghost use Rattle.bike_station_rules.specs.Docked.{docked_in, docked_columns, dock_named, keep_bounds};
 
-use bike_fields::{BicycleNumber, DockNumber, Ident};
+use bike_fields::{BicycleNumber, DockNumber, Ident, OrderNumber, RentalNumber, TruckNumber};
 use bike_judges::BadKey;
-use bike_schema::{StatementFault, number_at, state_at};
+use bike_schema::{StatementFault, number_at, optional_number_at, state_at};
 use sqlite::Row;
 use sqlite::types::ValueRef;
 use std::marker::Model;
@@ -94,6 +94,29 @@ fn has_ident(line: &Row, at: usize) -> bool
     }
 }
 
+/// Whether the columns of a rental, a truck and an order are each NULL or keep their bounds.
+fn keep_bounds(line: &Row) -> bool
+    ensures { result ≡ keep_bounds (column line.now 8) (column line.now 9) (column line.now 10) }
+{
+    let rental: Result<Option<RentalNumber>, StatementFault> = optional_number_at(line, 8);
+    let truck: Result<Option<TruckNumber>, StatementFault> = optional_number_at(line, 9);
+    let order: Result<Option<OrderNumber>, StatementFault> = optional_number_at(line, 10);
+    rental.is_ok() && truck.is_ok() && order.is_ok()
+}
+
+/// The dock that the columns of a place name first.
+fn dock_named(line: &Row) -> Option<DockNumber>
+    ensures { result ≡ dock_named (column line.now 6) (column line.now 7) (column line.now 8) (column line.now 9) (column line.now 10) }
+{
+    if !has_ident(line, 6) || !keep_bounds(line) {
+        return None;
+    }
+    match number_at(line, 7) {
+        Ok(dock) => Some(dock),
+        Err(_) => None,
+    }
+}
+
 /// The dock in the columns of a bicycle from the fourth on, where the line has them all and they name it.
 fn dock_in_columns(line: &Row) -> Option<DockNumber>
     ensures { result ≡ docked_columns line.now }
@@ -102,13 +125,10 @@ fn dock_in_columns(line: &Row) -> Option<DockNumber>
         return None;
     }
     let bike: Result<BicycleNumber, StatementFault> = number_at(line, 3);
-    if bike.is_err() || !has_ident(line, 4) || state_at(line, 5).is_err() || !has_ident(line, 6) {
+    if bike.is_err() || !has_ident(line, 4) || state_at(line, 5).is_err() {
         return None;
     }
-    match number_at(line, 7) {
-        Ok(dock) => Some(dock),
-        Err(_) => None,
-    }
+    dock_named(line)
 }
 
 /// The dock that the bicycle of the line is in: its row stands from the fourth column on.

@@ -22,6 +22,10 @@ use Rattle.bike_catalogue.specs.declared.vehicle.Form.{Form}
 use Rattle.bike_catalogue.specs.declared.vehicle.Form.TheVariants.{Bicycle, CargoBicycle}
 use Rattle.bike_catalogue.specs.declared.vehicle.Propulsion.{Propulsion}
 use Rattle.bike_catalogue.specs.declared.vehicle.Propulsion.TheVariants.{Human, ElectricAssist}
+use Rattle.bike_catalogue.specs.NameKinds.{kind_of, kind_text}
+use Rattle.bike_catalogue.specs.declared.name_kind.NameKind.{NameKind}
+use Rattle.bike_catalogue.specs.declared.name_kind.NameKind.TheVariants as kind
+use Rattle.bike_catalogue.proofs.NameKinds.{kind_sound, kind_full}
 use Rattle.bike_catalogue.proofs.Vehicles.{form_sound, form_full, propulsion_sound, propulsion_full}
 use Rattle.bike_texts.specs.declared.ends.OrderEnd.{OrderEnd}
 use Rattle.bike_texts.specs.declared.ends.OrderEnd.TheVariants.{Depot, Station}
@@ -198,6 +202,17 @@ propulsion_no_tab ElectricAssist = refl
 
 pub propulsion_reader : IsReader propulsion_of (λ propulsion. Fixed (propulsion_text propulsion))
 propulsion_reader = record { sound = λ text propulsion e. (propulsion_sound text propulsion e, propulsion_no_tab propulsion); full = λ text propulsion e g. ap propulsion_of e ∙ propulsion_full propulsion }
+
+kind_no_tab : (kind : NameKind) → HasNoTab (kind_text kind)
+kind_no_tab kind.System = refl
+kind_no_tab kind.Station = refl
+kind_no_tab kind.«Type» = refl
+kind_no_tab kind.Plan = refl
+kind_no_tab kind.Description = refl
+kind_no_tab kind.Region = refl
+
+pub kind_reader : IsReader kind_of (λ kind. Fixed (kind_text kind))
+kind_reader = record { sound = λ text kind e. (kind_sound text kind e, kind_no_tab kind); full = λ text kind e g. ap kind_of e ∙ kind_full kind }
 
 abbrev IsSide : List ℕ → Side → Type 0
 IsSide text side = (text ≡ side_text side) × HasNoTab (side_text side)

@@ -8,6 +8,7 @@ ghost use Rattle.bike_fields.specs.Caller.{caller_of, caller_meant};
 ghost use Rattle.bike_fields.specs.Bytes.{is_key, is_ident, is_language, is_currency, is_name, is_ascii_field};
 ghost use Rattle.bike_fields.specs.Bytes.{key_of, ident_of, language_of, currency_of};
 ghost use Rattle.bike_catalogue.specs.Rows.{is_range};
+ghost use Rattle.bike_catalogue.specs.NameKinds.{kind_of};
 ghost use Rattle.bike_catalogue.specs.Vehicle.{form_of, propulsion_of};
 ghost use Rattle.bike_texts.specs.Escapes.{name_at, ascii_at};
 ghost use Rattle.bike_texts.specs.SegmentReading.{segments_of};
@@ -21,7 +22,7 @@ use crate::segments::{SegmentList, read_segments};
 use crate::values::{
     read_choice, read_degrees, read_ident_or_none, read_metres, read_order_end, read_side,
 };
-use bike_catalogue::{Form, Propulsion};
+use bike_catalogue::{Form, NameKind, Propulsion};
 use bike_fields::{CallerName, Currency, Ident, Language, MaxRange, RequestKey};
 use bike_fixed::{GREATEST_FARE, Micro, Moment, Within, read_signed};
 use std::marker::Model;
@@ -217,6 +218,14 @@ impl<'a> Fields<'a> {
     {
         let text = self.part()?;
         Propulsion::read(text)
+    }
+
+    /// The next part as a kind of what has names.
+    pub fn name_kind(&mut self) -> Option<NameKind>
+        ensures { Takes (λ k. k) result (field_at kind_of self.old) self.new }
+    {
+        let text = self.part()?;
+        NameKind::read(text)
     }
 
     /// The next part as a side of an order, `from` or `to`.

@@ -14,10 +14,10 @@ mod fields;
 mod segments;
 mod values;
 
-pub use bike_catalogue::{Plan, Region, Segment, Station, System, VehicleType};
+pub use bike_catalogue::{NameKind, Plan, Region, Segment, Station, System, VehicleType};
 pub use bike_fields::{
-    BicycleNumber, Caller, DockCount, DockNumber, Ident, OrderNumber, OrderQuantity, Payment,
-    RentalNumber, RequestKey, RiderNumber, TruckCapacity, TruckNumber,
+    BicycleNumber, Caller, DockCount, DockNumber, Ident, Language, Name, OrderNumber,
+    OrderQuantity, Payment, RentalNumber, RequestKey, RiderNumber, TruckCapacity, TruckNumber,
 };
 pub use bounds::{tell_end, tell_segments};
 pub use ends::{EndName, OrderEnd, Side, UnloadDock};

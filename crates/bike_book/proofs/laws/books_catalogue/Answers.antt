@@ -1,4 +1,4 @@
-use Rattle.bike_book.proofs.CatalogueBooks.{set_system, add_type, set_plan, add_region, add_station, set_station, set_region}
+use Rattle.bike_book.proofs.CatalogueBooks.{set_system, add_type, set_plan, add_region, add_station, set_station, set_region, add_name}
 use Rattle.bike_book.proofs.PlanBooks.{add_plan}
 use Rattle.bike_book.proofs.laws.books_catalogue.Goals as goal
 
@@ -25,3 +25,6 @@ returns-clause-set_station c = set_station
 
 pub returns-clause-set_region : goal.returns-clause-set_region
 returns-clause-set_region c = set_region
+
+pub returns-clause-add_name : goal.returns-clause-add_name
+returns-clause-add_name c = add_name

@@ -1,7 +1,7 @@
 use Rattle.std.proofs.Common.{◌≡◌, None, sym, ap, ◌∙◌}
 use Rattle.std.specs.FinMap as fin
 use Rattle.bike_book.specs.declared.row_change.RowChange.TheVariants as row
-use Rattle.bike_book.proofs.CatalogueBooks.{set_system, add_type, set_plan, add_region, add_station, set_station, set_region}
+use Rattle.bike_book.proofs.CatalogueBooks.{set_system, add_type, set_plan, add_region, add_station, set_station, set_region, add_name}
 use Rattle.bike_book.proofs.SoundNumbers.{none_docked, none_broken}
 use Rattle.bike_booking.proofs.BookingLemmas.{row_books}
 use Rattle.bike_booking.proofs.rows.catalogue_row.Goals as goal
@@ -43,3 +43,8 @@ pub returns-in-SetRegion : goal.returns-in-SetRegion
 returns-in-SetRegion c =
     let a = c.in-SetRegion in
     row_books c.args.now (row.SetRegion a.station a.region) a.is (λ s m read. set_region s m c.args.now read.listing a.station a.region)
+
+pub returns-in-AddName : goal.returns-in-AddName
+returns-in-AddName c =
+    let a = c.in-AddName in
+    row_books c.args.now (row.AddName a.kind a.id a.language a.name) a.is (λ s m read. add_name s m c.args.now read.listing a.kind a.id a.language a.name read.sound.names)

@@ -57,3 +57,6 @@ returns-in-AddRegion c = rw c.in-AddRegion.is (λ s e. c.decide_add_region.ensur
 
 pub returns-in-SetRegion : goal.returns-in-SetRegion
 returns-in-SetRegion c = rw (c.in-SetRegion.is, region_named c.as_ref.result c.in-SetRegion.region c.as_ref.ensures.value) (λ s e. c.decide_set_region.ensures s c.args.now e)
+
+pub returns-in-AddName : goal.returns-in-AddName
+returns-in-AddName c = rw c.in-AddName.is (λ s e. c.decide_add_name.ensures s c.args.now e)

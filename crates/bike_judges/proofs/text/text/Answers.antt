@@ -2,7 +2,7 @@ use Rattle.std.proofs.Common.{refl}
 use Rattle.sqlite_tied.specs.Compute.{everything}
 use Rattle.bike_book.specs.Tables.{Meta, System, Plans, Regions, Riders, Rentals, Entries, Kept}
 use Rattle.bike_judges.proofs.RowTexts.{table_lines}
-use Rattle.bike_judges.proofs.JoinTexts.{segments_lines, types_lines, station_rows_lines, docks_lines, rental_riders_lines, rental_bikes_lines, rental_plans_lines, rental_stations_lines, rental_ends_lines, entry_riders_lines, entry_rentals_lines}
+use Rattle.bike_judges.proofs.JoinTexts.{segments_lines, types_lines, station_rows_lines, docks_lines, bike_trucks_lines, rental_riders_lines, rental_bikes_lines, rental_plans_lines, rental_stations_lines, rental_ends_lines, entry_riders_lines, entry_rentals_lines}
 use Rattle.bike_judges.proofs.TwoJoinTexts.{bike_names_lines, bike_uses_lines, order_names_lines, count_names_lines, order_ends_lines}
 use Rattle.bike_judges.proofs.UnionTexts.{bike_docks_lines, trucks_lines, order_bikes_lines}
 use Rattle.bike_judges.proofs.UnionOfThreeTexts.{stations_lines, counts_lines}
@@ -51,6 +51,10 @@ returns-in-BikeNames c = rw c.in-BikeNames.is (bike_names_lines (λ tree more la
 pub returns-in-BikeUses : goal.returns-in-BikeUses
 unfolding everything
 returns-in-BikeUses c = rw c.in-BikeUses.is (bike_uses_lines (λ tree more last. refl, refl))
+
+pub returns-in-BikeTrucks : goal.returns-in-BikeTrucks
+unfolding everything
+returns-in-BikeTrucks c = rw c.in-BikeTrucks.is (bike_trucks_lines (λ tree more. refl, refl))
 
 pub returns-in-BikeDocks : goal.returns-in-BikeDocks
 unfolding everything
