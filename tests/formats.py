@@ -5,12 +5,14 @@ import re
 LAST_MOMENT = 253_402_300_799
 GREATEST_FARE = 34_561_800_000
 NUMBERED, SERIAL = (1, 999_999), (1, 100_000_000)
+MOST_DOCKS = 500
+NAMED = ("system", "station", "type", "plan", "description", "region")
 
 REFUSALS = dict(enumerate((
     "unknown_station unknown_dock unknown_bike unknown_rider unknown_rental unknown_type unknown_plan unknown_truck unknown_order already_there "
     "bad_field dock_empty dock_full dock_broken bike_disabled not_renting not_returning rider_blocked balance_negative rider_is_riding not_rented "
     "not_in_depot bike_retired truck_too_small wrong_place wrong_type order_closed order_filled bikes_on_truck refund_too_large rental_open "
-    "limit_reached key_reused truck_full rental_closed wrong_truck_or_ends unknown_region"
+    "limit_reached key_reused truck_full rental_closed wrong_truck_or_ends unknown_region system_missing"
 ).split(), 1))
 
 
@@ -117,7 +119,7 @@ def one_of(*words):
 
 
 FLAG = one_of("true", "false")
-COUNTED, SERIALS, DOCK, AMOUNT = within(*NUMBERED), within(*SERIAL), within(1, 200), within(1, 1_000_000)
+COUNTED, SERIALS, DOCK, AMOUNT = within(*NUMBERED), within(*SERIAL), within(1, MOST_DOCKS), within(1, 1_000_000)
 COMMANDS = {
     b"set-system": [is_ident, is_language, is_name, is_ascii, is_ascii, is_ascii, is_currency, is_ascii, within(0, 86_400)],
     b"add-plan": [is_ident, is_name, within(0, 1_000_000), FLAG, is_name, is_segments],
@@ -141,8 +143,9 @@ COMMANDS = {
     b"add-truck": [COUNTED, within(1, 60)],
     b"open-order": [COUNTED, is_end, is_end, is_ident, within(1, 60)],
     b"load": [COUNTED, SERIALS, COUNTED],
-    b"unload": [COUNTED, SERIALS, COUNTED, one_of("from", "to"), within(0, 200)],
+    b"unload": [COUNTED, SERIALS, COUNTED, one_of("from", "to"), within(0, MOST_DOCKS)],
     b"close-order": [SERIALS],
+    b"add-name": [one_of(*NAMED), is_ident, is_language, is_name],
 }
 
 

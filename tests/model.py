@@ -40,6 +40,8 @@ class Operator:
         self.system = None
         self.plans, self.types, self.regions, self.stations, self.trucks, self.riders, self.bikes = {}, {}, {}, {}, {}, {}, {}
         self.broken, self.rentals, self.orders, self.entries, self.kept = set(), [], [], [], {}
+        # Further names: of a kind and an identifier, by language.
+        self.names = {}
 
     def answer(self, line):
         """The answer to a line without its line feed."""
@@ -120,6 +122,19 @@ class Operator:
         refuse(1, station not in self.stations)
         refuse(37, region != "*" and region not in self.regions)
         self.stations[station]["region"] = None if region == "*" else region
+
+    def add_name(self, kind, ident, language, name):
+        """A plan has two lists, of its name and of its description. A language is another where one byte is."""
+        refuse(38, self.system is None)
+        there, unknown = {
+            "system": ([self.system[0]], 11), "station": (self.stations, 1), "type": (self.types, 6), "plan": (self.plans, 7),
+            "description": (self.plans, 7), "region": (self.regions, 37),
+        }[kind]
+        refuse(unknown, ident not in there)
+        given = self.names.get((kind, ident), {})
+        refuse(10, language == self.system[1] or language in given)
+        refuse(32, len(given) >= 3)
+        self.names[kind, ident] = {**given, language: name}
 
     def set_station(self, station, *flags):
         refuse(1, station not in self.stations)
