@@ -1,7 +1,7 @@
 -- Each table's first columns are its key.
 use Rattle.std.proofs.Common.{List, ℕ, refl}
 use Rattle.bike_rows.proofs.KeyLemmas.{IsKeyAt, number_key_at, columns_key_at}
-use Rattle.bike_book.specs.Tables.{TableName, keys_of, Meta, System, Plans, Segments, Types, Regions, Stations, Docks, Bikes, Trucks, Riders, Rentals, Orders, Entries, Kept, Counts}
+use Rattle.bike_book.specs.Tables.{TableName, keys_of, Meta, System, Plans, Segments, Types, Regions, Stations, Docks, Bikes, Trucks, Riders, Rentals, Orders, Entries, Kept, Counts, MoreNames}
 use Rattle.bike_schema.specs.Layouts.{layout_of}
 
 -- where the columns of the key stand in a stored row
@@ -25,3 +25,4 @@ table_key Orders = number_key_at (layout_of Orders) (λ row. refl)
 table_key Entries = number_key_at (layout_of Entries) (λ row. refl)
 table_key Kept = columns_key_at 2 (layout_of Kept) 0 (key_places Kept) refl refl refl (λ row. refl)
 table_key Counts = columns_key_at 2 (layout_of Counts) 0 (key_places Counts) refl refl refl (λ row. refl)
+table_key MoreNames = columns_key_at 3 (layout_of MoreNames) 0 (key_places MoreNames) refl refl refl (λ row. refl)

@@ -5,7 +5,7 @@ use Rattle.std.proofs.lemmas.Bool.{and_parts, or_parts, eqb-true}
 use Rattle.sqlite_value.specs.Order.{Row}
 use Rattle.bike_rows.specs.Stands.{is_same_text}
 use Rattle.bike_rows.proofs.ListLemmas.{same_some, all_at}
-use Rattle.bike_book.specs.Tables.{TableName, table_place, is_table, rows_in, tables_by, Meta, System, Plans, Segments, Types, Regions, Stations, Docks, Bikes, Trucks, Riders, Rentals, Orders, Entries, Kept, Counts}
+use Rattle.bike_book.specs.Tables.{TableName, table_place, is_table, rows_in, tables_by, Meta, System, Plans, Segments, Types, Regions, Stations, Docks, Bikes, Trucks, Riders, Rentals, Orders, Entries, Kept, Counts, MoreNames}
 use Rattle.bike_schema.specs.Layouts.{name_of, every_table}
 
 -- ---- a line for each table
@@ -27,6 +27,7 @@ at_place Orders = refl
 at_place Entries = refl
 at_place Kept = refl
 at_place Counts = refl
+at_place MoreNames = refl
 
 pub rows_in_by : (rows : TableName → List Row) (t : TableName) → rows_in (tables_by rows) t ≡ rows t
 rows_in_by rows Meta = refl
@@ -45,6 +46,7 @@ rows_in_by rows Orders = refl
 rows_in_by rows Entries = refl
 rows_in_by rows Kept = refl
 rows_in_by rows Counts = refl
+rows_in_by rows MoreNames = refl
 
 -- ---- what follows
 

@@ -22,9 +22,9 @@ pub record IsOurs (db : Database) : Type 0 where
   pub sound : IsDatabase db
   pub has : HasTables db
 
--- the names of tables that only an earlier or a later schema has
+-- the names of tables that only an earlier schema has
 abbrev pub other_names : List (List ℕ)
-other_names = codes "stations" ∷ codes "stations_3" ∷ codes "more_names" ∷ []
+other_names = codes "stations" ∷ codes "stations_2" ∷ []
 
 abbrev pub product_names : List (List ℕ)
 product_names = map name_of every_table ++ other_names

@@ -19,7 +19,7 @@ pub type Staged<'conn, S> = Transaction<'conn, S>;
 pub const APP: &str = "bikeshare";
 
 /// The statements that make the tables, in the order of the schema.
-pub const TABLES: [&str; 16] = [
+pub const TABLES: [&str; 17] = [
     "CREATE TABLE meta (one INTEGER PRIMARY KEY, app TEXT NOT NULL, version INTEGER NOT NULL, \
      now INTEGER NOT NULL, cash INTEGER NOT NULL, revenue INTEGER NOT NULL) STRICT",
     "CREATE TABLE system (one INTEGER PRIMARY KEY, system_id TEXT NOT NULL, language TEXT NOT NULL, \
@@ -32,7 +32,7 @@ pub const TABLES: [&str; 16] = [
     "CREATE TABLE types (type_id TEXT PRIMARY KEY NOT NULL, name TEXT NOT NULL, form TEXT NOT NULL, \
      propulsion TEXT NOT NULL, range_m INTEGER NOT NULL, plan_id TEXT NOT NULL) STRICT",
     "CREATE TABLE regions (region_id TEXT PRIMARY KEY NOT NULL, name TEXT NOT NULL) STRICT",
-    "CREATE TABLE stations_2 (station_id TEXT PRIMARY KEY NOT NULL, name TEXT NOT NULL, lat INTEGER NOT NULL, \
+    "CREATE TABLE stations_3 (station_id TEXT PRIMARY KEY NOT NULL, name TEXT NOT NULL, lat INTEGER NOT NULL, \
      lon INTEGER NOT NULL, docks INTEGER NOT NULL, installed INTEGER NOT NULL, renting INTEGER NOT NULL, \
      \"returning\" INTEGER NOT NULL, reported INTEGER NOT NULL, free INTEGER NOT NULL, \
      broken INTEGER NOT NULL, region_id TEXT) STRICT",
@@ -54,13 +54,16 @@ pub const TABLES: [&str; 16] = [
      reply TEXT NOT NULL, PRIMARY KEY (caller, req_key)) STRICT",
     "CREATE TABLE counts (station_id TEXT NOT NULL, type_id TEXT NOT NULL, available INTEGER NOT NULL, \
      disabled INTEGER NOT NULL, PRIMARY KEY (station_id, type_id)) STRICT",
+    "CREATE TABLE more_names (kind TEXT NOT NULL, id TEXT NOT NULL, language TEXT NOT NULL, name TEXT NOT NULL, \
+     PRIMARY KEY (kind, id, language)) STRICT",
 ];
 
 /// The statements that make the indexes beside those of the keys.
-const INDEXES: [&str; 3] = [
+const INDEXES: [&str; 4] = [
     "CREATE INDEX bikes_by_dock ON bikes (station_id, dock)",
     "CREATE INDEX bikes_by_truck ON bikes (truck)",
     "CREATE INDEX rentals_by_rider ON rentals (rider)",
+    "CREATE INDEX more_names_by_language ON more_names (language)",
 ];
 
 /// Runs the statements one after another, with no parameters, up to the first that fails.

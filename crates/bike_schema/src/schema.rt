@@ -8,7 +8,7 @@ use sqlite::{Alter, Connection};
 use sqlite_schema::names::same_name;
 use sqlite_schema::schema::{Schema, Table};
 
-/// The names of the tables, and of those that only an earlier or a later schema has.
+/// The names of the tables, and of those that only an earlier schema has.
 const NAMES: [&str; 19] = [
     "meta",
     "system",
@@ -16,7 +16,7 @@ const NAMES: [&str; 19] = [
     "segments",
     "types",
     "regions",
-    "stations_2",
+    "stations_3",
     "docks",
     "bikes",
     "trucks",
@@ -26,9 +26,9 @@ const NAMES: [&str; 19] = [
     "entries",
     "kept",
     "counts",
-    "stations",
-    "stations_3",
     "more_names",
+    "stations",
+    "stations_2",
 ];
 
 /// Whether some foreign key of the table names this name.
@@ -57,7 +57,7 @@ fn is_unused(schema: &Schema, name: &[u8]) -> bool
     schema.table_named(name).is_none() && !is_parent(schema, name)
 }
 
-/// Whether the database has none of the product's tables, of this schema or another one, and no foreign key that
+/// Whether the database has none of the product's tables, of this schema or an earlier one, and no foreign key that
 /// names one of them.
 pub fn has_none<S: Alter>(conn: &Connection<S>) -> bool
     ensures { IsTrue result ↔ HasNone (state S.Store conn.now).now.schema }
