@@ -16,4 +16,4 @@ pub use columns::{
 };
 pub use create::{APP, Staged, TABLES, create_tables};
 pub use fault::StatementFault;
-pub use schema::has_none;
+pub use schema::{has_none, is_unused};

@@ -51,7 +51,7 @@ fn is_parent(schema: &Schema, name: &[u8]) -> bool
 }
 
 /// Whether no table has the name, and no foreign key names it.
-fn is_unused(schema: &Schema, name: &[u8]) -> bool
+pub fn is_unused(schema: &Schema, name: &[u8]) -> bool
     ensures { result ≡ is_unused schema.now name.now }
 {
     schema.table_named(name).is_none() && !is_parent(schema, name)
