@@ -14,7 +14,7 @@ use Rattle.bike_names.specs.Reads.{draft_of, of_query, one_select, IsDraft}
 use Rattle.bike_names.proofs.ReadLaws.{select_is}
 use Rattle.bike_rows.specs.Layout.{Layout, table_of}
 use Rattle.bike_rows.proofs.TextLemmas.{IsSelect, Drafts, alone, select_means}
-use Rattle.bike_book.specs.Tables.{Meta, System, Plans, Segments, Types, Regions, Stations, Docks, Bikes, Trucks, Riders, Rentals, Orders, Entries, Kept, Counts}
+use Rattle.bike_book.specs.Tables.{Meta, System, Plans, Segments, Types, Regions, Stations, Docks, Bikes, Trucks, Riders, Rentals, Orders, Entries, Kept, Counts, MoreNames}
 use Rattle.bike_schema.specs.Layouts.{layout_of}
 use Rattle.bike_recognition.specs.Rowids.{rowids_query}
 use Rattle.bike_recognition.specs.Wanted.{AsksRowidsOf}
@@ -129,7 +129,7 @@ regions_asked = (λ tree low. rw (low, low) refl, refl)
 pub regions_rowids : AsksRowidsOf (layout_of Regions) (codes "SELECT rowid FROM regions ORDER BY rowid")
 regions_rowids = by_rowid (layout_of Regions) (codes "SELECT rowid FROM regions ORDER BY rowid") regions_parsed regions_asked
 
-stations_parsed : IsParsed (codes "SELECT rowid FROM stations_2 ORDER BY rowid")
+stations_parsed : IsParsed (codes "SELECT rowid FROM stations_3 ORDER BY rowid")
 unfolding everything
 stations_parsed = (_, refl)
 
@@ -137,8 +137,8 @@ stations_asked : AsksAlone (layout_of Stations) stations_parsed.0
 unfolding everything stations_parsed
 stations_asked = (λ tree low. rw (low, low) refl, refl)
 
-pub stations_rowids : AsksRowidsOf (layout_of Stations) (codes "SELECT rowid FROM stations_2 ORDER BY rowid")
-stations_rowids = by_rowid (layout_of Stations) (codes "SELECT rowid FROM stations_2 ORDER BY rowid") stations_parsed stations_asked
+pub stations_rowids : AsksRowidsOf (layout_of Stations) (codes "SELECT rowid FROM stations_3 ORDER BY rowid")
+stations_rowids = by_rowid (layout_of Stations) (codes "SELECT rowid FROM stations_3 ORDER BY rowid") stations_parsed stations_asked
 
 docks_parsed : IsParsed (codes "SELECT rowid FROM docks ORDER BY rowid")
 unfolding everything
@@ -172,3 +172,14 @@ counts_asked = (λ tree low. rw (low, low) refl, refl)
 
 pub counts_rowids : AsksRowidsOf (layout_of Counts) (codes "SELECT rowid FROM counts ORDER BY rowid")
 counts_rowids = by_rowid (layout_of Counts) (codes "SELECT rowid FROM counts ORDER BY rowid") counts_parsed counts_asked
+
+more_names_parsed : IsParsed (codes "SELECT rowid FROM more_names ORDER BY rowid")
+unfolding everything
+more_names_parsed = (_, refl)
+
+more_names_asked : AsksAlone (layout_of MoreNames) more_names_parsed.0
+unfolding everything more_names_parsed
+more_names_asked = (λ tree low. rw (low, low) refl, refl)
+
+pub more_names_rowids : AsksRowidsOf (layout_of MoreNames) (codes "SELECT rowid FROM more_names ORDER BY rowid")
+more_names_rowids = by_rowid (layout_of MoreNames) (codes "SELECT rowid FROM more_names ORDER BY rowid") more_names_parsed more_names_asked

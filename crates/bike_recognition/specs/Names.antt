@@ -1,7 +1,7 @@
 -- Which table of the schema each name of the code is.
 use Rattle.bike_book.specs.Tables as book
 use Rattle.bike_recognition.specs.declared.table.TableName.{TableName}
-use Rattle.bike_recognition.specs.declared.table.TableName.TheVariants.{Meta, System, Plans, Segments, Types, Regions, Stations, Docks, Bikes, Trucks, Riders, Rentals, Orders, Entries, Kept, Counts}
+use Rattle.bike_recognition.specs.declared.table.TableName.TheVariants.{Meta, System, Plans, Segments, Types, Regions, Stations, Docks, Bikes, Trucks, Riders, Rentals, Orders, Entries, Kept, Counts, MoreNames}
 
 abbrev pub table_named : TableName → book.TableName
 table_named Meta = book.Meta
@@ -20,3 +20,4 @@ table_named Orders = book.Orders
 table_named Entries = book.Entries
 table_named Kept = book.Kept
 table_named Counts = book.Counts
+table_named MoreNames = book.MoreNames

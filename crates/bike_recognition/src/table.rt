@@ -31,6 +31,7 @@ pub enum TableName {
     Entries,
     Kept,
     Counts,
+    MoreNames,
 }
 
 impl TableName {
@@ -45,7 +46,7 @@ impl TableName {
             TableName::Segments => "segments",
             TableName::Types => "types",
             TableName::Regions => "regions",
-            TableName::Stations => "stations_2",
+            TableName::Stations => "stations_3",
             TableName::Docks => "docks",
             TableName::Bikes => "bikes",
             TableName::Trucks => "trucks",
@@ -55,6 +56,7 @@ impl TableName {
             TableName::Entries => "entries",
             TableName::Kept => "kept",
             TableName::Counts => "counts",
+            TableName::MoreNames => "more_names",
         }
     }
 
@@ -79,6 +81,7 @@ impl TableName {
             TableName::Entries => TABLES[13],
             TableName::Kept => TABLES[14],
             TableName::Counts => TABLES[15],
+            TableName::MoreNames => TABLES[16],
         }
     }
 
@@ -93,7 +96,7 @@ impl TableName {
             TableName::Segments => "SELECT rowid FROM segments ORDER BY rowid",
             TableName::Types => "SELECT rowid FROM types ORDER BY rowid",
             TableName::Regions => "SELECT rowid FROM regions ORDER BY rowid",
-            TableName::Stations => "SELECT rowid FROM stations_2 ORDER BY rowid",
+            TableName::Stations => "SELECT rowid FROM stations_3 ORDER BY rowid",
             TableName::Docks => "SELECT rowid FROM docks ORDER BY rowid",
             TableName::Bikes => "SELECT bike FROM bikes ORDER BY bike",
             TableName::Trucks => "SELECT truck FROM trucks ORDER BY truck",
@@ -103,6 +106,7 @@ impl TableName {
             TableName::Entries => "SELECT entry FROM entries ORDER BY entry",
             TableName::Kept => "SELECT rowid FROM kept ORDER BY rowid",
             TableName::Counts => "SELECT rowid FROM counts ORDER BY rowid",
+            TableName::MoreNames => "SELECT rowid FROM more_names ORDER BY rowid",
         }
     }
 

@@ -1,4 +1,4 @@
-use Rattle.bike_book.specs.Tables.{Meta, System, Plans, Segments, Types, Regions, Stations, Docks, Bikes, Trucks, Riders, Rentals, Orders, Entries, Kept, Counts}
+use Rattle.bike_book.specs.Tables.{Meta, System, Plans, Segments, Types, Regions, Stations, Docks, Bikes, Trucks, Riders, Rentals, Orders, Entries, Kept, Counts, MoreNames}
 use Rattle.bike_schema.proofs.MakeFacts.{declared}
 use Rattle.bike_recognition.proofs.table.TableName.definition.Goals as goal
 
@@ -49,3 +49,6 @@ returns-in-Kept c = rw c.in-Kept.is (declared Kept).defined
 
 pub returns-in-Counts : goal.returns-in-Counts
 returns-in-Counts c = rw c.in-Counts.is (declared Counts).defined
+
+pub returns-in-MoreNames : goal.returns-in-MoreNames
+returns-in-MoreNames c = rw c.in-MoreNames.is (declared MoreNames).defined
