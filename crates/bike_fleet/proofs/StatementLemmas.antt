@@ -18,7 +18,7 @@ use Rattle.bike_schema.proofs.KeyLemmas.{table_key}
 
 -- ---- by the key
 
-pub finds_station : (station : List ℕ) → FindsIn (codes "SELECT * FROM stations_2 WHERE station_id = ?1") (Text station ∷ []) (λ t. row_with 1 (Text station ∷ []) t.stations)
+pub finds_station : (station : List ℕ) → FindsIn (codes "SELECT * FROM stations_3 WHERE station_id = ?1") (Text station ∷ []) (λ t. row_with 1 (Text station ∷ []) t.stations)
 unfolding everything
 finds_station station = keyed_in Stations (λ tree. refl, refl) refl
 
@@ -87,7 +87,7 @@ counts_on_truck_for truck order =
 
 -- of all rows
 
-pub counts_stations : FindsIn (codes "SELECT count(*) FROM stations_2") [] (λ t. count_row_of t.stations)
+pub counts_stations : FindsIn (codes "SELECT count(*) FROM stations_3") [] (λ t. count_row_of t.stations)
 unfolding everything
 counts_stations = counted_in Stations (λ tree. refl, refl)
 

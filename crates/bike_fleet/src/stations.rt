@@ -1,4 +1,4 @@
-//! The statements on `stations_2`.
+//! The statements on `stations_3`.
 
 ghost use Rattle.std.specs.Prelude.{◌≡◌, [], ◌∷◌, IfOk, Some};
 ghost use Rattle.std.specs.FinMap.{contains_key};
@@ -38,7 +38,7 @@ fn select_station<S: Alter>(
 {
     first_row(
         conn,
-        "SELECT * FROM stations_2 WHERE station_id = ?1",
+        "SELECT * FROM stations_3 WHERE station_id = ?1",
         params![station.as_str()],
     )
 }
@@ -82,7 +82,7 @@ fn dock_numbers_of(row: &Option<Row>) -> Result<Option<DockNumbers>, StatementFa
 fn count_stations<S: Alter>(conn: &mut Connection<S>) -> Result<Option<Row>, StatementFault>
     ensures { Answers S.Store conn.old conn.new result (λ s m row. row ≡ Some (count (row_count s m Stations) ∷ [])) }
 {
-    first_row(conn, "SELECT count(*) FROM stations_2", &[])
+    first_row(conn, "SELECT count(*) FROM stations_3", &[])
 }
 
 /// The station with this identifier.
