@@ -2,19 +2,21 @@
 use Rattle.std.proofs.Common.{◌≡◌, ℕ, ℤ, pos, neg_ℤ, ◌≤◌, List, [], Bool, true, leb, Option, Some, None, refl, sym, ap, ◌∙◌, arith, codes}
 use Rattle.std.proofs.lemmas.Bool.{le-leb, eqb-true}
 use Rattle.std.proofs.lemmas.Bool.Decides.{nat_tests}
+use Rattle.bike_fields.specs.declared.numbers.TheConstants.{MOST_DOCKS}
 use Rattle.bike_fields.specs.Bytes.{is_ident}
 use Rattle.bike_fields.proofs.Lengths.{both_hold}
 use Rattle.bike_catalogue.specs.declared.vehicle.Propulsion.{Propulsion}
 use Rattle.bike_catalogue.specs.declared.vehicle.Propulsion.TheVariants.{Human, ElectricAssist}
-use Rattle.bike_catalogue.specs.Rows.{SegmentRow, PlanRow, TypeRow, RegionRow, IsEnd, is_after, IsRange, is_range, IsSystem}
+use Rattle.bike_catalogue.specs.declared.name_kind.NameKind.{NameKind}
+use Rattle.bike_catalogue.specs.Rows.{SegmentRow, PlanRow, TypeRow, RegionRow, MoreNameRow, IsEnd, is_after, IsRange, is_range, IsSystem}
 use Rattle.sqlite_value.specs.declared.value.Value.TheVariants.{Int, Text}
 use Rattle.sqlite.specs.Values.{or_null}
-use Rattle.bike_operator.specs.Operator.{Station}
-use Rattle.bike_book.specs.Rows.{number_value, meta_row, system_row, plan_row, segment_row, type_row, region_row, station_row, dock_row}
+use Rattle.bike_operator.specs.Operator.{Station, name_key}
+use Rattle.bike_book.specs.Rows.{number_value, meta_row, system_row, plan_row, segment_row, type_row, region_row, station_row, dock_row, name_row}
 use Rattle.bike_schema.specs.Columns.{number_in, or_none}
-use Rattle.bike_readings.specs.Bounds.{IsWithin, IsStoredMeta, IsStoredPlan, IsStoredSegment, IsStoredType, IsStoredRegion, IsStoredStation, IsStoredDock}
-use Rattle.bike_readings.specs.BothWays.{MetaReading, SystemReading, PlanReading, SegmentReading, TypeReading, RegionReading, StationReading, DockReading}
-use Rattle.bike_readings.proofs.ColumnLaws.{IsColumn, IfAny, whole_column, number_column, moment_column, flag_column, signed_column, word_column, word_utf8, ident_column, name_column, ascii_column, language_column, currency_column, form_column, propulsion_column, or_none_column, ident_or_none_column}
+use Rattle.bike_readings.specs.Bounds.{IsWithin, IsStoredMeta, IsStoredPlan, IsStoredSegment, IsStoredType, IsStoredRegion, IsStoredStation, IsStoredDock, IsStoredName}
+use Rattle.bike_readings.specs.BothWays.{MetaReading, SystemReading, PlanReading, SegmentReading, TypeReading, RegionReading, StationReading, DockReading, NameReading}
+use Rattle.bike_readings.proofs.ColumnLaws.{IsColumn, IfAny, whole_column, number_column, moment_column, flag_column, signed_column, word_column, word_utf8, ident_column, name_column, ascii_column, language_column, currency_column, form_column, propulsion_column, named_kind_column, or_none_column, ident_or_none_column}
 use Rattle.bike_readings.proofs.ChainLaws.{wide, takes, ends, ends_if, gives, gives_if}
 
 -- an identifier that is that of the record
@@ -176,7 +178,7 @@ station_reading = record {
       takes _ name_column e (λ name name_is name_good e.
       takes _ (signed_column (neg_ℤ (pos 90000000)) (pos 90000000)) e (λ lat lat_is lat_good e.
       takes _ (signed_column (neg_ℤ (pos 180000000)) (pos 180000000)) e (λ lon lon_is lon_good e.
-      takes _ (number_column 1 200) e (λ docks docks_is docks_good e.
+      takes _ (number_column 1 MOST_DOCKS) e (λ docks docks_is docks_good e.
       takes _ flag_column e (λ installed installed_is _ e.
       takes _ flag_column e (λ renting renting_is _ e.
       takes _ flag_column e (λ returning returning_is _ e.
@@ -197,7 +199,7 @@ station_reading = record {
       gives _ x.1.row.name name_column g.good.name (
       gives _ x.1.row.lat (signed_column (neg_ℤ (pos 90000000)) (pos 90000000)) g.good.lat (
       gives _ x.1.row.lon (signed_column (neg_ℤ (pos 180000000)) (pos 180000000)) g.good.lon (
-      gives _ x.1.row.docks (number_column 1 200) (g.good.some_docks, g.good.few_docks) (
+      gives _ x.1.row.docks (number_column 1 MOST_DOCKS) (g.good.some_docks, g.good.few_docks) (
       gives _ x.1.is_installed flag_column tt (
       gives _ x.1.is_renting flag_column tt (
       gives _ x.1.is_returning flag_column tt (
@@ -224,11 +226,28 @@ dock_reading = record {
   sound = λ row x e.
       wide 3 row e (λ width e.
       takes _ ident_column e (λ station station_is station_good e.
-      takes _ (number_column 1 200) e (λ dock dock_is dock_good e.
+      takes _ (number_column 1 MOST_DOCKS) e (λ dock dock_is dock_good e.
       takes _ flag_column e (λ broken broken_is _ e.
       ends (λ (x : List ℕ × ℕ × Bool). dock_row x.0 x.1 x.2) (λ x. IsStoredDock x.0 x.1) x e width (station_is, (dock_is, (broken_is, tt))) (record { good_station = station_good; good_dock = dock_good })))));
   full = λ x g.
       gives _ x.0 ident_column g.good_station (
-      gives _ x.1 (number_column 1 200) g.good_dock (
+      gives _ x.1 (number_column 1 MOST_DOCKS) g.good_dock (
       gives _ x.2 flag_column tt refl));
+}
+
+pub name_reading : NameReading
+name_reading = record {
+  sound = λ row x e.
+      wide 4 row e (λ width e.
+      takes _ named_kind_column e (λ kind kind_is _ e.
+      takes _ ident_column e (λ id id_is id_good e.
+      takes _ language_column e (λ language language_is language_good e.
+      takes _ name_column e (λ name name_is name_good e.
+      ends (λ (x : NameKind × List ℕ × MoreNameRow). name_row (name_key x.0 x.1 x.2.language) x.2.name) (λ x. IsStoredName x.1 x.2) x e width (kind_is, (id_is, (language_is, (name_is, tt))))
+      (record { good_id = id_good; good = record { language = language_good; name = name_good } }))))));
+  full = λ x g.
+      gives _ x.0 named_kind_column tt (
+      gives _ x.1 ident_column g.good_id (
+      gives _ x.2.language language_column g.good.language (
+      gives _ x.2.name name_column g.good.name refl)));
 }

@@ -21,7 +21,11 @@ use Rattle.bike_catalogue.specs.declared.vehicle.Form.{Form}
 use Rattle.bike_catalogue.specs.declared.vehicle.Form.TheVariants.{Bicycle, CargoBicycle}
 use Rattle.bike_catalogue.specs.declared.vehicle.Propulsion.{Propulsion}
 use Rattle.bike_catalogue.specs.declared.vehicle.Propulsion.TheVariants.{Human, ElectricAssist}
+use Rattle.bike_catalogue.specs.declared.name_kind.NameKind.{NameKind}
+use Rattle.bike_catalogue.specs.declared.name_kind.NameKind.TheVariants as named
+use Rattle.bike_catalogue.specs.NameKinds.{kind_text as named_text}
 use Rattle.bike_catalogue.specs.Vehicle.{form_text, propulsion_text}
+use Rattle.bike_catalogue.proofs.NameKinds.{kind_sound as named_sound, kind_full as named_full}
 use Rattle.bike_catalogue.proofs.Vehicles.{form_sound, form_full, propulsion_sound, propulsion_full}
 use Rattle.bike_ledger.specs.declared.entry.EntryKind.{EntryKind}
 use Rattle.bike_ledger.specs.declared.entry.EntryKind.TheVariants.{TopUp, Fare, Refund}
@@ -34,7 +38,7 @@ use Rattle.bike_operator.specs.declared.records.BikeState.{BikeState}
 use Rattle.bike_operator.specs.declared.records.BikeState.TheVariants.{Fit, Disabled, Retired}
 use Rattle.bike_book.specs.Rows.{number_value, truth, state_number, kind_number, end_text}
 use Rattle.bike_schema.specs.Columns.{number_of, flag_of, state_of, whole_in, text_in, number_in, moment_in, flag_in, state_in, ident_in, name_in, or_none}
-use Rattle.bike_readings.specs.ColumnReaders.{language_in, currency_in, ascii_in, key_in, form_in, propulsion_in, end_in, word_in, signed_in, kind_of, kind_in}
+use Rattle.bike_readings.specs.ColumnReaders.{language_in, currency_in, ascii_in, key_in, form_in, propulsion_in, named_kind_in, end_in, word_in, signed_in, kind_of, kind_in}
 use Rattle.bike_readings.specs.Bounds.{IsWithin, IsMoment, IsIdentOrNone}
 
 -- The reader gives exactly the values within their bounds from which columns are made.
@@ -286,6 +290,17 @@ propulsion_utf8 ElectricAssist g = word_utf8 (propulsion_text ElectricAssist) re
 
 pub propulsion_column : IsColumn propulsion_in (λ propulsion. Text (propulsion_text propulsion)) Any
 propulsion_column = of_text _ propulsion_text Any (λ text propulsion e. (propulsion_sound text propulsion e, tt)) (λ propulsion g. propulsion_full propulsion) propulsion_utf8
+
+named_utf8 : (kind : NameKind) → Any kind → is_utf8 (named_text kind) ≡ true
+named_utf8 named.System g = word_utf8 (named_text named.System) refl
+named_utf8 named.Station g = word_utf8 (named_text named.Station) refl
+named_utf8 named.Type g = word_utf8 (named_text named.Type) refl
+named_utf8 named.Plan g = word_utf8 (named_text named.Plan) refl
+named_utf8 named.Description g = word_utf8 (named_text named.Description) refl
+named_utf8 named.Region g = word_utf8 (named_text named.Region) refl
+
+pub named_kind_column : IsColumn named_kind_in (λ kind. Text (named_text kind)) Any
+named_kind_column = of_text _ named_text Any (λ text kind e. (named_sound text kind e, tt)) (λ kind g. named_full kind) named_utf8
 
 end_utf8 : (x : OrderEnd) → IsEnd x → is_utf8 (end_text x) ≡ true
 end_utf8 end.Depot g = word_utf8 (codes "*") refl

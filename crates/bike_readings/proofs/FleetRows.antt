@@ -1,6 +1,7 @@
 -- The rows of bicycles, trucks and orders are read exactly.
 use Rattle.std.proofs.Common.{◌≡◌, ℕ, [], ◌∷◌, length, Some, refl, subst, arith}
 use Rattle.sqlite_value.specs.Order.{Row, column}
+use Rattle.bike_fields.specs.declared.numbers.TheConstants.{MOST_DOCKS}
 use Rattle.bike_operator.specs.declared.records.Place.{Place}
 use Rattle.bike_operator.specs.declared.records.Place.TheVariants as place
 use Rattle.bike_operator.specs.declared.records.Bike.{Bike}
@@ -25,7 +26,7 @@ place_sound row p e =
     pick_null (column row 3 ∷ column row 4 ∷ column row 5 ∷ column row 6 ∷ column row 7 ∷ []) e (λ null e. subst (Placed row) (same_Some place.Depot p e) (null, tt)) (λ e.
     pick_null (column row 5 ∷ column row 6 ∷ column row 7 ∷ []) e (λ null e.
     takes _ ident_column e (λ at at_is at_good e.
-    takes _ (number_column 1 200) e (λ n n_is n_good e.
+    takes _ (number_column 1 MOST_DOCKS) e (λ n n_is n_good e.
     subst (Placed row) (same_Some (place.Dock at n) p e) ((at_is, (n_is, null)), record { good_station = at_good; good_dock = n_good })))) (λ e.
     pick_null (column row 3 ∷ column row 4 ∷ column row 6 ∷ column row 7 ∷ []) e (λ null e.
     takes _ (number_column 1 100000000) e (λ n n_is n_good e.
@@ -36,7 +37,7 @@ place_sound row p e =
     subst (Placed row) (same_Some (place.Truck n for) p e) ((null.0, (null.1.0, (null.1.1.0, (n_is, (for_is, tt))))), (n_good, for_good))))) (λ e. absurd cc))))
 
 place_full : (p : Place) → IsStoredPlace p → place_in (column (place_columns p) 0) (column (place_columns p) 1) (column (place_columns p) 2) (column (place_columns p) 3) (column (place_columns p) 4) ≡ Some p
-place_full (place.Dock station dock) g = gives _ station ident_column g.good_station (gives _ dock (number_column 1 200) g.good_dock refl)
+place_full (place.Dock station dock) g = gives _ station ident_column g.good_station (gives _ dock (number_column 1 MOST_DOCKS) g.good_dock refl)
 place_full (place.Rental rental) g = gives _ rental (number_column 1 100000000) g refl
 place_full (place.Truck truck order) g = gives _ truck (number_column 1 999999) g.0 (gives _ order (number_column 1 100000000) g.1 refl)
 place_full place.Depot g = refl

@@ -16,36 +16,38 @@ use Rattle.bike_ledger.specs.Entries.{Entry}
 use Rattle.bike_ledger.specs.declared.entry.EntryKind.{EntryKind}
 use Rattle.bike_ledger.specs.declared.entry.EntryKind.TheVariants.{TopUp, Fare, Refund}
 use Rattle.bike_ledger.specs.Ledger.{balance_of, cash_of, revenue_of, refunded_of}
+use Rattle.bike_operator.specs.declared.limits.TheConstants.{MOST_FURTHER_NAMES}
 use Rattle.bike_operator.specs.declared.records.Place.{Place}
 use Rattle.bike_operator.specs.declared.records.Place.TheVariants as place
 use Rattle.bike_operator.specs.declared.records.Rental.{Rental}
 use Rattle.bike_operator.specs.declared.records.Closing.{Closing}
-use Rattle.bike_operator.specs.Operator.{Operator, Key, DockKey, item_numbered}
+use Rattle.bike_operator.specs.Operator.{Operator, Key, NameKey, DockKey, name_key, item_numbered}
 use Rattle.bike_operator.specs.Counts.{docks_available, docks_broken, available_of}
 use Rattle.bike_operator.specs.Sound.{IsSound, IsPlace, IsBooking, IsSetSystem, fares_of, fares_in}
 use Rattle.bike_places.specs.Numbers.{disabled_of}
 use Rattle.bike_places.proofs.ItemLemmas.{number_within}
 use Rattle.bike_book.specs.declared.version.TheConstants.{NEWEST}
-use Rattle.bike_book.specs.Tables.{Meta, System, Plans, Segments, Types, Regions, Stations, Docks, Bikes, Trucks, Riders, Rentals, Orders, Entries, Kept as KeptTable, Counts}
+use Rattle.bike_book.specs.Tables.{Meta, System, Plans, Segments, Types, Regions, Stations, Docks, Bikes, Trucks, Riders, Rentals, Orders, Entries, Kept as KeptTable, Counts, MoreNames}
 use Rattle.bike_book.specs.Rows.{number_value, meta_row}
-use Rattle.bike_book.specs.Stored.{Listed, IsListing, tables_for, meta_rows, system_rows, with_numbers, plans_segments, stored_plan, stored_type, stored_region, stored_station, stored_dock, stored_bike, stored_truck, stored_rider, stored_rental, stored_order, stored_entry, stored_kept, stored_count}
+use Rattle.bike_book.specs.Stored.{Listed, IsListing, tables_for, meta_rows, system_rows, with_numbers, plans_segments, stored_plan, stored_type, stored_region, stored_station, stored_dock, stored_bike, stored_truck, stored_rider, stored_rental, stored_order, stored_entry, stored_kept, stored_count, stored_name}
 use Rattle.bike_book.proofs.MapRows.{StoresKeys, BeginsWithKey, has_get}
-use Rattle.bike_book.proofs.Keys.{numbers, texts, pairs, docks}
+use Rattle.bike_book.proofs.Keys.{numbers, texts, pairs, triples, docks}
 use Rattle.bike_book.proofs.FoundKeys.{found_listed}
 use Rattle.bike_book.proofs.FoundNumbers.{same_length}
-use Rattle.bike_readings.specs.Readings.{meta_read, system_read, plan_read, segment_read, type_read, region_read, station_read, dock_read, bike_read, truck_read, rider_read, rental_read, order_read, entry_read, kept_read, count_read}
+use Rattle.bike_readings.specs.Readings.{meta_read, system_read, plan_read, segment_read, type_read, region_read, station_read, dock_read, bike_read, truck_read, rider_read, rental_read, order_read, entry_read, kept_read, count_read, name_read}
 use Rattle.bike_readings.proofs.CatalogueRows.{system_reading, segment_reading}
 use Rattle.bike_readings.specs.Bounds.{IsStoredSegment}
 use Rattle.bike_readings.proofs.SoundBounds.{segment_stored}
-use Rattle.bike_readings.specs.Demands.{IsGoodMeta, IsGoodPlan, IsGoodSegment, IsGoodType, IsGoodRegion, IsGoodStation, IsGoodDock, IsGoodPlace, IsGoodBike, IsGoodTruck, IsGoodRider, IsGoodRental, IsGoodOrder, IsGoodEntry, IsGoodKept, IsGoodCount, HasFare, IsOneFare}
+use Rattle.bike_readings.specs.Demands.{IsGoodMeta, IsGoodPlan, IsGoodSegment, IsGoodType, IsGoodRegion, IsGoodStation, IsGoodDock, IsGoodPlace, IsGoodBike, IsGoodTruck, IsGoodRider, IsGoodRental, IsGoodOrder, IsGoodEntry, IsGoodKept, IsGoodCount, IsGoodName, HasFare, IsOneFare}
 use Rattle.bike_readings.specs.ReadOff.{rental_in}
 use Rattle.bike_readings.specs.Rules.{HasNone}
 use Rattle.bike_readings.proofs.ByNumber.{at_number}
 use Rattle.bike_readings.proofs.Places.{lesser, lesser_fewer, lesser_numbered, has_under}
 use Rattle.bike_readings.proofs.ReadBack.{has_numbered}
 use Rattle.bike_readings.proofs.Segments.{row_among}
+use Rattle.bike_readings.proofs.FurtherNames.{name_room}
 use Rattle.bike_readings.proofs.Fares.{fare_passes, fare_among, two_fares}
-use Rattle.bike_readings.proofs.ReadOffBack.{meta_is, plan_is, type_is, region_is, station_is, dock_is, bike_is, truck_is, rider_is, rental_is, order_is, entry_is, kept_is, count_is}
+use Rattle.bike_readings.proofs.ReadOffBack.{meta_is, plan_is, type_is, region_is, station_is, dock_is, bike_is, truck_is, rider_is, rental_is, order_is, entry_is, kept_is, count_is, name_is}
 use Rattle.bike_readings.proofs.RowRules.{some_and, AreGoodRows, LacksNone}
 
 -- ---- rows of maps and of numbered lists
@@ -195,6 +197,16 @@ module _ (s : Operator) (m : Listed) (sound : IsSound s) (listing : IsListing s 
       (count_is s m sound listing k.station k.type_id key k.key_is k.has_station k.has_type)
       (record { has_station = k.has_station; has_type = k.has_type; available_is = refl; disabled_is = refl })
 
+  -- ---- names in further languages
+
+  name_good : (key : NameKey) (name : List ℕ) (below : ℕ) → fin.get s.more_names key ≡ Some name → IsSomeAnd (name_read (stored_name (key, name))) (IsGoodName s below)
+  name_good key name below found =
+      let it = sound.names.names key name found in
+      let here : fin.get s.more_names (name_key it.kind it.id it.language) ≡ Some name = ap (fin.get s.more_names) (sym it.key_is) ∙ found in
+      let few = sound.names.few it.kind it.id in
+      some_and (IsGoodName s below) (name_read (stored_name (key, name))) (it.kind, it.id, record { language = it.language; name = name }) (name_is s m sound listing key name it)
+      (record { set = it.set; named = it.named; further = it.further; room = name_room s it.kind it.id it.language name MOST_FURTHER_NAMES here few })
+
   -- ---- all
 
   pub all_rows_good : AreGoodRows s (tables_for s m)
@@ -256,6 +268,7 @@ module _ (s : Operator) (m : Listed) (sound : IsSound s) (listing : IsListing s 
   all_rows_good KeptTable row has =
       map_good pairs stored_kept kept_read (IsGoodKept s) s.kept (λ k v below found low. some_and (IsGoodKept s below) (kept_read (stored_kept (k, v))) (k, v) (kept_is s m sound listing k v found) (sound.kept k v found)) row has
   all_rows_good Counts row has = map_good pairs (stored_count s) count_read (IsGoodCount s) m.counts (λ k v below found low. count_good k v below found) row has
+  all_rows_good MoreNames row has = map_good triples stored_name name_read (IsGoodName s) s.more_names (λ k v below found low. name_good k v below found) row has
 
   -- ---- what is missing
 
@@ -288,3 +301,4 @@ module _ (s : Operator) (m : Listed) (sound : IsSound s) (listing : IsListing s 
   none_lacking Orders key none = tt
   none_lacking Entries key none = tt
   none_lacking KeptTable key none = tt
+  none_lacking MoreNames key none = tt

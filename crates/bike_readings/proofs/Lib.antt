@@ -10,6 +10,8 @@ mod ReadLemmas
 mod KeptLemmas
 pub mod ReadLists
 pub mod ByNumber
+pub mod Ranks
+pub mod FurtherNames
 pub mod Places
 pub mod ReadBack
 pub mod Segments

@@ -18,7 +18,7 @@ use Rattle.bike_places.proofs.CountLemmas.{count-cons, one}
 use Rattle.bike_book.specs.Stored.{numbers_from, with_numbers}
 use Rattle.bike_book.proofs.MapRows.{BeginsWithKey}
 use Rattle.bike_book.proofs.Keys.{number_key, numbers}
-use Rattle.bike_readings.proofs.Fares.{counted}
+use Rattle.bike_readings.proofs.Ranks as rank
 
 module _ (keys : ℕ) where
   abbrev Up : List Row → Type 0
@@ -64,66 +64,19 @@ module _ (keys : ℕ) where
 
   -- ---- how many have a lesser key
 
-  -- a row that fails a test isn't counted
-  fewer : (test : Row → Bool) (rows : List Row) (r : Row) → Has rows r → test r ≡ false → count test rows < length rows
-  fewer test [] r has fails = elim has [ ]
-  fewer test (x ∷ rows) r (inl is) fails =
-      let out : one (test x) ≡ 0 = ap one (ap test (sym is) ∙ fails) in
-      let c = count-cons test x rows in
-      let rest = counted test rows in
-      omega (arith, out, c, rest)
-  fewer test (x ∷ rows) r (inr later) fails = let rest = fewer test rows r later fails in let c = count-cons test x rows in go (test x) c rest where
-    go : (b : Bool) → count test (x ∷ rows) ≡ one b + count test rows → count test rows < length rows → count test (x ∷ rows) < suc (length rows)
-    go true c rest = omega (arith, c, rest)
-    go false c rest = omega (arith, c, rest)
-
   pub lesser_fewer : (rows : List Row) (r : Row) → Has rows r → lesser (take keys r) rows < length rows
-  lesser_fewer rows r has = fewer (λ row. is_lt (row_cmp (take keys row) (take keys r))) rows r has (ap is_lt (itself r))
-
-  none_lesser : (r : Row) (rows : List Row) → AllByRecursion (λ y. by_key keys r y ≡ Less) rows → lesser (take keys r) rows ≡ 0
-  none_lesser r [] up = refl
-  none_lesser r (x ∷ rows) up =
-      let back : by_key keys x r ≡ Greater = (by_key_total keys).antisymm x r ∙ ap ordering_reverse up.0 in
-      let out : one (is_lt (by_key keys x r)) ≡ 0 = ap (λ (o : Ordering). one (is_lt o)) back in
-      let c = count-cons (λ row. is_lt (row_cmp (take keys row) (take keys r))) x rows in
-      let rest = none_lesser r rows up.1 in
-      omega (arith, out, c, rest)
+  lesser_fewer rows r has = rank.lesser_fewer (by_key_total keys) rows r has
 
   -- the rows that stand before a row are those with lesser keys
   pub lesser_before : (before : List Row) (r : Row) (behind : List Row) → Up (before ++ r ∷ behind) → lesser (take keys r) (before ++ r ∷ behind) ≡ length before
-  lesser_before [] r behind up =
-      let out : one (is_lt (by_key keys r r)) ≡ 0 = ap (λ (o : Ordering). one (is_lt o)) (itself r) in
-      let c = count-cons (λ row. is_lt (row_cmp (take keys row) (take keys r))) r behind in
-      let rest = none_lesser r behind up.0 in
-      omega (arith, out, c, rest)
-  lesser_before (x ∷ before) r behind up =
-      let low : by_key keys x r ≡ Less = all_has (λ y. by_key keys x y ≡ Less) (before ++ r ∷ behind) r up.0 (here before) in
-      let in_it : one (is_lt (by_key keys x r)) ≡ 1 = ap (λ (o : Ordering). one (is_lt o)) low in
-      let c = count-cons (λ row. is_lt (row_cmp (take keys row) (take keys r))) x (before ++ r ∷ behind) in
-      let rest = lesser_before before r behind up.1 in
-      omega (arith, in_it, c, rest)
-    where
-      here : (xs : List Row) → Has (xs ++ r ∷ behind) r
-      here [] = inl refl
-      here (z ∷ xs) = inr (here xs)
+  lesser_before before r behind up = rank.lesser_before (by_key_total keys) before r behind up
 
   pub has_between : (before : List Row) (r : Row) (behind : List Row) → Has (before ++ r ∷ behind) r
-  has_between [] r behind = inl refl
-  has_between (x ∷ before) r behind = inr (has_between before r behind)
-
-  -- ---- limits
+  has_between before r behind = rank.has_between (by_key_total keys) before r behind
 
   -- where each row has fewer than so many before it, there are at most so many
   pub within : (rows : List Row) (most : ℕ) → Up rows → ((r : Row) → Has rows r → lesser (take keys r) rows < most) → length rows ≤ most
-  within rows most up each = go [] rows refl (omega arith) where
-    go : (before rest : List Row) → rows ≡ before ++ rest → length before ≤ most → length rows ≤ most
-    go before [] is few = let e : length rows ≡ length before + 0 = ap length is ∙ length-append before [] in omega (arith, e, few)
-    go before (r ∷ rest) is few =
-        let has : Has rows r = subst (λ (xs : List Row). Has xs r) (sym is) (has_between before r rest) in
-        let room : lesser (take keys r) rows < most = each r has in
-        let at : lesser (take keys r) rows ≡ length before = ap (lesser (take keys r)) is ∙ lesser_before before r rest (subst Up is up) in
-        let more : length (before ++ r ∷ []) ≡ length before + 1 = length-append before (r ∷ []) in
-        go (before ++ r ∷ []) rest (is ∙ sym (append_assoc before (r ∷ []) rest)) (omega (arith, room, at, more))
+  within rows most up each = rank.within (by_key_total keys) rows most up each
 
 -- ---- numbered rows
 

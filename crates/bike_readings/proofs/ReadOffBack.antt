@@ -4,26 +4,27 @@ use Rattle.std.specs.Prelude.{option_map, unwrap_or}
 use Rattle.std.specs.List.{filter_map, cons_option}
 use Rattle.std.specs.FinMap as fin
 use Rattle.std.specs.FinSet as set
-use Rattle.bike_catalogue.specs.Rows.{SegmentRow, PlanRow, TypeRow, RegionRow, SystemRow, IsPlan}
+use Rattle.bike_catalogue.specs.declared.name_kind.NameKind.{NameKind}
+use Rattle.bike_catalogue.specs.Rows.{SegmentRow, PlanRow, TypeRow, RegionRow, MoreNameRow, SystemRow, IsPlan}
 use Rattle.bike_ledger.specs.Entries.{Entry}
 use Rattle.bike_ledger.specs.Ledger.{balance_of, cash_of, revenue_of, refunded_of}
 use Rattle.bike_operator.specs.declared.records.Bike.{Bike}
 use Rattle.bike_operator.specs.declared.records.Rental.{Rental}
 use Rattle.bike_operator.specs.declared.records.Order.{Order}
-use Rattle.bike_operator.specs.Operator.{Operator, Station, Truck, Rider, Kept, Key, DockKey, dock_key, key_of, item_numbered}
+use Rattle.bike_operator.specs.Operator.{Operator, Station, Truck, Rider, Kept, Key, NameKey, DockKey, dock_key, key_of, name_key, item_numbered}
 use Rattle.bike_operator.specs.Counts.{docks_available, docks_broken, available_of}
-use Rattle.bike_operator.specs.Sound.{IsSound, IsSetSystem, HasDock}
+use Rattle.bike_operator.specs.Sound.{IsSound, IsSetSystem, HasDock, IsNameAt}
 use Rattle.bike_places.specs.Numbers.{disabled_of}
 use Rattle.bike_book.specs.declared.version.TheConstants.{NEWEST}
-use Rattle.bike_book.specs.Stored.{Listed, IsListing, tables_for, meta_rows, system_rows, plans_segments, stored_plan, stored_type, stored_region, stored_station, stored_dock, stored_bike, stored_truck, stored_rider, stored_rental, stored_order, stored_entry, stored_kept, stored_count}
-use Rattle.bike_book.proofs.Keys.{numbers, texts, pairs, docks}
-use Rattle.bike_readings.specs.Readings.{meta_read, system_read, plan_read, type_read, region_read, station_read, dock_read, bike_read, truck_read, rider_read, rental_read, order_read, entry_read, kept_read, count_read}
+use Rattle.bike_book.specs.Stored.{Listed, IsListing, tables_for, meta_rows, system_rows, plans_segments, stored_plan, stored_type, stored_region, stored_station, stored_dock, stored_bike, stored_truck, stored_rider, stored_rental, stored_order, stored_entry, stored_kept, stored_count, stored_name}
+use Rattle.bike_book.proofs.Keys.{numbers, texts, pairs, triples, docks}
+use Rattle.bike_readings.specs.Readings.{meta_read, system_read, plan_read, type_read, region_read, station_read, dock_read, bike_read, truck_read, rider_read, rental_read, order_read, entry_read, kept_read, count_read, name_read}
 use Rattle.bike_readings.specs.Bounds.{IsStoredSegment}
-use Rattle.bike_readings.proofs.CatalogueRows.{meta_reading, plan_reading, type_reading, region_reading, station_reading, dock_reading, system_reading}
+use Rattle.bike_readings.proofs.CatalogueRows.{meta_reading, plan_reading, type_reading, region_reading, station_reading, dock_reading, name_reading, system_reading}
 use Rattle.bike_readings.proofs.FleetRows.{bike_reading, truck_reading, order_reading}
 use Rattle.bike_readings.proofs.LedgerRows.{rider_reading, rental_reading, entry_reading, count_reading}
 use Rattle.bike_readings.proofs.KeptRows.{kept_reading}
-use Rattle.bike_readings.specs.ReadOff.{first, moment_of, with_segments, plan_in, station_in, rider_in, rental_in, entry_in, dock_in, count_in, segments_of, operator_of, listed_of, first_of, misplaced_bike, bike_in}
+use Rattle.bike_readings.specs.ReadOff.{first, moment_of, with_segments, plan_in, station_in, rider_in, rental_in, entry_in, name_in, dock_in, count_in, segments_of, operator_of, listed_of, first_of, misplaced_bike, bike_in}
 use Rattle.bike_readings.proofs.ReadBack.{map_back, numbered_back}
 use Rattle.bike_readings.proofs.Segments.{segments_back}
 use Rattle.bike_readings.proofs.Broken.{broken_back}
@@ -104,6 +105,16 @@ module _ (s : Operator) (m : Listed) (sound : IsSound s) (listing : IsListing s 
       ap (λ (q : Key). count_read (stored_count s (q, tt))) is
       ∙ count_reading.full (station, type_id, available_of s station type_id, disabled_of s station type_id) (count_stored s sound station type_id at kind)
 
+  pub name_is : (key : NameKey) (name : List ℕ) (it : IsNameAt s key name) → name_read (stored_name (key, name)) ≡ Some (it.kind, it.id, record { language = it.language; name = name })
+  name_is key name it =
+      ap (λ (k : NameKey). name_read (stored_name (k, name))) it.key_is
+      ∙ name_reading.full (it.kind, it.id, record { language = it.language; name = name }) (record { good_id = it.good_id; good = it.good })
+
+  name_back : (key : NameKey) (name : List ℕ) → fin.get s.more_names key ≡ Some name → name_in (stored_name (key, name)) ≡ Some (key, name)
+  name_back key name found =
+      let it = sound.names.names key name found in
+      ap (option_map (λ (e : NameKind × List ℕ × MoreNameRow). (name_key e.0 e.1 e.2.language, e.2.name))) (name_is key name it) ∙ ap (λ (k : NameKey). Some (k, name)) (sym it.key_is)
+
   -- ---- the whole
 
   system_back : (o : Option SystemRow) → IsSetSystem o → first (filter_map system_read (system_rows o)) ≡ o
@@ -143,6 +154,7 @@ module _ (s : Operator) (m : Listed) (sound : IsSound s) (listing : IsListing s 
       numbered_back entry_in stored_entry s.entries
       (λ n e found. ap (option_map (λ (x : Entry). (x.number, x))) (entry_is n e found) ∙ ap (λ (k : ℕ). Some (k, e)) (sound.ledger.entries n e found).number_is) in
       let kept = map_back pairs kept_read stored_kept s.kept kept_is in
+      let more_names = map_back triples name_in stored_name s.more_names name_back in
       let now = moment_back in
       λ i. record {
         system = system i;
@@ -158,6 +170,7 @@ module _ (s : Operator) (m : Listed) (sound : IsSound s) (listing : IsListing s 
         orders = orders i;
         entries = entries i;
         kept = kept i;
+        more_names = more_names i;
         now = now i;
       }
 

@@ -12,40 +12,45 @@ use Rattle.sqlite_value.specs.declared.value.Value.TheVariants.{Text}
 use Rattle.sqlite_value.specs.Order.{Row}
 use Rattle.sqlite_rules.specs.Lists.{Has}
 use Rattle.bike_rows.specs.View.{row_with}
-use Rattle.bike_catalogue.specs.Rows.{TypeRow, RegionRow}
+use Rattle.bike_fields.specs.Bytes.{is_name}
+use Rattle.bike_catalogue.specs.declared.name_kind.NameKind.{NameKind}
+use Rattle.bike_catalogue.specs.NameKinds.{kind_text}
+use Rattle.bike_catalogue.specs.Rows.{TypeRow, RegionRow, MoreNameRow}
 use Rattle.bike_ledger.specs.Entries.{Entry}
 use Rattle.bike_ledger.specs.declared.entry.EntryKind.{EntryKind}
 use Rattle.bike_ledger.specs.declared.entry.EntryKind.TheVariants.{TopUp, Fare, Refund}
-use Rattle.bike_operator.specs.declared.limits.TheConstants.{MOST_PLANS, MOST_TYPES, MOST_REGIONS, MOST_STATIONS, MOST_BIKES, MOST_TRUCKS, MOST_RIDERS, MOST_ORDERS, MOST_ENTRIES}
+use Rattle.bike_operator.specs.declared.limits.TheConstants.{MOST_PLANS, MOST_TYPES, MOST_REGIONS, MOST_FURTHER_NAMES, MOST_STATIONS, MOST_BIKES, MOST_TRUCKS, MOST_RIDERS, MOST_ORDERS, MOST_ENTRIES}
 use Rattle.bike_operator.specs.declared.records.Place.{Place}
 use Rattle.bike_operator.specs.declared.records.Place.TheVariants as place
 use Rattle.bike_operator.specs.declared.records.Bike.{Bike}
 use Rattle.bike_operator.specs.declared.records.Rental.{Rental}
 use Rattle.bike_operator.specs.declared.records.Closing.{Closing}
 use Rattle.bike_operator.specs.declared.records.Order.{Order}
-use Rattle.bike_operator.specs.Operator.{Operator, Station, Truck, Rider, Kept, Key, DockKey, dock_key, key_of, item_numbered}
+use Rattle.bike_operator.specs.Operator.{Operator, Station, Truck, Rider, Kept, Key, NameKey, DockKey, dock_key, key_of, name_key, item_numbered}
 use Rattle.bike_operator.specs.Counts.{is_open, open_rentals}
-use Rattle.bike_operator.specs.Sound.{IsSound, IsCatalogueSound, AreBikesSound, AreOrdersSound, AreRentalsSound, IsLedgerSound, IsTypeAt, IsRegionAt, IsStationAt, HasDock, IsBrokenDock, IsBikeAt, IsPlace, IsTruckAt, IsOrderAt, IsRentalAt, IsRiderNumber, IsEntryAt, IsKept as IsKeptAt, fares_of, fares_in}
+use Rattle.bike_operator.specs.Names.{part_at}
+use Rattle.bike_operator.specs.Sound.{IsSound, IsCatalogueSound, AreNamesSound, IsNameAt, AreBikesSound, AreOrdersSound, AreRentalsSound, IsLedgerSound, IsTypeAt, IsRegionAt, IsStationAt, HasDock, IsBrokenDock, IsBikeAt, IsPlace, IsTruckAt, IsOrderAt, IsRentalAt, IsRiderNumber, IsEntryAt, IsKept as IsKeptAt, fares_of, fares_in}
 use Rattle.bike_places.proofs.MapLemmas.{there_of}
-use Rattle.bike_book.specs.Tables.{TableName, Tables, keys_of, Meta, Plans, Types, Regions, Stations, Docks, Bikes, Trucks, Riders, Rentals, Orders, Entries, Kept as KeptTable, Counts}
+use Rattle.bike_book.specs.Tables.{TableName, Tables, keys_of, Meta, Plans, Types, Regions, Stations, Docks, Bikes, Trucks, Riders, Rentals, Orders, Entries, Kept as KeptTable, Counts, MoreNames}
 use Rattle.bike_book.specs.Rows.{number_value}
 use Rattle.bike_book.specs.Stored.{IsListing, IsDockKey, IsCountKey, tables_for, stored_plan, stored_type, stored_region, stored_station, stored_bike, stored_truck, stored_rider, stored_rental, stored_order, stored_count}
 use Rattle.bike_book.proofs.MapRows.{found_entries, has_get}
-use Rattle.bike_book.proofs.Keys.{numbers, texts, pairs, docks, IsPair}
-use Rattle.bike_readings.specs.Readings.{type_read, region_read, station_read, dock_read, bike_read, truck_read, rider_read, rental_read, order_read, entry_read, kept_read, count_read, plan_read}
-use Rattle.bike_readings.proofs.CatalogueRows.{region_reading}
+use Rattle.bike_book.proofs.Keys.{numbers, texts, pairs, docks, IsPair, IsTriple}
+use Rattle.bike_readings.specs.Readings.{type_read, region_read, station_read, dock_read, bike_read, truck_read, rider_read, rental_read, order_read, entry_read, kept_read, count_read, name_read, plan_read}
+use Rattle.bike_readings.proofs.CatalogueRows.{region_reading, name_reading}
 use Rattle.bike_readings.proofs.LedgerRows.{rental_reading}
 use Rattle.bike_readings.specs.ReadOff.{plan_in, station_in, rider_in, rental_in, dock_in, operator_of, listed_of, first_of, misplaced_bike, bike_in}
-use Rattle.bike_readings.specs.Demands.{IsGoodPlan, IsGoodType, IsGoodRegion, IsGoodStation, IsGoodDock, IsGoodPlace, IsGoodBike, IsGoodTruck, IsGoodRider, IsGoodRental, IsGoodOrder, IsGoodEntry, IsGoodKept, IsGoodCount, IsRiding, HasFare, IsFareOf, IsFirstFare, IsOneFare}
+use Rattle.bike_readings.specs.Demands.{IsGoodPlan, IsGoodType, IsGoodRegion, IsGoodStation, IsGoodDock, IsGoodPlace, IsGoodBike, IsGoodTruck, IsGoodRider, IsGoodRental, IsGoodOrder, IsGoodEntry, IsGoodKept, IsGoodCount, IsGoodName, names_before, IsRiding, HasFare, IsFareOf, IsFirstFare, IsOneFare}
 use Rattle.bike_readings.specs.Rules.{AreInOrder, rows_below, HasNone, AreOf}
 use Rattle.bike_readings.proofs.ReadLists.{has_read}
 use Rattle.bike_readings.proofs.ByNumber.{at_number}
 use Rattle.bike_readings.proofs.Places.{within}
 use Rattle.bike_readings.proofs.Broken.{broken_has}
+use Rattle.bike_readings.proofs.FurtherNames.{same_kind, name_parts, IsNameIn, few_names}
 use Rattle.bike_readings.proofs.Fares.{counted, is_fare_of, fare_parts, no_fares, one_fare, rentals_few}
 use Rattle.bike_readings.proofs.RowRules.{some_with, some_is, AreGoodRows, LacksNone}
 use Rattle.bike_readings.proofs.ReadRows.{mapped, few_in, IsMeta, meta_are}
-use Rattle.bike_readings.proofs.TablesRead.{system_table, plans_table, plan_read_off, segments_table, types_table, regions_table, stations_table, docks_table, counts_table, bikes_table, trucks_table, riders_table, kept_table, rentals_table, orders_table, entries_table}
+use Rattle.bike_readings.proofs.TablesRead.{system_table, plans_table, plan_read_off, segments_table, types_table, regions_table, stations_table, docks_table, counts_table, bikes_table, trucks_table, riders_table, kept_table, names_table, rentals_table, orders_table, entries_table}
 
 module _ (t : Tables) (up : AreInOrder t) (rows : AreGoodRows (operator_of t) t) where
   abbrev s : Operator
@@ -133,6 +138,54 @@ module _ (t : Tables) (up : AreInOrder t) (rows : AreGoodRows (operator_of t) t)
   kept_fact key k found =
       let at = (kept_table t up rows).found key k found in
       some_is (IsGoodKept s (below_of KeptTable at.item)) (kept_read at.item) (key, k) (rows KeptTable at.item at.has) at.read_is
+
+  -- a further name of what is there, and that it is within the limit
+  record IsWithinLimit (key : NameKey) (name : List ℕ) : Type 0 where
+    at : IsNameAt s key name
+    room : length (names_before s at.kind at.id at.language) < MOST_FURTHER_NAMES
+
+  name_fact : (key : NameKey) (name : List ℕ) → fin.get s.more_names key ≡ Some name → IsWithinLimit key name
+  name_fact key name found =
+      let row = (names_table t up rows).found key name found in
+      let it = mapped (λ (e : NameKind × List ℕ × MoreNameRow). (name_key e.0 e.1 e.2.language, e.2.name)) (name_read row.item) (key, name) row.read_is in
+      let law = (name_reading.sound row.item it.value it.value_is).1 in
+      let fact = some_is (IsGoodName s (below_of MoreNames row.item)) (name_read row.item) it.value (rows MoreNames row.item row.has) it.value_is in
+      let name_is : name ≡ it.value.2.name = ap (λ (e : NameKey × List ℕ). e.1) (sym it.part_is) in
+      record {
+        at = record {
+          kind = it.value.0;
+          id = it.value.1;
+          language = it.value.2.language;
+          key_is = ap (λ (e : NameKey × List ℕ). e.0) (sym it.part_is);
+          good_id = law.good_id;
+          good = record { language = law.good.language; name = ap is_name name_is ∙ law.good.name };
+          set = fact.set;
+          named = fact.named;
+          further = fact.further;
+        };
+        room = fact.room;
+      }
+
+  key_triple : (key : NameKey) (name : List ℕ) → IsNameAt s key name → IsTriple key
+  key_triple key name at = record { first = kind_text at.kind; second = at.id; third = at.language; is = at.key_is }
+
+  -- each further name of a thing has room among them
+  name_room : (kind : NameKind) (id : List ℕ) (m : MoreNameRow) → IsNameIn s kind id m → length (names_before s kind id m.language) < MOST_FURTHER_NAMES
+  name_room kind id m it =
+      let fact = name_fact it.key m.name it.found in
+      let parts = name_parts kind id it.key (key_triple it.key m.name fact.at) it.named in
+      let kind_is = same_kind fact.at.kind kind parts.0 in
+      let id_is = parts.1 in
+      let language_is : fact.at.language ≡ m.language = ap (λ (k : NameKey). part_at k 2) (sym fact.at.key_is) ∙ sym it.language_is in
+      let same : length (names_before s fact.at.kind fact.at.id fact.at.language) ≡ length (names_before s kind id m.language) = λ i. length (names_before s (kind_is i) (id_is i) (language_is i)) in
+      let room = fact.room in
+      omega (arith, same, room)
+
+  pub names_sound : AreNamesSound s
+  names_sound = record {
+    names = λ key name found. (name_fact key name found).at;
+    few = λ kind id. few_names s kind id (λ key name found. key_triple key name (name_fact key name found).at) MOST_FURTHER_NAMES (name_room kind id);
+  }
 
   -- ---- the catalogue and the fleet
 
@@ -353,7 +406,7 @@ module _ (t : Tables) (up : AreInOrder t) (rows : AreGoodRows (operator_of t) t)
     meta = meta_are s t.meta (up Meta) (λ r has. (below_of Meta r, rows Meta r has)) (λ none. lacks Meta (number_value 1 ∷ []) none refl)
 
     sound : IsSound s
-    sound = record { catalogue = catalogue_sound; bikes = bikes_sound; orders = orders_sound; rentals = rentals_sound; ledger = ledger_sound; kept = kept_fact; now = meta.by_last }
+    sound = record { catalogue = catalogue_sound; bikes = bikes_sound; orders = orders_sound; rentals = rentals_sound; ledger = ledger_sound; kept = kept_fact; names = names_sound; now = meta.by_last }
 
     tables : t ≡ tables_for s (listed_of t)
     tables =
@@ -373,6 +426,7 @@ module _ (t : Tables) (up : AreInOrder t) (rows : AreGoodRows (operator_of t) t)
         let entries = (entries_table t up rows).rows_are in
         let kept = (kept_table t up rows).rows_are in
         let counts = (counts_table t up rows).rows_are in
+        let more_names = (names_table t up rows).rows_are in
         λ i. record {
           meta = meta_rows i;
           system = system i;
@@ -390,6 +444,7 @@ module _ (t : Tables) (up : AreInOrder t) (rows : AreGoodRows (operator_of t) t)
           entries = entries i;
           kept = kept i;
           counts = counts i;
+          more_names = more_names i;
         }
 
     pub are_of : AreOf t s (listed_of t)

@@ -15,7 +15,7 @@ use Rattle.bike_rows.specs.Stands.{rows_of}
 use Rattle.bike_rows.proofs.OrderLemmas.{Rises, rises}
 use Rattle.bike_rows.proofs.TreeLemmas.{by_key_total}
 use Rattle.bike_operator.specs.Operator.{Operator}
-use Rattle.bike_book.specs.Tables.{TableName, Tables, rows_in as rows_in_tables, tables_by, keys_of, table_place, Meta, System, Plans, Segments, Types, Regions, Stations, Docks, Bikes, Trucks, Riders, Rentals, Orders, Entries, Kept, Counts}
+use Rattle.bike_book.specs.Tables.{TableName, Tables, rows_in as rows_in_tables, tables_by, keys_of, table_place, Meta, System, Plans, Segments, Types, Regions, Stations, Docks, Bikes, Trucks, Riders, Rentals, Orders, Entries, Kept, Counts, MoreNames}
 use Rattle.bike_book.specs.Stored.{tables_for}
 use Rattle.sqlite_trees.specs.Tree.{Trees}
 use Rattle.bike_schema.specs.Layouts.{name_of}
@@ -67,7 +67,8 @@ table_at (suc (suc (suc (suc (suc (suc (suc (suc (suc (suc (suc zero))))))))))) 
 table_at (suc (suc (suc (suc (suc (suc (suc (suc (suc (suc (suc (suc zero)))))))))))) = Orders
 table_at (suc (suc (suc (suc (suc (suc (suc (suc (suc (suc (suc (suc (suc zero))))))))))))) = Entries
 table_at (suc (suc (suc (suc (suc (suc (suc (suc (suc (suc (suc (suc (suc (suc zero)))))))))))))) = Kept
-table_at (suc (suc (suc (suc (suc (suc (suc (suc (suc (suc (suc (suc (suc (suc (suc n))))))))))))))) = Counts
+table_at (suc (suc (suc (suc (suc (suc (suc (suc (suc (suc (suc (suc (suc (suc (suc zero))))))))))))))) = Counts
+table_at (suc (suc (suc (suc (suc (suc (suc (suc (suc (suc (suc (suc (suc (suc (suc (suc n)))))))))))))))) = MoreNames
 
 its_own : (name : TableName) → table_at (table_place name) ≡ name
 unfolding table_at
@@ -87,6 +88,7 @@ its_own Orders = refl
 its_own Entries = refl
 its_own Kept = refl
 its_own Counts = refl
+its_own MoreNames = refl
 
 module _ (t : Tables) (a b : TableName) (k l : Row) (first : IsFirstBad t a k) (other : IsFirstBad t b l) where
   same_table : (o : Ordering) → o ≡ nat_cmp (table_place a) (table_place b) → a ≡ b
@@ -134,6 +136,7 @@ rows_by rows Orders = refl
 rows_by rows Entries = refl
 rows_by rows Kept = refl
 rows_by rows Counts = refl
+rows_by rows MoreNames = refl
 
 pub stored_in_order : StoredInOrder
 stored_in_order db name =

@@ -2,7 +2,8 @@
 use Rattle.std.proofs.Common.{◌≡◌, ℕ, zero, suc, ◌+◌, ◌≤◌, List, [], ◌∷◌, length, filter, Bool, true, false, cond, Option, Some, None, is_some, refl, sym, ap, ◌∙◌, subst, arith}
 use Rattle.std.specs.FinMap as fin
 use Rattle.std.proofs.lemmas.List.{length-append}
-use Rattle.bike_fields.specs.Bytes.{is_ident}
+use Rattle.bike_fields.specs.Bytes.{is_ident, is_language}
+use Rattle.bike_catalogue.specs.declared.name_kind.NameKind.{NameKind}
 use Rattle.bike_catalogue.specs.Rows.{SegmentRow, PlanRow, TypeRow, RegionRow, SystemRow, IsSystem}
 use Rattle.bike_ledger.specs.Entries.{Entry}
 use Rattle.bike_ledger.specs.declared.entry.EntryKind.{EntryKind}
@@ -16,15 +17,16 @@ use Rattle.bike_operator.specs.declared.records.Bike.{Bike}
 use Rattle.bike_operator.specs.declared.records.Rental.{Rental}
 use Rattle.bike_operator.specs.declared.records.Closing.{Closing}
 use Rattle.bike_operator.specs.declared.records.Order.{Order}
-use Rattle.bike_operator.specs.Operator.{Operator, Station, Truck, Rider, item_at, item_numbered}
+use Rattle.bike_operator.specs.Operator.{Operator, Station, Truck, Rider, NameKey, name_key, item_at, item_numbered}
 use Rattle.bike_operator.specs.Counts.{count, docks_up_to, docks_broken, available_of, is_broken}
 use Rattle.bike_operator.specs.View.{has_end, has_region}
 use Rattle.bike_operator.specs.Sound.{IsSetSystem, HasDock, IsPlace, IsStop, IsOpenOrClosed, IsBooking, IsSound}
 use Rattle.bike_places.specs.Numbers.{disabled_of}
 use Rattle.bike_places.proofs.ItemLemmas.{number_within}
 use Rattle.bike_book.specs.declared.version.TheConstants.{NEWEST}
+use Rattle.bike_book.specs.Rows.{second_text, third_text}
 use Rattle.bike_readings.specs.SoundRows.{HasBounds}
-use Rattle.bike_readings.specs.Bounds.{IsNumbered, IsSerial, IsCount, IsMoment, IsIdentOrNone, IsStoredMeta, IsStoredPlan, IsStoredSegment, IsStoredType, IsStoredRegion, IsStoredStation, IsStoredDock, IsStoredPlace, IsStoredBike, IsStoredTruck, IsOpenOrStored, IsStoredRental, IsStoredOrder, IsStoredRentalOf, IsStoredAmount, IsStoredEntry, IsStoredCount}
+use Rattle.bike_readings.specs.Bounds.{IsNumbered, IsSerial, IsCount, IsMoment, IsIdentOrNone, IsStoredMeta, IsStoredPlan, IsStoredSegment, IsStoredType, IsStoredRegion, IsStoredStation, IsStoredDock, IsStoredPlace, IsStoredBike, IsStoredTruck, IsOpenOrStored, IsStoredRental, IsStoredOrder, IsStoredRentalOf, IsStoredAmount, IsStoredEntry, IsStoredCount, IsStoredName}
 
 -- ---- what is there
 
@@ -250,6 +252,13 @@ module _ (s : Operator) (sound : IsSound s) where
   count_stored station type_id there typed =
       record { good_station = station_ident station there; good_type = type_ident type_id typed; good_available = few_bikes _; good_disabled = few_bikes _ }
 
+  pub name_stored : (kind : NameKind) (id language name : List ℕ) → fin.get s.more_names (name_key kind id language) ≡ Some name → IsStoredName id (record { language = language; name = name })
+  name_stored kind id language name found =
+      let it = sound.names.names (name_key kind id language) name found in
+      let same_id : id ≡ it.id = ap second_text it.key_is in
+      let same_language : language ≡ it.language = ap third_text it.key_is in
+      record { good_id = ap is_ident same_id ∙ it.good_id; good = record { language = ap is_language same_language ∙ it.good.language; name = it.good.name } }
+
 pub has_bounds : (s : Operator) → IsSound s → HasBounds s
 has_bounds s sound = record {
   meta = meta_stored s sound;
@@ -267,4 +276,5 @@ has_bounds s sound = record {
   orders = order_stored s sound;
   entries = entry_stored s sound;
   counts = count_stored s sound;
+  more_names = name_stored s sound;
 }

@@ -4,23 +4,25 @@ use Rattle.std.specs.Prelude.{option_map, take}
 use Rattle.std.specs.FinMap as fin
 use Rattle.sqlite_value.specs.Order.{Row}
 use Rattle.sqlite_rules.specs.Lists.{Has}
-use Rattle.bike_catalogue.specs.Rows.{SegmentRow, PlanRow, IsSegment, IsPlan}
+use Rattle.bike_catalogue.specs.declared.name_kind.NameKind.{NameKind}
+use Rattle.bike_catalogue.specs.NameKinds.{kind_text}
+use Rattle.bike_catalogue.specs.Rows.{SegmentRow, PlanRow, MoreNameRow, IsSegment, IsPlan}
 use Rattle.bike_ledger.specs.Entries.{Entry}
 use Rattle.bike_texts.specs.Fields.{AreSegments}
 use Rattle.bike_operator.specs.declared.records.Bike.{Bike}
 use Rattle.bike_operator.specs.declared.records.Rental.{Rental}
-use Rattle.bike_operator.specs.Operator.{Operator, Key, DockKey, dock_key, key_of, item_at}
+use Rattle.bike_operator.specs.Operator.{Operator, Key, NameKey, DockKey, dock_key, key_of, name_key, item_at}
 use Rattle.bike_operator.specs.Sound.{IsPlanAt}
-use Rattle.bike_book.specs.Tables.{Tables, System, Plans, Segments, Types, Regions, Stations, Docks, Bikes, Trucks, Riders, Rentals, Orders, Entries, Kept, Counts, TableName, keys_of}
-use Rattle.bike_book.specs.Stored.{plans_segments, stored_plan, stored_type, stored_region, stored_station, stored_dock, stored_bike, stored_truck, stored_rider, stored_rental, stored_order, stored_entry, stored_kept, stored_count}
-use Rattle.bike_book.proofs.Keys.{numbers, texts, pairs, docks, IsPair, IsDockPair}
-use Rattle.bike_readings.specs.Readings.{plan_read, segment_read, type_read, region_read, dock_read, truck_read, rental_read, order_read, entry_read, kept_read, count_read}
-use Rattle.bike_readings.proofs.CatalogueRows.{plan_reading, segment_reading, type_reading, region_reading, station_reading, dock_reading}
+use Rattle.bike_book.specs.Tables.{Tables, System, Plans, Segments, Types, Regions, Stations, Docks, Bikes, Trucks, Riders, Rentals, Orders, Entries, Kept, Counts, MoreNames, TableName, keys_of}
+use Rattle.bike_book.specs.Stored.{plans_segments, stored_plan, stored_type, stored_region, stored_station, stored_dock, stored_bike, stored_truck, stored_rider, stored_rental, stored_order, stored_entry, stored_kept, stored_count, stored_name}
+use Rattle.bike_book.proofs.Keys.{numbers, texts, pairs, triples, docks, IsPair, IsTriple, IsDockPair}
+use Rattle.bike_readings.specs.Readings.{plan_read, segment_read, type_read, region_read, dock_read, truck_read, rental_read, order_read, entry_read, kept_read, count_read, name_read}
+use Rattle.bike_readings.proofs.CatalogueRows.{plan_reading, segment_reading, type_reading, region_reading, station_reading, dock_reading, name_reading}
 use Rattle.bike_readings.proofs.LedgerRows.{count_reading, rider_reading, rental_reading, entry_reading}
 use Rattle.bike_readings.proofs.FleetRows.{bike_reading, truck_reading, order_reading}
 use Rattle.bike_readings.proofs.KeptRows.{kept_reading}
-use Rattle.bike_readings.specs.ReadOff.{with_segments, plan_in, station_in, rider_in, rental_in, entry_in, dock_in, count_in, segments_of, most_segments, operator_of, listed_of, first_of, misplaced_bike, bike_in}
-use Rattle.bike_readings.specs.Demands.{IsGoodPlan, IsGoodSegment, IsGoodType, IsGoodRegion, IsGoodStation, IsGoodDock, IsGoodBike, IsGoodTruck, IsGoodRider, IsGoodRental, IsGoodOrder, IsGoodEntry, IsGoodKept, IsGoodCount}
+use Rattle.bike_readings.specs.ReadOff.{with_segments, plan_in, station_in, rider_in, rental_in, entry_in, name_in, dock_in, count_in, segments_of, most_segments, operator_of, listed_of, first_of, misplaced_bike, bike_in}
+use Rattle.bike_readings.specs.Demands.{IsGoodPlan, IsGoodSegment, IsGoodType, IsGoodRegion, IsGoodStation, IsGoodDock, IsGoodBike, IsGoodTruck, IsGoodRider, IsGoodRental, IsGoodOrder, IsGoodEntry, IsGoodKept, IsGoodCount, IsGoodName}
 use Rattle.bike_readings.specs.Rules.{AreInOrder, rows_below}
 use Rattle.bike_readings.proofs.ReadLists.{IsStored, AreRowsOf, read_map}
 use Rattle.bike_readings.proofs.Segments.{IsOfPlan, segments_are, item_found, segment_found, few_found}
@@ -154,6 +156,19 @@ module _ (t : Tables) (up : AreInOrder t) (rows : AreGoodRows (operator_of t) t)
 
   pub kept_table : AreRowsOf pairs stored_kept (λ e. refl) kept_read t.kept s.kept
   kept_table = read_map pairs stored_kept (λ e. refl) kept_read t.kept (up Kept) (λ r has. stored_plain kept_reading (IsGoodKept s (below_of Kept r)) r (rows Kept r has)) kept_pair
+
+  -- ---- names in further languages
+
+  triple_read : (r : Row) (e : NameKey × List ℕ) → Has t.more_names r → name_in r ≡ Some e → IsTriple e.0
+  triple_read r e has is =
+      let it = mapped (λ (x : NameKind × List ℕ × MoreNameRow). (name_key x.0 x.1 x.2.language, x.2.name)) (name_read r) e is in
+      record { first = kind_text it.value.0; second = it.value.1; third = it.value.2.language; is = ap (λ (x : NameKey × List ℕ). x.0) (sym it.part_is) }
+
+  pub names_table : AreRowsOf triples stored_name (λ e. refl) name_in t.more_names s.more_names
+  names_table =
+      read_map triples stored_name (λ e. refl) name_in t.more_names (up MoreNames)
+      (λ r has. stored_part name_reading (λ e. (name_key e.0 e.1 e.2.language, e.2.name)) stored_name (IsGoodName s (below_of MoreNames r)) r (rows MoreNames r has) (λ a is fact. refl))
+      triple_read
 
   -- ---- rentals, orders, entries
 

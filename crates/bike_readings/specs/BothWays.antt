@@ -1,18 +1,19 @@
 -- Readings are exact: what is read of a row is that of which the row is made, within its bounds, and each record within its bounds is read of its row.
 use Rattle.std.specs.Prelude.{◌≡◌, ℕ, ℤ, List, [], Bool, Option, Some}
 use Rattle.sqlite_value.specs.Order.{Row}
-use Rattle.bike_catalogue.specs.Rows.{SegmentRow, PlanRow, TypeRow, RegionRow, IsSystem}
+use Rattle.bike_catalogue.specs.Rows.{SegmentRow, PlanRow, TypeRow, RegionRow, MoreNameRow, IsSystem}
+use Rattle.bike_catalogue.specs.declared.name_kind.NameKind.{NameKind}
 use Rattle.bike_commands.specs.Commands.{text_of}
 use Rattle.bike_commands.specs.Replies.{reply_text}
 use Rattle.bike_ledger.specs.Entries.{Entry}
 use Rattle.bike_operator.specs.declared.records.Bike.{Bike}
 use Rattle.bike_operator.specs.declared.records.Rental.{Rental}
 use Rattle.bike_operator.specs.declared.records.Order.{Order}
-use Rattle.bike_operator.specs.Operator.{Station, Truck, Rider, Key, Kept}
+use Rattle.bike_operator.specs.Operator.{Station, Truck, Rider, Key, Kept, name_key}
 use Rattle.bike_operator.specs.Sound.{IsKept}
-use Rattle.bike_book.specs.Rows.{meta_row, system_row, plan_row, segment_row, type_row, region_row, station_row, dock_row, bike_row, truck_row, rider_row, rental_row, order_row, entry_row, kept_row, count_row, first_text, second_text}
-use Rattle.bike_readings.specs.Readings.{meta_read, system_read, plan_read, segment_read, type_read, region_read, station_read, dock_read, bike_read, truck_read, rider_read, rental_read, order_read, entry_read, kept_read, count_read}
-use Rattle.bike_readings.specs.Bounds.{IsNumbered, IsStoredMeta, IsStoredPlan, IsStoredSegment, IsStoredType, IsStoredRegion, IsStoredStation, IsStoredDock, IsStoredBike, IsStoredTruck, IsStoredRental, IsStoredOrder, IsStoredEntry, IsStoredCount}
+use Rattle.bike_book.specs.Rows.{meta_row, system_row, plan_row, segment_row, type_row, region_row, station_row, dock_row, bike_row, truck_row, rider_row, rental_row, order_row, entry_row, kept_row, count_row, name_row, first_text, second_text}
+use Rattle.bike_readings.specs.Readings.{meta_read, system_read, plan_read, segment_read, type_read, region_read, station_read, dock_read, bike_read, truck_read, rider_read, rental_read, order_read, entry_read, kept_read, count_read, name_read}
+use Rattle.bike_readings.specs.Bounds.{IsNumbered, IsStoredMeta, IsStoredPlan, IsStoredSegment, IsStoredType, IsStoredRegion, IsStoredStation, IsStoredDock, IsStoredBike, IsStoredTruck, IsStoredRental, IsStoredOrder, IsStoredEntry, IsStoredCount, IsStoredName}
 
 -- The reader gives exactly the values within their bounds of which rows are made.
 pub record IsReading {X : Type 0} (read : Row → Option X) (row_of : X → Row) (Good : X → Type 0) : Type 0 where
@@ -64,6 +65,10 @@ EntryReading = IsReading entry_read (λ (e : Entry). entry_row e.number e) IsSto
 
 abbrev pub CountReading : Type 0
 CountReading = IsReading count_read (λ (x : List ℕ × List ℕ × ℕ × ℕ). count_row x.0 x.1 x.2 x.3) (λ x. IsStoredCount x.0 x.1 x.2 x.3)
+
+-- a name under what has it and its language
+abbrev pub NameReading : Type 0
+NameReading = IsReading name_read (λ (x : NameKind × List ℕ × MoreNameRow). name_row (name_key x.0 x.1 x.2.language) x.2.name) (λ x. IsStoredName x.1 x.2)
 
 -- a kept request under the texts of its caller and key
 abbrev pub KeptReading : Type 0

@@ -3,7 +3,7 @@ use Rattle.std.specs.Prelude.{◌≡◌, ℕ, ℤ, pos, ◌≤◌, ◌≤ℤ◌,
 use Rattle.bike_fixed.specs.Whole.{last_moment}
 use Rattle.bike_fields.specs.declared.numbers.TheConstants.{GREATEST_NUMBER, GREATEST_SERIAL, MOST_CARRIED, MOST_DOCKS}
 use Rattle.bike_fields.specs.Bytes.{is_ident}
-use Rattle.bike_catalogue.specs.Rows.{SegmentRow, PlanRow, TypeRow, RegionRow, IsSegment, IsPlan, IsType, IsStation, IsRegion}
+use Rattle.bike_catalogue.specs.Rows.{SegmentRow, PlanRow, TypeRow, RegionRow, MoreNameRow, IsSegment, IsPlan, IsType, IsStation, IsRegion, IsMoreName}
 use Rattle.bike_ledger.specs.Entries.{Entry, greatest_amount}
 use Rattle.bike_ledger.specs.declared.entry.EntryKind.{EntryKind}
 use Rattle.bike_ledger.specs.declared.entry.EntryKind.TheVariants.{TopUp, Fare, Refund}
@@ -148,3 +148,7 @@ pub record IsStoredCount (station type_id : List ℕ) (available disabled : ℕ)
   pub good_type : is_ident type_id ≡ true
   pub good_available : IsCount available
   pub good_disabled : IsCount disabled
+
+pub record IsStoredName (id : List ℕ) (m : MoreNameRow) : Type 0 where
+  pub good_id : is_ident id ≡ true
+  pub good : IsMoreName m

@@ -15,6 +15,8 @@ use Rattle.bike_fields.specs.declared.caller.Caller.{Caller}
 use Rattle.bike_catalogue.specs.declared.vehicle.Form.{Form}
 use Rattle.bike_catalogue.specs.declared.vehicle.Propulsion.{Propulsion}
 use Rattle.bike_catalogue.specs.Vehicle.{form_of, propulsion_of}
+use Rattle.bike_catalogue.specs.declared.name_kind.NameKind.{NameKind}
+use Rattle.bike_catalogue.specs.NameKinds.{kind_of as named_kind_of}
 use Rattle.bike_ledger.specs.Entries.{greatest_amount}
 use Rattle.bike_ledger.specs.declared.entry.EntryKind.{EntryKind}
 use Rattle.bike_ledger.specs.declared.entry.EntryKind.TheVariants.{TopUp, Fare, Refund}
@@ -58,6 +60,10 @@ form_in v = text_in v >>= form_of
 
 abbrev pub propulsion_in : Value → Option Propulsion
 propulsion_in v = text_in v >>= propulsion_of
+
+-- the word for what has a name in a further language
+abbrev pub named_kind_in : Value → Option NameKind
+named_kind_in v = text_in v >>= named_kind_of
 
 -- an end of an order: * for the depot, or a station's identifier
 abbrev pub end_in : Value → Option OrderEnd

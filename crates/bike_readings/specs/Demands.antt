@@ -2,6 +2,9 @@
 -- lesser key. Which row is to blame where the operator is not sound:
 --
 --   a name that stands for no record, a bound of a record       the row that has it
+--   a further name where no system is set                       the row of the name
+--   a further name in the language of the system                the row of the name
+--   more further names of one thing than there may be           the first past the limit
 --   a count of records over its limit                           the first row past it
 --   a missing dock of a row of docks                            the row of docks
 --   two bicycles in one dock                                    the later bicycle
@@ -17,23 +20,26 @@
 --   delivered and bicycles on the truck over the count          the order
 --   entries and open rentals over their limit                   the first entry past it
 --   a number stored beside a record that isn't the figure       the row that has it
-use Rattle.std.specs.Prelude.{◌≡◌, ℕ, ℤ, ◌+◌, ◌<◌, ◌≤◌, ◌≤ℤ◌, pos, List, Bool, true, length, Option, Some, None}
+use Rattle.std.specs.Prelude.{◌≡◌, ℕ, ℤ, ◌+◌, ◌<◌, ◌≤◌, ◌≤ℤ◌, pos, List, Bool, true, false, filter, length, Option, Some, None, is_some}
+use Rattle.std.specs.Ordering.{is_lt}
 use Rattle.std.specs.FinMap as fin
 use Rattle.bike_fields.specs.declared.numbers.TheConstants.{GREATEST_NUMBER}
-use Rattle.bike_catalogue.specs.Rows.{SegmentRow, PlanRow, TypeRow, RegionRow}
+use Rattle.bike_catalogue.specs.Rows.{SegmentRow, PlanRow, TypeRow, RegionRow, MoreNameRow}
+use Rattle.bike_catalogue.specs.declared.name_kind.NameKind.{NameKind}
 use Rattle.bike_ledger.specs.Entries.{Entry}
 use Rattle.bike_ledger.specs.declared.entry.EntryKind.{EntryKind}
 use Rattle.bike_ledger.specs.declared.entry.EntryKind.TheVariants.{TopUp, Fare, Refund}
 use Rattle.bike_ledger.specs.Ledger.{balance_of, cash_of, revenue_of, refunded_of}
-use Rattle.bike_operator.specs.declared.limits.TheConstants.{MOST_PLANS, MOST_TYPES, MOST_REGIONS, MOST_STATIONS, MOST_BIKES, MOST_TRUCKS, MOST_RIDERS, MOST_ORDERS, MOST_ENTRIES}
+use Rattle.bike_operator.specs.declared.limits.TheConstants.{MOST_PLANS, MOST_TYPES, MOST_REGIONS, MOST_FURTHER_NAMES, MOST_STATIONS, MOST_BIKES, MOST_TRUCKS, MOST_RIDERS, MOST_ORDERS, MOST_ENTRIES}
 use Rattle.bike_operator.specs.declared.records.Place.{Place}
 use Rattle.bike_operator.specs.declared.records.Place.TheVariants as place
 use Rattle.bike_operator.specs.declared.records.Bike.{Bike}
 use Rattle.bike_operator.specs.declared.records.Rental.{Rental}
 use Rattle.bike_operator.specs.declared.records.Closing.{Closing}
 use Rattle.bike_operator.specs.declared.records.Order.{Order}
-use Rattle.bike_operator.specs.Operator.{Operator, Station, Truck, Rider, Kept, Key, item_numbered}
+use Rattle.bike_operator.specs.Operator.{Operator, Station, Truck, Rider, Kept, Key, text_cmp, item_numbered}
 use Rattle.bike_operator.specs.Counts.{is_open, is_retired, open_rentals, docks_available, docks_broken, available_of}
+use Rattle.bike_operator.specs.Names.{has_named, is_own_language, further_names}
 use Rattle.bike_operator.specs.Sound.{IsTypeAt, IsStationAt, HasDock, IsTruckAt, IsOrderAt, IsOpenOrClosed, most_refunded, fares_of, IsRiderNumber, IsEntryAt, IsKept}
 use Rattle.bike_places.specs.Numbers.{disabled_of}
 use Rattle.bike_book.specs.declared.version.TheConstants.{NEWEST}
@@ -46,6 +52,10 @@ module _ (s : Operator) where
   IsAloneInDock number b =
       (other : ℕ) (x : Bike) (station : List ℕ) (dock : ℕ) → other < number → fin.get s.bikes other ≡ Some x
       → x.place ≡ place.Dock station dock → b.place ≡ place.Dock station dock → ⊥
+
+  -- the further names of the same thing in lesser languages
+  abbrev pub names_before : NameKind → List ℕ → List ℕ → List MoreNameRow
+  names_before kind id language = filter (λ m. is_lt (text_cmp m.language language)) (further_names s kind id)
 
   -- an open rental of the rider, with its number
   pub record IsRiding (rider number : ℕ) : Type 0 where
@@ -144,6 +154,13 @@ module _ (s : Operator) (below : ℕ) where
 
   abbrev pub IsGoodDock : List ℕ × ℕ × Bool → Type 0
   IsGoodDock e = HasDock s e.0 e.1
+
+  -- of something that is there, in a language that isn't the system's
+  pub record IsGoodName (e : NameKind × List ℕ × MoreNameRow) : Type 0 where
+    pub set : is_some s.system ≡ true
+    pub named : has_named s e.0 e.1 ≡ true
+    pub further : is_own_language s.system e.2.language ≡ false
+    pub room : length (names_before s e.0 e.1 e.2.language) < MOST_FURTHER_NAMES
 
   -- ---- trucks and riders
 

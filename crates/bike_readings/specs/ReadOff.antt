@@ -15,14 +15,14 @@ use Rattle.bike_operator.specs.declared.records.Place.TheVariants as place
 use Rattle.bike_operator.specs.declared.records.Bike.{Bike}
 use Rattle.bike_operator.specs.declared.records.Rental.{Rental}
 use Rattle.bike_operator.specs.declared.records.Order.{Order}
-use Rattle.bike_operator.specs.Operator.{Operator, Station, Rider, Key, DockKey, key_of, dock_key}
+use Rattle.bike_operator.specs.Operator.{Operator, Station, Rider, Key, NameKey, DockKey, key_of, name_key, dock_key}
 use Rattle.bike_rows.specs.View.{row_with}
 use Rattle.bike_book.specs.Tables.{Tables}
 use Rattle.bike_book.specs.Rows.{number_value}
 use Rattle.bike_book.specs.Stored.{Listed}
 use Rattle.bike_schema.specs.Columns.{ident_in, state_in, or_none}
 use Rattle.bike_readings.specs.ColumnReaders.{where_wide, numbered_in, serial_in, dock_in as dock_number_in}
-use Rattle.bike_readings.specs.Readings.{meta_read, system_read, plan_read, segment_read, type_read, region_read, station_read, dock_read, bike_read, truck_read, rider_read, rental_read, order_read, entry_read, kept_read, count_read}
+use Rattle.bike_readings.specs.Readings.{meta_read, system_read, plan_read, segment_read, type_read, region_read, station_read, dock_read, bike_read, truck_read, rider_read, rental_read, order_read, entry_read, kept_read, count_read, name_read}
 
 abbrev pub first : {A : Type 0} → List A → Option A
 first [] = None
@@ -70,6 +70,10 @@ rental_in row = option_map (λ e. (e.0, e.1)) (rental_read row)
 
 abbrev pub entry_in : Row → Option (ℕ × Entry)
 entry_in row = option_map (λ e. (e.number, e)) (entry_read row)
+
+-- the name under its key
+abbrev pub name_in : Row → Option (NameKey × List ℕ)
+name_in row = option_map (λ e. (name_key e.0 e.1 e.2.language, e.2.name)) (name_read row)
 
 -- ---- bicycles
 
@@ -164,6 +168,7 @@ operator_of t = record {
   orders = map (λ e. e.1) (filter_map order_read t.orders);
   entries = map (λ e. e.1) (filter_map entry_in t.entries);
   kept = fin.from_sorted (filter_map kept_read t.kept);
+  more_names = fin.from_sorted (filter_map name_in t.more_names);
   now = moment_of t.meta;
 }
 

@@ -5,14 +5,15 @@ use Rattle.sqlite_value.specs.Order.{Row, column}
 use Rattle.bike_fields.specs.declared.numbers.TheConstants.{GREATEST_PRICE, GREATEST_RANGE, LAST_MINUTE, LONGEST_TIME_TO_LIVE, MOST_CARRIED}
 use Rattle.bike_catalogue.specs.declared.limits.TheConstants.{MOST_SEGMENTS}
 use Rattle.bike_fields.specs.Caller.{◌>>=◌, caller_text}
-use Rattle.bike_catalogue.specs.Rows.{SegmentRow, PlanRow, TypeRow, RegionRow, SystemRow, is_range, is_after}
+use Rattle.bike_catalogue.specs.Rows.{SegmentRow, PlanRow, TypeRow, RegionRow, MoreNameRow, SystemRow, is_range, is_after}
+use Rattle.bike_catalogue.specs.declared.name_kind.NameKind.{NameKind}
 use Rattle.bike_ledger.specs.Entries.{Entry}
 use Rattle.bike_operator.specs.declared.records.Bike.{Bike}
 use Rattle.bike_operator.specs.declared.records.Rental.{Rental}
 use Rattle.bike_operator.specs.declared.records.Order.{Order}
 use Rattle.bike_operator.specs.Operator.{Station, Truck, Rider, Kept, Key, key_of}
 use Rattle.bike_schema.specs.Columns.{number_in, moment_in, flag_in, state_in, whole_in, ident_in, name_in, or_none}
-use Rattle.bike_readings.specs.ColumnReaders.{where_wide, language_in, currency_in, ascii_in, key_in, caller_in, form_in, propulsion_in, end_in, word_in, command_in, reply_in, rate_in, latitude_in, longitude_in, greatest_count, count_in, numbered_in, dock_in, serial_in, kind_in, rental_in, amount_in, place_in, closing_in}
+use Rattle.bike_readings.specs.ColumnReaders.{where_wide, language_in, currency_in, ascii_in, key_in, caller_in, form_in, propulsion_in, named_kind_in, end_in, word_in, command_in, reply_in, rate_in, latitude_in, longitude_in, greatest_count, count_in, numbered_in, dock_in, serial_in, kind_in, rental_in, amount_in, place_in, closing_in}
 
 -- version, now (seconds), cash, revenue (hundredths)
 abbrev pub meta_read : Row → Option (ℕ × ℕ × ℤ × ℤ)
@@ -186,3 +187,12 @@ count_read row = where_wide 4 row (do
   available ← count_in (column row 2)
   disabled ← count_in (column row 3)
   Some (station, type_id, available, disabled))
+
+-- what has the name, by its kind and its identifier; the language and the name
+abbrev pub name_read : Row → Option (NameKind × List ℕ × MoreNameRow)
+name_read row = where_wide 4 row (do
+  kind ← named_kind_in (column row 0)
+  id ← ident_in (column row 1)
+  language ← language_in (column row 2)
+  name ← name_in (column row 3)
+  Some (kind, id, record { language = language; name = name }))

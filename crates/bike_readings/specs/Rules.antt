@@ -10,12 +10,12 @@ use Rattle.bike_operator.specs.Operator.{Operator}
 use Rattle.bike_operator.specs.Counts.{count, available_of}
 use Rattle.bike_operator.specs.Sound.{IsSound}
 use Rattle.bike_places.specs.Numbers.{disabled_of}
-use Rattle.bike_book.specs.Tables.{TableName, Tables, rows_in, keys_of, table_place, Meta, System, Plans, Segments, Types, Regions, Stations, Docks, Bikes, Trucks, Riders, Rentals, Orders, Entries, Kept, Counts}
+use Rattle.bike_book.specs.Tables.{TableName, Tables, rows_in, keys_of, table_place, Meta, System, Plans, Segments, Types, Regions, Stations, Docks, Bikes, Trucks, Riders, Rentals, Orders, Entries, Kept, Counts, MoreNames}
 use Rattle.bike_book.specs.Rows.{number_value}
 use Rattle.bike_book.specs.Stored.{Listed, IsListing, tables_for}
-use Rattle.bike_readings.specs.Readings.{meta_read, system_read, plan_read, segment_read, type_read, region_read, station_read, dock_read, bike_read, truck_read, rider_read, rental_read, order_read, entry_read, kept_read, count_read}
+use Rattle.bike_readings.specs.Readings.{meta_read, system_read, plan_read, segment_read, type_read, region_read, station_read, dock_read, bike_read, truck_read, rider_read, rental_read, order_read, entry_read, kept_read, count_read, name_read}
 use Rattle.bike_readings.specs.ReadOff.{operator_of}
-use Rattle.bike_readings.specs.Demands.{IsGoodMeta, IsGoodPlan, IsGoodSegment, IsGoodType, IsGoodRegion, IsGoodStation, IsGoodDock, IsGoodBike, IsGoodTruck, IsGoodRider, IsGoodRental, IsGoodOrder, IsGoodEntry, IsGoodKept, IsGoodCount}
+use Rattle.bike_readings.specs.Demands.{IsGoodMeta, IsGoodPlan, IsGoodSegment, IsGoodType, IsGoodRegion, IsGoodStation, IsGoodDock, IsGoodBike, IsGoodTruck, IsGoodRider, IsGoodRental, IsGoodOrder, IsGoodEntry, IsGoodKept, IsGoodCount, IsGoodName}
 
 -- ---- tables
 
@@ -50,6 +50,7 @@ IsGoodRow t s below Orders row = IsSomeAnd (order_read row) (IsGoodOrder s below
 IsGoodRow t s below Entries row = IsSomeAnd (entry_read row) (IsGoodEntry s below)
 IsGoodRow t s below Kept row = IsSomeAnd (kept_read row) (IsGoodKept s below)
 IsGoodRow t s below Counts row = IsSomeAnd (count_read row) (IsGoodCount s below)
+IsGoodRow t s below MoreNames row = IsSomeAnd (name_read row) (IsGoodName s below)
 
 -- the station has no bicycle of the type
 abbrev pub HasNone : Operator → List ℕ → List ℕ → Type 0

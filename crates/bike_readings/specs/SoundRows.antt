@@ -2,16 +2,17 @@
 use Rattle.std.specs.Prelude.{◌≡◌, ℕ, ◌+◌, List, true, Some}
 use Rattle.std.specs.FinMap as fin
 use Rattle.bike_catalogue.specs.Rows.{SegmentRow, PlanRow, TypeRow, RegionRow, SystemRow, IsSystem}
+use Rattle.bike_catalogue.specs.declared.name_kind.NameKind.{NameKind}
 use Rattle.bike_ledger.specs.Entries.{Entry}
 use Rattle.bike_operator.specs.declared.records.Bike.{Bike}
 use Rattle.bike_operator.specs.declared.records.Rental.{Rental}
 use Rattle.bike_operator.specs.declared.records.Order.{Order}
-use Rattle.bike_operator.specs.Operator.{Operator, Station, Truck, Rider, item_at, item_numbered}
+use Rattle.bike_operator.specs.Operator.{Operator, Station, Truck, Rider, name_key, item_at, item_numbered}
 use Rattle.bike_operator.specs.Counts.{docks_broken, available_of}
 use Rattle.bike_operator.specs.Sound.{HasDock}
 use Rattle.bike_places.specs.Numbers.{disabled_of}
 use Rattle.bike_book.specs.declared.version.TheConstants.{NEWEST}
-use Rattle.bike_readings.specs.Bounds.{IsNumbered, IsStoredMeta, IsStoredPlan, IsStoredSegment, IsStoredType, IsStoredRegion, IsStoredStation, IsStoredDock, IsStoredBike, IsStoredTruck, IsStoredRental, IsStoredOrder, IsStoredEntry, IsStoredCount}
+use Rattle.bike_readings.specs.Bounds.{IsNumbered, IsStoredMeta, IsStoredPlan, IsStoredSegment, IsStoredType, IsStoredRegion, IsStoredStation, IsStoredDock, IsStoredBike, IsStoredTruck, IsStoredRental, IsStoredOrder, IsStoredEntry, IsStoredCount, IsStoredName}
 
 -- Each record keeps the bounds of its row. The segment at position n of its plan, from 0, has the number n + 1.
 pub record HasBounds (s : Operator) : Type 0 where
@@ -31,3 +32,5 @@ pub record HasBounds (s : Operator) : Type 0 where
   pub entries : (number : ℕ) (e : Entry) → item_numbered number s.entries ≡ Some e → IsStoredEntry e
   pub counts : (station type_id : List ℕ) → fin.contains_key s.stations station ≡ true → fin.contains_key s.types type_id ≡ true
       → IsStoredCount station type_id (available_of s station type_id) (disabled_of s station type_id)
+  pub more_names : (kind : NameKind) (id language name : List ℕ) → fin.get s.more_names (name_key kind id language) ≡ Some name
+      → IsStoredName id (record { language = language; name = name })

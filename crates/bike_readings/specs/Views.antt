@@ -1,7 +1,8 @@
 -- What the functions answer, as the records that rows spell.
 use Rattle.std.specs.Prelude.{ℕ, ℤ, List, [], Bool, option_map}
 use Rattle.bike_fields.specs.Caller.{caller_text}
-use Rattle.bike_catalogue.specs.Rows.{SegmentRow, PlanRow, TypeRow, RegionRow, SystemRow}
+use Rattle.bike_catalogue.specs.Rows.{SegmentRow, PlanRow, TypeRow, RegionRow, MoreNameRow, SystemRow}
+use Rattle.bike_catalogue.specs.declared.name_kind.NameKind.{NameKind}
 use Rattle.bike_ledger.specs.Entries.{Entry}
 use Rattle.bike_texts.specs.declared.ends.OrderEnd.{OrderEnd}
 use Rattle.bike_texts.specs.declared.ends.OrderEnd.TheVariants as end
@@ -17,6 +18,7 @@ use Rattle.bike_readings.specs.declared.catalogue.StoredSystem.{StoredSystem}
 use Rattle.bike_readings.specs.declared.catalogue.StoredPlan.{StoredPlan}
 use Rattle.bike_readings.specs.declared.catalogue.StoredSegment.{StoredSegment}
 use Rattle.bike_readings.specs.declared.catalogue.StoredType.{StoredType}
+use Rattle.bike_readings.specs.declared.names.StoredName.{StoredName}
 use Rattle.bike_readings.specs.declared.network.StoredRegion.{StoredRegion}
 use Rattle.bike_readings.specs.declared.network.StoredStation.{StoredStation}
 use Rattle.bike_readings.specs.declared.network.StoredDock.{StoredDock}
@@ -83,6 +85,9 @@ dock_of x = (x.station.now, x.dock, x.is_broken)
 
 abbrev pub counts_of : StoredCounts → List ℕ × List ℕ × ℕ × ℕ
 counts_of x = (x.station.now, x.type_id.now, x.available, x.disabled)
+
+abbrev pub name_of : StoredName → NameKind × List ℕ × MoreNameRow
+name_of x = (x.kind, x.id.now, record { language = x.language.now; name = x.name.now })
 
 abbrev pub place_of : StoredPlace → Place
 place_of (stored.Dock station dock) = place.Dock station.now dock

@@ -5,11 +5,11 @@ ghost use Rattle.sqlite_value.specs.Order.{column};
 ghost use Rattle.sqlite_sql.specs.Ops.{is_null};
 ghost use Rattle.bike_ledger.specs.Entries.{greatest_amount};
 ghost use Rattle.bike_schema.specs.Columns.{whole_in, text_in, number_in, moment_in, flag_in, state_in, ident_in, name_in, or_none};
-ghost use Rattle.bike_readings.specs.ColumnReaders.{ascii_in, language_in, currency_in, form_in, propulsion_in, word_in, signed_in, kind_in};
+ghost use Rattle.bike_readings.specs.ColumnReaders.{ascii_in, language_in, currency_in, form_in, propulsion_in, named_kind_in, word_in, signed_in, kind_in};
 
 use crate::part::Part;
 use crate::texts::{is_ascii_field, is_currency, is_ident, is_language, is_name};
-use bike_catalogue::{Form, Propulsion};
+use bike_catalogue::{Form, NameKind, Propulsion};
 use bike_fixed::{Cents, Moment, Within};
 use bike_ledger::EntryKind;
 use bike_operator::BikeState;
@@ -216,4 +216,12 @@ pub(crate) fn propulsion_in(part: &Part<'_>, at: usize) -> Option<Propulsion>
 {
     let text = text_in(part, at)?;
     Propulsion::read(text)
+}
+
+/// The kind of what has a name in a further language.
+pub(crate) fn named_kind_in(part: &Part<'_>, at: usize) -> Option<NameKind>
+    ensures { result ≡ named_kind_in (column part.now at) }
+{
+    let text = text_in(part, at)?;
+    NameKind::read(text)
 }

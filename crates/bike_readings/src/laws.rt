@@ -2,7 +2,7 @@
 
 ghost use Rattle.bike_operator.specs.Operator.{Operator};
 ghost use Rattle.bike_operator.specs.Sound.{IsSound};
-ghost use Rattle.bike_readings.specs.BothWays.{MetaReading, SystemReading, PlanReading, SegmentReading, TypeReading, RegionReading, StationReading, DockReading, BikeReading, TruckReading, RiderReading, RentalReading, OrderReading, EntryReading, KeptReading, CountReading};
+ghost use Rattle.bike_readings.specs.BothWays.{MetaReading, SystemReading, PlanReading, SegmentReading, TypeReading, RegionReading, StationReading, DockReading, BikeReading, TruckReading, RiderReading, RentalReading, OrderReading, EntryReading, KeptReading, CountReading, NameReading};
 ghost use Rattle.bike_readings.specs.SoundRows.{HasBounds};
 
 /// The law of readings: what a row spells is that of which it is made, and each record within its bounds is spelled by
@@ -24,6 +24,7 @@ pub fn reads_both_ways()
     ensures entries { EntryReading }
     ensures kept { KeptReading }
     ensures counts { CountReading }
+    ensures more_names { NameReading }
 {}
 
 /// The law of bounds: the records of a sound operator keep the bounds of rows.

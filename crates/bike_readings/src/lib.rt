@@ -16,6 +16,7 @@ mod fleet;
 mod kept;
 mod laws;
 mod ledger;
+mod names;
 mod network;
 mod part;
 mod rules;
@@ -33,6 +34,7 @@ pub use laws::{keeps_bounds, reads_both_ways};
 pub use ledger::{
     StoredClosing, StoredEntry, StoredRental, StoredRider, read_entry, read_rental, read_rider,
 };
+pub use names::{StoredName, read_name};
 pub use network::{
     StoredCounts, StoredDock, StoredRegion, StoredStation, read_counts, read_dock, read_region,
     read_station,

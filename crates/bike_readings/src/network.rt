@@ -19,7 +19,7 @@ pub struct StoredRegion<'a> {
     pub name: &'a str,
 }
 
-/// A row of `stations_2`.
+/// A row of `stations_3`.
 #[derive(Clone, Copy)]
 pub struct StoredStation<'a> {
     pub station_id: &'a str,
@@ -76,7 +76,7 @@ pub fn read_region(part: Part<'_>) -> Option<StoredRegion<'_>>
     Some(StoredRegion { region_id, name })
 }
 
-/// What a row of `stations_2` spells.
+/// What a row of `stations_3` spells.
 pub fn read_station(part: Part<'_>) -> Option<StoredStation<'_>>
     ensures { option_map station_of result ≡ station_read part.entry }
 {
