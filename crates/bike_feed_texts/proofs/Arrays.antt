@@ -1,8 +1,8 @@
 -- Arrays that are written item by item.
-use Rattle.std.proofs.Common.{◌≡◌, ℕ, ◌+◌, ◌<◌, ◌≤◌, List, [], ◌∷◌, ◌++◌, IsTrue, length, drop, get_or, refl, sym, ap, ◌∙◌, append_assoc, append-nil, false}
+use Rattle.std.proofs.Common.{◌≡◌, ℕ, ◌+◌, ◌<◌, ◌≤◌, List, [], ◌∷◌, ◌++◌, IsTrue, length, drop, get_or, refl, sym, ap, ◌∙◌, append_assoc, false}
 use Rattle.std.proofs.lemmas.List.{drop_more, drop_all}
 use Rattle.bike_json.specs.Outputs.{OutputState}
-use Rattle.bike_json.specs.Tree.{Tree, Items, array, item, no_items, comma, text_of, items_text}
+use Rattle.bike_json.specs.Tree.{Tree, Items, array, comma, items_text}
 use Rattle.bike_json.specs.Rows.{items}
 use Rattle.bike_json.specs.State.{Place, Wrote, IsAt, takes_value, takes_array_end, has_more, after_value}
 use Rattle.bike_json.specs.declared.level.Level.{Level}
@@ -30,21 +30,17 @@ array_then {p} {q} {r} {t} {a} {b} {c} {d} {all} one two three = record {
       (Wrote_then (Wrote_then one two) three);
 }
 
--- the only item of an array
-pub only_item : {p q : Place} {a b : OutputState} {value : Tree} → WroteValue p q a b value → p.top ≡ EmptyArray → Wrote p q a b (items_text false (item value no_items))
-only_item {p} {q} {a} {b} {value} w e = Wrote_as (ap (λ l. comma (has_more l) ++ text_of value) e ∙ sym (append-nil (text_of value))) w.are
-
-module _ {X : Type 0} (tree : X → Tree) {p q : Place} {a b : OutputState} {all : List X} where
-  -- a loop's turn, at an index of the list
-  pub turn : {r : Place} {c : OutputState} (i : ℕ) (x : X) → SoFar tree p q a b all (drop i all) → i < length all → x ≡ get_or all i x
-      → WroteValue q r b c (tree x) → IsAt r (after_value q.top) q.round → SoFar tree p r a c all (drop (i + 1) all)
-  turn i x s lt is w at = rows_next tree s (drop_more all i x lt ∙ ap (λ y. y ∷ drop (i + 1) all) (sym is)) w.are at
+module _ {X : Type 0} (tree : X → Tree) {p q : Place} {a b : OutputState} {all : List X} (rest : List X) where
+  -- a loop's turn, at an index of the rows of which it writes all
+  pub turn : {r : Place} {c : OutputState} (i : ℕ) (x : X) → SoFar tree p q a b all (drop i rest) → i < length rest → x ≡ get_or rest i x
+      → WroteValue q r b c (tree x) → IsAt r (after_value q.top) q.round → SoFar tree p r a c all (drop (i + 1) rest)
+  turn i x s lt is w at = rows_next tree s (drop_more rest i x lt ∙ ap (λ y. y ∷ drop (i + 1) rest) (sym is)) w.are at
 
   -- the same where the item has no name of its own
-  pub turn_at : {r : Place} {c : OutputState} (i : ℕ) (d : X) → SoFar tree p q a b all (drop i all) → i < length all
-      → WroteValue q r b c (tree (get_or all i d)) → IsAt r (after_value q.top) q.round → SoFar tree p r a c all (drop (i + 1) all)
-  turn_at i d s lt w at = rows_next tree s (drop_more all i d lt) w.are at
+  pub turn_at : {r : Place} {c : OutputState} (i : ℕ) (d : X) → SoFar tree p q a b all (drop i rest) → i < length rest
+      → WroteValue q r b c (tree (get_or rest i d)) → IsAt r (after_value q.top) q.round → SoFar tree p r a c all (drop (i + 1) rest)
+  turn_at i d s lt w at = rows_next tree s (drop_more rest i d lt) w.are at
 
   -- a loop's end
-  pub turned : (i : ℕ) → SoFar tree p q a b all (drop i all) → length all ≤ i → Wrote p q a b (items_text false (items tree all))
-  turned i s le = rows_end tree s (drop_all i all le)
+  pub turned : (i : ℕ) → SoFar tree p q a b all (drop i rest) → length rest ≤ i → Wrote p q a b (items_text false (items tree all))
+  turned i s le = rows_end tree s (drop_all i rest le)

@@ -1,16 +1,21 @@
 -- The text of a feed, from its parts.
-use Rattle.std.proofs.Common.{◌≡◌, ℕ, List, [], ◌∷◌, ◌++◌, false, sym, ap, ◌∙◌, append_assoc, append-nil}
+use Rattle.std.proofs.Common.{◌≡◌, ℕ, List, [], ◌∷◌, ◌++◌, true, false, refl, sym, ap, ◌∙◌, append_assoc, append-nil}
 use Rattle.std.specs.Prelude.{codes}
-use Rattle.bike_catalogue.specs.Rows.{SystemRow}
+use Rattle.bike_catalogue.specs.Rows.{MoreNameRow, SystemRow}
 use Rattle.bike_json.specs.Outputs.{OutputState}
 use Rattle.bike_json.specs.Escapes.{string_text}
-use Rattle.bike_json.specs.Tree.{Tree, Items, comma, text_of, items_text, members_text}
+use Rattle.bike_json.specs.Tree.{Tree, Items, comma, text, text_of, items_text, members_text}
+use Rattle.bike_json.specs.Rows.{items}
 use Rattle.bike_json.specs.State.{Place, Wrote, has_more}
 use Rattle.bike_json.specs.declared.level.Level.TheVariants.{Start, EmptyObject, FilledObject, NamedObject}
 use Rattle.bike_json.proofs.Series.{Wrote_then, Wrote_as}
+use Rattle.bike_operator.specs.NameKind.TheVariants as named
+use Rattle.bike_operator.specs.Operator.{Operator}
+use Rattle.bike_operator.specs.Names.{further_names}
+use Rattle.bike_feed_texts.specs.declared.feed.Feed.TheVariants.{SystemInformation}
 use Rattle.bike_feed_texts.specs.Elements.{members}
-use Rattle.bike_feed_texts.specs.Trees.{head_members, feed_frame, listing}
-use Rattle.bike_feed_texts.specs.Writing.{WroteValue, WroteMembers, head_text, list_head_text, list_end_text}
+use Rattle.bike_feed_texts.specs.Trees.{head_members, system_members, contact_members, further_languages, information_tree, feed_frame, listing, feed_tree}
+use Rattle.bike_feed_texts.specs.Writing.{WroteValue, WroteMembers, head_text, list_head_text, list_end_text, information_head_text, information_end_text}
 
 pub frame_text : (x : SystemRow) (seconds : ℕ) (tree : Tree) → text_of (feed_frame x seconds tree) ≡ head_text x seconds ++ (text_of tree ++ 125 ∷ [])
 frame_text x seconds tree = simp (append_assoc, append-nil)
@@ -63,17 +68,43 @@ list_head_then {p} {q} {r} {t} x seconds name one e two f three g four =
     ∙ ap (λ l. head ++ 123 ∷ l) (append_assoc (string_text name) (58 ∷ []) (91 ∷ []))))
     ) (Wrote_then one (Wrote_then two (Wrote_then three four)))
 
--- a whole feed
-pub feed_then : {p q r t : Place} {a b c d : OutputState} (x : SystemRow) (seconds : ℕ) {tree : Tree} → p.top ≡ Start
-    → Wrote p q a b (head_text x seconds) → q.top ≡ NamedObject → WroteValue q r b c tree → Wrote r t c d (125 ∷ [])
-    → WroteValue p t a d (feed_frame x seconds tree)
-feed_then {p} {q} {r} {t} {a} {b} {c} {d} x seconds {tree} at one e two three = record {
-  are =
-      Wrote_as (
-      ap (λ l. head_text x seconds ++ ((comma (has_more l) ++ text_of tree) ++ 125 ∷ [])) e
-      ∙ (sym (frame_text x seconds tree) ∙ ap (λ l. comma (has_more l) ++ text_of (feed_frame x seconds tree)) (sym at))
-      ) (Wrote_then one (Wrote_then two.are three));
-}
+-- ---- the feed of the system
+
+information_parts : (first value name list rest : List ℕ)
+    → (123 ∷ ((first ++ 58 ∷ (value ++ 44 ∷ (name ++ 58 ∷ ((91 ∷ (list ++ 93 ∷ [])) ++ rest)))) ++ 125 ∷ [])) ++ 125 ∷ []
+    ≡ (123 ∷ ((first ++ 58 ∷ (value ++ [])) ++ 44 ∷ (name ++ 58 ∷ 91 ∷ []))) ++ (list ++ 93 ∷ (rest ++ 125 ∷ 125 ∷ []))
+information_parts first value name list rest = simp (append_assoc, append-nil)
+
+pub information_text : (s : Operator) (x : SystemRow) (seconds : ℕ)
+    → text_of (feed_tree s x SystemInformation seconds) ≡ information_head_text x seconds
+    ++ (items_text false (items text (x.language ∷ further_languages s)) ++ information_end_text x (further_names s named.System x.system_id))
+information_text s x seconds =
+    let list = items_text false (items text (x.language ∷ further_languages s)) in
+    let rest = members_text true (members (contact_members x (further_names s named.System x.system_id))) in
+    frame_text x seconds (information_tree s x)
+    ∙ (ap (λ l. head_text x seconds ++ l) (information_parts (string_text (codes "system_id")) (string_text x.system_id) (string_text (codes "languages")) list rest)
+    ∙ sym (append_assoc (head_text x seconds) _ (list ++ information_end_text x (further_names s named.System x.system_id))))
+
+-- up to the first of its languages
+pub information_head_then : {p q r t u v : Place} {a b c d f h : OutputState} (x : SystemRow) (seconds : ℕ) → Wrote p q a b (head_text x seconds)
+    → q.top ≡ NamedObject → Wrote q r b c (comma (has_more q.top) ++ 123 ∷ []) → r.top ≡ EmptyObject → WroteMembers r t c d (members (system_members x))
+    → t.top ≡ FilledObject → Wrote t u d f (comma (has_more t.top) ++ string_text (codes "languages") ++ 58 ∷ []) → u.top ≡ NamedObject → Wrote u v f h (comma (has_more u.top) ++ 91 ∷ [])
+    → Wrote p v a h (information_head_text x seconds)
+information_head_then {q = q} {r = r} {t = t} {u = u} x seconds one e two f three h four i five =
+    let first = members (system_members x) in
+    let name = string_text (codes "languages") in
+    let same : head_text x seconds ++ ((comma (has_more q.top) ++ 123 ∷ []) ++ (members_text (has_more r.top) first
+    ++ ((comma (has_more t.top) ++ name ++ 58 ∷ []) ++ (comma (has_more u.top) ++ 91 ∷ []))))
+    ≡ information_head_text x seconds =
+    rw (e, f, h, i) (ap (λ l. head_text x seconds ++ 123 ∷ (members_text false first ++ 44 ∷ l)) (append_assoc name (58 ∷ []) (91 ∷ []))) in
+    Wrote_as same (Wrote_then one (Wrote_then two (Wrote_then three.are (Wrote_then four five))))
+
+-- behind the last
+pub information_end_then : {p q r t u : Place} {a b c d f : OutputState} (x : SystemRow) (names : List MoreNameRow) → Wrote p q a b (93 ∷ []) → q.top ≡ FilledObject
+    → WroteMembers q r b c (members (contact_members x names)) → Wrote r t c d (125 ∷ []) → Wrote t u d f (125 ∷ []) → Wrote p u a f (information_end_text x names)
+information_end_then {q = q} x names one e two three four =
+    let same : 93 ∷ [] ++ (members_text (has_more q.top) (members (contact_members x names)) ++ (125 ∷ [] ++ 125 ∷ [])) ≡ information_end_text x names = rw e refl in
+    Wrote_as same (Wrote_then one (Wrote_then two.are (Wrote_then three four)))
 
 -- a whole feed whose data are a list
 pub list_then : {p q r t : Place} {a b c d : OutputState} (x : SystemRow) (seconds : ℕ) (name : List ℕ) (list : Items) → p.top ≡ Start

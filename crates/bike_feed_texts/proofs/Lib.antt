@@ -2,3 +2,4 @@ pub mod Objects
 pub mod Arrays
 mod Names
 pub mod Frames
+pub mod Languages

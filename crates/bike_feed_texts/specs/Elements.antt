@@ -4,8 +4,8 @@ use Rattle.bike_fixed.specs.Text.{moment_text}
 use Rattle.bike_catalogue.specs.declared.vehicle.Propulsion.{Propulsion}
 use Rattle.bike_catalogue.specs.declared.vehicle.Propulsion.TheVariants.{Human, ElectricAssist}
 use Rattle.bike_catalogue.specs.Vehicle.{form_text, propulsion_text}
-use Rattle.bike_catalogue.specs.Rows.{SegmentRow, PlanRow, TypeRow, StationRow, RegionRow, SystemRow}
-use Rattle.bike_json.specs.Tree.{Tree, object, array, text, whole, cents, micro, flag, Members, no_members, member, no_items, item}
+use Rattle.bike_catalogue.specs.Rows.{SegmentRow, PlanRow, TypeRow, StationRow, RegionRow, MoreNameRow, more_name_of_fields, SystemRow}
+use Rattle.bike_json.specs.Tree.{Tree, object, array, text, whole, cents, micro, flag, Members, no_members, member}
 use Rattle.bike_json.specs.Rows.{items}
 use Rattle.bike_feed_texts.specs.declared.feed.Feed.{Feed}
 use Rattle.bike_feed_texts.specs.declared.status.TypeCount.{TypeCount}
@@ -27,12 +27,12 @@ abbrev pub moment_tree : ℕ → Tree
 moment_tree seconds = text (moment_text seconds)
 
 -- a text with its language
-abbrev pub translation : SystemRow → List ℕ → Tree
-translation x bytes = object_of ((codes "text", text bytes) ∷ (codes "language", text x.language) ∷ [])
+abbrev pub translation : MoreNameRow → Tree
+translation m = object_of ((codes "text", text m.name) ∷ (codes "language", text m.language) ∷ [])
 
--- a localized text, in the system's language alone
-abbrev pub localized_text : SystemRow → List ℕ → Tree
-localized_text x bytes = array (item (translation x bytes) no_items)
+-- a localized text: in the system's language, and then in each further one
+abbrev pub localized_text : SystemRow → List ℕ → List MoreNameRow → Tree
+localized_text x bytes names = array (items translation (more_name_of_fields x.language bytes ∷ names))
 
 -- ---- gbfs
 
@@ -46,13 +46,13 @@ abbrev pub range_members : Propulsion → ℕ → List NamedTree
 range_members Human metres = []
 range_members ElectricAssist metres = (codes "max_range_meters", whole (pos metres)) ∷ []
 
-abbrev pub type_tree : SystemRow → TypeRow → Tree
-type_tree x t = object_of (
+abbrev pub type_tree : SystemRow → TypeRow → List MoreNameRow → Tree
+type_tree x t names = object_of (
     (codes "vehicle_type_id", text t.type_id)
     ∷ (codes "form_factor", text (form_text t.form))
     ∷ (codes "propulsion_type", text (propulsion_text t.propulsion))
     ∷ (range_members t.propulsion t.max_range
-    ++ (codes "name", localized_text x t.name)
+    ++ (codes "name", localized_text x t.name names)
     ∷ (codes "default_pricing_plan_id", text t.plan_id)
     ∷ []))
 
@@ -64,10 +64,10 @@ region_members None = []
 region_members (Some region) = (codes "region_id", text region) ∷ []
 
 -- a station, and the region in which it stands
-abbrev pub station_tree : SystemRow → StationRow → Option (List ℕ) → Tree
-station_tree x s region = object_of (
+abbrev pub station_tree : SystemRow → StationRow → Option (List ℕ) → List MoreNameRow → Tree
+station_tree x s region names = object_of (
     (codes "station_id", text s.station_id)
-    ∷ (codes "name", localized_text x s.name)
+    ∷ (codes "name", localized_text x s.name names)
     ∷ (codes "lat", micro s.lat)
     ∷ (codes "lon", micro s.lon)
     ∷ (region_members region
@@ -135,17 +135,18 @@ abbrev pub pricing_members : List SegmentRow → List NamedTree
 pricing_members [] = []
 pricing_members (g ∷ gs) = (codes "per_min_pricing", array (items segment_tree (g ∷ gs))) ∷ []
 
-abbrev pub plan_tree : SystemRow → PlanRow → Tree
-plan_tree x p = object_of (
+-- a plan has a name and a description, each with its own further ones
+abbrev pub plan_tree : SystemRow → PlanRow → List MoreNameRow → List MoreNameRow → Tree
+plan_tree x p names descriptions = object_of (
     (codes "plan_id", text p.plan_id)
-    ∷ (codes "name", localized_text x p.name)
+    ∷ (codes "name", localized_text x p.name names)
     ∷ (codes "currency", text x.currency)
     ∷ (codes "price", cents (pos p.price))
     ∷ (codes "is_taxable", flag p.taxable)
-    ∷ (codes "description", localized_text x p.description)
+    ∷ (codes "description", localized_text x p.description descriptions)
     ∷ pricing_members p.segments)
 
 -- ---- system_regions
 
-abbrev pub region_tree : SystemRow → RegionRow → Tree
-region_tree x r = object_of ((codes "region_id", text r.region_id) ∷ (codes "name", localized_text x r.name) ∷ [])
+abbrev pub region_tree : SystemRow → RegionRow → List MoreNameRow → Tree
+region_tree x r names = object_of ((codes "region_id", text r.region_id) ∷ (codes "name", localized_text x r.name names) ∷ [])

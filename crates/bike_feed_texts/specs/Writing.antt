@@ -1,6 +1,6 @@
 -- What the writing functions write, and the texts between which the elements of a feed's list stand.
-use Rattle.std.specs.Prelude.{ℕ, List, [], ◌∷◌, ◌++◌, false, codes}
-use Rattle.bike_catalogue.specs.Rows.{SystemRow}
+use Rattle.std.specs.Prelude.{ℕ, List, [], ◌∷◌, ◌++◌, true, false, codes}
+use Rattle.bike_catalogue.specs.Rows.{MoreNameRow, SystemRow}
 use Rattle.bike_json.specs.Outputs.{OutputState}
 use Rattle.bike_json.specs.Escapes.{string_text}
 use Rattle.bike_json.specs.Tree.{Tree, Members, comma, text_of, members_text}
@@ -10,7 +10,7 @@ use Rattle.bike_json.specs.declared.level.Level.TheVariants.{Done, FilledObject}
 use Rattle.bike_feed_texts.specs.declared.status.Counts.{Counts}
 use Rattle.bike_feed_texts.specs.declared.status.StationReport.{StationReport}
 use Rattle.bike_feed_texts.specs.Elements.{members, CountsRow, ReportRow}
-use Rattle.bike_feed_texts.specs.Trees.{head_members}
+use Rattle.bike_feed_texts.specs.Trees.{head_members, system_members, contact_members}
 
 -- a value was written, behind a comma where it isn't the first
 pub record WroteValue (from to : Place) (old new : OutputState) (value : Tree) : Type 0 where
@@ -34,6 +34,14 @@ list_head_text x seconds name = head_text x seconds ++ 123 ∷ (string_text name
 
 abbrev pub list_end_text : List ℕ
 list_end_text = 93 ∷ 125 ∷ 125 ∷ []
+
+-- `system_information` up to the first of its languages, and behind the last
+abbrev pub information_head_text : SystemRow → ℕ → List ℕ
+information_head_text x seconds =
+    head_text x seconds ++ 123 ∷ (members_text false (members (system_members x)) ++ 44 ∷ (string_text (codes "languages") ++ 58 ∷ 91 ∷ []))
+
+abbrev pub information_end_text : SystemRow → List MoreNameRow → List ℕ
+information_end_text x names = 93 ∷ (members_text true (members (contact_members x names)) ++ 125 ∷ 125 ∷ [])
 
 -- the levels round the data, and round the elements of a list
 abbrev pub in_feed : List Level

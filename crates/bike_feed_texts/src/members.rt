@@ -1,13 +1,15 @@
 //! Members of objects, each written with its name.
 
-ghost use Rattle.std.specs.Prelude.{◌≡◌, ◌<◌, ◌≤◌, ◌+◌, IsTrue, length, pos};
-ghost use Rattle.bike_json.specs.Tree.{text, whole, cents, micro, flag};
-ghost use Rattle.bike_json.specs.State.{IsAt, takes_name, takes_value, after_value};
+ghost use Rattle.std.specs.Prelude.{◌≡◌, ◌<◌, ◌≤◌, ◌+◌, ◌∷◌, IsTrue, length, false, pos};
+ghost use Rattle.bike_catalogue.specs.Rows.{more_name_of_fields};
+ghost use Rattle.bike_json.specs.Rows.{items};
+ghost use Rattle.bike_json.specs.Tree.{text, whole, cents, micro, flag, items_text};
+ghost use Rattle.bike_json.specs.State.{IsAt, Wrote, takes_name, takes_value, takes_array_end, after_value};
 ghost use Rattle.bike_feed_texts.specs.Elements.{localized_text, moment_tree, translation};
 ghost use Rattle.bike_feed_texts.specs.Writing.{WroteMember, WroteValue};
 
-use bike_catalogue::System;
-use bike_fields::Name;
+use bike_catalogue::{MoreName, System};
+use bike_fields::{Language, Name};
 use bike_fixed::{Cents, Micro, Moment};
 use bike_json::{JsonState, Level, Output};
 
@@ -82,33 +84,61 @@ pub(crate) fn moment_member<W: Output>(
 }
 
 /// A text with its language, as an object.
-fn write_translation<W: Output>(json: &mut JsonState, out: &mut W, system: &System, value: &str)
+fn write_translation<W: Output>(
+    json: &mut JsonState,
+    out: &mut W,
+    language: &Language,
+    value: &Name,
+)
     requires value { IsTrue (takes_value json.old.top) }
     requires room { length json.old.round < 16 }
-    ensures wrote { WroteValue json.old json.new (W.contents out.old) (W.contents out.new) (translation system.now value.now) }
+    ensures wrote { WroteValue json.old json.new (W.contents out.old) (W.contents out.new)
+        (translation (more_name_of_fields language.now value.now)) }
     ensures place { IsAt json.new (after_value json.old.top) json.old.round }
 {
     let _ = json.begin_object(out);
-    text_member(json, out, "text", value);
-    text_member(json, out, "language", system.language().as_str());
+    text_member(json, out, "text", value.as_str());
+    text_member(json, out, "language", language.as_str());
     let _ = json.end_object(out);
 }
 
-/// A localized text, in the system's language.
+/// A text with its language and then each further one, as items.
+fn write_translations<W: Output>(
+    json: &mut JsonState,
+    out: &mut W,
+    language: &Language,
+    value: &Name,
+    names: &[MoreName],
+)
+    requires top { json.old.top ≡ Level.EmptyArray }
+    requires room { length json.old.round < 16 }
+    ensures wrote { Wrote json.old json.new (W.contents out.old) (W.contents out.new)
+        (items_text false (items translation (more_name_of_fields language.now value.now ∷ names.now))) }
+    ensures place { IsTrue (takes_array_end json.new.top) × (json.new.round ≡ json.old.round) }
+{
+    write_translation(json, out, language, value);
+    for more in names {
+        write_translation(json, out, more.language(), more.name());
+    }
+}
+
+/// A localized text, in the system's language and then in each further one.
 pub(crate) fn localized_member<W: Output>(
     json: &mut JsonState,
     out: &mut W,
     name: &str,
     system: &System,
     value: &Name,
+    names: &[MoreName],
 )
     requires name { IsTrue (takes_name json.old.top) }
     requires room { length json.old.round < 15 }
-    ensures wrote { WroteMember json.old json.new (W.contents out.old) (W.contents out.new) name.now (localized_text system.now value.now) }
+    ensures wrote { WroteMember json.old json.new (W.contents out.old) (W.contents out.new) name.now
+        (localized_text system.now value.now names.now) }
     ensures place { IsAt json.new Level.FilledObject json.old.round }
 {
     let _ = json.name(out, name);
     let _ = json.begin_array(out);
-    write_translation(json, out, system, value.as_str());
+    write_translations(json, out, system.language(), value, names);
     let _ = json.end_array(out);
 }

@@ -8,7 +8,7 @@ ghost use Rattle.bike_feed_texts.specs.Elements.{members, end_members, segment_t
 ghost use Rattle.bike_feed_texts.specs.Writing.{WroteMember, WroteMembers, WroteValue};
 
 use crate::members::{cents_member, flag_member, localized_member, text_member, whole_member};
-use bike_catalogue::{Plan, Segment, System};
+use bike_catalogue::{MoreName, Plan, Segment, System};
 use bike_fixed::Cents;
 use bike_json::{JsonState, Level, Output};
 use bike_stream::WriteFault;
@@ -76,22 +76,25 @@ fn pricing_member<W: Output>(json: &mut JsonState, out: &mut W, segments: &[Segm
     }
 }
 
-/// Writes a pricing plan, with its segments where it has any.
+/// Writes a pricing plan, with the further names of itself and of its description, and its segments where it has any.
 pub fn write_plan<W: Output>(
     json: &mut JsonState,
     out: &mut W,
     system: &System,
     plan: &Plan,
+    names: &[MoreName],
+    descriptions: &[MoreName],
 ) -> Result<(), WriteFault>
     requires value { IsTrue (takes_value json.old.top) }
     requires room { length json.old.round < 14 }
-    ensures wrote { WroteValue json.old json.new (W.contents out.old) (W.contents out.new) (plan_tree system.now plan.now) }
+    ensures wrote { WroteValue json.old json.new (W.contents out.old) (W.contents out.new)
+        (plan_tree system.now plan.now names.now descriptions.now) }
     ensures place { IsAt json.new (after_value json.old.top) json.old.round }
     ensures outcome { is_ok result ≡ not json.new.failed }
 {
     let _ = json.begin_object(out);
     text_member(json, out, "plan_id", plan.plan_id().as_str());
-    localized_member(json, out, "name", system, plan.name());
+    localized_member(json, out, "name", system, plan.name(), names);
     text_member(json, out, "currency", system.currency().as_str());
     cents_member(
         json,
@@ -100,7 +103,14 @@ pub fn write_plan<W: Output>(
         Cents::new(i64::from(plan.price().get())),
     );
     flag_member(json, out, "is_taxable", plan.taxable());
-    localized_member(json, out, "description", system, plan.description());
+    localized_member(
+        json,
+        out,
+        "description",
+        system,
+        plan.description(),
+        descriptions,
+    );
     pricing_member(json, out, plan.segments());
     json.end_object(out)
 }

@@ -6,7 +6,7 @@ ghost use Rattle.bike_feed_texts.specs.Elements.{members, region_members, statio
 ghost use Rattle.bike_feed_texts.specs.Writing.{WroteMembers, WroteValue};
 
 use crate::members::{localized_member, micro_member, text_member, whole_member};
-use bike_catalogue::{Station, System};
+use bike_catalogue::{MoreName, Station, System};
 use bike_fields::Ident;
 use bike_json::{JsonState, Level, Output};
 use bike_stream::WriteFault;
@@ -24,24 +24,25 @@ fn region_member<W: Output>(json: &mut JsonState, out: &mut W, region: Option<&I
     }
 }
 
-/// Writes a station: its name, its place, the region in which it stands, if any, and how many docks it has.
+/// Writes a station: its name and further names, its place, the region in which it stands, if any, and how many docks it has.
 pub fn write_station<W: Output>(
     json: &mut JsonState,
     out: &mut W,
     system: &System,
     station: &Station,
     region: Option<&Ident>,
+    names: &[MoreName],
 ) -> Result<(), WriteFault>
     requires value { IsTrue (takes_value json.old.top) }
     requires room { length json.old.round < 14 }
     ensures wrote { WroteValue json.old json.new (W.contents out.old) (W.contents out.new)
-        (station_tree system.now station.now (option_map (λ id. id.now) region.entry)) }
+        (station_tree system.now station.now (option_map (λ id. id.now) region.entry) names.now) }
     ensures place { IsAt json.new (after_value json.old.top) json.old.round }
     ensures outcome { is_ok result ≡ not json.new.failed }
 {
     let _ = json.begin_object(out);
     text_member(json, out, "station_id", station.station_id().as_str());
-    localized_member(json, out, "name", system, station.name());
+    localized_member(json, out, "name", system, station.name(), names);
     micro_member(json, out, "lat", station.lat());
     micro_member(json, out, "lon", station.lon());
     region_member(json, out, region);

@@ -1,43 +1,60 @@
-//! The feed of the system.
+//! The feed of the system, written in parts, since its languages come one at a time.
 
-ghost use Rattle.std.specs.Prelude.{◌≡◌, ◌<◌, [], IsTrue, length, is_ok, not};
-ghost use Rattle.bike_json.specs.State.{IsAt, takes_name, takes_value, after_value};
-ghost use Rattle.bike_json.specs.Tree.{array, item, no_items, text};
-ghost use Rattle.bike_operator.specs.Operator.{Operator};
-ghost use Rattle.bike_feed_texts.specs.Trees.{information_tree, feed_tree};
-ghost use Rattle.bike_feed_texts.specs.Writing.{WroteMember, WroteValue};
+ghost use Rattle.std.specs.Prelude.{◌≡◌, ◌∷◌, [], IsTrue, is_ok, not};
+ghost use Rattle.bike_json.specs.State.{IsAt, Wrote, takes_value, takes_array_end, after_value};
+ghost use Rattle.bike_json.specs.Tree.{text};
+ghost use Rattle.bike_feed_texts.specs.Elements.{members};
+ghost use Rattle.bike_feed_texts.specs.Trees.{contact_members};
+ghost use Rattle.bike_feed_texts.specs.Writing.{WroteMembers, WroteValue, information_head_text, information_end_text, in_feed, in_list};
 
-use crate::feed::Feed;
 use crate::frame::open_feed;
 use crate::members::{localized_member, text_member};
-use bike_catalogue::System;
+use bike_catalogue::{MoreName, System};
+use bike_fields::Language;
 use bike_fixed::Moment;
 use bike_json::{JsonState, Level, Output};
 use bike_stream::WriteFault;
 
-/// A list of one text.
-fn texts_member<W: Output>(json: &mut JsonState, out: &mut W, name: &str, value: &str)
-    requires name { IsTrue (takes_name json.old.top) }
-    requires room { length json.old.round < 16 }
-    ensures wrote { WroteMember json.old json.new (W.contents out.old) (W.contents out.new) name.now (array (item (text value.now) no_items)) }
-    ensures place { IsAt json.new Level.FilledObject json.old.round }
+/// Begins the feed `system_information` of a system for a moment, up to the first of its languages: that is the system's.
+pub fn open_information<W: Output>(
+    json: &mut JsonState,
+    out: &mut W,
+    system: &System,
+    moment: Moment,
+) -> Result<(), WriteFault>
+    requires { IsAt json.old Level.Start [] }
+    ensures wrote { Wrote json.old json.new (W.contents out.old) (W.contents out.new) (information_head_text system.now moment) }
+    ensures place { IsAt json.new Level.EmptyArray in_list }
+    ensures outcome { is_ok result ≡ not json.new.failed }
 {
-    let _ = json.name(out, name);
-    let _ = json.begin_array(out);
-    let _ = json.text(out, value);
-    let _ = json.end_array(out);
-}
-
-fn write_information<W: Output>(json: &mut JsonState, out: &mut W, system: &System)
-    requires value { IsTrue (takes_value json.old.top) }
-    requires room { length json.old.round < 14 }
-    ensures wrote { WroteValue json.old json.new (W.contents out.old) (W.contents out.new) (information_tree system.now) }
-    ensures place { IsAt json.new (after_value json.old.top) json.old.round }
-{
+    open_feed(json, out, system, moment);
     let _ = json.begin_object(out);
     text_member(json, out, "system_id", system.system_id().as_str());
-    texts_member(json, out, "languages", system.language().as_str());
-    localized_member(json, out, "name", system, system.name());
+    let _ = json.name(out, "languages");
+    json.begin_array(out)
+}
+
+/// Writes one of the languages.
+pub fn write_language<W: Output>(
+    json: &mut JsonState,
+    out: &mut W,
+    language: &Language,
+) -> Result<(), WriteFault>
+    requires { IsTrue (takes_value json.old.top) }
+    ensures wrote { WroteValue json.old json.new (W.contents out.old) (W.contents out.new) (text language.now) }
+    ensures place { IsAt json.new (after_value json.old.top) json.old.round }
+    ensures outcome { is_ok result ≡ not json.new.failed }
+{
+    json.text(out, language.as_str())
+}
+
+/// The system's name, with its further names, and how it is reached.
+fn contact<W: Output>(json: &mut JsonState, out: &mut W, system: &System, names: &[MoreName])
+    requires { IsAt json.old Level.FilledObject in_feed }
+    ensures wrote { WroteMembers json.old json.new (W.contents out.old) (W.contents out.new) (members (contact_members system.now names.now)) }
+    ensures place { IsAt json.new Level.FilledObject in_feed }
+{
+    localized_member(json, out, "name", system, system.name(), names);
     text_member(json, out, "opening_hours", system.opening_hours().as_str());
     text_member(
         json,
@@ -46,23 +63,23 @@ fn write_information<W: Output>(json: &mut JsonState, out: &mut W, system: &Syst
         system.feed_contact_email().as_str(),
     );
     text_member(json, out, "timezone", system.timezone().as_str());
-    let _ = json.end_object(out);
 }
 
-/// Writes the feed `system_information` of a system, which depends on no more of the operator.
-pub fn write_system_information<W: Output>(
+/// Ends the feed `system_information` behind the last of its languages, with the system's further names.
+pub fn close_information<W: Output>(
     json: &mut JsonState,
     out: &mut W,
     system: &System,
-    moment: Moment,
+    names: &[MoreName],
 ) -> Result<(), WriteFault>
-    requires { IsAt json.old Level.Start [] }
-    ensures wrote { (s : Operator) → WroteValue json.old json.new (W.contents out.old) (W.contents out.new)
-        (feed_tree s system.now Feed.SystemInformation moment) }
+    requires array { IsTrue (takes_array_end json.old.top) }
+    requires round { json.old.round ≡ in_list }
+    ensures wrote { Wrote json.old json.new (W.contents out.old) (W.contents out.new) (information_end_text system.now names.now) }
     ensures place { IsAt json.new Level.Done [] }
     ensures outcome { is_ok result ≡ not json.new.failed }
 {
-    open_feed(json, out, system, moment);
-    write_information(json, out, system);
+    let _ = json.end_array(out);
+    contact(json, out, system, names);
+    let _ = json.end_object(out);
     json.end_object(out)
 }

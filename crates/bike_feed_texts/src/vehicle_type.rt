@@ -6,7 +6,7 @@ ghost use Rattle.bike_feed_texts.specs.Elements.{members, range_members, type_tr
 ghost use Rattle.bike_feed_texts.specs.Writing.{WroteMembers, WroteValue};
 
 use crate::members::{localized_member, text_member, whole_member};
-use bike_catalogue::{Propulsion, System, VehicleType};
+use bike_catalogue::{MoreName, Propulsion, System, VehicleType};
 use bike_json::{JsonState, Level, Output};
 use bike_stream::WriteFault;
 
@@ -22,16 +22,18 @@ fn range_member<W: Output>(json: &mut JsonState, out: &mut W, propulsion: Propul
     }
 }
 
-/// Writes a vehicle type.
+/// Writes a vehicle type, with its further names.
 pub fn write_type<W: Output>(
     json: &mut JsonState,
     out: &mut W,
     system: &System,
     vehicle_type: &VehicleType,
+    names: &[MoreName],
 ) -> Result<(), WriteFault>
     requires value { IsTrue (takes_value json.old.top) }
     requires room { length json.old.round < 14 }
-    ensures wrote { WroteValue json.old json.new (W.contents out.old) (W.contents out.new) (type_tree system.now vehicle_type.now) }
+    ensures wrote { WroteValue json.old json.new (W.contents out.old) (W.contents out.new)
+        (type_tree system.now vehicle_type.now names.now) }
     ensures place { IsAt json.new (after_value json.old.top) json.old.round }
     ensures outcome { is_ok result ≡ not json.new.failed }
 {
@@ -46,7 +48,7 @@ pub fn write_type<W: Output>(
     text_member(json, out, "form_factor", vehicle_type.form().as_str());
     text_member(json, out, "propulsion_type", propulsion.as_str());
     range_member(json, out, propulsion, vehicle_type.max_range().get());
-    localized_member(json, out, "name", system, vehicle_type.name());
+    localized_member(json, out, "name", system, vehicle_type.name(), names);
     text_member(
         json,
         out,

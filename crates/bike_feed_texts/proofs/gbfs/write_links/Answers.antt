@@ -13,7 +13,7 @@ write_link-requires-clause-value g c = takes_item _ c.loop-feed.invariant.inside
 
 pub loop-feed-preserved : goal.loop-feed-preserved
 loop-feed-preserved g c =
-    turn_at (link_tree c.args.system.now) c.loop-feed.feed-index Gbfs c.loop-feed.invariant c.loop-feed-test.true c.write_link.ensures.wrote c.write_link.ensures.place
+    turn_at (link_tree c.args.system.now) _ c.loop-feed.feed-index Gbfs c.loop-feed.invariant c.loop-feed-test.true c.write_link.ensures.wrote c.write_link.ensures.place
 
 pub returns-clause-wrote : goal.returns-clause-wrote
-returns-clause-wrote g c = turned (link_tree c.args.system.now) _ c.loop-feed.invariant (omega (arith, c.loop-feed-test.false))
+returns-clause-wrote g c = turned (link_tree c.args.system.now) c.args.feeds.now _ c.loop-feed.invariant (omega (arith, c.loop-feed-test.false))

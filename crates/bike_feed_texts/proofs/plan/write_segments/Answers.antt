@@ -12,7 +12,7 @@ write_segment-requires-clause-value g c = takes_item _ c.loop-segment.invariant.
 
 pub loop-segment-preserved : goal.loop-segment-preserved
 loop-segment-preserved g c =
-    turn segment_tree _ _ c.loop-segment.invariant c.loop-segment-test.true c.segment-item.is c.write_segment.ensures.wrote c.write_segment.ensures.place
+    turn segment_tree _ _ _ c.loop-segment.invariant c.loop-segment-test.true c.segment-item.is c.write_segment.ensures.wrote c.write_segment.ensures.place
 
 pub returns-clause-wrote : goal.returns-clause-wrote
-returns-clause-wrote g c = turned segment_tree _ c.loop-segment.invariant (omega (arith, c.loop-segment-test.false))
+returns-clause-wrote g c = turned segment_tree c.args.segments.now _ c.loop-segment.invariant (omega (arith, c.loop-segment-test.false))

@@ -12,7 +12,7 @@ write_type_count-requires-clause-value g c = takes_item _ c.loop-count.invariant
 
 pub loop-count-preserved : goal.loop-count-preserved
 loop-count-preserved g c =
-    turn type_count_tree _ _ c.loop-count.invariant c.loop-count-test.true c.count-item.is c.write_type_count.ensures.wrote c.write_type_count.ensures.place
+    turn type_count_tree _ _ _ c.loop-count.invariant c.loop-count-test.true c.count-item.is c.write_type_count.ensures.wrote c.write_type_count.ensures.place
 
 pub returns-clause-wrote : goal.returns-clause-wrote
-returns-clause-wrote g c = turned type_count_tree _ c.loop-count.invariant (omega (arith, c.loop-count-test.false))
+returns-clause-wrote g c = turned type_count_tree c.args.counts.now _ c.loop-count.invariant (omega (arith, c.loop-count-test.false))
