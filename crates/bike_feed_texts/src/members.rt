@@ -137,8 +137,9 @@ pub(crate) fn localized_member<W: Output>(
         (localized_text system.now value.now names.now) }
     ensures place { IsAt json.new Level.FilledObject json.old.round }
 {
+    let own = system.language();
     let _ = json.name(out, name);
     let _ = json.begin_array(out);
-    write_translations(json, out, system.language(), value, names);
+    write_translations(json, out, own, value, names);
     let _ = json.end_array(out);
 }
