@@ -1,3 +1,4 @@
 pub mod TextLemmas
 pub mod RowLemmas
 pub mod SegmentLemmas
+pub mod NameLemmas

@@ -1,7 +1,8 @@
 -- What the reads answer of an operator.
-use Rattle.std.specs.Prelude.{◌≡◌, ℕ, Option, Some, None, option_map, string_bytes}
+use Rattle.std.specs.Prelude.{◌≡◌, ℕ, List, Option, Some, None, option_map, string_bytes}
 use Rattle.bike_ledger.specs.Ledger.{cash_of, revenue_of, refunded_of}
 use Rattle.bike_commands.specs.Commands.{text_of}
+use Rattle.bike_operator.specs.Rows.{SystemRow}
 use Rattle.bike_operator.specs.Operator.{Operator, Kept, item_numbered}
 use Rattle.bike_accounts.specs.declared.meta.MetaRow.{MetaRow}
 use Rattle.bike_accounts.specs.declared.kept.KeptRow.{KeptRow}
@@ -21,3 +22,7 @@ KeepsSame (Some k) (Some row) = (string_bytes row.command ≡ text_of k.command)
 -- a rental, if it is there, with the sum of its refunds
 abbrev pub stored_rental_at : Operator → ℕ → Option StoredRental
 stored_rental_at s rental = option_map (λ r. record { rental = r; refunded = refunded_of rental s.entries }) (item_numbered rental s.rentals)
+
+-- the identifier and the language of the system
+abbrev pub system_key : SystemRow → List ℕ × List ℕ
+system_key r = (r.system_id, r.language)

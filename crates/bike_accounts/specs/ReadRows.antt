@@ -5,8 +5,11 @@ use Rattle.sqlite_sql.specs.Aggregate.{count}
 use Rattle.bike_commands.specs.Commands.{text_of}
 use Rattle.bike_commands.specs.Replies.{reply_text, IsReply}
 use Rattle.bike_operator.specs.declared.records.Closing.{Closing}
-use Rattle.bike_operator.specs.Operator.{Kept}
+use Rattle.bike_operator.specs.Rows.{MoreNameRow}
+use Rattle.bike_operator.specs.Operator.{Kept, NameKey}
+use Rattle.bike_operator.specs.Names.{part_at}
 use Rattle.bike_book.specs.Rows.{closing_columns, kept_row}
+use Rattle.bike_book.specs.Stored.{stored_name}
 use Rattle.bike_accounts.specs.declared.kept.KeptRow.{KeptRow}
 use Rattle.bike_accounts.specs.Accounts.{KeepsSame}
 
@@ -23,3 +26,11 @@ abbrev pub KeepsRow : Row → KeptRow → Type 0
 KeepsRow row x =
     (caller key : List ℕ) (k : Kept) → IsReply k.reply → row ≡ kept_row caller key (text_of k.command) (reply_text k.reply)
     → KeepsSame (Some k) (Some x)
+
+-- the further name of an entry of the operator's
+abbrev pub named_in : NameKey × List ℕ → MoreNameRow
+named_in e = record { language = part_at e.0 2; name = e.1 }
+
+-- the row is of a further name, and this is it
+abbrev pub IsNamedBy : Row → MoreNameRow → Type 0
+IsNamedBy row x = (e : NameKey × List ℕ) → row ≡ stored_name e → x ≡ named_in e

@@ -1,10 +1,11 @@
-//! The reads of the tables of riders, rentals, plans, the ledger and kept requests. Each answers what the operator has
-//! whose tables stand in the database, and changes nothing.
+//! The reads of the tables of riders, rentals, plans, further names, the ledger and kept requests. Each answers what the
+//! operator has whose tables stand in the database, and changes nothing.
 #![tactic(auto)]
 
 mod entries;
 mod kept;
 mod meta;
+mod names;
 mod numbers;
 mod plans;
 mod rentals;
@@ -14,6 +15,7 @@ mod segments;
 pub use entries::entry_count;
 pub use kept::{KeptRow, find_kept};
 pub use meta::{MetaRow, find_meta};
+pub use names::{find_names, find_system_key, language_at};
 pub use plans::{are_plans_full, find_plan, has_plan, has_system};
 pub use rentals::{StoredRental, find_rental, is_riding, open_rental_count, rental_count};
 pub use riders::{are_riders_full, find_rider, has_rider};

@@ -22,7 +22,9 @@ use sqlite::{Alter, Connection, Row, params};
 use std::alloc::Global;
 
 /// The one row of `system`, if the system is set.
-fn find_system_row<S: Alter>(conn: &mut Connection<S>) -> Result<Option<Row>, StatementFault>
+pub(crate) fn find_system_row<S: Alter>(
+    conn: &mut Connection<S>,
+) -> Result<Option<Row>, StatementFault>
     ensures { Answers S.Store conn.old conn.new result
         (λ s m row. row ≡ row_under s m System (number_value 1 ∷ [])) }
 {

@@ -1,0 +1,111 @@
+//! Names in further languages, and the system's own language.
+
+ghost use Rattle.std.specs.Prelude.{◌≡◌, ◌≤◌, [], ◌∷◌, IfOk, length, option_map};
+ghost use Rattle.std.specs.List.{AllZip};
+ghost use Rattle.sqlite_value.specs.declared.value.Value.TheVariants.{Text};
+ghost use Rattle.sqlite_value.specs.Order.{column};
+ghost use Rattle.bike_operator.specs.declared.limits.TheConstants.{MOST_FURTHER_NAMES};
+ghost use Rattle.bike_operator.specs.NameKinds.{kind_text};
+ghost use Rattle.bike_operator.specs.Names.{further_names};
+ghost use Rattle.bike_book.specs.Tables.{MoreNames};
+ghost use Rattle.bike_book.specs.Rows.{system_row};
+ghost use Rattle.bike_book.specs.Found.{rows_by};
+ghost use Rattle.bike_schema.specs.Answers.{Answers};
+ghost use Rattle.bike_accounts.specs.Accounts.{system_key};
+ghost use Rattle.bike_accounts.specs.ReadRows.{IsNamedBy};
+
+use crate::plans::find_system_row;
+use bike_catalogue::{MoreName, NameKind};
+use bike_fields::{Ident, Language};
+use bike_operator::MOST_FURTHER_NAMES;
+use bike_schema::{StatementFault, ident_at, name_at, text_at};
+use sqlite::{Alter, Connection, Row, params};
+use std::alloc::Global;
+
+/// The rows of the further names of what has this kind and identifier, in byte order of their languages.
+fn find_name_rows<S: Alter>(
+    conn: &mut Connection<S>,
+    kind: NameKind,
+    id: &Ident,
+) -> Result<Vec<Row>, StatementFault>
+    ensures { Answers S.Store conn.old conn.new result
+        (λ s m rows. rows.items ≡ rows_by s m MoreNames (0 ∷ 1 ∷ []) (Text (kind_text kind) ∷ Text id.now ∷ [])) }
+{
+    let rows = conn.query_all(
+        "SELECT * FROM more_names WHERE kind = ?1 AND id = ?2 ORDER BY kind, id, language",
+        params![kind.as_str(), id.as_str()],
+    )?;
+    Ok(rows)
+}
+
+/// The column as a language. `NoMemory` where it finds no room; any other column is `StoreFailed`.
+pub fn language_at(alloc: Global, row: &Row, at: usize) -> Result<Language, StatementFault>
+    ensures { IfOk result (λ x. (language : _) → column row.now at ≡ Text language → x ≡ language) }
+{
+    let text = text_at(alloc, row, at)?;
+    Language::read(alloc, text.as_str())?.ok_or(StatementFault::StoreFailed)
+}
+
+/// The name that stands in a row of `more_names`, whatever has it.
+fn read_name(alloc: Global, row: &Row) -> Result<MoreName, StatementFault>
+    ensures { IfOk result (IsNamedBy row.now) }
+{
+    let language = language_at(alloc, row, 2)?;
+    let name = name_at(alloc, row, 3)?;
+    Ok(MoreName::from_fields(language, name))
+}
+
+/// The names that stand in these rows. `StoreFailed` where they are more than a thing may have.
+fn read_names(alloc: Global, rows: &[Row]) -> Result<Vec<MoreName>, StatementFault>
+    ensures read { IfOk result (λ x. AllZip IsNamedBy rows.now x.items) }
+    ensures few { IfOk result (λ x. length x.items ≤ MOST_FURTHER_NAMES) }
+{
+    if rows.len() > MOST_FURTHER_NAMES as usize {
+        return Err(StatementFault::StoreFailed);
+    }
+    let mut names = Vec::new(alloc);
+    for row in rows {
+        let name = read_name(alloc, row)?;
+        if names.push(name).is_err() {
+            return Err(StatementFault::NoMemory);
+        }
+    }
+    Ok(names)
+}
+
+/// The further names of what has this kind and identifier, in byte order of their languages. `NoMemory` where they find
+/// no room; every other fault is the database's.
+pub fn find_names<S: Alter>(
+    alloc: Global,
+    conn: &mut Connection<S>,
+    kind: NameKind,
+    id: &Ident,
+) -> Result<Vec<MoreName>, StatementFault>
+    ensures { Answers S.Store conn.old conn.new result (λ s m x. x.items ≡ further_names s kind id.now) }
+{
+    let rows = find_name_rows(conn, kind, id)?;
+    read_names(alloc, rows.as_slice())
+}
+
+/// The identifier and the language that stand in the row of `system`.
+fn read_system_key(alloc: Global, row: &Row) -> Result<(Ident, Language), StatementFault>
+    ensures { IfOk result (λ x. (r : _) → row.now ≡ system_row r → x ≡ system_key r) }
+{
+    let system_id = ident_at(alloc, row, 1)?;
+    let language = language_at(alloc, row, 2)?;
+    Ok((system_id, language))
+}
+
+/// The system's identifier and its language, if the system is set. `NoMemory` where they find no room; every other fault
+/// is the database's.
+pub fn find_system_key<S: Alter>(
+    alloc: Global,
+    conn: &mut Connection<S>,
+) -> Result<Option<(Ident, Language)>, StatementFault>
+    ensures { Answers S.Store conn.old conn.new result (λ s m x. x ≡ option_map system_key s.system) }
+{
+    match find_system_row(conn)? {
+        Some(row) => Ok(Some(read_system_key(alloc, &row)?)),
+        None => Ok(None),
+    }
+}
