@@ -291,16 +291,17 @@ propulsion_utf8 ElectricAssist g = word_utf8 (propulsion_text ElectricAssist) re
 pub propulsion_column : IsColumn propulsion_in (λ propulsion. Text (propulsion_text propulsion)) Any
 propulsion_column = of_text _ propulsion_text Any (λ text propulsion e. (propulsion_sound text propulsion e, tt)) (λ propulsion g. propulsion_full propulsion) propulsion_utf8
 
-named_utf8 : (kind : NameKind) → Any kind → is_utf8 (named_text kind) ≡ true
-named_utf8 named.System g = word_utf8 (named_text named.System) refl
-named_utf8 named.Station g = word_utf8 (named_text named.Station) refl
-named_utf8 named.Type g = word_utf8 (named_text named.Type) refl
-named_utf8 named.Plan g = word_utf8 (named_text named.Plan) refl
-named_utf8 named.Description g = word_utf8 (named_text named.Description) refl
-named_utf8 named.Region g = word_utf8 (named_text named.Region) refl
+-- the word of a kind can be printed
+pub named_printable : (kind : NameKind) → list_all is_printable (named_text kind) ≡ true
+named_printable named.System = refl
+named_printable named.Station = refl
+named_printable named.Type = refl
+named_printable named.Plan = refl
+named_printable named.Description = refl
+named_printable named.Region = refl
 
 pub named_kind_column : IsColumn named_kind_in (λ kind. Text (named_text kind)) Any
-named_kind_column = of_text _ named_text Any (λ text kind e. (named_sound text kind e, tt)) (λ kind g. named_full kind) named_utf8
+named_kind_column = of_text _ named_text Any (λ text kind e. (named_sound text kind e, tt)) (λ kind g. named_full kind) (λ kind g. word_utf8 (named_text kind) (named_printable kind))
 
 end_utf8 : (x : OrderEnd) → IsEnd x → is_utf8 (end_text x) ≡ true
 end_utf8 end.Depot g = word_utf8 (codes "*") refl

@@ -60,7 +60,7 @@ own_name kind id language =
 
 module _ (kind : NameKind) (id : List ℕ) where
   -- the key begins with the word of the kind and with the identifier
-  name_parts : (key : NameKey) (t : IsTriple key) → is_name_of kind id key ≡ true → (t.first ≡ kind_text kind) × (t.second ≡ id)
+  pub name_parts : (key : NameKey) (t : IsTriple key) → is_name_of kind id key ≡ true → (t.first ≡ kind_text kind) × (t.second ≡ id)
   name_parts key t is =
       let tests = both_hold (bytes_eq t.first (kind_text kind)) (bytes_eq t.second id) (ap (is_name_of kind id) (sym t.is) ∙ is) in
       (same_bytes t.first (kind_text kind) tests.0, same_bytes t.second id tests.1)

@@ -166,7 +166,7 @@ module _ (t : Tables) (up : AreInOrder t) (rows : AreGoodRows (operator_of t) t)
         room = fact.room;
       }
 
-  key_triple : (key : NameKey) (name : List ℕ) → IsNameAt s key name → IsTriple key
+  abbrev key_triple : (key : NameKey) (name : List ℕ) → IsNameAt s key name → IsTriple key
   key_triple key name at = record { first = kind_text at.kind; second = at.id; third = at.language; is = at.key_is }
 
   -- each further name of a thing has room among them

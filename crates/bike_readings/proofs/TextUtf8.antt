@@ -35,7 +35,7 @@ use Rattle.bike_commands.specs.declared.reply.Reply.TheVariants.{Done, Balance, 
 use Rattle.bike_commands.specs.Replies.{reply_word, reply_fields, IsReply, reply_text}
 use Rattle.bike_operator.specs.Sound.{is_refused}
 use Rattle.bike_requests.proofs.Escaping.{char_stays, escapes_of-append}
-use Rattle.bike_readings.proofs.ColumnLaws.{ascii_utf8, word_utf8, ident_utf8, language_utf8, currency_utf8, ascii_field_utf8, name_utf8}
+use Rattle.bike_readings.proofs.ColumnLaws.{ascii_utf8, word_utf8, named_printable, ident_utf8, language_utf8, currency_utf8, ascii_field_utf8, name_utf8}
 
 printed : (word : List ℕ) → list_all is_printable word ≡ true → IsUtf8 word
 printed word h = IsUtf8-from_is_utf8 word (word_utf8 word h)
@@ -223,6 +223,7 @@ command_words (command.Unload truck order bike side dock) = (tt, (tt, (tt, (side
 command_words (command.CloseOrder order) = (tt, tt)
 command_words (command.AddRegion r) = (tt, (tt, tt))
 command_words (command.SetRegion station region) = (tt, (region_word region, tt))
+command_words (command.AddName kind id language name) = (named_printable kind, (tt, (tt, (tt, tt))))
 
 word_printable : (c : Command) → Printable (word_of c)
 word_printable (command.SetSystem s) = refl
@@ -249,6 +250,7 @@ word_printable (command.Unload truck order bike side dock) = refl
 word_printable (command.CloseOrder order) = refl
 word_printable (command.AddRegion r) = refl
 word_printable (command.SetRegion station region) = refl
+word_printable (command.AddName kind id language name) = refl
 
 pub command_utf8 : (c : Command) → IsCommand c → is_utf8 (text_of c) ≡ true
 command_utf8 c g =
