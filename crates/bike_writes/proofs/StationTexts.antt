@@ -16,27 +16,27 @@ use Rattle.bike_book.specs.declared.row_change.RowChange.TheVariants as row
 use Rattle.bike_schema.proofs.KeyLemmas.{table_key}
 use Rattle.bike_schema.proofs.MakesLemmas.{adds_row, sets_columns}
 
-pub adds_station : (x : Bor StationRow) (reported : ℕ) → Makes (codes "INSERT INTO stations_2 VALUES (?1, ?2, ?3, ?4, ?5, ?6, ?7, ?8, ?9, ?10, ?11, ?12)") (station_row x.now.station_id (new_station x.now reported) (pos x.now.docks) 0) (row.AddStation x reported)
+pub adds_station : (x : Bor StationRow) (reported : ℕ) → Makes (codes "INSERT INTO stations_3 VALUES (?1, ?2, ?3, ?4, ?5, ?6, ?7, ?8, ?9, ?10, ?11, ?12)") (station_row x.now.station_id (new_station x.now reported) (pos x.now.docks) 0) (row.AddStation x reported)
 unfolding everything
 adds_station x reported = adds_row Stations (row_put (table_key Stations) (λ s tree. (refl, refl, refl, λ base. refl)) refl refl (λ rows. refl))
 
-pub sets_flags : (station : Bor (List ℕ)) (installed renting returning : Bool) (reported : ℕ) → Makes (codes "UPDATE stations_2 SET installed = ?2, renting = ?3, \"returning\" = ?4, reported = ?5 WHERE station_id = ?1") (Text station.now ∷ Int (truth installed) ∷ Int (truth renting) ∷ Int (truth returning) ∷ number_value reported ∷ []) (row.SetFlags station installed renting returning reported)
+pub sets_flags : (station : Bor (List ℕ)) (installed renting returning : Bool) (reported : ℕ) → Makes (codes "UPDATE stations_3 SET installed = ?2, renting = ?3, \"returning\" = ?4, reported = ?5 WHERE station_id = ?1") (Text station.now ∷ Int (truth installed) ∷ Int (truth renting) ∷ Int (truth returning) ∷ number_value reported ∷ []) (row.SetFlags station installed renting returning reported)
 unfolding everything
 sets_flags station installed renting returning reported = sets_columns Stations _ _ (row_updated (table_key Stations) 0 ((5, 1) ∷ (6, 2) ∷ (7, 3) ∷ (8, 4) ∷ []) _ (λ tree. (refl, refl, refl), refl) refl refl refl (λ r. refl) (λ r. refl))
 
-pub sets_reported : (station : Bor (List ℕ)) (reported : ℕ) → Makes (codes "UPDATE stations_2 SET reported = ?2 WHERE station_id = ?1") (Text station.now ∷ number_value reported ∷ []) (row.SetReported station reported)
+pub sets_reported : (station : Bor (List ℕ)) (reported : ℕ) → Makes (codes "UPDATE stations_3 SET reported = ?2 WHERE station_id = ?1") (Text station.now ∷ number_value reported ∷ []) (row.SetReported station reported)
 unfolding everything
 sets_reported station reported = sets_columns Stations _ _ (row_updated (table_key Stations) 0 ((8, 1) ∷ []) _ (λ tree. (refl, refl, refl), refl) refl refl refl (λ r. refl) (λ r. refl))
 
-pub sets_docks : (station : Bor (List ℕ)) (free broken : ℕ) → Makes (codes "UPDATE stations_2 SET free = ?2, broken = ?3 WHERE station_id = ?1") (Text station.now ∷ number_value free ∷ number_value broken ∷ []) (row.SetDocks station free broken)
+pub sets_docks : (station : Bor (List ℕ)) (free broken : ℕ) → Makes (codes "UPDATE stations_3 SET free = ?2, broken = ?3 WHERE station_id = ?1") (Text station.now ∷ number_value free ∷ number_value broken ∷ []) (row.SetDocks station free broken)
 unfolding everything
 sets_docks station free broken = sets_columns Stations _ _ (row_updated (table_key Stations) 0 ((9, 1) ∷ (10, 2) ∷ []) _ (λ tree. (refl, refl, refl), refl) refl refl refl (λ r. refl) (λ r. refl))
 
-pub sets_docks_reported : (station : Bor (List ℕ)) (free broken reported : ℕ) → Makes (codes "UPDATE stations_2 SET free = ?2, broken = ?3, reported = ?4 WHERE station_id = ?1") (Text station.now ∷ number_value free ∷ number_value broken ∷ number_value reported ∷ []) (row.SetDocksReported station free broken reported)
+pub sets_docks_reported : (station : Bor (List ℕ)) (free broken reported : ℕ) → Makes (codes "UPDATE stations_3 SET free = ?2, broken = ?3, reported = ?4 WHERE station_id = ?1") (Text station.now ∷ number_value free ∷ number_value broken ∷ number_value reported ∷ []) (row.SetDocksReported station free broken reported)
 unfolding everything
 sets_docks_reported station free broken reported = sets_columns Stations _ _ (row_updated (table_key Stations) 0 ((9, 1) ∷ (10, 2) ∷ (8, 3) ∷ []) _ (λ tree. (refl, refl, refl), refl) refl refl refl (λ r. refl) (λ r. refl))
 
-pub sets_region : (station : Bor (List ℕ)) (region : Option (Bor (List ℕ))) → Makes (codes "UPDATE stations_2 SET region_id = ?2 WHERE station_id = ?1") (Text station.now ∷ or_null Text (text_in region) ∷ []) (row.SetRegion station region)
+pub sets_region : (station : Bor (List ℕ)) (region : Option (Bor (List ℕ))) → Makes (codes "UPDATE stations_3 SET region_id = ?2 WHERE station_id = ?1") (Text station.now ∷ or_null Text (text_in region) ∷ []) (row.SetRegion station region)
 unfolding everything
 sets_region station region = sets_columns Stations _ _ (row_updated (table_key Stations) 0 ((11, 1) ∷ []) _ (λ tree. (refl, refl, refl), refl) refl refl (rw (text_suits (text_in region))) (λ r. refl) (λ r. refl))
 

@@ -3,7 +3,9 @@
 ghost use Rattle.bike_book.specs.Writes.{write_of};
 ghost use Rattle.bike_schema.specs.Calls.{Writes};
 
-use crate::catalogue::{add_plan, add_region, add_segment, add_system, add_type, set_default_plan};
+use crate::catalogue::{
+    add_name, add_plan, add_region, add_segment, add_system, add_type, set_default_plan,
+};
 use crate::fleet::{add_bike, add_truck, set_bike};
 use crate::ledger::{add_entry, add_kept, set_meta};
 use crate::orders::{add_order, set_order};
@@ -123,5 +125,11 @@ pub fn put<S: Alter>(tx: &mut Staged<'_, S>, change: &RowChange<'_>) -> Result<(
             disabled,
         } => set_count(tx, station, type_id, available, disabled),
         RowChange::SetMeta { now, cash, revenue } => set_meta(tx, now, cash, revenue),
+        RowChange::AddName {
+            kind,
+            id,
+            language,
+            name,
+        } => add_name(tx, kind, id, language, name),
     }
 }

@@ -1,4 +1,4 @@
-//! The statements on `stations_2`, `docks` and `counts`.
+//! The statements on `stations_3`, `docks` and `counts`.
 
 ghost use Rattle.bike_book.specs.declared.row_change.RowChange.TheVariants as row;
 ghost use Rattle.bike_book.specs.Writes.{write_of};
@@ -22,7 +22,7 @@ pub(crate) fn add_station<S: Alter>(
 {
     run(
         tx,
-        "INSERT INTO stations_2 VALUES (?1, ?2, ?3, ?4, ?5, ?6, ?7, ?8, ?9, ?10, ?11, ?12)",
+        "INSERT INTO stations_3 VALUES (?1, ?2, ?3, ?4, ?5, ?6, ?7, ?8, ?9, ?10, ?11, ?12)",
         params![
             station.station_id().as_str(),
             station.name().as_str(),
@@ -54,7 +54,7 @@ pub(crate) fn set_flags<S: Alter>(
 {
     run(
         tx,
-        "UPDATE stations_2 SET installed = ?2, renting = ?3, \"returning\" = ?4, reported = ?5 WHERE station_id = ?1",
+        "UPDATE stations_3 SET installed = ?2, renting = ?3, \"returning\" = ?4, reported = ?5 WHERE station_id = ?1",
         params![
             station.as_str(),
             is_installed,
@@ -75,7 +75,7 @@ pub(crate) fn set_reported<S: Alter>(
 {
     run(
         tx,
-        "UPDATE stations_2 SET reported = ?2 WHERE station_id = ?1",
+        "UPDATE stations_3 SET reported = ?2 WHERE station_id = ?1",
         params![station.as_str(), seconds_of(reported)],
     )
 }
@@ -91,7 +91,7 @@ pub(crate) fn set_docks<S: Alter>(
 {
     run(
         tx,
-        "UPDATE stations_2 SET free = ?2, broken = ?3 WHERE station_id = ?1",
+        "UPDATE stations_3 SET free = ?2, broken = ?3 WHERE station_id = ?1",
         params![station.as_str(), free, broken],
     )
 }
@@ -108,7 +108,7 @@ pub(crate) fn set_docks_reported<S: Alter>(
 {
     run(
         tx,
-        "UPDATE stations_2 SET free = ?2, broken = ?3, reported = ?4 WHERE station_id = ?1",
+        "UPDATE stations_3 SET free = ?2, broken = ?3, reported = ?4 WHERE station_id = ?1",
         params![station.as_str(), free, broken, seconds_of(reported)],
     )
 }
@@ -123,7 +123,7 @@ pub(crate) fn set_region<S: Alter>(
 {
     run(
         tx,
-        "UPDATE stations_2 SET region_id = ?2 WHERE station_id = ?1",
+        "UPDATE stations_3 SET region_id = ?2 WHERE station_id = ?1",
         params![station.as_str(), text_in(region)],
     )
 }
