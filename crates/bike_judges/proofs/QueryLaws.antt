@@ -13,7 +13,7 @@ use Rattle.bike_rows.proofs.FrameLemmas.{rows_of_is}
 use Rattle.bike_rows.proofs.ListLemmas.{map_has}
 use Rattle.bike_rows.proofs.OrderLemmas.{order_has}
 use Rattle.bike_rows.proofs.TreeLemmas.{by_key_total}
-use Rattle.bike_book.specs.Tables.{TableName, Tables, rows_in, keys_of, Meta, System, Plans, Segments, Types, Regions, Stations, Docks, Bikes, Trucks, Riders, Rentals, Orders, Entries, Kept, Counts}
+use Rattle.bike_book.specs.Tables.{TableName, Tables, rows_in, keys_of, Meta, System, Plans, Segments, Types, Regions, Stations, Docks, Bikes, Trucks, Riders, Rentals, Orders, Entries, Kept, Counts, MoreNames}
 use Rattle.bike_schema.specs.Layouts.{layout_of}
 use Rattle.bike_schema.specs.Tables.{tables_of, HasTables}
 use Rattle.bike_schema.proofs.MakesLemmas.{rows_of_table}
@@ -57,6 +57,7 @@ stored_whole db has name row there = let wide = stored_width db has name row the
     fits Entries = omega arith
     fits Kept = omega arith
     fits Counts = omega arith
+    fits MoreNames = omega arith
 
 -- a line that begins with a stored row begins with its key
 pub joined_key : (db : Database) → HasTables db → (name : TableName) (row : Row) → Has (rows_in (tables_of db) name) row → (more : Row) → take (keys_of name) (row ++ more) ≡ take (keys_of name) row

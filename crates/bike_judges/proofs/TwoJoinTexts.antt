@@ -1,7 +1,7 @@
 -- The queries that answer each row of a table with its partners in two others.
 use Rattle.std.proofs.Common.{ℕ, List, [], ◌∷◌, ◌++◌, refl}
 use Rattle.bike_rows.proofs.SelectLaws.{rows_joined_twice}
-use Rattle.bike_book.specs.Tables.{Plans, Types, Stations, Bikes, Trucks, Riders, Rentals, Orders, Entries, Counts}
+use Rattle.bike_book.specs.Tables.{Plans, Types, Regions, Stations, Bikes, Trucks, Rentals, Orders, Counts, MoreNames}
 use Rattle.bike_schema.proofs.KeyLemmas.{table_key}
 use Rattle.bike_judges.specs.Lines.{with_two}
 use Rattle.bike_judges.specs.declared.query.Query.TheVariants as query
@@ -27,6 +27,17 @@ order_names_lines is db has =
 pub count_names_lines : {text : List ℕ} → AreJoinsOf Counts Stations (0 ∷ []) Types (1 ∷ []) text → AsksLines text query.CountNames
 count_names_lines is db has =
     rows_joined_twice (table_key Counts) (table_key Stations) (table_key Types) (has Counts) (has Stations) (has Types) (0 ∷ []) (1 ∷ []) (columns_in 1 Counts ++ columns_in 2 Stations ++ columns_in 3 Types) (with_two 12 6)
+    is refl refl (λ r. refl) (λ r. refl) (λ r. refl) (λ r s. refl) (λ r t. refl) (λ r s t. refl)
+
+-- what has a name in a further language: a station or a region of this identifier, a vehicle type or a plan
+pub name_places_lines : {text : List ℕ} → AreJoinsOf MoreNames Stations (1 ∷ []) Regions (1 ∷ []) text → AsksLines text query.NamePlaces
+name_places_lines is db has =
+    rows_joined_twice (table_key MoreNames) (table_key Stations) (table_key Regions) (has MoreNames) (has Stations) (has Regions) (1 ∷ []) (1 ∷ []) (columns_in 1 MoreNames ++ columns_in 2 Stations ++ columns_in 3 Regions) (with_two 12 2)
+    is refl refl (λ r. refl) (λ r. refl) (λ r. refl) (λ r s. refl) (λ r t. refl) (λ r s t. refl)
+
+pub name_offers_lines : {text : List ℕ} → AreJoinsOf MoreNames Types (1 ∷ []) Plans (1 ∷ []) text → AsksLines text query.NameOffers
+name_offers_lines is db has =
+    rows_joined_twice (table_key MoreNames) (table_key Types) (table_key Plans) (has MoreNames) (has Types) (has Plans) (1 ∷ []) (1 ∷ []) (columns_in 1 MoreNames ++ columns_in 2 Types ++ columns_in 3 Plans) (with_two 6 5)
     is refl refl (λ r. refl) (λ r. refl) (λ r. refl) (λ r s. refl) (λ r t. refl) (λ r s t. refl)
 
 -- both partners are stations

@@ -125,3 +125,6 @@ lines_of query.EntryRentals t = left_joined (with_one 10) (3 ∷ []) 1 t.rentals
 lines_of query.Kept t = t.kept
 lines_of query.CountNames t = twice_joined (with_two 12 6) (0 ∷ []) 1 t.stations (1 ∷ []) 1 t.types t.counts
 lines_of query.Counts t = merge_of_three 5 count_dock_line t.docks count_bike_line t.bikes count_line t.counts
+lines_of query.Names t = t.more_names
+lines_of query.NamePlaces t = twice_joined (with_two 12 2) (1 ∷ []) 1 t.stations (1 ∷ []) 1 t.regions t.more_names
+lines_of query.NameOffers t = twice_joined (with_two 6 5) (1 ∷ []) 1 t.types (1 ∷ []) 1 t.plans t.more_names

@@ -63,4 +63,10 @@ pub enum Query {
     CountNames,
     /// The docks of stations, and by types the stations' counts with the bicycles there.
     Counts,
+    /// The rows of `more_names`.
+    Names,
+    /// Names in further languages, each with the station and the region of its identifier.
+    NamePlaces,
+    /// Names in further languages, each with the vehicle type and the plan of its identifier.
+    NameOffers,
 }

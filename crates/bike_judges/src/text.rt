@@ -19,20 +19,20 @@ pub(crate) fn text(query: Query) -> &'static str
              LEFT JOIN plans ON plans.plan_id = types.plan_id \
              ORDER BY types.type_id",
         Query::Regions => "SELECT * FROM regions ORDER BY region_id",
-        Query::StationRows => "SELECT stations_2.*, regions.* FROM stations_2 \
-             LEFT JOIN regions ON regions.region_id = stations_2.region_id \
-             ORDER BY stations_2.station_id",
-        Query::Stations => "SELECT station_id, 0, 0, stations_2.* FROM stations_2 \
+        Query::StationRows => "SELECT stations_3.*, regions.* FROM stations_3 \
+             LEFT JOIN regions ON regions.region_id = stations_3.region_id \
+             ORDER BY stations_3.station_id",
+        Query::Stations => "SELECT station_id, 0, 0, stations_3.* FROM stations_3 \
              UNION ALL SELECT station_id, 1, dock, docks.*, \
              NULL, NULL, NULL, NULL, NULL, NULL, NULL, NULL, NULL FROM docks \
              UNION ALL SELECT station_id, 2, bike, bikes.*, NULL, NULL, NULL, NULL FROM bikes \
              ORDER BY 1, 2, 3",
-        Query::Docks => "SELECT docks.*, stations_2.* FROM docks \
-             LEFT JOIN stations_2 ON stations_2.station_id = docks.station_id \
+        Query::Docks => "SELECT docks.*, stations_3.* FROM docks \
+             LEFT JOIN stations_3 ON stations_3.station_id = docks.station_id \
              ORDER BY docks.station_id, docks.dock",
-        Query::BikeNames => "SELECT bikes.*, types.*, stations_2.* FROM bikes \
+        Query::BikeNames => "SELECT bikes.*, types.*, stations_3.* FROM bikes \
              LEFT JOIN types ON types.type_id = bikes.type_id \
-             LEFT JOIN stations_2 ON stations_2.station_id = bikes.station_id \
+             LEFT JOIN stations_3 ON stations_3.station_id = bikes.station_id \
              ORDER BY bikes.bike",
         Query::BikeUses => "SELECT bikes.*, rentals.*, orders.* FROM bikes \
              LEFT JOIN rentals ON rentals.rental = bikes.rental \
@@ -60,19 +60,19 @@ pub(crate) fn text(query: Query) -> &'static str
         Query::RentalPlans => "SELECT rentals.*, plans.* FROM rentals \
              LEFT JOIN plans ON plans.plan_id = rentals.plan_id \
              ORDER BY rentals.rental",
-        Query::RentalStations => "SELECT rentals.*, stations_2.* FROM rentals \
-             LEFT JOIN stations_2 ON stations_2.station_id = rentals.from_station \
+        Query::RentalStations => "SELECT rentals.*, stations_3.* FROM rentals \
+             LEFT JOIN stations_3 ON stations_3.station_id = rentals.from_station \
              ORDER BY rentals.rental",
-        Query::RentalEnds => "SELECT rentals.*, stations_2.* FROM rentals \
-             LEFT JOIN stations_2 ON stations_2.station_id = rentals.to_station \
+        Query::RentalEnds => "SELECT rentals.*, stations_3.* FROM rentals \
+             LEFT JOIN stations_3 ON stations_3.station_id = rentals.to_station \
              ORDER BY rentals.rental",
         Query::OrderNames => "SELECT orders.*, trucks.*, types.* FROM orders \
              LEFT JOIN trucks ON trucks.truck = orders.truck \
              LEFT JOIN types ON types.type_id = orders.type_id \
              ORDER BY orders.ord",
         Query::OrderEnds => "SELECT orders.*, origins.*, targets.* FROM orders \
-             LEFT JOIN stations_2 AS origins ON origins.station_id = orders.from_end \
-             LEFT JOIN stations_2 AS targets ON targets.station_id = orders.to_end \
+             LEFT JOIN stations_3 AS origins ON origins.station_id = orders.from_end \
+             LEFT JOIN stations_3 AS targets ON targets.station_id = orders.to_end \
              ORDER BY orders.ord",
         Query::OrderBikes => "SELECT ord, 0, 0, orders.* FROM orders \
              UNION ALL SELECT ord, 1, bike, bikes.* FROM bikes \
@@ -85,8 +85,8 @@ pub(crate) fn text(query: Query) -> &'static str
              LEFT JOIN rentals ON rentals.rental = entries.rental \
              ORDER BY entries.entry",
         Query::Kept => "SELECT * FROM kept ORDER BY caller, req_key",
-        Query::CountNames => "SELECT counts.*, stations_2.*, types.* FROM counts \
-             LEFT JOIN stations_2 ON stations_2.station_id = counts.station_id \
+        Query::CountNames => "SELECT counts.*, stations_3.*, types.* FROM counts \
+             LEFT JOIN stations_3 ON stations_3.station_id = counts.station_id \
              LEFT JOIN types ON types.type_id = counts.type_id \
              ORDER BY counts.station_id, counts.type_id",
         Query::Counts =>
@@ -94,5 +94,14 @@ pub(crate) fn text(query: Query) -> &'static str
              UNION ALL SELECT station_id, 1, type_id, 1, bike, bikes.* FROM bikes \
              UNION ALL SELECT station_id, 1, type_id, 0, 0, counts.*, NULL, NULL, NULL, NULL FROM counts \
              ORDER BY 1, 2, 3, 4, 5",
+        Query::Names => "SELECT * FROM more_names ORDER BY kind, id, language",
+        Query::NamePlaces => "SELECT more_names.*, stations_3.*, regions.* FROM more_names \
+             LEFT JOIN stations_3 ON stations_3.station_id = more_names.id \
+             LEFT JOIN regions ON regions.region_id = more_names.id \
+             ORDER BY more_names.kind, more_names.id, more_names.language",
+        Query::NameOffers => "SELECT more_names.*, types.*, plans.* FROM more_names \
+             LEFT JOIN types ON types.type_id = more_names.id \
+             LEFT JOIN plans ON plans.plan_id = more_names.id \
+             ORDER BY more_names.kind, more_names.id, more_names.language",
     }
 }

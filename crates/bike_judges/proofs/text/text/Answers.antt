@@ -1,9 +1,9 @@
 use Rattle.std.proofs.Common.{refl}
 use Rattle.sqlite_tied.specs.Compute.{everything}
-use Rattle.bike_book.specs.Tables.{Meta, System, Plans, Regions, Riders, Rentals, Entries, Kept}
+use Rattle.bike_book.specs.Tables.{Meta, System, Plans, Regions, Riders, Rentals, Entries, Kept, MoreNames}
 use Rattle.bike_judges.proofs.RowTexts.{table_lines}
 use Rattle.bike_judges.proofs.JoinTexts.{segments_lines, types_lines, station_rows_lines, docks_lines, bike_trucks_lines, rental_riders_lines, rental_bikes_lines, rental_plans_lines, rental_stations_lines, rental_ends_lines, entry_riders_lines, entry_rentals_lines}
-use Rattle.bike_judges.proofs.TwoJoinTexts.{bike_names_lines, bike_uses_lines, order_names_lines, count_names_lines, order_ends_lines}
+use Rattle.bike_judges.proofs.TwoJoinTexts.{bike_names_lines, bike_uses_lines, order_names_lines, count_names_lines, name_places_lines, name_offers_lines, order_ends_lines}
 use Rattle.bike_judges.proofs.UnionTexts.{bike_docks_lines, trucks_lines, order_bikes_lines}
 use Rattle.bike_judges.proofs.UnionOfThreeTexts.{stations_lines, counts_lines}
 use Rattle.bike_judges.proofs.text.text.Goals as goal
@@ -127,3 +127,15 @@ returns-in-CountNames c = rw c.in-CountNames.is (count_names_lines (λ tree more
 pub returns-in-Counts : goal.returns-in-Counts
 unfolding everything
 returns-in-Counts c = rw c.in-Counts.is (counts_lines (λ tree more last. (refl, refl), refl))
+
+pub returns-in-Names : goal.returns-in-Names
+unfolding everything
+returns-in-Names c = rw c.in-Names.is (table_lines MoreNames (λ tree. refl, refl))
+
+pub returns-in-NamePlaces : goal.returns-in-NamePlaces
+unfolding everything
+returns-in-NamePlaces c = rw c.in-NamePlaces.is (name_places_lines (λ tree more last. refl, refl))
+
+pub returns-in-NameOffers : goal.returns-in-NameOffers
+unfolding everything
+returns-in-NameOffers c = rw c.in-NameOffers.is (name_offers_lines (λ tree more last. refl, refl))
