@@ -347,7 +347,7 @@ def bad_lines(count, seed=1):
             f"{moment}\trider:{rider}\tb{key}\tstart\t{rider}\tS0001\t{dock}\n",
             f"{moment}\trider:{rider}\tb{key}\tstart\t{rider}\ts0001\n",
             f"{moment}\trider:0{rider}\tb{key}\tstart\t{rider}\ts0001\t{dock}\n",
-            f"{moment}\tdock:s0001\tb{key}\tend\t{rider}\ts0001\t{dock + 200}\n",
+            f"{moment}\tdock:s0001\tb{key}\tend\t{rider}\ts0001\t{dock + 500}\n",
             f"{moment}\toffice\tb{key}!\ttop-up\t{rider}\t500\n",
             f"{moment}\toffice\tb{key}\ttop-up\t{rider}\t1000001\n",
             f"{moment}\toffice\tb{key}\ttopup\t{rider}\t500\n",

@@ -1,5 +1,5 @@
-"""The feeds, as `feed` writes them: the worked texts, names that need escapes, regions, and a made city whose numbers are counted from
-its tables by plain SQL."""
+"""The feeds, as `feed` writes them: the worked texts, names that need escapes, regions, names in further languages, and a made city whose
+numbers and names are taken from its tables by plain SQL."""
 
 import itertools
 import json
@@ -99,10 +99,10 @@ def test_a_system_alone(program):
 TEXTS = [
     # Names with escapes, and coordinates at zero and at their bounds.
     (
-        ['add-station\ta1\tQ "1"\\t\t-0.000001\t0\t1', "add-station\tb2\t\x01\\\\🚲\t90\t-180\t200"],
+        ['add-station\ta1\tQ "1"\\t\t-0.000001\t0\t1', "add-station\tb2\t\x01\\\\🚲\t90\t-180\t500"],
         "station_information",
         '{"stations":[{"station_id":"a1","name":[{"text":"Q \\"1\\"\\t","language":"en"}],"lat":-0.000001,"lon":0.000000,"capacity":1},'
-        '{"station_id":"b2","name":[{"text":"\\u0001\\\\🚲","language":"en"}],"lat":90.000000,"lon":-180.000000,"capacity":200}]}',
+        '{"station_id":"b2","name":[{"text":"\\u0001\\\\🚲","language":"en"}],"lat":90.000000,"lon":-180.000000,"capacity":500}]}',
     ),
     # No segments, and segments with and without an end.
     (
@@ -153,6 +153,51 @@ TEXTS = [
         '{"station_id":"c3","name":[{"text":"Station","language":"en"}],"lat":-1.000000,"lon":1.000000,"region_id":"a1","capacity":1},'
         '{"station_id":"d4","name":[{"text":"Station","language":"en"}],"lat":-1.000000,"lon":1.000000,"capacity":1}]}',
     ),
+    # The system's language first, and then the others by their bytes, whatever order they came in.
+    (
+        ["add-region\tr\tEast", "add-name\tregion\tr\tzz\tZ", "add-name\tregion\tr\tDE\tOst \\t🚲", 'add-name\tregion\tr\tde\tQ "1"\\\\'],
+        "system_regions",
+        '{"regions":[{"region_id":"r","name":[{"text":"East","language":"en"},{"text":"Ost \\t🚲","language":"DE"},'
+        '{"text":"Q \\"1\\"\\\\","language":"de"},{"text":"Z","language":"zz"}]}]}',
+    ),
+    # Each language once, of whatever has a name in it.
+    (
+        [
+            CITY[1], CITY[2], CITY[3], "add-region\tr\tEast", "add-name\tstation\ta1\tfr\tPort", "add-name\ttype\tcity\tEN\tCity", "add-name\tplan\tbasic\tzh-Hant\tB",
+            "add-name\tdescription\tbasic\tde\tE", "add-name\tregion\tr\tde\tOst", "add-name\tregion\tr\t-0\tOst", "add-name\tsystem\tmetro\tfr\tMétro",
+        ],
+        "system_information",
+        '{"system_id":"metro","languages":["en","-0","EN","de","fr","zh-Hant"],"name":[{"text":"Metro Bikes","language":"en"},'
+        '{"text":"Métro","language":"fr"}],"opening_hours":"24/7","feed_contact_email":"feeds@example.org","timezone":"Etc/UTC"}',
+    ),
+    # A plan and its description have names of their own, and neither is that of a station of the same identifier.
+    (
+        [
+            CITY[1], "add-station\tbasic\tBasic\t0\t0\t1", "add-name\tplan\tbasic\tfr\tSimple", "add-name\tdescription\tbasic\tde\tEin Euro",
+            "add-name\tdescription\tbasic\tit\tUn euro", "add-name\tstation\tbasic\tes\tSencillo",
+        ],
+        "system_pricing_plans",
+        '{"plans":[{"plan_id":"basic","name":[{"text":"Basic","language":"en"},{"text":"Simple","language":"fr"}],"currency":"EUR",'
+        '"price":1.00,"is_taxable":false,"description":[{"text":"One euro and then a quarter","language":"en"},{"text":"Ein Euro","language":"de"},'
+        '{"text":"Un euro","language":"it"}],"per_min_pricing":[{"start":30,"rate":0.25,"interval":5}]}]}',
+    ),
+    # Of two stations one has further names, and of two types the second.
+    (
+        ["add-station\ta1\tA\t-1\t1\t1", "add-station\ta\tB\t-1\t1\t1", "add-name\tstation\ta\tde\tC"],
+        "station_information",
+        '{"stations":[{"station_id":"a","name":[{"text":"B","language":"en"},{"text":"C","language":"de"}],"lat":-1.000000,"lon":1.000000,"capacity":1},'
+        '{"station_id":"a1","name":[{"text":"A","language":"en"}],"lat":-1.000000,"lon":1.000000,"capacity":1}]}',
+    ),
+    (
+        [
+            CITY[1], "add-type\tcargo\tCargo\tcargo_bicycle\telectric_assist\t60000\tbasic", "add-type\tcity\tCity\tbicycle\thuman\t0\tbasic",
+            "add-name\ttype\tcity\tde\tStadtrad",
+        ],
+        "vehicle_types",
+        '{"vehicle_types":[{"vehicle_type_id":"cargo","form_factor":"cargo_bicycle","propulsion_type":"electric_assist","max_range_meters":60000,'
+        '"name":[{"text":"Cargo","language":"en"}],"default_pricing_plan_id":"basic"},{"vehicle_type_id":"city","form_factor":"bicycle",'
+        '"propulsion_type":"human","name":[{"text":"City","language":"en"},{"text":"Stadtrad","language":"de"}],"default_pricing_plan_id":"basic"}]}',
+    ),
 ]
 
 
@@ -195,6 +240,91 @@ def test_regions(program):
             assert feed(program, name) == HEAD + data[name] + "}", (command, name, feed(program, name))
     assert data == {**DATA, "system_regions": data["system_regions"]}, data
     assert program.run("check", "city.db") == (0, b"sound\n", b"")
+
+
+# The same of names in further languages. A name's own language is looked for by its bytes.
+OWN, DE = '"text":"Harbour","language":"en"}', '{"text":"Hafen","language":"de"}'
+PLAN_OWN, TEXT_OWN = '"name":[{"text":"Basic","language":"en"}', '"text":"One euro and then a quarter","language":"en"}'
+MORE_NAMES = [
+    ("add-name\tstation\tzz\tde\tX", "refused\t1\tunknown_station", {}),
+    (
+        "add-name\tstation\ta1\tde\tHafen", "ok",
+        {"station_information": (OWN, f"{OWN},{DE}"), "system_information": ('["en"]', '["en","de"]')},
+    ),
+    ("add-name\tstation\ta1\tde\tHafen", "refused\t10\talready_there", {}),
+    ("add-name\tstation\ta1\ten\tHarbour", "refused\t10\talready_there", {}),
+    (
+        "add-name\tstation\ta1\tit\tPorto", "ok",
+        {"station_information": (DE, DE + ',{"text":"Porto","language":"it"}'), "system_information": ('"en","de"]', '"en","de","it"]')},
+    ),
+    (
+        "add-name\tstation\ta1\tfr\tPort", "ok",
+        {"station_information": (DE, DE + ',{"text":"Port","language":"fr"}'), "system_information": ('"de","it"]', '"de","fr","it"]')},
+    ),
+    ("add-name\tstation\ta1\tes\tPuerto", "refused\t32\tlimit_reached", {}),
+    ("add-name\tstation\ta1\tit\tPuerto", "refused\t10\talready_there", {}),
+    ("add-name\tsystem\tother\tde\tX", "refused\t11\tbad_field", {}),
+    (
+        "add-name\tsystem\tmetro\tDE\tMetro", "ok",
+        {"system_information": ('"en","de","fr","it"],"name":[{"text":"Metro Bikes","language":"en"}]',
+                                '"en","DE","de","fr","it"],"name":[{"text":"Metro Bikes","language":"en"},{"text":"Metro","language":"DE"}]')},
+    ),
+    ("add-name\tdescription\tbasic\tde\tEin Euro", "ok", {"system_pricing_plans": (TEXT_OWN, TEXT_OWN + ',{"text":"Ein Euro","language":"de"}')}),
+    ("add-name\tplan\tbasic\tde\tEinfach", "ok", {"system_pricing_plans": (PLAN_OWN, PLAN_OWN + ',{"text":"Einfach","language":"de"}')}),
+    ("add-name\tplan\tgold\tde\tGold", "refused\t7\tunknown_plan", {}),
+    (
+        "add-name\ttype\tcity\tfr\tVille", "ok",
+        {"vehicle_types": ('"text":"City","language":"en"}', '"text":"City","language":"en"},{"text":"Ville","language":"fr"}')},
+    ),
+    ("add-name\ttype\tbasic\tfr\tVille", "refused\t6\tunknown_type", {}),
+    ("add-name\tregion\tnorth\tde\tNorden", "refused\t37\tunknown_region", {}),
+]
+
+
+def test_names_in_further_languages(program):
+    """Each answer, and all feeds after it. The command reports nothing."""
+    assert ask(program, ["add-name\tstation\ta1\tde\tHafen"], first=300) == ["refused\t38\tsystem_missing"]
+    ask(program, CITY)
+    data = dict(DATA)
+    for at, (command, answer, changes) in enumerate(MORE_NAMES):
+        assert ask(program, [command], at=1699999300 + at, first=100 + at) == [answer], (command, answer)
+        for name, (old, new) in changes.items():
+            assert data[name].count(old) == 1, (command, data[name])
+            data[name] = data[name].replace(old, new)
+        for name in NAMES:
+            assert feed(program, name) == HEAD + data[name] + "}", (command, name, feed(program, name))
+    assert program.run("check", "city.db") == (0, b"sound\n", b"")
+
+
+def test_names_beyond_the_first_plane(program):
+    """Four-byte characters alone, at the greatest length and between others, in a language of the greatest length."""
+    long, tag = "🚲" * 30, "x" * 35
+    names = {"aa": long, "bb": "\U0010ffff\U00010000", tag: "a𝔘é\U0001f6b2\\t\\\\"}
+    assert ask(program, [*CITY, *(f"add-name\tstation\ta1\t{language}\t{text}" for language, text in names.items())])[-3:] == ["ok"] * 3
+    text = feed(program, "station_information")
+    wanted = "".join(f',{{"text":"{text}","language":"{language}"}}' for language, text in names.items())
+    assert f'"name":[{{"text":"Harbour","language":"en"}}{wanted}],' in text, text
+    (station,) = json.loads(text)["data"]["stations"]
+    assert [it["text"] for it in station["name"]] == ["Harbour", long, "\U0010ffff\U00010000", "a𝔘é🚲\t\\"], station
+    assert json.loads(feed(program, "system_information"))["data"]["languages"] == ["en", "aa", "bb", tag]
+
+
+def test_many_languages(program):
+    """Almost a hundred of them stand in the feed of the system, each once, in byte order; of 200 stations most have their own."""
+    pick = random.Random(7)
+    tags = [f"{chr(pick.choice([65, 97]) + it % 26)}{it:02}" for it in range(100)]
+    stations = [f"s{it:03}" for it in range(200)]
+    commands = [SYSTEM, *(f"add-station\t{it}\tStation {it}\t0\t0\t1" for it in stations)]
+    named = {station: pick.sample(tags, at % 4) for at, station in enumerate(stations)}
+    commands += [f"add-name\tstation\t{station}\t{tag}\t{station} in {tag}" for station, given in named.items() for tag in given]
+    answers = ask(program, commands)
+    assert answers == ["ok"] * len(commands), [it for it in zip(commands, answers) if it[1] != "ok"][:3]
+    data = json.loads(feed(program, "system_information"))["data"]
+    assert data["languages"] == ["en", *sorted({tag for given in named.values() for tag in given})] and len(data["languages"]) > 80, data
+    for it in json.loads(feed(program, "station_information"))["data"]["stations"]:
+        station = it["station_id"]
+        wanted = [("en", f"Station {station}"), *((tag, f"{station} in {tag}") for tag in sorted(named[station]))]
+        assert [(part["language"], part["text"]) for part in it["name"]] == wanted, it
 
 
 def test_256_regions(program):
@@ -405,6 +535,10 @@ def made_city(seed):
     commands += [f"add-station\t{it}\tStation {it}\t{pick.randint(-90, 90)}\t{pick.randint(-180, 180)}\t{n}" for it, n in docks.items()]
     commands += [f"add-region\tr{it}\tRegion {it}" for it in range(5)]
     commands += [f"set-region\t{it}\t{pick.choice(['*', 'r0', 'r1', 'r2', 'r3'])}" for it in pick.choices(list(docks), k=30)]
+    things = [("system", "metro"), *(("type", it) for it in types), ("plan", "basic"), ("description", "basic"), *(("region", f"r{it}") for it in range(5))]
+    for kind, ident in [*things, *(("station", it) for it in docks)]:
+        for language in pick.sample(["de", "DE", "fr", "it", "zh-Hant", "-0", "En"], pick.randint(0, 3)):
+            commands.append(f"add-name\t{kind}\t{ident}\t{language}\t{kind} {ident} in {language}")
     bike = order = 0
     for station, n in docks.items():
         for dock in pick.sample(range(1, n + 1), pick.randint(0, n)):
@@ -425,12 +559,41 @@ def made_city(seed):
     return commands
 
 
+# What has a name, with its own name and the list in which it stands in a feed.
+NAMED = {
+    "system": ("system_information", None, "SELECT system_id, name FROM system"), "type": ("vehicle_types", "vehicle_types", "SELECT type_id, name FROM types"),
+    "station": ("station_information", "stations", "SELECT station_id, name FROM stations_3"),
+    "plan": ("system_pricing_plans", "plans", "SELECT plan_id, name FROM plans"),
+    "description": ("system_pricing_plans", "plans", "SELECT plan_id, description FROM plans"),
+    "region": ("system_regions", "regions", "SELECT region_id, name FROM regions"),
+}
+
+
+def told_names(program):
+    """What feeds tell of each kind and identifier: languages and texts in their order."""
+    told = {}
+    for kind, (name, listed, _) in NAMED.items():
+        data = json.loads(feed(program, name))["data"]
+        for it in data[listed] if listed else [data]:
+            parts = it["description" if kind == "description" else "name"]
+            told[kind, it[f"{ {'type': 'vehicle_type', 'description': 'plan'}.get(kind, kind)}_id"]] = [(part["language"], part["text"]) for part in parts]
+    return told
+
+
+def stored_names(db):
+    """The same of the tables by plain SQL, and the languages of the system."""
+    told = {(kind, ident): [("en", own)] for kind, (_, _, query) in NAMED.items() for ident, own in db.execute(query)}
+    for kind, ident, language, text in db.execute("SELECT kind, id, language, name FROM more_names ORDER BY kind, id, language"):
+        told[kind, ident].append((language, text))
+    return told, ["en", *(it for (it,) in db.execute("SELECT DISTINCT language FROM more_names ORDER BY language"))]
+
+
 # A bicycle is available where it is fit (0) and its dock isn't broken; a dock without a row works.
 COUNTED = """
 SELECT stations.station_id, types.type_id,
   (SELECT count(*) FROM bikes LEFT JOIN docks ON docks.station_id = bikes.station_id AND docks.dock = bikes.dock
      WHERE bikes.station_id = stations.station_id AND bikes.type_id = types.type_id AND bikes.state = 0 AND coalesce(docks.broken, 0) = 0)
-FROM stations_2 AS stations, types ORDER BY 1, 2
+FROM stations_3 AS stations, types ORDER BY 1, 2
 """
 
 
@@ -450,10 +613,13 @@ def test_a_made_city_is_counted_by_sql(program):
         both = dict(db.execute(
             "SELECT bikes.station_id, count(*) FROM bikes JOIN docks USING (station_id, dock) WHERE docks.broken = 1 GROUP BY 1"
         ))
-        capacity = dict(db.execute("SELECT station_id, docks FROM stations_2"))
-        region = dict(db.execute("SELECT station_id, region_id FROM stations_2 JOIN regions USING (region_id)"))
+        capacity = dict(db.execute("SELECT station_id, docks FROM stations_3"))
+        region = dict(db.execute("SELECT station_id, region_id FROM stations_3 JOIN regions USING (region_id)"))
         names = db.execute("SELECT region_id, regions.name FROM regions ORDER BY region_id").fetchall()
+        stored, languages = stored_names(db)
         db.close()
+        assert told_names(program) == stored and sum(len(it) for it in stored.values()) > len(stored) + 10, (seed, stored)
+        assert json.loads(feed(program, "system_information"))["data"]["languages"] == languages, (seed, languages)
         places = json.loads(feed(program, "station_information"))["data"]["stations"]
         assert {it["station_id"]: it["region_id"] for it in places if "region_id" in it} == region and 3 < len(region) < len(places), (seed, places)
         regions = json.loads(feed(program, "system_regions"))["data"]["regions"]

@@ -2,7 +2,8 @@
 
 Whatever comes, the program neither crashes nor hangs. Each line is answered exactly once, as the operator in model.py answers it; each
 connection gets one well-formed response, the one that docs/FORMATS.md, section 6, and the same operator demand where this file can tell it,
-or is closed; words end with a status of docs/OPERATOR.md, section 12, and its line. Afterwards `check` says `sound`.
+or is closed; words end with a status of docs/OPERATOR.md, section 12, and its line. Afterwards `check` says `sound`, and the feeds tell
+all names that the operator has.
 
 Some 2,000 inputs stand in the gate. By hand, from the environment:
 
@@ -38,7 +39,7 @@ def by_path(name):
     return module
 
 
-formats, model, serving = by_path("formats"), by_path("model"), by_path("serving")
+feeds, formats, model, serving = (by_path(it) for it in ("feeds", "formats", "model", "serving"))
 
 
 def told(data):
@@ -48,6 +49,7 @@ def told(data):
 # ---- what inputs are made of
 
 TYPES, PLANS, STATIONS, REGIONS = ["city", "cargo", "none"], ["basic", "day", "none"], ["a1", "b2", "c3", "zz"], ["north", "south", "a1", "zz"]
+NAMED = {"system": ["metro", "other"], "station": STATIONS, "type": TYPES, "plan": PLANS, "description": PLANS, "region": REGIONS}
 TEXTS = [
     "Name", "Łódź 🚲", "a\\tb", "\\\\", "\\n\\r", "\\x", "\\", "", "é" * 60, "é" * 61, "n" * 120, "n" * 121, " ", "\x7f", "\x01", "\u0085", "\u2028",
     "\ufeff", "\U0010ffff", "'; DROP TABLE bikes; --", "%s%n", "../..", '"', "\u202e",
@@ -55,6 +57,7 @@ TEXTS = [
 DEGREES = "0 -0 45.5 -45.123456 007 90 180 90.000001 -180 180.000001 1. .5 +1 1.0000000 x 000.0 0000".split()
 SEGMENTS = ["-", "30:25:5:-", "0:-60:0:30;20:50:10:-", "1:2:3:1", "0:-0:1:-", ":::", "1:1:1:-;", "0:1:1:5;" * 8 + "0:1:1:5", "100000:-100000:100000:-", ""]
 LANGUAGES, CURRENCIES = ["en", "e", "x" * 35, "x" * 36, "e n"], ["EUR", "eur", "EURO"]
+FURTHER = ["en", "de", "DE", "fr", "it", "zh-Hant-TW", "00", "--", "x" * 35]
 FORMS, PROPULSIONS, RANGES = ["bicycle", "cargo_bicycle", "boat"], ["human", "electric_assist"], ["0", "60000", "1000001"]
 BIG = ["4294967296", "18446744073709551616", "9" * 30, "9" * 400, "-1", "+1", "01", "1.0", "1e3", "0x10", "٣", "¹", "", "١٢"]
 
@@ -98,11 +101,17 @@ def command(pick):
     def region():
         return pick.choice(REGIONS) if pick.random() < 0.9 else pick.choice(["North", "", "*", "**", "r" * 36, "r" * 37, "a b"])
 
+    def named():
+        what = pick.choice(list(NAMED))
+        ident = pick.choice(NAMED[what]) if pick.random() < 0.9 else pick.choice([station(), region()])
+        good = pick.random() < 0.9
+        return [what if good else pick.choice(["Station", "", "bike", "stations", "system "]), ident, pick.choice(FURTHER if good else LANGUAGES), text()]
+
     def kind():
         return pick.choice(TYPES)
 
     def dock():
-        return numbers(pick, 1, 200) if pick.random() < 0.2 else str(pick.randint(1, 6))
+        return numbers(pick, 1, formats.MOST_DOCKS) if pick.random() < 0.2 else str(pick.randint(1, 6))
 
     def rider():
         return bike()
@@ -137,7 +146,7 @@ def command(pick):
         "load": lambda: [pick.choice(["1", "2", "3", bike()]), serial(), bike()],
         "unload": lambda: [pick.choice(["1", "2", "3", bike()]), serial(), bike(), pick.choice(["from", "to"]), pick.choice(["0", dock()])],
         "close-order": lambda: [serial()],
-        "add-name": lambda: ["station", station(), pick.choice(LANGUAGES), text()],
+        "add-name": named,
         "raise": lambda: [""],
     }
     often = ["start", "end", "load", "unload", "open-order", "add-bike", "top-up", "mark-bike", "mark-dock"]
@@ -208,7 +217,7 @@ CITY = [
     "add-plan\tbasic\tBasic\t100\tfalse\tBasic\t30:25:5:-", "add-plan\tday\tDay\t250\ttrue\tDay\t-",
     "add-type\tcity\tCity\tbicycle\thuman\t0\tbasic", "add-type\tcargo\tCargo\tcargo_bicycle\telectric_assist\t60000\tday",
     "add-station\ta1\tHarbour\t41.890169\t12.492269\t6", "add-station\tb2\tBridge\t-45\t9.1\t5", "add-truck\t3\t20", "add-truck\t1\t3",
-    "add-region\tnorth\tNorth", "set-region\tb2\tnorth",
+    "add-region\tnorth\tNorth", "set-region\tb2\tnorth", "add-name\tstation\ta1\tde\tHafen", "add-name\tdescription\tday\tfr\tJour",
     *(f"add-bike\t{it}\t{'cargo' if it % 3 == 0 else 'city'}" for it in range(1, 9)),
     *(f"add-rider\t{it}" for it in range(1, 9)), *(f"top-up\t{it}\t10000" for it in range(1, 9)),
     "open-order\t3\t*\ta1\tcity\t4", *(f"load\t3\t1\t{it}" for it in (1, 2, 4)), *(f"unload\t3\t1\t{it}\tto\t{it}" for it in (1, 2, 4)),
@@ -285,6 +294,11 @@ def test_lines(program):
             answered(program, operator, lines, data, pick, f"seed {SEED}, batch {batch}, again")
         ended = program.run("check", "city.db")
         assert ended == (0, b"sound\n", b""), f"seed {SEED}, batch {batch}: check: {ended}"
+    # Feeds tell all names, in all languages, that the operator has then.
+    found, right = feeds.told_names(program), operator.told_names()
+    assert found == right, f"seed {SEED}: {[(it, found.get(it), right.get(it)) for it in found | right if found.get(it) != right.get(it)][:3]}"
+    found = json.loads(feeds.feed(program, "system_information"))["data"]["languages"]
+    assert found == operator.languages(), f"seed {SEED}: {found}, not {operator.languages()}"
 
 
 def answered(program, operator, lines, data, pick, where):
@@ -323,7 +337,7 @@ def posted(pick):
     def one(good, bad):
         return pick.choice(good if pick.random() < 0.93 else bad)
 
-    dock, station = one([1, 2, 3, 4, 5], [0, 201, "1", 1.0, None, -1, 2**64, [1]]), one(["a1", "b2", "zz"], ["A1", 5, ""])
+    dock, station = one([1, 2, 3, 4, 5, 1, 2, 3, 4, 5, 201, 500], [0, 501, "1", 1.0, None, -1, 2**64, [1]]), one(["a1", "b2", "zz"], ["A1", 5, ""])
     bike, state = one([1, 2, 3, 4, 9], [0, 1_000_000, "1", True]), one(["disabled", "fit", "broken", "working"], ["Fit", True])
     order, side = one([1, 2, 3], [0, 100_000_001]), one(["to", "from"], ["up", 1])
     named = {"key": f"h{pick.randrange(10**6)}" if pick.random() < 0.96 else pick.choice(["", "k" * 65, 1, "é", "k 1", None])}
@@ -419,12 +433,12 @@ def plain_head(data):
 
 
 ROUTES = [
-    (rb"/riders/(?P<rider>[^/]*)/start", "POST", {"station": "ident", "dock": (1, 200)}),
-    (rb"/docks/(?P<station>[^/]*)/end", "POST", {"bike": (1, 999_999), "dock": (1, 200)}),
-    (rb"/docks/(?P<station>[^/]*)/mark-dock", "POST", {"dock": (1, 200), "state": ("broken", "working")}),
+    (rb"/riders/(?P<rider>[^/]*)/start", "POST", {"station": "ident", "dock": (1, formats.MOST_DOCKS)}),
+    (rb"/docks/(?P<station>[^/]*)/end", "POST", {"bike": (1, 999_999), "dock": (1, formats.MOST_DOCKS)}),
+    (rb"/docks/(?P<station>[^/]*)/mark-dock", "POST", {"dock": (1, formats.MOST_DOCKS), "state": ("broken", "working")}),
     (rb"/docks/(?P<station>[^/]*)/mark-bike", "POST", {"bike": (1, 999_999), "state": ("disabled", "fit")}),
     (rb"/crews/(?P<truck>[^/]*)/load", "POST", {"order": (1, 100_000_000), "bike": (1, 999_999)}),
-    (rb"/crews/(?P<truck>[^/]*)/unload", "POST", {"order": (1, 100_000_000), "bike": (1, 999_999), "side": ("from", "to"), "dock": (0, 200)}),
+    (rb"/crews/(?P<truck>[^/]*)/unload", "POST", {"order": (1, 100_000_000), "bike": (1, 999_999), "side": ("from", "to"), "dock": (0, formats.MOST_DOCKS)}),
     (rb"/crews/(?P<truck>[^/]*)/mark-bike", "POST", {"bike": (1, 999_999), "state": ("disabled", "fit")}),
     (rb"/office", "POST", {"command": "command"}),
     (rb"/riders/(?P<rider>[^/]*)", "GET", "row"), (rb"/bikes/(?P<rider>[^/]*)", "GET", "row"),
@@ -695,7 +709,7 @@ VOCABULARY = [
     "gbfs", "station_status", "system_regions", "nothing", "é", "\udcff", "x" * 300, "x" * 100_000, "a\nb", "%s", "*", "~",
 ]
 ENDS = re.compile(
-    rb"system missing|bad header|bad date|bad zone|day out of range|row [0-9]+ [a-z_]+|store failed|out of memory|foreign|unsound [a-z]+ .*"
+    rb"system missing|bad header|bad date|bad zone|day out of range|row [0-9]+ [a-z_]+|store failed|out of memory|foreign|unsound [a-z0-9_]+ .*"
     rb"|older [0-9]+|newer [0-9]+|read failed|write failed", re.S
 )
 OUTPUT = re.compile(rb"|ready\n|sound\n|rows [0-9]+\n|\{.*\}|number,[a-z0-9,\n.:TZ*-]*\n")

@@ -19,8 +19,8 @@ def load(program, table, name="spring", *words):
 def stations(program):
     """The stations in the file: identifier, name, latitude, longitude in microdegrees, docks."""
     stored = sqlite3.connect(Path(program.folder) / "city.db")
-    columns = [row[1] for row in stored.execute("PRAGMA table_info(stations_2)")]
-    rows = [dict(zip(columns, row)) for row in stored.execute("SELECT * FROM stations_2 ORDER BY station_id")]
+    columns = [row[1] for row in stored.execute("PRAGMA table_info(stations_3)")]
+    rows = [dict(zip(columns, row)) for row in stored.execute("SELECT * FROM stations_3 ORDER BY station_id")]
     stored.close()
     return [(row["station_id"], row["name"], row["lat"], row["lon"], row["docks"]) for row in rows]
 
@@ -80,14 +80,24 @@ def test_headers(program):
 
 
 def test_rows_of_every_form(program):
-    table = HEADER + 'q1,"He said ""ciao""",45,9.1,10\r\n' + '\nq2,"two\nlines",-0.000001,-180,1\n' + "q3,back\\tslash,90,180,200\n" + '"q4",Last,-90,"9.1","7"'
+    table = HEADER + 'q1,"He said ""ciao""",45,9.1,10\r\n' + '\nq2,"two\nlines",-0.000001,-180,1\n' + "q3,back\\tslash,90,180,500\n" + '"q4",Last,-90,"9.1","7"'
     assert load(program, table) == (0, "rows 4\n", ""), load(program, table)
     assert stations(program) == [
         ("q1", 'He said "ciao"', 45000000, 9100000, 10),
         ("q2", "two\nlines", -1, -180000000, 1),
-        ("q3", "back\\tslash", 90000000, 180000000, 200),
+        ("q3", "back\\tslash", 90000000, 180000000, 500),
         ("q4", "Last", -90000000, 9100000, 7),
     ], stations(program)
+    assert is_sound(program)
+
+
+def test_500_docks_and_501(program):
+    assert load(program, HEADER + "c1,Canal,45,9.1,500\nc2,Corso,45,9.1,499\nc3,Castle,45,9.1,501\n") == (1, "", "row 3 bad_field\n")
+    assert [(row[0], row[4]) for row in stations(program)] == [("c1", 500), ("c2", 499)] and is_sound(program)
+    lines = b"".join(b"%s\toffice\tk%d\tmark-dock\tc1\t%d\tbroken\n" % (AT.encode(), dock, dock) for dock in (499, 500, 501))
+    assert program.run("lines", "city.db", given=lines) == (0, b"ok\nok\nrefused\t11\tbad_field\n", b"")
+    lines = f"{AT}\toffice\tm\tmark-dock\tc2\t500\tbroken\n".encode()
+    assert program.run("lines", "city.db", given=lines) == (0, b"refused\t2\tunknown_dock\n", b"")
     assert is_sound(program)
 
 
@@ -102,7 +112,8 @@ def test_rows_that_are_unreadable(program):
             (b"c2,Corso,45,9.1,\xed\xa0\x80\n", "unreadable"),
             ('c2,"Corso,45,9.1,10\n' + "c3,Castle,45,9.3,8\n" * 5, "unreadable"),
             ("c2,Corso,45,9.1,0\n", "bad_field"),
-            ("c2,Corso,45,9.1,201\n", "bad_field"),
+            ("c2,Corso,45,9.1,501\n", "bad_field"),
+            ("c2,Corso,45,9.1,1000\n", "bad_field"),
             ("c2,Corso,45,9.1,010\n", "bad_field"),
             ("c2,Corso,45,9.1, 10\n", "bad_field"),
             ("c2,Corso,45.1234567,9.1,10\n", "bad_field"),
@@ -133,7 +144,7 @@ def test_words_of_import(program):
 
 
 def test_many_stations(program):
-    rows = [f"s{number},Station {number},45.{number:06},9.{number:06},{number % 200 + 1}\n" for number in range(1, 1001)]
+    rows = [f"s{number},Station {number},45.{number:06},9.{number:06},{number % 500 + 1}\n" for number in range(1, 1001)]
     assert load(program, HEADER + "".join(rows)) == (0, "rows 1000\n", "")
     assert len(stations(program)) == 1000 and is_sound(program)
     assert load(program, HEADER + "".join(rows) + "s1001,More,45,9,1\n") == (0, "rows 1001\n", "")

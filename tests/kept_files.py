@@ -1,7 +1,7 @@
-"""Files of schema 1 that an earlier program wrote, as they stand in files/, with what that program showed of each (files/README.md).
+"""Files of schemas 1 and 2 that earlier programs wrote, as they stand in files/, with what these showed of each (files/README.md).
 
-No word serves such a file before it is raised, and `raise` isn't built: each says `older 1` and leaves the file as it is. What a city shows
-that is made anew from the same request lines is what the earlier program showed of it.
+No word serves such a file before it is raised, and `raise` isn't built: each says `older 1` or `older 2` and leaves the file as it is. What a
+city shows that is made anew from the same request lines is what the earlier program showed of it.
 """
 
 import gzip
@@ -11,9 +11,8 @@ from pathlib import Path
 
 HERE = Path(__file__).resolve().parent
 FILES, TOUR = HERE / "files", HERE.parent / "docs/tour.txt"
-OLDER = (5, b"", b"older 1\n")
 
-# The feed gbfs ends so, and lists one feed more than it did.
+# The feed gbfs ends so, and lists one feed more than it did for a file of schema 1.
 LAST = "]}}"
 LISTED = ',{"name":"system_regions","url":"http://127.0.0.1:8080/gbfs/3.0/system_regions.json"}'
 
@@ -40,8 +39,9 @@ def shown_of(name):
     """What the earlier program showed of a file, but for the feeds that this one lists."""
     shown = json.loads((FILES / f"{name}.json").read_text(encoding="utf-8"))
     gbfs = shown["feeds"]["gbfs"]
-    assert gbfs.endswith(LAST) and "system_regions" not in gbfs, gbfs
-    shown["feeds"]["gbfs"] = gbfs.removesuffix(LAST) + LISTED + LAST
+    assert gbfs.endswith(LAST) and (LISTED in gbfs) == ("system_regions" in shown["feeds"]), gbfs
+    if LISTED not in gbfs:
+        shown["feeds"]["gbfs"] = gbfs.removesuffix(LAST) + LISTED + LAST
     return shown
 
 
@@ -67,7 +67,7 @@ def made_anew_shows(program, name, lines):
     shows(program, "anew.db", shown_of(name))
 
 
-def is_older(program, name):
+def is_older(program, name, version):
     """Every word says so of the file, reads nothing and writes nothing, and the file stays as it is, byte for byte and row for row."""
     file = unpacked(program, name)
     before, rows = file.read_bytes(), adoption.held(file)
@@ -77,26 +77,25 @@ def is_older(program, name):
     ):
         given = b"1700000000\toffice\tnew\tadd-region\tnorth\tNorth\n" if words[0] == "lines" else b"station_id,name,lat,lon,docks\nz9,New,0,0,1\n"
         found = program.run(words[0], file.name, *words[1:], given=given)
-        assert found == OLDER, (words, found)
+        assert found == (5, b"", b"older %d\n" % version), (words, found)
         assert file.read_bytes() == before and adoption.held(file) == rows, (words, "the file was changed")
 
 
 def test_the_tour(program):
-    is_older(program, "tour")
+    is_older(program, "tour", 1)
 
 
 def test_the_city_of_the_examples(program):
-    is_older(program, "city")
+    is_older(program, "city", 1)
 
 
 def test_every_kind_of_row(program):
-    is_older(program, "every")
+    is_older(program, "every", 1)
 
 
 def test_a_file_with_regions(program):
-    """Kept when regions came in, of schema 2: the program of this schema serves it."""
-    unpacked(program, "regions")
-    shows(program, "regions.db", json.loads((FILES / "regions.json").read_text(encoding="utf-8")))
+    """Kept when regions had come in, of schema 2."""
+    is_older(program, "regions", 2)
 
 
 def test_the_tour_made_anew(program):
@@ -107,34 +106,53 @@ def test_every_kind_of_row_made_anew(program):
     made_anew_shows(program, "every", (FILES / "every.in").read_bytes())
 
 
+def test_regions_made_anew(program):
+    made_anew_shows(program, "regions", (FILES / "regions.in").read_bytes())
+
+
 def test_an_older_file_whose_rows_are_bad(program):
     """Its rows are not looked at, and neither are its other tables."""
-    for change in (
-        "UPDATE riders SET balance = balance + 1", "DELETE FROM stations", "DROP TABLE counts", "CREATE TABLE regions (a)", "ALTER TABLE stations RENAME TO stations_2",
-    ):
-        file = unpacked(program, "every")
-        adoption.changed(file, change)
-        adoption.checked(program, file, "older 1")
+    bad = ["UPDATE riders SET balance = balance + 1", "DROP TABLE counts", "CREATE TABLE more_names (a)"]
+    older = [*bad, "DELETE FROM stations", "CREATE TABLE regions (a)", "ALTER TABLE stations RENAME TO stations_3"]
+    newer = [*bad, "DELETE FROM stations_2", "DROP TABLE regions", "ALTER TABLE stations_2 RENAME TO stations_3"]
+    for name, version, changes in ("every", 1, older), ("regions", 2, newer):
+        for change in changes:
+            file = unpacked(program, name)
+            adoption.changed(file, change)
+            adoption.checked(program, file, f"older {version}")
 
 
-def test_a_file_of_schema_1_that_calls_itself_newer(program):
-    """The version alone makes no file of schema 2: its tables are others."""
-    file = unpacked(program, "tour")
-    adoption.changed(file, "UPDATE meta SET version = 2")
-    adoption.checked(program, file, "foreign")
-    adoption.changed(file, "DELETE FROM meta")
-    adoption.checked(program, file, "foreign")
+def test_an_older_file_that_calls_itself_newer(program):
+    """The version alone makes no file of another schema: its tables are others."""
+    for name, versions in ("tour", {2: "older 2", 3: "foreign", 4: "newer 4"}), ("regions", {1: "older 1", 3: "foreign", 4: "newer 4"}):
+        file = unpacked(program, name)
+        for version, wanted in versions.items():
+            adoption.changed(file, f"UPDATE meta SET version = {version}")
+            adoption.checked(program, file, wanted)
+        adoption.changed(file, "DELETE FROM meta")
+        adoption.checked(program, file, "foreign")
+
+
+# What schema 3 has more than schema 2, and schema 2 more than schema 1: a station's region, a table of regions, and one of further names.
+STATIONS = (
+    "CREATE TABLE stations_3 (station_id TEXT PRIMARY KEY NOT NULL, name TEXT NOT NULL, lat INTEGER NOT NULL, lon INTEGER NOT NULL,"
+    " docks INTEGER NOT NULL, installed INTEGER NOT NULL, renting INTEGER NOT NULL, \"returning\" INTEGER NOT NULL, reported INTEGER NOT NULL,"
+    " free INTEGER NOT NULL, broken INTEGER NOT NULL, region_id TEXT) STRICT;"
+)
+MORE_NAMES = (
+    "CREATE TABLE more_names (kind TEXT NOT NULL, id TEXT NOT NULL, language TEXT NOT NULL, name TEXT NOT NULL, PRIMARY KEY (kind, id, language)) STRICT;"
+    "CREATE INDEX more_names_by_language ON more_names (language); UPDATE meta SET version = 3"
+)
+REGIONS = "CREATE TABLE regions (region_id TEXT PRIMARY KEY NOT NULL, name TEXT NOT NULL) STRICT;"
+RAISED = {
+    1: f"{REGIONS} {STATIONS} INSERT INTO stations_3 SELECT *, NULL FROM stations; DROP TABLE stations; {MORE_NAMES}",
+    2: f"{STATIONS} INSERT INTO stations_3 SELECT * FROM stations_2; DROP TABLE stations_2; {MORE_NAMES}",
+}
 
 
 def test_a_file_that_is_raised_by_hand(program):
-    """Schema 2 is schema 1 with a table of regions, and with a region at each station, which is none: the rest is taken as it stands."""
-    for name in "tour", "every", "city":
+    """No station has a region that it had not, and nothing a further name: the rest is taken as it stands."""
+    for name, version in ("tour", 1), ("every", 1), ("city", 1), ("regions", 2):
         file = unpacked(program, name)
-        adoption.changed(file, (
-            "CREATE TABLE regions (region_id TEXT PRIMARY KEY NOT NULL, name TEXT NOT NULL) STRICT;"
-            "CREATE TABLE stations_2 (station_id TEXT PRIMARY KEY NOT NULL, name TEXT NOT NULL, lat INTEGER NOT NULL, lon INTEGER NOT NULL,"
-            " docks INTEGER NOT NULL, installed INTEGER NOT NULL, renting INTEGER NOT NULL, \"returning\" INTEGER NOT NULL, reported INTEGER NOT NULL,"
-            " free INTEGER NOT NULL, broken INTEGER NOT NULL, region_id TEXT) STRICT;"
-            "INSERT INTO stations_2 SELECT *, NULL FROM stations; DROP TABLE stations; UPDATE meta SET version = 2"
-        ))
+        adoption.changed(file, RAISED[version])
         shows(program, file.name, shown_of(name))

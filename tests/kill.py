@@ -103,12 +103,16 @@ LIST = [
     ("office", "set-region b2 south"),
     ("office", "set-region b2 north"),
     ("office", "set-region b2 *"),
+    ("office", "add-name station a1 de Hafen"),
+    ("office", "add-name station a1 en Harbour"),
+    ("office", "add-name system other de Metro"),
+    ("office", "add-name description day de Tag"),
     *[("office", f"top-up 17 {it}") for it in range(1, MORE + 1)],
 ]
-REFUSED = {8: 10, 24: 4, 31: 11, 50: 30, 56: 35, 62: 33, 63: 10, 67: 37}
+REFUSED = {8: 10, 24: 4, 31: 11, 50: 30, 56: 35, 62: 33, 63: 10, 67: 37, 71: 10, 72: 11}
 
 # The columns that hold moments: HTTP requests have the clock's.
-MOMENTS = {"meta": ["now"], "stations_2": ["reported"], "rentals": ["start", "finish"], "entries": ["at"]}
+MOMENTS = {"meta": ["now"], "stations_3": ["reported"], "rentals": ["start", "finish"], "entries": ["at"]}
 
 
 def keyed():

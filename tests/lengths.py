@@ -5,12 +5,16 @@ OK = b"ok\n"
 BAD_FIELD = b"refused\t11\tbad_field\n"
 SYSTEM = [b"set-system", b"metro", b"en", b"Metro", b"24/7", b"a@example.org", b"Etc/UTC", b"EUR", b"http://127.0.0.1", b"30"]
 REGION = [b"add-region", b"north", b"North"]
+NAME = [b"add-name", b"system", b"metro", b"de", b"Metro"]
 
 
 def is_read(program, fields, at, text):
-    """Whether the command is accepted with this text in the place of one field."""
+    """Whether the command is accepted with this text in the place of one field. A name in a further language wants a system."""
     command = b"\t".join([*fields[:at], text, *fields[at + 1 :]])
-    status, found, said = program.run(given=HEAD + b"k1\t" + command + b"\n")
+    before = [HEAD + b"k0\t" + b"\t".join(SYSTEM) + b"\n"] if fields is NAME else []
+    status, found, said = program.run(given=b"".join([*before, HEAD + b"k1\t" + command + b"\n"]))
+    assert found.startswith(OK * len(before)), found
+    found = found.removeprefix(OK * len(before))
     assert (status, said) == (0, b"") and found in (OK, BAD_FIELD), f"status {status}, answers {found}, messages {said}"
     return found == OK
 
@@ -40,6 +44,12 @@ def test_regions(program):
         has_lengths(program, REGION, 2, unit, 1, most)
 
 
+def test_names_in_further_languages(program):
+    has_lengths(program, NAME, 3, b"a", 2, 35)
+    for unit, most in ((b"N", 120), (b"\\\\", 120), ("é".encode(), 60), ("🚲".encode(), 30)):
+        has_lengths(program, NAME, 4, unit, 1, most)
+
+
 def test_printable_fields(program):
     for at in (4, 5, 6, 8):
         for unit in (b"~", b" ", b"\\\\"):
@@ -53,6 +63,9 @@ def test_currencies(program):
 
 
 def test_the_longest_system(program):
+    """And its longest name in a further language."""
     fields = [b"set-system", b"m" * 36, b"e" * 35, b"\\\\" * 120, *[b"\\\\" * 200] * 3, b"EUR", b"\\\\" * 200, b"86400"]
-    line = b"253402300799\timport:" + b"i" * 36 + b"\t" + b"k" * 64 + b"\t" + b"\t".join(fields) + b"\n"
-    program.answers(line + line, OK + OK)
+    head = b"253402300799\timport:" + b"i" * 36 + b"\t"
+    line = head + b"k" * 64 + b"\t" + b"\t".join(fields) + b"\n"
+    name = head + b"n" * 64 + b"\t" + b"\t".join([b"add-name", b"system", b"m" * 36, b"f" * 35, b"\\\\" * 120]) + b"\n"
+    program.answers(line + line + name + name, OK * 4)

@@ -224,7 +224,7 @@ def test_checks_and_feeds(program):
     state = fresh(program, len(LINES))
     parts = kept(program)
     opened = refusing.opened()
-    for words in ["check", "city.db"], ["feed", "city.db", "station_status", "--at", "1700000000"], ["feed", "city.db", "system_pricing_plans", "--at", "0"], ["feed", "city.db", "system_regions", "--at", "0"]:
+    for words in ["check", "city.db"], ["feed", "city.db", "station_status", "--at", "1700000000"], ["feed", "city.db", "system_pricing_plans", "--at", "0"], ["feed", "city.db", "system_regions", "--at", "0"], ["feed", "city.db", "system_information", "--at", "0"]:
         right = refusing.run(words, b"")
         assert right[0] == 0 and right[1] and not right[2], right
 

@@ -40,8 +40,8 @@ class Operator:
         self.system = None
         self.plans, self.types, self.regions, self.stations, self.trucks, self.riders, self.bikes = {}, {}, {}, {}, {}, {}, {}
         self.broken, self.rentals, self.orders, self.entries, self.kept = set(), [], [], [], {}
-        # Further names: of a kind and an identifier, by language.
-        self.names = {}
+        # Names, as commands spell them: of a kind and an identifier, and the further ones of these by language.
+        self.named, self.further = {}, {}
 
     def answer(self, line):
         """The answer to a line without its line feed."""
@@ -64,6 +64,15 @@ class Operator:
         self.kept[caller, key] = text, reply.encode()
         return reply.encode()
 
+    def told_names(self):
+        """What feeds tell of each kind and identifier: languages and texts, the system's own language first and then by their bytes."""
+        told = {key: [(self.system[1], own), *sorted(self.further.get(key, {}).items())] for key, own in self.named.items()}
+        return {key: [(language, formats.unescaped(text.encode()).decode()) for language, text in names] for key, names in told.items()}
+
+    def languages(self):
+        """The system's own, and then each other once by their bytes."""
+        return [self.system[1], *sorted({language for names in self.further.values() for language in names})]
+
     # Each command tests first, and changes nothing before its last test.
 
     def report(self, station):
@@ -84,9 +93,10 @@ class Operator:
     def is_full_of_entries(self):
         return len(self.entries) + sum(it["finish"] is None for it in self.rentals) >= 100_000_000
 
-    def set_system(self, *fields):
+    def set_system(self, system, language, name, *fields):
         refuse(10, self.system)
-        self.system = fields
+        self.system = system, language
+        self.named["system", system] = name
 
     def add_plan(self, plan, name, price, taxable, description, segments):
         refuse(10, plan in self.plans)
@@ -94,12 +104,14 @@ class Operator:
         parts = [] if segments == "-" else [it.split(":") for it in segments.split(";")]
         rows = [(int(start), int(rate), int(interval), None if end == "-" else int(end)) for start, rate, interval, end in parts]
         self.plans[plan] = {"price": int(price), "segments": rows}
+        self.named["plan", plan], self.named["description", plan] = name, description
 
     def add_type(self, kind, name, form, propulsion, most, plan):
         refuse(10, kind in self.types)
         refuse(7, plan not in self.plans)
         refuse(32, len(self.types) >= 32)
         self.types[kind] = plan
+        self.named["type", kind] = name
 
     def set_plan(self, kind, plan):
         refuse(6, kind not in self.types)
@@ -109,12 +121,14 @@ class Operator:
     def add_region(self, region, name):
         refuse(10, region in self.regions)
         refuse(32, len(self.regions) >= 256)
-        self.regions[region] = name
+        self.regions[region] = True
+        self.named["region", region] = name
 
     def add_station(self, station, name, lat, lon, docks):
         refuse(10, station in self.stations)
         refuse(32, len(self.stations) >= 5000)
         self.stations[station] = {"docks": int(docks), "flags": (True, True, True), "region": None}
+        self.named["station", station] = name
         self.report(station)
 
     def set_region(self, station, region):
@@ -131,10 +145,10 @@ class Operator:
             "description": (self.plans, 7), "region": (self.regions, 37),
         }[kind]
         refuse(unknown, ident not in there)
-        given = self.names.get((kind, ident), {})
+        given = self.further.get((kind, ident), {})
         refuse(10, language == self.system[1] or language in given)
         refuse(32, len(given) >= 3)
-        self.names[kind, ident] = {**given, language: name}
+        self.further[kind, ident] = {**given, language: name}
 
     def set_station(self, station, *flags):
         refuse(1, station not in self.stations)

@@ -387,7 +387,7 @@ def row_of(pick):
         return pick.choice(good if pick.random() < 0.97 else bad)
 
     station = one([f"s{pick.randrange(40)}"], ["A1", "", "a" * 37, "a b", "é", "a\nb"])
-    docks = one(["1", "10", "200"], ["0", "201", "010", "+1", "1.0", "", " 1", "9" * 30])
+    docks = one(["1", "10", "500"], ["0", "501", "010", "+1", "1.0", "", " 1", "9" * 30])
     fields = [station, one(NAMES, ODD_NAMES), one(DEGREES, NO_DEGREES), one(DEGREES, NO_DEGREES), docks]
     return [it.encode() for it in fields]
 
@@ -819,6 +819,7 @@ SET_UP = [
     "import:csv|k1|add-station|a1|Main St|0|0|1",
     "rider:7|k1|add-region|north|North",
     "dock:a1|k2|set-region|a1|north",
+    "import:csv|k2|add-name|description|day|zh-Hant-TW|d",
 ]
 
 

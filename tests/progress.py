@@ -7,7 +7,7 @@ import subprocess
 from pathlib import Path
 
 ANEW, BACK, ERASED = b"\r\r\n\x1b[K", b"\x1b[A\r", b"\r\x1b[J"
-TABLES = "meta system plans segments types regions stations_2 docks bikes trucks riders rentals orders entries kept counts".split()
+TABLES = "meta system plans segments types regions stations_3 docks bikes trucks riders rentals orders entries kept counts more_names".split()
 SYSTEM = "1700000000\toffice\tk1\tset-system\tmetro\ten\tMetro\t24/7\tfeeds@example.org\tEtc/UTC\tEUR\thttp://127.0.0.1:8080\t30\n"
 HEADER = "station_id,name,lat,lon,docks\n"
 
@@ -48,7 +48,7 @@ def test_a_check_that_fails_tells_up_to_the_table(program):
     subprocess.run(["sqlite3", Path(program.folder, "city.db"), "INSERT INTO riders VALUES (17, 0, 5)"], check=True)
     status, out, told = looked_on(program, "check", "city.db")
     assert (status, out) == (5, b"")
-    assert told.endswith(b"checking riders, table 11 of 16" + BACK + ERASED + b"unsound riders 17\r\n"), told
+    assert told.endswith(b"checking riders, table 11 of 17" + BACK + ERASED + b"unsound riders 17\r\n"), told
 
 
 def test_an_import_tells_its_lines(program):

@@ -347,7 +347,8 @@ def test_every_feed_is_the_text_of_feed(program):
     """A feed is for the clock's moment, so each body tells for which moment `feed` is asked."""
     city(
         program, "add-station\tb2\tQ \"1\"\\t\\\\ Łódź 🚲\t-0.000001\t90\t3", "add-region\tnorth\tNørd \"1\"\\t🚲", "add-region\teast\tEast",
-        "set-region\tb2\tnorth",
+        "set-region\tb2\tnorth", "add-name\tstation\tb2\tpl\tŁódź \\\\ 🚲", "add-name\tregion\tnorth\tDE\tNorden", "add-name\tsystem\tmetro\tde\tMetro",
+        "add-name\ttype\tcity\tzh-Hant\t城市", "add-name\tplan\tbasic\tde\tEinfach", "add-name\tdescription\tbasic\tfr\tUn euro",
     )
     with Server(program, len(NAMES)) as server:
         found = {name: server.ask(get(f"/gbfs/3.0/{name}.json")) for name in NAMES}
@@ -437,9 +438,79 @@ def test_the_worked_regions(program):
     assert NAMES[-1] == "system_regions" and program.run("check", "city.db") == (0, b"sound\n", b"")
 
 
+def test_the_worked_names(program):
+    """The feed of stations and the one of the system, whole, while names in further languages come."""
+    city(program)
+    head = f'{{"last_updated":"{MOMENT}","ttl":30,"version":"3.0","data":'
+    place = head + '{"stations":[{"station_id":"a1","name":[{"text":"Harbour","language":"en"}%s],"lat":41.890169,"lon":12.492269,"capacity":2}]}}'
+    system = (
+        head + '{"system_id":"metro","languages":["en"%s],"name":[{"text":"Metro Bikes","language":"en"}%s],"opening_hours":"24/7",'
+        '"feed_contact_email":"feeds@example.org","timezone":"Etc/UTC"}}'
+    )
+    harbour, port, porto = (f',{{"text":"{text}","language":"{language}"}}' for text, language in (("Hafen", "de"), ("Port", "fr"), ("Porto", "it")))
+    places, about = get("/gbfs/3.0/station_information.json"), get("/gbfs/3.0/system_information.json")
+    there = refused(10, "already_there")
+    holds(program, [
+        (places, answer(200, place % "")),
+        (office("n1", "add-name\tstation\ta1\tde\tHafen"), DONE),
+        (places, answer(200, place % harbour)),
+        (about, answer(200, system % (',"de"', ""))),
+        (office("n1", "add-name\tstation\ta1\tde\tHafen"), DONE),
+        (office("n2", "add-name\tstation\ta1\tde\tHafen"), there),
+        (office("n2", "add-name\tstation\ta1\ten\tHaven"), there),
+        (office("n2", "add-name\tstation\ta1\tit\tPorto"), DONE),
+        (office("n3", "add-name\tstation\ta1\tfr\tPort"), DONE),
+        (office("n4", "add-name\tstation\ta1\tes\tPuerto"), refused(32, "limit_reached")),
+        (places, answer(200, place % (harbour + port + porto))),
+        (about, answer(200, system % (',"de","fr","it"', ""))),
+        (office("n4", "add-name\tstation\tzz\tde\tX"), refused(1, "unknown_station")),
+        (office("n4", "add-name\ttype\tzz\tde\tX"), refused(6, "unknown_type")),
+        (office("n4", "add-name\tplan\tzz\tde\tX"), refused(7, "unknown_plan")),
+        (office("n4", "add-name\tdescription\tzz\tde\tX"), refused(7, "unknown_plan")),
+        (office("n4", "add-name\tregion\tzz\tde\tX"), refused(37, "unknown_region")),
+        # The operator's answer, and the reader's, which has no such kind.
+        (office("n4", "add-name\tsystem\tother\tde\tX"), BAD_FIELD),
+        (office("n4", "add-name\tbike\t7\tde\tX"), BAD_FIELD),
+        (office("n4", "add-name\tsystem\tmetro\tDE\tMetro"), DONE),
+        (about, answer(200, system % (',"DE","de","fr","it"', ',{"text":"Metro","language":"DE"}'))),
+        # A kept key answers before the operator does.
+        (office("n4", "add-name\tsystem\tother\tde\tX"), refused(33, "key_reused")),
+        (office("n4", "add-name\tbike\t7\tde\tX"), BAD_FIELD),
+        (places, answer(200, place % (harbour + port + porto))),
+    ])
+    assert program.run("check", "city.db") == (0, b"sound\n", b"")
+
+
+def test_a_station_of_500_docks(program):
+    city(program, "add-station\tb2\tBridge\t0\t0\t500")
+    docked = '{"bike":7,"type":"city","state":"fit","place":"dock","station":"b2","dock":500}'
+    holds(program, [
+        (office("o1", "add-station\tc3\tCanal\t0\t0\t501"), BAD_FIELD),
+        (post("/docks/b2/mark-dock", '{"key":"d1","dock":499,"state":"broken"}'), DONE),
+        (post("/docks/b2/mark-dock", '{"key":"d2","dock":501,"state":"broken"}'), BAD_FIELD),
+        (post("/docks/a1/mark-dock", '{"key":"d2","dock":500,"state":"broken"}'), refused(2, "unknown_dock")),
+        (post("/riders/17/start", START), STARTED),
+        (post("/docks/b2/end", '{"key":"e1","bike":7,"dock":501}'), BAD_FIELD),
+        (post("/docks/a1/end", '{"key":"e1","bike":7,"dock":500}'), refused(2, "unknown_dock")),
+        (post("/docks/b2/end", '{"key":"e1","bike":7,"dock":499}'), refused(14, "dock_broken")),
+        (post("/docks/b2/end", '{"key":"e1","bike":7,"dock":500}'), answer(200, '{"result":"ok","fare_cents":100,"balance_cents":2400}')),
+        (get("/bikes/7"), answer(200, docked)),
+        (post("/riders/17/start", '{"key":"s2","station":"b2","dock":501}'), BAD_FIELD),
+        (post("/riders/17/start", '{"key":"s2","station":"b2","dock":498}'), refused(12, "dock_empty")),
+        (office("o2", "open-order\t3\tb2\t*\tcity\t1"), answer(200, '{"result":"ok","order":2}')),
+        (post("/crews/3/load", '{"key":"l1","order":2,"bike":7}'), DONE),
+        (post("/crews/3/unload", '{"key":"u1","order":2,"bike":7,"side":"from","dock":501}'), BAD_FIELD),
+        (post("/crews/3/unload", '{"key":"u1","order":2,"bike":7,"side":"from","dock":500}'), DONE),
+        (get("/bikes/7"), answer(200, docked)),
+    ])
+    assert program.run("check", "city.db") == (0, b"sound\n", b"")
+
+
 def test_no_system(program):
     assert program.run("init", "city.db") == (0, b"ready\n", b"")
     holds(program, [
+        (office("o1", "add-name\tstation\ta1\tde\tHafen"), refused(38, "system_missing")),
+        (office("o1", "add-name\tsystem\tmetro\tde\tMetro"), refused(38, "system_missing")),
         *((get(f"/gbfs/3.0/{name}.json"), error(404)) for name in NAMES),
         *((get(target), error(404)) for target in ("/riders/17", "/bikes/7", "/rentals/1", "/orders/1")),
         (post("/riders/17/start", START), refused(4, "unknown_rider")),
@@ -497,7 +568,7 @@ def test_names_that_are_well_formed_are_left_to_the_command(program):
         (post("/docks/zz/end", '{"key":"k","bike":8,"dock":1}'), refused(3, "unknown_bike")),
         (post("/docks/zz/end", '{"key":"k","bike":7,"dock":1}'), refused(21, "not_rented")),
         (post("/docks/zz/mark-dock", '{"key":"k","dock":1,"state":"broken"}'), refused(1, "unknown_station")),
-        (post("/docks/a1/mark-dock", '{"key":"k","dock":200,"state":"broken"}'), refused(2, "unknown_dock")),
+        (post("/docks/a1/mark-dock", '{"key":"k","dock":500,"state":"broken"}'), refused(2, "unknown_dock")),
         (post("/docks/zz/mark-bike", '{"key":"k","bike":8,"state":"fit"}'), refused(3, "unknown_bike")),
         (post("/crews/9/load", '{"key":"k","order":1,"bike":7}'), refused(8, "unknown_truck")),
         (post("/crews/3/load", '{"key":"k","order":2,"bike":7}'), refused(9, "unknown_order")),
@@ -652,7 +723,7 @@ def test_bodies_that_are_objects(program):
 def test_members_of_a_start(program):
     city(program)
     kinds = ["null", "true", "[]", "{}", "[1]", '["a1"]']
-    numbers = ['"1"', "1.0", "1e0", "10e-1", "-0", "-1", "0", "201", "1.5", "4294967297"]
+    numbers = ['"1"', "1.0", "1e0", "10e-1", "-0", "-1", "0", "501", "1.5", "4294967297"]
     numbers += ["18446744073709551615", "18446744073709551616", "18446744073709551617"]
     stations = ["1", '""', '"A1"', '"a 1"', '"a1\\u0000"', '"a1 "', '"a1\\t1"', '"é"', '"*"', '"' + "a" * 37 + '"']
     keys = ["1", '""', '"s 1"', '"s.1"', '"s:1"', '"é"', '"s1\\n"', '"' + "k" * 65 + '"']
@@ -682,7 +753,7 @@ def test_members_of_the_other_routes(program):
     wrong = {
         "key": [1, "", "k" * 65],
         "bike": ["7", 0, 1000000, 7.0, -7, None],
-        "dock": ["1", 201, 1.0, -1, None],
+        "dock": ["1", 501, 1.0, -1, None],
         "order": ["1", 0, 100000001, 1.0, [1]],
         "side": ["up", "From", "", 1, None],
         "state": ["gone", "Broken", "", True, None],
@@ -775,7 +846,7 @@ def test_names_at_their_bounds(program):
         (post("/riders/999999", ""), error(405, "GET")),
         (post("/riders/999999/start", START), refused(4, "unknown_rider")),
         (post("/crews/999999/load", '{"key":"k","order":1,"bike":7}'), refused(8, "unknown_truck")),
-        (post(f"/docks/{long}/mark-dock", '{"key":"k","dock":200,"state":"broken"}'), refused(1, "unknown_station")),
+        (post(f"/docks/{long}/mark-dock", '{"key":"k","dock":500,"state":"broken"}'), refused(1, "unknown_station")),
         (post("/docks/-/mark-dock", '{"key":"k","dock":1,"state":"broken"}'), refused(1, "unknown_station")),
         (post("/rentals/100000000", ""), error(405, "GET")),
         (get("/orders/100000000"), error(404)),

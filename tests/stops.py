@@ -74,6 +74,7 @@ MORE = [
     ("1700004300 dock:a1 e2 end 7 a1 1", "fare 125 2350"),
     ("1700004400 office k12 top-up 17 150", "balance 2500"),
     ("1700004500 dock:a1 d1 mark-dock a1 2 broken", "ok"),
+    ("1700004500 office k13 add-name station a1 de Hafen", "ok"),
 ]
 # Over the city of all these: the commands that they don't have.
 OTHERS = [
@@ -93,6 +94,8 @@ OTHERS = [
     ("1700004950 office n14 add-region north North", "ok"),
     ("1700004950 office n15 set-region a1 north", "ok"),
     ("1700004960 office n16 set-region a1 *", "ok"),
+    ("1700004960 office n17 add-name station a1 fr Port", "ok"),
+    ("1700004970 office n18 add-name description day de Tag", "ok"),
 ]
 
 
@@ -338,7 +341,7 @@ def run_named(file, name):
     if name == "check":
         return Lines(file, made(file, len(LINES)), ["check", "FILE"], [], [b"sound\n"])
     if name == "feed":
-        return Lines(file, made(file, len(LINES)), ["feed", "FILE", "station_status", "--at", AT], [], [b""])
+        return Lines(file, made(file, len(LINES)), ["feed", "FILE", "station_information", "--at", AT], [], [b""])
     if name == "a table of a day":
         return Lines(file, made(file, len(LINES)), ["day", "FILE", "entries", "2023-11-14", "UTC0"], [], [b""])
     if name == "import":

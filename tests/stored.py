@@ -45,7 +45,7 @@ DEBT = [
 
 META = "SELECT cash, revenue FROM meta"
 RIDER = "SELECT balance, blocked FROM riders WHERE rider = 17"
-STATION = "SELECT free, broken FROM stations_2 WHERE station_id = 'a1'"
+STATION = "SELECT free, broken FROM stations_3 WHERE station_id = 'a1'"
 COUNTS = "SELECT available, disabled FROM counts WHERE station_id = 'a1' AND type_id = 'city'"
 RENTAL = "SELECT fare, refunded FROM rentals WHERE rental = 1"
 DEBTOR = "SELECT balance, blocked FROM riders WHERE rider = 18"
@@ -72,7 +72,7 @@ OWN = [
     ("add-station|a2|N|-0|-180|1", "add-station|a2|N|0.000000|-180.000000|1"),
     ("add-station|a3|N|007|180.000000|1", "add-station|a3|N|7.000000|180.000000|1"),
     ("add-station|a4|N|45.5|9.1|10", "add-station|a4|N|45.500000|9.100000|10"),
-    ("add-station|a5|N|-90|000.1|200", "add-station|a5|N|-90.000000|0.100000|200"),
+    ("add-station|a5|N|-90|000.1|500", "add-station|a5|N|-90.000000|0.100000|500"),
     ('add-region|r1|Q "1"\\t', 'add-region|r1|Q "1"\\t'),
     ("add-region|-r_2|\\n\\r\\\\🚲", "add-region|-r_2|\\n\\r\\\\🚲"),
     ("set-region|a2|-r_2", "set-region|a2|-r_2"),
@@ -81,6 +81,12 @@ OWN = [
     ("set-region|a4|*", "set-region|a4|*"),
     ("set-region|a5|-r_2", "set-region|a5|-r_2"),
     ("set-region|a5|r1", "set-region|a5|r1"),
+    ("add-name|station|a1|en|Q \"1\"\\t", "add-name|station|a1|en|Q \"1\"\\t"),
+    ("add-name|station|a1|DE|N", "add-name|station|a1|DE|N"),
+    ("add-name|system|s|fr|\\\\", "add-name|system|s|fr|\\\\"),
+    ("add-name|description|p1|fr|\\n\\r🚲", "add-name|description|p1|fr|\\n\\r🚲"),
+    ("add-name|plan|p1|fr|Q", "add-name|plan|p1|fr|Q"),
+    ("add-name|region|-r_2|zh-Hant-TW|N", "add-name|region|-r_2|zh-Hant-TW|N"),
 ]
 
 # What the fields of these commands are: escapes are gone, degrees are millionths, and each segment has a row.
@@ -89,10 +95,14 @@ VALUES = {
     "SELECT name, description FROM plans ORDER BY plan_id": [('Q "1"\t', "D"), ("\n\r\\", "D"), ("Corso, nörd", "\\n")],
     "SELECT plan_id, seq, start, rate, every, finish FROM segments": [("p2", 1, 0, -100000, 0, 1), ("p2", 2, 99999, 100000, 100000, 100000)],
     "SELECT * FROM regions ORDER BY region_id": [("-r_2", "\n\r\\🚲"), ("r1", 'Q "1"\t')],
-    "SELECT * FROM stations_2 ORDER BY station_id": [
+    "SELECT * FROM more_names ORDER BY kind, id, language": [
+        ("description", "p1", "fr", "\n\r🚲"), ("plan", "p1", "fr", "Q"), ("region", "-r_2", "zh-Hant-TW", "N"), ("station", "a1", "DE", "N"),
+        ("station", "a1", "en", 'Q "1"\t'), ("system", "s", "fr", "\\"),
+    ],
+    "SELECT * FROM stations_3 ORDER BY station_id": [
         ("a1", "N", -1, 90000000, 1, 1, 1, 1, 1700000000, 1, 0, None), ("a2", "N", 0, -180000000, 1, 1, 1, 1, 1700000000, 1, 0, "-r_2"),
         ("a3", "N", 7000000, 180000000, 1, 1, 1, 1, 1700000000, 1, 0, None), ("a4", "N", 45500000, 9100000, 10, 1, 1, 1, 1700000000, 10, 0, None),
-        ("a5", "N", -90000000, 100000, 200, 1, 1, 1, 1700000000, 200, 0, "r1"),
+        ("a5", "N", -90000000, 100000, 500, 1, 1, 1, 1700000000, 500, 0, "r1"),
     ],
 }
 

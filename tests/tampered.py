@@ -48,6 +48,9 @@ ASKED = [
     "add-station c3 Closed 0 0 1",
     "add-region north North", "add-region south South_side", "add-region west West",
     "set-region a1 south", "set-region a1 north", "set-region b2 south", "set-region c3 west", "set-region c3 *",
+    "add-name system metro de Metro_Räder", "add-name station a1 it Porto", "add-name station a1 de Hafen", "add-name station a1 zh-Hant 港",
+    "add-name station b2 EN Bridge", "add-name type city fr Ville", "add-name plan day de Tag", "add-name description day de Ein_Tag",
+    "add-name description zero fr Rien", "add-name region south de Süden",
     "add-truck 3 20",
     "add-truck 4 1",
     *(f"add-bike {it} city" for it in (7, 8, 9, 10)),
@@ -94,18 +97,23 @@ def made(program):
 
 # ---- the audit, from the document
 
-NEWEST = 2
+NEWEST = 3
 TABLES = {
-    "meta": 1, "system": 1, "plans": 1, "segments": 2, "types": 1, "regions": 1, "stations_2": 1, "docks": 2, "bikes": 1, "trucks": 1, "riders": 1,
-    "rentals": 1, "orders": 1, "entries": 1, "kept": 2, "counts": 2,
+    "meta": 1, "system": 1, "plans": 1, "segments": 2, "types": 1, "regions": 1, "stations_3": 1, "docks": 2, "bikes": 1, "trucks": 1, "riders": 1,
+    "rentals": 1, "orders": 1, "entries": 1, "kept": 2, "counts": 2, "more_names": 3,
 }
 TEXTS = {
     "app", "system_id", "language", "name", "hours", "contact", "zone", "currency", "base_url", "plan_id", "description", "type_id", "form",
-    "propulsion", "region_id", "station_id", "from_station", "to_station", "from_end", "to_end", "caller", "req_key", "command", "reply",
+    "propulsion", "region_id", "station_id", "from_station", "to_station", "from_end", "to_end", "caller", "req_key", "command", "reply", "id",
 }
 MAY_BE_NULL = {
-    "segments": {"finish"}, "stations_2": {"region_id"}, "bikes": {"station_id", "dock", "rental", "truck", "ord"}, "rentals": {"to_station", "finish", "fare"},
+    "segments": {"finish"}, "stations_3": {"region_id"}, "bikes": {"station_id", "dock", "rental", "truck", "ord"}, "rentals": {"to_station", "finish", "fare"},
 }
+
+
+def is_of_text(table, column):
+    """Whether the column holds texts. An entry's kind is a number, and a name's a word."""
+    return column in TEXTS or (table, column) == ("more_names", "kind")
 
 
 def is_within(least, most):
@@ -118,7 +126,7 @@ def is_text(good):
 
 ANY = is_within(-(2**63), 2**63 - 1)
 FLAG, MOMENT = is_within(0, 1), is_within(0, formats.LAST_MOMENT)
-NUMBERED, SERIAL, DOCK = is_within(*formats.NUMBERED), is_within(*formats.SERIAL), is_within(1, 200)
+NUMBERED, SERIAL, DOCK = is_within(*formats.NUMBERED), is_within(*formats.SERIAL), is_within(1, formats.MOST_DOCKS)
 IDENT, NAME, ASCII, END = (is_text(it) for it in (formats.is_ident, formats.is_name_value, formats.is_ascii_value, formats.is_end))
 FARE = is_within(0, formats.GREATEST_FARE)
 
@@ -143,7 +151,7 @@ BOUNDS = {
         "range_m": is_within(0, 1_000_000), "plan_id": IDENT,
     },
     "regions": {"region_id": IDENT, "name": NAME},
-    "stations_2": {
+    "stations_3": {
         "station_id": IDENT, "name": NAME, "lat": is_within(-90_000_000, 90_000_000), "lon": is_within(-180_000_000, 180_000_000), "docks": DOCK,
         "installed": FLAG, "renting": FLAG, "returning": FLAG, "reported": MOMENT, "free": ANY, "broken": ANY,
         "region_id": IDENT,
@@ -169,6 +177,7 @@ BOUNDS = {
         "reply": is_text(lambda it: formats.is_reply(it) and not it.startswith(b"refused")),
     },
     "counts": {"station_id": IDENT, "type_id": IDENT, "available": ANY, "disabled": ANY},
+    "more_names": {"kind": word(*formats.NAMED), "id": IDENT, "language": is_text(formats.is_language), "name": NAME},
 }
 
 
@@ -187,11 +196,11 @@ def agree(table, row):
 
 
 def place_of(row):
-    """The first whole place of a bicycle, and how many columns name one."""
-    dock = ("dock", row["station_id"], row["dock"]) if IDENT(row["station_id"]) and DOCK(row["dock"]) else None
-    rental = ("rental", row["rental"]) if SERIAL(row["rental"]) else None
-    truck = ("truck", row["truck"], row["ord"]) if NUMBERED(row["truck"]) and SERIAL(row["ord"]) else None
-    named = [row[it] for it in ("station_id", "dock", "rental", "truck", "ord") if row[it] is not None]
+    """The first whole place of a bicycle whose row keeps its bounds, and whether its row names no more than that."""
+    named = [it for it in ("station_id", "dock", "rental", "truck", "ord") if row[it] is not None]
+    dock = ("dock", row["station_id"], row["dock"]) if {"station_id", "dock"} <= set(named) else None
+    rental = ("rental", row["rental"]) if "rental" in named else None
+    truck = ("truck", row["truck"], row["ord"]) if {"truck", "ord"} <= set(named) else None
     first = dock or rental or truck or ("depot",)
     return first, len(named) == {"dock": 2, "rental": 1, "truck": 2, "depot": 0}[first[0]]
 
@@ -208,9 +217,6 @@ class Audit:
                    for name, rows in self.good.items()}
 
     def keeps_bounds(self, table, row):
-        if table == "bikes":
-            # Where it says that it is in several places it is at the first of them.
-            return all(BOUNDS[table][it](row[it]) for it in ("bike", "type_id", "state"))
         optional = MAY_BE_NULL.get(table, ())
         return all((row[it] is None and it in optional) or good(row[it]) for it, good in BOUNDS[table].items()) and agree(table, row)
 
@@ -240,10 +246,10 @@ class Audit:
             return [[1]]
         if table != "counts":
             return []
-        return [[station, kind] for station in self.by["stations_2"] for kind in self.by["types"] if self.counted(station, kind) != (0, 0)]
+        return [[station, kind] for station in self.by["stations_3"] for kind in self.by["types"] if self.counted(station, kind) != (0, 0)]
 
     def counted(self, station, kind):
-        held = [(broken, it) for broken, it in self.holds(self.by["stations_2"][station]) if it and it["type_id"] == kind]
+        held = [(broken, it) for broken, it in self.holds(self.by["stations_3"][station]) if it and it["type_id"] == kind]
         fit = [it for broken, it in held if not broken and it["state"] == 0]
         return len(fit), len(held) - len(fit)
 
@@ -281,14 +287,14 @@ class Audit:
     def regions(self, row, at):
         return at < 256
 
-    def stations_2(self, row, at):
+    def stations_3(self, row, at):
         held = list(self.holds(row))
         free = sum(not broken and it is None for broken, it in held)
         counted = row["free"] == free and row["broken"] == sum(broken for broken, _ in held)
         return row["reported"] <= self.now() and counted and (row["region_id"] is None or row["region_id"] in self.by["regions"])
 
     def has_dock(self, station, dock):
-        return station in self.by["stations_2"] and dock <= self.by["stations_2"][station]["docks"]
+        return station in self.by["stations_3"] and dock <= self.by["stations_3"][station]["docks"]
 
     def docks(self, row, at):
         return self.has_dock(row["station_id"], row["dock"])
@@ -303,7 +309,8 @@ class Audit:
             good = rental is not None and rental["finish"] is None and rental["bike"] == row["bike"]
         elif place[0] == "truck":
             order = self.by["orders"].get(place[2])
-            good = order is not None and order["is_open"] == 1 and order["truck"] == place[1] and order["type_id"] == row["type_id"]
+            carried = order is not None and order["is_open"] == 1 and order["truck"] == place[1] and order["type_id"] == row["type_id"]
+            good = carried and place[1] in self.by["trucks"]
         alone = place[0] != "dock" or not any(it["place"][0] == place and it["bike"] < row["bike"] for it in self.good["bikes"])
         return good and alone and row["type_id"] in self.by["types"] and (row["state"] != 2 or place[0] == "depot")
 
@@ -317,20 +324,20 @@ class Audit:
 
     def rentals(self, row, at):
         number = row["rental"]
-        named = row["rider"] in self.by["riders"] and row["plan_id"] in self.by["plans"] and row["from_station"] in self.by["stations_2"]
+        named = row["rider"] in self.by["riders"] and row["plan_id"] in self.by["plans"] and row["from_station"] in self.by["stations_3"]
         if number != at + 1 or not named or row["bike"] not in self.by["bikes"] or row["start"] > self.now():
             return False
         if row["refunded"] != self.sum(3, rental=number):
             return False
         if row["finish"] is None:
             return row["refunded"] == 0 and self.by["bikes"][row["bike"]]["place"][0] == ("rental", number)
-        station = row["to_station"] is None or row["to_station"] in self.by["stations_2"]
+        station = row["to_station"] is None or row["to_station"] in self.by["stations_3"]
         has_fare = any(it["kind"] == 2 and it["rental"] == number for it in self.good["entries"])
         return station and has_fare and row["start"] <= row["finish"] <= self.now() and row["refunded"] <= row["fare"]
 
     def orders(self, row, at):
         truck = self.by["trucks"].get(row["truck"])
-        ends = all(it == b"*" or it in self.by["stations_2"] for it in (row["from_end"], row["to_end"])) and row["from_end"] != row["to_end"]
+        ends = all(it == b"*" or it in self.by["stations_3"] for it in (row["from_end"], row["to_end"])) and row["from_end"] != row["to_end"]
         if row["ord"] != at + 1 or truck is None or not ends or row["type_id"] not in self.by["types"] or row["quantity"] > truck["capacity"]:
             return False
         held = self.on_truck(row["truck"], row["ord"])
@@ -351,8 +358,19 @@ class Audit:
         return True
 
     def counts(self, row, at):
-        known = row["station_id"] in self.by["stations_2"] and row["type_id"] in self.by["types"]
+        known = row["station_id"] in self.by["stations_3"] and row["type_id"] in self.by["types"]
         return known and (row["available"], row["disabled"]) == self.counted(row["station_id"], row["type_id"])
+
+    def more_names(self, row, at):
+        system = self.by["system"].get(1)
+        if system is None:
+            return False
+        there = {
+            b"system": [system["system_id"]], b"station": self.by["stations_3"], b"type": self.by["types"], b"plan": self.by["plans"],
+            b"description": self.by["plans"], b"region": self.by["regions"],
+        }[row["kind"]]
+        before = sum((it["kind"], it["id"]) == (row["kind"], row["id"]) and it["language"] < row["language"] for it in self.good["more_names"])
+        return row["id"] in there and row["language"] != system["language"] and before < 3
 
 
 def rank(value):
@@ -475,18 +493,19 @@ def by_sql(sql, values=(), loose=False):
     return change
 
 
-NUMBERS = [-1, 0, 1, 2, 3, 4, 5, 7, 61, 201, 256, 60_000, 1_000_000, 1_000_001, 100_000_001, 2**31, 2**32 + 1, 2**53 + 1, 2**63 - 1, -(2**63)]
+NUMBERS = [-1, 0, 1, 2, 3, 4, 5, 7, 61, 201, 256, 500, 501, 60_000, 1_000_000, 1_000_001, 100_000_001, 2**31, 2**32 + 1, 2**53 + 1, 2**63 - 1, -(2**63)]
 WORDS = [
     "", "a1", "b2", "zz", "A1", "*", "city", "cargo", "basic", "day", "north", "south", "west", "a" * 36, "a" * 37, "é", "x\0y", "n" * 120, "n" * 121, "~" * 200, "~" * 201,
     "two\nlines", "a\tb", " ", "true", "NULL", "0", "1", "-1", "bicycle", "human", "electric_assist", "EUR", "office", "rider:17", "rider:0",
     "add-rider\t17", "ok", "balance\t5", "balance\t-0", "refused\t4\tunknown_rider", "rental\t1\t7", "fare\t1\t2", "order\t0", "x" * 9000, "k1",
-    "add-region\tnorth\tNorth", "set-region\ta1\t*", "set-region\ta1\t",
+    "add-region\tnorth\tNorth", "set-region\ta1\t*", "set-region\ta1\t", "add-name\tstation\ta1\tde\tHafen", "add-name\tbike\t7\tde\tX",
+    "en", "de", "EN", "zz-Zzzz", "d_e", "-" * 35, "metro", "system", "station", "type", "plan", "description", "region", "Region", "names",
 ]
 
 
-def values_for(column, old):
+def values_for(table, column, old):
     """Other values of a column, of its own kind."""
-    if column in TEXTS:
+    if is_of_text(table, column):
         return [it for it in WORDS if old is None or it.encode() != old]
     near = [] if old is None else [old + 1, old - 1, old + 1000, -old]
     return [it for it in dict.fromkeys([*near, *NUMBERS]) if it != old and -(2**63) <= it < 2**63]
@@ -501,7 +520,7 @@ def updates(tables):
             found = [row[it].decode() if isinstance(row[it], bytes) else row[it] for it in keys]
             for column, old in row.items():
                 empty = [None] if column in MAY_BE_NULL.get(name, ()) and old is not None else []
-                for value in [*values_for(column, old), *empty]:
+                for value in [*values_for(name, column, old), *empty]:
                     sql = f'UPDATE OR IGNORE {name} SET "{column}" = ? WHERE {where}'
                     yield f"{sql} {[value, *found]!r:.200}", by_sql(sql, (value, *found))
 
@@ -514,9 +533,9 @@ def unlike(tables):
         where = " AND ".join(f"{it} IS ?" for it in keys)
         found = [row[it].decode() if isinstance(row[it], bytes) else row[it] for it in keys]
         for column in row:
-            if column in keys and TABLES[name] == 1 and column not in TEXTS:
+            if column in keys and TABLES[name] == 1 and not is_of_text(name, column):
                 continue
-            others = ["NULL", "x'6131'"] if column in TEXTS else ["'a1'", "NULL", "x'31'", "1.5", "'1x'"]
+            others = ["NULL", "x'6131'"] if is_of_text(name, column) else ["'a1'", "NULL", "x'31'", "1.5", "'1x'"]
             if column in MAY_BE_NULL.get(name, ()):
                 others.remove("NULL")
             for value in others:
@@ -530,7 +549,7 @@ def not_utf8(tables):
         keys = list(row)[: TABLES[name]]
         where = " AND ".join(f"{it} = ?" for it in keys)
         found = [row[it].decode() if isinstance(row[it], bytes) else row[it] for it in keys]
-        for column in TEXTS & set(row):
+        for column in [it for it in row if is_of_text(name, it)]:
             for value in "ff", "c3", "c0af", "eda080", "61ff", "6100":
                 sql = f"UPDATE {name} SET \"{column}\" = CAST(x'{value}' AS TEXT) WHERE {where}"
                 yield f"{sql} {found}", by_sql(sql, found)
@@ -543,7 +562,7 @@ def rows_added_and_removed(tables):
         for row in rows:
             found = [row[it].decode() if isinstance(row[it], bytes) else row[it] for it in keys]
             yield f"DELETE FROM {name} {found}", by_sql(f"DELETE FROM {name} WHERE {' AND '.join(f'{it} = ?' for it in keys)}", found)
-        for key in itertools.product(*([["a0", "zz", "city"] if it in TEXTS else [0, 1, 2, 3, 4, 9, 100, 999_999, 1_000_000] for it in keys])):
+        for key in itertools.product(*([["a0", "zz", "city"] if is_of_text(name, it) else [0, 1, 2, 3, 4, 9, 100, 999_999, 1_000_000] for it in keys])):
             for row in rows[0], rows[-1]:
                 whole = [*key, *(row[it].decode() if isinstance(row[it], bytes) else row[it] for it in columns[len(keys) :])]
                 sql = f"INSERT OR IGNORE INTO {name} VALUES ({', '.join('?' * len(whole))})"
@@ -578,11 +597,66 @@ def test_regions(program):
     """Each column of regions, the region of each station, and regions that are added or go. All of it in one sample of its own."""
     city, _ = made(program)
     tables = tables_of(city, program)
-    begins = ("UPDATE OR IGNORE regions ", 'UPDATE OR IGNORE stations_2 SET "region_id" ')
+    begins = ("UPDATE OR IGNORE regions ", 'UPDATE OR IGNORE stations_3 SET "region_id" ')
     changes = [it for it in updates(tables) if it[0].startswith(begins)]
     changes += [it for it in rows_added_and_removed({"regions": tables["regions"]})]
     assert len(changes) > 300, len(changes)
     holds(program, city, changes, of_rows, "regions")
+
+
+def with_names(*rows):
+    """Rows of more_names, whatever stood under their keys."""
+    sql = f"INSERT OR REPLACE INTO more_names VALUES {', '.join(['(?, ?, ?, ?)'] * len(rows))}"
+    return f"{sql} {rows!r:.300}", by_sql(sql, [it for row in rows for it in row])
+
+
+LANGUAGES = ["aa", "de", "en", "EN", "fr", "it", "zh-Hant", "zz", "e", "d_e", "x" * 35, "x" * 36]
+
+
+def test_names_in_further_languages(program):
+    """Each column of more_names; names added and gone, of what is there and of what isn't, in the system's language and in many; and the system
+    and the plans, types, regions and stations that are named under other identifiers or not at all."""
+    city, _ = made(program)
+    tables = tables_of(city, program)
+    begins = (
+        "UPDATE OR IGNORE more_names ", 'UPDATE OR IGNORE system SET "system_id" ', 'UPDATE OR IGNORE system SET "language" ',
+        'UPDATE OR IGNORE system SET "one" ', *(f'UPDATE OR IGNORE {it}s SET "{it}_id" ' for it in ("plan", "type", "region")),
+    )
+    changes = [it for it in updates(tables) if it[0].startswith(begins)]
+    changes += [it for it in rows_added_and_removed({it: tables[it] for it in ("more_names", "system", "regions")})]
+    changes += [
+        with_names((kind, ident, language, "Name")) for kind in (*formats.NAMED, "bike") for ident in ("metro", "a1", "city", "day", "south", "zz")
+        for language in LANGUAGES
+    ]
+    pick = random.Random(f"{SEED} names")
+    for _ in range(200):
+        kind, ident = pick.choice([("station", "a1"), ("station", "c3"), ("system", "metro"), ("plan", "basic"), ("region", "south")])
+        names = [(kind, ident, it, pick.choice(["Name", "", "n" * 121]) if pick.random() < 0.3 else "Name") for it in pick.sample(LANGUAGES, pick.randint(2, 6))]
+        changes.append(with_names(*names))
+    assert len(changes) > 1000, len(changes)
+    holds(program, city, changes, of_rows, "names")
+
+
+def test_columns_of_a_bicycles_place(program):
+    """A column out of its bounds beside a whole place, several whole places, and halves of one. All of it in one sample of its own."""
+    city, _ = made(program)
+    tables = tables_of(city, program)
+    odd = {
+        "station_id": ["a1", "b2", "zz", "A1", "", None], "dock": [1, 2, 3, 500, 501, 0, -1, None], "rental": [1, 4, 5, 0, 10**8, 10**12, None],
+        "truck": [3, 4, 5, 0, -1, 999_999, 1_000_000, None], "ord": [3, 4, 5, 0, -1, 10**8 + 1, None],
+    }
+    pick, changes = random.Random(f"{SEED} places"), []
+    for bike in tables["bikes"]:
+        for _ in range(60):
+            new = {it: pick.choice(odd[it]) for it in pick.sample(list(odd), pick.choice([1, 1, 1, 2, 3]))}
+            sql = f"UPDATE bikes SET {', '.join(f'{it} = ?' for it in new)} WHERE bike = ?"
+            values = (*new.values(), bike["bike"])
+            changes.append((f"{sql} {values!r}", by_sql(sql, values)))
+    changes += [(it, by_sql(it)) for it in (
+        "DELETE FROM trucks", "DELETE FROM trucks WHERE truck = 3", "DELETE FROM trucks WHERE truck = 4", "UPDATE trucks SET truck = 7 WHERE truck = 3",
+        "UPDATE trucks SET capacity = 0 WHERE truck = 3", "UPDATE trucks SET capacity = 61", "UPDATE trucks SET capacity = 1 WHERE truck = 3",
+    )]
+    holds(program, city, changes, of_rows, "places")
 
 
 def test_columns_of_another_kind(program):
@@ -613,9 +687,9 @@ def test_tables_and_columns(program):
         foreign += [f'ALTER TABLE {name} DROP COLUMN "{last}"'] if name not in ("bikes",) else []
         foreign += [f"CREATE TABLE pointing_{name} (a INTEGER REFERENCES {name})"]
         sound += [f"CREATE INDEX more_{name} ON {name} ({columns[1]})"]
-    sound += ["DROP INDEX bikes_by_dock", "DROP INDEX rentals_by_rider", "CREATE TABLE notes (note TEXT)", "CREATE VIEW seen AS SELECT bike FROM bikes"]
+    sound += ["DROP INDEX bikes_by_dock", "DROP INDEX rentals_by_rider", "DROP INDEX more_names_by_language", "CREATE TABLE notes (note TEXT)", "CREATE VIEW seen AS SELECT bike FROM bikes"]
     # The names of tables that other versions have are free here.
-    sound += [f"CREATE TABLE {it} (note TEXT)" for it in ("stations", "stations_3", "more_names")]
+    sound += [f"CREATE TABLE {it} (note TEXT)" for it in ("stations", "stations_2")]
     sound += ["CREATE TABLE helmets (helmet INTEGER PRIMARY KEY, size TEXT UNIQUE)", "PRAGMA user_version = 7", "PRAGMA application_id = 77", "VACUUM"]
     holds(program, city, [(it, by_sql(it)) for it in foreign], lambda file, told: [FOREIGN, FAILED], "foreign")
     holds(program, city, [(it, by_sql(it)) for it in sound], lambda file, told: [SOUND], "sound")

@@ -54,7 +54,7 @@ def test_the_same_in_a_file_in_parts(program):
         assert (status, told, said) == (0, joined(answers[at : at + 300]), b""), f"lines {at} to {at + 300}: {said!r}"
     assert program.run("check", "city.db") == (0, b"sound\n", b"")
     base = sqlite3.connect(Path(program.folder, "city.db"))
-    found = base.execute("SELECT station_id, docks, free, broken FROM stations_2").fetchall()
+    found = base.execute("SELECT station_id, docks, free, broken FROM stations_3").fetchall()
     for station, docks, free, broken in found:
         marked = {dock for (dock,) in base.execute("SELECT dock FROM docks WHERE station_id = ? AND broken = 1", (station,))}
         held = {dock for (dock,) in base.execute("SELECT dock FROM bikes WHERE station_id = ?", (station,))}

@@ -53,9 +53,9 @@ def system(at):
 
 # Of each field: a command with {} in its place, the answer where it is read, texts that are read, and texts that aren't.
 FIELDS = [
-    ("mark-dock|zz|{}|broken", "refused|1|unknown_station", ["1", "17", "200"], ["0", "201", *NO_NUMBERS]),
-    ("add-station|a1|N|0|0|{}", THERE, ["1", "200"], ["0", "201", *NO_NUMBERS]),
-    ("unload|9|1|7|to|{}", "refused|8|unknown_truck", ["0", "1", "200"], ["201", "00", *NO_NUMBERS]),
+    ("mark-dock|zz|{}|broken", "refused|1|unknown_station", ["1", "17", "201", "500"], ["0", "501", *NO_NUMBERS]),
+    ("add-station|a1|N|0|0|{}", THERE, ["1", "201", "500"], ["0", "501", *NO_NUMBERS]),
+    ("unload|9|1|7|to|{}", "refused|8|unknown_truck", ["0", "1", "500"], ["501", "00", *NO_NUMBERS]),
     ("recover|{}", "refused|5|unknown_rental", ["1", "100000000"], ["0", "100000001", *NO_NUMBERS]),
     ("close-order|{}", "refused|9|unknown_order", ["1", "100000000"], ["0", "100000001", *NO_NUMBERS]),
     ("top-up|{}|1", "refused|4|unknown_rider", ["1", "999999"], ["0", "1000000", *NO_NUMBERS]),
@@ -85,6 +85,16 @@ FIELDS = [
     ("set-region|a1|{}", "refused|37|unknown_region", ["az_09-", "-", "a0z9", "a" * 36, "a1"], ["**", "*a", "a*", " *", *NO_REGIONS]),
     ("add-region|north|{}", THERE, ["Rue é", "a\\\\b", "\\t\\n\\r", "*", "-", "\\\\" * 120], ["a\rb", "a\\", "a\\x", "a\0", "", "\\\\" * 121]),
     (system(1), THERE, ["en", "EUR", "de-AT", "pt-BR", "a0z9", "a" * 35], ["az_09-", "", "e", "a" * 36, "a" * 37, "aa\0"]),
+    ("add-name|{}|zz|de|N", "refused|1|unknown_station", ["station"], ["Station", "stations", "bike", "rider", "truck", "order", "system_regions", "*", ""]),
+    ("add-name|{}|day|en|N", THERE, ["plan", "description"], ["Plan", "plans", "names", "descriptions", " plan", ""]),
+    ("add-name|station|{}|de|N", "refused|1|unknown_station", ["az_09-", "-", "a0z9", "a" * 36], NO_IDENTS),
+    ("add-name|type|{}|de|N", "refused|6|unknown_type", ["az_09-", "-", "a0z9", "a" * 36], NO_IDENTS),
+    ("add-name|plan|{}|de|N", "refused|7|unknown_plan", ["az_09-", "-", "a0z9", "a" * 36], NO_IDENTS),
+    ("add-name|description|{}|de|N", "refused|7|unknown_plan", ["az_09-", "-", "a0z9", "a" * 36], NO_IDENTS),
+    ("add-name|region|{}|de|N", "refused|37|unknown_region", ["az_09-", "-", "a0z9", "a" * 36], NO_IDENTS),
+    ("add-name|system|{}|de|N", BAD_FIELD, ["az_09-", "-", "a0z9", "a" * 36], NO_IDENTS),
+    ("add-name|station|zz|{}|N", "refused|1|unknown_station", ["en", "EUR", "de-AT", "--", "00", "a" * 35], ["az_09-", "", "e", "a" * 36, "aa\0", "e n"]),
+    ("add-name|station|a1|en|{}", THERE, ["Rue é", "a\\\\b", "\\t\\n\\r", "*", "-", "\\\\" * 120], ["a\rb", "a\\", "a\\x", "a\0", "", "\\\\" * 121]),
     (system(6), THERE, ["EUR", "AMZ"], ["EU", "EURO", "eur", "az_09-", "de-AT", "", "a" * 36, "E R", "aa\0", "E0R"]),
     (system(2), THERE, ["Rue é", "a\\\\b", "\\t\\n\\r", "Mo-Su 06:00", "a;b", "\\\\" * 120], ["a\rb", "a\\", "a\\x", "a\\0", "a\\T", "a\0", "", "\\\\" * 121]),
     (system(3), THERE, ["a\\\\b", "Mo-Su 06:00", "a;b", "\\\\" * 121, "\\\\" * 200], ["Rue é", "\\t\\n\\r", "\\t", "a\rb", "a\\", "a\\x", "a\\0", "aa\0", "", "\\\\" * 201]),
@@ -111,7 +121,7 @@ EIGHT, NINE = (";".join([ONE] * count) for count in (8, 9))
 FIELDS.append((
     "{}", THERE,
     [
-        "add-plan|day|Day|0|true|d|-", f"add-plan|day|Day|1000000|true|d|{EIGHT}", "add-station|a1|Main St|90|180|1", "add-station|a1|Main St|-90|-180|200",
+        "add-plan|day|Day|0|true|d|-", f"add-plan|day|Day|1000000|true|d|{EIGHT}", "add-station|a1|Main St|90|180|1", "add-station|a1|Main St|-90|-180|500",
         "set-system|city|pt-BR|City|24/7|a@example.org|Europe/Rome|EUR|https://example.org|86400",
     ],
     [
@@ -203,7 +213,7 @@ NO_REPLIES = [
     "", "OK", "ok|", "blocked", "open", "Open", "from", "to", "balance", "balance|1|2", *(f"balance|{it}" for it in BAD_NUMBERS), "rental|1", "rental|0|7",
     "rental|100000001|7", "rental|1|1000000", *(f"fare|{it}|0" for it in [*BAD_NUMBERS, "-1", "34561800001", "9223372036854775807", "-9223372036854775808"]),
     "fare|0", "fare|0|-0", "order|0", "order|100000001", "refused|11", "refused|10|bad_field", "refused|0|bad_field", "refused|11|bad_field", "refused|37|unknown_region",
-    "refused|38|system_missing",
+    "refused|38|system_missing", "refused|39|system_missing",
 ]
 
 

@@ -85,6 +85,14 @@ def main(words):
                 new = ["1700100000\toffice\tn1\tset-region\ta1\t*", "1700100000\toffice\tn2\tset-region\tb2\twest"]
                 days = [("2023-11-15", "UTC0")]
                 served(program, folder, name, (HERE / "regions.in").read_bytes(), 1700050000, days, new, [*FEEDS, "system_regions"])
+            elif name == "names":
+                new = [
+                    "1700100000\toffice\tn1\tadd-name\tstation\ta1\tes\tPuerto", "1700100000\toffice\tn2\tadd-name\tstation\te5\tfr\tHalle",
+                    "1700100000\toffice\tn3\tadd-name\tstation\te5\tes\tSala", "1700100000\toffice\tn4\tadd-name\tsystem\tother\tes\tOtro",
+                    "1700100000\toffice\tn5\tmark-dock\te5\t499\tbroken", "1700100000\toffice\tn6\tmark-dock\te5\t501\tbroken",
+                ]
+                days = [("2023-11-15", "UTC0")]
+                served(program, folder, name, (HERE / "names.in").read_bytes(), 1700050000, days, new, [*FEEDS, "system_regions"])
             else:
                 new = ["1700100000\toffice\tn1\ttop-up\t17\t100", "1700100000\toffice\tn2\tadd-station\td4\tNew\t1\t2\t200"]
                 days = [("2023-11-14", "UTC0"), ("2023-11-15", "CET-1CEST,M3.5.0,M10.5.0/3")]
