@@ -2,6 +2,7 @@
 
 ghost use Rattle.std.specs.Prelude.{◌≡◌, ◌≢◌, Err};
 ghost use Rattle.std.specs.FinMap as map;
+ghost use Rattle.bike_operator.specs.Names.{further_names};
 ghost use Rattle.bike_operator.specs.Operator.{item_numbered};
 ghost use Rattle.bike_queries.specs.Infos.{balance_at, place_at, rental_info_at, rider_info_at};
 ghost use Rattle.bike_queries.specs.StationCounts.{AreCountsAt};
@@ -9,7 +10,8 @@ ghost use Rattle.bike_desk.specs.Queries.{Queries, TellsOf};
 
 use crate::desk::Desk;
 use crate::fault::DeskFault;
-use bike_catalogue::System;
+use bike_accounts::find_names;
+use bike_catalogue::{MoreName, NameKind, System};
 use bike_fields::{BicycleNumber, Ident, OrderNumber, RentalNumber, RiderNumber};
 use bike_fixed::Cents;
 use bike_fleet::{find_bike, find_order};
@@ -136,6 +138,23 @@ impl<S: Alter> Desk<S> {
             return Err(DeskFault::Stopped);
         }
         let read = find_type_ids(alloc, &mut self.conn);
+        self.answer(read)
+    }
+
+    /// The names in further languages of what has this kind and identifier, in byte order of their languages.
+    pub fn names_of(
+        &mut self,
+        alloc: Global,
+        kind: NameKind,
+        id: &Ident,
+    ) -> Result<Vec<MoreName>, DeskFault>
+        ensures query { Queries S.Store self.old self.new result (λ s x. x.items ≡ further_names s kind id.now) }
+        ensures takes_none { result ≢ Err DeskFault.NoMemory }
+    {
+        if self.stopped() {
+            return Err(DeskFault::Stopped);
+        }
+        let read = find_names(alloc, &mut self.conn, kind, id);
         self.answer(read)
     }
 

@@ -1,25 +1,25 @@
-//! What the operator holds in byte order of identifiers, one after another: what a feed lists.
+//! What the operator holds in byte order of identifiers, or of languages, one after another: what a feed lists.
 
 ghost use Rattle.std.specs.Prelude.{◌≡◌, ◌≢◌, Err, option_map};
-ghost use Rattle.bike_queries.specs.After.{IsNext, IsNextStation, first_after};
+ghost use Rattle.bike_queries.specs.After.{IsNext, IsNextStation, first_after, next_language};
 ghost use Rattle.bike_queries.specs.StationCounts.{IsNextStatus};
 ghost use Rattle.bike_desk.specs.Queries.{Queries};
 
 use crate::desk::Desk;
 use crate::fault::DeskFault;
 use bike_catalogue::{Plan, Region, VehicleType};
-use bike_fields::Ident;
+use bike_fields::{Ident, Language};
 use bike_operator::MOST_TYPES;
 use bike_queries::{
-    StationInfo, StationStatus, find_plan_after, find_region_after, find_station_after,
-    find_status_after, find_type_after,
+    StationInfo, StationStatus, find_language_after, find_plan_after, find_region_after,
+    find_station_after, find_status_after, find_type_after,
 };
 use sqlite::Alter;
 use std::alloc::Global;
 
 /// Each answers the first whose identifier comes after the given one in byte order, or the first of all, and None exactly where
-/// none is left: a caller who hands back the identifier that was answered walks over all. Nothing that is kept changes. Faults
-/// come as those of the other queries do.
+/// none is left: a caller who hands back the identifier that was answered walks over all. So it is of languages by themselves.
+/// Nothing that is kept changes. Faults come as those of the other queries do.
 impl<S: Alter> Desk<S> {
     /// The next vehicle type.
     pub fn type_after(
@@ -108,6 +108,23 @@ impl<S: Alter> Desk<S> {
             return Err(DeskFault::Stopped);
         }
         let read = find_plan_after(alloc, &mut self.conn, after);
+        self.answer(read)
+    }
+
+    /// The next language of further names, whatever has them.
+    pub fn language_after(
+        &mut self,
+        alloc: Global,
+        after: Option<&Language>,
+    ) -> Result<Option<Language>, DeskFault>
+        ensures query { Queries S.Store self.old self.new result
+            (λ s x. x ≡ next_language (option_map (λ l. l.now) after.entry) s) }
+        ensures takes_none { result ≢ Err DeskFault.NoMemory }
+    {
+        if self.stopped() {
+            return Err(DeskFault::Stopped);
+        }
+        let read = find_language_after(alloc, &mut self.conn, after);
         self.answer(read)
     }
 }

@@ -15,7 +15,6 @@ use Rattle.sqlite_sql.specs.Term.{Term, col, op2, eval, eval_all}
 use Rattle.sqlite_sql.specs.declared.ops.BinaryOp.TheVariants.{Compare}
 use Rattle.sqlite_sql.specs.declared.ops.CompareOp.TheVariants.{Gt}
 use Rattle.sqlite_rules.specs.Lists.{Has}
-use Rattle.bike_fields.specs.Bytes.{is_ident}
 use Rattle.bike_rows.specs.Layout.{table_of}
 use Rattle.bike_rows.specs.Queries.{table_query, limit_query, only_one, by_columns}
 use Rattle.bike_rows.specs.View.{columns_of}
@@ -36,8 +35,12 @@ use Rattle.bike_queries.specs.After.{first_after}
 
 -- ---- the order of texts in a WHERE
 
+-- the value comes after the text
+abbrev pub is_after : List ℕ → Value → Bool
+is_after id v = is_gt (value_cmp v (Text id))
+
 -- `>` with a text is the order of values
-gt_test : (v : Value) (id : List ℕ) → is_true (binary (Compare Gt Binary) v (Text id)) ≡ is_gt (value_cmp v (Text id))
+pub gt_test : (v : Value) (id : List ℕ) → is_true (binary (Compare Gt Binary) v (Text id)) ≡ is_after id v
 unfolding binary
 gt_test Null id = sym (ap is_gt (value_cmp-Null (Text id)))
 gt_test (Int n) id = truth_of (is_gt (value_cmp (Int n) (Text id)))
@@ -49,9 +52,9 @@ pub and_true : (b : Bool) → (b && true) ≡ b
 and_true true = refl
 and_true false = refl
 
--- the first column comes after the text
+-- the first column does
 abbrev pub is_behind : List ℕ → Row → Bool
-is_behind id row = is_gt (value_cmp (column row 0) (Text id))
+is_behind id row = is_after id (column row 0)
 
 -- the column at a place of the stored row > the first parameter
 abbrev pub after_tests : ℕ → List Term
@@ -91,16 +94,16 @@ turned Less = refl
 turned Equal = refl
 turned Greater = refl
 
--- every identifier comes after the empty text
-module _ {V : Type 0} (m : FinMap text_cmp V) (named : (e : List ℕ × V) → fin.get m e.0 ≡ Some e.1 → is_ident e.0 ≡ true) where
+-- The keys are texts of a kind that the empty text isn't, and so come after it: a walk from there begins with the first entry.
+module _ {V : Type 0} (is_kind : List ℕ → Bool) (none : is_kind [] ≡ false) (m : FinMap text_cmp V) (named : (e : List ℕ × V) → fin.get m e.0 ≡ Some e.1 → is_kind e.0 ≡ true) where
   after_none : find (λ e. is_lt (text_cmp [] e.0)) (entries m) ≡ slice_get (entries m) 0
   after_none = by (entries m) (λ e has. named e (has_get text_order.total m e has))
     where
-      less : (id : List ℕ) → is_ident id ≡ true → is_lt (text_cmp [] id) ≡ true
+      less : (id : List ℕ) → is_kind id ≡ true → is_lt (text_cmp [] id) ≡ true
       less [] good = absurd cc
       less (c ∷ cs) good = refl
 
-      by : (es : List (List ℕ × V)) → ((e : List ℕ × V) → Has es e → is_ident e.0 ≡ true) → find (λ e. is_lt (text_cmp [] e.0)) es ≡ slice_get es 0
+      by : (es : List (List ℕ × V)) → ((e : List ℕ × V) → Has es e → is_kind e.0 ≡ true) → find (λ e. is_lt (text_cmp [] e.0)) es ≡ slice_get es 0
       by [] good = refl
       by (e ∷ es) good = ap (λ b. cond b (Some e) (find (λ x. is_lt (text_cmp [] x.0)) es)) (less e.0 (good e (inl refl)))
 
@@ -113,5 +116,5 @@ module _ {V : Type 0} (m : FinMap text_cmp V) (named : (e : List ℕ × V) → f
       → slice_get (filter (is_behind start) (map row (entries m))) 0 ≡ option_map row (first_after after m)
   row_after row begins after start is =
       first_passed row (is_behind start) (λ e. is_lt (text_cmp start e.0)) (entries m) (λ e has.
-      ap (λ v. is_gt (value_cmp v (Text start))) (begins e) ∙ ap is_gt (value_cmp-Text e.0 start ∙ text_order.total.antisymm e.0 start) ∙ turned (text_cmp start e.0))
+      ap (is_after start) (begins e) ∙ ap is_gt (value_cmp-Text e.0 start ∙ text_order.total.antisymm e.0 start) ∙ turned (text_cmp start e.0))
       ∙ ap (λ id. option_map row (first_after (Some id) m)) is ∙ ap (option_map row) (after_start after)

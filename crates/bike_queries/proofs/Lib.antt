@@ -6,6 +6,8 @@ mod TallyLemmas
 mod StatusLemmas
 mod CountRows
 mod AfterLaw
+mod LeastLaw
+mod LanguageLemmas
 mod SpanLaw
 mod SpanLemmas
 mod NextLemmas

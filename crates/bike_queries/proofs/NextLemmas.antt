@@ -11,6 +11,7 @@ use Rattle.sqlite_value.specs.declared.value.Value.TheVariants.{Int, Text}
 use Rattle.sqlite_value.specs.Order.{Row, column}
 use Rattle.sqlite_tied.specs.Compute.{everything}
 use Rattle.sqlite_rules.specs.Lists.{Has}
+use Rattle.bike_fields.specs.declared.numbers.TheConstants.{MOST_DOCKS}
 use Rattle.bike_catalogue.specs.declared.vehicle.Form.{Form}
 use Rattle.bike_catalogue.specs.declared.vehicle.Propulsion.{Propulsion}
 use Rattle.bike_catalogue.specs.Rows.{PlanRow, TypeRow, StationRow, RegionRow, region_of_fields}
@@ -40,7 +41,7 @@ pub finds_region_after : (id : List ℕ) → FindsIn (codes "SELECT * FROM regio
 unfolding everything
 finds_region_after id = after_in Regions 1 id (λ r. refl) (λ tree. refl, refl)
 
-pub finds_station_after : (id : List ℕ) → FindsIn (codes "SELECT * FROM stations_2 WHERE station_id > ?1 ORDER BY station_id LIMIT 1") (Text id ∷ []) (λ t. slice_get (filter (is_behind id) t.stations) 0)
+pub finds_station_after : (id : List ℕ) → FindsIn (codes "SELECT * FROM stations_3 WHERE station_id > ?1 ORDER BY station_id LIMIT 1") (Text id ∷ []) (λ t. slice_get (filter (is_behind id) t.stations) 0)
 unfolding everything
 finds_station_after id = after_in Stations 1 id (λ r. refl) (λ tree. refl, refl)
 
@@ -121,14 +122,14 @@ region_read row y id name is =
 -- a station's columns likewise
 pub station_read : (x : StationRow) (row : Row) (y : Station) → ident_in (column row 0) ≡ Some x.station_id → name_in (column row 1) ≡ Some x.name
     → ((z : ℤ) → column row 2 ≡ Int z → x.lat ≡ z) → ((z : ℤ) → column row 3 ≡ Int z → x.lon ≡ z)
-    → Told x.docks (number_in 1 200 (column row 4)) → HoldsStation row y → x ≡ y.row
+    → Told x.docks (number_in 1 MOST_DOCKS (column row 4)) → HoldsStation row y → x ≡ y.row
 station_read x row y id name lat lon docks holds =
     let at : (k : ℕ) → column row k ≡ column (station_row y.row.station_id y holds.free holds.broken) k = λ k. ap (λ r. column r k) holds.is in
     let id_is = ident_read id (at 0) in
     let name_is = name_read name (at 1) in
     let lat_is = lat y.row.lat (at 2) in
     let lon_is = lon y.row.lon (at 3) in
-    let docks_is = number_read 1 200 docks (at 4) in
+    let docks_is = number_read 1 MOST_DOCKS docks (at 4) in
     λ i. record { station_id = id_is i; name = name_is i; lat = lat_is i; lon = lon_is i; docks = docks_is i }
 
 pub info_read : (x : StationInfo) (row : Row) (y : Station) → x.station ≡ y.row → Told x.is_installed (flag_in (column row 5))

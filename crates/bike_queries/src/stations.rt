@@ -44,12 +44,12 @@ pub(crate) fn select_station<S: Alter>(
 {
     first_row(
         conn,
-        "SELECT * FROM stations_2 WHERE station_id > ?1 ORDER BY station_id LIMIT 1",
+        "SELECT * FROM stations_3 WHERE station_id > ?1 ORDER BY station_id LIMIT 1",
         params![start_of(after)],
     )
 }
 
-/// The name, the place and the docks that stand in a row of `stations_2`.
+/// The name, the place and the docks that stand in a row of `stations_3`.
 fn read_station(alloc: Global, row: &Row) -> Result<Station, StatementFault>
     ensures { IfOk result (λ x. (y : _) → HoldsStation row.now y → x ≡ y.row) }
 {
@@ -61,7 +61,7 @@ fn read_station(alloc: Global, row: &Row) -> Result<Station, StatementFault>
     Station::from_fields(station_id, name, lat, lon, docks).ok_or(StatementFault::StoreFailed)
 }
 
-/// The station that stands in a row of `stations_2`.
+/// The station that stands in a row of `stations_3`.
 pub(crate) fn read_info(alloc: Global, row: &Row) -> Result<StationInfo, StatementFault>
     ensures { IfOk result (λ x. (y : _) → HoldsStation row.now y → station_of x ≡ y) }
 {

@@ -25,7 +25,7 @@ pub struct StationStatus {
     pub counts: Counts,
 }
 
-/// The numbers of its docks that stand in a row of `stations_2`.
+/// The numbers of its docks that stand in a row of `stations_3`.
 fn read_docks(row: &Row) -> Result<DockNumbers, StatementFault>
     ensures { IfOk result (λ x. HoldsDockNumbers row.now x) }
 {

@@ -11,4 +11,4 @@ pub returns : goal.returns
 returns g c =
     let start = c.start_of.result.now in
     reads_weaker (row_answers (finds_plan_after start) c.first_row.ensures (search bindings)) (λ db row is s h.
-    is s h ∙ row_after s.plans (λ e there. let at = h.sound.catalogue.plans e.0 e.1 there in ap is_ident at.id_is ∙ at.good.plan_id) stored_plan (λ e. refl) _ start c.start_of.ensures)
+    is s h ∙ row_after is_ident refl s.plans (λ e there. let at = h.sound.catalogue.plans e.0 e.1 there in ap is_ident at.id_is ∙ at.good.plan_id) stored_plan (λ e. refl) _ start c.start_of.ensures)

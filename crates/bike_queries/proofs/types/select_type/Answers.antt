@@ -11,4 +11,4 @@ pub returns : goal.returns
 returns g c =
     let start = c.start_of.result.now in
     reads_weaker (row_answers (finds_type_after start) c.first_row.ensures (search bindings)) (λ db row is s h.
-    is s h ∙ row_after s.types (λ e there. let at = h.sound.catalogue.types e.0 e.1 there in ap is_ident at.id_is ∙ at.good.type_id) stored_type (λ e. refl) _ start c.start_of.ensures)
+    is s h ∙ row_after is_ident refl s.types (λ e there. let at = h.sound.catalogue.types e.0 e.1 there in ap is_ident at.id_is ∙ at.good.type_id) stored_type (λ e. refl) _ start c.start_of.ensures)

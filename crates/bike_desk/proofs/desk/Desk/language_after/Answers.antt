@@ -1,0 +1,13 @@
+use Rattle.std.proofs.Common.{◌≡◌, sym, ap, ◌∙◌, subst}
+use Rattle.std.specs.Prelude.{option_map}
+use Rattle.bike_queries.specs.After.{next_language}
+use Rattle.bike_desk.specs.Desk.{DeskValue}
+use Rattle.bike_desk.specs.Queries.{Queries}
+use Rattle.bike_desk.proofs.QueryLemmas.{queries}
+use Rattle.bike_desk.proofs.desk.Desk.language_after.Goals as goal
+
+pub returns-clause-query : goal.returns-clause-query
+returns-clause-query g c =
+    let going = ap (λ (d : DeskValue g.row.S.Denot). d.is_stopped) c.self.view_is ∙ sym c.stopped.ensures ∙ c.if-stopped.false in
+    let told = queries g.S.Store c.self.inside.conn c.find_language_after-read.new.conn c.self.inside.stopped (λ s x. x ≡ next_language (option_map (λ l. l.now) c.args.after) s) going c.find_language_after-read.result c.answer.new.self c.answer.result c.find_language_after-read.ensures c.answer.ensures in
+    subst (λ (d : DeskValue g.row.S.Denot). Queries g.S.Store d c.answer.new.self c.answer.result (λ s x. x ≡ next_language (option_map (λ l. l.now) c.args.after) s)) c.self.view_is told
