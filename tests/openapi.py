@@ -24,7 +24,7 @@ def by_path(file, name):
     return module
 
 
-SERVING = by_path(HERE / "serving.py", "tests_serving")
+SERVING, FORMATS = by_path(HERE / "serving.py", "tests_serving"), by_path(HERE / "formats.py", "tests_formats")
 LINES = (HERE.parent / "docs/openapi.yaml").read_text(encoding="utf-8").splitlines()
 
 
@@ -180,6 +180,15 @@ def test_every_reference_names_something(program):
     for kind, those in API["components"].items():
         for name in those:
             assert f"#/components/{kind}/{name}" in found or name == "MethodNotAllowed", (kind, name)
+
+
+def test_bounds_are_those_of_the_formats(program):
+    """The numbers of refusals, and of docks."""
+    schemas = API["components"]["schemas"]
+    numbers = schemas["Refused"]["properties"]["number"]
+    assert (numbers["minimum"], numbers["maximum"]) == (1, len(FORMATS.REFUSALS)), numbers
+    docks = [schemas["Dock"], *(it["properties"]["dock"] for it in schemas.values() if "dock" in it.get("properties", {}))]
+    assert {it["maximum"] for it in docks if "maximum" in it} == {FORMATS.MOST_DOCKS}, docks
 
 
 def test_examples_fit_their_schemas(program):
