@@ -5,6 +5,7 @@ use Rattle.std.proofs.lemmas.Option.{option_and_then_some, same_Some}
 use Rattle.sqlite_value.specs.declared.value.Value.{Value}
 use Rattle.sqlite_value.specs.declared.value.Value.TheVariants.{Text}
 use Rattle.sqlite_value.specs.Order.{Row, column}
+use Rattle.bike_fields.specs.declared.numbers.TheConstants.{MOST_DOCKS}
 use Rattle.bike_operator.specs.declared.records.Place.{Place}
 use Rattle.bike_operator.specs.declared.records.Place.TheVariants as place
 use Rattle.bike_operator.specs.declared.records.Bike.{Bike}
@@ -26,7 +27,7 @@ number_or_none_column lo hi = or_none_column (number_column lo hi) (λ n. refl)
 
 first_place_full : (p : Place) → IsStoredPlace p
     → first_place_in (column (place_columns p) 0) (column (place_columns p) 1) (column (place_columns p) 2) (column (place_columns p) 3) (column (place_columns p) 4) ≡ Some p
-first_place_full (place.Dock station dock) g = gives _ (Some station) ident_or_none_column g.good_station (gives _ (Some dock) (number_or_none_column 1 200) g.good_dock refl)
+first_place_full (place.Dock station dock) g = gives _ (Some station) ident_or_none_column g.good_station (gives _ (Some dock) (number_or_none_column 1 MOST_DOCKS) g.good_dock refl)
 first_place_full (place.Rental rental) g = gives _ (Some rental) (number_or_none_column 1 100000000) g refl
 first_place_full (place.Truck truck order) g = gives _ (Some truck) (number_or_none_column 1 999999) g.0 (gives _ (Some order) (number_or_none_column 1 100000000) g.1 refl)
 first_place_full place.Depot g = refl
@@ -75,7 +76,7 @@ HasPlace row place.Depot = Unit {0}
 place_has : (row : Row) (p : Place) → first_place_in (column row 3) (column row 4) (column row 5) (column row 6) (column row 7) ≡ Some p → HasPlace row p
 place_has row p e =
     takes _ ident_or_none_column e (λ station station_is _ e.
-    takes _ (number_or_none_column 1 200) e (λ dock dock_is _ e.
+    takes _ (number_or_none_column 1 MOST_DOCKS) e (λ dock dock_is _ e.
     takes _ (number_or_none_column 1 100000000) e (λ rental rental_is _ e.
     takes _ (number_or_none_column 1 999999) e (λ truck truck_is good_truck e.
     takes _ (number_or_none_column 1 100000000) e (λ order order_is good_order e.

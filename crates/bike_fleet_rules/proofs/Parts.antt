@@ -15,7 +15,7 @@ use Rattle.bike_rows.proofs.OrderLemmas.{order_has}
 use Rattle.bike_rows.proofs.TreeLemmas.{by_key_total}
 use Rattle.bike_rows.proofs.ListLemmas.{map_has}
 use Rattle.bike_rows.proofs.FrameLemmas.{rows_of_is}
-use Rattle.bike_book.specs.Tables.{TableName, Tables, tables_by, keys_of, rows_in as table_rows, Meta, System, Plans, Segments, Types, Regions, Stations, Docks, Bikes, Trucks, Riders, Rentals, Orders, Entries, Kept, Counts}
+use Rattle.bike_book.specs.Tables.{TableName, Tables, tables_by, keys_of, rows_in as table_rows, Meta, System, Plans, Segments, Types, Regions, Stations, Docks, Bikes, Trucks, Riders, Rentals, Orders, Entries, Kept, Counts, MoreNames}
 use Rattle.bike_schema.specs.Layouts.{layout_of, name_of}
 use Rattle.bike_schema.specs.Tables.{tables_of, HasTables}
 use Rattle.bike_judges.specs.Lines.{part, nulls, or_nulls, with_two}
@@ -93,6 +93,7 @@ rows_by rows Orders = refl
 rows_by rows Entries = refl
 rows_by rows Kept = refl
 rows_by rows Counts = refl
+rows_by rows MoreNames = refl
 
 -- the rows of each table are as wide as its layout
 abbrev pub AreWide : Tables → Type 0
