@@ -1,2 +1,3 @@
 mod OpenLaws
 mod PartLemmas
+mod NameLemmas

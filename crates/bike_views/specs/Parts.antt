@@ -1,6 +1,9 @@
 -- Parts of a view that are read together.
-use Rattle.std.specs.Prelude.{ℕ, List, length, false}
+use Rattle.std.specs.Prelude.{ℕ, List, length, Bool, false}
+use Rattle.std.specs.List.{list_any}
+use Rattle.std.specs.Str.{bytes_eq}
 use Rattle.std.specs.FinMap as map
+use Rattle.bike_catalogue.specs.Rows.{MoreNameRow}
 use Rattle.bike_texts.specs.declared.ends.OrderEnd.{OrderEnd}
 use Rattle.bike_texts.specs.declared.ends.Side.{Side}
 use Rattle.bike_operator.specs.declared.records.Rental.{Rental}
@@ -62,3 +65,7 @@ delivery_view s order side dock = record (side_view s (item_numbered order s.ord
 -- the numbers where nothing is stored
 abbrev pub no_numbers : StoredNumbers
 no_numbers = record { free = 0; broken = 0; has_dock_row = false; available = 0; disabled = 0; has_count_row = false }
+
+-- one of these names is in the language
+abbrev pub is_among : List ℕ → List MoreNameRow → Bool
+is_among language = list_any (λ m. bytes_eq m.language language)

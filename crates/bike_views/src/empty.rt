@@ -14,6 +14,8 @@ pub(crate) fn empty_view() -> View
         has_plan: false,
         has_type: false,
         has_region: false,
+        has_named: false,
+        has_language: false,
         has_from: false,
         has_to: false,
         has_rider: false,

@@ -9,6 +9,7 @@ mod catalogue;
 mod docks;
 mod empty;
 mod ledger;
+mod names;
 mod numbers;
 mod orders;
 mod rentals;

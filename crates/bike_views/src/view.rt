@@ -8,6 +8,7 @@ use crate::bikes::{view_to_add_bike, view_to_mark_bike, view_to_retire_bike};
 use crate::catalogue::{
     view_to_add_plan, view_to_add_region, view_to_add_type, view_to_set_plan, view_to_set_system,
 };
+use crate::names::view_to_add_name;
 use crate::orders::{
     view_to_add_truck, view_to_close_order, view_to_load, view_to_open_order, view_to_unload,
 };
@@ -79,5 +80,11 @@ pub fn find_view<S: Alter>(
         Command::CloseOrder { order } => view_to_close_order(alloc, conn, *order),
         Command::AddRegion(added) => view_to_add_region(conn, added),
         Command::SetRegion { station, region } => view_to_set_region(conn, station, region),
+        Command::AddName {
+            kind,
+            id,
+            language,
+            ..
+        } => view_to_add_name(alloc, conn, *kind, id, language),
     }
 }

@@ -1,4 +1,4 @@
-use Rattle.std.proofs.Common.{◌≡◌, false, Result, sym, ap, ◌∙◌}
+use Rattle.std.proofs.Common.{◌≡◌, false, Result, [], sym, ap, ◌∙◌}
 use Rattle.sqlite_trees.specs.declared.store.Store.{Ghosts}
 use Rattle.sqlite.specs.Held.{Held}
 use Rattle.bike_commands.specs.declared.command.Command.{Command}
@@ -84,3 +84,6 @@ returns-in-AddRegion g c = view_for c.view_to_add_region.ensures c.in-AddRegion.
 
 pub returns-in-SetRegion : goal.returns-in-SetRegion
 returns-in-SetRegion g c = view_for c.view_to_set_region.ensures c.in-SetRegion.is
+
+pub returns-in-AddName : goal.returns-in-AddName
+returns-in-AddName g c = view_for (reads_weaker c.view_to_add_name.ensures (λ db x it s h. it s h [])) c.in-AddName.is
