@@ -26,7 +26,7 @@ from pathlib import Path
 TOP = Path(__file__).resolve().parent.parent
 TOUR, MAP, PICTURE = TOP / "examples/city/run", TOP / "examples/map/map.py", TOP / "docs/pictures/city.svg"
 LIVE, SHOW = TOP / "examples/map/live.html", TOP / "examples/map/show"
-STEPS = ["init", "setup", "stations", "regions", "fleet", "docks", "morning", "day", "feeds", "serve", "tables", "check"]
+STEPS = ["init", "setup", "stations", "regions", "names", "fleet", "docks", "morning", "day", "feeds", "serve", "tables", "check"]
 SECONDS = 60
 
 # A system with what GBFS v3.0 requires and no more, but for a feed and members that nobody knows.
@@ -96,6 +96,14 @@ def holds_the_regions(text):
     assert len(wanted) == 60 and all(found[it].startswith(name) for it, name in wanted.items()), {it: (found[it], wanted[it]) for it in wanted}
 
 
+def welsh():
+    """What the request lines of the tour's step name in Welsh: the names of stations, and those of regions."""
+    answers = (TOP / "examples/city/names.out").read_text(encoding="utf-8").splitlines()
+    rows = [it.split("\t")[3:] for it in (TOP / "examples/city/names.in").read_text(encoding="utf-8").splitlines()]
+    named = {(row[1], row[2]): row[4] for row, answer in zip(rows, answers) if answer == "ok" and row[3] == "cy"}
+    return [{key: name for (kind, key), name in named.items() if kind == wanted} for wanted in ("station", "region")]
+
+
 def saved(program, feeds, heads=None):
     """Writes feeds into a folder of the test."""
     folder = Path(program.folder) / "feeds"
@@ -120,6 +128,17 @@ def test_the_tour_and_its_map(program):
     assert (status, said) == (0, "") and out.startswith("60 stations, "), (status, out, said)
     rows = [stations_of(it.read_text(encoding="utf-8")) for it in (results / "map.svg", Path(program.folder) / "again.svg")]
     assert rows[0] == rows[1]
+    # A language that the system hasn't changes nothing; in one that it has, what has no name in it keeps its own.
+    for language in "cy", "xx":
+        status, out, said = draw(program, "results/feeds", "--svg", f"{language}.svg", "--html", f"{language}.html", "--language", language)
+        assert (status, said) == (0, "") and out.startswith("60 stations, "), (status, out, said)
+    assert Path(program.folder, "xx.svg").read_bytes() == Path(program.folder, "again.svg").read_bytes()
+    stations, regions = welsh()
+    text = Path(program.folder, "cy.svg").read_text(encoding="utf-8")
+    found = {station: told[0] for station, told in stations_of(text)}
+    assert len(stations) == 22 and found == {it: stations.get(it, name) for it, name, _ in city()}, found
+    assert len(regions) == 5 and all(text.count(f">{name}</text>") == 1 for name in regions.values()) and ">Beiciau Abermarl<" in text
+    assert '<html lang="cy">' in Path(program.folder, "cy.html").read_text(encoding="utf-8")
 
 
 def test_the_tour_wants_an_empty_folder_and_a_program(program):

@@ -11,8 +11,8 @@ NAMES = {
     7: "unknown_plan", 8: "unknown_truck", 9: "unknown_order", 10: "already_there", 11: "bad_field", 12: "dock_empty", 13: "dock_full",
     14: "dock_broken", 15: "bike_disabled", 16: "not_renting", 17: "not_returning", 18: "rider_blocked", 19: "balance_negative",
     20: "rider_is_riding", 21: "not_rented", 24: "truck_too_small", 25: "wrong_place", 26: "wrong_type", 27: "order_closed",
-    28: "order_filled", 29: "bikes_on_truck", 30: "refund_too_large", 31: "rental_open", 33: "key_reused", 34: "truck_full",
-    35: "rental_closed", 36: "wrong_truck_or_ends", 37: "unknown_region",
+    28: "order_filled", 29: "bikes_on_truck", 30: "refund_too_large", 31: "rental_open", 32: "limit_reached", 33: "key_reused",
+    34: "truck_full", 35: "rental_closed", 36: "wrong_truck_or_ends", 37: "unknown_region", 38: "system_missing",
 }
 NUMBER = re.compile("0|[1-9][0-9]*")
 # Which fields of a command are numbers: a command with another text there is unreadable.
@@ -21,7 +21,8 @@ NUMBERS = {
     "start": [0, 2], "end": [0, 2], "recover": [0], "add-truck": [0, 1], "open-order": [0, 4], "load": [0, 1, 2], "unload": [0, 1, 2, 4],
     "close-order": [0], "add-station": [4],
 }
-REGION = re.compile("[a-z0-9_-]{1,36}|[*]")
+REGION, LANGUAGE = re.compile("[a-z0-9_-]{1,36}|[*]"), re.compile("[A-Za-z0-9-]{2,35}")
+KINDS = ("system", "station", "type", "plan", "description", "region")
 DEPOT = ("depot",)
 
 
@@ -51,9 +52,10 @@ class City:
 
     def __init__(self):
         """Begins with the empty operator."""
-        self.now = 0
+        self.now, self.system = 0, None
         self.plans, self.types, self.regions, self.stations, self.bikes, self.riders, self.trucks = {}, {}, {}, {}, {}, {}, {}
         self.docked, self.broken = {}, set()
+        self.names = {}
         self.rentals, self.orders, self.entries, self.kept = [], [], [], {}
 
     def answer(self, line):
@@ -61,6 +63,8 @@ class City:
         moment, caller, key, text = line.split("\t", 3)
         word, *fields = text.split("\t")
         is_read = word != "set-region" or REGION.fullmatch(fields[1])
+        if word == "add-name":
+            is_read = fields[0] in KINDS and LANGUAGE.fullmatch(fields[2])
         if not is_read or not all(NUMBER.fullmatch(fields[it]) for it in NUMBERS.get(word, [])):
             return f"refused\t11\t{NAMES[11]}"
         if (caller, key) in self.kept:
@@ -117,6 +121,19 @@ class City:
         refuse(1, station not in self.stations)
         refuse(37, region != "*" and region not in self.regions)
         self.stations[station]["region"] = None if region == "*" else region
+
+    def add_name(self, kind, key, language, name):
+        """The name is added in a further language. That is no report."""
+        refuse(38, self.system is None)
+        unknown, those = {
+            "system": (11, self.system[:1]), "station": (1, self.stations), "type": (6, self.types), "plan": (7, self.plans),
+            "description": (7, self.plans), "region": (37, self.regions),
+        }[kind]
+        refuse(unknown, key not in those)
+        given = self.names.get((kind, key), {})
+        refuse(10, language == self.system[1] or language in given)
+        refuse(32, len(given) >= 3)
+        self.names[kind, key] = {**given, language: name}
 
     def set_station(self, station, *flags):
         """The three flags are set."""

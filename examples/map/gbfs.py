@@ -133,13 +133,14 @@ def segment(row, unit, where):
 class System:
     """What the feeds say of a system: its name and languages, the moment of station_status, types, plans and stations."""
 
-    def __init__(self, source):
-        """Reads the feeds from the URL of gbfs, or from a folder."""
+    def __init__(self, source, language=None):
+        """Reads the feeds from the URL of gbfs, or from a folder. Texts are taken in this language where they are there in it."""
         self.sources = sources_of(source)
         _, about = self.feed("system_information")
         if not isinstance(about.get("languages"), list):
             raise NotGbfs("system_information: languages is not a list")
-        self.languages = [it for it in about["languages"] if isinstance(it, str)]
+        languages = [it for it in about["languages"] if isinstance(it, str)]
+        self.languages = sorted(languages, key=lambda it: it != language)
         self.name = self.text(about, "name", "system_information")
         self.types = self.read_types()
         self.regions = self.read_regions()

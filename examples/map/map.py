@@ -1,10 +1,10 @@
 #!/usr/bin/env python3
 """Draws a map of a bike share system from its GBFS v3.0 feeds, as one self-contained HTML page, an SVG picture, or both.
 
-    map.py SOURCE [--html FILE] [--svg FILE]
+    map.py SOURCE [--html FILE] [--svg FILE] [--language LANGUAGE]
 
 SOURCE is the URL of the feed gbfs, whose `feeds` are followed, or a folder that holds each feed as NAME.json. A line on standard output
-tells how many stations, bicycles and docks were found. Whatever is no GBFS v3.0 ends it with one line on standard error and status 1.
+tells how many stations, bicycles and docks were found. What has a name in LANGUAGE, one of the system's, is named in it. Whatever is no GBFS v3.0 ends it with one line on standard error and status 1.
 It needs nothing but Python's standard library, 3.8 or later. Which members of the feeds it relies on is said in gbfs.py.
 """
 
@@ -312,13 +312,14 @@ def html_of(system):
 
 def main():
     """Reads the feeds and writes what is asked for. Returns the status."""
-    reader = argparse.ArgumentParser(usage="%(prog)s SOURCE [--html FILE] [--svg FILE]")
+    reader = argparse.ArgumentParser(usage="%(prog)s SOURCE [--html FILE] [--svg FILE] [--language LANGUAGE]")
     reader.add_argument("source")
     reader.add_argument("--html")
     reader.add_argument("--svg")
+    reader.add_argument("--language")
     given = reader.parse_args()
     try:
-        system = gbfs.System(given.source)
+        system = gbfs.System(given.source, given.language)
         for file, text_of in (given.html, html_of), (given.svg, svg_of):
             if file:
                 Path(file).write_text(text_of(system), encoding="utf-8")
