@@ -1,7 +1,7 @@
 -- The trees of the feeds (GBFS v3.0): a line a feed, over the operator, its system and the moment that is asked for.
 use Rattle.std.specs.Prelude.{ℕ, pos, List, [], ◌∷◌, ◌++◌, map, codes}
 use Rattle.std.specs.FinMap as finmap
-use Rattle.std.specs.FinSet as finset
+use Rattle.std.specs.FinMap.{FinMap}
 use Rattle.bike_catalogue.specs.Rows.{PlanRow, TypeRow, RegionRow, MoreNameRow, SystemRow}
 use Rattle.bike_json.specs.Tree.{Tree, array, text, whole, Items}
 use Rattle.bike_json.specs.Rows.{items}
@@ -30,9 +30,13 @@ listing name list = object_of ((name, array list) ∷ [])
 
 -- ---- what it says of the operator; types, stations, plans and regions stand in byte order of their identifiers, as in the maps
 
--- the languages of further names, each once, in byte order
+-- the further names by their languages alone
+abbrev pub names_by_language : Operator → FinMap text_cmp (List ℕ)
+names_by_language s = finmap.from_entries (map (λ e. (part_at e.0 2, e.1)) (finmap.entries s.more_names))
+
+-- these languages, each once, in byte order
 abbrev pub further_languages : Operator → List (List ℕ)
-further_languages s = finset.items (finset.from_list {R = text_cmp} (map (λ key. part_at key 2) (finmap.keys s.more_names)))
+further_languages s = finmap.keys (names_by_language s)
 
 -- what stands before the languages, and what behind them
 abbrev pub system_members : SystemRow → List NamedTree
