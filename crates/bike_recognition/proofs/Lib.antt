@@ -1,7 +1,7 @@
 mod ClimbLemmas
 mod PassLemmas
 mod SchemaLemmas
-mod RowidTexts
+pub mod RowidTexts
 pub mod LookLemmas
-mod StandLemmas
+pub mod StandLemmas
 mod MetaTexts

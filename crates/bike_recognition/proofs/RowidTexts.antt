@@ -66,16 +66,16 @@ named (Err e) q is = absurd is
 is_stored : (tree : ℕ) → nat_le (2 ^ 31) tree ≡ false → nat_lt tree (2 ^ 31) ≡ true
 is_stored tree low = lt-ltb tree (2 ^ 31) (leb-false (2 ^ 31) tree low)
 
-abbrev IsParsed : List ℕ → Type 0
+abbrev pub IsParsed : List ℕ → Type 0
 IsParsed text = (p : Parsed) × (first text ≡ Ok p)
 
 -- what was parsed asks for the rowids, where the table stands alone in a stored tree
-abbrev AsksAlone : Layout → Parsed → Type 0
+abbrev pub AsksAlone : Layout → Parsed → Type 0
 AsksAlone layout p =
     ((tree : ℕ) → nat_lt tree (2 ^ 31) ≡ true → Drafts (of_query (one_select (of_tables (table_of layout tree ∷ []))) p.formats p.statement) (rowids_query tree))
     × (accepts_program (alone layout) [] (rowids_query 0) [] ≡ true)
 
-by_rowid : (layout : Layout) (text : List ℕ) (parsed : IsParsed text) → AsksAlone layout parsed.0 → AsksRowidsOf layout text
+pub by_rowid : (layout : Layout) (text : List ℕ) (parsed : IsParsed text) → AsksAlone layout parsed.0 → AsksRowidsOf layout text
 by_rowid layout text parsed asks s at tree has =
     let schema = of_tables (table_of layout tree ∷ []) in
     let drafts : Drafts (draft_of schema text) (rowids_query tree) = subst (λ r. Drafts (and_then r (λ p. of_query (one_select schema) p.formats p.statement)) (rowids_query tree)) (sym parsed.1) (asks.0 tree (is_stored tree has.stored)) in

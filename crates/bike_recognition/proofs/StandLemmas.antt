@@ -14,13 +14,14 @@ use Rattle.sqlite.specs.Held.{Held, state}
 use Rattle.sqlite.specs.State.{IsLive}
 use Rattle.bike_names.specs.Found.{IsPlainTable, HasNoDefaults}
 use Rattle.bike_rows.specs.Calls.{ReadsWhere}
-use Rattle.bike_rows.specs.Layout.{table_of}
+use Rattle.bike_rows.specs.Layout.{Layout, table_of}
+use Rattle.bike_rows.specs.Stands.{Stands}
+use Rattle.bike_rows.proofs.KeyLemmas.{IsKeyOf}
 use Rattle.bike_rows.proofs.ChainLaws.{reads_both}
 use Rattle.bike_book.specs.Tables.{TableName}
 use Rattle.bike_schema.specs.Layouts.{layout_of, every_table}
 use Rattle.bike_schema.specs.Tables.{HasTables}
 use Rattle.bike_schema.proofs.AnswerLemmas.{reads_weaker}
-use Rattle.bike_schema.proofs.KeyLemmas.{table_key}
 use Rattle.bike_schema.proofs.TableLemmas.{of_every, every_true}
 use Rattle.bike_recognition.specs.Recognition.{AnyDatabase, ReadsAny, TableStands, IsFirstMissing}
 use Rattle.bike_recognition.specs.Rowids.{AsksRowids, AreApart}
@@ -36,7 +37,7 @@ null_is (Real x) h = absurd (true≢false (sym h))
 null_is (Text t) h = absurd (true≢false (sym h))
 null_is (Blob b) h = absurd (true≢false (sym h))
 
-abbrev has_no_default : Column → Bool
+abbrev pub has_no_default : Column → Bool
 has_no_default column = is_null column.default
 
 no_defaults : (columns : List Column) → list_all has_no_default columns ≡ true → HasNoDefaults columns
@@ -46,33 +47,36 @@ no_defaults (column ∷ columns) h = let both = and_parts (has_no_default column
 none_defaulted : list_all (λ t. list_all has_no_default (layout_of t).columns) every_table ≡ true
 none_defaulted = refl
 
-plain_table : (t : TableName) → IsPlainTable (table_of (layout_of t) 0)
-plain_table t = record { defaults = no_defaults (layout_of t).columns (every_true (λ t. list_all has_no_default (layout_of t).columns) none_defaulted t); checks = refl; references = refl; computed = refl; stamps = refl }
+pub no_defaults_in : (layout : Layout) → list_all has_no_default layout.columns ≡ true → IsPlainTable (table_of layout 0)
+no_defaults_in layout none = record { defaults = no_defaults layout.columns none; checks = refl; references = refl; computed = refl; stamps = refl }
+
+pub plain_table : (t : TableName) → IsPlainTable (table_of (layout_of t) 0)
+plain_table t = no_defaults_in (layout_of t) (every_true (λ t. list_all has_no_default (layout_of t).columns) none_defaulted t)
 
 -- ---- one table
 
-module _ (t : TableName) where
+module _ (keys : ℕ) (layout : Layout) (plain : IsPlainTable (table_of layout 0)) (key : IsKeyOf keys layout) where
   -- the table as it is looked for
   abbrev wanted : Table
-  wanted = table_of (layout_of t) 0
+  wanted = table_of layout 0
 
   -- what is said of a table that stands or doesn't
   abbrev Says : Database → Bool → Type 0
-  Says db stands = IsTrue stands ↔ TableStands t db
+  Says db stands = IsTrue stands ↔ Stands db keys layout
 
-  wanted_there : (db : Database) → TableStands t db → HasWanted db.schema wanted
-  wanted_there db it = record { plain = plain_table t; tree = it.tree; there = record { at = it.at; has = it.has; unreferred = it.unreferred } }
+  wanted_there : (db : Database) → Stands db keys layout → HasWanted db.schema wanted
+  wanted_there db it = record { plain = plain; tree = it.tree; there = record { at = it.at; has = it.has; unreferred = it.unreferred } }
 
   -- the schema doesn't have it
   pub lacks : {S E F : Type 0} {g : Ghosts S} {old mid : Held S} → ReadsAny {E = E} g old mid (Ok (tt {0})) (λ db _. AnyDatabase db) → (HasWanted (state g mid).now.schema wanted → ⊥) → ReadsAny {E = F} g old mid (Ok false) Says
   lacks {g = g} {mid = mid} first not_there = reads_more first (λ clean opened any. ((λ never. absurd (true≢false (sym never))), λ stands. absurd (not_there (wanted_there (state g mid).now stands))))
 
-  module _ (text : List ℕ) (asks : AsksRowidsOf (layout_of t) text) where
+  module _ (text : List ℕ) (asks : AsksRowidsOf layout text) where
     abbrev asks_there : (db : Database) → HasWanted db.schema wanted → AsksRowids db text
     asks_there db it = let asked = asks db.schema it.there.at it.tree it.there.has in record { tree = it.tree; names = asked.0; means = asked.1 }
 
-    stands_there : (db : Database) → IsDatabase db → (it : HasWanted db.schema wanted) → AreApart (db.trees it.tree) → TableStands t db
-    stands_there db sound it apart = record { at = it.there.at; tree = it.tree; has = it.there.has; keyed = (table_key t).key.holds db it.there.at it.tree it.there.has.there sound apart.0 apart.1; unreferred = it.there.unreferred }
+    stands_there : (db : Database) → IsDatabase db → (it : HasWanted db.schema wanted) → AreApart (db.trees it.tree) → Stands db keys layout
+    stands_there db sound it apart = record { at = it.there.at; tree = it.tree; has = it.there.has; keyed = key.holds db it.there.at it.tree it.there.has.there sound apart.0 apart.1; unreferred = it.there.unreferred }
 
     module _ {S : Type 0} {g : Ghosts S} {old mid new : Held S} {E F : Type 0} (first : ReadsAny {E = E} g old mid (Ok (tt {0})) (λ db _. AnyDatabase db)) (there : HasWanted (state g mid).now.schema wanted) where
       -- the schema has it, and its rowids were passed over

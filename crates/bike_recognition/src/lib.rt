@@ -14,6 +14,8 @@ mod table;
 mod version;
 
 pub use recognition::{Recognition, recognise};
+pub use rowids::are_apart;
+pub use schema::has_wanted;
 pub use stands::{EVERY_TABLE, check_open, missing_table, table_stands};
 pub use table::TableName;
 pub use version::{MetaVersion, find_version};

@@ -73,10 +73,7 @@ fn is_above(last: Option<Rowid>, id: Rowid) -> bool
 }
 
 /// Whether the rowids that the text asks for are numbers that rise. In order, and rising, they are apart.
-pub(crate) fn are_apart<S: Alter>(
-    conn: &mut Connection<S>,
-    sql: &str,
-) -> Result<bool, StatementFault>
+pub fn are_apart<S: Alter>(conn: &mut Connection<S>, sql: &str) -> Result<bool, StatementFault>
     ensures { ReadsWhere S.Store (λ db. AsksRowids db sql.now) conn.old conn.new result
         (λ db apart. IsTrue apart → (it : AsksRowids db sql.now) → AreApart (db.trees it.tree)) }
 {

@@ -50,7 +50,7 @@ fn is_referred_to(schema: &Schema, tree: u32) -> bool
 }
 
 /// Whether the schema has the wanted table, and no foreign key refers to it. The number of its tree may be another.
-fn has_wanted(schema: &Schema, wanted: &Table) -> bool
+pub fn has_wanted(schema: &Schema, wanted: &Table) -> bool
     ensures { IsTrue result ↔ HasWanted schema.now wanted.now }
 {
     match place_of_table(schema, wanted) {
