@@ -18,7 +18,7 @@ use Rattle.bike_rows.proofs.OrderLemmas.{Rises, all_has, all_from}
 use Rattle.bike_rows.proofs.SortLemmas.{AreApartAll}
 use Rattle.bike_rows.proofs.TreeLemmas.{by_key_total}
 use Rattle.bike_book.proofs.Keys.{value_cmp-number_value}
-use Rattle.bike_book.specs.Tables.{TableName, Tables, rows_in, keys_of, Stations, Docks, Bikes, Trucks, Riders, Rentals, Orders, Entries}
+use Rattle.bike_book.specs.Tables.{TableName, Tables, rows_in, keys_of, Stations, Docks, Bikes, Trucks, Orders}
 use Rattle.bike_readings.specs.Rules.{AreInOrder}
 use Rattle.bike_judges.specs.Lines.{line, station_line, station_dock_line, station_bike_line, truck_line, truck_bike_line, order_line, order_bike_line}
 

@@ -3,7 +3,7 @@ use Rattle.std.proofs.Common.{ℕ, List, [], ◌∷◌, pos, refl}
 use Rattle.sqlite_value.specs.declared.value.Value.TheVariants.{Int}
 use Rattle.sqlite_sql.specs.Term.{Term, lit, col}
 use Rattle.bike_rows.proofs.SelectLaws.{rows_merged_of_three, TiesOnlyByKey, NeverTies}
-use Rattle.bike_book.specs.Tables.{Stations, Docks, Bikes, Riders, Rentals, Entries, Counts}
+use Rattle.bike_book.specs.Tables.{Stations, Docks, Bikes, Counts}
 use Rattle.bike_schema.specs.Layouts.{layout_of}
 use Rattle.bike_judges.specs.Lines.{station_line, station_dock_line, station_bike_line, count_dock_line, count_bike_line, count_line}
 use Rattle.bike_judges.specs.declared.query.Query.TheVariants as query

@@ -3,7 +3,7 @@ use Rattle.std.proofs.Common.{ℕ, List, [], ◌∷◌, pos, refl}
 use Rattle.sqlite_value.specs.declared.value.Value.TheVariants.{Int}
 use Rattle.sqlite_sql.specs.Term.{Term, lit, col}
 use Rattle.bike_rows.proofs.SelectLaws.{rows_merged, TiesOnlyByKey, NeverTies}
-use Rattle.bike_book.specs.Tables.{Docks, Bikes, Trucks, Rentals, Orders, Entries}
+use Rattle.bike_book.specs.Tables.{Docks, Bikes, Trucks, Orders}
 use Rattle.bike_schema.specs.Layouts.{layout_of}
 use Rattle.bike_judges.specs.Lines.{dock_line, docked_line, truck_line, truck_bike_line, order_line, order_bike_line}
 use Rattle.bike_judges.specs.declared.query.Query.TheVariants as query
