@@ -679,10 +679,11 @@ def test_ends_that_take_few_bytes_or_none(program):
 @quickly
 def test_texts_that_fail_behind_each_byte(program):
     """So it is with a feed, a day's table, and the one line of other words: after one write that fails none comes. What stands doesn't depend on it."""
-    days.ask(program, days.CITY)
+    days.ask(program, [*days.CITY, "add-name\tsystem\tmetro\tde\tMetro", "add-name\tstation\ta1\tfr\tPort"])
     before = adoption.held(Path(program.folder, "city.db"))
     feed, day = ["feed", "city.db", "station_status", "--at", AT], ["day", "city.db", "entries", "2023-11-14", UTC]
-    for words, stride in (feed, 61), (day, 17), (["check", "city.db"], 2), (["init", "city.db"], 2):
+    named = ["feed", "city.db", "system_information", "--at", AT]
+    for words, stride in (feed, 61), (named, 53), (day, 17), (["check", "city.db"], 2), (["init", "city.db"], 2):
         whole = program.run(*words)
         assert whole[0] == 0 and whole[1] and not whole[2], whole
         for size in some(len(whole[1]), stride):
