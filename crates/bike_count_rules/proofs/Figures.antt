@@ -1,9 +1,8 @@
 -- What the lines of counts come to: the numbers that are stored, and the figures of the operator. The pass finds the least key where they differ.
 use Rattle.std.proofs.Common.{◌≡◌, ℕ, ◌+◌, List, [], ◌∷◌, ◌++◌, length, map, Bool, false, ◌&&◌, ◌||◌, Option, Some, None, refl, sym, ap, ap₂, subst, ◌∙◌, arith}
-use Rattle.std.specs.Prelude.{take, replicate, get_or, option_and_then, IfSome}
+use Rattle.std.specs.Prelude.{take, get_or, option_and_then, IfSome}
 use Rattle.std.specs.List.{filter_map, list_any}
 use Rattle.std.specs.FinMap as fin
-use Rattle.std.proofs.lemmas.List.{length-replicate}
 use Rattle.std.specs.declared.cmp.Ordering.TheVariants.{Equal}
 use Rattle.sqlite_value.specs.declared.value.Value.{Value}
 use Rattle.sqlite_value.specs.declared.value.Value.TheVariants.{Null, Int, Real, Text, Blob}
@@ -32,14 +31,13 @@ use Rattle.bike_readings.proofs.ReadRows.{stored_plain}
 use Rattle.bike_readings.proofs.Places.{has_under, under_has}
 use Rattle.bike_judges.specs.Lines.{count_dock_line, count_bike_line, count_line}
 use Rattle.bike_judges.specs.Verdicts.{EarlierGood, IsFirstFailing}
-use Rattle.bike_count_rules.specs.declared.marks.TheConstants.{PLACES}
 use Rattle.bike_count_rules.specs.declared.marks.Marks.{Marks}
 use Rattle.bike_count_rules.specs.declared.tally.Tally.{Tally}
-use Rattle.bike_count_rules.specs.Tallies.{is_station, has_mark, count_tally, tally_in, first_uneven, run}
+use Rattle.bike_count_rules.specs.Tallies.{is_station, has_mark, none_marked, count_tally, tally_in, first_uneven, run}
 use Rattle.bike_count_rules.proofs.Apart.{AreWide, all_lines, lines_apart}
 use Rattle.bike_count_rules.proofs.Groups.{IsEven, Came, total, first_came}
 use Rattle.bike_count_rules.proofs.LinesAre.{sorted, sorted_lines, broken_said}
-use Rattle.bike_count_rules.proofs.Pass.{tallies_up, run_is, marks}
+use Rattle.bike_count_rules.proofs.Pass.{tallies_up, run_is, marks, length-none_marked}
 use Rattle.bike_count_rules.proofs.Totals.{has_some, stored_in, of_lines, ordered_total, appended, docks_total, counts_total, bikes_total, bikes_store_none, available_adds, disabled_adds, none_stored}
 
 -- ---- keys that tie with two texts
@@ -163,10 +161,10 @@ module _ (t : Tables) (up : AreInOrder t) (wide : AreWide t) (earlier : EarlierG
           let at = under_has 2 key t.counts r e in
           key_same (take 2 r) it.tally.station it.tally.type_id (ap (row_cmp (take 2 r)) (sym it.key_is) ∙ at.1) ∙ sym it.key_is
 
-  module _ (m : Marks) (no_station : m.station ≡ None) (no_dock : m.broken ≡ replicate PLACES false) where
+  module _ (m : Marks) (no_station : m.station ≡ None) (no_dock : m.broken ≡ none_marked) where
     ran : run m None (sorted t up wide) ≡ first_uneven None tallies
     ran =
-        run_is broken (sorted t up wide) m None (sorted_lines t up wide) (rises (by_key_total 5) (all_lines t up wide)) (ap (λ (xs : List Bool). length xs) no_dock ∙ length-replicate PLACES false)
+        run_is broken (sorted t up wide) m None (sorted_lines t up wide) (rises (by_key_total 5) (all_lines t up wide)) (ap (λ (xs : List Bool). length xs) no_dock ∙ length-none_marked)
         (λ at is. absurd (let two = sym no_station ∙ is in cc))
         (λ y h station dock asks.
         let none : has_mark m station dock ≡ false = ap (λ (o : Option (List ℕ)). is_station o station && get_or m.broken dock false) no_station in

@@ -1,6 +1,6 @@
 -- What the two passes find is the first bad key of counts.
-use Rattle.std.proofs.Common.{◌≡◌, ℕ, List, [], ◌∷◌, Bool, false, ◌&&◌, Option, Some, None, refl, sym, ap, ap₂, subst, ◌∙◌, arith}
-use Rattle.std.specs.Prelude.{take, replicate, option_map}
+use Rattle.std.proofs.Common.{◌≡◌, ℕ, List, [], ◌∷◌, Bool, ◌&&◌, Option, Some, None, refl, sym, ap, ap₂, subst, ◌∙◌, arith}
+use Rattle.std.specs.Prelude.{take, option_map}
 use Rattle.std.specs.Option.{IsSomeAnd}
 use Rattle.std.specs.FinMap as fin
 use Rattle.std.proofs.lemmas.List.{take-append-le}
@@ -33,11 +33,10 @@ use Rattle.bike_judges.specs.Least.{least_key}
 use Rattle.bike_judges.proofs.LeastLaw.{least_verdict}
 use Rattle.bike_judges.proofs.LineLaw.{lines_verdict}
 use Rattle.bike_judges.proofs.QueryLaws.{stored_width}
-use Rattle.bike_count_rules.specs.declared.marks.TheConstants.{PLACES}
 use Rattle.bike_count_rules.specs.declared.marks.Marks.{Marks}
 use Rattle.bike_count_rules.specs.declared.tally.Tally.{Tally}
 use Rattle.bike_count_rules.specs.Names.{is_named}
-use Rattle.bike_count_rules.specs.Tallies.{count_tally, run}
+use Rattle.bike_count_rules.specs.Tallies.{none_marked, count_tally, run}
 use Rattle.bike_count_rules.proofs.Apart.{AreWide}
 use Rattle.bike_count_rules.proofs.Figures.{IsFigured, HasFigures, figures_verdict, key_same}
 use Rattle.bike_count_rules.proofs.Groups.{both_true}
@@ -125,7 +124,7 @@ module _ (t : Tables) (up : AreInOrder t) (wide : AreWide t) (earlier : EarlierG
       lines_verdict t Counts up (named_line t up wide) test (take 2) (λ row has. let four = wide.counts row has in take-append-le 2 row _ (omega (arith, four))) v is
 
   -- THE VERDICT of the two passes
-  pub counts_verdict : (m : Marks) → m.station ≡ None → m.broken ≡ replicate PLACES false → (a b : Option Row) → first_failing test (take 2) 0 (lines_of query.CountNames t) ≡ a → run m None (lines_of query.Counts t) ≡ b
+  pub counts_verdict : (m : Marks) → m.station ≡ None → m.broken ≡ none_marked → (a b : Option Row) → first_failing test (take 2) 0 (lines_of query.CountNames t) ≡ a → run m None (lines_of query.Counts t) ≡ b
       → IsTableVerdict t Counts (least_key a b)
   counts_verdict m no_station no_dock a b first second =
       same_verdict t (λ key. IsNamed key × IsFigure key) (IsGoodKey t Counts) good_of of_good (least_key a b)
@@ -147,7 +146,7 @@ pub record AreFound (named : Option BadKey) (before : ℕ) (m : Marks) (tally : 
   pub by_figure : (verdict : Option Row) → run m tally (lines_of query.Counts (tables_of db)) ≡ verdict → option_map key_row counted ≡ verdict
 
 pub counts_judged : (db : Database) (named counted : Option BadKey) (before : ℕ) (m : Marks) (tally : Option Tally) (least : Option BadKey) → AreFound named before m tally db counted
-    → before ≡ 0 → m.station ≡ None → m.broken ≡ replicate PLACES false → tally ≡ None → option_map key_row least ≡ least_key (option_map key_row named) (option_map key_row counted) → JudgesTable Counts db least
+    → before ≡ 0 → m.station ≡ None → m.broken ≡ none_marked → tally ≡ None → option_map key_row least ≡ least_key (option_map key_row named) (option_map key_row counted) → JudgesTable Counts db least
 counts_judged db named counted before m tally least it zero no_station no_dock no_tally least_is earlier =
     let t = tables_of db in
     let first : first_failing (λ n line. is_named line) (take 2) 0 (lines_of query.CountNames t) ≡ option_map key_row named =

@@ -30,7 +30,7 @@ use Rattle.bike_judges.specs.Lines.{part}
 use Rattle.bike_count_rules.specs.declared.marks.TheConstants.{PLACES}
 use Rattle.bike_count_rules.specs.declared.marks.Marks.{Marks}
 use Rattle.bike_count_rules.specs.declared.tally.Tally.{Tally}
-use Rattle.bike_count_rules.specs.Tallies.{is_place, is_station, is_at, has_mark, marks_of, with_mark, marked_by, marks_after, count_tally, docked_tally, placed_tally, bike_tally, tally_in, tally_key, next_of, found_of, first_uneven, run}
+use Rattle.bike_count_rules.specs.Tallies.{is_place, is_station, is_at, has_mark, none_marked, no_marks, marks_of, with_mark, marked_by, marks_after, count_tally, docked_tally, placed_tally, bike_tally, tally_in, tally_key, next_of, found_of, first_uneven, run}
 use Rattle.bike_count_rules.proofs.Groups.{Up, NotAbove}
 
 -- ---- truth
@@ -200,6 +200,14 @@ none_set zero n = refl
 none_set (suc k) zero = refl
 none_set (suc k) (suc n) = none_set k n
 
+none_has : (n : ℕ) → get_or none_marked n false ≡ false
+unfolding none_marked
+none_has n = none_set PLACES n
+
+pub length-none_marked : length none_marked ≡ PLACES
+unfolding none_marked
+length-none_marked = length-replicate PLACES false
+
 set_has : (set : List Bool) (m n : ℕ) → m < length set → get_or (slice_set set m true) n false ≡ (get_or set n false || (m == n))
 set_has set m n within = go (eqb_tells m n) where
   go : ((m == n) ≡ true) × (m ≡ n) ⊎ ((m == n) ≡ false) × (m ≡ n → ⊥) → get_or (slice_set set m true) n false ≡ (get_or set n false || (m == n))
@@ -222,12 +230,9 @@ station_of m station is = go m.station refl is where
 marks_step : (m : Marks) (x y : Row) (xs : List Row) (e : List ℕ × ℕ) (station : List ℕ) (dock : ℕ) → length m.broken ≡ PLACES → IsReached m (x ∷ xs) → Ranks x y → column x 0 ≡ Text e.0 → column y 0 ≡ Text station → e.1 < PLACES
     → has_mark (with_mark m e.0 e.1) station dock ≡ (has_mark m station dock || (bytes_eq e.0 station && (e.1 == dock)))
 marks_step m x y xs e station dock long reached low a b within = go (is_at m e.0) refl where
-  length_new : length (replicate PLACES false) ≡ PLACES
-  length_new = length-replicate PLACES false
-
   go : (c : Bool) → is_at m e.0 ≡ c
-      → (is_at (record (cond c m (record { station = Some e.0; broken = replicate PLACES false })) { broken = slice_set (cond c m (record { station = Some e.0; broken = replicate PLACES false })).broken e.1 true }) station
-      && get_or (slice_set (cond c m (record { station = Some e.0; broken = replicate PLACES false })).broken e.1 true) dock false)
+      → (is_at (record (cond c m (no_marks e.0)) { broken = slice_set (cond c m (no_marks e.0)).broken e.1 true }) station
+      && get_or (slice_set (cond c m (no_marks e.0)).broken e.1 true) dock false)
       ≡ (has_mark m station dock || (bytes_eq e.0 station && (e.1 == dock)))
   go true f =
       let own : is_at m station ≡ bytes_eq e.0 station = ap (λ (o : Option (List ℕ)). is_station o station) (station_of m e.0 f) in
@@ -235,7 +240,7 @@ marks_step m x y xs e station dock long reached low a b within = go (is_at m e.0
       ∙ and_or (is_at m station) (get_or m.broken dock false) (e.1 == dock)
       ∙ ap (λ (c : Bool). has_mark m station dock || (c && (e.1 == dock))) own
   go false f =
-      ap (λ (c : Bool). bytes_eq e.0 station && c) (set_has (replicate PLACES false) e.1 dock (subst (λ (n : ℕ). e.1 < n) (sym length_new) within) ∙ ap (λ (c : Bool). c || (e.1 == dock)) (none_set PLACES dock))
+      ap (λ (c : Bool). bytes_eq e.0 station && c) (set_has none_marked e.1 dock (subst (λ (n : ℕ). e.1 < n) (sym length-none_marked) within) ∙ ap (λ (c : Bool). c || (e.1 == dock)) (none_has dock))
       ∙ ap (λ (c : Bool). (c && get_or m.broken dock false) || (bytes_eq e.0 station && (e.1 == dock))) (sym (away (is_at m station) refl))
     where
       away : (c : Bool) → is_at m station ≡ c → is_at m station ≡ false
@@ -258,9 +263,9 @@ marks_length m x line long = elim (effect m x line) [
   | inr it ↦ ap (λ (k : Marks). length k.broken) it.1 ∙ length-set (marks_of m it.0.0).broken it.0.1 true ∙ go (is_at m it.0.0) it.0.0
 ]
   where
-    go : (c : Bool) (s : List ℕ) → length (cond c m (record { station = Some s; broken = replicate PLACES false })).broken ≡ PLACES
+    go : (c : Bool) (s : List ℕ) → length (cond c m (no_marks s)).broken ≡ PLACES
     go true s = long
-    go false s = length-replicate PLACES false
+    go false s = length-none_marked
 
 still_reached : (m : Marks) (x : Row) (xs : List Row) → AreLines (x ∷ xs) → Rises (by_key_total 5) (x ∷ xs) → IsReached m (x ∷ xs) → IsReached (marks_after m x) xs
 still_reached m x xs lines up reached at is y h fall = elim (effect m x (lines x (inl refl))) [
@@ -271,10 +276,10 @@ still_reached m x xs lines up reached at is y h fall = elim (effect m x (lines x
     low : Ranks x y
     low = ranks x y (lines x (inl refl)) (lines y (inr h)) (all_has (λ z. by_key 5 x z ≡ Less) xs y up.0 h)
 
-    go : (c : Bool) {d : Bool} → d ≡ c → (e : List ℕ × ℕ) → column x 0 ≡ Text e.0 → (cond d m (record { station = Some e.0; broken = replicate PLACES false })).station ≡ Some at → ⊥
-    go true q e a now = reached at (ap (λ (c : Bool). (cond c m (record { station = Some e.0; broken = replicate PLACES false })).station) (sym q) ∙ now) y (inr h) fall
+    go : (c : Bool) {d : Bool} → d ≡ c → (e : List ℕ × ℕ) → column x 0 ≡ Text e.0 → (cond d m (no_marks e.0)).station ≡ Some at → ⊥
+    go true q e a now = reached at (ap (λ (c : Bool). (cond c m (no_marks e.0)).station) (sym q) ∙ now) y (inr h) fall
     go false q e a now =
-        let named : ◌≡◌ {A = Option (List ℕ)} (Some e.0) (Some at) = ap (λ (c : Bool). (cond c m (record { station = Some e.0; broken = replicate PLACES false })).station) (sym q) ∙ now in
+        let named : ◌≡◌ {A = Option (List ℕ)} (Some e.0) (Some at) = ap (λ (c : Bool). (cond c m (no_marks e.0)).station) (sym q) ∙ now in
         let same : e.0 ≡ at = cc in
         no_fall x y low (ap (value_cmp (column y 0)) (a ∙ ap (λ (s : List ℕ). Text s) same) ∙ fall)
 

@@ -36,9 +36,16 @@ is_at m station = is_station m.station station
 abbrev pub has_mark : Marks → List ℕ → ℕ → Bool
 has_mark m station dock = is_at m station && get_or m.broken dock false
 
+-- no dock is marked
+unfoldable pub none_marked : List Bool
+none_marked = replicate PLACES false
+
+abbrev pub no_marks : List ℕ → Marks
+no_marks station = record { station = Some station; broken = none_marked }
+
 -- the marks of the station: none where the marks are another's
 abbrev pub marks_of : Marks → List ℕ → Marks
-marks_of m station = if is_at m station then m else record { station = Some station; broken = replicate PLACES false }
+marks_of m station = if is_at m station then m else no_marks station
 
 abbrev pub with_mark : Marks → List ℕ → ℕ → Marks
 with_mark m station dock = record (marks_of m station) { broken = slice_set (marks_of m station).broken dock true }

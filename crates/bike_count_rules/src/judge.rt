@@ -1,13 +1,12 @@
 //! The rules of counts, asked of a database.
 
-ghost use Rattle.std.specs.Prelude.{◌≡◌, IfOk, OnOk, None, replicate, false, option_map};
+ghost use Rattle.std.specs.Prelude.{◌≡◌, IfOk, OnOk, None, option_map};
 ghost use Rattle.bike_book.specs.Tables.{Counts};
 ghost use Rattle.bike_rows.specs.Calls.{ReadsWhere};
 ghost use Rattle.bike_schema.specs.Tables.{IsOurs};
 ghost use Rattle.bike_judges.specs.Judging.{key_row};
 ghost use Rattle.bike_judges.specs.Verdicts.{JudgesTable};
-ghost use Rattle.bike_count_rules.specs.declared.marks.TheConstants.{PLACES};
-ghost use Rattle.bike_count_rules.specs.Tallies.{run, marks_after, tally_in, has_mark, next_of, found_of, bad_key};
+ghost use Rattle.bike_count_rules.specs.Tallies.{run, none_marked, marks_after, tally_in, has_mark, next_of, found_of, bad_key};
 
 use crate::marks::Marks;
 use crate::names::CountTest;
@@ -31,7 +30,7 @@ impl CountJudge {
     /// Before the first line.
     fn new(alloc: Global) -> CountJudge
         ensures station { result.marks.station ≡ None }
-        ensures broken { result.marks.broken ≡ replicate PLACES false }
+        ensures broken { result.marks.broken ≡ none_marked }
         ensures tally { result.tally ≡ None }
     {
         CountJudge {

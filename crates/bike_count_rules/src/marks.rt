@@ -1,9 +1,8 @@
 //! The broken docks of a station.
 
-ghost use Rattle.std.specs.Prelude.{◌≡◌, IfOk, OnOk, None, replicate, false, get_or};
+ghost use Rattle.std.specs.Prelude.{◌≡◌, IfOk, OnOk, None, false, get_or};
 ghost use Rattle.sqlite_value.specs.Order.{column};
-ghost use Rattle.bike_count_rules.specs.declared.marks.TheConstants.{PLACES};
-ghost use Rattle.bike_count_rules.specs.Tallies.{is_place, has_mark, is_at, marks_after};
+ghost use Rattle.bike_count_rules.specs.Tallies.{is_place, has_mark, is_at, none_marked, marks_after};
 
 use bike_fields::{DockNumber, Ident, MOST_DOCKS};
 use bike_readings::{Part, read_dock};
@@ -49,10 +48,19 @@ impl Marks {
     /// Of no station.
     pub(crate) fn new() -> Marks
         ensures station { result.station ≡ None }
-        ensures broken { result.broken ≡ replicate PLACES false }
+        ensures broken { result.broken ≡ none_marked }
+    {
+        Marks::of(None)
+    }
+
+    /// Of the station, where there is one, with no dock marked.
+    #[tactic(auto, unfolding(crate::specs::Tallies::none_marked))]
+    fn of(station: Option<Ident>) -> Marks
+        ensures station { result.station ≡ station }
+        ensures broken { result.broken ≡ none_marked }
     {
         Marks {
-            station: None,
+            station,
             broken: [false; PLACES],
         }
     }
@@ -98,8 +106,7 @@ impl Marks {
             return Ok(());
         }
         if !self.is_at(dock.station) {
-            self.station = Some(ident(alloc, dock.station)?);
-            self.broken = [false; PLACES];
+            *self = Marks::of(Some(ident(alloc, dock.station)?));
         }
         let at = dock.dock.get() as usize;
         self.broken[at] = true;
