@@ -269,7 +269,8 @@ UNAVAILABLE = (
 def test_http(program):
     refusing = Refusing(program)
     start = serving.post("/riders/18/start", '{"key":"s1","station":"b2","dock":1}')
-    for request in start, serving.get("/riders/17"), serving.get("/gbfs/3.0/station_status.json"), serving.office("o1", "add-rider\t21"):
+    named = serving.get("/gbfs/3.0/station_information.json"), serving.office("o2", "add-name\tstation\ta1\tit\tPorto")
+    for request in start, serving.get("/riders/17"), serving.get("/gbfs/3.0/station_status.json"), serving.office("o1", "add-rider\t21"), *named:
         before = fresh(program, len(LINES))
         parts = kept(program)
         opened = refusing.opened()
