@@ -18,7 +18,8 @@ use Rattle.bike_readings.specs.Rules.{AreInOrder}
 use Rattle.bike_readings.proofs.RowRules.{some_with}
 use Rattle.bike_judges.specs.Lines.{part}
 use Rattle.bike_catalogue_rules.specs.Tests.{is_system, is_kept, is_plan, is_region, is_type, has_plan}
-use Rattle.bike_catalogue_rules.proofs.PlanLines.{plan_line, own_part, has_plan_is}
+use Rattle.bike_catalogue_rules.proofs.Partners.{own_part}
+use Rattle.bike_catalogue_rules.proofs.PlanLines.{plan_line, has_plan_is}
 use Rattle.bike_catalogue_rules.proofs.RowVerdicts.{IsTestOf, good_some, some_good}
 use Rattle.bike_catalogue_rules.proofs.Widths.{AreWide}
 

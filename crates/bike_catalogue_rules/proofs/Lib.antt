@@ -1,5 +1,12 @@
 pub mod Widths
+pub mod NameOrder
+pub mod NameRuns
+pub mod NameRules
+pub mod NameLines
+pub mod NameTests
+pub mod NamesJudged
 pub mod Lookups
+pub mod Partners
 pub mod RowVerdicts
 pub mod PlanLines
 pub mod CatalogueTests

@@ -12,13 +12,11 @@ use Rattle.bike_rows.specs.View.{by_key, row_with}
 use Rattle.bike_rows.proofs.OrderLemmas.{Rises}
 use Rattle.bike_rows.proofs.TreeLemmas.{by_key_total}
 use Rattle.bike_catalogue.specs.Rows.{PlanRow}
-use Rattle.bike_book.specs.Tables.{Tables, Plans}
 use Rattle.bike_book.proofs.MapRows.{StoresKeys, has_find}
 use Rattle.bike_book.proofs.Keys.{text_key, texts}
 use Rattle.bike_readings.specs.Readings.{plan_read}
 use Rattle.bike_readings.proofs.CatalogueRows.{plan_reading}
-use Rattle.bike_readings.specs.ReadOff.{plan_in, with_segments, operator_of}
-use Rattle.bike_readings.specs.Rules.{AreInOrder}
+use Rattle.bike_readings.specs.ReadOff.{plan_in, with_segments}
 use Rattle.bike_readings.proofs.ReadLists.{read_of, has_read, find_has}
 use Rattle.bike_readings.proofs.ReadRows.{mapped}
 use Rattle.bike_readings.proofs.Places.{has_under, under_has}
@@ -95,6 +93,3 @@ pub plan_key : (segments : List Row) → SpellsKeys texts (plan_in segments)
 plan_key segments r e is =
     let it = mapped (with_segments segments) (plan_read r) e is in
     (ap (take 1) (plan_reading.sound r it.value it.value_is).0 ∙ ap (λ (x : List ℕ × PlanRow). text_key x.0) it.part_is, tt)
-
-pub plan_at : (t : Tables) → AreInOrder t → (id : List ℕ) → fin.get (operator_of t).plans id ≡ option_map (λ e. e.1) (option_and_then (plan_in t.segments) (row_with 1 (text_key id) t.plans))
-plan_at t up id = found_at texts (plan_in t.segments) (plan_key t.segments) t.plans (up Plans) id tt

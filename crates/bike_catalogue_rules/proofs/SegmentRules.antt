@@ -33,7 +33,8 @@ use Rattle.bike_readings.proofs.Segments.{segment_found, found_segment, item_fou
 use Rattle.bike_judges.specs.Lines.{part}
 use Rattle.bike_judges.specs.Verdicts.{IsTableVerdict}
 use Rattle.bike_catalogue_rules.specs.Tests.{has_plan, segment_name, comes_after, is_next, first_astray}
-use Rattle.bike_catalogue_rules.proofs.PlanLines.{plan_line, own_part, has_plan_is, plan_segments}
+use Rattle.bike_catalogue_rules.proofs.Partners.{own_part}
+use Rattle.bike_catalogue_rules.proofs.PlanLines.{plan_line, has_plan_is, plan_segments}
 use Rattle.bike_catalogue_rules.proofs.SegmentOrder.{first_numbered, next_numbered, item_before, below_next, none_between, stands_before, last_or_below}
 use Rattle.bike_catalogue_rules.proofs.Widths.{AreWide}
 

@@ -1,9 +1,9 @@
--- How many columns the rows of plans, of segments and of vehicle types have.
+-- How many columns the rows have that the rules of the catalogue read with others beside them.
 use Rattle.std.proofs.Common.{◌≡◌, length}
 use Rattle.sqlite_value.specs.Order.{Row}
 use Rattle.sqlite_rules.specs.Lists.{Has}
 use Rattle.sqlite.specs.Effect.{Database}
-use Rattle.bike_book.specs.Tables.{Tables, Plans, Segments, Types}
+use Rattle.bike_book.specs.Tables.{Tables, Plans, Segments, Types, Regions, Stations, MoreNames}
 use Rattle.bike_schema.specs.Tables.{HasTables, tables_of}
 use Rattle.bike_judges.proofs.QueryLaws.{stored_width}
 
@@ -12,6 +12,16 @@ pub record AreWide (t : Tables) : Type 0 where
   pub plans : (r : Row) → Has t.plans r → length r ≡ 5
   pub segments : (r : Row) → Has t.segments r → length r ≡ 6
   pub types : (r : Row) → Has t.types r → length r ≡ 6
+  pub regions : (r : Row) → Has t.regions r → length r ≡ 2
+  pub stations : (r : Row) → Has t.stations r → length r ≡ 12
+  pub more_names : (r : Row) → Has t.more_names r → length r ≡ 4
 
 pub are_wide : (db : Database) → HasTables db → AreWide (tables_of db)
-are_wide db has = record { plans = stored_width db has Plans; segments = stored_width db has Segments; types = stored_width db has Types }
+are_wide db has = record {
+  plans = stored_width db has Plans;
+  segments = stored_width db has Segments;
+  types = stored_width db has Types;
+  regions = stored_width db has Regions;
+  stations = stored_width db has Stations;
+  more_names = stored_width db has MoreNames;
+}
