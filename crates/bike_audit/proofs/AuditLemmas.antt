@@ -1,5 +1,5 @@
 -- From the verdict on each table to that on all.
-use Rattle.std.proofs.Common.{◌≡◌, inl, inr, ℕ, zero, suc, ◌-◌, ◌<◌, ◌≤◌, List, [], ◌∷◌, length, take, drop, slice_index_or, Option, Some, None, Result, Ok, refl, sym, ap, ◌∙◌, subst, arith}
+use Rattle.std.proofs.Common.{◌≡◌, inl, inr, ℕ, suc, ◌-◌, ◌<◌, ◌≤◌, List, [], ◌∷◌, length, take, drop, slice_index_or, Option, Some, None, Result, Ok, refl, sym, ap, ◌∙◌, subst, arith}
 use Rattle.std.specs.Prelude.{map, option_map}
 use Rattle.std.proofs.lemmas.List.{take_all}
 use Rattle.std.proofs.lemmas.Result.{IfOk-weaker}
@@ -15,7 +15,7 @@ use Rattle.sqlite.specs.State.{HasCleanDisk, IsLive}
 use Rattle.sqlite.proofs.StateLemmas.{survives_weaker}
 use Rattle.bike_rows.specs.Calls.{ReadsWhere}
 use Rattle.bike_rows.proofs.ChainLaws.{reads_both}
-use Rattle.bike_book.specs.Tables.{TableName, Tables, table_place, Meta, System, Plans, Segments, Types, Regions, Stations, Docks, Bikes, Trucks, Riders, Rentals, Orders, Entries, Kept, Counts}
+use Rattle.bike_book.specs.Tables.{TableName, Tables, table_place, Meta, System, Plans, Segments, Types, Regions, Stations, Docks, Bikes, Trucks, Riders, Rentals, Orders, Entries, Kept, Counts, MoreNames}
 use Rattle.bike_schema.specs.Layouts.{every_table}
 use Rattle.bike_schema.specs.Tables.{HasTables, IsOurs, tables_of}
 use Rattle.bike_schema.proofs.AnswerLemmas.{reads_weaker}
@@ -41,22 +41,7 @@ use Rattle.bike_audit.specs.declared.tables.BadRow.{BadRow}
 
 -- the table at a place
 table_at : ℕ → TableName
-table_at zero = Meta
-table_at (suc zero) = System
-table_at (suc (suc zero)) = Plans
-table_at (suc (suc (suc zero))) = Segments
-table_at (suc (suc (suc (suc zero)))) = Types
-table_at (suc (suc (suc (suc (suc zero))))) = Regions
-table_at (suc (suc (suc (suc (suc (suc zero)))))) = Stations
-table_at (suc (suc (suc (suc (suc (suc (suc zero))))))) = Docks
-table_at (suc (suc (suc (suc (suc (suc (suc (suc zero)))))))) = Bikes
-table_at (suc (suc (suc (suc (suc (suc (suc (suc (suc zero))))))))) = Trucks
-table_at (suc (suc (suc (suc (suc (suc (suc (suc (suc (suc zero)))))))))) = Riders
-table_at (suc (suc (suc (suc (suc (suc (suc (suc (suc (suc (suc zero))))))))))) = Rentals
-table_at (suc (suc (suc (suc (suc (suc (suc (suc (suc (suc (suc (suc zero)))))))))))) = Orders
-table_at (suc (suc (suc (suc (suc (suc (suc (suc (suc (suc (suc (suc (suc zero))))))))))))) = Entries
-table_at (suc (suc (suc (suc (suc (suc (suc (suc (suc (suc (suc (suc (suc (suc zero)))))))))))))) = Kept
-table_at _ = Counts
+table_at place = slice_index_or every_table place Meta
 
 its_own : (name : TableName) → table_at (table_place name) ≡ name
 unfolding table_at
@@ -76,8 +61,9 @@ its_own Orders = refl
 its_own Entries = refl
 its_own Kept = refl
 its_own Counts = refl
+its_own MoreNames = refl
 
-last_place : (name : TableName) → table_place name < 16
+last_place : (name : TableName) → table_place name < length every_table
 last_place Meta = omega arith
 last_place System = omega arith
 last_place Plans = omega arith
@@ -94,14 +80,15 @@ last_place Orders = omega arith
 last_place Entries = omega arith
 last_place Kept = omega arith
 last_place Counts = omega arith
+last_place MoreNames = omega arith
 
 -- the tables from a place on, in their order
 abbrev AreFrom : ℕ → List TableName → Type 0
-AreFrom place [] = place ≡ 16
+AreFrom place [] = place ≡ length every_table
 AreFrom place (name ∷ names) = (table_place name ≡ place) × AreFrom (suc place) names
 
 every_from : AreFrom 0 every_table
-every_from = (refl, (refl, (refl, (refl, (refl, (refl, (refl, (refl, (refl, (refl, (refl, (refl, (refl, (refl, (refl, (refl, refl))))))))))))))))
+every_from = (refl, (refl, (refl, (refl, (refl, (refl, (refl, (refl, (refl, (refl, (refl, (refl, (refl, (refl, (refl, (refl, (refl, refl)))))))))))))))))
 
 module _ (db : Database) where
   abbrev t : Tables

@@ -6,7 +6,8 @@ ghost use Rattle.bike_judges.specs.Verdicts.{JudgesTable};
 ghost use Rattle.bike_recognition.specs.Names.{table_named};
 
 use bike_catalogue_rules::{
-    judge_kept, judge_meta, judge_plans, judge_regions, judge_segments, judge_system, judge_types,
+    judge_kept, judge_meta, judge_names, judge_plans, judge_regions, judge_segments, judge_system,
+    judge_types,
 };
 use bike_count_rules::judge_counts;
 use bike_fleet_rules::{judge_bikes, judge_orders, judge_trucks};
@@ -43,5 +44,6 @@ pub(crate) fn judge_table<S: Alter>(
         TableName::Entries => judge_entries(alloc, conn),
         TableName::Kept => judge_kept(alloc, conn),
         TableName::Counts => judge_counts(alloc, conn),
+        TableName::MoreNames => judge_names(alloc, conn),
     }
 }
