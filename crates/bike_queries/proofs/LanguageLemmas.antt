@@ -35,7 +35,8 @@ use Rattle.bike_book.specs.Stored.{stored_name}
 use Rattle.bike_book.proofs.MapRows.{both, below_has, has_get}
 use Rattle.bike_schema.specs.Layouts.{layout_of}
 use Rattle.bike_schema.proofs.AnswerLemmas.{FindsIn, in_table}
-use Rattle.bike_queries.specs.After.{first_after, names_by_language, language_row, next_language}
+use Rattle.bike_feed_texts.specs.Trees.{names_by_language}
+use Rattle.bike_queries.specs.After.{first_after, language_row, next_language}
 use Rattle.bike_queries.proofs.AfterLaw.{is_after, is_behind, gt_test, and_true, after_tests, row_after}
 use Rattle.bike_queries.proofs.LeastLaw.{least_answer}
 

@@ -1,12 +1,12 @@
 -- What stands next in byte order of identifiers, or of languages.
-use Rattle.std.specs.Prelude.{◌≡◌, ℕ, ℤ, List, [], ◌∷◌, map, find, slice_get, Option, Some, None, option_map}
+use Rattle.std.specs.Prelude.{◌≡◌, ℕ, ℤ, List, [], ◌∷◌, find, slice_get, Option, Some, None, option_map}
 use Rattle.std.specs.Ordering.{is_lt}
-use Rattle.std.specs.FinMap.{FinMap, entries, from_entries}
+use Rattle.std.specs.FinMap.{FinMap, entries}
 use Rattle.sqlite_value.specs.declared.value.Value.TheVariants.{Text}
 use Rattle.sqlite_value.specs.Order.{Row}
 use Rattle.bike_operator.specs.Operator.{Operator, Station, text_cmp}
-use Rattle.bike_operator.specs.Names.{part_at}
 use Rattle.bike_book.specs.Rows.{station_row}
+use Rattle.bike_feed_texts.specs.Trees.{names_by_language}
 use Rattle.bike_queries.specs.declared.stations.StationInfo.{StationInfo}
 
 -- the first entry whose identifier comes after this one, or the first of all
@@ -43,11 +43,7 @@ pub record HoldsStation (row : Row) (x : Station) : Type 0 where
 
 -- ---- languages
 
--- the further names by their languages alone: its keys are these languages, each once, in byte order
-abbrev pub names_by_language : Operator → FinMap text_cmp (List ℕ)
-names_by_language s = from_entries (map (λ e. (part_at e.0 2, e.1)) (entries s.more_names))
-
--- the first language of them after this one, or the first of all
+-- the first language of further names after this one, or the first of all
 abbrev pub next_language : Option (List ℕ) → Operator → Option (List ℕ)
 next_language after s = option_map (λ e. e.0) (first_after after (names_by_language s))
 
