@@ -55,11 +55,10 @@ module _ {K X : Type 0} {R : K → K → Ordering} (total : IsTotalOrder R) wher
       let apart : eq_by_cmp R e.0 x.0 ≡ false = ap is_eq (turned_back total x.0 e.0 (below_middle x.0 front e rest parts.0)) in
       ap (λ (b : Bool). cond b (Some x.1) (list.find R e.0 (front ++ e ∷ rest))) apart ∙ found_middle front e rest parts.1
 
-  -- what stands next in a map after one of its entries
-  pub map_next : (m : FinMap R X) (front : List (K × X)) (e : K × X) (rest : List (K × X)) → entries m ≡ front ++ e ∷ rest
-      → find (λ x. is_lt (R e.0 x.0)) (entries m) ≡ slice_get rest 0
-  map_next m front e rest split =
-      ap (find (λ x. is_lt (R e.0 x.0))) split ∙ next_after front e rest (subst (λ es. T (list.is_sorted R es)) split (entries_sorted m))
+  -- what stands next after one of the entries
+  pub next_entry : (es front : List (K × X)) (e : K × X) (rest : List (K × X)) → T (list.is_sorted R es) → es ≡ front ++ e ∷ rest
+      → find (λ x. is_lt (R e.0 x.0)) es ≡ slice_get rest 0
+  next_entry es front e rest sorted split = ap (find (λ x. is_lt (R e.0 x.0))) split ∙ next_after front e rest (subst (λ es. T (list.is_sorted R es)) split sorted)
 
   -- what it has under the key of one of its entries
   pub map_found : (m : FinMap R X) (front : List (K × X)) (e : K × X) (rest : List (K × X)) → entries m ≡ front ++ e ∷ rest → get m e.0 ≡ Some e.1

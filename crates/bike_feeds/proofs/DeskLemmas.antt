@@ -19,7 +19,7 @@ same_fault is = cc
 told : {A B : Type 0} {x y : DeskFault} → ◌≡◌ {A = Result B FeedFault} (Err (Desk x)) (Err (Desk y)) → ◌≡◌ {A = Result A DeskFault} (Err x) (Err y)
 told is = cc
 
-going_only : (stopped : Bool) → stopped ≡ false → IsTrue stopped → ⊥
+pub going_only : (stopped : Bool) → stopped ≡ false → IsTrue stopped → ⊥
 going_only stopped going is_stopped = let e : true ≡ false = sym is_stopped ∙ going in absurd cc
 
 module _ {S : Type 0} (g : Ghosts S) where

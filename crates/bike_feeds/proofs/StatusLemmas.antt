@@ -7,7 +7,6 @@ use Rattle.sqlite_trees.specs.declared.store.Store.{Ghosts}
 use Rattle.sqlite.specs.State.{HasCleanDisk}
 use Rattle.bike_catalogue.specs.Rows.{TypeRow}
 use Rattle.bike_json.specs.Outputs.{OutputState}
-use Rattle.bike_json.specs.Tree.{Tree}
 use Rattle.bike_json.specs.State.{Place, IsAt as IsIn, after_value}
 use Rattle.bike_operator.specs.Operator.{Operator, Station}
 use Rattle.bike_operator.specs.Sound.{IsSound}
@@ -26,6 +25,7 @@ use Rattle.bike_feeds.specs.Walking.{StaysAt, shown_counts}
 use Rattle.bike_feeds.proofs.After.{map_found}
 use Rattle.bike_feeds.proofs.DeskLemmas.{earlier}
 use Rattle.bike_feeds.proofs.WalkLemmas.{Walks, Passes, walk_writes}
+use Rattle.bike_feeds.proofs.Lists.{statuses}
 
 module _ (s : Operator) (sound : IsSound s) (station : List ℕ) where
   types_same : (front es : List (List ℕ × TypeRow)) → entries s.types ≡ front ++ es
@@ -45,12 +45,6 @@ first_found : (s : Operator) (x : Station) (front rest : List (List ℕ × Stati
     → IsNext (λ (y : Station). y.row.station_id) (slice_get rest 0) (Some x) → get s.stations x.row.station_id ≡ Some x
 first_found s x front [] split first = absurd first
 first_found s x front (e ∷ rest) split first = ap (get s.stations) first.1 ∙ (map_found nat_list_cmp_total s.stations front e rest split ∙ ap (λ (y : Station). Some y) (sym first.0))
-
-abbrev pub id : Station → List ℕ
-id x = x.row.station_id
-
-abbrev pub tree : Operator → Station → Tree
-tree s x = status_tree (report_of x) (counts_of s x)
 
 module _ {S : Type 0} (g : Ghosts S) where
   -- These are the identifiers of the operator's types, and the counts are those of the station that was answered.
@@ -90,12 +84,12 @@ module _ {S : Type 0} (g : Ghosts S) where
 
   -- a status is written from what was read of the station
   pub status_writes : {d e : DeskValue S} {p q r : Place} {a b c : OutputState} {ids : List (List ℕ)} (x : StationStatus)
-      → Walks g id tree (λ s. s.stations) (Some (station_of x.info)) d e p q a b → HasCounts ids (Some x) d e
+      → Walks g statuses (Some (station_of x.info)) d e p q a b → HasCounts ids (Some x) d e
       → WroteValue q r b c (status_tree (report_of (station_of x.info)) (shown_counts x.counts)) → IsIn r (after_value q.top) q.round
-      → Passes g id tree (λ s. s.stations) (station_of x.info) d e p r a c
+      → Passes g statuses (station_of x.info) d e p r a c
   status_writes {e = e} {q = q} {r = r} {b = b} {c = c} x w has wrote place =
-      walk_writes g id tree (λ s. s.stations) (station_of x.info) w (λ clean s at.
-      let it = w.ahead clean s at in
+      walk_writes g statuses (station_of x.info) w (λ clean s at.
+      let it = w.at clean s at in
       let station = station_of x.info in
       let found = first_found s station it.front it.rest it.split it.first in
       let are = subst (λ (o : Option Station). AreCountsFor s station.row.station_id o (Some x.counts)) found (has.counts clean s at) in

@@ -4,23 +4,29 @@ use Rattle.std.specs.Result.{IsErrAnd}
 use Rattle.sqlite_trees.specs.declared.store.Store.{Ghosts}
 use Rattle.sqlite.specs.State.{HasCleanDisk}
 use Rattle.bike_stream.specs.Writing.{AppendsFront}
-use Rattle.bike_catalogue.specs.Rows.{SystemRow}
+use Rattle.bike_catalogue.specs.Rows.{MoreNameRow, SystemRow}
 use Rattle.bike_json.specs.Outputs.{OutputState, IsSameOutput}
 use Rattle.bike_json.specs.Tree.{Tree, text_of, items_text}
 use Rattle.bike_json.specs.Rows.{items}
 use Rattle.bike_json.specs.State.{Place, Wrote, MayFail, outset}
 use Rattle.bike_json.proofs.Series.{Wrote_then, Wrote_as, Wrote_ok, Wrote_err, Wrote_front, fails_first}
 use Rattle.bike_json.proofs.Rows.{cut_short}
-use Rattle.bike_feed_texts.specs.Writing.{list_head_text, list_end_text}
-use Rattle.bike_feed_texts.specs.Trees.{feed_frame, listing}
-use Rattle.bike_feed_texts.proofs.Frames.{list_text}
+use Rattle.bike_feed_texts.specs.Writing.{list_head_text, list_end_text, information_head_text, information_end_text}
+use Rattle.bike_feed_texts.specs.declared.feed.Feed.TheVariants.{SystemInformation}
+use Rattle.bike_feed_texts.specs.Trees.{feed_frame, listing, feed_tree}
+use Rattle.bike_feed_texts.proofs.Frames.{list_text, information_text}
+use Rattle.bike_operator.specs.NameKind.TheVariants as named
 use Rattle.bike_operator.specs.Operator.{Operator}
+use Rattle.bike_operator.specs.Names.{further_names}
 use Rattle.bike_desk.specs.Desk.{DeskValue, desk_state, IsAt}
+use Rattle.bike_desk.specs.Queries.{Queries}
 use Rattle.bike_feeds.specs.declared.fault.FeedFault.{FeedFault}
 use Rattle.bike_feeds.specs.declared.fault.FeedFault.TheVariants.{Write}
 use Rattle.bike_feeds.specs.Publishing.{LeavesDesk}
 use Rattle.bike_feeds.specs.Walking.{WritesItems, WritesText, MayEnd}
-use Rattle.bike_feeds.proofs.DeskLemmas.{same_fault, stays_still, left_well, leaves_ok, leaves_write, leaves_same}
+use Rattle.bike_feeds.proofs.WalkLemmas.{Walk}
+use Rattle.bike_feeds.proofs.Lists.{languages}
+use Rattle.bike_feeds.proofs.DeskLemmas.{same_fault, earlier, stays_still, left_well, leaves_ok, leaves_write, leaves_same}
 
 goes_on : (failed : Bool) → true ≡ not failed → failed ≡ false
 goes_on true h = absurd (cc h)
@@ -64,58 +70,97 @@ module _ {S : Type 0} (g : Ghosts S) (text : Operator → List ℕ) where
   text_passed fault (Ok x) is w = absurd is
   text_passed {A} {d} {e} {a} {b} {count} fault (Err told) is w = subst (λ (f : FeedFault). WritesText g d e a b count {A = A} (Err f) text) (sym is) w
 
-module _ {S X : Type 0} (g : Ghosts S) (x : SystemRow) (moment : ℕ) (name : List ℕ) (tree : Operator → X → Tree) (rows : Operator → List X) where
-  abbrev pub text : Operator → List ℕ
-  text s = text_of (feed_frame x moment (listing name (items (tree s) (rows s))))
+-- What stands before the items of a list and behind them, and the whole text.
+pub record Parts (X : Type 0) : Type 0 where
+  pub head : List ℕ
+  pub tree : Operator → X → Tree
+  pub rows : Operator → List X
+  pub tail : Operator → List ℕ
+  pub text : Operator → List ℕ
+  pub is : (s : Operator) → text s ≡ head ++ (items_text false (items (tree s) (rows s)) ++ tail s)
+  pub some : (s : Operator) → 0 < length (tail s)
 
-  is : (s : Operator) → text s ≡ list_head_text x moment name ++ (items_text false (items (tree s) (rows s)) ++ list_end_text)
-  is s = list_text x moment name (items (tree s) (rows s))
+-- a feed whose data are a list
+abbrev pub list_parts : {X : Type 0} → SystemRow → ℕ → List ℕ → Walk X → Parts X
+list_parts x moment name w = record {
+  head = list_head_text x moment name;
+  tree = w.tree;
+  rows = w.rows;
+  tail = λ s. list_end_text;
+  text = λ s. text_of (feed_frame x moment (listing name (items (w.tree s) (w.rows s))));
+  is = λ s. list_text x moment name (items (w.tree s) (w.rows s));
+  some = λ s. omega arith;
+}
+
+-- the feed of the system
+abbrev pub information_parts : SystemRow → ℕ → Parts (List ℕ)
+information_parts x moment = record {
+  head = information_head_text x moment;
+  tree = (languages x).tree;
+  rows = (languages x).rows;
+  tail = λ s. information_end_text x (further_names s named.System x.system_id);
+  text = λ s. text_of (feed_tree s x SystemInformation moment);
+  is = λ s. information_text s x moment;
+  some = λ s. omega arith;
+}
+
+module _ {S X : Type 0} (g : Ghosts S) (t : Parts X) where
+  abbrev items_of : Operator → List ℕ
+  items_of s = items_text false (items (t.tree s) (t.rows s))
 
   -- the head, all elements and the end
-  list_wrote : {A : Type 0} {d e : DeskValue S} {p q r t : Place} {a b c f : OutputState} (u : A) → Wrote p q a b (list_head_text x moment name)
-      → WritesItems g d e q r b c (Ok u) tree rows → Wrote r t c f list_end_text → HasCleanDisk (desk_state g e) → (s : Operator) → IsAt g d s → Wrote p t a f (text s)
-  list_wrote u head them end clean s at = Wrote_as (sym (is s)) (Wrote_then head (Wrote_then (them.all clean s at) end))
+  list_wrote : {A : Type 0} {d e : DeskValue S} {p q r v : Place} {a b c f : OutputState} (u : A) → Wrote p q a b t.head → WritesItems g d e q r b c (Ok u) t.tree t.rows
+      → (HasCleanDisk (desk_state g e) → (s : Operator) → IsAt g d s → Wrote r v c f (t.tail s)) → HasCleanDisk (desk_state g e) → (s : Operator) → IsAt g d s → Wrote p v a f (t.text s)
+  list_wrote u head them end clean s at = Wrote_as (sym (t.is s)) (Wrote_then head (Wrote_then (them.all clean s at) (end clean s at)))
 
-  pub list_done : {A B : Type 0} {d e : DeskValue S} {p q r t : Place} {a b c f : OutputState} (v : B) (u : A) → p ≡ outset → Wrote p q a b (list_head_text x moment name)
-      → WritesItems g d e q r b c (Ok u) tree rows → Wrote r t c f list_end_text → d.is_stopped ≡ false → true ≡ not t.failed → WritesText g d e a f t.count (Ok v) text
-  list_done v u start head them end going well = text_told g text v u start them.desk (list_wrote u head them end) going well
+  pub list_done : {A B : Type 0} {d e : DeskValue S} {p q r v : Place} {a b c f : OutputState} (x : B) (u : A) → p ≡ outset → Wrote p q a b t.head
+      → WritesItems g d e q r b c (Ok u) t.tree t.rows → (HasCleanDisk (desk_state g e) → (s : Operator) → IsAt g d s → Wrote r v c f (t.tail s)) → d.is_stopped ≡ false
+      → true ≡ not v.failed → WritesText g d e a f v.count (Ok x) t.text
+  list_done x u start head them end going well = text_told g t.text x u start them.desk (list_wrote u head them end) going well
 
   -- a write failed: in the head, or behind the elements
   pub head_cut : {A : Type 0} {d : DeskValue S} {p q : Place} {a b : OutputState} {count : ℕ} (result : Result A FeedFault) → IsErrAnd result (λ told. told ≡ Write) → p ≡ outset
-      → Wrote p q a b (list_head_text x moment name) → d.is_stopped ≡ false → false ≡ not q.failed → WritesText g d d a b count result text
-  head_cut {A} {a = a} {b = b} result told start head going failed = text_passed g text Write result told (record {
+      → Wrote p q a b t.head → d.is_stopped ≡ false → false ≡ not q.failed → WritesText g d d a b count result t.text
+  head_cut {A} {a = a} {b = b} result told start head going failed = text_passed g t.text Write result told (record {
     desk = leaves_write g (stays_still g _ going);
     whole = λ clean s at. tt;
     front = λ clean s at.
-        let list = items_text false (items (tree s) (rows s)) in
-        let longer : 0 < length (list ++ list_end_text) = omega (arith, length-append list list_end_text) in
-        subst (AppendsFront a.bytes b.bytes) (sym (is s)) (Wrote_front (list ++ list_end_text) head (ap (λ (y : Place). y.failed) start) longer);
+        let longer : 0 < length (items_of s ++ t.tail s) = omega (arith, length-append (items_of s) (t.tail s), t.some s) in
+        subst (AppendsFront a.bytes b.bytes) (sym (t.is s)) (Wrote_front (items_of s ++ t.tail s) head (ap (λ (y : Place). y.failed) start) longer);
     cause = λ clean s at told.
-        let list = items_text false (items (tree s) (rows s)) in
         let why = (Wrote_err {A = A} (Err Write) head (ap (λ (y : Place). y.failed) start) failed).1 in
-        subst (λ n. MayFail a n (text s)) (ap (λ (y : Place). y.count) start)
-        (subst (MayFail a _) (sym (is s)) (fails_first a _ (list_head_text x moment name) (list ++ list_end_text) why));
+        subst (λ n. MayFail a n (t.text s)) (ap (λ (y : Place). y.count) start)
+        (subst (MayFail a _) (sym (t.is s)) (fails_first a _ t.head (items_of s ++ t.tail s) why));
   })
 
-  pub end_cut : {A B : Type 0} {d e : DeskValue S} {p q r t : Place} {a b c f : OutputState} {count : ℕ} (result : Result B FeedFault) (u : A) → IsErrAnd result (λ told. told ≡ Write)
-      → p ≡ outset → Wrote p q a b (list_head_text x moment name) → WritesItems g d e q r b c (Ok u) tree rows → Wrote r t c f list_end_text → d.is_stopped ≡ false
-      → false ≡ not t.failed → WritesText g d e a f count result text
-  end_cut result u told start head them end going failed = text_passed g text Write result told (text_cut g text u start them.desk (list_wrote u head them end) going failed)
+  pub end_cut : {A B : Type 0} {d e : DeskValue S} {p q r v : Place} {a b c f : OutputState} {count : ℕ} (result : Result B FeedFault) (u : A) → IsErrAnd result (λ told. told ≡ Write)
+      → p ≡ outset → Wrote p q a b t.head → WritesItems g d e q r b c (Ok u) t.tree t.rows
+      → (HasCleanDisk (desk_state g e) → (s : Operator) → IsAt g d s → Wrote r v c f (t.tail s)) → d.is_stopped ≡ false → false ≡ not v.failed → WritesText g d e a f count result t.text
+  end_cut result u told start head them end going failed = text_passed g t.text Write result told (text_cut g t.text u start them.desk (list_wrote u head them end) going failed)
 
-  -- a fault in the midst of the elements
+  -- a fault in the midst of the elements, or behind them
   pub list_failed : {A B : Type 0} {d e : DeskValue S} {p q r : Place} {a b c : OutputState} {count : ℕ} (fault : FeedFault) (result : Result B FeedFault) → IsErrAnd result (λ told. told ≡ fault)
-      → p ≡ outset → Wrote p q a b (list_head_text x moment name) → WritesItems g d e q r b c {A = A} (Err fault) tree rows → true ≡ not q.failed
-      → WritesText g d e a c count result text
-  list_failed {A} {B} {p = p} {q = q} {a = a} {b = b} {c = c} fault result told start head them well = text_passed g text fault result told (record {
+      → p ≡ outset → Wrote p q a b t.head → WritesItems g d e q r b c {A = A} (Err fault) t.tree t.rows → true ≡ not q.failed → WritesText g d e a c count result t.text
+  list_failed {p = p} {q = q} {a = a} {b = b} {c = c} fault result told start head them well = text_passed g t.text fault result told (record {
     desk = leaves_same g fault them.desk;
     whole = λ clean s at. tt;
-    front = λ clean s at. subst (AppendsFront a.bytes c.bytes) (sym (is s)) (cut_short list_end_text head (them.front clean s at) (ap (λ (y : Place). y.failed) start) (omega arith));
+    front = λ clean s at. subst (AppendsFront a.bytes c.bytes) (sym (t.is s)) (cut_short (t.tail s) head (them.front clean s at) (ap (λ (y : Place). y.failed) start) (t.some s));
     cause = λ clean s at write.
-        let counted = (Wrote_ok {A = SystemRow} {E = FeedFault} (Ok x) head (ap (λ (y : Place). y.failed) start) well).1 in
+        let counted = (Wrote_ok {A = Unit {0}} {E = FeedFault} (Ok tt) head (ap (λ (y : Place). y.failed) start) well).1 in
         let none : p.count ≡ 0 = ap (λ (y : Place). y.count) start in
-        let from : q.count ≡ length (list_head_text x moment name) = omega (arith, counted, none) in
-        let list = items_text false (items (tree s) (rows s)) in
-        subst (MayFail a 0) (sym (is s))
-        (list_ends a b (list_head_text x moment name) list list_end_text head.same (omega arith)
-        (subst (λ n. MayEnd b n list) from (them.cause clean s at (goes_on q.failed well) (same_fault write))));
+        let from : q.count ≡ length t.head = omega (arith, counted, none) in
+        subst (MayFail a 0) (sym (t.is s))
+        (list_ends a b t.head (items_of s) (t.tail s) head.same (t.some s)
+        (subst (λ n. MayEnd b n (items_of s)) from (them.cause clean s at (goes_on q.failed well) (same_fault write))));
   })
+
+-- the end of the feed of the system, with the names that were answered behind the languages
+module _ {S A B : Type 0} (g : Ghosts S) (x : SystemRow) (items : B → List MoreNameRow) {u : A} {d e f : DeskValue S} {p q v : Place} {a b c : OutputState}
+    {tree : Operator → List ℕ → Tree} {rows : Operator → List (List ℕ)} where
+  pub information_ends : {id : List ℕ} {lent : List MoreNameRow} (answer : B) → WritesItems g d e p q a b (Ok u) tree rows
+      → Queries g e f (Ok answer) (λ s names. items names ≡ further_names s named.System id) → id ≡ x.system_id → lent ≡ items answer
+      → Wrote q v b c (information_end_text x lent)
+      → HasCleanDisk (desk_state g f) → (s : Operator) → IsAt g d s → Wrote q v b c (information_end_text x (further_names s named.System x.system_id))
+  information_ends answer them query same is wrote clean s at =
+      let known = (query.ok clean s (them.desk.same (earlier g e f query.clean clean) s at)).0 in
+      subst (λ names. Wrote q v b c (information_end_text x names)) (is ∙ (known ∙ ap (further_names s named.System) same)) wrote

@@ -1,30 +1,32 @@
 -- A list that is read from the desk one element after another, and written as it is read.
-use Rattle.std.proofs.Common.{◌≡◌, ◌≤◌, ◌<◌, ◌⊎◌, ℕ, List, [], ◌∷◌, ◌++◌, map, find, length, Bool, true, false, not, IsTrue, Option, Some, None, Result, Ok, Err, inl, inr, refl, sym, ap, ◌∙◌, subst, arith, append_assoc, length-append}
+use Rattle.std.proofs.Common.{◌≡◌, ◌≤◌, ◌<◌, ◌⊎◌, ℕ, List, [], ◌∷◌, ◌++◌, map, find, length, Bool, true, false, not, IsTrue, Option, Some, None, Result, Ok, Err, inl, inr, refl, sym, ap, ◌∙◌, T, subst, arith, append_assoc, append-nil, length-append}
 use Rattle.std.specs.Prelude.{slice_get}
 use Rattle.std.specs.Result.{IsErrAnd}
 use Rattle.std.specs.Ordering.{is_lt}
 use Rattle.std.specs.Cmp.Lexicographic.{nat_list_cmp_total}
-use Rattle.std.specs.FinMap.{FinMap, entries, values}
+use Rattle.std.specs.FinMap.{FinMap, entries, entries_sorted, values}
+use Rattle.std.specs.FinMap.Entries as list
 use Rattle.sqlite_trees.specs.declared.store.Store.{Ghosts}
 use Rattle.sqlite.specs.State.{HasCleanDisk}
 use Rattle.bike_json.specs.Outputs.{OutputState}
 use Rattle.bike_json.specs.Rows.{items}
-use Rattle.bike_json.specs.Tree.{Tree, Members, object, comma, text_of, items_text}
+use Rattle.bike_json.specs.Tree.{Tree, text, comma, text_of, items_text}
+use Rattle.bike_json.specs.Escapes.{string_text}
 use Rattle.bike_json.specs.State.{Place, Writes, IsAt as IsIn, greatest_count, takes_array_end, has_more, after_value}
 use Rattle.bike_json.specs.declared.level.Level.{Level}
 use Rattle.bike_json.specs.declared.level.Level.TheVariants.{Start, Done, EmptyArray, FilledArray, EmptyObject, FilledObject, NamedObject}
 use Rattle.bike_json.proofs.Rows.{SoFar, rows_start, rows_next, rows_end, rows_front}
 use Rattle.bike_feed_texts.specs.Writing.{WroteValue}
 use Rattle.bike_operator.specs.Operator.{Operator, text_cmp}
-use Rattle.bike_queries.specs.After.{IsNext, first_after}
+use Rattle.bike_queries.specs.After.{IsNext}
 use Rattle.bike_desk.specs.declared.fault.DeskFault.{DeskFault}
 use Rattle.bike_desk.specs.Desk.{DeskValue, desk_state, IsAt}
 use Rattle.bike_desk.specs.Queries.{Queries}
 use Rattle.bike_feeds.specs.declared.fault.FeedFault.{FeedFault}
 use Rattle.bike_feeds.specs.declared.fault.FeedFault.TheVariants.{Write, Desk}
 use Rattle.bike_feeds.specs.Walking.{StaysAt, WritesItems, MayEnd}
-use Rattle.bike_feeds.proofs.After.{map_next}
-use Rattle.bike_feeds.proofs.DeskLemmas.{earlier, stays_still, stays_asked, stays_then, leaves_ok, leaves_write, leaves_failed}
+use Rattle.bike_feeds.proofs.After.{next_entry}
+use Rattle.bike_feeds.proofs.DeskLemmas.{earlier, stays_still, stays_asked, stays_then, left_well, leaves_ok, leaves_write, leaves_failed}
 
 still_inside : (level : Level) → IsTrue (takes_array_end level) → IsTrue (takes_array_end (after_value level))
 still_inside Start h = absurd cc
@@ -35,9 +37,13 @@ still_inside EmptyObject h = absurd cc
 still_inside FilledObject h = absurd cc
 still_inside NamedObject h = absurd cc
 
-object_longer : (more : Bool) (ms : Members) → 0 < length (comma more ++ text_of (object ms))
-object_longer true ms = omega arith
-object_longer false ms = omega arith
+longer : (more : Bool) (v : Tree) → 0 < length (text_of v) → 0 < length (comma more ++ text_of v)
+longer true v some = omega arith
+longer false v some = some
+
+pub text_some : (bytes : List ℕ) → 0 < length (text_of (text bytes))
+unfolding string_text
+text_some bytes = omega arith
 
 count_grows : (f g : Bool) (m n : ℕ) (a b : OutputState) (x : List ℕ) → 0 < length x → true ≡ not g → Writes f g m n a b x → m < n
 count_grows true true m n a b x more ok w = absurd (cc ok)
@@ -46,10 +52,10 @@ count_grows false true m n a b x more ok w = absurd (cc ok)
 count_grows false false m n a b x more ok w = omega (arith, w.1, more)
 
 -- each element that is written counts
-pub grows : {p q : Place} {a b : OutputState} {ms : Members} → WroteValue p q a b (object ms) → true ≡ not q.failed → p.count < q.count
-grows {p} {q} {a} {b} {ms} w ok = count_grows p.failed q.failed p.count q.count a b _ (object_longer (has_more p.top) ms) ok w.are.are
+pub grows : {p q : Place} {a b : OutputState} {v : Tree} → 0 < length (text_of v) → WroteValue p q a b v → true ≡ not q.failed → p.count < q.count
+grows {p} {q} {a} {b} {v} some w ok = count_grows p.failed q.failed p.count q.count a b _ (longer (has_more p.top) v some) ok w.are.are
 
-pub has_failed : (failed : Bool) → false ≡ not failed → failed ≡ true
+has_failed : (failed : Bool) → false ≡ not failed → failed ≡ true
 has_failed true h = refl
 has_failed false h = absurd (cc h)
 
@@ -65,102 +71,168 @@ ends_early : {X : Type 0} (tree : X → Tree) {p q : Place} {a b : OutputState} 
 ends_early tree {p} {q} {a} {b} s e h =
     subst (MayEnd a p.count) (sym s.split) (may_end q.failed p.count q.count a b s.front _ (rw e at s.wrote.are) h)
 
-module _ {S X : Type 0} (g : Ghosts S) (id : X → List ℕ) (tree : Operator → X → Tree) (held : Operator → FinMap text_cmp X) where
-  -- A front of what the operator holds is written; the first of the others was answered, or none where there is none.
-  pub record IsAhead (s : Operator) (next : Option X) (from to : Place) (before after : OutputState) : Type 0 where
+-- What is read one after another, with its identifiers; how it is written; and all rows that are written, of which these are the last.
+pub record Walk (X : Type 0) : Type 0 where
+  pub id : X → List ℕ
+  pub tree : Operator → X → Tree
+  pub rows : Operator → List X
+  pub held : Operator → List (List ℕ × X)
+  pub sorted : (s : Operator) → T (list.is_sorted text_cmp (held s))
+
+-- a map's values
+abbrev pub map_walk : {X : Type 0} → (X → List ℕ) → (Operator → X → Tree) → (Operator → FinMap text_cmp X) → Walk X
+map_walk id tree map = record { id = id; tree = tree; rows = λ s. values (map s); held = λ s. entries (map s); sorted = λ s. entries_sorted (map s) }
+
+module _ {S X : Type 0} (g : Ghosts S) (w : Walk X) where
+  -- Questions were answered and rows written, so that this holds of the operator.
+  pub record Goes (is : Operator → Type 0) (old new : DeskValue S) (from to : Place) : Type 0 where
+    pub stays : StaysAt g old new
+    pub inside : IsTrue (takes_array_end to.top)
+    pub round : to.round ≡ from.round
+    pub at : HasCleanDisk (desk_state g new) → (s : Operator) → IsAt g old s → is s
+
+  goes_as : {is so : Operator → Type 0} {d e : DeskValue S} {p q : Place} → ((s : Operator) → is s → so s) → Goes is d e p q → Goes so d e p q
+  goes_as means h = record { stays = h.stays; inside = h.inside; round = h.round; at = λ clean s at. means s (h.at clean s at) }
+
+  -- a question between
+  pub goes_asked : {A : Type 0} {says : Operator → A → Type 0} {is : Operator → Type 0} {d e f : DeskValue S} {p q : Place} (answer : A)
+      → Goes is d e p q → Queries g e f (Ok answer) says → Goes is d f p q
+  goes_asked {e = e} {f = f} answer h query = record {
+    stays = stays_then g h.stays (stays_asked g answer h.stays.goes_on query);
+    inside = h.inside;
+    round = h.round;
+    at = λ clean s at. h.at (earlier g e f query.clean clean) s at;
+  }
+
+  -- some rows are written
+  pub record IsUnder (from to : Place) (before after : OutputState) (s : Operator) : Type 0 where
+    pub left : List X
+    pub wrote : SoFar (w.tree s) from to before after (w.rows s) left
+
+  -- all but those that are read
+  pub record IsBegun (from to : Place) (before after : OutputState) (s : Operator) : Type 0 where
+    pub wrote : SoFar (w.tree s) from to before after (w.rows s) (map (λ e. e.1) (w.held s))
+
+  -- A front of what is read is written; the first of the others was answered, or none where there is none.
+  pub record IsAhead (next : Option X) (from to : Place) (before after : OutputState) (s : Operator) : Type 0 where
     pub front : List (List ℕ × X)
     pub rest : List (List ℕ × X)
-    pub split : entries (held s) ≡ front ++ rest
-    pub first : IsNext id (slice_get rest 0) next
-    pub wrote : SoFar (tree s) from to before after (values (held s)) (map (λ e. e.1) rest)
+    pub split : w.held s ≡ front ++ rest
+    pub first : IsNext w.id (slice_get rest 0) next
+    pub wrote : SoFar (w.tree s) from to before after (w.rows s) (map (λ e. e.1) rest)
 
   -- A front is written, of which this is the last.
-  pub record IsBehind (s : Operator) (x : X) (from to : Place) (before after : OutputState) : Type 0 where
+  pub record IsBehind (x : X) (from to : Place) (before after : OutputState) (s : Operator) : Type 0 where
     pub front : List (List ℕ × X)
     pub last : List ℕ × X
     pub rest : List (List ℕ × X)
-    pub split : entries (held s) ≡ front ++ last ∷ rest
-    pub same : id x ≡ last.0
-    pub wrote : SoFar (tree s) from to before after (values (held s)) (map (λ e. e.1) rest)
+    pub split : w.held s ≡ front ++ last ∷ rest
+    pub same : w.id x ≡ last.0
+    pub wrote : SoFar (w.tree s) from to before after (w.rows s) (map (λ e. e.1) rest)
 
-  -- after an answer
-  pub record Walks (next : Option X) (old new : DeskValue S) (from to : Place) (before after : OutputState) : Type 0 where
-    pub stays : StaysAt g old new
-    pub inside : IsTrue (takes_array_end to.top)
-    pub round : to.round ≡ from.round
-    pub ahead : HasCleanDisk (desk_state g new) → (s : Operator) → IsAt g old s → IsAhead s next from to before after
+  -- before the first answer, after an answer, after a row was written, and anywhere
+  abbrev pub Begun : DeskValue S → DeskValue S → Place → Place → OutputState → OutputState → Type 0
+  Begun old new from to before after = Goes (IsBegun from to before after) old new from to
 
-  -- after an element was written
-  pub record Passes (x : X) (old new : DeskValue S) (from to : Place) (before after : OutputState) : Type 0 where
-    pub stays : StaysAt g old new
-    pub inside : IsTrue (takes_array_end to.top)
-    pub round : to.round ≡ from.round
-    pub behind : HasCleanDisk (desk_state g new) → (s : Operator) → IsAt g old s → IsBehind s x from to before after
+  abbrev pub Under : DeskValue S → DeskValue S → Place → Place → OutputState → OutputState → Type 0
+  Under old new from to before after = Goes (IsUnder from to before after) old new from to
 
-  -- the first answer, behind other questions
-  pub walk_begins_behind : {A : Type 0} {says : Operator → A → Type 0} {d e f : DeskValue S} {p : Place} {a : OutputState}
-      (answer : A) (next : Option X) → StaysAt g d e → p.top ≡ EmptyArray → Queries g e f (Ok answer) says
-      → ((s : Operator) → says s answer → IsNext id (first_after None (held s)) next) → Walks next d f p p a a
-  walk_begins_behind {e = e} {f = f} {p = p} {a = a} answer next stays top q means = record {
-    stays = stays_then g stays (stays_asked g answer stays.goes_on q);
+  abbrev pub Walks : Option X → DeskValue S → DeskValue S → Place → Place → OutputState → OutputState → Type 0
+  Walks next old new from to before after = Goes (IsAhead next from to before after) old new from to
+
+  abbrev pub Passes : X → DeskValue S → DeskValue S → Place → Place → OutputState → OutputState → Type 0
+  Passes x old new from to before after = Goes (IsBehind x from to before after) old new from to
+
+  pub begun_under : {d e : DeskValue S} {p q : Place} {a b : OutputState} → Begun d e p q a b → Under d e p q a b
+  begun_under h = goes_as (λ s it. record { left = _; wrote = it.wrote }) h
+
+  pub ahead_under : {d e : DeskValue S} {p q : Place} {a b : OutputState} {next : Option X} → Walks next d e p q a b → Under d e p q a b
+  ahead_under h = goes_as (λ s it. record { left = _; wrote = it.wrote }) h
+
+  pub behind_under : {d e : DeskValue S} {p q : Place} {a b : OutputState} {x : X} → Passes x d e p q a b → Under d e p q a b
+  behind_under h = goes_as (λ s it. record { left = _; wrote = it.wrote }) h
+
+  -- ---- the way
+
+  -- nothing is asked yet, and nothing written
+  pub begins : {d : DeskValue S} {p : Place} {a : OutputState} → d.is_stopped ≡ false → p.top ≡ EmptyArray → ((s : Operator) → w.rows s ≡ map (λ e. e.1) (w.held s))
+      → Begun d d p p a a
+  begins {p = p} {a = a} going top all = record {
+    stays = stays_still g _ going;
     inside = rw top refl;
     round = refl;
-    ahead = λ clean s at. record {
-      front = [];
-      rest = entries (held s);
-      split = refl;
-      first = means s (q.ok clean s (stays.same (earlier g e f q.clean clean) s at)).0;
-      wrote = rows_start (tree s) p a (values (held s)) top;
-    };
+    at = λ clean s at. record { wrote = subst (SoFar (w.tree s) p p a a (w.rows s)) (all s) (rows_start (w.tree s) p a (w.rows s) top) };
   }
 
-  -- the first answer of all
-  pub walk_begins : {A : Type 0} {says : Operator → A → Type 0} {d e : DeskValue S} {p : Place} {a : OutputState} (answer : A) (next : Option X)
-      → d.is_stopped ≡ false → p.top ≡ EmptyArray → Queries g d e (Ok answer) says → ((s : Operator) → says s answer → IsNext id (first_after None (held s)) next)
-      → Walks next d e p p a a
-  walk_begins answer next going top q means = walk_begins_behind answer next (stays_still g _ going) top q means
+  -- a question behind which the walk begins
+  pub begins_asked : {A : Type 0} {says : Operator → A → Type 0} {d e : DeskValue S} {p : Place} {a : OutputState} (answer : A) → d.is_stopped ≡ false → p.top ≡ EmptyArray
+      → ((s : Operator) → w.rows s ≡ map (λ e. e.1) (w.held s)) → Queries g d e (Ok answer) says → Begun d e p p a a
+  begins_asked answer going top all query = goes_asked answer (begins going top all) query
 
-  -- the element is written
-  module _ {p q r : Place} {a b c : OutputState} (x : X) (s : Operator) (w : WroteValue q r b c (tree s x)) (at : IsIn r (after_value q.top) q.round) where
-    one_behind : (front rest : List (List ℕ × X)) → entries (held s) ≡ front ++ rest → IsNext id (slice_get rest 0) (Some x)
-        → SoFar (tree s) p q a b (values (held s)) (map (λ e. e.1) rest) → IsBehind s x p r a c
-    one_behind front [] split first wrote = absurd first
-    one_behind front (e ∷ rest) split first wrote = record {
+  -- a first row is written that isn't read
+  pub begins_behind : {d : DeskValue S} {p q : Place} {a b : OutputState} (x : X) → d.is_stopped ≡ false → p.top ≡ EmptyArray
+      → ((s : Operator) → w.rows s ≡ x ∷ map (λ e. e.1) (w.held s)) → ((s : Operator) → WroteValue p q a b (w.tree s x)) → IsIn q (after_value p.top) p.round
+      → Begun d d p q a b
+  begins_behind {p = p} {a = a} x going top all wrote place = record {
+    stays = stays_still g _ going;
+    inside = subst (λ l. IsTrue (takes_array_end l)) (sym place.0) (still_inside p.top (rw top refl));
+    round = place.1;
+    at = λ clean s at. record { wrote = rows_next (w.tree s) (rows_start (w.tree s) p a (w.rows s) top) (all s) (wrote s).are place };
+  }
+
+  -- the first answer
+  pub walk_begins : {A : Type 0} {says : Operator → A → Type 0} {d e f : DeskValue S} {p q : Place} {a b : OutputState} (answer : A) (next : Option X)
+      → Begun d e p q a b → Queries g e f (Ok answer) says → ((s : Operator) → says s answer → IsNext w.id (slice_get (w.held s) 0) next) → Walks next d f p q a b
+  walk_begins {e = e} {f = f} answer next h query means = record {
+    stays = stays_then g h.stays (stays_asked g answer h.stays.goes_on query);
+    inside = h.inside;
+    round = h.round;
+    at = λ clean s at.
+        let before = earlier g e f query.clean clean in
+        record { front = []; rest = w.held s; split = refl; first = means s (query.ok clean s (h.stays.same before s at)).0; wrote = (h.at before s at).wrote };
+  }
+
+  -- the row is written
+  module _ {p q r : Place} {a b c : OutputState} (x : X) (s : Operator) (wrote : WroteValue q r b c (w.tree s x)) (place : IsIn r (after_value q.top) q.round) where
+    one_behind : (front rest : List (List ℕ × X)) → w.held s ≡ front ++ rest → IsNext w.id (slice_get rest 0) (Some x)
+        → SoFar (w.tree s) p q a b (w.rows s) (map (λ e. e.1) rest) → IsBehind x p r a c s
+    one_behind front [] split first so_far = absurd first
+    one_behind front (e ∷ rest) split first so_far = record {
       front = front;
       last = e;
       rest = rest;
       split = split;
       same = first.1;
-      wrote = rows_next (tree s) wrote (ap (λ (y : X). y ∷ map (λ (z : List ℕ × X). z.1) rest) (sym first.0)) w.are at;
+      wrote = rows_next (w.tree s) so_far (ap (λ (y : X). y ∷ map (λ (z : List ℕ × X). z.1) rest) (sym first.0)) wrote.are place;
     }
 
   pub walk_writes : {d e : DeskValue S} {p q r : Place} {a b c : OutputState} (x : X) → Walks (Some x) d e p q a b
-      → (HasCleanDisk (desk_state g e) → (s : Operator) → IsAt g d s → WroteValue q r b c (tree s x)) → IsIn r (after_value q.top) q.round → Passes x d e p r a c
-  walk_writes {q = q} x w wrote at = record {
-    stays = w.stays;
-    inside = subst (λ l. IsTrue (takes_array_end l)) (sym at.0) (still_inside q.top w.inside);
-    round = at.1 ∙ w.round;
-    behind = λ clean s is. let it = w.ahead clean s is in one_behind x s (wrote clean s is) at it.front it.rest it.split it.first it.wrote;
+      → (HasCleanDisk (desk_state g e) → (s : Operator) → IsAt g d s → WroteValue q r b c (w.tree s x)) → IsIn r (after_value q.top) q.round → Passes x d e p r a c
+  walk_writes {q = q} x h wrote place = record {
+    stays = h.stays;
+    inside = subst (λ l. IsTrue (takes_array_end l)) (sym place.0) (still_inside q.top h.inside);
+    round = place.1 ∙ h.round;
+    at = λ clean s at. let it = h.at clean s at in one_behind x s (wrote clean s at) place it.front it.rest it.split it.first it.wrote;
   }
 
   -- the next answer
   pub walk_goes : {A : Type 0} {says : Operator → A → Type 0} {d e f : DeskValue S} {p q : Place} {a b : OutputState} {x : X} (asked : List ℕ) (answer : A) (next : Option X)
-      → Passes x d e p q a b → Queries g e f (Ok answer) says → asked ≡ id x → ((s : Operator) → says s answer → IsNext id (first_after (Some asked) (held s)) next)
-      → Walks next d f p q a b
-  walk_goes {e = e} {f = f} {x = x} asked answer next w query for_it means = record {
-    stays = stays_then g w.stays (stays_asked g answer w.stays.goes_on query);
-    inside = w.inside;
-    round = w.round;
-    ahead = λ clean s at.
+      → Passes x d e p q a b → Queries g e f (Ok answer) says → asked ≡ w.id x
+      → ((s : Operator) → says s answer → IsNext w.id (find (λ e. is_lt (text_cmp asked e.0)) (w.held s)) next) → Walks next d f p q a b
+  walk_goes {e = e} {f = f} {x = x} asked answer next h query for_it means = record {
+    stays = stays_then g h.stays (stays_asked g answer h.stays.goes_on query);
+    inside = h.inside;
+    round = h.round;
+    at = λ clean s at.
         let before = earlier g e f query.clean clean in
-        let it = w.behind before s at in
-        let after = ap (λ (i : List ℕ). find (λ (y : List ℕ × X). is_lt (text_cmp i y.0)) (entries (held s))) (for_it ∙ it.same)
-        ∙ map_next nat_list_cmp_total (held s) it.front it.last it.rest it.split in
+        let it = h.at before s at in
+        let after = ap (λ (i : List ℕ). find (λ (y : List ℕ × X). is_lt (text_cmp i y.0)) (w.held s)) (for_it ∙ it.same)
+        ∙ next_entry nat_list_cmp_total (w.held s) it.front it.last it.rest (w.sorted s) it.split in
         record {
           front = it.front ++ it.last ∷ [];
           rest = it.rest;
           split = it.split ∙ sym (append_assoc it.front (it.last ∷ []) it.rest);
-          first = subst (λ o. IsNext id o next) after (means s (query.ok clean s (w.stays.same before s at)).0);
+          first = subst (λ o. IsNext w.id o next) after (means s (query.ok clean s (h.stays.same before s at)).0);
           wrote = it.wrote;
         };
   }
@@ -168,77 +240,82 @@ module _ {S X : Type 0} (g : Ghosts S) (id : X → List ℕ) (tree : Operator �
   -- ---- ends
 
   -- the fault that a function hands on
-  pub items_told : {A : Type 0} {d e : DeskValue S} {p q : Place} {a b : OutputState} (fault : FeedFault) (result : Result A FeedFault) → IsErrAnd result (λ told. told ≡ fault)
-      → WritesItems g d e p q a b {A = A} (Err fault) tree (λ s. values (held s)) → WritesItems g d e p q a b result tree (λ s. values (held s))
-  items_told fault (Ok x) is w = absurd is
-  items_told {A} {d} {e} {p} {q} {a} {b} fault (Err told) is w = subst (λ (f : FeedFault). WritesItems g d e p q a b {A = A} (Err f) tree (λ s. values (held s))) (sym is) w
+  items_told : {A : Type 0} {d e : DeskValue S} {p q : Place} {a b : OutputState} (fault : FeedFault) (result : Result A FeedFault) → IsErrAnd result (λ told. told ≡ fault)
+      → WritesItems g d e p q a b {A = A} (Err fault) w.tree w.rows → WritesItems g d e p q a b result w.tree w.rows
+  items_told fault (Ok x) is h = absurd is
+  items_told {A} {d} {e} {p} {q} {a} {b} fault (Err told) is h = subst (λ (f : FeedFault). WritesItems g d e p q a b {A = A} (Err f) w.tree w.rows) (sym is) h
 
-  abbrev pub rows : Operator → List X
-  rows s = values (held s)
+  -- a question that failed
+  pub asked_failed : {A B : Type 0} {says : Operator → A → Type 0} {d e f : DeskValue S} {p q : Place} {a b : OutputState} (fault : DeskFault) (result : Result B FeedFault)
+      → IsErrAnd result (λ told. told ≡ Desk fault) → Under d e p q a b → Queries g e f (Err fault) says → WritesItems g d f p q a b result w.tree w.rows
+  asked_failed {e = e} {f = f} fault result told h query = items_told (Desk fault) result told (record {
+    desk = leaves_failed g fault h.stays query;
+    all = λ clean s at. tt;
+    front = λ clean s at. rows_front (w.tree s) (h.at (earlier g e f query.clean clean) s at).wrote;
+    cause = λ clean s at going is. absurd cc;
+    inside = h.inside;
+    round = h.round;
+  })
 
-  all_written : (s : Operator) {p q : Place} {a b : OutputState} (rest : List (List ℕ × X)) → IsNext id (slice_get rest 0) None
-      → SoFar (tree s) p q a b (rows s) (map (λ e. e.1) rest) → map (λ (e : List ℕ × X). e.1) rest ≡ []
-  all_written s [] first wrote = refl
-  all_written s (e ∷ rest) first wrote = absurd first
-
-  pub walk_ends : {A : Type 0} {d e : DeskValue S} {p q : Place} {a b : OutputState} (x : A) → Walks None d e p q a b → WritesItems g d e p q a b (Ok x) tree rows
-  walk_ends x w = record {
-    desk = leaves_ok g x w.stays;
-    all = λ clean s at. let it = w.ahead clean s at in rows_end (tree s) it.wrote (all_written s it.rest it.first it.wrote);
-    front = λ clean s at. tt;
-    cause = λ clean s at e is. absurd cc;
-    inside = w.inside;
-    round = w.round;
+  ends_cut : {A : Type 0} {d e : DeskValue S} {p q : Place} {a b : OutputState} → Under d e p q a b → (q.failed ≡ true) ⊎ (greatest_count ≤ q.count)
+      → WritesItems g d e p q a b {A = A} (Err Write) w.tree w.rows
+  ends_cut h why = record {
+    desk = leaves_write g h.stays;
+    all = λ clean s at. tt;
+    front = λ clean s at. rows_front (w.tree s) (h.at clean s at).wrote;
+    cause = λ clean s at going is. ends_early (w.tree s) (h.at clean s at).wrote going why;
+    inside = h.inside;
+    round = h.round;
   }
+
+  -- a write that failed
+  pub write_failed : {A : Type 0} {d e : DeskValue S} {p q : Place} {a b : OutputState} (result : Result A FeedFault) → IsErrAnd result (λ told. told ≡ Write)
+      → Under d e p q a b → false ≡ not q.failed → WritesItems g d e p q a b result w.tree w.rows
+  write_failed {q = q} result told h failed = items_told Write result told (ends_cut h (inl (has_failed q.failed failed)))
 
   -- the count reaches its greatest
   pub walk_cut : {A : Type 0} {d e : DeskValue S} {p q : Place} {a b : OutputState} {next : Option X} → Walks next d e p q a b → greatest_count ≤ q.count
-      → WritesItems g d e p q a b {A = A} (Err Write) tree rows
-  walk_cut w most = record {
-    desk = leaves_write g w.stays;
-    all = λ clean s at. tt;
-    front = λ clean s at. rows_front (tree s) (w.ahead clean s at).wrote;
-    cause = λ clean s at e is. ends_early (tree s) (w.ahead clean s at).wrote e (inr most);
-    inside = w.inside;
-    round = w.round;
+      → WritesItems g d e p q a b {A = A} (Err Write) w.tree w.rows
+  walk_cut h most = ends_cut (ahead_under h) (inr most)
+
+  all_written : (s : Operator) {p q : Place} {a b : OutputState} (rest : List (List ℕ × X)) → IsNext w.id (slice_get rest 0) None
+      → SoFar (w.tree s) p q a b (w.rows s) (map (λ e. e.1) rest) → map (λ (e : List ℕ × X). e.1) rest ≡ []
+  all_written s [] first wrote = refl
+  all_written s (e ∷ rest) first wrote = absurd first
+
+  -- all was read
+  pub walk_ends : {A : Type 0} {d e : DeskValue S} {p q : Place} {a b : OutputState} (x : A) → Walks None d e p q a b → WritesItems g d e p q a b (Ok x) w.tree w.rows
+  walk_ends x h = record {
+    desk = leaves_ok g x h.stays;
+    all = λ clean s at. let it = h.at clean s at in rows_end (w.tree s) it.wrote (all_written s it.rest it.first it.wrote);
+    front = λ clean s at. tt;
+    cause = λ clean s at going is. absurd cc;
+    inside = h.inside;
+    round = h.round;
   }
 
-  -- a fault of the desk at the first question, or behind others
-  pub first_failed_behind : {A B : Type 0} {says : Operator → A → Type 0} {d e f : DeskValue S} {p : Place} {a : OutputState}
-      (fault : DeskFault) → StaysAt g d e → p.top ≡ EmptyArray → Queries g e f (Err fault) says → WritesItems g d f p p a a {A = B} (Err (Desk fault)) tree rows
-  first_failed_behind {p = p} {a = a} fault stays top query = record {
-    desk = leaves_failed g fault stays query;
+module _ {S X A : Type 0} {g : Ghosts S} {tree : Operator → X → Tree} {rows : Operator → List X} {d e f : DeskValue S} {p q : Place} {a b : OutputState} (u : A)
+    (them : WritesItems g d e p q a b (Ok u) tree rows) (going : d.is_stopped ≡ false) where
+  -- a question behind all rows
+  pub items_asked : {B : Type 0} {says : Operator → B → Type 0} (answer : B) → Queries g e f (Ok answer) says → WritesItems g d f p q a b (Ok u) tree rows
+  items_asked answer query =
+      let stays = left_well g u going them.desk in
+      record {
+        desk = leaves_ok g u (stays_then g stays (stays_asked g answer stays.goes_on query));
+        all = λ clean s at. them.all (earlier g e f query.clean clean) s at;
+        front = λ clean s at. tt;
+        cause = λ clean s at going is. absurd cc;
+        inside = them.inside;
+        round = them.round;
+      }
+
+  -- or one that failed
+  pub items_unasked : {B : Type 0} {says : Operator → B → Type 0} (fault : DeskFault) → Queries g e f (Err fault) says → WritesItems g d f p q a b {A = A} (Err (Desk fault)) tree rows
+  items_unasked fault query = record {
+    desk = leaves_failed g fault (left_well g u going them.desk) query;
     all = λ clean s at. tt;
-    front = λ clean s at. rows_front (tree s) (rows_start (tree s) p a (rows s) top);
-    cause = λ clean s at e is. absurd cc;
-    inside = rw top refl;
-    round = refl;
-  }
-
-  pub first_failed : {A B : Type 0} {says : Operator → A → Type 0} {d e : DeskValue S} {p : Place} {a : OutputState} (fault : DeskFault)
-      → d.is_stopped ≡ false → p.top ≡ EmptyArray → Queries g d e (Err fault) says → WritesItems g d e p p a a {A = B} (Err (Desk fault)) tree rows
-  first_failed fault going top query = first_failed_behind fault (stays_still g _ going) top query
-
-  -- behind an element
-  module _ {A B : Type 0} {says : Operator → A → Type 0} {d e f : DeskValue S} {p q : Place} {a b : OutputState} (fault : DeskFault) where
-    pub next_failed : {x : X} → Passes x d e p q a b → Queries g e f (Err fault) says → WritesItems g d f p q a b {A = B} (Err (Desk fault)) tree rows
-    next_failed w query = record {
-      desk = leaves_failed g fault w.stays query;
-      all = λ clean s at. tt;
-      front = λ clean s at. rows_front (tree s) (w.behind (earlier g e f query.clean clean) s at).wrote;
-      cause = λ clean s at e is. absurd cc;
-      inside = w.inside;
-      round = w.round;
-    }
-
-  -- a write that failed
-  pub passes_cut : {A : Type 0} {d e : DeskValue S} {p q : Place} {a b : OutputState} {x : X} → Passes x d e p q a b → false ≡ not q.failed
-      → WritesItems g d e p q a b {A = A} (Err Write) tree rows
-  passes_cut {q = q} w failed = record {
-    desk = leaves_write g w.stays;
-    all = λ clean s at. tt;
-    front = λ clean s at. rows_front (tree s) (w.behind clean s at).wrote;
-    cause = λ clean s at e is. ends_early (tree s) (w.behind clean s at).wrote e (inl (has_failed q.failed failed));
-    inside = w.inside;
-    round = w.round;
+    front = λ clean s at. record { front = _; rest = []; split = sym (append-nil _); wrote = them.all (earlier g e f query.clean clean) s at };
+    cause = λ clean s at going is. absurd cc;
+    inside = them.inside;
+    round = them.round;
   }

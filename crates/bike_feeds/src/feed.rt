@@ -12,12 +12,12 @@ ghost use Rattle.bike_feeds.specs.Walking.{IsCounted, WritesText};
 
 use crate::fault::FeedFault;
 use crate::list::{
-    write_pricing_plans, write_station_information, write_station_status, write_system_regions,
-    write_vehicle_types,
+    write_pricing_plans, write_station_information, write_station_status, write_system_information,
+    write_system_regions, write_vehicle_types,
 };
 use bike_catalogue::System;
 use bike_desk::Desk;
-use bike_feed_texts::{Feed, write_gbfs, write_system_information};
+use bike_feed_texts::{Feed, write_gbfs};
 use bike_fixed::Moment;
 use bike_json::{Discard, JsonState, Output};
 use sqlite::Alter;
@@ -41,7 +41,9 @@ fn write_of_system<S: Alter, W: Output>(
 {
     match feed {
         Feed::Gbfs => write_gbfs(json, out, system, moment)?,
-        Feed::SystemInformation => write_system_information(json, out, system, moment)?,
+        Feed::SystemInformation => {
+            return write_system_information(alloc, desk, system, moment, json, out);
+        }
         Feed::VehicleTypes => return write_vehicle_types(alloc, desk, system, moment, json, out),
         Feed::StationInformation => {
             return write_station_information(alloc, desk, system, moment, json, out);

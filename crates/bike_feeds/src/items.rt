@@ -1,19 +1,22 @@
-//! The elements of the feeds' lists, each read from the desk as it is written.
+//! The elements of the feeds' lists, each read from the desk as it is written, with its further names.
 
-ghost use Rattle.std.specs.Prelude.{◌≡◌, ◌<◌, IsTrue, length, false, is_ok, not};
+ghost use Rattle.std.specs.Prelude.{◌≡◌, ◌<◌, ◌∷◌, IsTrue, length, false, is_ok, not};
 ghost use Rattle.std.specs.FinMap.{values};
 ghost use Rattle.bike_json.specs.State.{IsAt as IsIn, takes_value, after_value};
-ghost use Rattle.bike_feed_texts.specs.Elements.{type_tree, station_tree, status_tree, plan_tree, region_tree};
-ghost use Rattle.bike_feed_texts.specs.Trees.{report_of, counts_of};
+ghost use Rattle.bike_json.specs.Tree.{text};
+ghost use Rattle.bike_feed_texts.specs.Elements.{status_tree};
+ghost use Rattle.bike_feed_texts.specs.Trees.{report_of, counts_of, further_languages, type_element, station_element, plan_element, region_element};
 ghost use Rattle.bike_feed_texts.specs.Writing.{WroteValue, in_list};
 ghost use Rattle.bike_queries.specs.After.{station_of};
 ghost use Rattle.bike_feeds.specs.Walking.{WritesItems, shown_counts};
 
 use crate::fault::FeedFault;
-use bike_catalogue::System;
+use crate::names::{find_names, is_translated};
+use bike_catalogue::{NameKind, System};
 use bike_desk::Desk;
 use bike_feed_texts::{
-    Counts, StationReport, write_plan, write_region, write_station, write_status, write_type,
+    Counts, StationReport, write_language, write_plan, write_region, write_station, write_status,
+    write_type,
 };
 use bike_json::{JsonState, Level, Output};
 use bike_queries::StationStatus;
@@ -32,15 +35,18 @@ pub(crate) fn write_types<S: Alter, W: Output>(
     requires going { desk.old.is_stopped ≡ false }
     requires place { IsIn json.old Level.EmptyArray in_list }
     ensures { WritesItems S.Store desk.old desk.new json.old json.new (W.contents out.old) (W.contents out.new) result
-        (λ s. type_tree system.now) (λ s. values s.types) }
+        (λ s. type_element s system.now) (λ s. values s.types) }
 {
+    let translated = is_translated(alloc, desk)?;
     let mut next = desk.type_after(alloc, None)?;
     'types: while json.count() < u64::MAX {
         let Some(vehicle_type) = next else {
             return Ok(());
         };
-        write_type(json, out, system, &vehicle_type)?;
-        next = desk.type_after(alloc, Some(vehicle_type.type_id()))?;
+        let id = vehicle_type.type_id();
+        let names = find_names(alloc, desk, translated, NameKind::Type, id)?;
+        write_type(json, out, system, &vehicle_type, names.as_slice())?;
+        next = desk.type_after(alloc, Some(id))?;
     }
     // No count is greater.
     Err(FeedFault::Write)
@@ -57,15 +63,25 @@ pub(crate) fn write_stations<S: Alter, W: Output>(
     requires going { desk.old.is_stopped ≡ false }
     requires place { IsIn json.old Level.EmptyArray in_list }
     ensures { WritesItems S.Store desk.old desk.new json.old json.new (W.contents out.old) (W.contents out.new) result
-        (λ s station. station_tree system.now station.row station.region) (λ s. values s.stations) }
+        (λ s. station_element s system.now) (λ s. values s.stations) }
 {
+    let translated = is_translated(alloc, desk)?;
     let mut next = desk.station_after(alloc, None)?;
     'stations: while json.count() < u64::MAX {
         let Some(info) = next else {
             return Ok(());
         };
-        write_station(json, out, system, &info.station, info.region.as_ref())?;
-        next = desk.station_after(alloc, Some(info.station.station_id()))?;
+        let id = info.station.station_id();
+        let names = find_names(alloc, desk, translated, NameKind::Station, id)?;
+        write_station(
+            json,
+            out,
+            system,
+            &info.station,
+            info.region.as_ref(),
+            names.as_slice(),
+        )?;
+        next = desk.station_after(alloc, Some(id))?;
     }
     // No count is greater.
     Err(FeedFault::Write)
@@ -139,15 +155,26 @@ pub(crate) fn write_plans<S: Alter, W: Output>(
     requires going { desk.old.is_stopped ≡ false }
     requires place { IsIn json.old Level.EmptyArray in_list }
     ensures { WritesItems S.Store desk.old desk.new json.old json.new (W.contents out.old) (W.contents out.new) result
-        (λ s. plan_tree system.now) (λ s. values s.plans) }
+        (λ s. plan_element s system.now) (λ s. values s.plans) }
 {
+    let translated = is_translated(alloc, desk)?;
     let mut next = desk.plan_after(alloc, None)?;
     'plans: while json.count() < u64::MAX {
         let Some(plan) = next else {
             return Ok(());
         };
-        write_plan(json, out, system, &plan)?;
-        next = desk.plan_after(alloc, Some(plan.plan_id()))?;
+        let id = plan.plan_id();
+        let names = find_names(alloc, desk, translated, NameKind::Plan, id)?;
+        let descriptions = find_names(alloc, desk, translated, NameKind::Description, id)?;
+        write_plan(
+            json,
+            out,
+            system,
+            &plan,
+            names.as_slice(),
+            descriptions.as_slice(),
+        )?;
+        next = desk.plan_after(alloc, Some(id))?;
     }
     // No count is greater.
     Err(FeedFault::Write)
@@ -164,15 +191,44 @@ pub(crate) fn write_regions<S: Alter, W: Output>(
     requires going { desk.old.is_stopped ≡ false }
     requires place { IsIn json.old Level.EmptyArray in_list }
     ensures { WritesItems S.Store desk.old desk.new json.old json.new (W.contents out.old) (W.contents out.new) result
-        (λ s. region_tree system.now) (λ s. values s.regions) }
+        (λ s. region_element s system.now) (λ s. values s.regions) }
 {
+    let translated = is_translated(alloc, desk)?;
     let mut next = desk.region_after(alloc, None)?;
     'regions: while json.count() < u64::MAX {
         let Some(region) = next else {
             return Ok(());
         };
-        write_region(json, out, system, &region)?;
-        next = desk.region_after(alloc, Some(region.region_id()))?;
+        let id = region.region_id();
+        let names = find_names(alloc, desk, translated, NameKind::Region, id)?;
+        write_region(json, out, system, &region, names.as_slice())?;
+        next = desk.region_after(alloc, Some(id))?;
+    }
+    // No count is greater.
+    Err(FeedFault::Write)
+}
+
+/// Writes the languages as items: the system's, and then each further one.
+pub(crate) fn write_languages<S: Alter, W: Output>(
+    alloc: Global,
+    desk: &mut Desk<S>,
+    system: &System,
+    json: &mut JsonState,
+    out: &mut W,
+) -> Result<(), FeedFault>
+    requires going { desk.old.is_stopped ≡ false }
+    requires place { IsIn json.old Level.EmptyArray in_list }
+    ensures { WritesItems S.Store desk.old desk.new json.old json.new (W.contents out.old) (W.contents out.new) result
+        (λ s. text) (λ s. system.now.language ∷ further_languages s) }
+{
+    write_language(json, out, system.language())?;
+    let mut next = desk.language_after(alloc, None)?;
+    'languages: while json.count() < u64::MAX {
+        let Some(language) = next else {
+            return Ok(());
+        };
+        write_language(json, out, &language)?;
+        next = desk.language_after(alloc, Some(&language))?;
     }
     // No count is greater.
     Err(FeedFault::Write)

@@ -1,14 +1,15 @@
 //! The feeds of a desk: each is read from the stored tables, one element of a list at a time, and written as it is read.
 //!
 //! A feed's text is that of the operator for whom the desk stands, for the moment that is asked for, byte for byte. No more of a
-//! city is held than one element of a list (a station with its counts, a plan with its segments) and the identifiers of the
-//! vehicle types.
+//! city is held than one element of a list with its further names (a station with its counts, a plan with its segments) and the
+//! identifiers of the vehicle types. Where a city has no further names, no element asks for any.
 #![tactic(auto)]
 
 mod fault;
 mod feed;
 mod items;
 mod list;
+mod names;
 
 pub use bike_desk::{Desk, DeskFault};
 pub use bike_feed_texts::Feed;

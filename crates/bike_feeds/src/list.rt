@@ -6,14 +6,37 @@ ghost use Rattle.bike_feeds.specs.Publishing.{feed_text};
 ghost use Rattle.bike_feeds.specs.Walking.{WritesText};
 
 use crate::fault::FeedFault;
-use crate::items::{write_plans, write_regions, write_stations, write_statuses, write_types};
-use bike_catalogue::System;
+use crate::items::{
+    write_languages, write_plans, write_regions, write_stations, write_statuses, write_types,
+};
+use bike_catalogue::{NameKind, System};
 use bike_desk::Desk;
-use bike_feed_texts::{Feed, close_list, open_list};
+use bike_feed_texts::{Feed, close_information, close_list, open_information, open_list};
 use bike_fixed::Moment;
 use bike_json::{JsonState, Output};
 use sqlite::Alter;
 use std::alloc::Global;
+
+/// Writes the feed `system_information`, whose list is that of the languages.
+pub(crate) fn write_system_information<S: Alter, W: Output>(
+    alloc: Global,
+    desk: &mut Desk<S>,
+    system: &System,
+    moment: Moment,
+    json: &mut JsonState,
+    out: &mut W,
+) -> Result<(), FeedFault>
+    requires going { desk.old.is_stopped ≡ false }
+    requires start { json.old ≡ outset }
+    ensures { WritesText S.Store desk.old desk.new (W.contents out.old) (W.contents out.new) json.new.count result
+        (λ s. feed_text s system.now Feed.SystemInformation moment) }
+{
+    open_information(json, out, system, moment)?;
+    write_languages(alloc, desk, system, json, out)?;
+    let names = desk.names_of(alloc, NameKind::System, system.system_id())?;
+    close_information(json, out, system, names.as_slice())?;
+    Ok(())
+}
 
 /// Writes the feed `vehicle_types`.
 pub(crate) fn write_vehicle_types<S: Alter, W: Output>(

@@ -7,20 +7,13 @@ returns-in_err-write_gbfs-in-Gbfs g c =
     value_cut g.S.Store c.args.system.now c.args.moment Gbfs c.in-Gbfs.is c.requires.start c.requires.going c.write_gbfs.ensures.wrote tt _ c.from_residual.ensures.1
     c.in_err-write_gbfs-in-Gbfs.ensures.outcome
 
-pub returns-in_ok-write_gbfs-in-Gbfs : goal.returns-in_ok-write_gbfs-in-Gbfs
-returns-in_ok-write_gbfs-in-Gbfs g c =
+pub returns : goal.returns
+returns g c =
     value_done g.S.Store c.args.system.now c.args.moment Gbfs c.in-Gbfs.is c.requires.start
     c.requires.going c.write_gbfs.ensures.wrote tt c.in_ok-write_gbfs-in-Gbfs.ensures.outcome
 
-pub returns-in_err-write_system_information-in-SystemInformation : goal.returns-in_err-write_system_information-in-SystemInformation
-returns-in_err-write_system_information-in-SystemInformation g c =
-    value_cut g.S.Store c.args.system.now c.args.moment SystemInformation c.in-SystemInformation.is c.requires.start c.requires.going c.write_system_information.ensures.wrote tt _
-    c.from_residual-in_err-write_system_information-in-SystemInformation.ensures.1 c.in_err-write_system_information-in-SystemInformation.ensures.outcome
-
-pub returns-in_ok-write_system_information-in-SystemInformation : goal.returns-in_ok-write_system_information-in-SystemInformation
-returns-in_ok-write_system_information-in-SystemInformation g c =
-    value_done g.S.Store c.args.system.now c.args.moment SystemInformation c.in-SystemInformation.is c.requires.start c.requires.going c.write_system_information.ensures.wrote tt
-    c.in_ok-write_system_information-in-SystemInformation.ensures.outcome
+pub returns-in-SystemInformation : goal.returns-in-SystemInformation
+returns-in-SystemInformation g c = feed_as g.S.Store c.args.system.now c.args.moment SystemInformation c.in-SystemInformation.is c.write_system_information.ensures
 
 pub returns-in-VehicleTypes : goal.returns-in-VehicleTypes
 returns-in-VehicleTypes g c = feed_as g.S.Store c.args.system.now c.args.moment VehicleTypes c.in-VehicleTypes.is c.write_vehicle_types.ensures

@@ -1,42 +1,65 @@
-use Rattle.std.proofs.Common.{arith}
+use Rattle.std.proofs.Common.{refl, arith}
+use Rattle.bike_operator.specs.NameKind.TheVariants as named
 use Rattle.bike_feed_texts.specs.Elements.{region_tree}
-use Rattle.bike_feeds.proofs.WalkLemmas.{walk_begins, walk_writes, walk_goes, walk_ends, walk_cut, passes_cut, first_failed, next_failed, items_told}
+use Rattle.bike_feeds.proofs.Lists.{regions}
+use Rattle.bike_feeds.proofs.NameLemmas.{told_begins, told_later, named_writes}
+use Rattle.bike_feeds.proofs.WalkLemmas.{begins, begins_asked, walk_begins, walk_goes, walk_ends, walk_cut, asked_failed, write_failed, begun_under, ahead_under, behind_under}
 use Rattle.bike_feeds.proofs.items.write_regions.Goals as goal
+
+pub returns-in_err-translated : goal.returns-in_err-translated
+returns-in_err-translated g c =
+    asked_failed g.S.Store (regions c.args.system.now) c.in_err-translated.field-0.0 _ c.from_residual.ensures.1
+    (begun_under g.S.Store (regions c.args.system.now) (begins g.S.Store (regions c.args.system.now) c.requires.going c.requires.place.0 (λ s. refl)))
+    c.in_err-translated.ensures
 
 pub returns-in_err-next : goal.returns-in_err-next
 returns-in_err-next g c =
-    items_told g.S.Store (λ x. x.region_id) (λ s. region_tree c.args.system.now) (λ s. s.regions) _ _ c.from_residual.ensures.1
-    (first_failed g.S.Store (λ x. x.region_id) (λ s. region_tree c.args.system.now) (λ s. s.regions) c.in_err-next.field-0.0
-    c.requires.going c.requires.place.0 c.in_err-next.ensures.query)
+    asked_failed g.S.Store (regions c.args.system.now) c.in_err-next.field-0.0 _ c.from_residual-in_err-next.ensures.1
+    (begun_under g.S.Store (regions c.args.system.now)
+    (begins_asked g.S.Store (regions c.args.system.now) c.in_ok-translated.translated c.requires.going c.requires.place.0 (λ s. refl) c.in_ok-translated.ensures))
+    c.in_err-next.ensures.query
 
 pub regions-init : goal.regions-init
-regions-init g c =
-    walk_begins g.S.Store (λ x. x.region_id) (λ s. region_tree c.args.system.now) (λ s. s.regions) c.in_ok-next.next c.in_ok-next.next
-    c.requires.going c.requires.place.0 c.in_ok-next.ensures.query (λ s h. h)
+regions-init g c = (
+  walk_begins g.S.Store (regions c.args.system.now) c.in_ok-next.next c.in_ok-next.next
+      (begins_asked g.S.Store (regions c.args.system.now) c.in_ok-translated.translated c.requires.going c.requires.place.0 (λ s. refl) c.in_ok-translated.ensures)
+      c.in_ok-next.ensures.query (λ s h. h),
+  told_begins g.S.Store c.in_ok-translated.translated c.in_ok-translated.ensures c.in_ok-next.ensures.query,
+)
 
 pub returns-in_default : goal.returns-in_default
-returns-in_default g c = walk_ends g.S.Store (λ x. x.region_id) (λ s. region_tree c.args.system.now) (λ s. s.regions) tt (rw c.in_default.is at c.regions.invariant)
+returns-in_default g c = walk_ends g.S.Store (regions c.args.system.now) tt (rw c.in_default.is at c.regions.invariant.0)
+
+pub returns-in_err-names : goal.returns-in_err-names
+returns-in_err-names g c =
+    asked_failed g.S.Store (regions c.args.system.now) c.in_err-names.field-0.0 _ c.from_residual-in_err-names.ensures.1 (ahead_under g.S.Store (regions c.args.system.now) c.regions.invariant.0)
+    c.in_err-names.ensures
 
 pub returns-in_err-write_region : goal.returns-in_err-write_region
 returns-in_err-write_region g c =
-    items_told g.S.Store (λ x. x.region_id) (λ s. region_tree c.args.system.now) (λ s. s.regions) _ _ c.from_residual-in_err-write_region.ensures.1
-    (passes_cut g.S.Store (λ x. x.region_id) (λ s. region_tree c.args.system.now) (λ s. s.regions)
-    (walk_writes g.S.Store (λ x. x.region_id) (λ s. region_tree c.args.system.now) (λ s. s.regions) c.in-Some.region (rw c.in-Some.is at c.regions.invariant)
-    (λ clean s at. c.in_err-write_region.ensures.wrote) c.in_err-write_region.ensures.place) c.in_err-write_region.ensures.outcome)
+    write_failed g.S.Store (regions c.args.system.now) _ c.from_residual-in_err-write_region.ensures.1 (behind_under g.S.Store (regions c.args.system.now)
+    (named_writes g.S.Store (λ names. names.items) c.in_ok-translated.translated (regions c.args.system.now) c.in-Some.region named.Region _ c.in_ok-names.names
+    c.regions.invariant.1 (rw c.in-Some.is at c.regions.invariant.0) (rw c.region_id-id.ensures at c.in_ok-names.ensures) c.in_err-write_region.ensures.place
+    (region_tree c.args.system.now c.in-Some.region) c.as_slice.ensures.value (λ s. refl) c.in_err-write_region.ensures.wrote))
+    c.in_err-write_region.ensures.outcome
 
 pub returns-in_err-next-2 : goal.returns-in_err-next-2
 returns-in_err-next-2 g c =
-    items_told g.S.Store (λ x. x.region_id) (λ s. region_tree c.args.system.now) (λ s. s.regions) _ _ c.from_residual-in_err-next-2.ensures.1
-    (next_failed g.S.Store (λ x. x.region_id) (λ s. region_tree c.args.system.now) (λ s. s.regions) c.in_err-next-2.field-0.0
-    (walk_writes g.S.Store (λ x. x.region_id) (λ s. region_tree c.args.system.now) (λ s. s.regions) c.in-Some.region (rw c.in-Some.is at c.regions.invariant)
-    (λ clean s at. c.in_ok-write_region.ensures.wrote) c.in_ok-write_region.ensures.place) c.in_err-next-2.ensures.query)
+    asked_failed g.S.Store (regions c.args.system.now) c.in_err-next-2.field-0.0 _ c.from_residual-in_err-next-2.ensures.1 (behind_under g.S.Store (regions c.args.system.now)
+    (named_writes g.S.Store (λ names. names.items) c.in_ok-translated.translated (regions c.args.system.now) c.in-Some.region named.Region _ c.in_ok-names.names
+    c.regions.invariant.1 (rw c.in-Some.is at c.regions.invariant.0) (rw c.region_id-id.ensures at c.in_ok-names.ensures) c.in_ok-write_region.ensures.place
+    (region_tree c.args.system.now c.in-Some.region) c.as_slice.ensures.value (λ s. refl) c.in_ok-write_region.ensures.wrote))
+    c.in_err-next-2.ensures.query
 
 pub regions-preserved : goal.regions-preserved
-regions-preserved g c =
-    walk_goes g.S.Store (λ x. x.region_id) (λ s. region_tree c.args.system.now) (λ s. s.regions) c.region_id.result.now c.in_ok-next-2.next c.in_ok-next-2.next
-    (walk_writes g.S.Store (λ x. x.region_id) (λ s. region_tree c.args.system.now) (λ s. s.regions) c.in-Some.region (rw c.in-Some.is at c.regions.invariant)
-    (λ clean s at. c.in_ok-write_region.ensures.wrote) c.in_ok-write_region.ensures.place)
-    c.in_ok-next-2.ensures.query c.region_id.ensures (λ s h. h)
+regions-preserved g c = (
+  walk_goes g.S.Store (regions c.args.system.now) c.region_id-id.result.now c.in_ok-next-2.next c.in_ok-next-2.next
+      (named_writes g.S.Store (λ names. names.items) c.in_ok-translated.translated (regions c.args.system.now) c.in-Some.region named.Region _ c.in_ok-names.names
+      c.regions.invariant.1 (rw c.in-Some.is at c.regions.invariant.0) (rw c.region_id-id.ensures at c.in_ok-names.ensures) c.in_ok-write_region.ensures.place
+      (region_tree c.args.system.now c.in-Some.region) c.as_slice.ensures.value (λ s. refl) c.in_ok-write_region.ensures.wrote)
+      c.in_ok-next-2.ensures.query c.region_id-id.ensures (λ s h. h),
+  told_later g.S.Store c.regions.invariant.1 (omega (arith, c.in_ok-names.ensures.clean, c.in_ok-next-2.ensures.query.clean)),
+)
 
 pub returns : goal.returns
-returns g c = walk_cut g.S.Store (λ x. x.region_id) (λ s. region_tree c.args.system.now) (λ s. s.regions) c.regions.invariant (omega (arith, c.regions-test.false, c.count.ensures))
+returns g c = walk_cut g.S.Store (regions c.args.system.now) c.regions.invariant.0 (omega (arith, c.regions-test.false, c.count.ensures))

@@ -1,51 +1,78 @@
-use Rattle.std.proofs.Common.{arith}
+use Rattle.std.proofs.Common.{refl, arith}
 use Rattle.std.specs.Prelude.{option_map}
-use Rattle.bike_feed_texts.specs.Elements.{station_tree}
 use Rattle.bike_queries.specs.After.{station_of}
-use Rattle.bike_feeds.proofs.WalkLemmas.{walk_begins, walk_writes, walk_goes, walk_ends, walk_cut, passes_cut, first_failed, next_failed, items_told}
+use Rattle.bike_operator.specs.NameKind.TheVariants as named
+use Rattle.bike_feed_texts.specs.Elements.{station_tree}
+use Rattle.bike_feeds.proofs.Lists.{stations}
+use Rattle.bike_feeds.proofs.NameLemmas.{told_begins, told_later, named_writes}
+use Rattle.bike_feeds.proofs.WalkLemmas.{begins, begins_asked, walk_begins, walk_goes, walk_ends, walk_cut, asked_failed, write_failed, begun_under, ahead_under, behind_under}
 use Rattle.bike_feeds.proofs.items.write_stations.Goals as goal
+
+pub returns-in_err-translated : goal.returns-in_err-translated
+returns-in_err-translated g c =
+    asked_failed g.S.Store (stations c.args.system.now) c.in_err-translated.field-0.0 _ c.from_residual.ensures.1
+    (begun_under g.S.Store (stations c.args.system.now) (begins g.S.Store (stations c.args.system.now) c.requires.going c.requires.place.0 (λ s. refl)))
+    c.in_err-translated.ensures
 
 pub returns-in_err-next : goal.returns-in_err-next
 returns-in_err-next g c =
-    items_told g.S.Store (λ x. x.row.station_id) (λ s x. station_tree c.args.system.now x.row x.region) (λ s. s.stations) _ _ c.from_residual.ensures.1
-    (first_failed g.S.Store (λ x. x.row.station_id) (λ s x. station_tree c.args.system.now x.row x.region) (λ s. s.stations) c.in_err-next.field-0.0
-    c.requires.going c.requires.place.0 c.in_err-next.ensures.query)
+    asked_failed g.S.Store (stations c.args.system.now) c.in_err-next.field-0.0 _ c.from_residual-in_err-next.ensures.1
+    (begun_under g.S.Store (stations c.args.system.now)
+    (begins_asked g.S.Store (stations c.args.system.now) c.in_ok-translated.translated c.requires.going c.requires.place.0 (λ s. refl) c.in_ok-translated.ensures))
+    c.in_err-next.ensures.query
 
 pub stations-init : goal.stations-init
-stations-init g c =
-    walk_begins g.S.Store (λ x. x.row.station_id) (λ s x. station_tree c.args.system.now x.row x.region) (λ s. s.stations) c.in_ok-next.next (option_map station_of c.in_ok-next.next) c.requires.going c.requires.place.0 c.in_ok-next.ensures.query (λ s h. h)
+stations-init g c = (
+  walk_begins g.S.Store (stations c.args.system.now) c.in_ok-next.next (option_map station_of c.in_ok-next.next)
+      (begins_asked g.S.Store (stations c.args.system.now) c.in_ok-translated.translated c.requires.going c.requires.place.0 (λ s. refl) c.in_ok-translated.ensures)
+      c.in_ok-next.ensures.query (λ s h. h),
+  told_begins g.S.Store c.in_ok-translated.translated c.in_ok-translated.ensures c.in_ok-next.ensures.query,
+)
 
 pub returns-in_default : goal.returns-in_default
-returns-in_default g c = walk_ends g.S.Store (λ x. x.row.station_id) (λ s x. station_tree c.args.system.now x.row x.region) (λ s. s.stations) tt (rw c.in_default.is at c.stations.invariant)
+returns-in_default g c = walk_ends g.S.Store (stations c.args.system.now) tt (rw c.in_default.is at c.stations.invariant.0)
+
+pub returns-in_err-names : goal.returns-in_err-names
+returns-in_err-names g c =
+    asked_failed g.S.Store (stations c.args.system.now) c.in_err-names.field-0.0 _ c.from_residual-in_err-names.ensures.1 (ahead_under g.S.Store (stations c.args.system.now) c.stations.invariant.0)
+    c.in_err-names.ensures
 
 pub returns-in_err-write_station : goal.returns-in_err-write_station
 returns-in_err-write_station g c =
-    items_told g.S.Store (λ x. x.row.station_id) (λ s x. station_tree c.args.system.now x.row x.region) (λ s. s.stations) _ _ c.from_residual-in_err-write_station.ensures.1
-    (passes_cut g.S.Store (λ x. x.row.station_id) (λ s x. station_tree c.args.system.now x.row x.region) (λ s. s.stations)
-    (walk_writes g.S.Store (λ x. x.row.station_id) (λ s x. station_tree c.args.system.now x.row x.region) (λ s. s.stations) (station_of c.in-Some.info)
-    (rw c.in-Some.is at c.stations.invariant) (λ clean s at. rw c.as_ref.ensures.value at c.in_err-write_station.ensures.wrote) c.in_err-write_station.ensures.place) c.in_err-write_station.ensures.outcome)
+    write_failed g.S.Store (stations c.args.system.now) _ c.from_residual-in_err-write_station.ensures.1 (behind_under g.S.Store (stations c.args.system.now)
+    (named_writes g.S.Store (λ names. names.items) c.in_ok-translated.translated (stations c.args.system.now) (station_of c.in-Some.info) named.Station _ c.in_ok-names.names
+    c.stations.invariant.1 (rw c.in-Some.is at c.stations.invariant.0) (rw c.station_id-id.ensures at c.in_ok-names.ensures) c.in_err-write_station.ensures.place
+    (station_tree c.args.system.now c.in-Some.info.station c.in-Some.info.region) c.as_slice.ensures.value (λ s. refl) (rw c.as_ref.ensures.value at c.in_err-write_station.ensures.wrote)))
+    c.in_err-write_station.ensures.outcome
 
 pub returns-in_err-next-2 : goal.returns-in_err-next-2
 returns-in_err-next-2 g c =
-    items_told g.S.Store (λ x. x.row.station_id) (λ s x. station_tree c.args.system.now x.row x.region) (λ s. s.stations) _ _ c.from_residual-in_err-next-2.ensures.1
-    (next_failed g.S.Store (λ x. x.row.station_id) (λ s x. station_tree c.args.system.now x.row x.region) (λ s. s.stations) c.in_err-next-2.field-0.0
-    (walk_writes g.S.Store (λ x. x.row.station_id) (λ s x. station_tree c.args.system.now x.row x.region) (λ s. s.stations) (station_of c.in-Some.info)
-    (rw c.in-Some.is at c.stations.invariant) (λ clean s at. rw c.as_ref.ensures.value at c.in_ok-write_station.ensures.wrote) c.in_ok-write_station.ensures.place) c.in_err-next-2.ensures.query)
+    asked_failed g.S.Store (stations c.args.system.now) c.in_err-next-2.field-0.0 _ c.from_residual-in_err-next-2.ensures.1 (behind_under g.S.Store (stations c.args.system.now)
+    (named_writes g.S.Store (λ names. names.items) c.in_ok-translated.translated (stations c.args.system.now) (station_of c.in-Some.info) named.Station _ c.in_ok-names.names
+    c.stations.invariant.1 (rw c.in-Some.is at c.stations.invariant.0) (rw c.station_id-id.ensures at c.in_ok-names.ensures) c.in_ok-write_station.ensures.place
+    (station_tree c.args.system.now c.in-Some.info.station c.in-Some.info.region) c.as_slice.ensures.value (λ s. refl) (rw c.as_ref.ensures.value at c.in_ok-write_station.ensures.wrote)))
+    c.in_err-next-2.ensures.query
 
 -- the station that was written stood in a region, whose name is let go, or in none
 pub stations-preserved : goal.stations-preserved
-stations-preserved g c =
-    walk_goes g.S.Store (λ x. x.row.station_id) (λ s x. station_tree c.args.system.now x.row x.region) (λ s. s.stations) c.station_id.result.now c.in_ok-next-2.next (option_map station_of c.in_ok-next-2.next)
-    (walk_writes g.S.Store (λ x. x.row.station_id) (λ s x. station_tree c.args.system.now x.row x.region) (λ s. s.stations) (station_of c.in-Some.info)
-    (rw c.in-Some.is at c.stations.invariant) (λ clean s at. rw c.as_ref.ensures.value at c.in_ok-write_station.ensures.wrote) c.in_ok-write_station.ensures.place)
-    c.in_ok-next-2.ensures.query c.station_id.ensures (λ s h. h)
+stations-preserved g c = (
+  walk_goes g.S.Store (stations c.args.system.now) c.station_id-id.result.now c.in_ok-next-2.next (option_map station_of c.in_ok-next-2.next)
+      (named_writes g.S.Store (λ names. names.items) c.in_ok-translated.translated (stations c.args.system.now) (station_of c.in-Some.info) named.Station _ c.in_ok-names.names
+      c.stations.invariant.1 (rw c.in-Some.is at c.stations.invariant.0) (rw c.station_id-id.ensures at c.in_ok-names.ensures) c.in_ok-write_station.ensures.place
+      (station_tree c.args.system.now c.in-Some.info.station c.in-Some.info.region) c.as_slice.ensures.value (λ s. refl) (rw c.as_ref.ensures.value at c.in_ok-write_station.ensures.wrote))
+      c.in_ok-next-2.ensures.query c.station_id-id.ensures (λ s h. h),
+  told_later g.S.Store c.stations.invariant.1 (omega (arith, c.in_ok-names.ensures.clean, c.in_ok-next-2.ensures.query.clean)),
+)
 
 pub stations-preserved-in_ok-next-2 : goal.stations-preserved-in_ok-next-2
-stations-preserved-in_ok-next-2 g c =
-    walk_goes g.S.Store (λ x. x.row.station_id) (λ s x. station_tree c.args.system.now x.row x.region) (λ s. s.stations) c.station_id.result.now c.in_ok-next-2.next (option_map station_of c.in_ok-next-2.next)
-    (walk_writes g.S.Store (λ x. x.row.station_id) (λ s x. station_tree c.args.system.now x.row x.region) (λ s. s.stations) (station_of c.in-Some.info)
-    (rw c.in-Some.is at c.stations.invariant) (λ clean s at. rw c.as_ref.ensures.value at c.in_ok-write_station.ensures.wrote) c.in_ok-write_station.ensures.place)
-    c.in_ok-next-2.ensures.query c.station_id.ensures (λ s h. h)
+stations-preserved-in_ok-next-2 g c = (
+  walk_goes g.S.Store (stations c.args.system.now) c.station_id-id.result.now c.in_ok-next-2.next (option_map station_of c.in_ok-next-2.next)
+      (named_writes g.S.Store (λ names. names.items) c.in_ok-translated.translated (stations c.args.system.now) (station_of c.in-Some.info) named.Station _ c.in_ok-names.names
+      c.stations.invariant.1 (rw c.in-Some.is at c.stations.invariant.0) (rw c.station_id-id.ensures at c.in_ok-names.ensures) c.in_ok-write_station.ensures.place
+      (station_tree c.args.system.now c.in-Some.info.station c.in-Some.info.region) c.as_slice.ensures.value (λ s. refl) (rw c.as_ref.ensures.value at c.in_ok-write_station.ensures.wrote))
+      c.in_ok-next-2.ensures.query c.station_id-id.ensures (λ s h. h),
+  told_later g.S.Store c.stations.invariant.1 (omega (arith, c.in_ok-names.ensures.clean, c.in_ok-next-2.ensures.query.clean)),
+)
 
 pub returns : goal.returns
-returns g c = walk_cut g.S.Store (λ x. x.row.station_id) (λ s x. station_tree c.args.system.now x.row x.region) (λ s. s.stations) c.stations.invariant (omega (arith, c.stations-test.false, c.count.ensures))
+returns g c = walk_cut g.S.Store (stations c.args.system.now) c.stations.invariant.0 (omega (arith, c.stations-test.false, c.count.ensures))

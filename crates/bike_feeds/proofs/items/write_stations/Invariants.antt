@@ -1,14 +1,15 @@
 use Rattle.std.specs.Prelude.{◌-◌, option_map}
 use Rattle.bike_json.specs.State.{greatest_count}
-use Rattle.bike_feed_texts.specs.Elements.{station_tree}
 use Rattle.bike_queries.specs.After.{station_of}
+use Rattle.bike_feeds.proofs.Lists.{stations}
+use Rattle.bike_feeds.proofs.NameLemmas.{Told}
 use Rattle.bike_feeds.proofs.WalkLemmas.{Walks}
 use Rattle.bike_feeds.proofs.items.write_stations.Given as goal
 
 abbrev pub invariant-stations : goal.invariant-stations
 invariant-stations g l =
-    Walks g.S.Store (λ x. x.row.station_id) (λ s x. station_tree l.fn.system x.row x.region) (λ s. s.stations) (option_map station_of l.next) l.fn.desk l.desk l.fn.json l.json
-    (g.W.Output.contents l.fn.out) (g.W.Output.contents l.out)
+    Walks g.S.Store (stations l.fn.system) (option_map station_of l.next) l.fn.desk l.desk l.fn.json l.json (g.W.Output.contents l.fn.out) (g.W.Output.contents l.out)
+    × Told g.S.Store l.translated l.fn.desk l.desk
 
 abbrev pub decreases-stations : goal.decreases-stations
 decreases-stations g l = greatest_count - l.json.count

@@ -1,16 +1,14 @@
 use Rattle.std.specs.Prelude.{◌-◌, option_map}
 use Rattle.bike_json.specs.State.{greatest_count}
-use Rattle.bike_feed_texts.specs.Elements.{status_tree}
-use Rattle.bike_feed_texts.specs.Trees.{report_of, counts_of}
 use Rattle.bike_queries.specs.After.{station_of}
+use Rattle.bike_feeds.proofs.Lists.{statuses}
 use Rattle.bike_feeds.proofs.WalkLemmas.{Walks}
 use Rattle.bike_feeds.proofs.StatusLemmas.{HasCounts}
 use Rattle.bike_feeds.proofs.items.write_statuses.Given as goal
 
 abbrev pub invariant-stations : goal.invariant-stations
 invariant-stations g l =
-    Walks g.S.Store (λ x. x.row.station_id) (λ s x. status_tree (report_of x) (counts_of s x)) (λ s. s.stations)
-    (option_map station_of (option_map (λ x. x.info) l.next)) l.fn.desk l.desk l.fn.json l.json (g.W.Output.contents l.fn.out) (g.W.Output.contents l.out)
+    Walks g.S.Store statuses (option_map station_of (option_map (λ x. x.info) l.next)) l.fn.desk l.desk l.fn.json l.json (g.W.Output.contents l.fn.out) (g.W.Output.contents l.out)
     × HasCounts g.S.Store l.type_ids.items l.next l.fn.desk l.desk
 
 abbrev pub decreases-stations : goal.decreases-stations

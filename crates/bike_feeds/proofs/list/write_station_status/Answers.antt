@@ -1,27 +1,25 @@
 use Rattle.std.specs.Prelude.{codes}
-use Rattle.std.specs.FinMap.{values}
-use Rattle.bike_feed_texts.specs.Elements.{status_tree}
-use Rattle.bike_feed_texts.specs.Trees.{report_of, counts_of}
-use Rattle.bike_feeds.proofs.TextLemmas.{list_done, list_failed, head_cut, end_cut}
+use Rattle.bike_feeds.proofs.Lists.{statuses}
+use Rattle.bike_feeds.proofs.TextLemmas.{list_parts, list_done, list_failed, head_cut, end_cut}
 use Rattle.bike_feeds.proofs.list.write_station_status.Goals as goal
 
 pub returns-in_err-open_list : goal.returns-in_err-open_list
 returns-in_err-open_list g c =
-    head_cut g.S.Store c.args.system.now c.args.moment (codes "stations") (λ s station. status_tree (report_of station) (counts_of s station)) (λ s. values s.stations)
+    head_cut g.S.Store (list_parts c.args.system.now c.args.moment (codes "stations") statuses)
     _ c.from_residual.ensures.1 c.requires.start c.open_list.ensures.wrote c.requires.going c.in_err-open_list.ensures.outcome
 
 pub returns-in_err-write_statuses : goal.returns-in_err-write_statuses
 returns-in_err-write_statuses g c =
-    list_failed g.S.Store c.args.system.now c.args.moment (codes "stations") (λ s station. status_tree (report_of station) (counts_of s station)) (λ s. values s.stations)
+    list_failed g.S.Store (list_parts c.args.system.now c.args.moment (codes "stations") statuses)
     _ _ c.from_residual-in_err-write_statuses.ensures.1 c.requires.start c.open_list.ensures.wrote c.in_err-write_statuses.ensures c.in_ok-open_list.ensures.outcome
 
 pub returns-in_err-close_list : goal.returns-in_err-close_list
 returns-in_err-close_list g c =
-    end_cut g.S.Store c.args.system.now c.args.moment (codes "stations") (λ s station. status_tree (report_of station) (counts_of s station)) (λ s. values s.stations)
-    _ _ c.from_residual-in_err-close_list.ensures.1
-    c.requires.start c.open_list.ensures.wrote c.in_ok-write_statuses.ensures c.close_list.ensures.wrote c.requires.going c.in_err-close_list.ensures.outcome
+    end_cut g.S.Store (list_parts c.args.system.now c.args.moment (codes "stations") statuses)
+    _ _ c.from_residual-in_err-close_list.ensures.1 c.requires.start c.open_list.ensures.wrote
+    c.in_ok-write_statuses.ensures (λ clean s at. c.close_list.ensures.wrote) c.requires.going c.in_err-close_list.ensures.outcome
 
 pub returns : goal.returns
 returns g c =
-    list_done g.S.Store c.args.system.now c.args.moment (codes "stations") (λ s station. status_tree (report_of station) (counts_of s station)) (λ s. values s.stations) tt _
-    c.requires.start c.open_list.ensures.wrote c.in_ok-write_statuses.ensures c.close_list.ensures.wrote c.requires.going c.in_ok-close_list.ensures.outcome
+    list_done g.S.Store (list_parts c.args.system.now c.args.moment (codes "stations") statuses) tt _
+    c.requires.start c.open_list.ensures.wrote c.in_ok-write_statuses.ensures (λ clean s at. c.close_list.ensures.wrote) c.requires.going c.in_ok-close_list.ensures.outcome

@@ -1,25 +1,25 @@
 use Rattle.std.specs.Prelude.{codes}
-use Rattle.std.specs.FinMap.{values}
-use Rattle.bike_feed_texts.specs.Elements.{region_tree}
-use Rattle.bike_feeds.proofs.TextLemmas.{list_done, list_failed, head_cut, end_cut}
+use Rattle.bike_feeds.proofs.Lists.{regions}
+use Rattle.bike_feeds.proofs.TextLemmas.{list_parts, list_done, list_failed, head_cut, end_cut}
 use Rattle.bike_feeds.proofs.list.write_system_regions.Goals as goal
 
 pub returns-in_err-open_list : goal.returns-in_err-open_list
 returns-in_err-open_list g c =
-    head_cut g.S.Store c.args.system.now c.args.moment (codes "regions") (λ s. region_tree c.args.system.now) (λ s. values s.regions)
+    head_cut g.S.Store (list_parts c.args.system.now c.args.moment (codes "regions") (regions c.args.system.now))
     _ c.from_residual.ensures.1 c.requires.start c.open_list.ensures.wrote c.requires.going c.in_err-open_list.ensures.outcome
 
 pub returns-in_err-write_regions : goal.returns-in_err-write_regions
 returns-in_err-write_regions g c =
-    list_failed g.S.Store c.args.system.now c.args.moment (codes "regions") (λ s. region_tree c.args.system.now) (λ s. values s.regions) _
-    _ c.from_residual-in_err-write_regions.ensures.1 c.requires.start c.open_list.ensures.wrote c.in_err-write_regions.ensures c.in_ok-open_list.ensures.outcome
+    list_failed g.S.Store (list_parts c.args.system.now c.args.moment (codes "regions") (regions c.args.system.now))
+    _ _ c.from_residual-in_err-write_regions.ensures.1 c.requires.start c.open_list.ensures.wrote c.in_err-write_regions.ensures c.in_ok-open_list.ensures.outcome
 
 pub returns-in_err-close_list : goal.returns-in_err-close_list
 returns-in_err-close_list g c =
-    end_cut g.S.Store c.args.system.now c.args.moment (codes "regions") (λ s. region_tree c.args.system.now) (λ s. values s.regions) _ _ c.from_residual-in_err-close_list.ensures.1
-    c.requires.start c.open_list.ensures.wrote c.in_ok-write_regions.ensures c.close_list.ensures.wrote c.requires.going c.in_err-close_list.ensures.outcome
+    end_cut g.S.Store (list_parts c.args.system.now c.args.moment (codes "regions") (regions c.args.system.now))
+    _ _ c.from_residual-in_err-close_list.ensures.1 c.requires.start c.open_list.ensures.wrote
+    c.in_ok-write_regions.ensures (λ clean s at. c.close_list.ensures.wrote) c.requires.going c.in_err-close_list.ensures.outcome
 
 pub returns : goal.returns
 returns g c =
-    list_done g.S.Store c.args.system.now c.args.moment (codes "regions") (λ s. region_tree c.args.system.now) (λ s. values s.regions) tt _
-    c.requires.start c.open_list.ensures.wrote c.in_ok-write_regions.ensures c.close_list.ensures.wrote c.requires.going c.in_ok-close_list.ensures.outcome
+    list_done g.S.Store (list_parts c.args.system.now c.args.moment (codes "regions") (regions c.args.system.now)) tt _
+    c.requires.start c.open_list.ensures.wrote c.in_ok-write_regions.ensures (λ clean s at. c.close_list.ensures.wrote) c.requires.going c.in_ok-close_list.ensures.outcome

@@ -1,26 +1,25 @@
 use Rattle.std.specs.Prelude.{codes}
-use Rattle.std.specs.FinMap.{values}
-use Rattle.bike_feed_texts.specs.Elements.{type_tree}
-use Rattle.bike_feeds.proofs.TextLemmas.{list_done, list_failed, head_cut, end_cut}
+use Rattle.bike_feeds.proofs.Lists.{types}
+use Rattle.bike_feeds.proofs.TextLemmas.{list_parts, list_done, list_failed, head_cut, end_cut}
 use Rattle.bike_feeds.proofs.list.write_vehicle_types.Goals as goal
 
 pub returns-in_err-open_list : goal.returns-in_err-open_list
 returns-in_err-open_list g c =
-    head_cut g.S.Store c.args.system.now c.args.moment (codes "vehicle_types") (λ s. type_tree c.args.system.now) (λ s. values s.types)
+    head_cut g.S.Store (list_parts c.args.system.now c.args.moment (codes "vehicle_types") (types c.args.system.now))
     _ c.from_residual.ensures.1 c.requires.start c.open_list.ensures.wrote c.requires.going c.in_err-open_list.ensures.outcome
 
 pub returns-in_err-write_types : goal.returns-in_err-write_types
 returns-in_err-write_types g c =
-    list_failed g.S.Store c.args.system.now c.args.moment (codes "vehicle_types") (λ s. type_tree c.args.system.now) (λ s. values s.types) _
-    _ c.from_residual-in_err-write_types.ensures.1 c.requires.start c.open_list.ensures.wrote c.in_err-write_types.ensures c.in_ok-open_list.ensures.outcome
+    list_failed g.S.Store (list_parts c.args.system.now c.args.moment (codes "vehicle_types") (types c.args.system.now))
+    _ _ c.from_residual-in_err-write_types.ensures.1 c.requires.start c.open_list.ensures.wrote c.in_err-write_types.ensures c.in_ok-open_list.ensures.outcome
 
 pub returns-in_err-close_list : goal.returns-in_err-close_list
 returns-in_err-close_list g c =
-    end_cut g.S.Store c.args.system.now c.args.moment (codes "vehicle_types") (λ s. type_tree c.args.system.now) (λ s. values s.types) _
-    _ c.from_residual-in_err-close_list.ensures.1
-    c.requires.start c.open_list.ensures.wrote c.in_ok-write_types.ensures c.close_list.ensures.wrote c.requires.going c.in_err-close_list.ensures.outcome
+    end_cut g.S.Store (list_parts c.args.system.now c.args.moment (codes "vehicle_types") (types c.args.system.now))
+    _ _ c.from_residual-in_err-close_list.ensures.1 c.requires.start c.open_list.ensures.wrote
+    c.in_ok-write_types.ensures (λ clean s at. c.close_list.ensures.wrote) c.requires.going c.in_err-close_list.ensures.outcome
 
 pub returns : goal.returns
 returns g c =
-    list_done g.S.Store c.args.system.now c.args.moment (codes "vehicle_types") (λ s. type_tree c.args.system.now) (λ s. values s.types) tt _
-    c.requires.start c.open_list.ensures.wrote c.in_ok-write_types.ensures c.close_list.ensures.wrote c.requires.going c.in_ok-close_list.ensures.outcome
+    list_done g.S.Store (list_parts c.args.system.now c.args.moment (codes "vehicle_types") (types c.args.system.now)) tt _
+    c.requires.start c.open_list.ensures.wrote c.in_ok-write_types.ensures (λ clean s at. c.close_list.ensures.wrote) c.requires.going c.in_ok-close_list.ensures.outcome
