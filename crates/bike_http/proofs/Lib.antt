@@ -2,3 +2,4 @@ pub mod Shows
 pub mod Told
 pub mod Feeds
 pub mod Ends
+pub mod Again

@@ -2,6 +2,7 @@ pub mod Shown
 pub mod Rows
 pub mod Exchange
 pub mod Telling
+pub mod Again
 pub use Rattle.bike_feeds.specs.Desk
 pub use Rattle.bike_feeds.specs.Runs
 pub use Rattle.bike_feeds.specs.Publishing

@@ -5,6 +5,8 @@ ghost use Rattle.sqlite.specs.State.{HasCleanDisk};
 ghost use Rattle.sqlite_trees.specs.View.{doubt};
 ghost use Rattle.bike_operator.specs.Operator.{Operator};
 ghost use Rattle.bike_feeds.specs.Desk.{desk_state, IsAt};
+ghost use Rattle.bike_http.specs.Exchange.{Response};
+ghost use Rattle.bike_http.specs.Again.{CameBefore, SendsAgain};
 ghost use Rattle.bike_http.specs.Telling.{end_of_sending, Serves, Rests, Refuses, IsDone};
 
 use crate::respond::{SendFault, respond, send};
@@ -58,7 +60,8 @@ fn ended(sent: Result<u16, SendFault>) -> Result<Served, ServeFault>
 /// before the request, or it is stopped and a crash leaves him or the one after it. `Read` comes where a read fails or more
 /// than 20,000 are needed, and then nothing is asked of the desk; `Write` where a write fails, after a front of the response or of
 /// the 503; `Cut` where the desk fails behind a feed's head. A stopped desk stays as it is: what asks for nothing is rejected as ever,
-/// and all else is answered 503.
+/// and all else is answered 503. A request that was accepted before, by this desk or by one that stopped since, is sent its first response
+/// again, or 503, and changes nothing.
 pub fn serve_one<S: Alter, R: Read, W: Write>(
     alloc: Global,
     desk: &mut Desk<S>,
@@ -72,6 +75,9 @@ pub fn serve_one<S: Alter, R: Read, W: Write>(
         → Serves S.Store desk.new s moment (R.remaining reader.old) (W.contents writer.old) (W.contents writer.new) result }
     ensures done { HasCleanDisk (desk_state S.Store desk.new) → (s : Operator) → IsAt S.Store desk.old s
         → result ≡ Ok (Served.Status 200) → IsDone S.Store desk.new s moment (R.remaining reader.old) }
+    ensures again { HasCleanDisk (desk_state S.Store desk.new) → (s : Operator) (first : Response) → IsAt S.Store desk.old s
+        → CameBefore (R.remaining reader.old) s first
+        → SendsAgain S.Store desk.new s first (W.contents writer.old) (W.contents writer.new) result }
     ensures rests { Rests desk.old desk.new (W.contents writer.old) (W.contents writer.new) result }
     ensures stays { IsTrue desk.old.is_stopped → desk.new ≡ desk.old }
     ensures refuses { IsTrue desk.old.is_stopped

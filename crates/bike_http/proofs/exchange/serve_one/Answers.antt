@@ -2,6 +2,7 @@ use Rattle.std.proofs.Common.{◌∙◌, IfSome, Option, Result, sym, subst}
 use Rattle.bike_incoming.specs.declared.asked.Asked.{Asked}
 use Rattle.bike_incoming.specs.Received.{Received}
 use Rattle.bike_http.specs.Telling.{Serves, Rests, Refuses}
+use Rattle.bike_http.proofs.Again.{sends_again}
 use Rattle.bike_http.specs.declared.exchange.Served.{Served}
 use Rattle.bike_http.specs.declared.exchange.ServeFault.{ServeFault}
 use Rattle.bike_http.proofs.Ends.{serves, is_done, refuses, never_done, rests, stopped_refuses, stopped_unread}
@@ -49,3 +50,16 @@ pub returns-in-Err-NoMemory-clause-refuses : goal.returns-in-Err-NoMemory-clause
 returns-in-Err-NoMemory-clause-refuses g c stopped =
     subst (λ (r : Result Served ServeFault). Refuses (g.R.Read.remaining c.args.reader.now) (g.W.Write.contents c.args.writer.now) (g.W.Write.contents c.send.new.writer) r)
     (sym c.ended-in-Err-NoMemory.ensures) (stopped_unread _ _ _ c.send.result c.send.ensures)
+
+pub returns-in-Ok-Some-clause-again : goal.returns-in-Ok-Some-clause-again
+returns-in-Ok-Some-clause-again g c clean s first at came =
+    let received = subst (λ (o : Option Asked). IfSome (g.R.Read.remaining c.args.reader.now) (λ bytes. Received bytes o)) c.in-Ok-Some.field-0-is c.in-Ok-Some.ensures in
+    let d = c.respond.new.desk in
+    sends_again g.S.Store d s c.args.moment _ _ _ first came c.ended.result (subst (λ (r : Result Served ServeFault). Serves g.S.Store d s c.args.moment (g.R.Read.remaining c.args.reader.now) (g.W.Write.contents c.args.writer.now) (g.W.Write.contents c.respond.new.writer) r)
+    (sym c.ended.ensures) (serves g.S.Store c.respond.new.desk s c.args.moment _ _ _ c.in-Ok-Some.asked received c.respond.result (c.respond.ensures.sent clean s at)))
+
+pub returns-in-Err-NoMemory-clause-again : goal.returns-in-Err-NoMemory-clause-again
+returns-in-Err-NoMemory-clause-again g c clean s first at came =
+    let d = c.args.desk.now in
+    sends_again g.S.Store d s c.args.moment _ _ _ first came c.ended-in-Err-NoMemory.result (subst (λ (r : Result Served ServeFault). Serves g.S.Store d s c.args.moment (g.R.Read.remaining c.args.reader.now) (g.W.Write.contents c.args.writer.now) (g.W.Write.contents c.send.new.writer) r)
+    (sym c.ended-in-Err-NoMemory.ensures) (refuses g.S.Store d s c.args.moment _ _ _ c.send.result at c.send.ensures))
