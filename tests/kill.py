@@ -289,7 +289,7 @@ def undisturbed(program, kind):
     assert refused == REFUSED and len(answers) >= 60, (len(answers), refused, [answers[it] for it in refused])
     # The file before the first request has its tables or not.
     empty = {name: [] for name in fronts[0]}
-    begun = {**empty, "meta": [(1, "bikeshare", 2, True if kind.timeless else 0, 0, 0)]}
+    begun = {**empty, "meta": [(1, "bikeshare", 3, True if kind.timeless else 0, 0, 0)]}
     again = kind(program, "timed.db")
     before = time.monotonic()
     again.begin()

@@ -520,7 +520,7 @@ def test_files_that_are_not_there(program):
         ([*day, UTC], (0, days.ENTRIES.encode(), b"")), ([*day, "UTC"], (1, b"", b"bad zone\n")),
     ):
         assert program.run(*words) == ended, words
-        assert rows_of(program, "SELECT * FROM meta") == [(1, "bikeshare", 2, 0, 0, 0)], words
+        assert rows_of(program, "SELECT * FROM meta") == [(1, "bikeshare", 3, 0, 0, 0)], words
         removed(program)
 
 
