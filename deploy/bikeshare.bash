@@ -22,7 +22,7 @@ _bikeshare() {
 
     local typed=${COMP_WORDS[COMP_CWORD]} known=
     case $word:$place in
-    :*) known="init check lines feed day import serve" ;;
+    :*) known="init check raise lines feed day import serve" ;;
     feed:1) known="gbfs system_information vehicle_types station_information station_status system_pricing_plans system_regions" ;;
     day:1) known="entries rentals" ;;
     *:0)

@@ -1,7 +1,7 @@
 """Files of schemas 1 and 2 that earlier programs wrote, as they stand in files/, with what these showed of each (files/README.md).
 
-No word serves such a file before it is raised, and `raise` isn't built: each says `older 1` or `older 2` and leaves the file as it is. What a
-city shows that is made anew from the same request lines is what the earlier program showed of it.
+No word but `raise` takes such a file: each says `older 1` or `older 2` and leaves the file as it is. What a city shows that is made anew from
+the same request lines is what the earlier program showed of it.
 """
 
 import gzip

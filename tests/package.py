@@ -179,7 +179,7 @@ def usage_of(program):
     words = [it for it in rows if not it[0].startswith("-")]
     options = [it for it in rows if it[0].startswith("-")]
     values = [it for it in lines if it and not it.startswith(" ")]
-    assert status == 2 and len(words) == 7 and len(options) == 3 and len(values) == 5, said
+    assert status == 2 and len(words) == 8 and len(options) == 3 and len(values) == 5, said
     return first.removeprefix("usage: "), words, options, values
 
 

@@ -106,6 +106,7 @@ def test_usage_has_a_line_for_each_word(program):
     for form in (
         b"init FILE",
         b"check FILE",
+        b"raise FILE",
         b"lines FILE",
         b"feed FILE NAME [--at M]",
         b"day FILE WHICH DATE ZONE",

@@ -20,10 +20,14 @@ use Rattle.bike_desk.specs.declared.fault.DeskFault.TheVariants.{NoMemory, Store
 use Rattle.bike_adoption.specs.declared.adoption.AdoptFault.{AdoptFault}
 use Rattle.bike_adoption.specs.declared.adoption.AdoptFault.TheVariants as adopt
 use Rattle.bike_adoption.specs.Adoption.{IsWant}
+use Rattle.bike_migrate.specs.Raising as raising
+use Rattle.bike_migrate.specs.declared.fault.RaiseFault.{RaiseFault}
+use Rattle.bike_migrate.specs.declared.fault.RaiseFault.TheVariants as raise
 use Rattle.bike_lines.specs.declared.fault.LinesFault.{LinesFault}
 use Rattle.bike_console.specs.declared.end.Fault.{Fault}
-use Rattle.bike_console.specs.Ends.{lines_fault, adopt_fault, end_of}
+use Rattle.bike_console.specs.Ends.{lines_fault, adopt_fault, raise_fault, end_of}
 use Rattle.bike_lines.specs.Runs.{ServesSome}
+use Rattle.bike_app.specs.Raises.{RefusesToRaise}
 use Rattle.bike_app.specs.Program.{StandsAfterSome, Refuses, Serves, FailsToBegin, ServesInMemory}
 
 -- the fault of the lines is told as the program's
@@ -80,6 +84,18 @@ not_begun (adopt.StoreFailed c) want input ahead old new read written = record {
 pub memory_refused : (first last : Held MemStore) → IsEmpty (state over_memory first) → (input ahead old new : Option (List ℕ)) (end : Result ℕ Fault) → Refuses over_memory input ahead old new first last end → FailsToBegin input ahead old new end
 memory_refused first last empty input ahead old new end r =
     subst (FailsToBegin input ahead old new) (sym r.told) (not_begun r.fault (r.want no_operator (memory_begins first empty)) input ahead old new r.read r.written)
+
+not_raised : (fault : RaiseFault MemStore) → raising.IsWant fault → (input ahead old new : Option (List ℕ)) → Keeps input ahead → Keeps old new → FailsToBegin input ahead old new (Err (raise_fault fault))
+not_raised (raise.Foreign c) want input ahead old new read written = absurd want
+not_raised (raise.Unsound c bad) want input ahead old new read written = absurd want
+not_raised (raise.Newer c version) want input ahead old new read written = absurd want
+not_raised (raise.NoMemory c) want input ahead old new read written = record { told = inl refl; read = read; written = written }
+not_raised (raise.StoreFailed c) want input ahead old new read written = record { told = inr refl; read = read; written = written }
+
+-- nor is its raising refused otherwise
+pub raise_refused : (first last : Held MemStore) → IsEmpty (state over_memory first) → (input ahead old new : Option (List ℕ)) (end : Result ℕ Fault) → RefusesToRaise over_memory input ahead old new first last end → FailsToBegin input ahead old new end
+raise_refused first last empty input ahead old new end r =
+    subst (FailsToBegin input ahead old new) (sym r.told) (not_raised r.fault (r.want None no_operator (memory_begins first empty)) input ahead old new r.read r.written)
 
 pub in_memory : (first last : Held MemStore) → IsEmpty (state over_memory first) → (input ahead old new : Option (List ℕ)) (end : Result ℕ Fault) → Serves over_memory input ahead old new first last end → ServesInMemory input ahead old new end
 in_memory first last empty input ahead old new end (inl r) = inl (memory_refused first last empty input ahead old new end r)

@@ -5,16 +5,18 @@ use Rattle.sqlite.specs.Held.{Held, state}
 use Rattle.sqlite_trees.specs.declared.memory.MemStore.{MemStore}
 use Rattle.bike_operator.specs.Operator.{no_operator}
 use Rattle.bike_words.specs.declared.task.Task.{Task}
-use Rattle.bike_words.specs.declared.task.Task.TheVariants.{Init, Check, Lines, Feed, Day, Import, Serve}
+use Rattle.bike_words.specs.declared.task.Task.TheVariants.{Init, Check, Raise, Lines, Feed, Day, Import, Serve}
 use Rattle.bike_console.specs.declared.end.Fault.{Fault}
 use Rattle.bike_app.specs.Words.{Does, DoesInMemory}
-use Rattle.bike_app.proofs.ProgramLemmas.{in_memory, memory_begins, memory_refused}
+use Rattle.bike_app.proofs.ProgramLemmas.{in_memory, memory_begins, memory_refused, raise_refused}
 
 pub task_in_memory : (task : Task) (clock : Option ℕ) (first last : Held MemStore) → IsEmpty (state over_memory first) → (input ahead old new : Option (List ℕ)) (end : Result ℕ Fault) → Does over_memory input ahead old new task clock first last end → DoesInMemory input ahead old new task clock end
 task_in_memory Init clock first last empty input ahead old new end (inl r) = inl (memory_refused first last empty input ahead old new end r)
 task_in_memory Init clock first last empty input ahead old new end (inr t) = inr t.1
 task_in_memory Check clock first last empty input ahead old new end (inl r) = inl (memory_refused first last empty input ahead old new end r)
 task_in_memory Check clock first last empty input ahead old new end (inr t) = inr t.1
+task_in_memory Raise clock first last empty input ahead old new end (inl r) = inl (raise_refused first last empty input ahead old new end r)
+task_in_memory Raise clock first last empty input ahead old new end (inr t) = inr t.1
 task_in_memory Lines clock first last empty input ahead old new end does = in_memory first last empty input ahead old new end does
 task_in_memory (Feed f at) clock first last empty input ahead old new end (inl r) = inl (memory_refused first last empty input ahead old new end r)
 task_in_memory (Feed f at) clock first last empty input ahead old new end (inr p) = inr (p.published no_operator (memory_begins first empty)).told

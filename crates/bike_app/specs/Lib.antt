@@ -1,5 +1,6 @@
 pub mod Program
 pub mod Feeds
+pub mod Raises
 pub mod Words
 pub mod Days
 pub mod Imports

@@ -8,13 +8,14 @@ use Rattle.bike_operator.specs.Operator.{Operator}
 use Rattle.bike_schema.specs.Stands.{IsOf, Keeps, TreesStandFor}
 use Rattle.bike_stream.specs.Writing.{AppendsFront}
 use Rattle.bike_words.specs.declared.task.Task.{Task}
-use Rattle.bike_words.specs.declared.task.Task.TheVariants.{Init, Check, Lines, Feed, Day, Import, Serve}
+use Rattle.bike_words.specs.declared.task.Task.TheVariants.{Init, Check, Raise, Lines, Feed, Day, Import, Serve}
 use Rattle.bike_console.specs.declared.end.Fault.{Fault}
 use Rattle.bike_console.specs.declared.end.Fault.TheVariants.{WriteFailed}
 use Rattle.bike_app.specs.Program.{StandsAfterSome, Refuses, Serves, FailsToBegin, ServesInMemory}
 use Rattle.bike_app.specs.Feeds.{TellsPublished, PublishesInMemory, moment_of}
 use Rattle.bike_app.specs.Days.{TellsReported, ReportsInMemory}
 use Rattle.bike_app.specs.Imports.{TellsImported, ImportsInMemory}
+use Rattle.bike_app.specs.Raises.{WritesLine, TellsRaised, version_line}
 
 -- the task that answers connections, which is done apart from the others
 abbrev pub ServesSockets : Task → Type 0
@@ -27,11 +28,6 @@ pub record TakenUp {S : Type 0} (g : Ghosts S) (first last : Held S) : Type 0 wh
   pub was : IsOf (state g first).now operator
   pub keeps : Keeps (state g last) operator
 
--- the line was written, or less of it
-abbrev pub WritesLine : Option (List ℕ) → Option (List ℕ) → List ℕ → Result ℕ Fault → Type 0
-WritesLine old new line (Ok count) = (count ≡ 0) × Appends old new line
-WritesLine old new line (Err fault) = (fault ≡ WriteFailed) × AppendsFront old new line
-
 -- the input before and after, and what was written before and after
 module _ {S : Type 0} (g : Ghosts S) (input ahead old new : Option (List ℕ)) where
   -- the connection couldn't be adopted, or it was and a line tells that
@@ -42,6 +38,7 @@ module _ {S : Type 0} (g : Ghosts S) (input ahead old new : Option (List ℕ)) w
   abbrev pub Does : Task → Option ℕ → Held S → Held S → Result ℕ Fault → Type 0
   Does Init clock first last end = TellsTakenUp first last (codes "ready\n") end
   Does Check clock first last end = TellsTakenUp first last (codes "sound\n") end
+  Does Raise clock first last end = TellsRaised g input ahead old new first last end
   Does Lines clock first last end = Serves g input ahead old new first last end
   Does (Feed f at) clock first last end = TellsPublished g input ahead old new first last f (moment_of at clock) end
   Does (Day table date zone) clock first last end = TellsReported table date.now zone.now g input ahead old new first last end
@@ -59,6 +56,7 @@ module _ (input ahead old new : Option (List ℕ)) where
   abbrev pub DoesInMemory : Task → Option ℕ → Result ℕ Fault → Type 0
   DoesInMemory Init clock end = FailsToBegin input ahead old new end ⊎ WritesLine old new (codes "ready\n") end
   DoesInMemory Check clock end = FailsToBegin input ahead old new end ⊎ WritesLine old new (codes "sound\n") end
+  DoesInMemory Raise clock end = FailsToBegin input ahead old new end ⊎ WritesLine old new version_line end
   DoesInMemory Lines clock end = ServesInMemory input ahead old new end
   DoesInMemory (Feed f at) clock end = PublishesInMemory input ahead old new f (moment_of at clock) end
   DoesInMemory (Day table date zone) clock end = ReportsInMemory table date.now zone.now input ahead old new end

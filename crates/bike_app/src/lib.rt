@@ -1,5 +1,5 @@
 //! The tasks of the program's words over a database: it is taken into service, and then request lines are served, a feed or a day's
-//! table is written, or an import is taken in.
+//! table is written, or an import is taken in; or it is raised to the newest version.
 #![tactic(auto)]
 
 mod day;
@@ -7,6 +7,7 @@ mod feed;
 mod file;
 mod import;
 mod program;
+mod raise;
 mod words;
 
 pub use bike_adoption::{Unwatched, Watch};
@@ -18,4 +19,5 @@ pub use feed::publish;
 pub use file::run_file;
 pub use import::import_from;
 pub use program::{serve, serve_in_memory, serve_text};
+pub use raise::raise_up;
 pub use words::{run_words, run_words_in_memory};

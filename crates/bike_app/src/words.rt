@@ -7,12 +7,14 @@ ghost use Rattle.sqlite_trees.specs.View.{doubt};
 ghost use Rattle.bike_operator.specs.Operator.{Operator};
 ghost use Rattle.bike_schema.specs.Stands.{AllLeft, TreesStandFor};
 ghost use Rattle.bike_words.specs.Program.{IsWithin};
-ghost use Rattle.bike_app.specs.Words.{Does, DoesInMemory, MayStand, ServesSockets, TellsTakenUp, WritesLine};
+ghost use Rattle.bike_app.specs.Raises.{WritesLine};
+ghost use Rattle.bike_app.specs.Words.{Does, DoesInMemory, MayStand, ServesSockets, TellsTakenUp};
 
 use crate::day::report_day;
 use crate::feed::{moment_of, publish};
 use crate::import::import_from;
 use crate::program::serve;
+use crate::raise::raise_up;
 use bike_adoption::{Unwatched, Watch, adopt_watched};
 use bike_console::Fault;
 use bike_fixed::Moment;
@@ -23,7 +25,7 @@ use std::alloc::Global;
 use std::io::{Read, Write};
 
 /// Writes a line; `WriteFailed` where the output fails.
-fn write_line<W: Write>(writer: &mut W, line: &str) -> Result<u64, Fault>
+pub(crate) fn write_line<W: Write>(writer: &mut W, line: &str) -> Result<u64, Fault>
     ensures { WritesLine (W.contents writer.old) (W.contents writer.new) line.now result }
 {
     match write_whole(writer, line.as_bytes()) {
@@ -60,10 +62,10 @@ fn take_up<S: Alter, R: Read, W: Write, P: Watch>(
 }
 
 /// Does what the words ask, but for `Serve`, over the connection, which is outside a transaction: `Init` and `Check` take it into service
-/// and tell that by the line `ready` or `sound`, `Lines` serves the input, as `serve` does, `Feed` writes a feed, as `publish` does, `Day`
+/// and tell that by the line `ready` or `sound`, `Raise` raises it to the newest version, as `raise_up` does, `Lines` serves the input, as `serve` does, `Feed` writes a feed, as `publish` does, `Day`
 /// a table, as `report_day`, and `Import` takes the input's stations in, as `import_from`; where a feed or an import is asked for at no
 /// moment, it is the clock's. Gives the connection back with the number of lines or rows served, or with the fault at which that ended.
-/// `watch` is told how far `Init` and `Check` are.
+/// `watch` is told how far `Init`, `Check` and `Raise` are.
 pub fn run_words<S: Alter, R: Read, W: Write, P: Watch>(
     alloc: Global,
     task: &Task<'_>,
@@ -87,6 +89,7 @@ pub fn run_words<S: Alter, R: Read, W: Write, P: Watch>(
     match task {
         Task::Init => take_up(alloc, "ready\n", conn, reader, writer, watch),
         Task::Check => take_up(alloc, "sound\n", conn, reader, writer, watch),
+        Task::Raise => raise_up(alloc, conn, reader, writer, watch),
         Task::Lines => serve(alloc, conn, reader, writer),
         Task::Feed { feed, at } => {
             let moment = moment_of(*at, clock);

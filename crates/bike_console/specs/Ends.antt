@@ -1,12 +1,13 @@
 -- How the program ends: a line on standard error, and its exit status.
-use Rattle.std.specs.Prelude.{ℕ, List, [], ◌++◌, codes, Result, Ok, Err}
+use Rattle.std.specs.Prelude.{ℕ, List, [], ◌++◌, codes, None, Result, Ok, Err}
 use Rattle.std.specs.Fmt.{decimal}
 use Rattle.sqlite.specs.declared.error.Error.{Error}
 use Rattle.sqlite.specs.declared.error.Error.TheVariants.{SqliteFailure}
 use Rattle.sqlite.specs.declared.error.ErrorCode.TheVariants as code
-use Rattle.bike_schema.specs.Layouts.{name_of}
-use Rattle.bike_recognition.specs.Names.{table_named}
-use Rattle.bike_judges.specs.Judging.{key_row}
+use Rattle.bike_audit.specs.Audit.{row_name}
+use Rattle.bike_migrate.specs.Raising.{name_at}
+use Rattle.bike_migrate.specs.declared.fault.RaiseFault.{RaiseFault}
+use Rattle.bike_migrate.specs.declared.fault.RaiseFault.TheVariants as raise
 use Rattle.bike_fixed.specs.declared.day.DayFault.{DayFault}
 use Rattle.bike_fixed.specs.declared.day.DayFault.TheVariants as day
 use Rattle.bike_commands.specs.Refusals.{name_of as refusal_name}
@@ -53,7 +54,7 @@ row_detail number what = codes " " ++ decimal number ++ codes " " ++ what
 abbrev pub detail_of : Fault → List ℕ
 detail_of (RowRefused number refusal) = row_detail number (refusal_name refusal)
 detail_of (RowUnreadable number) = row_detail number (codes "unreadable")
-detail_of (Unsound bad) = codes " " ++ name_of (table_named bad.table) ++ codes " " ++ key_text (key_row bad.key)
+detail_of (Unsound bad) = codes " " ++ name_at bad.earlier (row_name bad.row).0 ++ codes " " ++ key_text (row_name bad.row).1
 detail_of (Older version) = codes " " ++ decimal version
 detail_of (Newer version) = codes " " ++ decimal version
 detail_of _ = []
@@ -113,11 +114,18 @@ import_fault (stations.Desk fault) = fault_of_desk fault
 
 abbrev pub adopt_fault : {S : Type 0} → AdoptFault S → Fault
 adopt_fault (adopt.Foreign conn) = Foreign
-adopt_fault (adopt.Unsound conn bad) = Unsound bad
+adopt_fault (adopt.Unsound conn bad) = Unsound (record { earlier = None; row = bad })
 adopt_fault (adopt.Older conn version) = Older version
 adopt_fault (adopt.Newer conn version) = Newer version
 adopt_fault (adopt.NoMemory conn) = OutOfMemory
 adopt_fault (adopt.StoreFailed conn) = StoreFailed
+
+abbrev pub raise_fault : {S : Type 0} → RaiseFault S → Fault
+raise_fault (raise.Foreign conn) = Foreign
+raise_fault (raise.Unsound conn bad) = Unsound bad
+raise_fault (raise.Newer conn version) = Newer version
+raise_fault (raise.NoMemory conn) = OutOfMemory
+raise_fault (raise.StoreFailed conn) = StoreFailed
 
 -- the end of a run over lines, as the program tells it
 abbrev pub end_of : Result ℕ LinesFault → Result ℕ Fault

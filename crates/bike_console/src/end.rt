@@ -4,12 +4,13 @@ ghost use Rattle.std.specs.Prelude.{◌≡◌, ◌++◌, codes};
 ghost use Rattle.std.specs.Fmt.{decimal};
 ghost use Rattle.std.specs.Process.{exit_status};
 ghost use Rattle.bike_adoption.specs.Adoption.{handed};
+ghost use Rattle.bike_migrate.specs.Raising.{handed as handed_back};
 ghost use Rattle.bike_console.specs.Pieces.{AppendsSome, Puts};
 ghost use Rattle.bike_console.specs.Ends.{word_of, row_detail, detail_of, fault_status, status_of, line_of};
-ghost use Rattle.bike_console.specs.Ends.{adopt_fault, day_fault, fault_of_desk, feed_fault, import_fault, table_fault};
+ghost use Rattle.bike_console.specs.Ends.{adopt_fault, raise_fault, day_fault, fault_of_desk, feed_fault, import_fault, table_fault};
 
 use crate::pieces::{put, put_key, put_number};
-use bike_adoption::{AdoptFault, BadRow};
+use bike_adoption::AdoptFault;
 use bike_commands::Refusal;
 use bike_days::DayTableFault;
 use bike_desk::DeskFault;
@@ -17,6 +18,7 @@ use bike_feeds::FeedFault;
 use bike_fixed::DayFault;
 use bike_imports::ImportFault;
 use bike_lines::LinesFault;
+use bike_migrate::{RaiseFault, UnsoundRow};
 use sqlite::{Alter, Connection, ErrorCode};
 use std::alloc::AllocError;
 use std::error::Error;
@@ -49,7 +51,7 @@ pub enum Fault {
     /// The database belongs to another program.
     Foreign,
     /// The tables stand for no operator: this is the first row that is not an operator's.
-    Unsound(BadRow),
+    Unsound(UnsoundRow),
     /// The database is of this earlier version of the schema.
     Older(u64),
     /// The database is of this later version of the schema.
@@ -161,11 +163,28 @@ impl Fault {
     {
         match fault {
             AdoptFault::Foreign(conn) => (conn, Fault::Foreign),
-            AdoptFault::Unsound(conn, bad) => (conn, Fault::Unsound(bad)),
+            AdoptFault::Unsound(conn, row) => {
+                let bad = UnsoundRow { earlier: None, row };
+                (conn, Fault::Unsound(bad))
+            }
             AdoptFault::Older(conn, version) => (conn, Fault::Older(version)),
             AdoptFault::Newer(conn, version) => (conn, Fault::Newer(version)),
             AdoptFault::NoMemory(conn) => (conn, Fault::OutOfMemory),
             AdoptFault::StoreFailed(conn) => (conn, Fault::StoreFailed),
+        }
+    }
+
+    /// The fault of a raise, and the connection that it hands back.
+    pub fn taken_from_raise<S: Alter>(fault: RaiseFault<S>) -> (Connection<S>, Fault)
+        ensures conn { result.0 ≡ handed_back fault }
+        ensures told { result.1 ≡ raise_fault fault }
+    {
+        match fault {
+            RaiseFault::Foreign(conn) => (conn, Fault::Foreign),
+            RaiseFault::Unsound(conn, bad) => (conn, Fault::Unsound(bad)),
+            RaiseFault::Newer(conn, version) => (conn, Fault::Newer(version)),
+            RaiseFault::NoMemory(conn) => (conn, Fault::OutOfMemory),
+            RaiseFault::StoreFailed(conn) => (conn, Fault::StoreFailed),
         }
     }
 }
@@ -249,9 +268,9 @@ fn put_detail<W: Write>(out: &mut W, going: bool, fault: &Fault) -> bool
     match fault {
         Fault::Unsound(bad) => {
             let going = put(out, going, b" ");
-            let going = put(out, going, bad.table.name().as_bytes());
+            let going = put(out, going, bad.table_name().as_bytes());
             let going = put(out, going, b" ");
-            put_key(out, going, &bad.key)
+            put_key(out, going, &bad.row.key)
         }
         Fault::RowRefused(number, refusal) => put_row(out, going, *number, refusal.name()),
         Fault::RowUnreadable(number) => put_row(out, going, *number, "unreadable"),

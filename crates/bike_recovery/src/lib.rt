@@ -6,6 +6,7 @@
 
 mod crash;
 mod files;
+mod raising;
 mod reading;
 mod reopening;
 mod sessions;
@@ -13,6 +14,7 @@ mod stop;
 
 pub use crash::{Acknowledged, Lost, run_adopt_and_read, run_crash_and_read, run_in_memory};
 pub use files::{NotOpened, stop_and_open};
+pub use raising::{Unraised, raise_crash_and_read};
 pub use reading::{Reading, read_again};
 pub use reopening::{Shut, open_again};
 pub use sessions::{SessionsServed, serve_sessions, serve_sessions_in_memory};

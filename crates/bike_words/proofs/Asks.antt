@@ -20,7 +20,7 @@ use Rattle.bike_words.specs.Program.{IsWithin, name_of, program, words_for}
 use Rattle.bike_words.specs.Asked.{Ask, Found, Wanted, task_in, task_of, value_in, want_of}
 use Rattle.bike_words.specs.Asked as want
 use Rattle.bike_words.specs.declared.task.Task.{Task}
-use Rattle.bike_words.specs.declared.task.Task.TheVariants.{Init, Check, Lines, Feed, Day, Import, Serve}
+use Rattle.bike_words.specs.declared.task.Task.TheVariants.{Init, Check, Raise, Lines, Feed, Day, Import, Serve}
 use Rattle.bike_words.proofs.Entered.{Enters, fault_entered, subcommand_entered}
 use Rattle.bike_words.proofs.Numbers.{decimal_plain, read_back}
 use Rattle.bike_words.proofs.Plain.{ArePlain, Marked, fault_behind, level_marked, other, plain, rows_behind, rows_marked, text_of}
@@ -64,6 +64,7 @@ enters : (task : Task) → Enters program (name_of task) (shape_of (name_of task
 unfolding program clap_on_literals
 enters Init = record { bare = refl; stops = refl; finds = refl; named = refl; turns = refl; ends = refl }
 enters Check = record { bare = refl; stops = refl; finds = refl; named = refl; turns = refl; ends = refl }
+enters Raise = record { bare = refl; stops = refl; finds = refl; named = refl; turns = refl; ends = refl }
 enters Lines = record { bare = refl; stops = refl; finds = refl; named = refl; turns = refl; ends = refl }
 enters (Feed feed at) = record { bare = refl; stops = refl; finds = refl; named = refl; turns = refl; ends = refl }
 enters (Day table date zone) = record { bare = refl; stops = refl; finds = refl; named = refl; turns = refl; ends = refl }
@@ -102,6 +103,10 @@ behind_init file = record { free = refl; tells = refl; file_is = refl }
 behind_check : (file : Text) → Behind Check file (plain file ∷ [])
 unfolding program clap_on_literals task_of
 behind_check file = record { free = refl; tells = refl; file_is = refl }
+
+behind_raise : (file : Text) → Behind Raise file (plain file ∷ [])
+unfolding program clap_on_literals task_of
+behind_raise file = record { free = refl; tells = refl; file_is = refl }
 
 behind_lines : (file : Text) → Behind Lines file (plain file ∷ [])
 unfolding program clap_on_literals task_of
@@ -240,6 +245,7 @@ import_asks name (Some at) file within =
 pub word_asks : (task : Task) (file : Text) → starts_with_minus file ≡ false → IsWithin task → Ask (words_for task file) task file
 word_asks Init file no_minus within = asks_by Init file (plain file ∷ []) (no_minus, tt) (behind_init file)
 word_asks Check file no_minus within = asks_by Check file (plain file ∷ []) (no_minus, tt) (behind_check file)
+word_asks Raise file no_minus within = asks_by Raise file (plain file ∷ []) (no_minus, tt) (behind_raise file)
 word_asks Lines file no_minus within = asks_by Lines file (plain file ∷ []) (no_minus, tt) (behind_lines file)
 word_asks (Feed feed None) file no_minus within =
     asks_by (Feed feed None) file (plain file ∷ plain (feed_name feed) ∷ []) (no_minus, (feed_plain feed, tt))

@@ -26,6 +26,7 @@ IsGood _ = Unit
 good_within : (task : Task) → IsGood (want_of task) → IsWithin task
 good_within task.Init good = tt
 good_within task.Check good = tt
+good_within task.Raise good = tt
 good_within task.Lines good = tt
 good_within (task.Feed feed at) good = good
 good_within (task.Day table date zone) good = tt
@@ -102,10 +103,10 @@ task_within name found =
     let stations = import_lies (import_in found) (moment_in found) (named_lies (value_in found (codes "name"))) at in
     let serve = serve_lies (port_in found) (count_in found) (wanted_lies 0 65535 (value_in found (codes "port")))
     (given_lies 1 1000000000 (value_in found (codes "count"))) in
-    by_test (bytes_eq name (codes "init")) _ _ tt (by_test (bytes_eq name (codes "check")) _ _ tt (by_test (bytes_eq name (codes "lines")) _ _ tt
+    by_test (bytes_eq name (codes "init")) _ _ tt (by_test (bytes_eq name (codes "check")) _ _ tt (by_test (bytes_eq name (codes "raise")) _ _ tt (by_test (bytes_eq name (codes "lines")) _ _ tt
     (by_test (bytes_eq name (codes "feed")) (feed_task found) _ feed (by_test (bytes_eq name (codes "day")) (day_task found) _ day
     (by_test (bytes_eq name (codes "import")) (import_task found) _ stations
-    (by_test (bytes_eq name (codes "serve")) (serve_task found) None serve tt))))))
+    (by_test (bytes_eq name (codes "serve")) (serve_task found) None serve tt)))))))
 
 named_within : (name : Option Text) (found : Found) → IfSome (option_and_then (λ (name : Text). task_of name found) name) IsGood
 named_within None found = tt

@@ -20,6 +20,7 @@ use Rattle.bike_words.specs.declared.reading.WordsFault.TheVariants.{NoMemory}
 pub data Wanted : Type 0 where
   Init : Wanted
   Check : Wanted
+  Raise : Wanted
   Lines : Wanted
   Feed : AnyFeed → Option ℕ → Wanted
   Day : DayTable → Text → Text → Wanted
@@ -29,6 +30,7 @@ pub data Wanted : Type 0 where
 abbrev pub want_of : Task → Wanted
 want_of task.Init = Init
 want_of task.Check = Check
+want_of task.Raise = Raise
 want_of task.Lines = Lines
 want_of (task.Feed feed at) = Feed feed at
 want_of (task.Day table date zone) = Day table date.now zone.now
@@ -95,11 +97,12 @@ unfoldable pub task_of : Text → Found → Option Wanted
 task_of name found =
     if bytes_eq name (codes "init") then Some Init else (
     if bytes_eq name (codes "check") then Some Check else (
+    if bytes_eq name (codes "raise") then Some Raise else (
     if bytes_eq name (codes "lines") then Some Lines else (
     if bytes_eq name (codes "feed") then feed_task found else (
     if bytes_eq name (codes "day") then day_task found else (
     if bytes_eq name (codes "import") then import_task found else (
-    if bytes_eq name (codes "serve") then serve_task found else None))))))
+    if bytes_eq name (codes "serve") then serve_task found else None)))))))
 
 abbrev pub task_in : Found → Option Wanted
 task_in found = option_and_then (λ name. task_of name found) (name_in found)

@@ -9,11 +9,12 @@ use Rattle.bike_day_texts.specs.Tables.{table_name}
 use Rattle.bike_feed_texts.specs.Feeds.{feed_name}
 use Rattle.bike_words.specs.declared.task.TheConstants.{MOST_CONNECTIONS}
 use Rattle.bike_words.specs.declared.task.Task.{Task}
-use Rattle.bike_words.specs.declared.task.Task.TheVariants.{Init, Check, Lines, Feed, Day, Import, Serve}
+use Rattle.bike_words.specs.declared.task.Task.TheVariants.{Init, Check, Raise, Lines, Feed, Day, Import, Serve}
 
 abbrev pub name_of : Task → Text
 name_of Init = codes "init"
 name_of Check = codes "check"
+name_of Raise = codes "raise"
 name_of Lines = codes "lines"
 name_of (Feed feed at) = codes "feed"
 name_of (Day table date zone) = codes "day"
@@ -52,6 +53,7 @@ unfoldable pub program : App
 program = fold (λ (app word : App). with_subcommand app word.top) top
     (on_file (codes "init")
     ∷ on_file (codes "check")
+    ∷ on_file (codes "raise")
     ∷ on_file (codes "lines")
     ∷ named_word (codes "feed")
     ∷ day_word
@@ -72,6 +74,7 @@ words_in_order texts options = if list_any starts_with_minus texts then options 
 abbrev pub words_for : Task → Text → List Text
 words_for Init file = codes "init" ∷ file ∷ []
 words_for Check file = codes "check" ∷ file ∷ []
+words_for Raise file = codes "raise" ∷ file ∷ []
 words_for Lines file = codes "lines" ∷ file ∷ []
 words_for (Feed feed at) file = codes "feed" ∷ file ∷ feed_name feed ∷ option_words (codes "--at") at
 words_for (Day table date zone) file = codes "day" ∷ words_in_order (file ∷ table_name table ∷ date.now ∷ zone.now ∷ []) []

@@ -16,6 +16,7 @@ usage: bikeshare [WORD FILE ..]
 
   init FILE                        makes the tables where FILE has none, and prints ready
   check FILE                       checks that FILE is a sound database of this program, and prints sound
+  raise FILE                       makes a sound FILE of an earlier version one of the newest, and prints version with its number
   lines FILE                       answers the request lines of standard input on standard output
   feed FILE NAME [--at M]          writes the feed NAME on standard output
   day FILE WHICH DATE ZONE         writes the table WHICH of a local day on standard output, as CSV

@@ -97,6 +97,7 @@ pub(crate) fn program<'a>(alloc: Global) -> Result<Command<'a>, AllocError>
     let program = Command::new(alloc, "bikeshare").no_binary_name(true);
     let program = with_word(Ok(program), on_file(alloc, "init"));
     let program = with_word(program, on_file(alloc, "check"));
+    let program = with_word(program, on_file(alloc, "raise"));
     let program = with_word(program, on_file(alloc, "lines"));
     let program = with_word(program, named_word(alloc, "feed"));
     let program = with_word(program, day_word(alloc));

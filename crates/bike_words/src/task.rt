@@ -21,6 +21,8 @@ pub enum Task<'a> {
     Init,
     /// Checks that the database is sound.
     Check,
+    /// Makes a sound database of an earlier version one of the newest.
+    Raise,
     /// Answers the request lines of standard input.
     Lines,
     /// Writes a feed.
@@ -169,6 +171,7 @@ fn task_of<'a>(name: &str, matches: &ArgMatches<'a>) -> Option<Task<'a>>
     match name {
         "init" => Some(Task::Init),
         "check" => Some(Task::Check),
+        "raise" => Some(Task::Raise),
         "lines" => Some(Task::Lines),
         "feed" => feed_task(matches),
         "day" => day_task(matches),

@@ -40,7 +40,7 @@ fn lent(alloc: Global, texts: &[String]) -> Result<Vec<&str>, AllocError> {
 /// it, where the file was taken into service and the store didn't fail.
 fn is_settled(task: &Task<'_>, end: &Result<u64, Fault>) -> bool {
     match task {
-        Task::Init | Task::Lines | Task::Import { .. } => {}
+        Task::Init | Task::Raise | Task::Lines | Task::Import { .. } => {}
         Task::Check | Task::Feed { .. } | Task::Day { .. } | Task::Serve { .. } => return false,
     }
     match end {
@@ -52,7 +52,7 @@ fn is_settled(task: &Task<'_>, end: &Result<u64, Fault>) -> bool {
 /// Whether a person looks on while the task is done: it is long work, and standard error is a terminal.
 fn is_looked_on(rt: &HostRuntime, task: &Task<'_>) -> bool {
     match task {
-        Task::Check | Task::Import { .. } => rt.stderr().is_terminal(),
+        Task::Check | Task::Raise | Task::Import { .. } => rt.stderr().is_terminal(),
         Task::Init | Task::Lines | Task::Feed { .. } | Task::Day { .. } | Task::Serve { .. } => {
             false
         }
@@ -104,7 +104,10 @@ fn run_on<W: Write>(rt: &HostRuntime, words: &Words<'_>, out: &mut W) -> Result<
         let clock = clock_moment(rt);
         return run_words_in_memory(rt.alloc(), &words.task, clock, &mut rt.stdin(), out);
     }
-    make_file(rt, words.file);
+    // What isn't there isn't raised.
+    if !matches!(words.task, Task::Raise) {
+        make_file(rt, words.file);
+    }
     run_on_file(rt, words, Unknown, out)
 }
 
@@ -154,6 +157,7 @@ fn run(rt: &HostRuntime, words: &Words<'_>) -> Result<u64, Fault>
     match words.task {
         Task::Init => run_on(rt, words, &mut rt.stdout()),
         Task::Check => run_on(rt, words, &mut rt.stdout()),
+        Task::Raise => run_on(rt, words, &mut rt.stdout()),
         Task::Lines => run_on(rt, words, &mut rt.stdout()),
         Task::Import { .. } => run_on(rt, words, &mut rt.stdout()),
         Task::Feed { .. } => publish(rt, words),

@@ -1,8 +1,7 @@
 use Rattle.std.proofs.Common.{◌∙◌, ◌++◌, sym, ap}
 use Rattle.std.specs.Prelude.{codes}
-use Rattle.bike_schema.specs.Layouts.{name_of}
-use Rattle.bike_recognition.specs.Names.{table_named}
-use Rattle.bike_judges.specs.Judging.{key_row}
+use Rattle.bike_audit.specs.Audit.{row_name}
+use Rattle.bike_migrate.specs.Raising.{name_at}
 use Rattle.bike_console.specs.Ends.{detail_of}
 use Rattle.bike_console.specs.Pieces.{key_text}
 use Rattle.bike_console.proofs.PieceLemmas.{puts_as, puts_both, puts_three}
@@ -20,9 +19,9 @@ returns-in-Unsound g c =
     let i = c.put-going-in-Unsound.result in
     let j = c.put-going-in-Unsound-2.result in
     let k = c.put_key.result in
-    let name = name_of (table_named c.in-Unsound.bad.table) in
-    let key = key_text (key_row c.in-Unsound.bad.key) in
-    let table = puts_as b d c.as_bytes.result.now name h i (c.as_bytes.ensures.value ∙ c.name.ensures) c.put-going-in-Unsound.ensures in
+    let name = name_at c.in-Unsound.bad.earlier (row_name c.in-Unsound.bad.row).0 in
+    let key = key_text (row_name c.in-Unsound.bad.row).1 in
+    let table = puts_as b d c.as_bytes.result.now name h i (c.as_bytes.ensures.value ∙ c.table_name.ensures) c.put-going-in-Unsound.ensures in
     let front = puts_three a b d e (codes " ") name (codes " ") c.args.going h i j c.put-going.ensures table c.put-going-in-Unsound-2.ensures in
     puts_as a f (codes " " ++ name ++ codes " " ++ key) (detail_of c.args.fault.now) c.args.going k (ap detail_of (sym c.in-Unsound.is))
     (puts_both a e f (codes " " ++ name ++ codes " ") key c.args.going j k front c.put_key.ensures)

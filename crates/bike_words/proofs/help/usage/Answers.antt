@@ -1,10 +1,11 @@
 use Rattle.std.proofs.Common.{refl}
-use Rattle.bike_words.specs.declared.task.Task.TheVariants.{Init, Check, Lines, Feed, Day, Import, Serve}
+use Rattle.bike_words.specs.declared.task.Task.TheVariants.{Init, Check, Raise, Lines, Feed, Day, Import, Serve}
 use Rattle.bike_words.proofs.help.usage.Goals as goal
 
 pub returns-clause-words : goal.returns-clause-words
 returns-clause-words c Init = refl
 returns-clause-words c Check = refl
+returns-clause-words c Raise = refl
 returns-clause-words c Lines = refl
 returns-clause-words c (Feed feed at) = refl
 returns-clause-words c (Day table date zone) = refl

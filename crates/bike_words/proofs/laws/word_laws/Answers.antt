@@ -14,7 +14,7 @@ use Rattle.bike_words.specs.Program.{name_of, program}
 use Rattle.bike_words.specs.Asked.{Wanted, task_of}
 use Rattle.bike_words.specs.Asked as want
 use Rattle.bike_words.specs.declared.task.Task.{Task}
-use Rattle.bike_words.specs.declared.task.Task.TheVariants.{Init, Check, Lines, Feed, Day, Import, Serve}
+use Rattle.bike_words.specs.declared.task.Task.TheVariants.{Init, Check, Raise, Lines, Feed, Day, Import, Serve}
 use Rattle.bike_words.proofs.Asks.{feed_by, import_by, serve_by, word_asks}
 use Rattle.bike_words.proofs.Bounds.{found_within}
 use Rattle.bike_words.proofs.Numbers.{no_number, number_read}
@@ -25,6 +25,7 @@ bare : (task : Task) → is_empty (fault_of program (name_of task ∷ [])) ≡ f
 unfolding program clap_on_literals
 bare Init = refl
 bare Check = refl
+bare Raise = refl
 bare Lines = refl
 bare (Feed feed at) = refl
 bare (Day table date zone) = refl

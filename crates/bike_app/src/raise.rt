@@ -1,0 +1,46 @@
+//! Raising a database to the newest version.
+
+ghost use Rattle.std.specs.Prelude.{◌≡◌, ◌≤◌, false, IsTrue};
+ghost use Rattle.sqlite.specs.State.{HasCleanDisk};
+ghost use Rattle.sqlite.specs.Held.{state};
+ghost use Rattle.sqlite_trees.specs.View.{doubt};
+ghost use Rattle.bike_operator.specs.Operator.{Operator};
+ghost use Rattle.bike_schema.specs.Stands.{AllLeft};
+ghost use Rattle.bike_earlier.specs.Stores.{TreesStandForAt};
+ghost use Rattle.bike_migrate.specs.Raising.{TreesStandSince};
+ghost use Rattle.bike_app.specs.Raises.{TellsRaised};
+
+use crate::words::write_line;
+use bike_adoption::Watch;
+use bike_console::Fault;
+use bike_migrate::raise_watched;
+use sqlite::{Alter, Connection};
+use std::alloc::Global;
+use std::io::{Read, Write};
+
+/// Raises the database to the newest version, as `raise` of `bike_migrate` does, and tells that by the line `version` with its number.
+/// Nothing is read. `watch` is told how far the audit is.
+pub fn raise_up<S: Alter, R: Read, W: Write, P: Watch>(
+    alloc: Global,
+    conn: Connection<S>,
+    reader: &mut R,
+    writer: &mut W,
+    watch: &mut P,
+) -> (Connection<S>, Result<u64, Fault>)
+    requires { conn.in_transaction ≡ false }
+    ensures clean { doubt (state S.Store conn).is_clean ≤ doubt (state S.Store result.0).is_clean }
+    ensures told { HasCleanDisk (state S.Store result.0)
+        → TellsRaised S.Store (R.remaining reader.old) (R.remaining reader.new)
+        (W.contents writer.old) (W.contents writer.new) conn result.0 result.1 }
+    ensures left { HasCleanDisk (state S.Store result.0) → (v : _) (s : Operator)
+        → TreesStandForAt v s (state S.Store conn).now.trees → IsTrue (state S.Store conn).is_open
+        → AllLeft (state S.Store result.0) (TreesStandSince v s) }
+{
+    match raise_watched(alloc, conn, watch) {
+        Ok(conn) => (conn, write_line(writer, "version 3\n")),
+        Err(fault) => {
+            let (conn, told) = Fault::taken_from_raise(fault);
+            (conn, Err(told))
+        }
+    }
+}

@@ -1,0 +1,2 @@
+mod StationsTexts
+mod StandsLemmas

@@ -1,0 +1,3 @@
+pub mod Earlier
+pub mod Stores
+pub mod Found

@@ -1,0 +1,165 @@
+-- What was found of a database, and what came of it.
+use Rattle.std.proofs.Common.{◌≡◌, ◌==◌, inl, inr, ℕ, pos, Bool, true, false, List, [], ◌∷◌, Option, Some, None, Result, Ok, Err, IfOk, OnOk, IsErr, IsTrue, Ordering, Less, Equal, Greater, if◌then◌else◌, refl, sym, ap, subst, ◌∙◌, arith}
+use Rattle.std.specs.Prelude.{option_map}
+use Rattle.std.specs.Ordering.{nat_cmp}
+use Rattle.std.proofs.lemmas.Bool.{eqb-true}
+use Rattle.std.proofs.lemmas.Result.{IfOk-weaker}
+use Rattle.sqlite_trees.specs.Tree.{Trees}
+use Rattle.sqlite_trees.specs.declared.store.Store.{Ghosts}
+use Rattle.sqlite.specs.Effect.{Database}
+use Rattle.sqlite.specs.Held.{Held, state}
+use Rattle.sqlite.specs.State.{HasCleanDisk, IsUnchanged, Shows, Survives}
+use Rattle.sqlite.proofs.StateLemmas.{survives_weaker, survives_then}
+use Rattle.bike_rows.proofs.ChainLaws.{quiet_survives}
+use Rattle.bike_book.specs.declared.version.TheConstants.{NEWEST}
+use Rattle.bike_schema.specs.declared.fault.StatementFault.{StatementFault}
+use Rattle.bike_schema.specs.Tables.{HasTables, HasNone}
+use Rattle.bike_recognition.specs.Recognition.{ReadsAny, meta_version}
+use Rattle.bike_recognition.specs.declared.version.MetaVersion.{MetaVersion}
+use Rattle.bike_recognition.specs.declared.version.MetaVersion.TheVariants.{Missing, Version, NotOurs}
+use Rattle.bike_audit.specs.Audit.{row_name, IsVerdictOn}
+use Rattle.bike_audit.specs.declared.tables.BadRow.{BadRow}
+use Rattle.bike_earlier.specs.declared.earlier.Earlier.{Earlier}
+use Rattle.bike_earlier.specs.declared.earlier.Earlier.TheVariants.{First, Second}
+use Rattle.bike_earlier.specs.declared.found.Found.{Found}
+use Rattle.bike_earlier.specs.declared.found.Found.TheVariants as found
+use Rattle.bike_earlier.specs.Earlier.{number_of, IsAt}
+use Rattle.bike_earlier.specs.Found.{earlier_of, IsNewest, IsOfEarlier, IsByNumber, IsByVersion, IsFoundAs}
+use Rattle.bike_migrate.specs.Raised.{IsEarlier, Raises, tables_raised}
+use Rattle.bike_migrate.specs.Raising.{MayCommit, IsAsBefore, BecomesAt, RaisesInPlace, IsOutcome, MayCommitAny, ComesTo, outcome_of}
+use Rattle.bike_migrate.specs.Verdicts.{AllGoodBefore, IsVerdictBefore}
+use Rattle.bike_migrate.specs.declared.raising.Outcome.{Outcome}
+
+-- ---- found to be of an earlier version
+
+number_is : (v : ℕ) (e : Earlier) → earlier_of v ≡ Some e → v ≡ number_of e
+number_is v e = by (v == 1) refl
+  where
+    second : (b : Bool) → (v == 2) ≡ b → (if b then Some Second else None) ≡ Some e → v ≡ number_of e
+    second true is same = let it : Second ≡ e = cc in eqb-true v 2 is ∙ ap number_of it
+    second false is same = absurd cc
+
+    by : (b : Bool) → (v == 1) ≡ b → (if b then Some First else (if v == 2 then Some Second else None)) ≡ Some e → v ≡ number_of e
+    by true is same = let it : First ≡ e = cc in eqb-true v 1 is ∙ ap number_of it
+    by false is same = second (v == 2) refl same
+
+module _ (db : Database) (e : Earlier) where
+  of_earlier : (v : ℕ) → meta_version db ≡ Version v → (o : Option Earlier) → earlier_of v ≡ o → IsOfEarlier db o (found.Of e) → IsEarlier e db
+  of_earlier v told None is other = absurd cc
+  of_earlier v told (Some f) is (inl it) =
+      let same : f ≡ e = let both = it.1 in cc in
+      record { is_at = subst (λ x. IsAt x db) same it.0; version = told ∙ ap Version (number_is v f is ∙ ap number_of same) }
+  of_earlier v told (Some f) is (inr it) = absurd (let other = it.1 in cc)
+
+  newest_never : IsNewest db (found.Of e) → ⊥
+  newest_never (inl it) = let other = it.1 in cc
+  newest_never (inr it) = let other = it.1 in cc
+
+  by_number : (v : ℕ) → meta_version db ≡ Version v → (o : Ordering) → IsByNumber db v o (found.Of e) → IsEarlier e db
+  by_number v told Less is = of_earlier v told (earlier_of v) refl is
+  by_number v told Equal is = absurd (newest_never is)
+  by_number v told Greater is = absurd cc
+
+  by_version : (m : MetaVersion) → meta_version db ≡ m → IsByVersion db m (found.Of e) → IsEarlier e db
+  by_version NotOurs told is = absurd cc
+  by_version Missing told is = absurd (newest_never is)
+  by_version (Version v) told is = by_number v told (nat_cmp v NEWEST) is
+
+  pub found_earlier : IsFoundAs db (found.Of e) → IsEarlier e db
+  found_earlier (inl none) = absurd (let other = none.1 in cc)
+  found_earlier (inr (some, inl other)) = absurd (let never = other.1 in cc)
+  found_earlier (inr (some, inr (stands, is))) = by_version (meta_version db) refl is
+
+-- ---- found to be of the newest version, or to have none of the tables
+
+module _ (db : Database) where
+  has_newest : IsNewest db found.Newest → HasTables db
+  has_newest (inl it) = it.0
+  has_newest (inr it) = absurd (let other = it.1 in cc)
+
+  earlier_never : (o : Option Earlier) (f : Found) → ((e : Earlier) → f ≡ found.Of e → ⊥) → (f ≡ found.Foreign → ⊥) → IsOfEarlier db o f → ⊥
+  earlier_never None f other foreign is = foreign is
+  earlier_never (Some e) f other foreign (inl it) = other e it.1
+  earlier_never (Some e) f other foreign (inr it) = foreign it.1
+
+  newest_by : (v : ℕ) (o : Ordering) → IsByNumber db v o found.Newest → HasTables db
+  newest_by v Less is = absurd (earlier_never (earlier_of v) found.Newest (λ e same. cc) (λ same. cc) is)
+  newest_by v Equal is = has_newest is
+  newest_by v Greater is = absurd cc
+
+  newest_of : (m : MetaVersion) → IsByVersion db m found.Newest → HasTables db
+  newest_of NotOurs is = absurd cc
+  newest_of Missing is = has_newest is
+  newest_of (Version v) is = newest_by v (nat_cmp v NEWEST) is
+
+  pub found_has : IsFoundAs db found.Newest → HasTables db
+  found_has (inl none) = absurd (let other = none.1 in cc)
+  found_has (inr (some, inl other)) = absurd (let never = other.1 in cc)
+  found_has (inr (some, inr (stands, is))) = newest_of (meta_version db) is
+
+  never_newest : IsNewest db found.Empty → ⊥
+  never_newest (inl it) = let other = it.1 in cc
+  never_newest (inr it) = let other = it.1 in cc
+
+  never_by : (v : ℕ) (o : Ordering) → IsByNumber db v o found.Empty → ⊥
+  never_by v Less is = earlier_never (earlier_of v) found.Empty (λ e same. cc) (λ same. cc) is
+  never_by v Equal is = never_newest is
+  never_by v Greater is = cc
+
+  never_of : (m : MetaVersion) → IsByVersion db m found.Empty → ⊥
+  never_of NotOurs is = cc
+  never_of Missing is = never_newest is
+  never_of (Version v) is = never_by v (nat_cmp v NEWEST) is
+
+  pub found_none : IsFoundAs db found.Empty → HasNone db.schema
+  found_none (inl none) = none.0
+  found_none (inr (some, inl other)) = absurd (let never = other.1 in cc)
+  found_none (inr (some, inr (stands, is))) = absurd (never_of (meta_version db) is)
+
+-- ---- what came of it, where it was raised
+
+module _ {S : Type 0} (g : Ghosts S) (old : Held S) where
+  module _ (mid : Held S) (e : Earlier) {E : Type 0} (read : ReadsAny {E = E} g old mid (Ok (found.Of e)) IsFoundAs) (new : Held S) {told : Result (Option BadRow) StatementFault} (it : RaisesInPlace g e mid new told) where
+    early : HasCleanDisk (state g new) → HasCleanDisk (state g mid)
+    early clean = omega (arith, clean, it.survives.clean)
+
+    -- what was found, of what was left
+    found_there : HasCleanDisk (state g new) → IsFoundAs (state g old).now (found.Of e)
+    found_there clean = read.found (early clean) tt
+
+    same_there : HasCleanDisk (state g new) → IsUnchanged (state g old) (state g mid)
+    same_there clean = read.same (early clean) tt
+
+    was_there : HasCleanDisk (state g new) → IsEarlier e (state g mid).now
+    was_there clean = subst (IsEarlier e) (sym (same_there clean).0.now_is) (found_earlier (state g old).now e (found_there clean))
+
+    comes_survives : Survives (state g old) (state g new) (MayCommitAny (state g old).now)
+    comes_survives = survives_then (state g old) (state g mid) (state g new) _ _ _ (λ clean db none. absurd none)
+        (λ clean db may. (e, found_there clean, subst (λ d. MayCommit e d db) (same_there clean).0.now_is (may (was_there clean)))) (quiet_survives read.quiet tt) it.survives
+
+    raised_outcome : (bad : Option BadRow) → HasCleanDisk (state g new) → IsVerdictBefore (tables_raised e (state g mid).now) (option_map row_name bad) × BecomesAt g e mid new bad → IsOutcome g old new (outcome_of (Some e) bad)
+    raised_outcome None clean at =
+        let same = same_there clean in
+        inr (record {
+          earlier = e;
+          found = found_there clean;
+          good = subst (λ d. AllGoodBefore (tables_raised e d)) same.0.now_is at.0;
+          shown = record { was_open = same.0.was_open; is_open = at.1.0.is_open; now_is = refl; committed_is = at.1.0.committed_is; mode = at.1.0.mode };
+          raises = subst (λ d. Raises e d (state g new).now) same.0.now_is at.1.1;
+        })
+    raised_outcome (Some row) clean at =
+        let same = same_there clean in (
+          (found_there clean, subst (λ d. IsVerdictBefore (tables_raised e d) (Some (row_name row))) same.0.now_is at.0),
+          record { was_open = same.0.was_open; is_open = at.1.is_open; now_is = at.1.now_is ∙ same.0.now_is; committed_is = at.1.committed_is ∙ same.0.committed_is; mode = at.1.mode },
+        )
+
+    pub comes_failed : {result : Result Outcome StatementFault} → IsErr result → ComesTo g old new result
+    comes_failed {result = Ok o} is = absurd (let never = is in cc)
+    comes_failed {result = Err f} is = record { comes = λ clean. tt; outside = tt; survives = comes_survives }
+
+    pub comes_raised : (bad : Option BadRow) → told ≡ Ok bad → ComesTo g old new (Ok (outcome_of (Some e) bad))
+    comes_raised bad is = record {
+      comes = λ clean. raised_outcome bad clean (subst (λ r. IfOk r (λ b. IsVerdictBefore (tables_raised e (state g mid).now) (option_map row_name b) × BecomesAt g e mid new b)) is (it.ends clean (was_there clean)));
+      outside = subst (λ r. OnOk r (new.in_transaction ≡ false)) is it.outside;
+      survives = comes_survives;
+    }

@@ -1,0 +1,114 @@
+-- The tables at an earlier version are an operator's where, raised, they are his and no station has too many docks.
+use Rattle.std.proofs.Common.{◌≡◌, ◌≤◌, ℕ, pos, Bool, true, false, List, [], ◌∷◌, map, Option, Some, None, refl, sym, ap, subst, ◌∙◌}
+use Rattle.std.specs.Prelude.{take, option_map, IfSome}
+use Rattle.std.specs.FinMap as fin
+use Rattle.std.proofs.lemmas.Bool.{leb-true, le-leb}
+use Rattle.sqlite_value.specs.declared.value.Value.TheVariants.{Text}
+use Rattle.sqlite_value.specs.Order.{Row}
+use Rattle.sqlite_rules.specs.Lists.{Has}
+use Rattle.sqlite.specs.Effect.{Database}
+use Rattle.bike_rows.specs.View.{row_with}
+use Rattle.bike_rows.proofs.ListLemmas.{map_has}
+use Rattle.bike_ledger.specs.Ledger.{cash_of, revenue_of}
+use Rattle.bike_operator.specs.Operator.{Operator, Station}
+use Rattle.bike_operator.specs.Counts.{docks_available, docks_broken}
+use Rattle.bike_book.specs.declared.version.TheConstants.{NEWEST}
+use Rattle.bike_book.specs.Tables.{TableName, Tables, rows_in, Meta, System, Plans, Segments, Types, Regions, Stations, Docks, Bikes, Trucks, Riders, Rentals, Orders, Entries, Kept, Counts, MoreNames, with_rows}
+use Rattle.bike_book.specs.Rows.{meta_row, station_row}
+use Rattle.bike_book.specs.Stored.{Listed, IsListing, tables_for, stored_station}
+use Rattle.bike_book.specs.Writes.{tables_after}
+use Rattle.bike_book.proofs.FoundKeys.{found_by_key}
+use Rattle.bike_book.proofs.Keys.{texts}
+use Rattle.bike_book.proofs.MapRows.{has_get}
+use Rattle.bike_schema.specs.Stands.{Stores}
+use Rattle.bike_schema.specs.Tables.{tables_of}
+use Rattle.bike_readings.specs.ReadOff.{operator_of}
+use Rattle.bike_readings.specs.Rules.{AllGood, row_under, IsVerdict}
+use Rattle.bike_readings.proofs.Places.{under_has}
+use Rattle.bike_readings.proofs.RulesLaws.{stored_good, stored_read_off}
+use Rattle.bike_recognition.specs.Recognition.{meta_version}
+use Rattle.bike_recognition.specs.declared.version.MetaVersion.TheVariants.{Version}
+use Rattle.bike_earlier.specs.declared.earlier.Earlier.{Earlier}
+use Rattle.bike_earlier.specs.declared.earlier.Earlier.TheVariants.{First, Second}
+use Rattle.bike_earlier.specs.declared.earlier.TheConstants.{MOST_DOCKS_BEFORE}
+use Rattle.bike_earlier.specs.Earlier.{number_of, tables_at}
+use Rattle.bike_earlier.specs.Stores.{tables_for_at, HasFewDocks, StoresAt}
+use Rattle.bike_migrate.specs.Raised.{IsEarlier, version_write, tables_raised, IsRaised}
+use Rattle.bike_migrate.specs.Stations.{has_few}
+use Rattle.bike_migrate.specs.Verdicts.{KeepsBound, IsGoodBefore, AllGoodBefore, IsFirstBadBefore, IsVerdictBefore}
+use Rattle.bike_migrate.proofs.VersionLemmas.{meta_raised, meta_lowered}
+
+-- ---- the bound of docks
+
+few_docks : (docks : ℕ) → docks ≤ MOST_DOCKS_BEFORE → (id : List ℕ) (x : Station) (s : Operator) → x.row.docks ≡ docks → has_few (stored_station s (id, x)) ≡ true
+few_docks docks few id x s is = le-leb x.row.docks MOST_DOCKS_BEFORE (subst (λ n. n ≤ MOST_DOCKS_BEFORE) (sym is) few)
+
+module _ (s : Operator) (m : Listed) where
+  -- his rows keep the bound
+  pub bound_kept : HasFewDocks s → (name : TableName) (key : Row) → KeepsBound (tables_for s m) name key
+  bound_kept few Stations key = by (row_under (tables_for s m) Stations key) refl
+    where
+      by : (o : Option Row) → row_under (tables_for s m) Stations key ≡ o → IfSome o (λ row. has_few row ≡ true)
+      by None found = tt
+      by (Some row) found =
+          let there = under_has 1 key (map (stored_station s) (fin.entries s.stations)) row found in
+          let it = map_has (stored_station s) (fin.entries s.stations) row there.0 in
+          let got = has_get texts.total s.stations it.0 it.1 in
+          subst (λ r. has_few r ≡ true) (sym it.2) (few_docks it.0.1.row.docks (few it.0.0 it.0.1 got) it.0.0 it.0.1 s refl)
+  bound_kept few name key = tt
+
+  -- and where they do, he has few docks
+  module _ (found : (id : List ℕ) → row_with 1 (Text id ∷ []) (tables_for s m).stations ≡ option_map (λ x. station_row id x (pos (docks_available s id x.row.docks)) (docks_broken s id x.row.docks)) (fin.get s.stations id)) where
+    pub few_of : ((key : Row) → KeepsBound (tables_for s m) Stations key) → HasFewDocks s
+    few_of bound id x there =
+        let row = station_row id x (pos (docks_available s id x.row.docks)) (docks_broken s id x.row.docks) in
+        let is : row_with 1 (Text id ∷ []) (tables_for s m).stations ≡ Some row = found id ∙ ap (option_map (λ y. station_row id y (pos (docks_available s id y.row.docks)) (docks_broken s id y.row.docks))) there in
+        let few = subst (λ o. IfSome o (λ r. has_few r ≡ true)) is (bound (Text id ∷ [])) in
+        leb-true x.row.docks MOST_DOCKS_BEFORE few
+
+-- ---- the tables
+
+-- raised, they are the tables of the operator
+pub raised_for : (e : Earlier) (db : Database) (s : Operator) (m : Listed) → tables_at e db ≡ tables_for_at e s m → tables_raised e db ≡ tables_for s m
+raised_for e db s m are =
+    ap (tables_after version_write) are
+    ∙ ap (λ rows. with_rows Meta rows (tables_for s m)) (meta_raised (number_of e) s.now (cash_of s.entries) (revenue_of s.entries))
+
+-- and back
+lowered_meta : (e : Earlier) (db : Database) (s : Operator) (m : Listed) → IsEarlier e db → tables_raised e db ≡ tables_for s m → (tables_at e db).meta ≡ meta_row (number_of e) s.now (cash_of s.entries) (revenue_of s.entries) ∷ []
+lowered_meta First db s m it are = meta_lowered 1 s.now (cash_of s.entries) (revenue_of s.entries) (tables_at First db).meta it.version (ap (λ (t : Tables). t.meta) are)
+lowered_meta Second db s m it are = meta_lowered 2 s.now (cash_of s.entries) (revenue_of s.entries) (tables_at Second db).meta it.version (ap (λ (t : Tables). t.meta) are)
+
+pub lowered_for : (e : Earlier) (db : Database) (s : Operator) (m : Listed) → IsEarlier e db → tables_raised e db ≡ tables_for s m → tables_at e db ≡ tables_for_at e s m
+lowered_for e db s m it are = ap (with_rows Meta (tables_at e db).meta) are ∙ ap (λ rows. with_rows Meta rows (tables_for s m)) (lowered_meta e db s m it are)
+
+-- ---- the operator
+
+module _ (e : Earlier) (old new : Database) (raised : IsRaised e old new) where
+  -- for whom the database stood, it stands
+  pub stores_raised : (s : Operator) → StoresAt e old s → Stores new s
+  stores_raised s it = record { has = raised.has; sound = it.sound; listed = it.listed; listing = it.listing; tables = raised.tables ∙ raised_for e old s it.listed it.tables }
+
+  -- for whom it stands, it stood
+  pub stored_before : IsEarlier e old → (s : Operator) → Stores new s → ((key : Row) → KeepsBound (tables_raised e old) Stations key) → StoresAt e old s
+  stored_before was s it bound =
+      let are : tables_raised e old ≡ tables_for s it.listed = sym raised.tables ∙ it.tables in
+      record {
+        is_at = was.is_at;
+        sound = it.sound;
+        few_docks = few_of s it.listed (λ id. (found_by_key s it.listed it.sound it.listing).stations id) (λ key. subst (λ t. KeepsBound t Stations key) are (bound key));
+        listed = it.listed;
+        listing = it.listing;
+        tables = lowered_for e old s it.listed was are;
+      }
+
+  -- where all keys are good, it is the operator's that is read off
+  pub good_stores : IsEarlier e old → AllGoodBefore (tables_raised e old) → (s : Operator) × StoresAt e old s × Stores new s
+  good_stores was good =
+      let all : IsVerdict (tables_of new) None = subst AllGood (sym raised.tables) (λ name key. (good name key).good) in
+      let stores = stored_good new raised.has all in
+      (operator_of (tables_of new), stored_before was (operator_of (tables_of new)) stores (λ key. (good Stations key).few), stores)
+
+-- where it stands for an operator, all keys are good
+pub stored_all_good : (e : Earlier) (old : Database) (s : Operator) → StoresAt e old s → (AllGood (tables_raised e old)) → AllGoodBefore (tables_raised e old)
+stored_all_good e old s it good name key = record { good = good name key; few = subst (λ t. KeepsBound t name key) (sym (raised_for e old s it.listed it.tables)) (bound_kept s it.listed it.few_docks name key) }

@@ -1,0 +1,222 @@
+-- What the statements do to a database.
+use Rattle.std.proofs.Common.{◌≡◌, ◌&&◌, ℕ, Bool, true, false, List, [], ◌∷◌, map, codes, Some, Ok, Err, Result, refl, sym, ap, ap₂, subst, ◌∙◌, inl, inr}
+use Rattle.std.specs.List.{list_all}
+use Rattle.std.proofs.lemmas.Bool.{and_parts}
+use Rattle.sqlite_value.specs.declared.value.Value.{Value}
+use Rattle.sqlite_value.specs.declared.value.Value.TheVariants.{Null, Int, Real, Text, Blob}
+use Rattle.sqlite_value.specs.Order.{Row, column}
+use Rattle.sqlite_tied.specs.Compute.{everything}
+use Rattle.sqlite_sql.specs.Query.{Query}
+use Rattle.sqlite_sql.specs.Term.{col}
+use Rattle.sqlite_schema.specs.declared.schema.Column.{Column}
+use Rattle.sqlite_schema.specs.declared.schema.Kind.{Kind}
+use Rattle.sqlite_schema.specs.declared.schema.Kind.TheVariants.{Integer, Text as Words}
+use Rattle.sqlite_schema.specs.declared.schema.Schema.{Schema}
+use Rattle.sqlite_schema.specs.Names.{table_named}
+use Rattle.sqlite_schema.specs.declared.command.Command.{Command}
+use Rattle.sqlite_schema.specs.declared.command.Source.TheVariants.{Values}
+use Rattle.sqlite_resolve.specs.Compile.{first}
+use Rattle.sqlite.specs.Calls.{IsWrite}
+use Rattle.sqlite.specs.Effect.{Database, IsDatabase}
+use Rattle.sqlite.specs.Listing.{understood}
+use Rattle.sqlite.specs.State.{State, Executes}
+use Rattle.sqlite.specs.Values.{bound_value}
+use Rattle.sqlite.proofs.Callers.{command_of}
+use Rattle.bike_names.specs.Inserts.{IsInsert}
+use Rattle.bike_names.proofs.InsertLaws.{insert_is}
+use Rattle.bike_inside.specs.Inside.{IsWriteIn}
+use Rattle.bike_drops.specs.Drops.{IsDrop}
+use Rattle.bike_drops.proofs.TextLemmas.{drop_means}
+use Rattle.bike_drops.proofs.DropLaw.{table_dropped}
+use Rattle.bike_rows.specs.Layout.{table_of}
+use Rattle.bike_rows.specs.Queries.{table_query, key_tests, by_columns}
+use Rattle.bike_rows.specs.Stands.{Stands, Indexes}
+use Rattle.bike_rows.proofs.CallLaws.{Does}
+use Rattle.bike_rows.proofs.CastLemmas.{suits, suit_all}
+use Rattle.bike_rows.proofs.IndexLaw.{IsOnlyIndex}
+use Rattle.bike_rows.proofs.SetLaw.{some_terms}
+use Rattle.bike_rows.proofs.TextLemmas.{IsUpdate, update_means, IsSelect}
+use Rattle.bike_rows.proofs.SelectLaws.{every_column, ordered_rows}
+use Rattle.bike_rows.proofs.KeyLemmas.{IsKeyAt, columns_key_at}
+use Rattle.bike_rows.proofs.WriteLaws.{row_put, row_updated, row_terms, width}
+use Rattle.bike_book.specs.declared.version.TheConstants.{NEWEST}
+use Rattle.bike_book.specs.Tables.{TableName, Meta, Stations, keys_of}
+use Rattle.bike_book.specs.Rows.{number_value}
+use Rattle.bike_book.specs.Writes.{Add}
+use Rattle.bike_schema.specs.Calls.{WasFree}
+use Rattle.bike_schema.specs.Layouts.{layout_of, name_of}
+use Rattle.bike_schema.specs.Makes.{Puts}
+use Rattle.bike_schema.specs.Tables.{IsOurs, tables_of, is_parent}
+use Rattle.bike_schema.proofs.KeyLemmas.{table_key}
+use Rattle.bike_schema.proofs.MakeFacts.{Declares, text_of, declared}
+use Rattle.bike_schema.proofs.MakeTexts.{IsOnlyCreate, understood_as}
+use Rattle.bike_schema.proofs.MakesLemmas.{adds_row, sets_columns}
+use Rattle.bike_earlier.specs.declared.earlier.Earlier.{Earlier}
+use Rattle.bike_earlier.specs.declared.earlier.Earlier.TheVariants.{First, Second}
+use Rattle.bike_earlier.specs.Earlier.{stations_name, stations_layout}
+use Rattle.bike_migrate.specs.Raised.{MakesTable, DropsStations, version_write}
+use Rattle.bike_migrate.specs.Stations.{station_row, is_text, is_whole, IsStationRow, AsksRows}
+use Rattle.bike_migrate.proofs.MakeLemmas.{adds}
+use Rattle.bike_migrate.proofs.GrowthLemmas.{still_unnamed, made_stands, made_empty, all_stay}
+use Rattle.bike_migrate.proofs.IndexLemmas as index
+
+-- ---- texts that write
+
+means_writes : (s : Schema) (text : List ℕ) (k : Command) → command_of (understood s text) ≡ k → IsWrite k → IsWriteIn s text
+means_writes s text k means write c is = subst IsWrite (sym means ∙ ap command_of is) write
+
+-- ---- CREATE
+
+pub create_writes : (t : TableName) (s : Schema) → IsWriteIn s (text_of t)
+create_writes t s c is = subst IsWrite (sym (understood_as (text_of t) (declared t).only s c is).makes) tt
+
+pub creates : (t : TableName) (old new : State) → is_parent old.now.schema (name_of t) ≡ false → (count : ℕ) → Executes (text_of t) [] old new (Ok count) → MakesTable t old.now new.now
+creates t old new unnamed count ran =
+    let it = adds (text_of t) (layout_of t) (declared t) old new count ran in
+    record {
+      sound = it.sound;
+      stands = made_stands (layout_of t) old.now new.now it (keys_of t) unnamed;
+      no_rows = made_empty (layout_of t) old.now new.now it (keys_of t) unnamed;
+      unnamed = still_unnamed (layout_of t) old.now new.now it;
+      stays = all_stay (layout_of t) old.now new.now it;
+    }
+
+abbrev pub index_text : List ℕ
+index_text = codes "CREATE INDEX more_names_by_language ON more_names (language)"
+
+pub indexes_only : IsOnlyIndex (first index_text)
+unfolding everything
+indexes_only = (refl, refl)
+
+pub index_writes : (s : Schema) → IsWriteIn s index_text
+index_writes s c is = subst IsWrite (sym (index.understood_as index_text indexes_only s c is).makes.1) tt
+
+-- ---- UPDATE of the version
+
+abbrev version_text : List ℕ
+version_text = codes "UPDATE meta SET version = ?2 WHERE one = ?1"
+
+abbrev version_query : Query
+version_query = table_query 0 (key_tests 0 (0 ∷ [])) [] (col 1 0 ∷ col 1 0 ∷ some_terms (layout_of Meta) ((2, 1) ∷ []))
+
+updates_version : IsUpdate version_query (layout_of Meta) version_text
+unfolding everything
+updates_version = (λ tree. (refl, refl, refl), refl)
+
+pub version_writes : (db : Database) → IsOurs db → IsWriteIn db.schema version_text
+version_writes db ours = let it = ours.has Meta in means_writes db.schema version_text _ (update_means version_query (layout_of Meta) version_text updates_version db.schema it.at it.tree it.has).0 tt
+
+pub sets_version : Does IsOurs (λ db. WasFree version_write (tables_of db)) (Puts (version_write ∷ [])) version_text (number_value 1 ∷ number_value NEWEST ∷ [])
+unfolding everything
+sets_version = sets_columns Meta _ _ (row_updated (table_key Meta) 0 ((2, 1) ∷ []) _ (λ tree. (refl, refl, refl), refl) refl refl refl (λ r. refl) (λ r. refl))
+
+-- ---- INSERT of a station
+
+abbrev station_text : List ℕ
+station_text = codes "INSERT INTO stations_3 VALUES (?1, ?2, ?3, ?4, ?5, ?6, ?7, ?8, ?9, ?10, ?11, ?12)"
+
+inserts_station : (s : Schema) (tree : ℕ) → IsInsert s (table_of (layout_of Stations) tree) (first station_text) (Values (row_terms (layout_of Stations)) (width (layout_of Stations)))
+unfolding everything
+inserts_station s tree = (refl, refl, refl, λ base. refl)
+
+pub station_writes : (db : Database) → IsOurs db → IsWriteIn db.schema station_text
+station_writes db ours =
+    let it = ours.has Stations in
+    means_writes db.schema station_text _ (insert_is db.schema it.at (table_of (layout_of Stations) it.tree) it.has station_text (Values (row_terms (layout_of Stations)) (width (layout_of Stations))) (inserts_station db.schema it.tree)).0 tt
+
+-- what it may hold, a column stores as it is
+text_suits : (v : Value) → is_text v ≡ true → suits Words v ≡ true
+text_suits Null h = refl
+text_suits (Text t) h = refl
+text_suits v h = absurd (let e = h in cc)
+
+whole_suits : (v : Value) → is_whole v ≡ true → suits Integer v ≡ true
+whole_suits Null h = refl
+whole_suits (Int n) h = refl
+whole_suits v h = absurd (let e = h in cc)
+
+station_suits : (row : Row) → IsStationRow row → suit_all (layout_of Stations).columns (station_row row) ≡ true
+station_suits row it =
+    let text = λ (at : ℕ). is_text (column row at) in
+    let whole = λ (at : ℕ). is_whole (column row at) in
+    let t0 = and_parts (text 0) (list_all text (1 ∷ 11 ∷ [])) it.texts in
+    let t1 = and_parts (text 1) (list_all text (11 ∷ [])) t0.1 in
+    let t11 = and_parts (text 11) true t1.1 in
+    let w2 = and_parts (whole 2) (list_all whole (3 ∷ 4 ∷ 5 ∷ 6 ∷ 7 ∷ 8 ∷ 9 ∷ 10 ∷ [])) it.wholes in
+    let w3 = and_parts (whole 3) (list_all whole (4 ∷ 5 ∷ 6 ∷ 7 ∷ 8 ∷ 9 ∷ 10 ∷ [])) w2.1 in
+    let w4 = and_parts (whole 4) (list_all whole (5 ∷ 6 ∷ 7 ∷ 8 ∷ 9 ∷ 10 ∷ [])) w3.1 in
+    let w5 = and_parts (whole 5) (list_all whole (6 ∷ 7 ∷ 8 ∷ 9 ∷ 10 ∷ [])) w4.1 in
+    let w6 = and_parts (whole 6) (list_all whole (7 ∷ 8 ∷ 9 ∷ 10 ∷ [])) w5.1 in
+    let w7 = and_parts (whole 7) (list_all whole (8 ∷ 9 ∷ 10 ∷ [])) w6.1 in
+    let w8 = and_parts (whole 8) (list_all whole (9 ∷ 10 ∷ [])) w7.1 in
+    let w9 = and_parts (whole 9) (list_all whole (10 ∷ [])) w8.1 in
+    let w10 = and_parts (whole 10) true w9.1 in
+    let s = λ (at : ℕ) (h : text at ≡ true). text_suits (column row at) h in
+    let n = λ (at : ℕ) (h : whole at ≡ true). whole_suits (column row at) h in
+    rw (s 0 t0.0, s 1 t1.0, n 2 w2.0, n 3 w3.0, n 4 w4.0, n 5 w5.0, n 6 w6.0, n 7 w7.0, n 8 w8.0, n 9 w9.0, n 10 w10.0, s 11 t11.0) refl
+
+-- .. and a call binds it as it is
+bound_same : (k : Kind) (v : Value) → suits k v ≡ true → bound_value v ≡ v
+bound_same Integer Null h = refl
+bound_same Integer (Int n) h = refl
+bound_same Words Null h = refl
+bound_same Words (Text t) h = refl
+bound_same k v h = absurd (let e = h in cc)
+
+bound_all : (cs : List Column) (vs : Row) → suit_all cs vs ≡ true → map bound_value vs ≡ vs
+bound_all [] [] h = refl
+bound_all (c ∷ cs) (v ∷ vs) h = let both = and_parts (suits c.kind v) (suit_all cs vs) h in ap₂ ◌∷◌ (bound_same c.kind v both.0) (bound_all cs vs both.1)
+bound_all cs vs h = absurd (let e = h in cc)
+
+pub station_bound : (row : Row) → IsStationRow row → map bound_value (station_row row) ≡ station_row row
+station_bound row it = bound_all (layout_of Stations).columns (station_row row) (station_suits row it)
+
+pub adds_station : (row : Row) → IsStationRow row → Does IsOurs (λ db. WasFree (Add Stations (station_row row)) (tables_of db)) (Puts (Add Stations (station_row row) ∷ [])) station_text (station_row row)
+unfolding everything
+adds_station row it = let suit = station_suits row it in adds_row Stations (row_put (table_key Stations) inserts_station refl suit (λ rows. refl))
+
+-- ---- DROP
+
+pub drop_writes : (e : Earlier) (text : List ℕ) → IsDrop (first text) (stations_name e) → (db : Database) → Stands db 1 (stations_layout e) → IsWriteIn db.schema text
+drop_writes e text is db was c understood_is = elim (drop_means db.schema was.at (stations_name e) (found e was) text is) [
+  | inl means ↦ means_writes db.schema text _ means.0.0 tt c understood_is
+  | inr refused ↦ absurd (let both = sym refused ∙ understood_is in cc)
+]
+  where
+    found : (e : Earlier) (was : Stands db 1 (stations_layout e)) → table_named db.schema (stations_name e) ≡ Some was.at
+    found First was = was.has.found
+    found Second was = was.has.found
+
+pub drops : (e : Earlier) (text : List ℕ) → IsDrop (first text) (stations_name e) → (old new : State) → IsDatabase old.now → Stands old.now 1 (stations_layout e) → (count : ℕ) → Executes text [] old new (Ok count) → DropsStations e old.now new.now
+drops First text is old new sound was count ran = let it = table_dropped text 1 (stations_layout First) is old new sound was count ran in record { sound = it.sound; others = it.others }
+drops Second text is old new sound was count ran = let it = table_dropped text 1 (stations_layout Second) is old new sound was count ran in record { sound = it.sound; others = it.others }
+
+pub first_drops : IsDrop (first (codes "DROP TABLE stations")) (codes "stations")
+unfolding everything
+first_drops = (refl, refl)
+
+pub second_drops : IsDrop (first (codes "DROP TABLE stations_2")) (codes "stations_2")
+unfolding everything
+second_drops = (refl, refl)
+
+-- ---- SELECT of all old stations
+
+first_key : IsKeyAt 1 (stations_layout First) (1 ∷ [])
+first_key = columns_key_at 1 (stations_layout First) 0 (1 ∷ []) refl refl refl (λ row. refl)
+
+second_key : IsKeyAt 1 (stations_layout Second) (1 ∷ [])
+second_key = columns_key_at 1 (stations_layout Second) 0 (1 ∷ []) refl refl refl (λ row. refl)
+
+first_selects : IsSelect (table_query 0 [] (by_columns (1 ∷ [])) (every_column (stations_layout First))) (stations_layout First) (codes "SELECT * FROM stations ORDER BY station_id")
+unfolding everything
+first_selects = (λ tree. refl, refl)
+
+second_selects : IsSelect (table_query 0 [] (by_columns (1 ∷ [])) (every_column (stations_layout Second))) (stations_layout Second) (codes "SELECT * FROM stations_2 ORDER BY station_id")
+unfolding everything
+second_selects = (λ tree. refl, refl)
+
+pub first_asks : AsksRows (stations_layout First) (codes "SELECT * FROM stations ORDER BY station_id")
+first_asks db was = ordered_rows first_key was first_selects
+
+pub second_asks : AsksRows (stations_layout Second) (codes "SELECT * FROM stations_2 ORDER BY station_id")
+second_asks db was = ordered_rows second_key was second_selects

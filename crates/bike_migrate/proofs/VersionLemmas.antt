@@ -1,0 +1,106 @@
+-- The row of `meta`, whose version alone changes.
+use Rattle.std.proofs.Common.{◌≡◌, ◌==◌, ℕ, zero, suc, ℤ, pos, negsuc, Bool, true, false, List, [], ◌∷◌, Option, Some, None, codes, Ordering, Less, Equal, Greater, if◌then◌else◌, refl, sym, ap, subst, ◌∙◌}
+use Rattle.std.specs.Prelude.{take, option_map, unwrap_or}
+use Rattle.std.specs.Ordering.{is_eq, match_ordering}
+use Rattle.sqlite_value.specs.declared.value.Value.{Value}
+use Rattle.sqlite_value.specs.declared.value.Value.TheVariants.{Null, Int, Real, Text, Blob}
+use Rattle.sqlite_value.specs.Order.{Row, row_cmp}
+use Rattle.bike_rows.specs.Keyed.{put_in}
+use Rattle.bike_rows.specs.View.{by_key, row_with, put_row_by, rows_after_update, with_value, with_values}
+use Rattle.bike_rows.proofs.OrderLemmas.{has_put}
+use Rattle.bike_rows.proofs.TreeLemmas.{by_key_total}
+use Rattle.bike_book.specs.declared.version.TheConstants.{NEWEST}
+use Rattle.bike_book.specs.Rows.{number_value, meta_row}
+use Rattle.bike_book.proofs.CatalogueBooks.{one_key}
+use Rattle.bike_book.proofs.LedgerRows.{meta_found}
+use Rattle.bike_schema.specs.Columns.{whole_in}
+use Rattle.bike_recognition.specs.Recognition.{is_app, version_of, version_in}
+use Rattle.bike_recognition.specs.declared.version.MetaVersion.{MetaVersion}
+use Rattle.bike_recognition.specs.declared.version.MetaVersion.TheVariants.{Missing, Version, NotOurs}
+use Rattle.sqlite_rules.specs.Lists.{Has}
+
+abbrev key : Row
+key = number_value 1 ∷ []
+
+abbrev newest : Row → Row
+newest = with_values ((2, number_value NEWEST) ∷ [])
+
+-- ---- from the version to the newest
+
+meta_put : (version now : ℕ) (cash revenue : ℤ) → put_row_by 1 (meta_row NEWEST now cash revenue) (meta_row version now cash revenue ∷ []) ≡ meta_row NEWEST now cash revenue ∷ []
+meta_put version now cash revenue = rw one_key refl
+
+pub meta_raised : (version now : ℕ) (cash revenue : ℤ) → rows_after_update 1 key newest (meta_row version now cash revenue ∷ []) ≡ meta_row NEWEST now cash revenue ∷ []
+meta_raised version now cash revenue =
+    ap (λ (o : Option Row). unwrap_or (option_map (λ x. put_row_by 1 (newest x) (meta_row version now cash revenue ∷ [])) o) (meta_row version now cash revenue ∷ [])) (meta_found version now cash revenue)
+    ∙ meta_put version now cash revenue
+
+-- ---- and back
+
+-- where one row is left there was one, and it is what was made of it
+record IsOne (rows : List Row) (m : Row) : Type 0 where
+  row : Row
+  rows_are : rows ≡ row ∷ []
+  made : newest row ≡ m
+
+put_one : (new x : Row) (xs : List Row) (m : Row) → put_row_by 1 new (x ∷ xs) ≡ m ∷ [] → (xs ≡ []) × (new ≡ m)
+put_one new x xs m = by (by_key 1 x new)
+  where
+    by : (o : Ordering) → match_ordering o (x ∷ put_in (by_key 1) new xs) (new ∷ xs) (new ∷ x ∷ xs) ≡ m ∷ [] → (xs ≡ []) × (new ≡ m)
+    by Less is = absurd (let none : put_in (by_key 1) new xs ≡ [] = cc in subst (λ rows. Has rows new) none (has_put (by_key_total 1) new xs))
+    by Equal is = (cc, cc)
+    by Greater is = absurd (let none : x ∷ xs ≡ [] = cc in cc)
+
+one_found : (row : Row) (x : Row) → row_with 1 key (x ∷ []) ≡ Some row → x ≡ row
+one_found row x = by (is_eq (row_cmp (take 1 x) key))
+  where
+    by : (b : Bool) → (if b then Some x else None) ≡ Some row → x ≡ row
+    by true is = cc
+    by false is = absurd cc
+
+updated_one : (rows : List Row) (m row : Row) → row_with 1 key rows ≡ Some row → put_row_by 1 (newest row) rows ≡ m ∷ [] → rows ≡ row ∷ []
+updated_one [] m row found is = absurd cc
+updated_one (x ∷ xs) m row found is =
+    let one = put_one (newest row) x xs m is in
+    let same : x ≡ row = one_found row x (subst (λ ys. row_with 1 key (x ∷ ys) ≡ Some row) one.0 found) in
+    ap (λ ys. x ∷ ys) one.0 ∙ ap (λ y. y ∷ []) same
+
+made_one : (rows : List Row) (m row : Row) → rows ≡ row ∷ [] → put_row_by 1 (newest row) rows ≡ m ∷ [] → newest row ≡ m
+made_one rows m row are is = (put_one (newest row) row [] m (subst (λ rs. put_row_by 1 (newest row) rs ≡ m ∷ []) are is)).1
+
+no_version : (v : ℕ) → NotOurs ≡ Version v → ⊥
+no_version v is = cc
+
+-- the row's version is what it tells
+version_is : (v : ℕ) (b : Bool) (c : Value) → (if b then version_of (whole_in c) else NotOurs) ≡ Version v → c ≡ number_value v
+version_is v false c is = absurd (no_version v is)
+version_is v true Null is = absurd (no_version v is)
+version_is v true (Real x) is = absurd (no_version v is)
+version_is v true (Text t) is = absurd (no_version v is)
+version_is v true (Blob t) is = absurd (no_version v is)
+version_is v true (Int (negsuc n)) is = absurd (no_version v is)
+version_is v true (Int (pos n)) is = by (n == 0) is
+  where
+    by : (b : Bool) → (if b then NotOurs else Version n) ≡ Version v → Int (pos n) ≡ number_value v
+    by true is = absurd (no_version v is)
+    by false is = let same : n ≡ v = cc in ap number_value same
+
+lowered : (v now : ℕ) (cash revenue : ℤ) (row : Row) → newest row ≡ meta_row NEWEST now cash revenue → version_in (Some row) ≡ Version v → row ≡ meta_row v now cash revenue
+lowered v now cash revenue [] made told = absurd cc
+lowered v now cash revenue (a ∷ []) made told = absurd (let none : [] ≡ Text (codes "bikeshare") ∷ number_value NEWEST ∷ number_value now ∷ Int cash ∷ Int revenue ∷ [] = cc in cc)
+lowered v now cash revenue (a ∷ b ∷ []) made told = absurd (let none : [] ≡ number_value NEWEST ∷ number_value now ∷ Int cash ∷ Int revenue ∷ [] = cc in cc)
+lowered v now cash revenue (a ∷ b ∷ c ∷ rest) made told =
+    let version : c ≡ number_value v = version_is v (is_app b) c told in
+    let first : a ≡ Int (pos 1) = cc in
+    let app : b ≡ Text (codes "bikeshare") = cc in
+    let others : rest ≡ number_value now ∷ Int cash ∷ Int revenue ∷ [] = cc in
+    ap (λ x. x ∷ b ∷ c ∷ rest) first ∙ ap (λ x. Int (pos 1) ∷ x ∷ c ∷ rest) app ∙ ap (λ x. Int (pos 1) ∷ Text (codes "bikeshare") ∷ x ∷ rest) version ∙ ap (λ xs. Int (pos 1) ∷ Text (codes "bikeshare") ∷ number_value v ∷ xs) others
+
+pub meta_lowered : (v now : ℕ) (cash revenue : ℤ) (rows : List Row) → version_in (row_with 1 key rows) ≡ Version v → rows_after_update 1 key newest rows ≡ meta_row NEWEST now cash revenue ∷ [] → rows ≡ meta_row v now cash revenue ∷ []
+meta_lowered v now cash revenue rows = by (row_with 1 key rows) refl
+  where
+    by : (o : Option Row) → row_with 1 key rows ≡ o → version_in o ≡ Version v → unwrap_or (option_map (λ row. put_row_by 1 (newest row) rows) o) rows ≡ meta_row NEWEST now cash revenue ∷ [] → rows ≡ meta_row v now cash revenue ∷ []
+    by None found told is = absurd (let none : Missing ≡ Version v = told in cc)
+    by (Some row) found told is =
+        let one = updated_one rows (meta_row NEWEST now cash revenue) row found is in
+        one ∙ ap (λ r. r ∷ []) (lowered v now cash revenue row (made_one rows (meta_row NEWEST now cash revenue) row one is) told)

@@ -1,0 +1,17 @@
+use Rattle.std.proofs.Common.{rules, sym, refl, subst, inl, inr}
+use Rattle.std.proofs.Common.{Ok}
+use Rattle.bike_earlier.specs.Found.{IsFoundAs}
+use Rattle.bike_recognition.specs.Recognition.{ReadsAny}
+use Rattle.bike_schema.specs.declared.fault.StatementFault.{StatementFault}
+use Rattle.bike_migrate.proofs.FoundLemmas.{comes_failed, comes_raised}
+use Rattle.bike_migrate.proofs.raising.raise_any.Goals as goal
+
+pub returns-in_err-raise_earlier-in-Of : goal.returns-in_err-raise_earlier-in-Of
+returns-in_err-raise_earlier-in-Of g c =
+    let read = rw c.in-Of.is at c.in_ok-find_version_of.ensures in
+    comes_failed g.S.Store c.args.conn.now c.find_version_of.new.conn c.in-Of.earlier read c.raise_earlier.new.conn c.in_err-raise_earlier-in-Of.ensures (search rules)
+
+pub returns-in_ok-raise_earlier-in-Of : goal.returns-in_ok-raise_earlier-in-Of
+returns-in_ok-raise_earlier-in-Of g c =
+    let read = rw c.in-Of.is at c.in_ok-find_version_of.ensures in
+    rw c.outcome_of-in-Of.ensures (comes_raised g.S.Store c.args.conn.now c.find_version_of.new.conn c.in-Of.earlier read c.raise_earlier.new.conn c.in_ok-raise_earlier-in-Of.ensures _ refl)

@@ -1,0 +1,5 @@
+pub mod Calls
+pub mod Stations
+pub mod Raised
+pub mod Verdicts
+pub mod Raising

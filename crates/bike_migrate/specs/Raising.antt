@@ -1,0 +1,215 @@
+-- What `raise` owes.
+use Rattle.std.specs.Prelude.{◌≡◌, ◌≤◌, ◌⊎◌, ℕ, false, List, codes, Option, Some, None, Result, Ok, Err, IfOk, IfErr, OnOk, MatchResult, option_map, IsTrue}
+use Rattle.sqlite_value.specs.Order.{Row}
+use Rattle.sqlite_trees.specs.View.{doubt}
+use Rattle.sqlite_trees.specs.declared.store.Store.{Ghosts}
+use Rattle.sqlite_trees.specs.Tree.{Trees}
+use Rattle.sqlite.specs.Held.{Held, state}
+use Rattle.sqlite.specs.Effect.{Database}
+use Rattle.sqlite.specs.State.{State, HasCleanDisk, Shows, Survives}
+use Rattle.bike_operator.specs.Operator.{Operator}
+use Rattle.bike_book.specs.Tables.{TableName, Stations}
+use Rattle.bike_schema.specs.Layouts.{name_of}
+use Rattle.bike_schema.specs.Makes.{Continues}
+use Rattle.bike_schema.specs.Stands.{AllLeft, StandsFor, TreesStandFor}
+use Rattle.bike_schema.specs.Tables.{tables_of}
+use Rattle.bike_schema.specs.declared.fault.StatementFault.{StatementFault}
+use Rattle.bike_schema.specs.declared.fault.StatementFault.TheVariants as statement
+use Rattle.bike_readings.specs.Rules.{IsFirstBad, IsVerdict}
+use Rattle.bike_audit.specs.Audit.{row_name}
+use Rattle.bike_audit.specs.declared.tables.BadRow.{BadRow}
+use Rattle.bike_earlier.specs.declared.earlier.Earlier.{Earlier}
+use Rattle.bike_earlier.specs.declared.found.Found.{Found}
+use Rattle.bike_earlier.specs.declared.found.Found.TheVariants as found
+use Rattle.bike_earlier.specs.Earlier.{stations_name}
+use Rattle.bike_earlier.specs.Found.{IsFoundAs}
+use Rattle.bike_earlier.specs.Stores.{StandsForAt, TreesStandForAt}
+use Rattle.bike_migrate.specs.Raised.{IsEarlier, tables_raised, OthersKept, Raises}
+use Rattle.bike_migrate.specs.Verdicts.{AllGoodBefore, IsFirstBadBefore, IsVerdictBefore}
+use Rattle.bike_migrate.specs.declared.fault.RaiseFault.{RaiseFault}
+use Rattle.bike_migrate.specs.declared.fault.RaiseFault.TheVariants.{Foreign, Unsound, Newer, NoMemory, StoreFailed}
+use Rattle.bike_migrate.specs.declared.fault.UnsoundRow.{UnsoundRow}
+use Rattle.bike_migrate.specs.declared.raising.Outcome.{Outcome}
+use Rattle.bike_migrate.specs.declared.raising.Outcome.TheVariants.{Ready}
+use Rattle.bike_migrate.specs.declared.raising.Outcome.TheVariants as outcome
+
+-- ---- a bad row
+
+-- the name that the table has at the version; none is the newest
+abbrev pub name_at : Option Earlier → TableName → List ℕ
+name_at (Some e) Stations = stations_name e
+name_at v t = name_of t
+
+-- the database is of the version, and this is the first bad row of its tables
+abbrev pub IsUnsoundAt : Database → Option Earlier → TableName × Row → Type 0
+IsUnsoundAt db None bad = IsFoundAs db found.Newest × IsFirstBad (tables_of db) bad.0 bad.1
+IsUnsoundAt db (Some e) bad = IsFoundAs db (found.Of e) × IsFirstBadBefore (tables_raised e db) bad.0 bad.1
+
+abbrev pub IsUnsound : Database → UnsoundRow → Type 0
+IsUnsound db bad = IsUnsoundAt db bad.earlier (row_name bad.row)
+
+-- ---- what comes back
+
+-- Nothing is pending; what is shown and all that a crash may leave stand for the operator.
+pub record Holds (c : State) (s : Operator) : Type 0 where
+  pub is_open : IsTrue c.is_open
+  pub autocommit : c.in_transaction ≡ false
+  pub settled : c.committed ≡ c.now
+  pub now : StandsFor c.now s
+  pub left : AllLeft c (TreesStandFor s)
+
+-- what a raise may commit: the tables raised, of which all keys were good
+abbrev pub MayCommit : Earlier → Database → Trees → Type 0
+MayCommit e old trees = (db : Database) × Raises e old db × AllGoodBefore (tables_raised e old) × (trees ≡ db.trees)
+
+-- .. of a database of some earlier version
+abbrev pub MayCommitAny : Database → Trees → Type 0
+MayCommitAny old trees = (e : Earlier) × IsFoundAs old (found.Of e) × MayCommit e old trees
+
+-- the trees stand for the operator at the version, or at the newest
+abbrev pub TreesStandSince : Option Earlier → Operator → Trees → Type 0
+TreesStandSince v s trees = TreesStandForAt v s trees ⊎ TreesStandFor s trees
+
+-- ---- inside the transaction, and at its end
+
+-- what was made of an earlier version, where this is its first bad row, or none is bad
+abbrev pub Becomes : Earlier → Database → Database → Option (TableName × Row) → Type 0
+Becomes e old new None = Raises e old new
+Becomes e old new (Some bad) = Unit {0}
+
+pub record IsJudged (e : Earlier) (old new : Database) (bad : Option (TableName × Row)) : Type 0 where
+  pub verdict : IsVerdictBefore (tables_raised e old) bad
+  pub becomes : Becomes e old new bad
+
+-- the outcome where this is the first bad row of the version, or none is bad
+abbrev pub outcome_of : Option Earlier → Option BadRow → Outcome
+outcome_of v None = Ready
+outcome_of v (Some row) = outcome.Unsound (record { earlier = v; row = row })
+
+module _ {S : Type 0} (g : Ghosts S) where
+  -- On a database of the version: a transaction is begun, and what it sees was judged. Nothing is committed.
+  pub record Attempts (e : Earlier) (old new : Held S) (result : Result (Option BadRow) StatementFault) : Type 0 where
+    pub judged : HasCleanDisk (state g new) → IsEarlier e (state g old).now
+        → IfOk result (λ bad. Continues (state g old) (state g new) × IsJudged e (state g old).now (state g new).now (option_map row_name bad))
+    pub survives : Survives (state g old) (state g new) (λ _. ¬ IsEarlier e (state g old).now)
+
+  -- what is seen is committed, or undone where a row is bad
+  abbrev pub Ends : Held S → Held S → Option BadRow → Type 0
+  Ends old new None = Shows (state g old) (state g new) (state g old).now (state g old).now false
+  Ends old new (Some bad) = Shows (state g old) (state g new) (state g old).committed (state g old).committed false
+
+  -- what it commits, if anything
+  abbrev pub CommitsBy : Held S → Option BadRow → Trees → Type 0
+  CommitsBy old None trees = trees ≡ (state g old).now.trees
+  CommitsBy old (Some bad) trees = ⊥
+
+  -- The transaction was ended.
+  pub record EndsTransaction (old new : Held S) (bad : Option BadRow) (result : Result (Option BadRow) StatementFault) : Type 0 where
+    pub ended : HasCleanDisk (state g new) → IfOk result (λ b. (b ≡ bad) × Ends old new bad)
+    pub outside : OnOk result (new.in_transaction ≡ false)
+    pub survives : Survives (state g old) (state g new) (CommitsBy old bad)
+
+  -- the connection shows what it showed, outside a transaction
+  abbrev pub IsAsBefore : Held S → Held S → Type 0
+  IsAsBefore old new = Shows (state g old) (state g new) (state g old).now (state g old).committed false
+
+  -- raised and committed, or as before where a row is bad
+  abbrev pub BecomesAt : Earlier → Held S → Held S → Option BadRow → Type 0
+  BecomesAt e old new None = Shows (state g old) (state g new) (state g new).now (state g new).now false × Raises e (state g old).now (state g new).now
+  BecomesAt e old new (Some bad) = IsAsBefore old new
+
+  -- WHAT RAISING IN PLACE DOES to a database of the version, on which nothing is pending
+  pub record RaisesInPlace (e : Earlier) (old new : Held S) (result : Result (Option BadRow) StatementFault) : Type 0 where
+    pub ends : HasCleanDisk (state g new) → IsEarlier e (state g old).now
+        → IfOk result (λ bad. IsVerdictBefore (tables_raised e (state g old).now) (option_map row_name bad) × BecomesAt e old new bad)
+    pub outside : OnOk result (new.in_transaction ≡ false)
+    pub survives : Survives (state g old) (state g new) (λ trees. IsEarlier e (state g old).now → MayCommit e (state g old).now trees)
+
+  -- ---- of any database
+
+  -- an earlier version was raised
+  pub record IsRaisedFrom (old new : Held S) : Type 0 where
+    pub earlier : Earlier
+    pub found : IsFoundAs (state g old).now (found.Of earlier)
+    pub good : AllGoodBefore (tables_raised earlier (state g old).now)
+    pub shown : Shows (state g old) (state g new) (state g new).now (state g new).now false
+    pub raises : Raises earlier (state g old).now (state g new).now
+
+  -- it is of the newest version and sound, or has none of the tables, and is as it was
+  abbrev pub IsReady : Held S → Held S → Type 0
+  IsReady old new =
+      (IsFoundAs (state g old).now found.Newest × IsVerdict (tables_of (state g old).now) None × IsAsBefore old new)
+      ⊎ (IsFoundAs (state g old).now found.Empty × IsAsBefore old new)
+
+  -- what came of it
+  abbrev pub IsOutcome : Held S → Held S → Outcome → Type 0
+  IsOutcome old new Ready = IsReady old new ⊎ IsRaisedFrom old new
+  IsOutcome old new outcome.Foreign = IsFoundAs (state g old).now found.Foreign × IsAsBefore old new
+  IsOutcome old new (outcome.Unsound bad) = IsUnsound (state g old).now bad × IsAsBefore old new
+  IsOutcome old new (outcome.Newer version) = IsFoundAs (state g old).now (found.Newer version) × IsAsBefore old new
+
+  pub record ComesTo (old new : Held S) (result : Result Outcome StatementFault) : Type 0 where
+    pub comes : HasCleanDisk (state g new) → IfOk result (IsOutcome old new)
+    pub outside : OnOk result (new.in_transaction ≡ false)
+    pub survives : Survives (state g old) (state g new) (MayCommitAny (state g old).now)
+
+module _ {S : Type 0} where
+  -- the connection in a fault
+  abbrev pub handed : RaiseFault S → Held S
+  handed (Foreign c) = c
+  handed (Unsound c bad) = c
+  handed (Newer c version) = c
+  handed (NoMemory c) = c
+  handed (StoreFailed c) = c
+
+  -- a statement failed on the connection
+  abbrev pub failed : StatementFault → Held S → RaiseFault S
+  failed statement.NoMemory c = NoMemory c
+  failed statement.StoreFailed c = StoreFailed c
+
+  -- the word that tells the fault
+  abbrev pub line_of : RaiseFault S → List ℕ
+  line_of (Foreign c) = codes "foreign"
+  line_of (Unsound c bad) = codes "unsound"
+  line_of (Newer c version) = codes "newer"
+  line_of (NoMemory c) = codes "out of memory"
+  line_of (StoreFailed c) = codes "store failed"
+
+  -- What a fault tells of the database. Want of memory and a failed store tell nothing of it.
+  abbrev pub IsToldOf : Ghosts S → Held S → RaiseFault S → Type 0
+  IsToldOf g old (Foreign c) = IsFoundAs (state g old).now found.Foreign × IsAsBefore g old c
+  IsToldOf g old (Unsound c bad) = IsUnsound (state g old).now bad × IsAsBefore g old c
+  IsToldOf g old (Newer c version) = IsFoundAs (state g old).now (found.Newer version) × IsAsBefore g old c
+  IsToldOf g old (NoMemory c) = Unit {0}
+  IsToldOf g old (StoreFailed c) = Unit {0}
+
+  -- a fault that tells nothing of the database
+  abbrev pub IsWant : RaiseFault S → Type 0
+  IsWant (NoMemory c) = Unit {0}
+  IsWant (StoreFailed c) = Unit {0}
+  IsWant _ = ⊥
+
+  -- the connection comes back outside a transaction, but for want of memory or a failed store
+  abbrev pub IsOutside : RaiseFault S → Type 0
+  IsOutside (NoMemory c) = Unit {0}
+  IsOutside (StoreFailed c) = Unit {0}
+  IsOutside e = (handed e).in_transaction ≡ false
+
+  -- WHAT A RAISE OWES: the connection to a database that stands, at the newest version, for the operator for whom it stood at its own, or a fault
+  -- that hands the connection back
+  pub record IsRaise (g : Ghosts S) (old : Held S) (result : Result (Held S) (RaiseFault S)) : Type 0 where
+    pub clean : MatchResult result (λ c. doubt (state g old).is_clean ≤ doubt (state g c).is_clean)
+        (λ e. doubt (state g old).is_clean ≤ doubt (state g (handed e)).is_clean)
+    pub only : IfOk result (λ c. HasCleanDisk (state g c) → (v : Option Earlier) × (s : Operator) × StandsForAt v (state g old).now s × Holds (state g c) s)
+    pub others : IfOk result (λ c. HasCleanDisk (state g c) → OthersKept (state g old).now (state g c).now)
+    pub found : (v : Option Earlier) (s : Operator) → TreesStandForAt v s (state g old).now.trees → IfOk result (λ c. HasCleanDisk (state g c) → Holds (state g c) s)
+    -- tables that stand for an operator are refused for memory or storage alone
+    pub refused : (v : Option Earlier) (s : Operator) → TreesStandForAt v s (state g old).now.trees
+        → IfErr result (λ e. HasCleanDisk (state g (handed e)) → IsWant e)
+    pub told : IfErr result (λ e. HasCleanDisk (state g (handed e)) → IsToldOf g old e)
+    pub autocommit : MatchResult result (λ c. c.in_transaction ≡ false) IsOutside
+    -- what a crash may leave after a fault
+    pub left : (v : Option Earlier) (s : Operator) → TreesStandForAt v s (state g old).now.trees → IsTrue (state g old).is_open
+        → IfErr result (λ e. HasCleanDisk (state g (handed e)) → AllLeft (state g (handed e)) (TreesStandSince v s))
+    pub stays : ((v : Option Earlier) (s : Operator) → ¬ StandsForAt v (state g old).now s) → IsTrue (state g old).is_open
+        → IfErr result (λ e. HasCleanDisk (state g (handed e)) → AllLeft (state g (handed e)) (state g old).may_leave)

@@ -1,0 +1,70 @@
+-- The rows of an old table of stations.
+use Rattle.std.specs.Prelude.{◌≡◌, ℕ, ◌<◌, pos, int_le, Bool, true, false, List, [], ◌∷◌, map, take, slice_get, Option, Some, None}
+use Rattle.std.specs.List.{range_with_len, list_all}
+use Rattle.sqlite_value.specs.declared.value.Value.{Value}
+use Rattle.sqlite_value.specs.declared.value.Value.TheVariants.{Null, Int, Text}
+use Rattle.sqlite_value.specs.Order.{Row, column}
+use Rattle.sqlite_rules.specs.Lists.{Has}
+use Rattle.bike_rows.specs.Answer.{HasOneAnswer}
+use Rattle.bike_rows.specs.Layout.{Layout}
+use Rattle.bike_rows.specs.Stands.{rows_of, Stands}
+use Rattle.sqlite.specs.Effect.{Database}
+use Rattle.bike_earlier.specs.declared.earlier.TheConstants.{MOST_DOCKS_BEFORE}
+
+-- the row as one of today: a column that it hasn't is NULL
+abbrev pub station_row : Row → Row
+station_row row = map (column row) (range_with_len 0 12)
+
+-- what a column of texts may hold, and what one of whole numbers
+abbrev pub is_text : Value → Bool
+is_text Null = true
+is_text (Text text) = true
+is_text _ = false
+
+abbrev pub is_whole : Value → Bool
+is_whole Null = true
+is_whole (Int n) = true
+is_whole _ = false
+
+-- the columns of a station that hold texts, and those that hold whole numbers
+abbrev pub text_places : List ℕ
+text_places = 0 ∷ 1 ∷ 11 ∷ []
+
+abbrev pub whole_places : List ℕ
+whole_places = 2 ∷ 3 ∷ 4 ∷ 5 ∷ 6 ∷ 7 ∷ 8 ∷ 9 ∷ 10 ∷ []
+
+-- each column of it holds what it may hold in the newest table
+pub record IsStationRow (row : Row) : Type 0 where
+  pub texts : list_all (λ at. is_text (column row at)) text_places ≡ true
+  pub wholes : list_all (λ at. is_whole (column row at)) whole_places ≡ true
+
+-- These are the rows as they are copied, each under the key that it had.
+pub record AreCopies (rows copies : List Row) : Type 0 where
+  pub are : map station_row rows ≡ copies
+  pub keyed : (row : Row) → Has rows row → take 1 (station_row row) ≡ take 1 row
+
+-- wherever a table of the layout stands, the text asks for all its rows
+abbrev pub AsksRows : Layout → List ℕ → Type 0
+AsksRows layout text = (db : Database) → Stands db 1 layout → HasOneAnswer db text [] (rows_of 1 layout.name db)
+
+-- ---- the bound of docks at an earlier version
+
+abbrev pub is_few : Value → Bool
+is_few (Int n) = int_le n (pos MOST_DOCKS_BEFORE)
+is_few _ = true
+
+-- the station has no more docks
+abbrev pub has_few : Row → Bool
+has_few row = is_few (column row 4)
+
+-- The row at this place is the first that has more.
+pub record IsFirstOver (rows : List Row) (row : Row) : Type 0 where
+  pub at : ℕ
+  pub there : slice_get rows at ≡ Some row
+  pub over : has_few row ≡ false
+  pub before : (k : ℕ) (other : Row) → k < at → slice_get rows k ≡ Some other → has_few other ≡ true
+
+-- no station has more, or this is the first that has
+abbrev pub IsOver : List Row → Option Row → Type 0
+IsOver rows None = (k : ℕ) (other : Row) → slice_get rows k ≡ Some other → has_few other ≡ true
+IsOver rows (Some row) = IsFirstOver rows row

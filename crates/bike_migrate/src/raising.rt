@@ -1,0 +1,233 @@
+//! Raising a database of an earlier version to the newest.
+
+ghost use Rattle.std.specs.Prelude.{◌≡◌, false, option_map, OnOk};
+ghost use Rattle.sqlite.specs.Held.{state};
+ghost use Rattle.sqlite.specs.State.{HasCleanDisk, Shows, Survives};
+ghost use Rattle.bike_audit.specs.Audit.{row_name, IsVerdictOn};
+ghost use Rattle.bike_recognition.specs.Recognition.{ReadsAny};
+ghost use Rattle.bike_migrate.specs.Calls.{DoesInside};
+ghost use Rattle.bike_migrate.specs.Raised.{IsEarlier, old_stations};
+ghost use Rattle.bike_migrate.specs.Raising.{IsJudged, Attempts, EndsTransaction, RaisesInPlace, outcome_of, ComesTo, IsRaise};
+
+use crate::build::{build, drop_stations};
+use crate::fault::{RaiseFault, UnsoundRow};
+use crate::judge::judge;
+use crate::stations::read_stations;
+use bike_audit::{BadRow, Finding, Unwatched, Watch, audit};
+use bike_earlier::{Earlier, Found, find_version_of};
+use bike_inside::{begin, commit, undo};
+use bike_recognition::check_open;
+use bike_schema::StatementFault;
+use sqlite::{Alter, Connection, Row};
+use std::alloc::Global;
+
+/// Makes the newest tables and judges them. Where no row is bad the old table of stations is dropped. `rows` are its rows.
+fn raise_inside<S: Alter, P: Watch>(
+    alloc: Global,
+    conn: &mut Connection<S>,
+    earlier: Earlier,
+    rows: &[Row],
+    watch: &mut P,
+) -> Result<Option<BadRow>, StatementFault>
+    ensures { DoesInside S.Store (λ db. IsEarlier earlier db × (rows.now ≡ old_stations earlier db)) conn.old conn.new result
+        (λ old new bad. IsJudged earlier old new (option_map row_name bad)) }
+{
+    build(conn, earlier, rows)?;
+    match judge(alloc, conn, rows, watch)? {
+        Some(bad) => Ok(Some(bad)),
+        None => {
+            drop_stations(conn, earlier)?;
+            Ok(None)
+        }
+    }
+}
+
+/// Reads the stations, begins the transaction and raises the database in it. Nothing is committed.
+fn attempt<S: Alter, P: Watch>(
+    alloc: Global,
+    conn: &mut Connection<S>,
+    earlier: Earlier,
+    watch: &mut P,
+) -> Result<Option<BadRow>, StatementFault>
+    ensures { Attempts S.Store earlier conn.old conn.new result }
+{
+    let rows = read_stations(conn, earlier)?;
+    begin(conn)?;
+    raise_inside(alloc, conn, earlier, rows.as_slice(), watch)
+}
+
+/// Commits the transaction. `StoreFailed` says nothing of whether it was.
+fn end_raised<S: Alter>(conn: &mut Connection<S>) -> Result<(), StatementFault>
+    ensures ended { HasCleanDisk (state S.Store conn.new) → OnOk result (Shows (state S.Store conn.old) (state S.Store conn.new) (state S.Store conn.old).now (state S.Store conn.old).now false) }
+    ensures outside { OnOk result (conn.new.in_transaction ≡ false) }
+    ensures survives { Survives (state S.Store conn.old) (state S.Store conn.new) (λ db. db ≡ (state S.Store conn.old).now.trees) }
+{
+    commit(conn)?;
+    if conn.is_autocommit() {
+        Ok(())
+    } else {
+        Err(StatementFault::StoreFailed)
+    }
+}
+
+/// Undoes the transaction. After an error it may be open still.
+fn end_undone<S: Alter>(conn: &mut Connection<S>) -> Result<(), StatementFault>
+    ensures ended { HasCleanDisk (state S.Store conn.new) → OnOk result (Shows (state S.Store conn.old) (state S.Store conn.new) (state S.Store conn.old).committed (state S.Store conn.old).committed false) }
+    ensures outside { OnOk result (conn.new.in_transaction ≡ false) }
+    ensures survives { Survives (state S.Store conn.old) (state S.Store conn.new) (λ _. ⊥) }
+{
+    undo(conn)?;
+    // An open connection is one of which something is known.
+    check_open(conn)?;
+    if conn.is_autocommit() {
+        Ok(())
+    } else {
+        Err(StatementFault::StoreFailed)
+    }
+}
+
+/// Ends the transaction: it is committed where no row is bad, and else undone.
+fn end<S: Alter>(
+    conn: &mut Connection<S>,
+    bad: Option<BadRow>,
+) -> Result<Option<BadRow>, StatementFault>
+    ensures { EndsTransaction S.Store conn.old conn.new bad result }
+{
+    match bad {
+        None => {
+            end_raised(conn)?;
+            Ok(None)
+        }
+        Some(bad) => {
+            end_undone(conn)?;
+            Ok(Some(bad))
+        }
+    }
+}
+
+/// Raises the database and ends the transaction. After an error it may be open still.
+fn attempt_whole<S: Alter, P: Watch>(
+    alloc: Global,
+    conn: &mut Connection<S>,
+    earlier: Earlier,
+    watch: &mut P,
+) -> Result<Option<BadRow>, StatementFault>
+    requires { conn.old.in_transaction ≡ false }
+    ensures { RaisesInPlace S.Store earlier conn.old conn.new result }
+{
+    // This tells the prover that nothing is pending.
+    let _ = conn.is_autocommit();
+    let bad = attempt(alloc, conn, earlier, watch)?;
+    end(conn, bad)
+}
+
+/// Raises the database of the version, or tells its first bad row and leaves it as it is.
+fn raise_earlier<S: Alter, P: Watch>(
+    alloc: Global,
+    conn: &mut Connection<S>,
+    earlier: Earlier,
+    watch: &mut P,
+) -> Result<Option<BadRow>, StatementFault>
+    requires { conn.old.in_transaction ≡ false }
+    ensures { RaisesInPlace S.Store earlier conn.old conn.new result }
+{
+    match attempt_whole(alloc, conn, earlier, watch) {
+        Ok(bad) => Ok(bad),
+        Err(fault) => {
+            let _ = undo(conn);
+            Err(fault)
+        }
+    }
+}
+
+/// The first bad row of a database of the newest version.
+fn audit_newest<S: Alter, P: Watch>(
+    alloc: Global,
+    conn: &mut Connection<S>,
+    watch: &mut P,
+) -> Result<Option<BadRow>, StatementFault>
+    ensures { ReadsAny S.Store conn.old conn.new result IsVerdictOn }
+{
+    match audit(alloc, conn, watch)? {
+        Finding::Sound => Ok(None),
+        Finding::Unsound(row) => Ok(Some(row)),
+        // It was of the newest version before.
+        _ => Err(StatementFault::StoreFailed),
+    }
+}
+
+/// What came of a database.
+enum Outcome {
+    /// It is of the newest version.
+    Ready,
+    /// It isn't the product's.
+    Foreign,
+    /// This row is no operator's.
+    Unsound(UnsoundRow),
+    /// It is of this later version.
+    Newer(u64),
+}
+
+/// The bad row, if there is one.
+fn outcome_of(earlier: Option<Earlier>, bad: Option<BadRow>) -> Outcome
+    ensures { result ≡ outcome_of earlier bad }
+{
+    match bad {
+        None => Outcome::Ready,
+        Some(row) => Outcome::Unsound(UnsoundRow { earlier, row }),
+    }
+}
+
+/// What comes of a database. After an error the transaction may be open still.
+fn raise_any<S: Alter, P: Watch>(
+    alloc: Global,
+    conn: &mut Connection<S>,
+    watch: &mut P,
+) -> Result<Outcome, StatementFault>
+    requires { conn.old.in_transaction ≡ false }
+    ensures { ComesTo S.Store conn.old conn.new result }
+{
+    match find_version_of(alloc, conn)? {
+        Found::Empty => Ok(Outcome::Ready),
+        Found::Newest => Ok(outcome_of(None, audit_newest(alloc, conn, watch)?)),
+        Found::Of(earlier) => Ok(outcome_of(
+            Some(earlier),
+            raise_earlier(alloc, conn, earlier, watch)?,
+        )),
+        Found::Newer(version) => Ok(Outcome::Newer(version)),
+        Found::Foreign => Ok(Outcome::Foreign),
+    }
+}
+
+/// Raises the database of a connection outside a transaction to the newest version, in one transaction. Tables that stand for an
+/// operator at an earlier version stand for him at the newest then; where a row is no operator's the first such is told, and the database is
+/// as it was. A database of the newest version is audited, and handed back as it is; one with none of the product's tables is handed back
+/// as it is, too. Tables of other names stay. A fault tells what the database is, or that memory or the store failed, and hands the
+/// connection back. After these two it may be inside a transaction still, of which nothing is committed.
+pub fn raise<S: Alter>(alloc: Global, conn: Connection<S>) -> Result<Connection<S>, RaiseFault<S>>
+    requires { conn.in_transaction ≡ false }
+    ensures { IsRaise S.Store conn result }
+{
+    raise_watched(alloc, conn, &mut Unwatched)
+}
+
+/// The same, and `watch` is told of each table before it is audited: for who shows how far that is.
+pub fn raise_watched<S: Alter, P: Watch>(
+    alloc: Global,
+    mut conn: Connection<S>,
+    watch: &mut P,
+) -> Result<Connection<S>, RaiseFault<S>>
+    requires { conn.in_transaction ≡ false }
+    ensures { IsRaise S.Store conn result }
+{
+    // These two tell the prover that nothing is pending and that the database obeys its schema.
+    let _ = conn.is_autocommit();
+    let _ = conn.schema();
+    match raise_any(alloc, &mut conn, watch) {
+        Ok(Outcome::Ready) => Ok(conn),
+        Ok(Outcome::Foreign) => Err(RaiseFault::Foreign(conn)),
+        Ok(Outcome::Unsound(bad)) => Err(RaiseFault::Unsound(conn, bad)),
+        Ok(Outcome::Newer(version)) => Err(RaiseFault::Newer(conn, version)),
+        Err(fault) => Err(RaiseFault::failed(fault, conn)),
+    }
+}

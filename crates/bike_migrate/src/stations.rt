@@ -1,0 +1,94 @@
+//! The rows of an old table of stations.
+
+ghost use Rattle.std.specs.Prelude.{◌≡◌, IfOk};
+ghost use Rattle.std.specs.List.{list_all};
+ghost use Rattle.sqlite_value.specs.Order.{column};
+ghost use Rattle.sqlite_value.specs.Value.{owned};
+ghost use Rattle.bike_rows.specs.Calls.{ReadsWhere};
+ghost use Rattle.bike_rows.specs.Stands.{Stands};
+ghost use Rattle.bike_earlier.specs.Earlier.{stations_layout};
+ghost use Rattle.bike_migrate.specs.Raised.{old_stations};
+ghost use Rattle.bike_migrate.specs.Stations.{AsksRows, is_text, is_whole, has_few, IsOver};
+
+use bike_earlier::{Earlier, MOST_DOCKS_BEFORE};
+use bike_schema::StatementFault;
+use sqlite::types::ValueRef;
+use sqlite::{Alter, Connection, Row};
+
+/// The query that answers all rows of its table of stations, in the order of their keys.
+fn stations_query(earlier: Earlier) -> &'static str
+    ensures { AsksRows (stations_layout earlier) result.now }
+{
+    match earlier {
+        Earlier::First => "SELECT * FROM stations ORDER BY station_id",
+        Earlier::Second => "SELECT * FROM stations_2 ORDER BY station_id",
+    }
+}
+
+/// All rows of its table of stations, in the order of their keys. The database stays as it is.
+pub(crate) fn read_stations<S: Alter>(
+    conn: &mut Connection<S>,
+    earlier: Earlier,
+) -> Result<Vec<Row>, StatementFault>
+    ensures { ReadsWhere S.Store (λ db. Stands db 1 (stations_layout earlier)) conn.old conn.new result (λ db rows. rows.items ≡ old_stations earlier db) }
+{
+    let rows = conn.query_all(stations_query(earlier), &[])?;
+    Ok(rows)
+}
+
+/// The row's value in a column, and NULL past its end.
+pub(crate) fn value_at(row: &Row, at: usize) -> ValueRef<'_>
+    ensures { owned result ≡ column row.now at }
+{
+    row.get_ref(at).unwrap_or(ValueRef::Null)
+}
+
+/// Whether the column holds what a column of texts may hold.
+fn is_text(row: &Row, at: usize) -> bool
+    ensures { result ≡ is_text (column row.now at) }
+{
+    matches!(value_at(row, at), ValueRef::Text(_) | ValueRef::Null)
+}
+
+/// Whether the column holds what a column of whole numbers may hold.
+fn is_whole(row: &Row, at: usize) -> bool
+    ensures { result ≡ is_whole (column row.now at) }
+{
+    matches!(value_at(row, at), ValueRef::Int(_) | ValueRef::Null)
+}
+
+/// Whether all these columns hold what columns of texts may hold.
+pub(crate) fn are_texts(row: &Row, places: &[usize]) -> bool
+    ensures { result ≡ list_all (λ at. is_text (column row.now at)) places.now }
+{
+    places.iter().all(|at| is_text(row, *at))
+}
+
+/// Whether all these columns hold what columns of whole numbers may hold.
+pub(crate) fn are_wholes(row: &Row, places: &[usize]) -> bool
+    ensures { result ≡ list_all (λ at. is_whole (column row.now at)) places.now }
+{
+    places.iter().all(|at| is_whole(row, *at))
+}
+
+/// Whether the station has no more docks than an earlier version allows.
+fn has_few(row: &Row) -> bool
+    ensures { result ≡ has_few row.now }
+{
+    match value_at(row, 4) {
+        ValueRef::Int(docks) => docks <= i64::from(MOST_DOCKS_BEFORE),
+        _ => true,
+    }
+}
+
+/// A copy of the first station that has more docks than an earlier version allows.
+pub(crate) fn first_over(rows: &[Row]) -> Result<Option<Row>, StatementFault>
+    ensures { IfOk result (IsOver rows.now) }
+{
+    for row in rows {
+        if !has_few(row) {
+            return Ok(Some(row.copy()?));
+        }
+    }
+    Ok(None)
+}
