@@ -712,7 +712,7 @@ ENDS = re.compile(
     rb"system missing|bad header|bad date|bad zone|day out of range|row [0-9]+ [a-z_]+|store failed|out of memory|foreign|unsound [a-z0-9_]+ .*"
     rb"|older [0-9]+|newer [0-9]+|read failed|write failed", re.S
 )
-OUTPUT = re.compile(rb"|ready\n|sound\n|rows [0-9]+\n|\{.*\}|number,[a-z0-9,\n.:TZ*-]*\n")
+OUTPUT = re.compile(rb"|ready\n|sound\n|version [0-9]+\n|rows [0-9]+\n|\{.*\}|number,[a-z0-9,\n.:TZ*-]*\n")
 STATUS_OF = {b"system": 1, b"bad": 1, b"day": 1, b"row": 1, b"store": 3, b"out": 4, b"foreign": 5, b"unsound": 5, b"older": 5, b"newer": 5, b"read": 6, b"write": 6}
 
 
