@@ -363,10 +363,10 @@ def test_what_is_empty_stays_so(program):
 
 
 def test_a_file_that_is_not_there(program):
-    """The engine makes it, without tables; where it can't, the store fails."""
-    assert program.run("raise", "none.db") == DONE
-    with contextlib.closing(sqlite3.connect(Path(program.folder, "none.db"))) as base:
-        assert base.execute("SELECT count(*) FROM sqlite_schema").fetchall() == [(0,)]
+    """It isn't made."""
+    for name in "none.db", "none/none.db":
+        assert program.run("raise", name) in (FAILED, DONE), name
+        assert not os.listdir(program.folder), os.listdir(program.folder)
     assert program.run("raise", "none/none.db") == FAILED
 
 

@@ -11,9 +11,9 @@ use bike_server::{clock_moment, listen};
 use bike_words::{Task, Words, WordsFault, read_words, usage};
 use sqlite::{Connection, Start, Unknown};
 use std::alloc::{AllocError, Global};
-use std::env;
 use std::io::{BufWriter, ErrorKind, IsTerminal, Write};
 use std::process::ExitCode;
+use std::{env, fs};
 
 /// The status of words that aren't the program's.
 const WRONG_WORDS: u8 = 2;
@@ -56,6 +56,14 @@ fn is_looked_on(rt: &HostRuntime, task: &Task<'_>) -> bool {
         Task::Init | Task::Lines | Task::Feed { .. } | Task::Day { .. } | Task::Serve { .. } => {
             false
         }
+    }
+}
+
+/// Whether there is no file of that name. The engine would make one, and what isn't there isn't raised.
+fn is_missing(rt: &HostRuntime, file: &str) -> bool {
+    match fs::symlink_metadata(rt, file) {
+        Ok(_) => false,
+        Err(error) => error.kind() == ErrorKind::NotFound && !file.starts_with("file:"),
     }
 }
 
@@ -104,9 +112,10 @@ fn run_on<W: Write>(rt: &HostRuntime, words: &Words<'_>, out: &mut W) -> Result<
         let clock = clock_moment(rt);
         return run_words_in_memory(rt.alloc(), &words.task, clock, &mut rt.stdin(), out);
     }
-    // What isn't there isn't raised.
     if !matches!(words.task, Task::Raise) {
         make_file(rt, words.file);
+    } else if is_missing(rt, words.file) {
+        return Err(Fault::StoreFailed);
     }
     run_on_file(rt, words, Unknown, out)
 }
