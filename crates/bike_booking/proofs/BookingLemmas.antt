@@ -1,6 +1,6 @@
 -- The row changes of a request, change by change.
 use Rattle.std.proofs.Common.{◌≡◌, ℕ, List, [], ◌∷◌, ◌++◌, get_or, length, Bool, true, false, cond, Option, Some, None, is_some, refl, sym, ap, ◌∙◌, subst, subst₂, arith}
-use Rattle.std.specs.Prelude.{Result, is_ok, IfSome}
+use Rattle.std.specs.Prelude.{Result, SomeIff, is_ok, IfSome}
 use Rattle.std.specs.FinMap as fin
 use Rattle.bike_commands.specs.declared.command.Command.{Command}
 use Rattle.bike_commands.specs.declared.request.Request.{Request}
@@ -170,3 +170,14 @@ four_of (w ∷ x ∷ []) a b c d is = absurd (omega (arith, is))
 four_of (w ∷ x ∷ y ∷ []) a b c d is = absurd (omega (arith, is))
 four_of (w ∷ x ∷ y ∷ z ∷ []) a b c d is = refl
 four_of (w ∷ x ∷ y ∷ z ∷ v ∷ xs) a b c d is = absurd (omega (arith, is))
+
+-- ---- where a value is owed
+
+-- a fact that says that there is a value, where there is none
+pub none_some : {A : Type 0} (o : Option A) → o ≡ None → is_some o ≡ true → false ≡ true
+none_some None none some = some
+none_some (Some x) none some = absurd cc
+
+-- a checked sum that fits is there
+pub unchecked : {T : Type 0} (o : Option T) (P : Type 0) (v : T) → SomeIff o P v → o ≡ None → P → ⊥
+unchecked o P v h none = subst (λ (x : Option _). SomeIff x P v) none h

@@ -4,3 +4,7 @@ pub mod PlanLemmas
 pub mod MoveLemmas
 pub mod MarkLemmas
 pub mod ReportLemmas
+pub mod MayMoveLemmas
+pub mod TouchLemmas
+pub mod FitLemmas
+pub mod RequestLemmas

@@ -13,6 +13,8 @@ use Rattle.bike_operator.specs.View.{view_of}
 use Rattle.bike_operator.specs.Changes.{Decides}
 use Rattle.bike_operator.specs.Runs.{after_acceptance}
 use Rattle.bike_operator.specs.Sound.{IsSound}
+use Rattle.bike_operator.specs.Bounds.{IsBounded}
+use Rattle.bike_core.specs.Made.{AreMade, entry_made}
 use Rattle.bike_book.specs.declared.row_change.RowChange.{RowChange}
 use Rattle.bike_book.specs.Stored.{Listed, IsListing}
 use Rattle.bike_book.specs.Leads.{LeadsTo}
@@ -47,3 +49,12 @@ pub record IsAccepted (s : Operator) (m : Listed) (now : ℕ) (q : Request) (vie
 pub record Books (changes : List RowChange) (s : Operator) (m : Listed) (now : ℕ) (q : Request) : Type 0 where
   pub listed : Listed
   pub leads : LeadsTo changes s m (after_acceptance s now q) listed
+
+-- What is known beside it, so that it can be booked: what was decided is what the command makes, and its numbers are bounded.
+pub record IsBookable (s : Operator) (m : Listed) (now : ℕ) (q : Request) (view : View) (touched : Option Touched) (numbers : StoredNumbers)
+    (a : Accepted) (sums : Sums) : Type 0 where
+  pub accepted : IsAccepted s m now q view touched numbers a
+  pub sums_are : AreSums s sums
+  pub made : AreMade view q.command a.changes
+  pub entry_is : a.entry ≡ entry_made now view q.command
+  pub bounded : IsBounded view now

@@ -5,3 +5,5 @@ pub mod Plans
 pub mod Closing
 pub mod Booking
 pub mod Reports
+pub mod Room
+pub mod Fits

@@ -1,13 +1,17 @@
 //! The book of a request: the row changes by which what was decided is stored.
 
-ghost use Rattle.std.specs.Prelude.{◌≡◌, ℕ, [], true};
+ghost use Rattle.std.specs.Prelude.{◌≡◌, ℕ, ◌≤◌, [], true, Some, IsSome, vec_capacity};
 ghost use Rattle.bike_commands.specs.declared.reply.Reply.{Reply};
 ghost use Rattle.bike_commands.specs.declared.request.Request.{Request};
 ghost use Rattle.bike_operator.specs.Operator.{Operator};
 ghost use Rattle.bike_operator.specs.Changes.{with_change, with_changes, present, place_of};
 ghost use Rattle.bike_book.specs.Stored.{Listed};
 ghost use Rattle.bike_booking.specs.Stages.{BooksStep, stage_after, after_change};
-ghost use Rattle.bike_booking.specs.Booking.{IsAccepted, AreSums, AreTexts, Books};
+ghost use Rattle.bike_facts.specs.Reading.{IsReading};
+ghost use Rattle.bike_booking.specs.Booking.{IsAccepted, AreSums, AreTexts, Books, IsBookable};
+ghost use Rattle.bike_booking.specs.Fits.{FitsMove, FitsFirst, FitsMoved, FitsStored, FitsAt, FitsChange, FitsAll};
+ghost use Rattle.bike_booking.specs.Fits.{stage_then, stage_with, most_rows, rows_with, all_rows};
+ghost use Rattle.bike_booking.specs.Room.{HasRoom, TakesRows};
 
 use crate::closing::{book_close, book_entry, sums_after};
 use crate::marks::book_mark;
@@ -26,6 +30,9 @@ use bike_ledger::Entry;
 use bike_operator::{Change, NewPlace, View};
 use std::alloc::Global;
 
+/// A request makes at most this many row changes: with room for them, no memory is asked for.
+pub const MOST_ROWS: usize = 16;
+
 /// The stage after a bicycle is put in a place.
 fn stage_after(bike: u32, place: &NewPlace) -> Stage
     ensures { result ≡ stage_after bike (place_of place.now) }
@@ -43,7 +50,10 @@ fn book_move<'a>(
     now: Moment,
     change: &Change<'a>,
 ) -> Option<Stage>
-    ensures { BooksStep reading.now Stage.Rented rows.old.items (with_change now change.now) result rows.new.items }
+    ensures books { BooksStep reading.now Stage.Rented rows.old.items (with_change now change.now) result rows.new.items }
+    ensures total { (s : Operator) (m : Listed) → IsReading s m reading.now → FitsMove s reading.now change.now
+        → HasRoom 3 rows.old → result ≡ Some (stage_then change.now) }
+    ensures room { TakesRows 3 rows.old rows.new }
 {
     match change {
         Change::PlaceBike { bike, place } => {
@@ -70,7 +80,10 @@ fn book_first<'a>(
     now: Moment,
     change: &Change<'a>,
 ) -> Option<Stage>
-    ensures { BooksStep reading.now Stage.First rows.old.items (with_change now change.now) result rows.new.items }
+    ensures books { BooksStep reading.now Stage.First rows.old.items (with_change now change.now) result rows.new.items }
+    ensures total { (s : Operator) (m : Listed) → IsReading s m reading.now → FitsFirst s reading.now change.now
+        → HasRoom (most_rows change.now) rows.old → result ≡ Some (stage_then change.now) }
+    ensures room { TakesRows (most_rows change.now) rows.old rows.new }
 {
     match change {
         Change::AddRental { .. } | Change::CloseRental { .. } => {
@@ -110,7 +123,10 @@ fn book_moved<'a>(
     now: Moment,
     change: &Change<'a>,
 ) -> Option<Stage>
-    ensures { BooksStep reading.now Stage.Moved rows.old.items (with_change now change.now) result rows.new.items }
+    ensures books { BooksStep reading.now Stage.Moved rows.old.items (with_change now change.now) result rows.new.items }
+    ensures total { (s : Operator) (m : Listed) → IsReading s m reading.now → FitsMoved s reading.now change.now
+        → HasRoom 3 rows.old → result ≡ Some (stage_then change.now) }
+    ensures room { TakesRows 3 rows.old rows.new }
 {
     match change {
         Change::Report { station } => {
@@ -145,7 +161,10 @@ fn book_stored<'a>(
     now: Moment,
     change: &Change<'a>,
 ) -> Option<Stage>
-    ensures { BooksStep reading.now (Stage.Stored stored) rows.old.items (with_change now change.now) result rows.new.items }
+    ensures books { BooksStep reading.now (Stage.Stored stored) rows.old.items (with_change now change.now) result rows.new.items }
+    ensures total { (s : Operator) (m : Listed) → IsReading s m reading.now → FitsStored s reading.now stored change.now
+        → HasRoom 3 rows.old → result ≡ Some (stage_then change.now) }
+    ensures room { TakesRows 3 rows.old rows.new }
 {
     match change {
         Change::SetState { bike, state } => {
@@ -175,7 +194,10 @@ fn book_one<'a>(
     now: Moment,
     change: &Change<'a>,
 ) -> Option<Stage>
-    ensures { BooksStep reading.now stage rows.old.items (with_change now change.now) result rows.new.items }
+    ensures books { BooksStep reading.now stage rows.old.items (with_change now change.now) result rows.new.items }
+    ensures total { (s : Operator) (m : Listed) → IsReading s m reading.now → FitsAt s reading.now stage change.now
+        → HasRoom (most_rows change.now) rows.old → result ≡ Some (stage_then change.now) }
+    ensures room { TakesRows (most_rows change.now) rows.old rows.new }
 {
     match stage {
         Stage::First => book_first(reading, rows, now, change),
@@ -194,7 +216,10 @@ fn book_change<'a>(
     now: Moment,
     change: &Option<Change<'a>>,
 ) -> Option<Stage>
-    ensures { BooksStep reading.now stage rows.old.items (after_change now change.now) result rows.new.items }
+    ensures books { BooksStep reading.now stage rows.old.items (after_change now change.now) result rows.new.items }
+    ensures total { (s : Operator) (m : Listed) → IsReading s m reading.now → FitsChange s reading.now stage change.now
+        → HasRoom (rows_with change.now) rows.old → result ≡ Some (stage_with stage change.now) }
+    ensures room { TakesRows (rows_with change.now) rows.old rows.new }
 {
     match change {
         None => Some(stage),
@@ -209,7 +234,10 @@ fn book_changes<'a>(
     now: Moment,
     changes: &[Option<Change<'a>>; 4],
 ) -> Option<Stage>
-    ensures { BooksStep reading.now Stage.First rows.old.items (with_changes now (present changes.now)) result rows.new.items }
+    ensures books { BooksStep reading.now Stage.First rows.old.items (with_changes now (present changes.now)) result rows.new.items }
+    ensures total { (s : Operator) (m : Listed) → IsReading s m reading.now → FitsAll s reading.now Stage.First changes.now
+        → HasRoom (all_rows changes.now) rows.old → IsSome result }
+    ensures room { TakesRows (all_rows changes.now) rows.old rows.new }
 {
     let [one, two, three, four] = changes;
     let after_one = book_change(reading, rows, Stage::First, now, one)?;
@@ -219,7 +247,8 @@ fn book_changes<'a>(
 }
 
 /// The row changes by which an acceptance with this entry and these changes is stored, or false where there is no memory, and
-/// where what was read can't be a sound operator's.
+/// where what was read can't be a sound operator's. With room for `MOST_ROWS` it isn't false for what `decide` makes of the
+/// view of one.
 pub fn book_request<'a>(
     rows: &mut Vec<RowChange<'a>, Global>,
     command: &Command,
@@ -232,9 +261,12 @@ pub fn book_request<'a>(
     changes: &[Option<Change<'a>>; 4],
     texts: &KeptTexts<'a>,
 ) -> bool
-    ensures { (s : Operator) (m : Listed) (q : Request) (reply : Reply) → rows.old.items ≡ [] → command.now ≡ q.command
+    ensures books { (s : Operator) (m : Listed) (q : Request) (reply : Reply) → rows.old.items ≡ [] → command.now ≡ q.command
         → IsAccepted s m now q view.now touched.now numbers.now (record { reply = reply; entry = entry.now; changes = changes.now })
         → AreSums s sums.now → AreTexts s now q texts.now → result ≡ true → Books rows.new.items s m now q }
+    ensures total { (s : Operator) (m : Listed) (q : Request) (reply : Reply) → rows.old.items ≡ [] → MOST_ROWS ≤ vec_capacity rows.old
+        → command.now ≡ q.command → IsBookable s m now q view.now touched.now numbers.now
+        (record { reply = reply; entry = entry.now; changes = changes.now }) sums.now → result ≡ true }
 {
     let reading = Reading {
         command,

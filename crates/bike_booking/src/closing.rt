@@ -1,8 +1,9 @@
 //! The close of a request: its entry, the operator's moment and sums, and what is kept.
 
-ghost use Rattle.std.specs.Prelude.{◌≡◌, ◌++◌, ◌+ℤ◌, true, IfSome};
-ghost use Rattle.bike_ledger.specs.Ledger.{credit, cash_in, revenue_in};
-ghost use Rattle.bike_booking.specs.Closing.{close_rows, AreSumsAfter, IsEntryBooked};
+ghost use Rattle.std.specs.Prelude.{◌≡◌, ◌++◌, ◌+ℤ◌, true, IfSome, IsSome};
+ghost use Rattle.bike_ledger.specs.Ledger.{credit, cash_in, revenue_in, IsBalance};
+ghost use Rattle.bike_booking.specs.Closing.{close_rows, AreSumsAfter, IsEntryBooked, FitsEntry};
+ghost use Rattle.bike_booking.specs.Room.{HasRoom, TakesRows};
 
 use crate::stored::Sums;
 use crate::texts::KeptTexts;
@@ -16,7 +17,8 @@ use std::alloc::Global;
 
 /// The balance of an entry's rider after the entry, in hundredths.
 fn balance_after(balance: i64, entry: &Entry) -> Option<i64>
-    ensures { IfSome result (λ after. after ≡ balance +ℤ credit entry.now.kind entry.now.amount) }
+    ensures sum { IfSome result (λ after. after ≡ balance +ℤ credit entry.now.kind entry.now.amount) }
+    ensures total { IsBalance balance → IsSome result }
 {
     let amount = entry.amount().hundredths();
     match entry.kind() {
@@ -27,7 +29,8 @@ fn balance_after(balance: i64, entry: &Entry) -> Option<i64>
 
 /// The operator's cash after an entry, in hundredths.
 fn cash_after(cash: i64, entry: &Entry) -> Option<i64>
-    ensures { IfSome result (λ after. after ≡ cash +ℤ cash_in entry.now.kind entry.now.amount) }
+    ensures sum { IfSome result (λ after. after ≡ cash +ℤ cash_in entry.now.kind entry.now.amount) }
+    ensures total { IsBalance cash → IsSome result }
 {
     match entry.kind() {
         EntryKind::TopUp => cash.checked_add(entry.amount().hundredths()),
@@ -37,7 +40,8 @@ fn cash_after(cash: i64, entry: &Entry) -> Option<i64>
 
 /// The operator's revenue after an entry, in hundredths.
 fn revenue_after(revenue: i64, entry: &Entry) -> Option<i64>
-    ensures { IfSome result (λ after. after ≡ revenue +ℤ revenue_in entry.now.kind entry.now.amount) }
+    ensures sum { IfSome result (λ after. after ≡ revenue +ℤ revenue_in entry.now.kind entry.now.amount) }
+    ensures total { IsBalance revenue → IsSome result }
 {
     let amount = entry.amount().hundredths();
     match entry.kind() {
@@ -49,7 +53,8 @@ fn revenue_after(revenue: i64, entry: &Entry) -> Option<i64>
 
 /// The operator's sums after an entry.
 pub(crate) fn sums_after(sums: &Sums, entry: &Entry) -> Option<Sums>
-    ensures { IfSome result (AreSumsAfter sums.now entry.now) }
+    ensures sums { IfSome result (AreSumsAfter sums.now entry.now) }
+    ensures total { IsBalance sums.now.cash → IsBalance sums.now.revenue → IsSome result }
 {
     let cash = cash_after(sums.cash.hundredths(), entry)?;
     let revenue = revenue_after(sums.revenue.hundredths(), entry)?;
@@ -66,7 +71,9 @@ pub(crate) fn book_entry<'a>(
     rows: &mut Vec<RowChange<'a>, Global>,
     entry: &'a Entry,
 ) -> bool
-    ensures { result ≡ true → IsEntryBooked command.now view.now entry.entry rows.old.items rows.new.items }
+    ensures books { result ≡ true → IsEntryBooked command.now view.now entry.entry rows.old.items rows.new.items }
+    ensures total { FitsEntry command.now view.now entry.now → HasRoom 3 rows.old → result ≡ true }
+    ensures room { TakesRows 3 rows.old rows.new }
 {
     let rider = entry.rider().get();
     let Some(before) = balance_read(command, view, rider) else {
@@ -105,7 +112,8 @@ pub(crate) fn book_close<'a>(
     sums: &Sums,
     texts: &KeptTexts<'a>,
 ) -> bool
-    ensures { result ≡ true → rows.new.items ≡ rows.old.items ++ close_rows now sums.now texts.now }
+    ensures books { result ≡ true → rows.new.items ≡ rows.old.items ++ close_rows now sums.now texts.now }
+    ensures total { HasRoom 2 rows.old → result ≡ true }
 {
     let meta_row = RowChange::SetMeta {
         now,

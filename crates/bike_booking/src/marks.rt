@@ -5,6 +5,8 @@ ghost use Rattle.bike_moves.specs.MoveLaws.{mark_change};
 ghost use Rattle.bike_booking.specs.Moves.{dock_written};
 ghost use Rattle.bike_booking.specs.Marks.{IsMarkRead, IsEmptyMarkBooked, IsHeldMarkBooked};
 ghost use Rattle.bike_booking.specs.Stages.{AreRowsBooked, KeepsOrders};
+ghost use Rattle.bike_booking.specs.Fits.{IsMarkShown, FitsEmptyMark, FitsHeldMark, FitsMark, FitsMarked};
+ghost use Rattle.bike_booking.specs.Room.{HasRoom, TakesRows};
 
 use crate::moves::book_counts;
 use bike_book::RowChange;
@@ -17,7 +19,8 @@ use std::alloc::Global;
 
 /// Whether the command marks this dock, and the view shows that its station has it.
 fn marks_dock(reading: &Reading, station: &Ident, dock: u32) -> bool
-    ensures { result ≡ true → IsMarkRead reading.now station.now dock }
+    ensures told { result ≡ true → IsMarkRead reading.now station.now dock }
+    ensures total { IsMarkShown reading.now station.now dock → result ≡ true }
 {
     let Some(row) = &reading.view.station else {
         return false;
@@ -40,8 +43,10 @@ fn book_dock<'a>(
     is_broken: bool,
     numbers: &StoredNumbers,
 ) -> bool
-    ensures { result ≡ true
+    ensures books { result ≡ true
         → rows.new.items ≡ rows.old.items ++ dock_written station.entry dock is_broken numbers.now ∷ [] }
+    ensures total { HasRoom 1 rows.old → result ≡ true }
+    ensures room { TakesRows 1 rows.old rows.new }
 {
     if numbers.has_dock_row {
         let row = RowChange::SetDock {
@@ -68,8 +73,10 @@ fn book_empty_mark<'a>(
     dock: u32,
     is_broken: bool,
 ) -> bool
-    ensures { result ≡ true
+    ensures books { result ≡ true
         → IsEmptyMarkBooked reading.now station.entry dock is_broken rows.old.items rows.new.items }
+    ensures total { FitsEmptyMark reading.now is_broken → HasRoom 3 rows.old → result ≡ true }
+    ensures room { TakesRows 3 rows.old rows.new }
 {
     let numbers = reading.numbers;
     let before = one(reading.view.is_dock_broken);
@@ -102,8 +109,10 @@ fn book_held_mark<'a>(
     type_id: &'a Ident,
     state: BikeState,
 ) -> bool
-    ensures { result ≡ true
+    ensures books { result ≡ true
         → IsHeldMarkBooked reading.now station.entry dock is_broken type_id.entry state rows.old.items rows.new.items }
+    ensures total { FitsHeldMark reading.now is_broken state → HasRoom 3 rows.old → result ≡ true }
+    ensures room { TakesRows 3 rows.old rows.new }
 {
     let numbers = reading.numbers;
     let was_broken = reading.view.is_dock_broken;
@@ -138,8 +147,10 @@ fn book_mark_at<'a>(
     dock: u32,
     is_broken: bool,
 ) -> bool
-    ensures { result ≡ true
+    ensures books { result ≡ true
         → AreRowsBooked reading.now now (mark_change is_broken station.entry dock) rows.old.items rows.new.items }
+    ensures total { FitsMark reading.now station.now dock is_broken → HasRoom 3 rows.old → result ≡ true }
+    ensures room { TakesRows 3 rows.old rows.new }
 {
     let _ = now;
     if !marks_dock(reading, station, dock) {
@@ -174,6 +185,8 @@ pub(crate) fn book_mark<'a>(
 ) -> bool
     ensures books { result ≡ true → AreRowsBooked reading.now now change.now rows.old.items rows.new.items }
     ensures orders { result ≡ true → KeepsOrders now change.now }
+    ensures total { FitsMarked reading.now change.now → HasRoom 3 rows.old → result ≡ true }
+    ensures room { TakesRows 3 rows.old rows.new }
 {
     match change {
         Change::BreakDock { station, dock } => {

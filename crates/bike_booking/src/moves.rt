@@ -7,7 +7,12 @@ ghost use Rattle.bike_operator.specs.Changes.{place_of};
 ghost use Rattle.bike_places.specs.Laws.{IsAway};
 ghost use Rattle.bike_facts.specs.Bikes.{IsBikeRead, HasBike};
 ghost use Rattle.bike_booking.specs.Moves.{count_written};
+ghost use Rattle.bike_facts.specs.Reading.{IsReading};
+ghost use Rattle.bike_operator.specs.Operator.{Operator};
+ghost use Rattle.bike_book.specs.Stored.{Listed};
 ghost use Rattle.bike_booking.specs.Stages.{AreMovesBooked};
+ghost use Rattle.bike_booking.specs.Fits.{FitsPlaceAt, FitsPlace, FitsStateAt, FitsState};
+ghost use Rattle.bike_booking.specs.Room.{HasRoom, TakesRows};
 
 use bike_book::RowChange;
 use bike_facts::{
@@ -21,7 +26,8 @@ use std::alloc::Global;
 
 /// Whether the place is no dock.
 fn is_away(place: &NewPlace) -> bool
-    ensures { result ≡ true → IsAway (place_of place.now) }
+    ensures told { result ≡ true → IsAway (place_of place.now) }
+    ensures total { IsAway (place_of place.now) → result ≡ true }
 {
     match place {
         NewPlace::Dock { .. } => false,
@@ -47,8 +53,10 @@ pub(crate) fn book_counts<'a>(
     type_id: &'a Ident,
     numbers: &StoredNumbers,
 ) -> bool
-    ensures { result ≡ true
+    ensures books { result ≡ true
         → rows.new.items ≡ rows.old.items ++ count_written station.entry type_id.entry numbers.now ∷ [] }
+    ensures total { HasRoom 1 rows.old → result ≡ true }
+    ensures room { TakesRows 1 rows.old rows.new }
 {
     if numbers.has_count_row {
         let row = RowChange::SetCount {
@@ -79,8 +87,11 @@ fn book_place_at<'a>(
     row: &BikeRow<'a>,
     place: &NewPlace<'a>,
 ) -> bool
-    ensures { reading.now.touched.now ≡ Some at.now → IsBikeRead reading.now bike row.now → result ≡ true
+    ensures books { reading.now.touched.now ≡ Some at.now → IsBikeRead reading.now bike row.now → result ≡ true
         → AreMovesBooked reading.now now (change.PlaceBike bike place.now) rows.old.items rows.new.items }
+    ensures total { FitsPlaceAt reading.now at.now row.now.state (place_of row.now.place) (place_of place.now)
+        → HasRoom 3 rows.old → result ≡ true }
+    ensures room { TakesRows 3 rows.old rows.new }
 {
     let _ = now;
     let Some(type_id) = at.type_id else {
@@ -118,6 +129,9 @@ pub(crate) fn book_place<'a>(
     ensures books { result ≡ true
         → AreMovesBooked reading.now now (change.PlaceBike bike place.now) rows.old.items rows.new.items }
     ensures found { result ≡ true → HasBike reading.now bike }
+    ensures total { (s : Operator) (m : Listed) → IsReading s m reading.now → FitsPlace s reading.now bike place.now
+        → HasRoom 3 rows.old → result ≡ true }
+    ensures room { TakesRows 3 rows.old rows.new }
 {
     let Some(row) = bike_read(reading, bike) else {
         return false;
@@ -142,8 +156,11 @@ fn book_state_at<'a>(
     row: &BikeRow<'a>,
     state: BikeState,
 ) -> bool
-    ensures { reading.now.touched.now ≡ Some at.now → IsBikeRead reading.now bike row.now → result ≡ true
+    ensures books { reading.now.touched.now ≡ Some at.now → IsBikeRead reading.now bike row.now → result ≡ true
         → AreMovesBooked reading.now now (change.SetState bike state) rows.old.items rows.new.items }
+    ensures total { FitsStateAt reading.now at.now row.now.state (place_of row.now.place) state
+        → HasRoom 3 rows.old → result ≡ true }
+    ensures room { TakesRows 3 rows.old rows.new }
 {
     let _ = now;
     let Some(type_id) = at.type_id else {
@@ -173,8 +190,11 @@ pub(crate) fn book_state<'a>(
     bike: u32,
     state: BikeState,
 ) -> bool
-    ensures { result ≡ true
+    ensures books { result ≡ true
         → AreMovesBooked reading.now now (change.SetState bike state) rows.old.items rows.new.items }
+    ensures total { (s : Operator) (m : Listed) → IsReading s m reading.now → FitsState s reading.now bike state
+        → HasRoom 3 rows.old → result ≡ true }
+    ensures room { TakesRows 3 rows.old rows.new }
 {
     let Some(row) = bike_read(reading, bike) else {
         return false;

@@ -4,6 +4,8 @@ ghost use Rattle.std.specs.Prelude.{◌≡◌, ◌≤◌, ◌++◌, length, true
 ghost use Rattle.bike_operator.specs.declared.change.Change.TheVariants as change;
 ghost use Rattle.bike_booking.specs.Plans.{AreSegmentsBooked};
 ghost use Rattle.bike_booking.specs.Stages.{AreRowsBooked};
+ghost use Rattle.bike_booking.specs.Fits.{LacksPlan};
+ghost use Rattle.bike_booking.specs.Room.{HasRoom, TakesRows};
 
 use bike_book::RowChange;
 use bike_catalogue::{Plan, Segment};
@@ -19,7 +21,9 @@ fn book_segments<'a>(
     segments: &'a [Segment],
 ) -> bool
     requires { length segments.now ≤ 8 }
-    ensures { result ≡ true → AreSegmentsBooked plan.now segments.now rows.old.items rows.new.items }
+    ensures books { result ≡ true → AreSegmentsBooked plan.now segments.now rows.old.items rows.new.items }
+    ensures total { HasRoom 8 rows.old → result ≡ true }
+    ensures room { TakesRows 8 rows.old rows.new }
 {
     let mut seq = 1u32;
     for segment in segments {
@@ -39,7 +43,9 @@ pub(crate) fn book_plan<'a>(
     now: Moment,
     plan: &'a Plan,
 ) -> bool
-    ensures { result ≡ true → AreRowsBooked reading.now now (change.AddPlan plan.entry) rows.old.items rows.new.items }
+    ensures books { result ≡ true → AreRowsBooked reading.now now (change.AddPlan plan.entry) rows.old.items rows.new.items }
+    ensures total { LacksPlan reading.now.command.now reading.now.view.now plan.now.plan_id → HasRoom 9 rows.old → result ≡ true }
+    ensures room { TakesRows 9 rows.old rows.new }
 {
     let _ = now;
     if !lacks_plan(reading.command, reading.view, plan.plan_id()) {

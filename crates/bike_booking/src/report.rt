@@ -6,6 +6,7 @@ ghost use Rattle.bike_book.specs.Tables.{Counts};
 ghost use Rattle.bike_book.specs.Writes.{table_of_write, write_of};
 ghost use Rattle.bike_book.specs.Merges.{DoTheSame};
 ghost use Rattle.bike_booking.specs.Reports.{IsMerged};
+ghost use Rattle.bike_booking.specs.Room.{HasRoom, TakesRows};
 
 use bike_book::RowChange;
 use bike_facts::is_same;
@@ -55,7 +56,9 @@ pub(crate) fn push_report<'a>(
     station: &'a Ident,
     reported: Moment,
 ) -> bool
-    ensures { result ≡ true → DoTheSame rows.new.items (rows.old.items ++ row.SetReported station.entry reported ∷ []) }
+    ensures books { result ≡ true → DoTheSame rows.new.items (rows.old.items ++ row.SetReported station.entry reported ∷ []) }
+    ensures total { HasRoom 1 rows.old → result ≡ true }
+    ensures room { TakesRows 1 rows.old rows.new }
 {
     let report = RowChange::SetReported { station, reported };
     let Some(last) = rows.pop() else {

@@ -1,7 +1,9 @@
 //! Changes that are one row each, as row changes.
 
-ghost use Rattle.std.specs.Prelude.{◌≡◌, true, IfSome};
+ghost use Rattle.std.specs.Prelude.{◌≡◌, true, IfSome, IsSome};
 ghost use Rattle.bike_booking.specs.Stages.{IsRowBooked, BooksRead, ChangesRentals};
+ghost use Rattle.bike_booking.specs.Fits.{FitsCatalogue, FitsFleet, FitsOrder, FitsRecord, FitsRental};
+ghost use Rattle.bike_booking.specs.Room.{HasRoom, TakesRows};
 
 use bike_book::RowChange;
 use bike_commands::Command;
@@ -17,7 +19,8 @@ fn catalogue_row<'a>(
     now: Moment,
     change: &Change<'a>,
 ) -> Option<RowChange<'a>>
-    ensures { IfSome result (BooksRead command.now view.now now change.now) }
+    ensures books { IfSome result (BooksRead command.now view.now now change.now) }
+    ensures total { FitsCatalogue command.now view.now change.now → IsSome result }
 {
     match change {
         Change::SetSystem(system) => Some(RowChange::AddSystem(system)),
@@ -77,7 +80,8 @@ fn fleet_row<'a>(
     now: Moment,
     change: &Change<'a>,
 ) -> Option<RowChange<'a>>
-    ensures { IfSome result (BooksRead command.now view.now now change.now) }
+    ensures books { IfSome result (BooksRead command.now view.now now change.now) }
+    ensures total { FitsFleet command.now view.now change.now → IsSome result }
 {
     let _ = now;
     match change {
@@ -117,6 +121,8 @@ pub(crate) fn book_rental<'a>(
 ) -> bool
     ensures books { result ≡ true → IsRowBooked command.now view.now now change.now rows.old.items rows.new.items }
     ensures rentals { result ≡ true → ChangesRentals now change.now }
+    ensures total { FitsRental command.now view.now change.now → HasRoom 1 rows.old → result ≡ true }
+    ensures room { TakesRows 1 rows.old rows.new }
 {
     match change {
         Change::AddRental {
@@ -162,7 +168,8 @@ fn order_row<'a>(
     now: Moment,
     change: &Change<'a>,
 ) -> Option<RowChange<'a>>
-    ensures { IfSome result (BooksRead command.now view.now now change.now) }
+    ensures books { IfSome result (BooksRead command.now view.now now change.now) }
+    ensures total { FitsOrder command.now view.now change.now → IsSome result }
 {
     let _ = now;
     match change {
@@ -207,7 +214,8 @@ fn record_row<'a>(
     now: Moment,
     change: &Change<'a>,
 ) -> Option<RowChange<'a>>
-    ensures { IfSome result (BooksRead command.now view.now now change.now) }
+    ensures books { IfSome result (BooksRead command.now view.now now change.now) }
+    ensures total { FitsRecord command.now view.now change.now → IsSome result }
 {
     match change {
         Change::AddBike { .. } | Change::AddTruck { .. } | Change::SetRider { .. } => {
@@ -228,7 +236,9 @@ pub(crate) fn book_record<'a>(
     now: Moment,
     change: &Change<'a>,
 ) -> bool
-    ensures { result ≡ true → IsRowBooked command.now view.now now change.now rows.old.items rows.new.items }
+    ensures books { result ≡ true → IsRowBooked command.now view.now now change.now rows.old.items rows.new.items }
+    ensures total { FitsRecord command.now view.now change.now → HasRoom 1 rows.old → result ≡ true }
+    ensures room { TakesRows 1 rows.old rows.new }
 {
     let Some(row) = record_row(command, view, now, change) else {
         return false;

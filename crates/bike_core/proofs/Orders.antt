@@ -3,6 +3,7 @@ use Rattle.std.proofs.Common.{◌≡◌, ℕ, ◌+◌, List, [], ◌∷◌, Opti
 use Rattle.std.specs.Borrow.{Bor}
 use Rattle.std.specs.FinMap as map
 use Rattle.bike_texts.specs.declared.ends.OrderEnd.{OrderEnd}
+use Rattle.bike_texts.specs.declared.ends.OrderEnd.TheVariants as end
 use Rattle.bike_texts.specs.declared.ends.Side.{Side}
 use Rattle.bike_commands.specs.declared.command.Command.TheVariants as command
 use Rattle.bike_commands.specs.declared.reply.Reply.TheVariants.{Done, Ordered}
@@ -17,6 +18,7 @@ use Rattle.bike_operator.specs.Operator.{Operator, item_numbered}
 use Rattle.bike_operator.specs.View.{view_of, end_at}
 use Rattle.bike_operator.specs.Steps.{first, tests, place_reported, bike_reported, bike_placed, with_delivery, placed_at_end}
 use Rattle.bike_operator.specs.Changes.{Decides, with_changes, present}
+use Rattle.bike_core.specs.Made.{IsPutAtEnd}
 use Rattle.bike_core.proofs.Decisions.{refused_as}
 
 pub open_order_decided : (s : Operator) (v : View) (now truck count : ℕ) (from to : Bor OrderEnd) (type_id : Bor (List ℕ)) → v ≡ view_of s (command.OpenOrder truck from.now to.now type_id.now count) → None ≡ first (tests v (command.OpenOrder truck from.now to.now type_id.now count))
@@ -46,3 +48,13 @@ pub unload_decided : (s : Operator) (v : View) (now truck order bike : ℕ) (sid
 unload_decided s v now truck order bike side dock row changes e none known makes =
     let found : item_numbered order s.orders ≡ Some row = ap (λ (w : View). w.order) (sym e) ∙ known in
     (refused_as s v (command.Unload truck order bike side dock) None e none, refl, rw found makes)
+
+-- the changes that put a bicycle at an end, which is the depot ..
+pub put_in_depot : (at : OrderEnd) (bike dock : ℕ) (rest : List (Option Change)) → at ≡ end.Depot
+    → (put report : Option Change) × IsPutAtEnd at bike dock put report × (Some (change.PlaceBike bike new.Depot) ∷ None ∷ rest ≡ put ∷ report ∷ rest)
+put_in_depot at bike dock rest is = (Some (change.PlaceBike bike new.Depot), None, rw is (refl, refl), refl)
+
+-- .. or a station
+pub put_in_dock : (at : OrderEnd) (bike dock : ℕ) (x : Bor (List ℕ)) (rest : List (Option Change)) → at ≡ end.Station x.now
+    → (put report : Option Change) × IsPutAtEnd at bike dock put report × (Some (change.PlaceBike bike (new.Dock x dock)) ∷ Some (change.Report x) ∷ rest ≡ put ∷ report ∷ rest)
+put_in_dock at bike dock x rest is = (Some (change.PlaceBike bike (new.Dock x dock)), Some (change.Report x), rw is (x, refl, refl, refl), refl)

@@ -1,7 +1,9 @@
 //! Decisions on bicycles, apart from rentals and orders.
 
+ghost use Rattle.std.specs.Prelude.{◌≡◌, IfOk, None};
 ghost use Rattle.bike_commands.specs.declared.command.Command.TheVariants as command;
 ghost use Rattle.bike_operator.specs.Changes.{DecidesOn};
+ghost use Rattle.bike_core.specs.Made.{AreMade};
 
 use crate::places::{is_depot, is_retired, report_of};
 use bike_commands::{Refusal, Reply};
@@ -14,7 +16,9 @@ pub(crate) fn decide_add_bike<'a>(
     bike: BicycleNumber,
     type_id: &'a Ident,
 ) -> Decision<'a>
-    ensures { DecidesOn view.now (command.AddBike bike type_id.now) result }
+    ensures decides { DecidesOn view.now (command.AddBike bike type_id.now) result }
+    ensures made { IfOk result (λ a. AreMade view.now (command.AddBike bike type_id.now) a.changes) }
+    ensures entry { IfOk result (λ a. a.entry ≡ None) }
 {
     if view.bike.is_some() {
         return Err(Refusal::AlreadyThere);
@@ -37,7 +41,9 @@ pub(crate) fn decide_mark_bike<'a>(
     bike: BicycleNumber,
     is_disabled: bool,
 ) -> Decision<'a>
-    ensures { DecidesOn view.now (command.MarkBike bike is_disabled) result }
+    ensures decides { DecidesOn view.now (command.MarkBike bike is_disabled) result }
+    ensures made { IfOk result (λ a. AreMade view.now (command.MarkBike bike is_disabled) a.changes) }
+    ensures entry { IfOk result (λ a. a.entry ≡ None) }
 {
     let Some(row) = &view.bike else {
         return Err(Refusal::UnknownBike);
@@ -63,7 +69,9 @@ pub(crate) fn decide_mark_bike<'a>(
 
 /// Decides on retiring a bicycle, which has to be in the depot.
 pub(crate) fn decide_retire_bike<'a>(view: &View, bike: BicycleNumber) -> Decision<'a>
-    ensures { DecidesOn view.now (command.RetireBike bike) result }
+    ensures decides { DecidesOn view.now (command.RetireBike bike) result }
+    ensures made { IfOk result (λ a. AreMade view.now (command.RetireBike bike) a.changes) }
+    ensures entry { IfOk result (λ a. a.entry ≡ None) }
 {
     let Some(Bike { state, place, .. }) = &view.bike else {
         return Err(Refusal::UnknownBike);

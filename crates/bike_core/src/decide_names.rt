@@ -1,9 +1,10 @@
 //! Decisions on names in further languages.
 
-ghost use Rattle.std.specs.Prelude.{◌≡◌};
+ghost use Rattle.std.specs.Prelude.{◌≡◌, IfOk, None};
 ghost use Rattle.bike_commands.specs.declared.command.Command.TheVariants as command;
 ghost use Rattle.bike_operator.specs.Steps.{unknown_of};
 ghost use Rattle.bike_operator.specs.Changes.{DecidesOn};
+ghost use Rattle.bike_core.specs.Made.{AreMade};
 
 use bike_catalogue::NameKind;
 use bike_commands::Refusal;
@@ -31,7 +32,9 @@ pub(crate) fn decide_add_name<'a>(
     language: &'a Language,
     name: &'a Name,
 ) -> Decision<'a>
-    ensures { DecidesOn view.now (command.AddName kind id.now language.now name.now) result }
+    ensures decides { DecidesOn view.now (command.AddName kind id.now language.now name.now) result }
+    ensures made { IfOk result (λ a. AreMade view.now (command.AddName kind id.now language.now name.now) a.changes) }
+    ensures entry { IfOk result (λ a. a.entry ≡ None) }
 {
     if !view.has_system {
         return Err(Refusal::SystemMissing);

@@ -1,12 +1,14 @@
 //! Decisions on trucks and their orders.
 
-ghost use Rattle.std.specs.Prelude.{◌≡◌, ◌≤◌, ◌+◌, ℕ, List, Some, IfOk, IfSome};
+ghost use Rattle.std.specs.Prelude.{◌≡◌, ◌≤◌, ◌+◌, ℕ, List, [], ◌∷◌, Option, Some, None, IfOk, IfSome};
 ghost use Rattle.bike_texts.specs.declared.ends.OrderEnd.{OrderEnd};
 ghost use Rattle.bike_commands.specs.declared.command.Command.TheVariants as command;
+ghost use Rattle.bike_operator.specs.declared.change.Change.{Change};
 ghost use Rattle.bike_operator.specs.Operator.{Operator};
 ghost use Rattle.bike_operator.specs.Steps.{first, tests, with_delivery, placed_at_end};
 ghost use Rattle.bike_operator.specs.Changes.{DecidesOn, refusal_in, with_changes, present};
 ghost use Rattle.bike_operator.specs.Bounds.{IsBounded};
+ghost use Rattle.bike_core.specs.Made.{AreMade, IsPutAtEnd, delivery_made};
 
 use crate::booking::next_number;
 use crate::places::{end_at, ends_apart, is_at_end, is_loaded, is_retired, is_same_end, report_of};
@@ -21,7 +23,9 @@ pub(crate) fn decide_add_truck<'a>(
     truck: TruckNumber,
     capacity: TruckCapacity,
 ) -> Decision<'a>
-    ensures { DecidesOn view.now (command.AddTruck truck capacity) result }
+    ensures decides { DecidesOn view.now (command.AddTruck truck capacity) result }
+    ensures made { IfOk result (λ a. AreMade view.now (command.AddTruck truck capacity) a.changes) }
+    ensures entry { IfOk result (λ a. a.entry ≡ None) }
 {
     if view.truck.is_some() {
         return Err(Refusal::AlreadyThere);
@@ -75,7 +79,9 @@ pub(crate) fn decide_open_order<'a>(
     type_id: &'a Ident,
     count: OrderQuantity,
 ) -> Decision<'a>
-    ensures { DecidesOn view.now (command.OpenOrder truck from_end.now to_end.now type_id.now count) result }
+    ensures decides { DecidesOn view.now (command.OpenOrder truck from_end.now to_end.now type_id.now count) result }
+    ensures made { IfOk result (λ a. AreMade view.now (command.OpenOrder truck from_end.now to_end.now type_id.now count) a.changes) }
+    ensures entry { IfOk result (λ a. a.entry ≡ None) }
 {
     let order = match check_open_order(view, from_end, to_end, count) {
         Ok(order) => order,
@@ -143,7 +149,9 @@ pub(crate) fn decide_load<'a>(
     bike: BicycleNumber,
 ) -> Decision<'a>
     requires { IfSome view.now.order (λ o. o.delivered + view.now.on_truck ≤ o.count) }
-    ensures { DecidesOn view.now (command.Load truck order bike) result }
+    ensures decides { DecidesOn view.now (command.Load truck order bike) result }
+    ensures made { IfOk result (λ a. AreMade view.now (command.Load truck order bike) a.changes) }
+    ensures entry { IfOk result (λ a. a.entry ≡ None) }
 {
     let row = match check_load(view, truck) {
         Ok(row) => row,
@@ -213,29 +221,31 @@ fn unload_changes<'a>(
     end: &'a OrderEnd,
     dock: UnloadDock,
 ) -> [Option<Change<'a>>; 4]
-    ensures { (s : Operator) (now : ℕ) → with_changes now (present result) s ≡ with_delivery order side (placed_at_end bike end.now dock now s) }
+    ensures makes { (s : Operator) (now : ℕ) → with_changes now (present result) s ≡ with_delivery order side (placed_at_end bike end.now dock now s) }
+    ensures made { (put report : Option Change) × IsPutAtEnd end.now bike dock put report × (result ≡ put ∷ report ∷ delivery_made side order ∷ None ∷ []) }
 {
     let bike = bike.get();
-    let (place, report) = match end {
-        OrderEnd::Depot => (NewPlace::Depot, None),
-        OrderEnd::Station(station) => (
-            NewPlace::Dock {
-                station,
-                dock: dock.get(),
-            },
-            Some(Change::Report { station }),
-        ),
-    };
     let delivery = match side {
         Side::From => None,
         Side::To => Some(Change::Deliver { order: order.get() }),
     };
-    [
-        Some(Change::PlaceBike { bike, place }),
-        report,
-        delivery,
-        None,
-    ]
+    match end {
+        OrderEnd::Depot => {
+            let put = Change::PlaceBike {
+                bike,
+                place: NewPlace::Depot,
+            };
+            [Some(put), None, delivery, None]
+        }
+        OrderEnd::Station(station) => {
+            let place = NewPlace::Dock {
+                station,
+                dock: dock.get(),
+            };
+            let put = Change::PlaceBike { bike, place };
+            [Some(put), Some(Change::Report { station }), delivery, None]
+        }
+    }
 }
 
 /// Decides on unloading a bicycle at an end of its order.
@@ -247,7 +257,9 @@ pub(crate) fn decide_unload<'a>(
     side: Side,
     dock: UnloadDock,
 ) -> Decision<'a>
-    ensures { DecidesOn view.now (command.Unload truck order bike side dock) result }
+    ensures decides { DecidesOn view.now (command.Unload truck order bike side dock) result }
+    ensures made { IfOk result (λ a. AreMade view.now (command.Unload truck order bike side dock) a.changes) }
+    ensures entry { IfOk result (λ a. a.entry ≡ None) }
 {
     let row = match check_unload(view, truck, order, side, dock) {
         Ok(row) => row,
@@ -263,7 +275,9 @@ pub(crate) fn decide_unload<'a>(
 
 /// Decides on closing an order, which has no bicycle on its truck.
 pub(crate) fn decide_close_order<'a>(view: &View, order: OrderNumber) -> Decision<'a>
-    ensures { DecidesOn view.now (command.CloseOrder order) result }
+    ensures decides { DecidesOn view.now (command.CloseOrder order) result }
+    ensures made { IfOk result (λ a. AreMade view.now (command.CloseOrder order) a.changes) }
+    ensures entry { IfOk result (λ a. a.entry ≡ None) }
 {
     let Some(row) = &view.order else {
         return Err(Refusal::UnknownOrder);

@@ -1,7 +1,9 @@
 //! Decisions on regions, and on the one in which a station stands.
 
+ghost use Rattle.std.specs.Prelude.{◌≡◌, IfOk, None};
 ghost use Rattle.bike_commands.specs.declared.command.Command.TheVariants as command;
 ghost use Rattle.bike_operator.specs.Changes.{DecidesOn, text_in};
+ghost use Rattle.bike_core.specs.Made.{AreMade};
 
 use bike_catalogue::Region;
 use bike_commands::Refusal;
@@ -10,7 +12,9 @@ use bike_operator::{Accepted, Change, Decision, View};
 
 /// Decides on a new region.
 pub(crate) fn decide_add_region<'a>(view: &View, region: &'a Region) -> Decision<'a>
-    ensures { DecidesOn view.now (command.AddRegion region.now) result }
+    ensures decides { DecidesOn view.now (command.AddRegion region.now) result }
+    ensures made { IfOk result (λ a. AreMade view.now (command.AddRegion region.now) a.changes) }
+    ensures entry { IfOk result (λ a. a.entry ≡ None) }
 {
     if view.has_region {
         return Err(Refusal::AlreadyThere);
@@ -27,7 +31,9 @@ pub(crate) fn decide_set_region<'a>(
     station: &'a Ident,
     region: Option<&'a Ident>,
 ) -> Decision<'a>
-    ensures { DecidesOn view.now (command.SetRegion station.now (text_in region.entry)) result }
+    ensures decides { DecidesOn view.now (command.SetRegion station.now (text_in region.entry)) result }
+    ensures made { IfOk result (λ a. AreMade view.now (command.SetRegion station.now (text_in region.entry)) a.changes) }
+    ensures entry { IfOk result (λ a. a.entry ≡ None) }
 {
     if view.station.is_none() {
         return Err(Refusal::UnknownStation);

@@ -1,11 +1,12 @@
 //! Decisions on rentals.
 
-ghost use Rattle.std.specs.Prelude.{◌≡◌, ℕ, List, Some, IfOk, IfSome, IsSome, true, false};
+ghost use Rattle.std.specs.Prelude.{◌≡◌, ℕ, List, Some, None, IfOk, IfSome, IsSome, true, false};
 ghost use Rattle.bike_commands.specs.declared.command.Command.TheVariants as command;
 ghost use Rattle.bike_operator.specs.Steps.{first, tests};
 ghost use Rattle.bike_operator.specs.Changes.{DecidesAt, refusal_in};
 ghost use Rattle.bike_operator.specs.Counts.{is_open};
 ghost use Rattle.bike_operator.specs.Bounds.{IsRefundable, IsBounded};
+ghost use Rattle.bike_core.specs.Made.{AreMade, entry_made};
 
 use crate::booking::{
     balance_reply, closing, ended_reply, fare_entry, is_too_much, next_entry, next_number,
@@ -70,7 +71,9 @@ pub(crate) fn decide_start<'a>(
     dock: DockNumber,
 ) -> Decision<'a>
     requires { IsBounded view.now now }
-    ensures { DecidesAt now view.now (command.Start rider station.now dock) result }
+    ensures decides { DecidesAt now view.now (command.Start rider station.now dock) result }
+    ensures made { IfOk result (λ a. AreMade view.now (command.Start rider station.now dock) a.changes) }
+    ensures entry { IfOk result (λ a. a.entry ≡ None) }
 {
     let docked = match check_start(view, dock) {
         Ok(docked) => docked,
@@ -141,7 +144,9 @@ pub(crate) fn decide_end<'a>(
     dock: DockNumber,
 ) -> Decision<'a>
     requires { IsBounded view.now now }
-    ensures { DecidesAt now view.now (command.End bike station.now dock) result }
+    ensures decides { DecidesAt now view.now (command.End bike station.now dock) result }
+    ensures made { IfOk result (λ a. AreMade view.now (command.End bike station.now dock) a.changes) }
+    ensures entry { IfOk result (λ a. a.entry ≡ entry_made now view.now (command.End bike station.now dock)) }
 {
     let row = match check_end(view, dock) {
         Ok(row) => row,
@@ -186,7 +191,9 @@ fn check_recover(view: &View) -> Result<&RentalView, Refusal>
 /// Decides on closing a rental whose bicycle was brought to the depot.
 pub(crate) fn decide_recover<'a>(view: &View, now: Moment, rental: RentalNumber) -> Decision<'a>
     requires { IsBounded view.now now }
-    ensures { DecidesAt now view.now (command.Recover rental) result }
+    ensures decides { DecidesAt now view.now (command.Recover rental) result }
+    ensures made { IfOk result (λ a. AreMade view.now (command.Recover rental) a.changes) }
+    ensures entry { IfOk result (λ a. a.entry ≡ entry_made now view.now (command.Recover rental)) }
 {
     let row = match check_recover(view) {
         Ok(row) => row,
@@ -241,7 +248,9 @@ pub(crate) fn decide_refund<'a>(
     amount: Payment,
 ) -> Decision<'a>
     requires { IsBounded view.now now }
-    ensures { DecidesAt now view.now (command.Refund rental amount) result }
+    ensures decides { DecidesAt now view.now (command.Refund rental amount) result }
+    ensures made { IfOk result (λ a. AreMade view.now (command.Refund rental amount) a.changes) }
+    ensures entry { IfOk result (λ a. a.entry ≡ entry_made now view.now (command.Refund rental amount)) }
 {
     let row = match check_refund(view, amount) {
         Ok(row) => row,

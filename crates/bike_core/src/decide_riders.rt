@@ -1,8 +1,10 @@
 //! Decisions on riders and their payments.
 
+ghost use Rattle.std.specs.Prelude.{◌≡◌, IfOk, None};
 ghost use Rattle.bike_commands.specs.declared.command.Command.TheVariants as command;
 ghost use Rattle.bike_operator.specs.Changes.{DecidesAt, DecidesOn};
 ghost use Rattle.bike_operator.specs.Bounds.{IsBounded};
+ghost use Rattle.bike_core.specs.Made.{AreMade, entry_made};
 
 use crate::booking::{balance_reply, next_entry};
 use bike_commands::Refusal;
@@ -13,7 +15,9 @@ use bike_operator::{Accepted, Change, Decision, View};
 
 /// Decides on a new rider.
 pub(crate) fn decide_add_rider<'a>(view: &View, rider: RiderNumber) -> Decision<'a>
-    ensures { DecidesOn view.now (command.AddRider rider) result }
+    ensures decides { DecidesOn view.now (command.AddRider rider) result }
+    ensures made { IfOk result (λ a. AreMade view.now (command.AddRider rider) a.changes) }
+    ensures entry { IfOk result (λ a. a.entry ≡ None) }
 {
     if view.has_rider {
         return Err(Refusal::AlreadyThere);
@@ -33,7 +37,9 @@ pub(crate) fn decide_set_rider<'a>(
     rider: RiderNumber,
     is_blocked: bool,
 ) -> Decision<'a>
-    ensures { DecidesOn view.now (command.SetRider rider is_blocked) result }
+    ensures decides { DecidesOn view.now (command.SetRider rider is_blocked) result }
+    ensures made { IfOk result (λ a. AreMade view.now (command.SetRider rider is_blocked) a.changes) }
+    ensures entry { IfOk result (λ a. a.entry ≡ None) }
 {
     if !view.has_rider {
         return Err(Refusal::UnknownRider);
@@ -52,7 +58,9 @@ pub(crate) fn decide_top_up<'a>(
     amount: Payment,
 ) -> Decision<'a>
     requires { IsBounded view.now now }
-    ensures { DecidesAt now view.now (command.TopUp rider amount) result }
+    ensures decides { DecidesAt now view.now (command.TopUp rider amount) result }
+    ensures made { IfOk result (λ a. AreMade view.now (command.TopUp rider amount) a.changes) }
+    ensures entry { IfOk result (λ a. a.entry ≡ entry_made now view.now (command.TopUp rider amount)) }
 {
     let Some(row) = &view.rider else {
         return Err(Refusal::UnknownRider);

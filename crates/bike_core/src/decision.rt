@@ -1,7 +1,9 @@
 //! The decision on a command: refused, or what is answered and changed.
 
+ghost use Rattle.std.specs.Prelude.{◌≡◌, IfOk};
 ghost use Rattle.bike_operator.specs.Changes.{DecidesAt};
 ghost use Rattle.bike_operator.specs.Bounds.{IsBounded};
+ghost use Rattle.bike_core.specs.Made.{AreMade, entry_made};
 
 use crate::decide_bikes::{decide_add_bike, decide_mark_bike, decide_retire_bike};
 use crate::decide_catalogue::{
@@ -24,7 +26,9 @@ use bike_operator::{Decision, View};
 /// request's moment and the operator's.
 pub fn decide<'a>(view: &'a View, now: Moment, command: &'a Command) -> Decision<'a>
     requires { IsBounded view.now now }
-    ensures { DecidesAt now view.now command.now result }
+    ensures decides { DecidesAt now view.now command.now result }
+    ensures made { IfOk result (λ a. AreMade view.now command.now a.changes) }
+    ensures entry { IfOk result (λ a. a.entry ≡ entry_made now view.now command.now) }
 {
     match command {
         Command::SetSystem(system) => decide_set_system(view, system),

@@ -6,6 +6,7 @@ ghost use Rattle.bike_operator.specs.Counts.{is_fit, is_retired, is_depot, is_on
 ghost use Rattle.bike_operator.specs.View.{end_at};
 ghost use Rattle.bike_operator.specs.Steps.{place_reported, is_same_end, is_at_end, ends_apart};
 ghost use Rattle.bike_operator.specs.Changes.{with_changes, present};
+ghost use Rattle.bike_core.specs.Made.{IsReportAt};
 
 use bike_fields::{OrderNumber, TruckNumber};
 use bike_operator::{BikeState, Change, Order, Place, StationView};
@@ -43,7 +44,8 @@ pub(crate) fn is_depot(place: &Place) -> bool
 
 /// The report, by the report rule, of the station at which a place is.
 pub(crate) fn report_of<'a>(place: &'a Place) -> Option<Change<'a>>
-    ensures { (s : Operator) (now : ℕ) → with_changes now (present (result ∷ None ∷ None ∷ [])) s ≡ place_reported place.now now s }
+    ensures report { IsReportAt place.now result }
+    ensures reports { (s : Operator) (now : ℕ) → with_changes now (present (result ∷ None ∷ None ∷ [])) s ≡ place_reported place.now now s }
 {
     match place {
         Place::Dock { station, .. } => Some(Change::Report { station }),

@@ -10,15 +10,13 @@ ghost use Rattle.bike_desk.specs.Desk.{desk_state, IsAt, TreesStandForEither};
 
 use crate::fault::DeskFault;
 use crate::serve::serve;
+use bike_booking::MOST_ROWS;
 use bike_commands::{Reply, Request};
 use bike_fixed::Moment;
 use bike_requests::command_text;
 use sqlite::{Alter, Connection};
 use std::alloc::Global;
 use std::marker::Model;
-
-/// How many row changes a request makes at most, or more.
-const MOST_ROWS: usize = 16;
 
 /// A connection whose tables stand for an operator.
 #[derive(Drop)]
@@ -69,9 +67,10 @@ impl<S: Alter> Desk<S> {
 
     /// Serves one request that comes at the moment, in one transaction.
     ///
-    /// `NoMemory` comes before anything changes and leaves everything as it was. `StoreFailed` stops the
-    /// desk, and what a crash may leave then stands for the operator before or after the request. A
-    /// stopped desk answers every request `Stopped` and stays as it is; no other desk answers that.
+    /// `NoMemory` comes before anything changes and leaves everything as it was. `StoreFailed` comes where the
+    /// engine fails, memory for it included, or where what is stored is no sound operator's; on the tables of one
+    /// each decision is booked. It stops the desk, and what a crash may leave then stands for the operator before
+    /// or after the request. A stopped desk answers every request `Stopped` and stays as it is; no other desk answers that.
     pub fn apply(
         &mut self,
         alloc: Global,

@@ -80,6 +80,7 @@ fn store_accepted<'a, S: Alter>(
         cash: meta.cash,
         revenue: meta.revenue,
     };
+    // Every decision on a sound operator's view is booked (`total`): else what is stored is nobody's.
     if !book_request(
         &mut rows, command, view, &touched, &numbers, &sums, now, entry, changes, texts,
     ) {

@@ -1,2 +1,3 @@
 pub mod FindingLemmas
 pub mod ShownLemmas
+pub mod ShownFacts

@@ -1,8 +1,11 @@
 -- A place and a station beside the dock that a command touches.
-use Rattle.std.specs.Prelude.{◌≡◌, ℕ, List, true, Some}
+use Rattle.std.specs.Prelude.{◌≡◌, ℕ, List, true, Some, IsSome}
 use Rattle.std.specs.FinMap as fin
+use Rattle.bike_commands.specs.declared.command.Command.{Command}
+use Rattle.bike_commands.specs.declared.command.Command.TheVariants as command
 use Rattle.bike_operator.specs.declared.records.Place.{Place}
 use Rattle.bike_operator.specs.declared.records.Place.TheVariants as place
+use Rattle.bike_operator.specs.declared.view.View.{View}
 use Rattle.bike_operator.specs.Operator.{Operator}
 use Rattle.bike_operator.specs.View.{view_of}
 use Rattle.bike_operator.specs.Sound.{IsSound}
@@ -22,3 +25,13 @@ abbrev pub HasStation : Reading → Type 0
 HasStation r =
     (s : Operator) (station : List ℕ) (dock : ℕ) → IsSound s → r.view.now ≡ view_of s r.command.now
     → dock_touched s r.command.now ≡ Some (station, dock) → fin.contains_key s.stations station ≡ true
+
+-- the view shows that station, or the command is of a bicycle in the dock
+abbrev pub IsStationSeen : Command → View → Type 0
+IsStationSeen (command.MarkBike bike disabled) v = Unit {0}
+IsStationSeen (command.Load truck order bike) v = Unit {0}
+IsStationSeen c v = IsSome v.station
+
+-- so it is in what was read
+abbrev pub IsStationInView : Reading → Type 0
+IsStationInView r = IsStationSeen r.command.now r.view.now

@@ -1,5 +1,6 @@
 pub mod Touched
 pub mod Reading
-pub mod Bikes
+pub mod Named
 pub mod Docks
+pub mod Bikes
 pub mod Shares

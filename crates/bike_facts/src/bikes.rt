@@ -1,12 +1,12 @@
 //! The bicycle that moves or gets another state, as the view shows it.
 
-ghost use Rattle.std.specs.Prelude.{◌≡◌, ℕ, IfSome};
+ghost use Rattle.std.specs.Prelude.{◌≡◌, ℕ, IfSome, IsSome};
 ghost use Rattle.bike_commands.specs.declared.command.Command.TheVariants as command;
 ghost use Rattle.bike_operator.specs.Operator.{Operator};
 ghost use Rattle.bike_operator.specs.View.{view_of};
 ghost use Rattle.bike_operator.specs.Changes.{place_of};
 ghost use Rattle.bike_operator.specs.Sound.{IsSound};
-ghost use Rattle.bike_facts.specs.Bikes.{bike_named, IsBikeShown, IsBikeOf, IsBikeRead};
+ghost use Rattle.bike_facts.specs.Bikes.{bike_named, IsBikeShown, IsBikeOf, IsBikeRead, IsPlaceRead, IsRowInView, IsDockedInView, IsBikeInView};
 
 use crate::reading::{Reading, is_same};
 use crate::touched::Touched;
@@ -25,7 +25,8 @@ pub struct BikeRow<'a> {
 
 /// The place as a row change tells it, where it is no dock but the one touched.
 fn place_read<'a>(touched: &Option<Touched<'a>>, place: &Place) -> Option<NewPlace<'a>>
-    ensures { IfSome result (λ p. place.now ≡ place_of p) }
+    ensures told { IfSome result (λ p. place.now ≡ place_of p) }
+    ensures shown { IsPlaceRead touched.now place.now → IsSome result }
 {
     match place {
         Place::Dock { station, dock } => {
@@ -57,7 +58,8 @@ fn shown_bike<'a>(
     named: u32,
     bike: u32,
 ) -> Option<BikeRow<'a>>
-    ensures { IfSome result (IsBikeShown view.now named bike) }
+    ensures told { IfSome result (IsBikeShown view.now named bike) }
+    ensures shown { IsRowInView view.now touched.now named bike → IsSome result }
 {
     match &view.bike {
         Some(row) if named == bike => {
@@ -79,8 +81,9 @@ fn docked_bike<'a>(
     dock: u32,
     bike: u32,
 ) -> Option<BikeRow<'a>>
-    ensures { (s : Operator) (rider : ℕ) → IsSound s → view.now ≡ view_of s (command.Start rider station.now dock)
+    ensures told { (s : Operator) (rider : ℕ) → IsSound s → view.now ≡ view_of s (command.Start rider station.now dock)
         → IfSome result (IsBikeOf s (command.Start rider station.now dock) bike) }
+    ensures shown { IsDockedInView view.now touched.now station.now dock bike → IsSome result }
 {
     let Some(docked) = &view.docked else {
         return None;
@@ -117,7 +120,8 @@ fn bike_named(command: &Command) -> Option<u32>
 
 /// The bicycle of that number, where the view shows it in no dock but the one touched.
 pub fn bike_read<'a>(reading: &Reading<'_, 'a>, bike: u32) -> Option<BikeRow<'a>>
-    ensures { IfSome result (IsBikeRead reading.now bike) }
+    ensures told { IfSome result (IsBikeRead reading.now bike) }
+    ensures shown { IsBikeInView reading.now bike → IsSome result }
 {
     let view = reading.view;
     let touched = reading.touched;

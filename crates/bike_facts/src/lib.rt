@@ -2,8 +2,8 @@
 //! numbers stored there, what its view shows of the records that change, and what a bicycle adds to the numbers of its
 //! dock's station.
 //!
-//! Each function answers what is so of every sound operator whose view was read. It promises no more than the view
-//! shows: where a fact isn't shown, the answer is `None` or `false`.
+//! Each function answers what is so of every sound operator whose view was read. It promises what the view shows, and no
+//! more: where a fact is shown it is answered, and where it isn't, the answer is `None` or `false`.
 #![tactic(auto)]
 
 mod bikes;

@@ -1,11 +1,17 @@
 //! What was read for a request, and the facts that its changes ask of it.
 
-ghost use Rattle.std.specs.Prelude.{◌≡◌, ◌+◌, length, IfSome, true, Some, None};
+ghost use Rattle.std.specs.Prelude.{◌≡◌, ℕ, ℤ, List, ◌+◌, ◌<◌, length, IfSome, IsSome, true, false, Some, None};
 ghost use Rattle.std.specs.FinMap as map;
 ghost use Rattle.std.specs.Str.{bytes_eq};
+ghost use Rattle.bike_commands.specs.OrderEnd.{OrderEnd};
+ghost use Rattle.bike_commands.specs.Rows.{PlanRow, StationRow};
 ghost use Rattle.bike_ledger.specs.Ledger.{balance_of, refunded_of};
+ghost use Rattle.bike_operator.specs.declared.limits.TheConstants.{MOST_ENTRIES, MOST_ORDERS};
+ghost use Rattle.bike_operator.specs.declared.records.Order.{Order};
+ghost use Rattle.bike_operator.specs.declared.view.RentalView.{RentalView};
 ghost use Rattle.bike_operator.specs.Operator.{Operator, item_numbered};
 ghost use Rattle.bike_operator.specs.View.{view_of};
+ghost use Rattle.bike_facts.specs.Named.{IsRiderNamed, IsOrderNamed, IsBalanceShown};
 
 use crate::stored::StoredNumbers;
 use crate::touched::Touched;
@@ -35,7 +41,8 @@ pub fn is_same(one: &Ident, other: &Ident) -> bool
 
 /// Whether the view shows that the plan isn't there.
 pub fn lacks_plan(command: &Command, view: &View, plan: &Ident) -> bool
-    ensures { (s : Operator) → view.now ≡ view_of s command.now → result ≡ true → map.get s.plans plan.now ≡ None }
+    ensures told { (s : Operator) → view.now ≡ view_of s command.now → result ≡ true → map.get s.plans plan.now ≡ None }
+    ensures shown { (p : PlanRow) → command.now ≡ Command.AddPlan p → plan.now ≡ p.plan_id → view.now.has_plan ≡ false → result ≡ true }
 {
     match command {
         Command::AddPlan(added) => !view.has_plan && is_same(added.plan_id(), plan),
@@ -45,7 +52,8 @@ pub fn lacks_plan(command: &Command, view: &View, plan: &Ident) -> bool
 
 /// Whether the view shows that the station isn't there.
 pub fn lacks_station(command: &Command, view: &View, station: &Ident) -> bool
-    ensures { (s : Operator) → view.now ≡ view_of s command.now → result ≡ true → map.get s.stations station.now ≡ None }
+    ensures told { (s : Operator) → view.now ≡ view_of s command.now → result ≡ true → map.get s.stations station.now ≡ None }
+    ensures shown { (x : StationRow) → command.now ≡ Command.AddStation x → station.now ≡ x.station_id → view.now.station ≡ None → result ≡ true }
 {
     match command {
         Command::AddStation(added) => {
@@ -57,7 +65,8 @@ pub fn lacks_station(command: &Command, view: &View, station: &Ident) -> bool
 
 /// Whether the view shows that the bicycle isn't there.
 pub fn lacks_bike(command: &Command, view: &View, bike: u32) -> bool
-    ensures { (s : Operator) → view.now ≡ view_of s command.now → result ≡ true → map.get s.bikes bike ≡ None }
+    ensures told { (s : Operator) → view.now ≡ view_of s command.now → result ≡ true → map.get s.bikes bike ≡ None }
+    ensures shown { (type_id : List ℕ) → command.now ≡ Command.AddBike bike type_id → view.now.bike ≡ None → result ≡ true }
 {
     match command {
         Command::AddBike { bike: added, .. } => view.bike.is_none() && added.get() == bike,
@@ -67,7 +76,8 @@ pub fn lacks_bike(command: &Command, view: &View, bike: u32) -> bool
 
 /// Whether the rider is there, where the view shows it.
 pub fn has_rider(command: &Command, view: &View, rider: u32) -> Option<bool>
-    ensures { (s : Operator) → view.now ≡ view_of s command.now → IfSome result (λ has. map.contains_key s.riders rider ≡ has) }
+    ensures told { (s : Operator) → view.now ≡ view_of s command.now → IfSome result (λ has. map.contains_key s.riders rider ≡ has) }
+    ensures shown { IsRiderNamed command.now rider → result ≡ Some view.now.has_rider }
 {
     match command {
         Command::AddRider { rider: named } | Command::SetRider { rider: named, .. } => {
@@ -83,7 +93,9 @@ pub fn has_rider(command: &Command, view: &View, rider: u32) -> Option<bool>
 
 /// The number of the next rental, where the view shows it.
 pub fn next_rental(command: &Command, view: &View) -> Option<u32>
-    ensures { (s : Operator) → view.now ≡ view_of s command.now → IfSome result (λ n. n ≡ length s.rentals + 1) }
+    ensures told { (s : Operator) → view.now ≡ view_of s command.now → IfSome result (λ n. n ≡ length s.rentals + 1) }
+    ensures shown { (rider : ℕ) (station : List ℕ) (dock : ℕ) → command.now ≡ Command.Start rider station dock
+        → view.now.rentals < MOST_ENTRIES → IsSome result }
 {
     match command {
         Command::Start { .. } => view.rentals.checked_add(1),
@@ -93,7 +105,9 @@ pub fn next_rental(command: &Command, view: &View) -> Option<u32>
 
 /// The number of the next order, where the view shows it.
 pub fn next_order(command: &Command, view: &View) -> Option<u32>
-    ensures { (s : Operator) → view.now ≡ view_of s command.now → IfSome result (λ n. n ≡ length s.orders + 1) }
+    ensures told { (s : Operator) → view.now ≡ view_of s command.now → IfSome result (λ n. n ≡ length s.orders + 1) }
+    ensures shown { (truck : ℕ) (from_end to_end : OrderEnd) (type_id : List ℕ) (count : ℕ)
+        → command.now ≡ Command.OpenOrder truck from_end to_end type_id count → view.now.orders < MOST_ORDERS → IsSome result }
 {
     match command {
         Command::OpenOrder { .. } => view.orders.checked_add(1),
@@ -103,7 +117,8 @@ pub fn next_order(command: &Command, view: &View) -> Option<u32>
 
 /// The order of that number, where the view shows it.
 pub fn order_read<'a>(command: &Command, view: &'a View, order: u32) -> Option<&'a Order>
-    ensures { (s : Operator) → view.now ≡ view_of s command.now → IfSome result (λ o. item_numbered order s.orders ≡ Some o.now) }
+    ensures told { (s : Operator) → view.now ≡ view_of s command.now → IfSome result (λ o. item_numbered order s.orders ≡ Some o.now) }
+    ensures shown { IsOrderNamed command.now order → (o : Order) → view.now.order ≡ Some o → IsSome result }
 {
     match command {
         Command::Unload { order: named, .. } | Command::CloseOrder { order: named } => {
@@ -119,7 +134,8 @@ pub fn order_read<'a>(command: &Command, view: &'a View, order: u32) -> Option<&
 
 /// The balance of the rider in hundredths, where the view shows it.
 pub fn balance_read(command: &Command, view: &View, rider: u32) -> Option<i64>
-    ensures { (s : Operator) → view.now ≡ view_of s command.now → IfSome result (λ balance. balance ≡ balance_of rider s.entries) }
+    ensures told { (s : Operator) → view.now ≡ view_of s command.now → IfSome result (λ balance. balance ≡ balance_of rider s.entries) }
+    ensures shown { (balance : ℤ) → IsBalanceShown command.now view.now rider balance → result ≡ Some balance }
 {
     match command {
         Command::TopUp { rider: named, .. } => {
@@ -137,7 +153,8 @@ pub fn balance_read(command: &Command, view: &View, rider: u32) -> Option<i64>
 
 /// The refunds of the rental in hundredths, where the view shows them.
 pub fn refunds_read(command: &Command, view: &View, rental: u32) -> Option<i64>
-    ensures { (s : Operator) → view.now ≡ view_of s command.now → IfSome result (λ refunded. refunded ≡ refunded_of rental s.entries) }
+    ensures told { (s : Operator) → view.now ≡ view_of s command.now → IfSome result (λ refunded. refunded ≡ refunded_of rental s.entries) }
+    ensures shown { (r : RentalView) → view.now.rental ≡ Some r → r.number ≡ rental → result ≡ Some r.refunded }
 {
     let _ = command;
     match &view.rental {

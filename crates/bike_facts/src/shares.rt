@@ -1,10 +1,10 @@
 //! What a bicycle adds to the numbers of its dock's station, and the numbers when that changes.
 
-ghost use Rattle.std.specs.Prelude.{◌≡◌, IfSome};
+ghost use Rattle.std.specs.Prelude.{◌≡◌, ℕ, ◌+◌, ◌<◌, ◌^◌, IfSome, IsSome};
 ghost use Rattle.bike_operator.specs.Changes.{place_of};
 ghost use Rattle.bike_operator.specs.Counts.{is_fit};
 ghost use Rattle.bike_places.specs.Laws.{one, IsMoved, dock_shares, place_shares};
-ghost use Rattle.bike_facts.specs.Shares.{AreShares, AreCountsMoved, AreMoved};
+ghost use Rattle.bike_facts.specs.Shares.{AreShares, AreCountsMoved, AreMoved, MayMoveCounts, MayMove};
 
 use crate::stored::StoredNumbers;
 use bike_operator::{BikeState, NewPlace};
@@ -66,7 +66,8 @@ pub fn place_shares(is_broken: bool, state: BikeState, place: &NewPlace) -> Bike
 
 /// The number, less what was added and with what is added now.
 pub fn moved(number: u32, less: u32, more: u32) -> Option<u32>
-    ensures { IfSome result (λ after. IsMoved number after less more) }
+    ensures told { IfSome result (λ after. IsMoved number after less more) }
+    ensures exact { (after : ℕ) → IsMoved number after less more → number + more < 2 ^ 32 → IsSome result }
 {
     let with = number.checked_add(more)?;
     with.checked_sub(less)
@@ -80,6 +81,7 @@ pub fn counts_after(
 ) -> Option<StoredNumbers>
     ensures counts { IfSome result (AreCountsMoved numbers.now less.now more.now) }
     ensures broken { IfSome result (λ after. after.broken ≡ numbers.now.broken) }
+    ensures exact { MayMoveCounts numbers.now less.now more.now → IsSome result }
 {
     let available = moved(numbers.available, less.available, more.available)?;
     let disabled = moved(numbers.disabled, less.disabled, more.disabled)?;
@@ -99,7 +101,8 @@ pub fn numbers_after(
     less: &BikeShares,
     more: &BikeShares,
 ) -> Option<StoredNumbers>
-    ensures { IfSome result (AreMoved numbers.now less.now more.now) }
+    ensures told { IfSome result (AreMoved numbers.now less.now more.now) }
+    ensures exact { MayMove numbers.now less.now more.now → IsSome result }
 {
     let free = moved(numbers.free, more.occupied, less.occupied)?;
     let after = counts_after(numbers, less, more)?;

@@ -8,8 +8,8 @@ use Rattle.bike_booking.specs.Stages.{IsOn}
 use Rattle.bike_booking.proofs.BookingLemmas.{place_step, move_step}
 use Rattle.bike_booking.proofs.booking.book_move.Goals as goal
 
-pub returns-else-not-book_place : goal.returns-else-not-book_place
-returns-else-not-book_place c = λ first s m read on.
+pub returns-else-not-book_place-clause-books : goal.returns-else-not-book_place-clause-books
+returns-else-not-book_place-clause-books c = λ first s m read on.
     let bike = c.in-PlaceBike.bike in
     let p = c.in-PlaceBike.place in
     let yes = c.if-not-book_place.false in
@@ -18,10 +18,10 @@ returns-else-not-book_place c = λ first s m read on.
     (subst (λ (t : Stage). IsOn first m (with_change c.args.now (change.PlaceBike bike p) s) t after) (sym c.stage_after.ensures)
     (place_step c.args.reading.now c.args.now bike p c.args.rows.now.items after first s m read on (c.book_place.ensures.books yes) (c.book_place.ensures.found yes)))
 
-pub returns-else-not-book_state : goal.returns-else-not-book_state
-returns-else-not-book_state c = λ first s m read on.
+pub returns-else-not-book_state-clause-books : goal.returns-else-not-book_state-clause-books
+returns-else-not-book_state-clause-books c = λ first s m read on.
     let bike = c.in-SetState.bike in
     let state = c.in-SetState.state in
     let after = c.book_state.new.rows.items in
     subst (λ (d : Change). IsOn first m (with_change c.args.now d s) Moved after) (sym c.in-SetState.is)
-    (move_step c.args.reading.now c.args.now (change.SetState bike state) c.args.rows.now.items after Moved first s m read on (c.book_state.ensures c.if-not-book_state.false) (λ w rentals. refl))
+    (move_step c.args.reading.now c.args.now (change.SetState bike state) c.args.rows.now.items after Moved first s m read on (c.book_state.ensures.books c.if-not-book_state.false) (λ w rentals. refl))

@@ -9,8 +9,8 @@ use Rattle.bike_booking.specs.Stages.{IsOn}
 use Rattle.bike_booking.proofs.BookingLemmas.{added, turn_step, stored_step}
 use Rattle.bike_booking.proofs.booking.book_stored.Goals as goal
 
-pub returns-else-not-is_ok : goal.returns-else-not-is_ok
-returns-else-not-is_ok c = λ first s m read on.
+pub returns-else-not-is_ok-clause-books : goal.returns-else-not-is_ok-clause-books
+returns-else-not-is_ok-clause-books c = λ first s m read on.
     let bike = c.in-SetState.bike in
     let state = c.in-SetState.state in
     let before = c.args.rows.now.items in
@@ -19,5 +19,5 @@ returns-else-not-is_ok c = λ first s m read on.
     let here = subst (λ (t : Stage). IsOn first m s t before) (ap Stored (sym c.if-bike-stored.false)) on in
     subst (λ (d : Change). IsOn first m (with_change c.args.now d s) Moved after) (sym c.in-SetState.is) (turn_step c.args.reading.now c.args.now bike state before after first s m here are)
 
-pub returns-in_default : goal.returns-in_default
-returns-in_default c = stored_step c.args.reading.now c.args.stored c.args.rows.now.items (with_change c.args.now c.args.change.now) c.book_moved.result c.book_moved.new.rows.items c.book_moved.ensures
+pub returns-in_default-clause-books : goal.returns-in_default-clause-books
+returns-in_default-clause-books c = stored_step c.args.reading.now c.args.stored c.args.rows.now.items (with_change c.args.now c.args.change.now) c.book_moved.result c.book_moved.new.rows.items c.book_moved.ensures.books

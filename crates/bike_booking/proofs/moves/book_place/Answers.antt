@@ -7,6 +7,6 @@ use Rattle.bike_booking.proofs.moves.book_place.Goals as goal
 pub returns-then-is_away-2-clause-books : goal.returns-then-is_away-2-clause-books
 returns-then-is_away-2-clause-books c = λ told.
     let b = c.in-Some.row in
-    placed_away c.args.reading.now c.args.now c.args.bike b c.args.place.now c.args.rows.now.items c.push.new.self.items c.in-Some.ensures (c.is_away.ensures c.if-is_away.true)
-    (c.is_away-then-is_away.ensures c.if-is_away-2.true)
+    placed_away c.args.reading.now c.args.now c.args.bike b c.args.place.now c.args.rows.now.items c.push.new.self.items c.in-Some.ensures.told (c.is_away.ensures.told c.if-is_away.true)
+    (c.is_away-then-is_away.ensures.told c.if-is_away-2.true)
     (added c.args.rows.now.items (c.bike_row-bike_row.result ∷ []) c.push.result c.push.ensures.items told c.is_ok.ensures.value ∙ ap (λ (r : RowChange). c.args.rows.now.items ++ r ∷ []) c.bike_row-bike_row.ensures)

@@ -7,6 +7,8 @@ use Rattle.bike_booking.proofs.plans.book_segments.Goals as goal
 pub loop-segment-preserved : goal.loop-segment-preserved
 loop-segment-preserved c = record {
   place = omega arith;
+  len = omega arith;
+  capacity = omega arith;
   booked =
       let segments = c.args.segments.now in
       let index = c.loop-segment.segment-index in

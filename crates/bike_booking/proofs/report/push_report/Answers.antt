@@ -5,15 +5,15 @@ use Rattle.bike_booking.proofs.BookingLemmas.{added}
 use Rattle.bike_booking.proofs.ReportLemmas.{same_changes, report_in_last, report_in_before}
 use Rattle.bike_booking.proofs.report.push_report.Goals as goal
 
-pub returns-in-Some-merged : goal.returns-in-Some-merged
-returns-in-Some-merged c = λ told.
+pub returns-in-Some-merged-clause-books : goal.returns-in-Some-merged-clause-books
+returns-in-Some-merged-clause-books c = λ told.
     let push = c.push-in-Some-merged in
     report_in_last c.args.rows.now.items c.pop.new.self.items push.new.self.items c.args.station c.args.reported c.in-Some.last c.in-Some-merged.both
     c.in-Some.ensures.items c.in-Some-merged.ensures
     (added c.pop.new.self.items (c.in-Some-merged.both ∷ []) push.result push.ensures.items told c.is_ok-in-Some-merged.ensures.value)
 
-pub returns-in-Some-merged-2 : goal.returns-in-Some-merged-2
-returns-in-Some-merged-2 c = λ told t.
+pub returns-in-Some-merged-2-clause-books : goal.returns-in-Some-merged-2-clause-books
+returns-in-Some-merged-2-clause-books c = λ told t.
     let old = c.pop.new.self.items in
     let rest = c.pop-2.new.self.items in
     let last = c.in-Some.last in

@@ -13,7 +13,7 @@ returns-in-Some-clause-books c = λ told.
     let a = c.in-AddRental in
     let rental = c.in-Some.rental in
     row_booked (row.AddRental rental a.rider a.bike a.plan a.from_station c.args.now) c.push.result c.push.ensures.items told c.is_ok.ensures.value a.is (λ s m read.
-    let next = c.in-Some.ensures s read.view_is in
+    let next = c.in-Some.ensures.told s read.view_is in
     add_rental s m c.args.now read.listing rental a.rider a.bike a.plan a.from_station next (no_refunds s read.sound rental (omega (arith, next))))
 
 pub returns-in-CloseRental-clause-books : goal.returns-in-CloseRental-clause-books

@@ -3,9 +3,9 @@ use Rattle.bike_commands.specs.declared.command.Command.TheVariants as command
 use Rattle.bike_core.proofs.Decisions.{refused_as, refund_decided}
 use Rattle.bike_core.proofs.decide_rentals.decide_refund.Goals as goal
 
-pub returns-in-Err : goal.returns-in-Err
-returns-in-Err c = λ s e. refused_as s c.args.view.now (command.Refund c.args.rental c.args.amount) (Some c.in-Err.refusal) e (c.in-Err.ensures.tests c.args.rental)
+pub returns-in-Err-clause-decides : goal.returns-in-Err-clause-decides
+returns-in-Err-clause-decides c = λ s e. refused_as s c.args.view.now (command.Refund c.args.rental c.args.amount) (Some c.in-Err.refusal) e (c.in-Err.ensures.tests c.args.rental)
 
-pub returns : goal.returns
-returns c = λ s e. rw (c.balance_reply.ensures, c.refund-entry.ensures, c.in-Some.ensures)
+pub returns-clause-decides : goal.returns-clause-decides
+returns-clause-decides c = λ s e. rw (c.balance_reply.ensures, c.refund-entry.ensures, c.in-Some.ensures)
     (refund_decided s c.args.view.now c.args.now c.args.rental c.args.amount c.in-Ok.row.now e (c.in-Ok.ensures.tests c.args.rental) c.in-Ok.ensures.rental)

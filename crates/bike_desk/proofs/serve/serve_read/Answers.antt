@@ -13,7 +13,7 @@ use Rattle.bike_desk.proofs.serve.serve_read.Goals as goal
 
 pub returns-in_err-store_accepted-in-Ok-clause-failed : goal.returns-in_err-store_accepted-in-Ok-clause-failed
 returns-in_err-store_accepted-in-Ok-clause-failed g c clean s t keeps it =
-    let decides : Decides s c.args.now c.args.request.now.command (Ok c.in-Ok.accepted) = c.in-Ok.ensures s it.view_is in
+    let decides : Decides s c.args.now c.args.request.now.command (Ok c.in-Ok.accepted) = c.in-Ok.ensures.decides s it.view_is in
     let told : AreTexts s c.args.now c.args.request.now (record { caller = c.args.caller; key = c.as_str-key.result; command = c.args.text; reply = c.as_str.result }) =
     record { caller = c.requires.caller; key = c.as_str-key.ensures.text; command = c.requires.text; reply = c.as_str.ensures.value ∙ c.text-spelled.ensures ∙ ap reply_text decides.1 } in
     let accepts = accepts_read s t c.args.now c.args.request.now c.args.meta.now c.args.view.now c.in-Ok.accepted _ (kept_stores (state g.S.Store c.args.conn.now) s keeps).sound it c.bounds.ensures decides told in
@@ -22,7 +22,7 @@ returns-in_err-store_accepted-in-Ok-clause-failed g c clean s t keeps it =
 
 pub returns-in_ok-store_accepted-in-Ok-clause-ok : goal.returns-in_ok-store_accepted-in-Ok-clause-ok
 returns-in_ok-store_accepted-in-Ok-clause-ok g c clean s t keeps it =
-    let decides : Decides s c.args.now c.args.request.now.command (Ok c.in-Ok.accepted) = c.in-Ok.ensures s it.view_is in
+    let decides : Decides s c.args.now c.args.request.now.command (Ok c.in-Ok.accepted) = c.in-Ok.ensures.decides s it.view_is in
     let told : AreTexts s c.args.now c.args.request.now (record { caller = c.args.caller; key = c.as_str-key.result; command = c.args.text; reply = c.as_str.result }) =
     record { caller = c.requires.caller; key = c.as_str-key.ensures.text; command = c.requires.text; reply = c.as_str.ensures.value ∙ c.text-spelled.ensures ∙ ap reply_text decides.1 } in
     let accepts = accepts_read s t c.args.now c.args.request.now c.args.meta.now c.args.view.now c.in-Ok.accepted _ (kept_stores (state g.S.Store c.args.conn.now) s keeps).sound it c.bounds.ensures decides told in

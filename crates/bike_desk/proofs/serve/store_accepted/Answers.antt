@@ -24,7 +24,7 @@ next_is g c seen s keeps it =
     let same = answered.same seen ours in
     let touches = c.find_touched-touched.ensures s h.sound it.view_is in
     let read = accepts_reads s h.listed c.args.now q c.args.meta.now c.args.view.now c.args.entry.now c.args.changes.now c.args.texts.now _ _ h.sound h.listing it touches numbers in
-    let books = c.book_request.ensures s h.listed q it.reply c.requires.empty refl read (sums_are s c.args.meta.now it.meta_is) it.texts_are c.if-not-book_request.false in
+    let books = c.book_request.ensures.books s h.listed q it.reply c.requires.empty refl read (sums_are s c.args.meta.now it.meta_is) it.texts_are c.if-not-book_request.false in
     rw c.as_slice.ensures.value (booked_next old new s c.args.now q h c.book_request.new.rows.items same.0.now_is (still g.S.Store c.args.conn.now c.find_numbers.new.conn s keeps seen same c.find_numbers.ensures.quiet) it.sound_after books)
 
 pub returns-clause-made : goal.returns-clause-made
