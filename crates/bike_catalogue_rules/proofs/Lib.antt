@@ -5,7 +5,6 @@ pub mod NameRules
 pub mod NameLines
 pub mod NameTests
 pub mod NamesJudged
-pub mod Lookups
 pub mod Partners
 pub mod RowVerdicts
 pub mod PlanLines

@@ -20,7 +20,7 @@ use Rattle.bike_readings.proofs.CatalogueRows.{type_reading, region_reading, sta
 use Rattle.bike_readings.proofs.ReadRows.{mapped}
 use Rattle.bike_judges.specs.Lines.{part, or_nulls, with_two}
 use Rattle.bike_catalogue_rules.specs.Names.{FurtherName, system_key, is_own_id, is_place_there, is_offer_there, of_kind, has_place, has_offer}
-use Rattle.bike_catalogue_rules.proofs.Lookups.{SpellsKeys}
+use Rattle.bike_judges.proofs.Lookups.{type_key, region_key, station_part, station_key}
 use Rattle.bike_catalogue_rules.proofs.Partners.{own_part, second_part, third_part, beside_wide, mapped_some, is_there}
 use Rattle.bike_catalogue_rules.proofs.PlanLines.{plan_there}
 use Rattle.bike_catalogue_rules.proofs.Widths.{AreWide}
@@ -65,21 +65,6 @@ places_line t row = with_two 12 2 row (partner 1 (column row 1 ∷ []) t.station
 
 abbrev pub offers_line : Tables → Row → Row
 offers_line t row = with_two 6 5 row (partner 1 (column row 1 ∷ []) t.types) (partner 1 (column row 1 ∷ []) t.plans)
-
-type_key : SpellsKeys texts type_read
-type_key r e is = (ap (take 1) (type_reading.sound r e is).0, tt)
-
-region_key : SpellsKeys texts region_read
-region_key r e is = (ap (take 1) (region_reading.sound r e is).0, tt)
-
--- a station without its numbers
-abbrev station_part : List ℕ × Station × ℤ × ℕ → List ℕ × Station
-station_part e = (e.0, e.1)
-
-station_key : SpellsKeys texts station_in
-station_key r e is =
-    let it = mapped station_part (station_read r) e is in
-    (ap (take 1) (station_reading.sound r it.value it.value_is).0 ∙ ap (λ (x : List ℕ × Station). text_key x.0) it.part_is, tt)
 
 module _ (t : Tables) (up : AreInOrder t) (wide : AreWide t) (row : Row) (has : Has t.more_names row) (e : FurtherName) (is : name_read row ≡ Some e) where
   abbrev s : Operator

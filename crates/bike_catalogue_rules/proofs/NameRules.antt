@@ -19,7 +19,7 @@ use Rattle.bike_readings.proofs.ReadRows.{mapped}
 use Rattle.bike_judges.specs.Passes.{first_failing}
 use Rattle.bike_catalogue_rules.specs.Names.{FurtherName, names_since, may_follow, next_run, misnamed_or, first_misnamed}
 use Rattle.bike_catalogue_rules.specs.declared.names.SystemKey.{SystemKey}
-use Rattle.bike_catalogue_rules.proofs.Lookups.{SpellsKeys, entries_read}
+use Rattle.bike_judges.proofs.Lookups.{SpellsKeys, entries_read}
 use Rattle.bike_catalogue_rules.proofs.NameRuns.{precedes, shared, below_last, preceding, IsRun, no_run, next_is_run, name_entry, low_names, spelled_before}
 
 -- a row that spells a name begins with the key of that

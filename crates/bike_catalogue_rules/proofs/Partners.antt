@@ -15,7 +15,7 @@ use Rattle.bike_operator.specs.Operator.{text_cmp}
 use Rattle.bike_book.proofs.Keys.{text_key, texts}
 use Rattle.bike_readings.proofs.Places.{under_has}
 use Rattle.bike_judges.specs.Lines.{part, nulls, or_nulls}
-use Rattle.bike_catalogue_rules.proofs.Lookups.{SpellsKeys, found_at}
+use Rattle.bike_judges.proofs.Lookups.{SpellsKeys, found_at}
 
 -- ---- the parts of a line
 

@@ -1,5 +1,6 @@
 -- A row with the plan that it names beside it.
 use Rattle.std.proofs.Common.{◌≡◌, ℕ, List, [], ◌∷◌, length, Some, is_some, refl, sym, ap, ◌∙◌}
+use Rattle.std.specs.Prelude.{take}
 use Rattle.std.specs.List.{filter_map}
 use Rattle.std.specs.FinMap as fin
 use Rattle.sqlite_value.specs.declared.value.Value.TheVariants.{Text}
@@ -8,17 +9,23 @@ use Rattle.bike_rows.specs.View.{partner}
 use Rattle.bike_catalogue.specs.Rows.{PlanRow}
 use Rattle.bike_operator.specs.Operator.{text_cmp}
 use Rattle.bike_book.specs.Tables.{Tables, Plans}
-use Rattle.bike_book.proofs.Keys.{texts}
+use Rattle.bike_book.proofs.Keys.{text_key, texts}
 use Rattle.bike_readings.specs.Readings.{plan_read}
 use Rattle.bike_readings.specs.ReadOff.{plan_in, with_segments, segments_of, operator_of}
 use Rattle.bike_readings.specs.Rules.{AreInOrder}
+use Rattle.bike_readings.proofs.CatalogueRows.{plan_reading}
 use Rattle.bike_readings.proofs.ReadLists.{read_of, find_has}
 use Rattle.bike_readings.proofs.ReadRows.{mapped}
 use Rattle.bike_judges.specs.Lines.{or_nulls, with_one}
+use Rattle.bike_judges.proofs.Lookups.{SpellsKeys, sorted_read}
 use Rattle.bike_catalogue_rules.specs.Tests.{has_plan}
-use Rattle.bike_catalogue_rules.proofs.Lookups.{plan_key, sorted_read}
 use Rattle.bike_catalogue_rules.proofs.Partners.{last_part, beside_wide, mapped_some, is_there}
 use Rattle.bike_catalogue_rules.proofs.Widths.{AreWide}
+
+plan_key : (segments : List Row) → SpellsKeys texts (plan_in segments)
+plan_key segments r e is =
+    let it = mapped (with_segments segments) (plan_read r) e is in
+    (ap (take 1) (plan_reading.sound r it.value it.value_is).0 ∙ ap (λ (x : List ℕ × PlanRow). text_key x.0) it.part_is, tt)
 
 -- the row that names a plan in this column, with that plan beside it
 abbrev pub plan_line : Tables → ℕ → Row → Row

@@ -1,5 +1,4 @@
 mod Folds
-pub mod Lookups
 pub mod Groups
 pub mod Pass
 pub mod Steps

@@ -20,9 +20,9 @@ use Rattle.bike_readings.specs.ReadOff.{operator_of, station_in}
 use Rattle.bike_readings.proofs.Places.{under_has}
 use Rattle.bike_readings.proofs.ReadRows.{mapped}
 use Rattle.bike_judges.specs.Lines.{part, nulls, or_nulls, with_two}
+use Rattle.bike_judges.proofs.Lookups.{found_at, type_key, station_key}
 use Rattle.bike_count_rules.specs.Names.{is_named}
 use Rattle.bike_count_rules.proofs.Apart.{AreWide}
-use Rattle.bike_count_rules.proofs.Lookups.{get_read}
 use Rattle.bike_count_rules.proofs.Totals.{take_all, take_front}
 
 -- what partners are read as
@@ -47,22 +47,14 @@ module _ (t : Tables) (up : AreInOrder t) (wide : AreWide t) where
   abbrev type_under : List ℕ → Option Row
   type_under id = row_with 1 (Text id ∷ []) t.types
 
-  station_own : (r : Row) (e : List ℕ × Station) → station_in r ≡ Some e → (take 1 r ≡ Text e.0 ∷ []) × Unit {0}
-  station_own r e is =
-      let it = mapped (λ (x : List ℕ × Station × _ × ℕ). (x.0, x.1)) (station_read r) e is in
-      (ap (take 1) (station_reading.sound r it.value it.value_is).0 ∙ ap (λ (x : List ℕ × Station). Text x.0 ∷ []) it.part_is, tt)
-
-  type_own : (r : Row) (e : List ℕ × TypeRow) → type_read r ≡ Some e → (take 1 r ≡ Text e.0 ∷ []) × Unit {0}
-  type_own r e is = (ap (take 1) (type_reading.sound r e is).0, tt)
-
   station_there : (id : List ℕ) → fin.contains_key (operator_of t).stations id ≡ is_some (option_and_then station_read (station_under id))
-  station_there id = ap is_some (get_read texts station_in station_own id tt t.stations (up Stations)) ∙ go (station_under id) where
+  station_there id = ap is_some (found_at texts station_in station_key t.stations (up Stations) id tt) ∙ go (station_under id) where
     go : (o : Option Row) → is_some (option_map (λ e. e.1) (option_and_then station_in o)) ≡ is_some (option_and_then station_read o)
     go None = refl
     go (Some r) = elim (station_read r) as (λ q. is_some (option_map (λ (e : List ℕ × Station). e.1) (option_map (λ (x : List ℕ × Station × _ × ℕ). (x.0, x.1)) q)) ≡ is_some q) [ None ↦ refl | Some x ↦ refl ]
 
   type_there : (id : List ℕ) → fin.contains_key (operator_of t).types id ≡ is_some (option_and_then type_read (type_under id))
-  type_there id = ap is_some (get_read texts type_read type_own id tt t.types (up Types)) ∙ go (option_and_then type_read (type_under id)) where
+  type_there id = ap is_some (found_at texts type_read type_key t.types (up Types) id tt) ∙ go (option_and_then type_read (type_under id)) where
     go : (o : Option (List ℕ × TypeRow)) → is_some (option_map (λ e. e.1) o) ≡ is_some o
     go None = refl
     go (Some x) = refl

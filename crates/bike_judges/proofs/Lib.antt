@@ -17,3 +17,4 @@ pub mod ApartLines
 pub mod QueryLaws
 pub mod ReadsLaw
 pub mod OwnAccounts
+pub mod Lookups

@@ -24,10 +24,10 @@ use Rattle.bike_readings.proofs.RowRules.{some_with}
 use Rattle.bike_readings.proofs.ReadRows.{mapped}
 use Rattle.bike_judges.specs.Lines.{or_nulls, with_one, part, nulls}
 use Rattle.bike_judges.specs.Passes.{Demands}
+use Rattle.bike_judges.proofs.Lookups.{found_at, station_key}
 use Rattle.bike_station_rules.specs.Docks.{has_dock, is_good_dock}
 use Rattle.bike_judges.specs.Verdicts.{IsFirstFailing, IsTableVerdict}
 use Rattle.bike_station_rules.proofs.OfRows.{IsTestOf, demands_good, good_demands, same_verdict}
-use Rattle.bike_station_rules.proofs.Lookups.{get_read}
 
 -- each row has as many columns as its table
 abbrev pub AreWide : Tables → Type 0
@@ -44,17 +44,10 @@ pub read_partner : {A : Type 0} (read : Row → Option A) (width : ℕ) → read
 read_partner read width none None wide = none
 read_partner read width none (Some r) wide = ap read (take_all width r (wide r refl))
 
--- a station of which the row begins with its identifier
-pub station_own : (r : Row) (e : List ℕ × Station) → station_in r ≡ Some e → (take 1 r ≡ Text e.0 ∷ []) × Unit {0}
-station_own r e is =
-    let it = mapped (λ (x : List ℕ × Station × ℤ × ℕ). (x.0, x.1)) (station_read r) e is in
-    let row = (station_reading.sound r it.value it.value_is).0 in
-    (ap (take 1) row ∙ ap (λ (x : List ℕ × Station). Text x.0 ∷ []) it.part_is, tt)
-
 module _ (t : Tables) (up : AreInOrder t) (wide : AreWide t) where
   -- what stands in the operator under a station is what its row spells
   pub station_found : (id : List ℕ) → fin.get (operator_of t).stations id ≡ option_map (λ e. e.1) (option_and_then station_in (row_with 1 (Text id ∷ []) t.stations))
-  station_found id = get_read texts station_in station_own id tt t.stations (up Stations)
+  station_found id = found_at texts station_in station_key t.stations (up Stations) id tt
 
   pub station_wide : (id : List ℕ) (r : Row) → row_with 1 (Text id ∷ []) t.stations ≡ Some r → length r ≡ 12
   station_wide id r is = wide Stations r (under_has 1 (Text id ∷ []) t.stations r is).0

@@ -1,4 +1,3 @@
-pub mod Lookups
 pub mod Widths
 pub mod OfRows
 pub mod DockTest

@@ -20,19 +20,15 @@ use Rattle.bike_readings.specs.ReadOff.{operator_of}
 use Rattle.bike_readings.specs.Rules.{AreInOrder}
 use Rattle.bike_readings.proofs.Places.{under_has}
 use Rattle.bike_judges.specs.Lines.{or_nulls, with_one, part}
+use Rattle.bike_judges.proofs.Lookups.{found_at, region_key}
 use Rattle.bike_station_rules.specs.StationRows.{has_region}
 use Rattle.bike_station_rules.specs.StationVerdicts.{with_region}
 use Rattle.bike_station_rules.proofs.DockTest.{AreWide, take_front, read_partner}
-use Rattle.bike_station_rules.proofs.Lookups.{get_read}
-
--- a region of which the row begins with its identifier
-region_own : (r : Row) (e : List ℕ × RegionRow) → region_read r ≡ Some e → (take 1 r ≡ Text e.0 ∷ []) × Unit {0}
-region_own r e is = (ap (take 1) (region_reading.sound r e is).0, tt)
 
 module _ (t : Tables) (up : AreInOrder t) (wide : AreWide t) where
   -- what stands in the operator under a region is what its row spells
   region_found : (id : List ℕ) → fin.get (operator_of t).regions id ≡ option_map (λ e. e.1) (option_and_then region_read (row_with 1 (Text id ∷ []) t.regions))
-  region_found id = get_read texts region_read region_own id tt t.regions (up Regions)
+  region_found id = found_at texts region_read region_key t.regions (up Regions) id tt
 
   region_wide : (id : List ℕ) (r : Row) → row_with 1 (Text id ∷ []) t.regions ≡ Some r → length r ≡ 2
   region_wide id r is = wide Regions r (under_has 1 (Text id ∷ []) t.regions r is).0

@@ -38,7 +38,7 @@ use Rattle.bike_station_rules.specs.Docked.{dock_of, docked_in}
 use Rattle.bike_station_rules.specs.Stations.{is_same_text, broken_dock, broken_at, taken_at, owner, of_owner, station_opening, begins, more, good, key}
 use Rattle.bike_station_rules.specs.declared.account.StationAccount.{StationAccount}
 use Rattle.bike_station_rules.specs.declared.dock_set.TheConstants.{PLACES}
-use Rattle.bike_station_rules.proofs.Lookups.{entries_read}
+use Rattle.bike_judges.proofs.Lookups.{entries_read}
 use Rattle.bike_station_rules.proofs.DockTest.{AreWide, take_front}
 use Rattle.bike_station_rules.proofs.DockedRows.{row_is}
 use Rattle.bike_station_rules.proofs.Bits.{is_bit, or_false, none_set, any_map, of_read, any_read, any_same, any_none, none_found}

@@ -1,5 +1,5 @@
--- What stands in the operator under a key is what the row with that key spells, where the rows stand in the order of their keys.
-use Rattle.std.proofs.Common.{◌≡◌, ℕ, List, [], ◌∷◌, Bool, true, false, ◌&&◌, T, Option, Some, None, refl, sym, ap, ap₂, ◌∙◌}
+-- What stands under a key in a map that is read off rows is what the row with that key spells, where the rows stand in the order of their keys.
+use Rattle.std.proofs.Common.{◌≡◌, ℕ, ℤ, List, [], ◌∷◌, Bool, true, false, ◌&&◌, T, Option, Some, None, refl, sym, ap, ap₂, ◌∙◌}
 use Rattle.std.specs.Prelude.{take, option_map, option_and_then}
 use Rattle.std.specs.List.{filter_map, cons_option, AllByRecursion}
 use Rattle.std.specs.Ordering.{is_lt}
@@ -11,14 +11,15 @@ use Rattle.sqlite_value.specs.Order.{Row, row_cmp}
 use Rattle.bike_rows.specs.View.{by_key, row_with}
 use Rattle.bike_rows.proofs.OrderLemmas.{Rises}
 use Rattle.bike_rows.proofs.TreeLemmas.{by_key_total}
-use Rattle.bike_catalogue.specs.Rows.{PlanRow}
+use Rattle.bike_operator.specs.Operator.{Station}
 use Rattle.bike_book.proofs.MapRows.{StoresKeys, has_find}
-use Rattle.bike_book.proofs.Keys.{text_key, texts}
-use Rattle.bike_readings.specs.Readings.{plan_read}
-use Rattle.bike_readings.proofs.CatalogueRows.{plan_reading}
-use Rattle.bike_readings.specs.ReadOff.{plan_in, with_segments}
-use Rattle.bike_readings.proofs.ReadLists.{read_of, has_read, find_has}
+use Rattle.bike_book.proofs.Keys.{text_key, numbers, texts}
+use Rattle.bike_readings.specs.Readings.{type_read, region_read, station_read, truck_read}
+use Rattle.bike_readings.specs.ReadOff.{station_in}
+use Rattle.bike_readings.proofs.CatalogueRows.{type_reading, region_reading, station_reading}
+use Rattle.bike_readings.proofs.FleetRows.{truck_reading}
 use Rattle.bike_readings.proofs.ReadRows.{mapped}
+use Rattle.bike_readings.proofs.ReadLists.{read_of, has_read, find_has}
 use Rattle.bike_readings.proofs.Places.{has_under, under_has}
 
 passed : (r : Ordering) → r ≡ Less → T (is_lt r)
@@ -87,9 +88,22 @@ module _ {K X : Type 0} {R : K → K → Ordering} {keys : ℕ} {key_row : K →
     found_at rows up k good =
         fin.get-from_sorted R (filter_map read rows) k (sorted_read rows up) ∙ found rows up k good (entries.find R k (filter_map read rows)) refl
 
--- ---- plans
+-- ---- the tables that are looked into
 
-pub plan_key : (segments : List Row) → SpellsKeys texts (plan_in segments)
-plan_key segments r e is =
-    let it = mapped (with_segments segments) (plan_read r) e is in
-    (ap (take 1) (plan_reading.sound r it.value it.value_is).0 ∙ ap (λ (x : List ℕ × PlanRow). text_key x.0) it.part_is, tt)
+pub type_key : SpellsKeys texts type_read
+type_key r e is = (ap (take 1) (type_reading.sound r e is).0, tt)
+
+pub region_key : SpellsKeys texts region_read
+region_key r e is = (ap (take 1) (region_reading.sound r e is).0, tt)
+
+-- a station without its numbers
+abbrev pub station_part : List ℕ × Station × ℤ × ℕ → List ℕ × Station
+station_part e = (e.0, e.1)
+
+pub station_key : SpellsKeys texts station_in
+station_key r e is =
+    let it = mapped station_part (station_read r) e is in
+    (ap (take 1) (station_reading.sound r it.value it.value_is).0 ∙ ap (λ (x : List ℕ × Station). text_key x.0) it.part_is, tt)
+
+pub truck_key : SpellsKeys numbers truck_read
+truck_key r e is = (ap (take 1) (truck_reading.sound r e is).0, tt)
