@@ -1,21 +1,20 @@
 -- The newest tables as they are made, and as they are filled.
-use Rattle.std.proofs.Common.{◌≡◌, ◌&&◌, ℕ, Bool, true, false, not, List, [], ◌∷◌, map, codes, is_none, IsTrue, refl, sym, ap, subst, ◌∙◌}
-use Rattle.std.specs.List.{AllByRecursion, list_all, list_any}
+use Rattle.std.proofs.Common.{◌≡◌, ℕ, true, false, not, List, [], ◌∷◌, is_none, refl, ap, ◌∙◌}
+use Rattle.std.specs.List.{list_all}
 use Rattle.std.proofs.Math.Path.{fun_ext}
 use Rattle.std.proofs.lemmas.Bool.{and_parts, not-true}
 use Rattle.sqlite_value.specs.Order.{Row}
 use Rattle.sqlite_schema.specs.declared.schema.Schema.{Schema}
 use Rattle.sqlite_schema.specs.Names.{table_named}
 use Rattle.sqlite.specs.Effect.{Database, IsDatabase}
-use Rattle.bike_rows.specs.Layout.{Layout}
-use Rattle.bike_rows.specs.Stands.{rows_of, Stands, Stays, Indexes}
-use Rattle.bike_book.specs.Tables.{TableName, Tables, keys_of, rows_in, tables_by, with_rows, Meta, System, Plans, Segments, Types, Regions, Stations, Docks, Bikes, Trucks, Riders, Rentals, Orders, Entries, Kept, Counts, MoreNames}
+use Rattle.bike_rows.specs.Stands.{rows_of, Stands, Indexes}
+use Rattle.bike_book.specs.Tables.{TableName, keys_of, rows_in, tables_by, with_rows, Meta, System, Plans, Segments, Types, Regions, Stations, Docks, Bikes, Trucks, Riders, Rentals, Orders, Entries, Kept, Counts, MoreNames}
 use Rattle.bike_schema.specs.Layouts.{layout_of, name_of}
 use Rattle.bike_schema.specs.Makes.{OthersStay}
-use Rattle.bike_schema.specs.Tables.{tables_of, HasTables, is_parent, is_unused}
+use Rattle.bike_schema.specs.Tables.{is_parent, is_unused}
 use Rattle.bike_earlier.specs.declared.earlier.Earlier.{Earlier}
 use Rattle.bike_earlier.specs.declared.earlier.Earlier.TheVariants.{First, Second}
-use Rattle.bike_earlier.specs.Earlier.{IsAt, HasTablesAt, AreNewerFree, newer_names, rows_at, tables_at}
+use Rattle.bike_earlier.specs.Earlier.{IsAt, HasTablesAt, newer_names, tables_at}
 use Rattle.bike_migrate.specs.Raised.{AllStay, AreUnnamed, MakesTable, MakesNewer, MakesTables}
 
 -- ---- one table after another

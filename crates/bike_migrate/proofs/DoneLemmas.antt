@@ -1,17 +1,16 @@
 -- The raised tables are judged, and stand once the old table of stations is gone.
-use Rattle.std.proofs.Common.{◌≡◌, ◌||◌, ℕ, Bool, true, false, List, [], ◌∷◌, ◌++◌, map, codes, Option, Some, None, refl, sym, ap, subst, ◌∙◌}
+use Rattle.std.proofs.Common.{◌≡◌, ◌||◌, ℕ, Bool, false, List, [], ◌∷◌, map, codes, Option, refl, sym, ap, subst, ◌∙◌}
 use Rattle.std.specs.List.{list_any}
 use Rattle.std.proofs.Math.Path.{fun_ext}
 use Rattle.std.proofs.lemmas.Bool.{or_parts}
 use Rattle.std.proofs.lemmas.List.Folds.{list_any-append}
 use Rattle.sqlite_value.specs.Order.{Row}
 use Rattle.sqlite.specs.Effect.{Database}
-use Rattle.bike_rows.specs.Layout.{Layout}
-use Rattle.bike_rows.specs.Stands.{is_same_text, rows_of, Stands, Stays}
+use Rattle.bike_rows.specs.Stands.{is_same_text, Stands, Stays}
 use Rattle.bike_book.specs.Tables.{TableName, Tables, keys_of, tables_by}
 use Rattle.bike_schema.specs.Layouts.{layout_of, name_of, every_table}
-use Rattle.bike_schema.specs.Makes.{is_our_name, OthersStay}
-use Rattle.bike_schema.specs.Tables.{tables_of, other_names, product_names}
+use Rattle.bike_schema.specs.Makes.{is_our_name}
+use Rattle.bike_schema.specs.Tables.{tables_of, other_names}
 use Rattle.bike_schema.proofs.TableLemmas.{every_false}
 use Rattle.bike_earlier.specs.declared.earlier.Earlier.{Earlier}
 use Rattle.bike_earlier.specs.declared.earlier.Earlier.TheVariants.{First, Second}

@@ -12,7 +12,7 @@ use Rattle.bike_rows.proofs.ListLemmas.{map_has}
 use Rattle.bike_rows.proofs.OrderLemmas.{Rises, rises, order_has, all_has, all_from}
 use Rattle.bike_rows.proofs.TreeLemmas.{by_key_total}
 use Rattle.bike_book.specs.Tables.{Tables, Stations, with_rows}
-use Rattle.bike_book.specs.Writes.{RowWrite, Add, tables_after, tables_after_all}
+use Rattle.bike_book.specs.Writes.{Add, tables_after, tables_after_all}
 use Rattle.bike_schema.specs.Makes.{Makes}
 use Rattle.bike_schema.proofs.MakesLemmas.{makes_then, stay_then}
 use Rattle.bike_earlier.specs.declared.earlier.Earlier.{Earlier}

@@ -1,15 +1,13 @@
 -- What was found of a database, and what came of it.
-use Rattle.std.proofs.Common.{◌≡◌, ◌==◌, inl, inr, ℕ, pos, Bool, true, false, List, [], ◌∷◌, Option, Some, None, Result, Ok, Err, IfOk, OnOk, IsErr, IsTrue, Ordering, Less, Equal, Greater, if◌then◌else◌, refl, sym, ap, subst, ◌∙◌, arith}
+use Rattle.std.proofs.Common.{◌≡◌, ◌==◌, inl, inr, ℕ, Bool, true, false, Option, Some, None, Result, Ok, Err, IfOk, OnOk, IsErr, Ordering, Less, Equal, Greater, if◌then◌else◌, refl, sym, ap, subst, ◌∙◌, arith}
 use Rattle.std.specs.Prelude.{option_map}
 use Rattle.std.specs.Ordering.{nat_cmp}
 use Rattle.std.proofs.lemmas.Bool.{eqb-true}
-use Rattle.std.proofs.lemmas.Result.{IfOk-weaker}
-use Rattle.sqlite_trees.specs.Tree.{Trees}
 use Rattle.sqlite_trees.specs.declared.store.Store.{Ghosts}
 use Rattle.sqlite.specs.Effect.{Database}
 use Rattle.sqlite.specs.Held.{Held, state}
-use Rattle.sqlite.specs.State.{HasCleanDisk, IsUnchanged, Shows, Survives}
-use Rattle.sqlite.proofs.StateLemmas.{survives_weaker, survives_then}
+use Rattle.sqlite.specs.State.{HasCleanDisk, IsUnchanged, Survives}
+use Rattle.sqlite.proofs.StateLemmas.{survives_then}
 use Rattle.bike_rows.proofs.ChainLaws.{quiet_survives}
 use Rattle.bike_book.specs.declared.version.TheConstants.{NEWEST}
 use Rattle.bike_schema.specs.declared.fault.StatementFault.{StatementFault}
@@ -17,7 +15,7 @@ use Rattle.bike_schema.specs.Tables.{HasTables, HasNone}
 use Rattle.bike_recognition.specs.Recognition.{ReadsAny, meta_version}
 use Rattle.bike_recognition.specs.declared.version.MetaVersion.{MetaVersion}
 use Rattle.bike_recognition.specs.declared.version.MetaVersion.TheVariants.{Missing, Version, NotOurs}
-use Rattle.bike_audit.specs.Audit.{row_name, IsVerdictOn}
+use Rattle.bike_audit.specs.Audit.{row_name}
 use Rattle.bike_audit.specs.declared.tables.BadRow.{BadRow}
 use Rattle.bike_earlier.specs.declared.earlier.Earlier.{Earlier}
 use Rattle.bike_earlier.specs.declared.earlier.Earlier.TheVariants.{First, Second}
@@ -26,7 +24,7 @@ use Rattle.bike_earlier.specs.declared.found.Found.TheVariants as found
 use Rattle.bike_earlier.specs.Earlier.{number_of, IsAt}
 use Rattle.bike_earlier.specs.Found.{earlier_of, IsNewest, IsOfEarlier, IsByNumber, IsByVersion, IsFoundAs}
 use Rattle.bike_migrate.specs.Raised.{IsEarlier, Raises, tables_raised}
-use Rattle.bike_migrate.specs.Raising.{MayCommit, IsAsBefore, BecomesAt, RaisesInPlace, IsOutcome, MayCommitAny, ComesTo, outcome_of}
+use Rattle.bike_migrate.specs.Raising.{MayCommit, BecomesAt, RaisesInPlace, IsOutcome, MayCommitAny, ComesTo, outcome_of}
 use Rattle.bike_migrate.specs.Verdicts.{AllGoodBefore, IsVerdictBefore}
 use Rattle.bike_migrate.specs.declared.raising.Outcome.{Outcome}
 

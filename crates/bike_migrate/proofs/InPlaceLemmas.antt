@@ -1,5 +1,5 @@
 -- From the begin of the transaction to its end.
-use Rattle.std.proofs.Common.{◌≡◌, ◌⊎◌, inl, inr, true, false, List, Vec, Global, Option, Some, None, Result, Ok, Err, IfOk, OnOk, IsErr, IsTrue, refl, sym, ap, subst, ◌∙◌, arith}
+use Rattle.std.proofs.Common.{◌≡◌, ◌⊎◌, inl, inr, true, List, Option, Some, None, Result, Ok, Err, IsErr, IsTrue, refl, sym, subst, ◌∙◌, arith}
 use Rattle.std.specs.Prelude.{option_map}
 use Rattle.std.proofs.lemmas.Result.{IfOk-weaker}
 use Rattle.sqlite_value.specs.Order.{Row}
@@ -7,22 +7,20 @@ use Rattle.sqlite_trees.specs.Tree.{Trees}
 use Rattle.sqlite_trees.specs.declared.store.Store.{Ghosts}
 use Rattle.sqlite.specs.Effect.{Database}
 use Rattle.sqlite.specs.Held.{Held, state}
-use Rattle.sqlite.specs.State.{HasCleanDisk, Shows, Survives}
+use Rattle.sqlite.specs.State.{HasCleanDisk, IsLive, Shows, Survives}
 use Rattle.sqlite.proofs.StateLemmas.{survives_weaker, survives_then}
 use Rattle.bike_rows.specs.Calls.{ReadsWhere}
 use Rattle.bike_rows.specs.Stands.{Stands}
-use Rattle.bike_rows.proofs.ChainLaws.{quiet_survives}
 use Rattle.bike_schema.specs.Makes.{Continues}
 use Rattle.bike_schema.specs.declared.fault.StatementFault.{StatementFault}
-use Rattle.bike_recognition.specs.Recognition.{AnyDatabase, ReadsAny}
 use Rattle.bike_audit.specs.Audit.{row_name}
 use Rattle.bike_audit.specs.declared.tables.BadRow.{BadRow}
 use Rattle.bike_earlier.specs.declared.earlier.Earlier.{Earlier}
 use Rattle.bike_earlier.specs.Earlier.{stations_layout}
 use Rattle.bike_migrate.specs.Calls.{DoesInside}
 use Rattle.bike_migrate.specs.Raised.{IsEarlier, old_stations, Raises, tables_raised}
-use Rattle.bike_migrate.specs.Raising.{MayCommit, Becomes, IsJudged, Attempts, Ends, CommitsBy, EndsTransaction, IsAsBefore, BecomesAt, RaisesInPlace}
-use Rattle.bike_migrate.specs.Verdicts.{AllGoodBefore, IsVerdictBefore}
+use Rattle.bike_migrate.specs.Raising.{MayCommit, IsJudged, Attempts, Ends, CommitsBy, EndsTransaction, BecomesAt, RaisesInPlace}
+use Rattle.bike_migrate.specs.Verdicts.{IsVerdictBefore}
 use Rattle.bike_migrate.proofs.FillLemmas.{old_table}
 
 module _ {S : Type 0} (g : Ghosts S) (e : Earlier) where
@@ -106,7 +104,7 @@ module _ {S : Type 0} (g : Ghosts S) (e : Earlier) where
       survives = survives_weaker (state g old) (state g mid) _ _ (λ clean db none was. absurd (none was)) it.survives;
     }
 
-    module _ (new : Held S) (bad : Option BadRow) (settled : IsTrue (state g old).is_open → (state g old).now ≡ (state g old).committed) (it : Attempts g e old mid (Ok bad)) {result : Result (Option BadRow) StatementFault} (ended : EndsTransaction g mid new bad result) where
+    module _ (new : Held S) (bad : Option BadRow) (settled : IsTrue (state g old).is_open → (state g old).now ≡ (state g old).committed) (live : IsLive (state g old)) (it : Attempts g e old mid (Ok bad)) {result : Result (Option BadRow) StatementFault} (ended : EndsTransaction g mid new bad result) where
       early : HasCleanDisk (state g new) → HasCleanDisk (state g mid)
       early clean = omega (arith, clean, ended.survives.clean)
 
@@ -130,8 +128,8 @@ module _ {S : Type 0} (g : Ghosts S) (e : Earlier) where
         },
       )
 
-      commits : (b : Option BadRow) (trees : Trees) → CommitsBy g mid b trees → IsJudged e (state g old).now (state g mid).now (option_map row_name b) → MayCommit e (state g old).now trees
-      commits None trees is at = ((state g mid).now, at.becomes, at.verdict, is)
+      commits : (b : Option BadRow) (trees : Trees) → CommitsBy g mid b trees → Continues (state g old) (state g mid) × IsJudged e (state g old).now (state g mid).now (option_map row_name b) → MayCommit e (state g old).now trees
+      commits None trees is at = record { sound = (live at.0.was_open).0; db = (state g mid).now; raises = at.1.becomes; good = at.1.verdict; trees_are = is }
       commits (Some row) trees is at = absurd is
 
       pub ends_in_place : RaisesInPlace g e old new result
@@ -139,7 +137,7 @@ module _ {S : Type 0} (g : Ghosts S) (e : Earlier) where
         ends = λ clean was. let at = it.judged (early clean) was in
             IfOk-weaker result _ _ (λ b is. subst (λ o. IsVerdictBefore (tables_raised e (state g old).now) (option_map row_name o) × BecomesAt g e old new o) (sym is.0) (ends_as bad at is.1)) (ended.ended clean);
         outside = ended.outside;
-        survives = survives_then (state g old) (state g mid) (state g new) _ _ _ (λ clean db none was. absurd (none was)) (λ clean db by was. commits bad db by (it.judged (early clean) was).1) it.survives ended.survives;
+        survives = survives_then (state g old) (state g mid) (state g new) _ _ _ (λ clean db none was. absurd (none was)) (λ clean db by was. commits bad db by (it.judged (early clean) was)) it.survives ended.survives;
       }
 
   -- a transaction that is undone after a failure

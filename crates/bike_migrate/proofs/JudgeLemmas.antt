@@ -1,5 +1,5 @@
 -- The tables are made, filled and judged.
-use Rattle.std.proofs.Common.{◌≡◌, ◌∙◌, List, Option, Some, None, Result, Ok, sym, subst}
+use Rattle.std.proofs.Common.{◌≡◌, List, Option, Result, Ok, sym, subst}
 use Rattle.std.specs.Prelude.{option_map}
 use Rattle.sqlite_value.specs.Order.{Row}
 use Rattle.sqlite_trees.specs.declared.store.Store.{Ghosts}

@@ -1,21 +1,19 @@
 -- The tables at an earlier version are an operator's where, raised, they are his and no station has too many docks.
-use Rattle.std.proofs.Common.{◌≡◌, ◌≤◌, ℕ, pos, Bool, true, false, List, [], ◌∷◌, map, Option, Some, None, refl, sym, ap, subst, ◌∙◌}
-use Rattle.std.specs.Prelude.{take, option_map, IfSome}
+use Rattle.std.proofs.Common.{◌≡◌, ◌≤◌, ℕ, pos, true, List, [], ◌∷◌, map, Option, Some, None, refl, sym, ap, subst, ◌∙◌}
+use Rattle.std.specs.Prelude.{option_map, IfSome}
 use Rattle.std.specs.FinMap as fin
 use Rattle.std.proofs.lemmas.Bool.{leb-true, le-leb}
 use Rattle.sqlite_value.specs.declared.value.Value.TheVariants.{Text}
 use Rattle.sqlite_value.specs.Order.{Row}
-use Rattle.sqlite_rules.specs.Lists.{Has}
 use Rattle.sqlite.specs.Effect.{Database}
 use Rattle.bike_rows.specs.View.{row_with}
 use Rattle.bike_rows.proofs.ListLemmas.{map_has}
 use Rattle.bike_ledger.specs.Ledger.{cash_of, revenue_of}
 use Rattle.bike_operator.specs.Operator.{Operator, Station}
 use Rattle.bike_operator.specs.Counts.{docks_available, docks_broken}
-use Rattle.bike_book.specs.declared.version.TheConstants.{NEWEST}
-use Rattle.bike_book.specs.Tables.{TableName, Tables, rows_in, Meta, System, Plans, Segments, Types, Regions, Stations, Docks, Bikes, Trucks, Riders, Rentals, Orders, Entries, Kept, Counts, MoreNames, with_rows}
+use Rattle.bike_book.specs.Tables.{TableName, Tables, Meta, Stations, with_rows}
 use Rattle.bike_book.specs.Rows.{meta_row, station_row}
-use Rattle.bike_book.specs.Stored.{Listed, IsListing, tables_for, stored_station}
+use Rattle.bike_book.specs.Stored.{Listed, tables_for, stored_station}
 use Rattle.bike_book.specs.Writes.{tables_after}
 use Rattle.bike_book.proofs.FoundKeys.{found_by_key}
 use Rattle.bike_book.proofs.Keys.{texts}
@@ -25,9 +23,7 @@ use Rattle.bike_schema.specs.Tables.{tables_of}
 use Rattle.bike_readings.specs.ReadOff.{operator_of}
 use Rattle.bike_readings.specs.Rules.{AllGood, row_under, IsVerdict}
 use Rattle.bike_readings.proofs.Places.{under_has}
-use Rattle.bike_readings.proofs.RulesLaws.{stored_good, stored_read_off}
-use Rattle.bike_recognition.specs.Recognition.{meta_version}
-use Rattle.bike_recognition.specs.declared.version.MetaVersion.TheVariants.{Version}
+use Rattle.bike_readings.proofs.RulesLaws.{stored_good}
 use Rattle.bike_earlier.specs.declared.earlier.Earlier.{Earlier}
 use Rattle.bike_earlier.specs.declared.earlier.Earlier.TheVariants.{First, Second}
 use Rattle.bike_earlier.specs.declared.earlier.TheConstants.{MOST_DOCKS_BEFORE}
@@ -35,7 +31,7 @@ use Rattle.bike_earlier.specs.Earlier.{number_of, tables_at}
 use Rattle.bike_earlier.specs.Stores.{tables_for_at, HasFewDocks, StoresAt}
 use Rattle.bike_migrate.specs.Raised.{IsEarlier, version_write, tables_raised, IsRaised}
 use Rattle.bike_migrate.specs.Stations.{has_few}
-use Rattle.bike_migrate.specs.Verdicts.{KeepsBound, IsGoodBefore, AllGoodBefore, IsFirstBadBefore, IsVerdictBefore}
+use Rattle.bike_migrate.specs.Verdicts.{KeepsBound, AllGoodBefore}
 use Rattle.bike_migrate.proofs.VersionLemmas.{meta_raised, meta_lowered}
 
 -- ---- the bound of docks

@@ -1,14 +1,13 @@
 -- What a raise owes, from what came of the database.
-use Rattle.std.proofs.Common.{◌≡◌, ◌≤◌, inl, inr, ℕ, false, List, Option, Some, None, Result, Ok, Err, IfOk, IfErr, MatchResult, IsTrue, refl, sym, ap, subst, ◌∙◌}
-use Rattle.sqlite_trees.specs.Tree.{Trees}
+use Rattle.std.proofs.Common.{◌≡◌, ◌≤◌, inl, inr, ℕ, Bool, true, false, if◌then◌else◌, Option, Some, None, Ok, Err, IsTrue, refl, sym, ap, subst, ◌∙◌}
 use Rattle.sqlite_trees.specs.View.{doubt}
 use Rattle.sqlite_trees.specs.declared.store.Store.{Ghosts}
-use Rattle.sqlite.specs.Effect.{Database, IsDatabase}
+use Rattle.sqlite.specs.Effect.{Database}
 use Rattle.sqlite.specs.Held.{Held, state}
-use Rattle.sqlite.specs.State.{HasCleanDisk, IsLive, Shows, Survives}
+use Rattle.sqlite.specs.State.{HasCleanDisk, IsLive, Survives}
 use Rattle.bike_operator.specs.Operator.{Operator, no_operator}
 use Rattle.bike_schema.specs.Stands.{Stores, IsOf, StandsFor, TreesStandFor, AllLeft}
-use Rattle.bike_schema.specs.Tables.{tables_of, HasTables, HasNone}
+use Rattle.bike_schema.specs.Tables.{tables_of, HasNone}
 use Rattle.bike_schema.specs.declared.fault.StatementFault.{StatementFault}
 use Rattle.bike_schema.specs.declared.fault.StatementFault.TheVariants as statement
 use Rattle.bike_readings.specs.ReadOff.{operator_of}
@@ -18,15 +17,14 @@ use Rattle.bike_audit.specs.Audit.{row_name}
 use Rattle.bike_earlier.specs.declared.earlier.Earlier.{Earlier}
 use Rattle.bike_earlier.specs.declared.found.Found.{Found}
 use Rattle.bike_earlier.specs.declared.found.Found.TheVariants as found
-use Rattle.bike_earlier.specs.Found.{IsNewest, IsFoundAs, IsByVersion, IsByNumber, IsOfEarlier}
+use Rattle.bike_earlier.specs.Found.{IsFoundAs}
 use Rattle.bike_earlier.specs.Stores.{StoresAt, StandsForAt, TreesStandForAt}
 use Rattle.bike_desk.proofs.KeepLemmas.{Settles, stands_in}
-use Rattle.bike_migrate.specs.Raised.{OthersKept, tables_raised, Raises}
-use Rattle.bike_migrate.specs.Raising.{Holds, IsUnsoundAt, IsUnsound, MayCommitAny, TreesStandSince, handed, failed, IsAsBefore, IsRaisedFrom, IsReady, IsOutcome, ComesTo, IsToldOf, IsWant, IsOutside, IsRaise}
+use Rattle.bike_migrate.specs.Raised.{OthersKept, tables_raised}
+use Rattle.bike_migrate.specs.Raising.{Holds, IsUnsoundAt, IsUnsound, MayCommitAny, TreesStandSince, handed, failed, IsAsBefore, IsRaisedFrom, IsOutcome, ComesTo, IsToldOf, IsWant, IsOutside, IsRaise}
 use Rattle.bike_migrate.specs.declared.fault.RaiseFault.{RaiseFault}
 use Rattle.bike_migrate.specs.declared.fault.RaiseFault.TheVariants as fault
 use Rattle.bike_migrate.specs.declared.fault.UnsoundRow.{UnsoundRow}
-use Rattle.bike_migrate.specs.declared.raising.Outcome.{Outcome}
 use Rattle.bike_migrate.specs.declared.raising.Outcome.TheVariants as outcome
 use Rattle.bike_migrate.proofs.FoundLemmas.{found_earlier, found_has, found_none}
 use Rattle.bike_migrate.proofs.OperatorLemmas.{raised_for, stores_raised, good_stores, stored_all_good}
@@ -91,25 +89,25 @@ module _ {S : Type 0} (g : Ghosts S) (settles : Settles g) (old : Held S) (settl
     ]
       where
         raised : MayCommitAny db trees → TreesStandFor s trees
-        raised (e, is, (made, raises, good, same)) = by (found_there db (found.Of e) v s (stands_here db (live opened).0 v s stands) is)
+        raised (e, is, may) = by (found_there db (found.Of e) v s (stands_here db (live opened).0 v s stands) is)
           where
             by : IsFoundOf db (found.Of e) s → TreesStandFor s trees
             by (Nothing none nobody is) = absurd cc
             by (Whole stores is) = absurd cc
             by (Before f stores is) =
                 let here : StoresAt e db s = subst (λ x. StoresAt x db s) (sym (same_of e f is)) stores in
-                stands_in made trees s (record { sound = raises.raised.sound; is = inr (stores_raised e db made raises.raised s here) }) same
+                stands_in may.db trees s (record { sound = may.raises.raised.sound; is = inr (stores_raised e db may.db may.raises.raised s here) }) may.trees_are
 
-    all_stay : ((v : Option Earlier) (s : Operator) → ¬ StandsForAt v db s) → IsTrue (state g old).is_open → HasCleanDisk (state g new) → AllLeft (state g new) (state g old).may_leave
-    all_stay never opened clean trees h = elim (survives.crash clean trees h) [
+    all_stay : ((v : Option Earlier) (s : Operator) → ¬ StandsForAt v db s) → HasCleanDisk (state g new) → AllLeft (state g new) (state g old).may_leave
+    all_stay never clean trees h = elim (survives.crash clean trees h) [
       | inl before ↦ before
       | inr may ↦ absurd (somebody may)
     ]
       where
         somebody : MayCommitAny db trees → ⊥
-        somebody (e, is, (made, raises, good, same)) =
-            let it = good_stores e db made raises.raised (found_earlier db e is) good in
-            never (Some e) it.0 ((live opened).0, it.1)
+        somebody (e, is, may) =
+            let it = good_stores e db may.db may.raises.raised (found_earlier db e is) may.good in
+            never (Some e) it.0 (may.sound, it.1)
 
     -- ---- a fault
 
@@ -124,11 +122,15 @@ module _ {S : Type 0} (g : Ghosts S) (settles : Settles g) (old : Held S) (settl
       told = subst (λ h. HasCleanDisk (state g h) → IsToldOf g old e) (sym back) told;
       autocommit = outside;
       left = λ v s stands opened. subst (λ h. HasCleanDisk (state g h) → AllLeft (state g h) (TreesStandSince v s)) (sym back) (all_left v s stands opened);
-      stays = λ never opened. subst (λ h. HasCleanDisk (state g h) → AllLeft (state g h) (state g old).may_leave) (sym back) (all_stay never opened);
+      stays = λ never. subst (λ h. HasCleanDisk (state g h) → AllLeft (state g h) (state g old).may_leave) (sym back) (all_stay never);
     }
 
     pub failed_owes : (f : StatementFault) → IsRaise g old (Err (failed f new))
-    failed_owes statement.NoMemory = fault_owes (fault.NoMemory new) refl tt (λ clean. tt) (λ v s stands clean. tt)
+    failed_owes statement.NoMemory = by new.in_transaction refl
+      where
+        by : (is_open : Bool) → new.in_transaction ≡ is_open → IsRaise g old (Err (if is_open then fault.StoreFailed new else fault.NoMemory new))
+        by true is = fault_owes (fault.StoreFailed new) refl tt (λ clean. tt) (λ v s stands clean. tt)
+        by false is = fault_owes (fault.NoMemory new) refl is (λ clean. tt) (λ v s stands clean. tt)
     failed_owes statement.StoreFailed = fault_owes (fault.StoreFailed new) refl tt (λ clean. tt) (λ v s stands clean. tt)
 
   -- ---- what the database is
@@ -221,5 +223,5 @@ module _ {S : Type 0} (g : Ghosts S) (settles : Settles g) (old : Held S) (settl
       told = tt;
       autocommit = it.outside;
       left = λ v s stands opened. tt;
-      stays = λ never opened. tt;
+      stays = λ never. tt;
     }

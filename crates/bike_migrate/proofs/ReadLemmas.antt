@@ -1,11 +1,11 @@
 -- All rows of an answer at once.
-use Rattle.std.proofs.Common.{◌≡◌, ℕ, false, List, [], Result, Ok, Err, IfOk, IfErr, OnOk, OnErr, IsErr, refl}
+use Rattle.std.proofs.Common.{◌≡◌, ℕ, false, List, [], Result, Ok, Err, IsErr}
 use Rattle.sqlite_value.specs.Order.{Row}
 use Rattle.sqlite_trees.specs.declared.store.Store.{Ghosts}
 use Rattle.sqlite.specs.declared.error.Error.{Error}
 use Rattle.sqlite.specs.Effect.{Database}
 use Rattle.sqlite.specs.Held.{Held, state}
-use Rattle.sqlite.specs.State.{HasCleanDisk, IsUnchanged, Survives, Shown, FailsToQuery, CommitsShowing}
+use Rattle.sqlite.specs.State.{HasCleanDisk, Survives, Shown, FailsToQuery, CommitsShowing}
 use Rattle.sqlite.proofs.Callers.{never_commits}
 use Rattle.sqlite.proofs.StateLemmas.{survives_weaker}
 use Rattle.bike_rows.specs.Answer.{HasOneAnswer}

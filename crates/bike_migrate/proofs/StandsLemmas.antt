@@ -1,6 +1,5 @@
 -- For whom trees stand, the database stands whose trees they are; and what it is found to be.
-use Rattle.std.proofs.Common.{◌≡◌, ◌⊎◌, inl, inr, ℕ, pos, List, [], ◌∷◌, Option, Some, None, codes, Ordering, Less, Equal, Greater, refl, sym, ap, subst, ◌∙◌}
-use Rattle.std.specs.Ordering.{nat_cmp}
+use Rattle.std.proofs.Common.{◌≡◌, inl, inr, ℕ, pos, List, [], ◌∷◌, Option, Some, None, codes, refl, sym, ap, subst, ◌∙◌}
 use Rattle.sqlite_value.specs.declared.value.Value.TheVariants.{Int}
 use Rattle.sqlite_value.specs.Order.{Row}
 use Rattle.sqlite_trees.specs.Tree.{Trees}
@@ -16,7 +15,7 @@ use Rattle.bike_book.specs.declared.version.TheConstants.{NEWEST}
 use Rattle.bike_book.specs.Tables.{Tables, Meta, keys_of}
 use Rattle.bike_book.proofs.LedgerRows.{meta_found}
 use Rattle.bike_schema.specs.Layouts.{layout_of, name_of}
-use Rattle.bike_schema.specs.Stands.{Stores, IsOf, StandsFor}
+use Rattle.bike_schema.specs.Stands.{Stores, IsOf}
 use Rattle.bike_schema.specs.Tables.{tables_of, HasTables, HasNone}
 use Rattle.bike_schema.proofs.MakesLemmas.{rows_of_table}
 use Rattle.bike_recognition.specs.Recognition.{TableStands, meta_version, version_in}
@@ -26,8 +25,8 @@ use Rattle.bike_earlier.specs.declared.earlier.Earlier.{Earlier}
 use Rattle.bike_earlier.specs.declared.earlier.Earlier.TheVariants.{First, Second}
 use Rattle.bike_earlier.specs.declared.found.Found.{Found}
 use Rattle.bike_earlier.specs.declared.found.Found.TheVariants as found
-use Rattle.bike_earlier.specs.Earlier.{number_of, layout_at, tables_at, HasTablesAt, AreNewerFree, IsAt}
-use Rattle.bike_earlier.specs.Found.{IsNewest, IsOfEarlier, IsByNumber, IsByVersion, IsFoundAs}
+use Rattle.bike_earlier.specs.Earlier.{layout_at, tables_at, AreNewerFree, IsAt}
+use Rattle.bike_earlier.specs.Found.{IsNewest, IsOfEarlier, IsByVersion, IsFoundAs}
 use Rattle.bike_earlier.specs.Stores.{StoresAt, StandsForAt, TreesStandForAt}
 use Rattle.bike_desk.proofs.KeepLemmas.{no_meta}
 use Rattle.bike_adoption.proofs.AdoptLemmas.{same_tables}

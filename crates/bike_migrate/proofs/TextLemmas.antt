@@ -1,9 +1,9 @@
 -- What the statements do to a database.
-use Rattle.std.proofs.Common.{◌≡◌, ◌&&◌, ℕ, Bool, true, false, List, [], ◌∷◌, map, codes, Some, Ok, Err, Result, refl, sym, ap, ap₂, subst, ◌∙◌, inl, inr}
+use Rattle.std.proofs.Common.{◌≡◌, ℕ, true, false, List, [], ◌∷◌, map, codes, Some, Ok, refl, sym, ap, ap₂, subst, ◌∙◌, inl, inr}
 use Rattle.std.specs.List.{list_all}
 use Rattle.std.proofs.lemmas.Bool.{and_parts}
 use Rattle.sqlite_value.specs.declared.value.Value.{Value}
-use Rattle.sqlite_value.specs.declared.value.Value.TheVariants.{Null, Int, Real, Text, Blob}
+use Rattle.sqlite_value.specs.declared.value.Value.TheVariants.{Null, Int, Text}
 use Rattle.sqlite_value.specs.Order.{Row, column}
 use Rattle.sqlite_tied.specs.Compute.{everything}
 use Rattle.sqlite_sql.specs.Query.{Query}
@@ -30,7 +30,7 @@ use Rattle.bike_drops.proofs.TextLemmas.{drop_means}
 use Rattle.bike_drops.proofs.DropLaw.{table_dropped}
 use Rattle.bike_rows.specs.Layout.{table_of}
 use Rattle.bike_rows.specs.Queries.{table_query, key_tests, by_columns}
-use Rattle.bike_rows.specs.Stands.{Stands, Indexes}
+use Rattle.bike_rows.specs.Stands.{Stands}
 use Rattle.bike_rows.proofs.CallLaws.{Does}
 use Rattle.bike_rows.proofs.CastLemmas.{suits, suit_all}
 use Rattle.bike_rows.proofs.IndexLaw.{IsOnlyIndex}
@@ -48,8 +48,8 @@ use Rattle.bike_schema.specs.Layouts.{layout_of, name_of}
 use Rattle.bike_schema.specs.Makes.{Puts}
 use Rattle.bike_schema.specs.Tables.{IsOurs, tables_of, is_parent}
 use Rattle.bike_schema.proofs.KeyLemmas.{table_key}
-use Rattle.bike_schema.proofs.MakeFacts.{Declares, text_of, declared}
-use Rattle.bike_schema.proofs.MakeTexts.{IsOnlyCreate, understood_as}
+use Rattle.bike_schema.proofs.MakeFacts.{text_of, declared}
+use Rattle.bike_schema.proofs.MakeTexts.{understood_as}
 use Rattle.bike_schema.proofs.MakesLemmas.{adds_row, sets_columns}
 use Rattle.bike_earlier.specs.declared.earlier.Earlier.{Earlier}
 use Rattle.bike_earlier.specs.declared.earlier.Earlier.TheVariants.{First, Second}

@@ -1,26 +1,24 @@
 -- The first bad row is the lesser of the audit's and of the first station over the bound.
-use Rattle.std.proofs.Common.{◌≡◌, ◌<◌, ◌⊎◌, inl, inr, ℕ, zero, suc, Bool, true, false, List, [], ◌∷◌, ◌++◌, map, Option, Some, None, slice_get, Ordering, Less, Equal, Greater, if◌then◌else◌, refl, sym, ap, subst, ◌∙◌, arith}
+use Rattle.std.proofs.Common.{◌≡◌, ◌<◌, ◌⊎◌, inl, inr, ℕ, zero, suc, true, false, List, [], ◌∷◌, ◌++◌, map, Option, Some, None, slice_get, Ordering, Less, Equal, Greater, if◌then◌else◌, refl, sym, ap, subst, ◌∙◌, arith}
 use Rattle.std.specs.Prelude.{take, option_map, IfSome}
-use Rattle.std.specs.Ordering.{nat_cmp, is_lt, ordering_reverse}
+use Rattle.std.specs.Ordering.{is_lt}
 use Rattle.std.specs.Cmp.{ranked}
-use Rattle.std.specs.List.{AllByRecursion}
 use Rattle.std.proofs.lemmas.Bool.{eq-eqb, true≢false}
 use Rattle.std.proofs.lemmas.List.{map-append}
 use Rattle.sqlite_value.specs.Order.{Row, row_cmp}
 use Rattle.sqlite_value.proofs.OrderLemmas.{row_cmp_total}
 use Rattle.sqlite_rules.specs.Lists.{Has}
-use Rattle.sqlite_trees.specs.Tree.{IsAscending}
 use Rattle.bike_rows.specs.View.{by_key}
 use Rattle.bike_rows.proofs.ListLemmas.{map_has, has_map, same_some}
 use Rattle.bike_rows.proofs.OrderLemmas.{Rises, all_has}
 use Rattle.bike_rows.proofs.TreeLemmas.{by_key_total}
-use Rattle.bike_book.specs.Tables.{TableName, Tables, keys_of, rows_in, table_place, is_table, Meta, System, Plans, Segments, Types, Regions, Stations, Docks, Bikes, Trucks, Riders, Rentals, Orders, Entries, Kept, Counts, MoreNames}
+use Rattle.bike_book.specs.Tables.{TableName, Tables, keys_of, table_place, Stations}
 use Rattle.bike_schema.proofs.TableLemmas.{same_table}
-use Rattle.bike_readings.specs.Rules.{AreInOrder, row_under, IsGoodKey, AllGood, IsFirstBad, IsVerdict}
+use Rattle.bike_readings.specs.Rules.{AreInOrder, row_under, IsGoodKey, IsFirstBad, IsVerdict}
 use Rattle.bike_readings.proofs.Places.{has_under, under_has}
 use Rattle.bike_judges.specs.Least.{least_key}
 use Rattle.bike_migrate.specs.Stations.{station_row, has_few, AreCopies, IsFirstOver, IsOver}
-use Rattle.bike_migrate.specs.Verdicts.{KeepsBound, IsGoodBefore, AllGoodBefore, IsFirstBadBefore, IsVerdictBefore, lesser_of, against_stations, first_of}
+use Rattle.bike_migrate.specs.Verdicts.{KeepsBound, IsFirstBadBefore, IsVerdictBefore, lesser_of, against_stations, first_of}
 
 -- ---- lists
 

@@ -1,12 +1,12 @@
 -- The row of `meta`, whose version alone changes.
-use Rattle.std.proofs.Common.{◌≡◌, ◌==◌, ℕ, zero, suc, ℤ, pos, negsuc, Bool, true, false, List, [], ◌∷◌, Option, Some, None, codes, Ordering, Less, Equal, Greater, if◌then◌else◌, refl, sym, ap, subst, ◌∙◌}
+use Rattle.std.proofs.Common.{◌≡◌, ◌==◌, ℕ, ℤ, pos, negsuc, Bool, true, false, List, [], ◌∷◌, Option, Some, None, codes, Ordering, Less, Equal, Greater, if◌then◌else◌, refl, ap, subst, ◌∙◌}
 use Rattle.std.specs.Prelude.{take, option_map, unwrap_or}
 use Rattle.std.specs.Ordering.{is_eq, match_ordering}
 use Rattle.sqlite_value.specs.declared.value.Value.{Value}
 use Rattle.sqlite_value.specs.declared.value.Value.TheVariants.{Null, Int, Real, Text, Blob}
 use Rattle.sqlite_value.specs.Order.{Row, row_cmp}
 use Rattle.bike_rows.specs.Keyed.{put_in}
-use Rattle.bike_rows.specs.View.{by_key, row_with, put_row_by, rows_after_update, with_value, with_values}
+use Rattle.bike_rows.specs.View.{by_key, row_with, put_row_by, rows_after_update, with_values}
 use Rattle.bike_rows.proofs.OrderLemmas.{has_put}
 use Rattle.bike_rows.proofs.TreeLemmas.{by_key_total}
 use Rattle.bike_book.specs.declared.version.TheConstants.{NEWEST}
@@ -15,7 +15,6 @@ use Rattle.bike_book.proofs.CatalogueBooks.{one_key}
 use Rattle.bike_book.proofs.LedgerRows.{meta_found}
 use Rattle.bike_schema.specs.Columns.{whole_in}
 use Rattle.bike_recognition.specs.Recognition.{is_app, version_of, version_in}
-use Rattle.bike_recognition.specs.declared.version.MetaVersion.{MetaVersion}
 use Rattle.bike_recognition.specs.declared.version.MetaVersion.TheVariants.{Missing, Version, NotOurs}
 use Rattle.sqlite_rules.specs.Lists.{Has}
 

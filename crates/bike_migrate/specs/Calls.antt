@@ -1,5 +1,5 @@
 -- What a call on a connection tells that is inside a transaction.
-use Rattle.std.specs.Prelude.{◌≡◌, ℕ, List, Result, Ok, OnOk, IfOk, IsTrue}
+use Rattle.std.specs.Prelude.{ℕ, List, Result, Ok, OnOk, IfOk, IsTrue}
 use Rattle.sqlite_value.specs.Order.{Row}
 use Rattle.sqlite_trees.specs.declared.store.Store.{Ghosts}
 use Rattle.sqlite.specs.Effect.{Database}

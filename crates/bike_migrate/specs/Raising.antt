@@ -1,11 +1,11 @@
 -- What `raise` owes.
-use Rattle.std.specs.Prelude.{◌≡◌, ◌≤◌, ◌⊎◌, ℕ, false, List, codes, Option, Some, None, Result, Ok, Err, IfOk, IfErr, OnOk, MatchResult, option_map, IsTrue}
+use Rattle.std.specs.Prelude.{◌≡◌, ◌≤◌, ◌⊎◌, ℕ, false, List, codes, Option, Some, None, Result, IfOk, IfErr, OnOk, MatchResult, option_map, IsTrue, if◌then◌else◌}
 use Rattle.sqlite_value.specs.Order.{Row}
 use Rattle.sqlite_trees.specs.View.{doubt}
 use Rattle.sqlite_trees.specs.declared.store.Store.{Ghosts}
 use Rattle.sqlite_trees.specs.Tree.{Trees}
 use Rattle.sqlite.specs.Held.{Held, state}
-use Rattle.sqlite.specs.Effect.{Database}
+use Rattle.sqlite.specs.Effect.{Database, IsDatabase}
 use Rattle.sqlite.specs.State.{State, HasCleanDisk, Shows, Survives}
 use Rattle.bike_operator.specs.Operator.{Operator}
 use Rattle.bike_book.specs.Tables.{TableName, Stations}
@@ -19,7 +19,6 @@ use Rattle.bike_readings.specs.Rules.{IsFirstBad, IsVerdict}
 use Rattle.bike_audit.specs.Audit.{row_name}
 use Rattle.bike_audit.specs.declared.tables.BadRow.{BadRow}
 use Rattle.bike_earlier.specs.declared.earlier.Earlier.{Earlier}
-use Rattle.bike_earlier.specs.declared.found.Found.{Found}
 use Rattle.bike_earlier.specs.declared.found.Found.TheVariants as found
 use Rattle.bike_earlier.specs.Earlier.{stations_name}
 use Rattle.bike_earlier.specs.Found.{IsFoundAs}
@@ -58,9 +57,13 @@ pub record Holds (c : State) (s : Operator) : Type 0 where
   pub now : StandsFor c.now s
   pub left : AllLeft c (TreesStandFor s)
 
--- what a raise may commit: the tables raised, of which all keys were good
-abbrev pub MayCommit : Earlier → Database → Trees → Type 0
-MayCommit e old trees = (db : Database) × Raises e old db × AllGoodBefore (tables_raised e old) × (trees ≡ db.trees)
+-- What a raise may commit: the tables raised, of which all keys were good.
+pub record MayCommit (e : Earlier) (old : Database) (trees : Trees) : Type 0 where
+  pub sound : IsDatabase old
+  pub db : Database
+  pub raises : Raises e old db
+  pub good : AllGoodBefore (tables_raised e old)
+  pub trees_are : trees ≡ db.trees
 
 -- .. of a database of some earlier version
 abbrev pub MayCommitAny : Database → Trees → Type 0
@@ -162,9 +165,9 @@ module _ {S : Type 0} where
   handed (NoMemory c) = c
   handed (StoreFailed c) = c
 
-  -- a statement failed on the connection
+  -- a statement failed on the connection; where its transaction is open still, the store failed to undo that
   abbrev pub failed : StatementFault → Held S → RaiseFault S
-  failed statement.NoMemory c = NoMemory c
+  failed statement.NoMemory c = if c.in_transaction then StoreFailed c else NoMemory c
   failed statement.StoreFailed c = StoreFailed c
 
   -- the word that tells the fault
@@ -189,9 +192,8 @@ module _ {S : Type 0} where
   IsWant (StoreFailed c) = Unit {0}
   IsWant _ = ⊥
 
-  -- the connection comes back outside a transaction, but for want of memory or a failed store
+  -- the connection comes back outside a transaction, but where the store failed
   abbrev pub IsOutside : RaiseFault S → Type 0
-  IsOutside (NoMemory c) = Unit {0}
   IsOutside (StoreFailed c) = Unit {0}
   IsOutside e = (handed e).in_transaction ≡ false
 
@@ -211,5 +213,5 @@ module _ {S : Type 0} where
     -- what a crash may leave after a fault
     pub left : (v : Option Earlier) (s : Operator) → TreesStandForAt v s (state g old).now.trees → IsTrue (state g old).is_open
         → IfErr result (λ e. HasCleanDisk (state g (handed e)) → AllLeft (state g (handed e)) (TreesStandSince v s))
-    pub stays : ((v : Option Earlier) (s : Operator) → ¬ StandsForAt v (state g old).now s) → IsTrue (state g old).is_open
+    pub stays : ((v : Option Earlier) (s : Operator) → ¬ StandsForAt v (state g old).now s)
         → IfErr result (λ e. HasCleanDisk (state g (handed e)) → AllLeft (state g (handed e)) (state g old).may_leave)

@@ -32,7 +32,7 @@ impl UnsoundRow {
     }
 }
 
-/// Why a connection wasn't raised. Each fault hands it back, and all but the last two outside a transaction.
+/// Why a connection wasn't raised. Each fault hands it back, and all but the last outside a transaction.
 #[derive(Drop)]
 pub enum RaiseFault<S: Alter> {
     /// The database has some of the product's names, and isn't the product's. It is as it was.
@@ -43,7 +43,8 @@ pub enum RaiseFault<S: Alter> {
     Newer(Connection<S>, u64),
     /// Memory was refused. What is stored stands for the operator for whom it stood.
     NoMemory(Connection<S>),
-    /// The store failed. What is stored stands for the operator for whom it stood.
+    /// The store failed, or failed to undo what was begun before memory was refused. What is stored stands for the operator for whom
+    /// it stood.
     StoreFailed(Connection<S>),
 }
 
@@ -61,13 +62,14 @@ impl<S: Alter> RaiseFault<S> {
         }
     }
 
-    /// Why a statement on the connection failed.
+    /// Why a statement on the connection failed. Where its transaction is open still, the store failed to undo that.
     pub(crate) fn failed(fault: StatementFault, conn: Connection<S>) -> RaiseFault<S>
         ensures { result ≡ failed fault conn }
     {
+        let is_outside = conn.is_autocommit();
         match fault {
-            StatementFault::NoMemory => RaiseFault::NoMemory(conn),
-            StatementFault::StoreFailed => RaiseFault::StoreFailed(conn),
+            StatementFault::NoMemory if is_outside => RaiseFault::NoMemory(conn),
+            StatementFault::NoMemory | StatementFault::StoreFailed => RaiseFault::StoreFailed(conn),
         }
     }
 }

@@ -115,8 +115,9 @@ fn attempt_whole<S: Alter, P: Watch>(
     requires { conn.old.in_transaction ≡ false }
     ensures { RaisesInPlace S.Store earlier conn.old conn.new result }
 {
-    // This tells the prover that nothing is pending.
+    // These two tell the prover that nothing is pending and that the database obeys its schema.
     let _ = conn.is_autocommit();
+    let _ = conn.schema();
     let bad = attempt(alloc, conn, earlier, watch)?;
     end(conn, bad)
 }
@@ -203,7 +204,7 @@ fn raise_any<S: Alter, P: Watch>(
 /// operator at an earlier version stand for him at the newest then; where a row is no operator's the first such is told, and the database is
 /// as it was. A database of the newest version is audited, and handed back as it is; one with none of the product's tables is handed back
 /// as it is, too. Tables of other names stay. A fault tells what the database is, or that memory or the store failed, and hands the
-/// connection back. After these two it may be inside a transaction still, of which nothing is committed.
+/// connection back. After a failed store it may be inside a transaction still, of which nothing is committed.
 pub fn raise<S: Alter>(alloc: Global, conn: Connection<S>) -> Result<Connection<S>, RaiseFault<S>>
     requires { conn.in_transaction ≡ false }
     ensures { IsRaise S.Store conn result }

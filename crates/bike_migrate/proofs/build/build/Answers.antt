@@ -1,6 +1,5 @@
 use Rattle.bike_migrate.proofs.StepLemmas.{does_under, does_then}
 use Rattle.bike_migrate.proofs.FillLemmas.{fills}
-use Rattle.bike_schema.specs.Tables.{IsOurs}
 use Rattle.bike_migrate.proofs.build.build.Goals as goal
 
 pub returns : goal.returns

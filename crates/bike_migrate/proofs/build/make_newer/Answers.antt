@@ -1,11 +1,6 @@
-use Rattle.std.proofs.Common.{[], ◌∷◌, rules}
-use Rattle.sqlite.specs.Effect.{Database}
-use Rattle.bike_rows.specs.Stands.{Indexes}
-use Rattle.bike_book.specs.Tables.{Stations, MoreNames}
+use Rattle.bike_book.specs.Tables.{MoreNames}
 use Rattle.bike_schema.specs.Layouts.{name_of}
-use Rattle.bike_migrate.specs.Calls.{DoesInside}
-use Rattle.bike_migrate.specs.Raised.{AreUnnamed, MakesTable}
-use Rattle.bike_migrate.proofs.StepLemmas.{does_then, does_under, does_both, does_failed}
+use Rattle.bike_migrate.proofs.StepLemmas.{does_then, does_under, does_both}
 use Rattle.bike_migrate.proofs.BuildLemmas.{makes_newer}
 use Rattle.bike_migrate.proofs.build.make_newer.Goals as goal
 

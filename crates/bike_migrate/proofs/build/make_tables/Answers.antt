@@ -1,9 +1,5 @@
-use Rattle.std.proofs.Common.{refl, sym, subst}
 use Rattle.bike_earlier.specs.declared.earlier.Earlier.TheVariants.{First, Second}
-use Rattle.bike_earlier.specs.Earlier.{IsAt}
-use Rattle.bike_migrate.specs.Calls.{DoesInside}
-use Rattle.bike_migrate.specs.Raised.{MakesTables}
-use Rattle.bike_migrate.proofs.StepLemmas.{does_then, does_under, does_weaker, does_failed}
+use Rattle.bike_migrate.proofs.StepLemmas.{does_then, does_under, does_weaker}
 use Rattle.bike_migrate.proofs.BuildLemmas.{newer_unnamed, makes_first, makes_second}
 use Rattle.bike_migrate.proofs.build.make_tables.Goals as goal
 

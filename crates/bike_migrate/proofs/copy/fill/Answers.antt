@@ -1,4 +1,4 @@
-use Rattle.std.proofs.Common.{rules, ◌∷◌, take, arith, subst}
+use Rattle.std.proofs.Common.{rules, ◌∷◌, arith, subst}
 use Rattle.std.proofs.lemmas.List.{take_all}
 use Rattle.bike_schema.specs.Makes.{Makes}
 use Rattle.bike_schema.proofs.MakesLemmas.{makes_ours}

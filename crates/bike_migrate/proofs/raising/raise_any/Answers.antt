@@ -1,8 +1,4 @@
-use Rattle.std.proofs.Common.{rules, sym, refl, subst, inl, inr}
-use Rattle.std.proofs.Common.{Ok}
-use Rattle.bike_earlier.specs.Found.{IsFoundAs}
-use Rattle.bike_recognition.specs.Recognition.{ReadsAny}
-use Rattle.bike_schema.specs.declared.fault.StatementFault.{StatementFault}
+use Rattle.std.proofs.Common.{rules, refl}
 use Rattle.bike_migrate.proofs.FoundLemmas.{comes_failed, comes_raised}
 use Rattle.bike_migrate.proofs.raising.raise_any.Goals as goal
 

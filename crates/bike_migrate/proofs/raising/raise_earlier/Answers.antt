@@ -1,4 +1,4 @@
-use Rattle.std.proofs.Common.{rules, refl}
+use Rattle.std.proofs.Common.{refl}
 use Rattle.bike_migrate.proofs.InPlaceLemmas.{undone_in_place}
 use Rattle.bike_migrate.proofs.raising.raise_earlier.Goals as goal
 

@@ -1,9 +1,9 @@
-use Rattle.std.proofs.Common.{rules, Some, None, refl, subst, sym}
+use Rattle.std.proofs.Common.{rules, subst}
 use Rattle.std.specs.Prelude.{option_map}
 use Rattle.bike_audit.specs.Audit.{row_name}
 use Rattle.bike_migrate.specs.Raised.{tables_raised}
 use Rattle.bike_migrate.specs.Verdicts.{IsVerdictBefore}
-use Rattle.bike_migrate.proofs.StepLemmas.{does_under, does_both, does_then, does_as, does_failed}
+use Rattle.bike_migrate.proofs.StepLemmas.{does_under, does_both, does_as, does_failed}
 use Rattle.bike_migrate.proofs.DoneLemmas.{old_stays, raises}
 use Rattle.bike_migrate.proofs.JudgeLemmas.{is_at, judged_does}
 use Rattle.bike_migrate.proofs.raising.raise_inside.Goals as goal

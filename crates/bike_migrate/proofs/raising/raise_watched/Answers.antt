@@ -1,4 +1,4 @@
-use Rattle.std.proofs.Common.{Ok, Err, not, ap, rules, ◌∙◌}
+use Rattle.std.proofs.Common.{not, ap, ◌∙◌}
 use Rattle.bike_migrate.proofs.RaiseLemmas.{ready_owes, foreign_owes, unsound_owes, newer_owes, failed_owes}
 use Rattle.bike_migrate.proofs.raising.raise_watched.Goals as goal
 
