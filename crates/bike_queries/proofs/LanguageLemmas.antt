@@ -1,12 +1,12 @@
 -- The languages of further names in byte order: the statement that answers the next of them.
-use Rattle.std.proofs.Common.{◌≡◌, ◌⊎◌, inl, inr, ℕ, List, [], ◌∷◌, codes, map, filter, slice_get, Bool, true, false, ◌||◌, T, Option, Some, None, Ordering, Less, Equal, refl, sym, ap, ap₂, ◌∙◌, arith}
+use Rattle.std.proofs.Common.{◌≡◌, ◌⊎◌, inl, inr, ℕ, List, [], ◌∷◌, codes, ◌++◌, map, filter, slice_get, Bool, true, false, ◌||◌, cond, T, Option, Some, None, Ordering, Less, Equal, Greater, refl, sym, ap, ap₂, ◌∙◌, arith}
 use Rattle.std.specs.Prelude.{option_map, unwrap_or, is_some}
 use Rattle.std.specs.FinMap as fin
 use Rattle.std.specs.FinMap.Entries as entries
-use Rattle.std.specs.List.{list_any}
+use Rattle.std.specs.List.{list_all, list_any}
 use Rattle.std.specs.Cmp.{eq_by_cmp_equiv}
-use Rattle.std.specs.Ordering.{eq_by_cmp}
-use Rattle.std.proofs.lemmas.Bool.{true≢false}
+use Rattle.std.specs.Ordering.{eq_by_cmp, is_gt, nat_cmp, ordering_then}
+use Rattle.std.proofs.lemmas.Bool.{and_parts, true≢false}
 use Rattle.sqlite_tied.specs.Compute.{everything}
 use Rattle.sqlite_value.specs.declared.value.Value.{Value}
 use Rattle.sqlite_value.specs.declared.value.Value.TheVariants.{Null, Int, Real, Text, Blob}
@@ -15,7 +15,8 @@ use Rattle.sqlite_value.proofs.OrderLemmas.{value_cmp-Null, value_cmp-Text, valu
 use Rattle.sqlite_sql.specs.Query.{Query}
 use Rattle.sqlite_sql.specs.Term.{col}
 use Rattle.sqlite_rules.specs.Lists.{Has}
-use Rattle.bike_fields.specs.Bytes.{is_language}
+use Rattle.bike_fields.specs.Bytes.{has_length, is_language, is_language_byte}
+use Rattle.bike_fields.specs.declared.text_lengths.TheConstants.{SHORTEST_LANGUAGE, LONGEST_LANGUAGE}
 use Rattle.bike_rows.specs.Keyed.{in_order}
 use Rattle.bike_rows.specs.Layout.{table_of}
 use Rattle.bike_rows.specs.Queries.{table_query, limit_query, only_one, by_columns}
@@ -36,7 +37,7 @@ use Rattle.bike_book.proofs.MapRows.{both, below_has, has_get}
 use Rattle.bike_schema.specs.Layouts.{layout_of}
 use Rattle.bike_schema.proofs.AnswerLemmas.{FindsIn, in_table}
 use Rattle.bike_feed_texts.specs.Trees.{names_by_language}
-use Rattle.bike_queries.specs.After.{first_after, language_row, next_language}
+use Rattle.bike_queries.specs.After.{first_after, language_row, next_language, start_after}
 use Rattle.bike_queries.proofs.AfterLaw.{is_after, is_behind, gt_test, and_true, after_tests, row_after}
 use Rattle.bike_queries.proofs.LeastLaw.{least_answer}
 
@@ -164,23 +165,60 @@ in_order_rows s =
     ∙ ap (map language_row) (in_order_is text_order (by_language es))
     ∙ map_map (λ e. e.0) language_row (fin.entries (names_by_language s))
 
-are_languages : (s : Operator) → IsSound s → (e : List ℕ × List ℕ) → fin.get (names_by_language s) e.0 ≡ Some e.1 → is_language e.0 ≡ true
-are_languages s sound e found =
+of_key : (s : Operator) (key : NameKey) {name : List ℕ} → IsNameAt s key name → is_language (part_at key 2) ≡ true
+of_key s key it = ap (λ (k : NameKey). is_language (part_at k 2)) it.key_is ∙ it.good.language
+
+-- each of them is one
+all_languages : (s : Operator) → IsSound s → (language : List ℕ) → Has (languages_in (fin.entries s.more_names)) language → is_language language ≡ true
+all_languages s sound language has =
     let es = fin.entries s.more_names in
-    let x = map_has (λ e. e.0) (by_language es) e.0 (key_has text_order (by_language es) e found) in
+    let x = map_has (λ e. e.0) (by_language es) language has in
     let y = map_has (λ e. (part_at e.0 2, e.1)) es x.0 x.1 in
-    ap is_language (x.2 ∙ ap (λ e. e.0) y.2) ∙ of_key y.0.0 (sound.names.names y.0.0 y.0.1 (has_get texts_order.total s.more_names y.0 y.1))
+    ap is_language (x.2 ∙ ap (λ e. e.0) y.2) ∙ of_key s y.0.0 (sound.names.names y.0.0 y.0.1 (has_get texts_order.total s.more_names y.0 y.1))
+
+are_languages : (s : Operator) → IsSound s → (e : List ℕ × List ℕ) → fin.get (names_by_language s) e.0 ≡ Some e.1 → is_language e.0 ≡ true
+are_languages s sound e found = all_languages s sound e.0 (key_has text_order (by_language (fin.entries s.more_names)) e found)
+
+-- ---- the text after which a walk goes on
+
+above_zero : (b : ℕ) → is_language_byte b ≡ true → nat_cmp b 0 ≡ Greater
+above_zero b good = grind arith
+
+-- with a byte 0 behind it a text stands before the same languages as without
+behind_zero : (x after : List ℕ) → list_all is_language_byte x ≡ true → is_gt (text_cmp x (after ++ 0 ∷ [])) ≡ is_gt (text_cmp x after)
+behind_zero [] [] good = refl
+behind_zero [] (c ∷ cs) good = refl
+behind_zero (b ∷ bs) [] good = ap (λ r. is_gt (ordering_then r (text_cmp bs []))) (above_zero b (and_parts (is_language_byte b) (list_all is_language_byte bs) good).0)
+behind_zero (b ∷ bs) (c ∷ cs) good = by (nat_cmp b c) (behind_zero bs cs (and_parts (is_language_byte b) (list_all is_language_byte bs) good).1)
   where
-    of_key : (key : NameKey) {name : List ℕ} → IsNameAt s key name → is_language (part_at key 2) ≡ true
-    of_key key it = ap (λ (k : NameKey). is_language (part_at k 2)) it.key_is ∙ it.good.language
+    by : (r : Ordering) → is_gt (text_cmp bs (cs ++ 0 ∷ [])) ≡ is_gt (text_cmp bs cs) → is_gt (ordering_then r (text_cmp bs (cs ++ 0 ∷ []))) ≡ is_gt (ordering_then r (text_cmp bs cs))
+    by Less rest = refl
+    by Equal rest = rest
+    by Greater rest = refl
+
+language_behind : (after language : List ℕ) → is_language language ≡ true → is_behind (after ++ 0 ∷ []) (language_row language) ≡ is_behind after (language_row language)
+language_behind after language good =
+    ap is_gt (value_cmp-Text language (after ++ 0 ∷ []))
+    ∙ behind_zero language after (and_parts (has_length SHORTEST_LANGUAGE LONGEST_LANGUAGE language) (list_all is_language_byte language) good).1
+    ∙ sym (ap is_gt (value_cmp-Text language after))
+
+-- the same languages come after it as after the language
+starts_alike : (after : Option (List ℕ)) (languages : List (List ℕ)) → ((language : List ℕ) → Has languages language → is_language language ≡ true)
+    → filter (is_behind (start_after after)) (map language_row languages) ≡ filter (is_behind (unwrap_or after [])) (map language_row languages)
+starts_alike None languages good = refl
+starts_alike (Some after) [] good = refl
+starts_alike (Some after) (l ∷ ls) good =
+    ap₂ (λ (b : Bool) (rest : List Row). cond b (language_row l ∷ rest) rest) (language_behind after l (good l (inl refl))) (starts_alike (Some after) ls (λ k has. good k (inr has)))
 
 -- the value after a text is the next language
-pub language_after : (s : Operator) → IsSound s → (after : Option (List ℕ)) (start : List ℕ) → start ≡ unwrap_or after [] → value_after 2 start (map stored_name (fin.entries s.more_names)) ≡ option_map language_row (next_language after s)
+pub language_after : (s : Operator) → IsSound s → (after : Option (List ℕ)) (start : List ℕ) → start ≡ start_after after → value_after 2 start (map stored_name (fin.entries s.more_names)) ≡ option_map language_row (next_language after s)
 language_after s sound after start is =
     let ks = languages_in (fin.entries s.more_names) in
+    let before = unwrap_or after [] in
     ap (λ rows. slice_get (in_order row_cmp (filter (is_behind start) rows)) 0) (in_rows (fin.entries s.more_names))
-    ∙ ap (λ rows. slice_get rows 0) (order_filter row_cmp_total (is_behind start) (map language_row ks) (rows_apart ks) ∙ ap (filter (is_behind start)) (in_order_rows s))
-    ∙ row_after is_language refl (names_by_language s) (are_languages s sound) (λ e. language_row e.0) (λ e. refl) after start is
+    ∙ ap (λ rows. slice_get (in_order row_cmp rows) 0) (ap (λ text. filter (is_behind text) (map language_row ks)) is ∙ starts_alike after ks (all_languages s sound))
+    ∙ ap (λ rows. slice_get rows 0) (order_filter row_cmp_total (is_behind before) (map language_row ks) (rows_apart ks) ∙ ap (filter (is_behind before)) (in_order_rows s))
+    ∙ row_after is_language refl (names_by_language s) (are_languages s sound) (λ e. language_row e.0) (λ e. refl) after before refl
     ∙ of_entry (first_after after (names_by_language s))
   where
     of_entry : (o : Option (List ℕ × List ℕ)) → option_map (λ e. language_row e.0) o ≡ option_map language_row (option_map (λ e. e.0) o)

@@ -1,5 +1,5 @@
 -- What stands next in byte order of identifiers, or of languages.
-use Rattle.std.specs.Prelude.{◌≡◌, ℕ, ℤ, List, [], ◌∷◌, find, slice_get, Option, Some, None, option_map}
+use Rattle.std.specs.Prelude.{◌≡◌, ℕ, ℤ, List, [], ◌∷◌, ◌++◌, find, slice_get, Option, Some, None, option_map}
 use Rattle.std.specs.Ordering.{is_lt}
 use Rattle.std.specs.FinMap.{FinMap, entries}
 use Rattle.sqlite_value.specs.declared.value.Value.TheVariants.{Text}
@@ -46,6 +46,11 @@ pub record HoldsStation (row : Row) (x : Station) : Type 0 where
 -- the first language of further names after this one, or the first of all
 abbrev pub next_language : Option (List ℕ) → Operator → Option (List ℕ)
 next_language after s = option_map (λ e. e.0) (first_after after (names_by_language s))
+
+-- the text after which a walk over languages goes on: no language has a byte 0
+abbrev pub start_after : Option (List ℕ) → List ℕ
+start_after None = []
+start_after (Some language) = language ++ 0 ∷ []
 
 -- a language in a row of its own
 abbrev pub language_row : List ℕ → Row

@@ -1,24 +1,32 @@
 //! The languages of further names in byte order, one after another.
 
-ghost use Rattle.std.specs.Prelude.{◌≡◌, [], option_map, unwrap_or};
+ghost use Rattle.std.specs.Prelude.{◌≡◌, option_map};
 ghost use Rattle.bike_schema.specs.Answers.{Answers};
-ghost use Rattle.bike_queries.specs.After.{language_row, next_language};
+ghost use Rattle.bike_queries.specs.After.{language_row, next_language, start_after};
 
+use arrayvec::ArrayString;
 use bike_accounts::language_at;
-use bike_fields::Language;
+use bike_fields::{LONGEST_LANGUAGE, Language};
 use bike_rows::lookup::first_row;
 use bike_schema::StatementFault;
 use sqlite::{Alter, Connection, Row, params};
 use std::alloc::Global;
 
-/// The text after which the walk goes on: the language, or at first the empty text, after which every language comes.
-fn start_of(after: Option<&Language>) -> &str
-    ensures { result.now ≡ unwrap_or (option_map (λ l. l.now) after.entry) [] }
+/// Room for a language and the byte behind it.
+const START_LENGTH: usize = LONGEST_LANGUAGE + 1;
+
+/// The text after which the walk goes on: the language with a byte 0 behind it, or at first the empty text. The same languages come
+/// after it as after the language, since none has a byte 0. But no name in the language itself does, so that the engine, which
+/// seeks the first that isn't less, has none of these to pass.
+fn start_of(after: Option<&Language>) -> ArrayString<START_LENGTH>
+    ensures { result.bytes ≡ start_after (option_map (λ l. l.now) after.entry) }
 {
-    match after {
-        Some(language) => language.as_str(),
-        None => "",
+    let mut start = ArrayString::new();
+    if let Some(language) = after {
+        start.push_str(language.as_str());
+        start.push('\0');
     }
+    start
 }
 
 /// The first further language after this one, or the first of all, as a row of its own: however many names are in it.
@@ -29,10 +37,11 @@ fn select_language<S: Alter>(
     ensures { Answers S.Store conn.old conn.new result
         (λ s m row. row ≡ option_map language_row (next_language (option_map (λ l. l.now) after.entry) s)) }
 {
+    let start = start_of(after);
     first_row(
         conn,
         "SELECT language FROM more_names WHERE language > ?1 ORDER BY language LIMIT 1",
-        params![start_of(after)],
+        params![start.as_str()],
     )
 }
 

@@ -6,5 +6,5 @@ use Rattle.bike_queries.proofs.languages.select_language.Goals as goal
 
 pub returns : goal.returns
 returns g c =
-    let start = c.start_of.result.now in
-    reads_weaker (row_answers (finds_language_after start) c.first_row.ensures (search bindings)) (λ db row is s h. is s h ∙ language_after s h.sound _ start c.start_of.ensures)
+    let start = c.as_str.result.now in
+    reads_weaker (row_answers (finds_language_after start) c.first_row.ensures (search bindings)) (λ db row is s h. is s h ∙ language_after s h.sound _ start (c.as_str.ensures.value ∙ c.start_of-start.ensures))
