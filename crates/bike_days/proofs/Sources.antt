@@ -1,5 +1,5 @@
 -- The two tables of a span, as what is walked.
-use Rattle.std.proofs.Common.{◌≡◌, ℕ, suc, ◌+◌, ◌≤◌, List, [], ◌∷◌, ◌++◌, length, Bool, true, false, cond, Option, Some, None, Result, refl, sym, ap, ◌∙◌, subst, arith}
+use Rattle.std.proofs.Common.{◌≡◌, ℕ, suc, ◌+◌, ◌<◌, ◌≤◌, if◌then◌else◌, length-append, List, [], ◌∷◌, ◌++◌, length, Bool, true, false, cond, Option, Some, None, Result, refl, sym, ap, ◌∙◌, subst, arith}
 use Rattle.std.specs.Prelude.{option_map}
 use Rattle.std.specs.List.{filter, filter_map, cons_option, flat_map}
 use Rattle.sqlite_trees.specs.declared.store.Store.{Ghosts}
@@ -16,7 +16,8 @@ use Rattle.bike_queries.specs.Infos.{closing_info, rental_info}
 use Rattle.bike_queries.specs.Spans.{lies_in, ends_in}
 use Rattle.bike_day_texts.specs.declared.fault.LineFault.{LineFault}
 use Rattle.bike_day_texts.specs.declared.table.DayTable.TheVariants.{Entries, Rentals}
-use Rattle.bike_day_texts.specs.Rows.{EndedRow, header_line, entry_line, ended_line}
+use Rattle.csv.specs.Writing.{default_writer, row_body, is_blank, end_text}
+use Rattle.bike_day_texts.specs.Rows.{EndedRow, line_of, columns_of, header_line, entry_fields, entry_line, ended_fields, ended_line}
 use Rattle.bike_day_texts.specs.Writing.{WritesLine}
 use Rattle.bike_desk.specs.Desk.{DeskValue}
 use Rattle.bike_days.specs.declared.fault.DayTableFault.{DayTableFault}
@@ -25,6 +26,14 @@ use Rattle.bike_days.specs.Days.{ended_row, ended_in, span_text}
 use Rattle.bike_days.specs.Lines.{info_row}
 use Rattle.bike_days.proofs.Lists.{IsNumbered}
 use Rattle.bike_days.proofs.WalkLemmas.{Source, AsksLine, text, table_as}
+
+-- a line ends in a line feed
+pub lines_end : (fields : List (List ℕ)) → 0 < length (line_of fields)
+unfolding line_of
+lines_end fields =
+    let blank = if is_blank default_writer fields then default_writer.quote ∷ default_writer.quote ∷ [] else [] in
+    let one : length (end_text default_writer.terminator) ≡ 1 = refl in
+    omega (arith, one, length-append (row_body default_writer fields) (blank ++ end_text default_writer.terminator), length-append blank (end_text default_writer.terminator))
 
 -- ---- entries
 
@@ -55,6 +64,8 @@ entries begin until = record {
   answers_some = λ s e. refl;
   numbered = numbered_entries;
   few = few_entries;
+  headed = lines_end (columns_of Entries);
+  lined = λ e passes. lines_end (entry_fields e);
 }
 
 pub entry_asks : (begin until : ℕ) (e : Entry) (b c : Option (List ℕ)) (result : Result (Unit {0}) LineFault)
@@ -80,6 +91,10 @@ abbrev pub closed_line : ℕ → Rental → Option Closing → List ℕ
 closed_line number r None = []
 closed_line number r (Some c) = ended_line (ended_row number r c)
 
+pub closed_lines : (begin until number : ℕ) (r : Rental) (o : Option Closing) → ends_in begin until o ≡ true → 0 < length (closed_line number r o)
+closed_lines begin until number r None ends = absurd cc
+closed_lines begin until number r (Some c) ends = lines_end (ended_fields (ended_row number r c))
+
 abbrev pub rentals : ℕ → ℕ → Source (ℕ × Rental) (ℕ × RentalInfo)
 rentals begin until = record {
   header = header_line Rentals;
@@ -93,6 +108,8 @@ rentals begin until = record {
   answers_some = λ s e. refl;
   numbered = λ s sound. numbered_from 1 s.rentals;
   few = few_rentals;
+  headed = lines_end (columns_of Rentals);
+  lined = λ e passes. closed_lines begin until e.0 e.1 e.1.closing passes;
 }
 
 -- what was shown of a closed rental is its row

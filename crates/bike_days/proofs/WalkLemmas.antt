@@ -14,12 +14,13 @@ use Rattle.bike_day_texts.specs.declared.fault.LineFault.{LineFault}
 use Rattle.bike_day_texts.specs.declared.fault.LineFault.TheVariants as line
 use Rattle.bike_day_texts.specs.Writing.{WritesLine}
 use Rattle.bike_desk.specs.declared.fault.DeskFault.{DeskFault}
+use Rattle.bike_desk.specs.declared.fault.DeskFault.TheVariants.{NoMemory, StoreFailed, Stopped}
 use Rattle.bike_desk.specs.Desk.{DeskValue, desk_state, IsAt}
 use Rattle.bike_desk.specs.Queries.{Queries}
 use Rattle.bike_desk.proofs.KeepLemmas.{kept_stores}
 use Rattle.bike_days.specs.declared.fault.DayTableFault.{DayTableFault}
 use Rattle.bike_days.specs.declared.fault.DayTableFault.TheVariants.{Write, Desk}
-use Rattle.bike_days.specs.Ends.{AppendsSome}
+use Rattle.bike_days.specs.Ends.{AppendsSome, AppendsUntil}
 use Rattle.bike_days.specs.Lines.{line_fault}
 use Rattle.bike_days.specs.Walking.{StaysAt, WritesText, WritesTable}
 use Rattle.bike_days.proofs.Lists.{IsNumbered, is_next, next_behind, next_first, find_first, none_of, lines, lines_then, lines_skip, lines_first, lines_more}
@@ -43,6 +44,16 @@ front_then a b c x y h k = (
 some_first : (a b : Option (List ℕ)) (x y : List ℕ) → Appends a b x → AppendsSome a b (x ++ y)
 some_first a b x y h = (length x, rw (take-append_seam x y) h)
 
+-- where something is left, it isn't all
+part_first : (a b : Option (List ℕ)) (x y : List ℕ) → 0 < length y → Appends a b x → AppendsFront a b (x ++ y)
+part_first a b x y more h = (length x, omega (arith, length-append x y, more), rw (take-append_seam x y) h)
+
+-- a question to the desk takes no memory
+until_some : (fault : DeskFault) (a b : Option (List ℕ)) (text : List ℕ) → (fault ≡ NoMemory → ⊥) → AppendsSome a b text → AppendsUntil fault a b text
+until_some NoMemory a b text other some = absurd (other refl)
+until_some StoreFailed a b text other some = some
+until_some Stopped a b text other some = some
+
 -- ---- what is walked
 
 -- a table's rows: what the operator holds, in order of its numbers; which of it has a row, and its line; what the desk answers of it
@@ -58,6 +69,9 @@ pub record Source (X Y : Type 0) : Type 0 where
   pub answers_some : (s : Operator) (x : X) → answers s (Some x) ≡ Some (shows s x)
   pub numbered : (s : Operator) → IsSound s → IsNumbered number 1 (held s)
   pub few : (s : Operator) → IsSound s → length (held s) ≤ 100000000
+  -- no line is empty
+  pub headed : 0 < length header
+  pub lined : (x : X) → passes x ≡ true → 0 < length (line x)
 
 module _ {X Y : Type 0} (t : Source X Y) where
   -- the lines of those that have a row
@@ -184,10 +198,11 @@ module _ {S X Y : Type 0} (g : Ghosts S) (t : Source X Y) where
         (front_then a b c (t.header ++ rows_text t it.front) (t.line it.at ++ rows_text t it.rest) it.wrote
         (front_first b c (t.line it.at) (rows_text t it.rest) more))
 
-    none_at : (c : Option (List ℕ)) (it : IsBefore s y count a b) → Keeps b c → AppendsSome a c (text t s)
+    none_at : (c : Option (List ℕ)) (it : IsBefore s y count a b) → Keeps b c → AppendsFront a c (text t s)
     none_at c it kept =
-        subst (AppendsSome a c) (sym (text_at it))
-        (some_first a c (t.header ++ rows_text t it.front) (t.line it.at ++ rows_text t it.rest)
+        subst (AppendsFront a c) (sym (text_at it))
+        (part_first a c (t.header ++ rows_text t it.front) (t.line it.at ++ rows_text t it.rest)
+        (omega (arith, length-append (t.line it.at) (rows_text t it.rest), t.lined it.at it.passes))
         (Appends-kept a b c (t.header ++ rows_text t it.front) it.wrote kept))
 
   pub walk_writes : {count : ℕ} {d e : DeskValue S} {a b c : Option (List ℕ)} (y : Y) → Walks (Some y) count d e a b
@@ -265,19 +280,21 @@ module _ {S X Y : Type 0} (g : Ghosts S) (t : Source X Y) where
   }
 
   -- a fault of the desk at the first question, before anything is written
-  pub first_failed : {A : Type 0} {d e : DeskValue S} {a : Option (List ℕ)} (fault : DeskFault) → Queries g d e (Err fault) (IsAnswer t 0)
+  pub first_failed : {A : Type 0} {d e : DeskValue S} {a : Option (List ℕ)} (fault : DeskFault) → (fault ≡ NoMemory → ⊥)
+      → Queries g d e (Err fault) (IsAnswer t 0)
       → WritesTable g d e a a {A = A} (Err (Desk fault)) (text t)
-  first_failed {a = a} fault q = record {
+  first_failed {a = a} fault other q = record {
     desk = leaves_first g fault q;
-    wrote = λ clean s at. some_first a a [] (text t s) (Appends-nil a);
+    wrote = λ clean s at. until_some fault a a (text t s) other (some_first a a [] (text t s) (Appends-nil a));
     nothing = λ stopped. Keeps-refl a;
     day = tt;
   }
 
   -- or behind a row
   pub next_failed : {A : Type 0} {count : ℕ} {d e f : DeskValue S} {a b : Option (List ℕ)} {y : Y} (asked : ℕ) (fault : DeskFault)
+      → (fault ≡ NoMemory → ⊥)
       → Passes y count d e a b → Queries g e f (Err fault) (IsAnswer t asked) → WritesTable g d f a b {A = A} (Err (Desk fault)) (text t)
-  next_failed {e = e} {f = f} {a = a} {b = b} asked fault w q = record {
+  next_failed {e = e} {f = f} {a = a} {b = b} asked fault other w q = record {
     desk = leaves_failed g fault w.stays q;
     wrote = λ clean s at.
         let it = w.behind (earlier g e f q.clean clean) s at in
@@ -285,8 +302,9 @@ module _ {S X Y : Type 0} (g : Ghosts S) (t : Source X Y) where
         ap (λ (xs : List X). t.header ++ rows_text t xs) (it.split ∙ sym (append_assoc it.front (it.last ∷ []) it.rest))
         ∙ (ap (λ (bytes : List ℕ). t.header ++ bytes) (lines_then t.passes t.line (it.front ++ it.last ∷ []) it.rest)
         ∙ sym (append_assoc t.header (rows_text t (it.front ++ it.last ∷ [])) (rows_text t it.rest))) in
-        subst (AppendsSome a b) (sym split) (some_first a b (t.header ++ rows_text t (it.front ++ it.last ∷ []))
-        (rows_text t it.rest) it.wrote);
+        until_some fault a b (text t s) other
+        (subst (AppendsSome a b) (sym split) (some_first a b (t.header ++ rows_text t (it.front ++ it.last ∷ []))
+        (rows_text t it.rest) it.wrote));
     nothing = not_stopped w.stays;
     day = tt;
   }
@@ -303,7 +321,8 @@ module _ {S X Y : Type 0} (g : Ghosts S) (t : Source X Y) where
   }
   header_failed {a = a} {b = b} next line.NoMemory q kept = record {
     desk = leaves_short g (stays_asked g next q);
-    wrote = λ clean s at. some_first a b [] (text t s) (Appends-kept a a b [] (Appends-nil a) kept);
+    wrote = λ clean s at.
+        part_first a b [] (text t s) (omega (arith, length-append t.header (rows_text t (t.held s)), t.headed)) (Appends-kept a a b [] (Appends-nil a) kept);
     nothing = not_stopped (stays_asked g next q);
     day = tt;
   }

@@ -10,6 +10,7 @@ use Rattle.bike_fixed.specs.Day.{NamesDate, date_parts, HasBadZone, IsOutOfRange
 use Rattle.bike_stream.specs.Writing.{AppendsFront}
 use Rattle.bike_operator.specs.Operator.{Operator}
 use Rattle.bike_schema.specs.Stands.{AllLeft}
+use Rattle.bike_desk.specs.declared.fault.DeskFault.{DeskFault}
 use Rattle.bike_desk.specs.declared.fault.DeskFault.TheVariants.{NoMemory, StoreFailed, Stopped}
 use Rattle.bike_desk.specs.Desk.{DeskValue, desk_state, IsAt}
 use Rattle.bike_day_texts.specs.declared.table.DayTable.{DayTable}
@@ -43,6 +44,12 @@ EndsByDay date zone old new (Err (Desk fault)) = HasDay date zone
 abbrev pub AppendsSome : Option (List ℕ) → Option (List ℕ) → List ℕ → Type 0
 AppendsSome old new text = (k : ℕ) × Appends old new (take k text)
 
+-- after a fault of the desk they grow by a front of these, or by all; where memory was refused for a line, not by all
+abbrev pub AppendsUntil : DeskFault → Option (List ℕ) → Option (List ℕ) → List ℕ → Type 0
+AppendsUntil NoMemory old new text = AppendsFront old new text
+AppendsUntil StoreFailed old new text = AppendsSome old new text
+AppendsUntil Stopped old new text = AppendsSome old new text
+
 -- it is so of the bounds of the day
 abbrev pub OfDay : List ℕ → List ℕ → (ℕ → ℕ → Type 0) → Type 0
 OfDay date zone says = (begin : ℕ) × (until : ℕ) × HasBounds date zone begin until × says begin until
@@ -55,7 +62,7 @@ WritesDay s table date zone old new (Err (Day fault)) = Keeps old new
 WritesDay s table date zone old new (Err Write) =
     OfDay date zone (λ begin until. AppendsFront old new (span_text s table begin until))
 WritesDay s table date zone old new (Err (Desk fault)) =
-    OfDay date zone (λ begin until. AppendsSome old new (span_text s table begin until))
+    OfDay date zone (λ begin until. AppendsUntil fault old new (span_text s table begin until))
 
 -- ---- the desk
 

@@ -10,7 +10,7 @@ use Rattle.bike_schema.specs.Stands.{AllLeft}
 use Rattle.bike_desk.specs.Desk.{DeskValue, desk_state, IsAt}
 use Rattle.bike_days.specs.declared.fault.DayTableFault.{DayTableFault}
 use Rattle.bike_days.specs.declared.fault.DayTableFault.TheVariants.{Day, Write, Desk}
-use Rattle.bike_days.specs.Ends.{AppendsSome, LeavesDesk}
+use Rattle.bike_days.specs.Ends.{AppendsUntil, LeavesDesk}
 
 -- the desk was asked, goes on, and is at the operator at whom it was
 pub record StaysAt {S : Type 0} (g : Ghosts S) (old new : DeskValue S) : Type 0 where
@@ -20,12 +20,12 @@ pub record StaysAt {S : Type 0} (g : Ghosts S) (old new : DeskValue S) : Type 0 
   pub went_on : old.is_stopped ≡ false
   pub goes_on : new.is_stopped ≡ false
 
--- the text was written: after a failed write a front of it and not all, after a fault of the desk a front; no day is refused
+-- the text was written: after a failed write a front of it and not all, after a fault of the desk as that tells; no day is refused
 abbrev pub WritesText : {A : Type 0} → Option (List ℕ) → Option (List ℕ) → List ℕ → Result A DayTableFault → Type 0
 WritesText old new text (Ok x) = Appends old new text
 WritesText old new text (Err (Day fault)) = ⊥
 WritesText old new text (Err Write) = AppendsFront old new text
-WritesText old new text (Err (Desk fault)) = AppendsSome old new text
+WritesText old new text (Err (Desk fault)) = AppendsUntil fault old new text
 
 -- no day is refused
 abbrev pub IsOfDay : {A : Type 0} → Result A DayTableFault → Type 0

@@ -17,7 +17,7 @@ pub enum ImportFault {
     /// The row of this number is refused.
     #[error("row {0} {name}", name = .1.name())]
     Row(u64, Refusal),
-    /// The input failed, or it has more than 1,000,000 rows or takes more than 1,000,000 reads.
+    /// The input failed, or it has 1,000,000 rows or more, or takes more than 1,000,000 reads.
     #[error("read failed")]
     Read,
     /// The desk failed at a row, or memory for the import was refused.

@@ -1,6 +1,6 @@
 //! Importing a table.
 
-ghost use Rattle.std.specs.Prelude.{◌≡◌, ◌≤◌, Err};
+ghost use Rattle.std.specs.Prelude.{◌≡◌, ◌<◌, ◌≤◌, Err, IfOk};
 ghost use Rattle.std.specs.Io.KnownBytes.{Keeps};
 ghost use Rattle.sqlite.specs.State.{HasCleanDisk};
 ghost use Rattle.sqlite_trees.specs.View.{doubt};
@@ -22,7 +22,7 @@ use sqlite::Alter;
 use std::alloc::Global;
 use std::io::Read;
 
-/// How many rows an import serves at most.
+/// An import serves fewer rows; a table with as many ends in `Read`, behind its last row that was served.
 pub const MOST_ROWS: u64 = 1_000_000;
 
 /// Serves a table of stations, in CSV, row by row. Its header is `station_id,name,lat,lon,docks`, as a record. Row number
@@ -46,6 +46,7 @@ pub fn import_stations<S: Alter, R: Read>(
         → AllLeft (desk_state S.Store desk.new) (StandsAfterSome s) }
     ensures stops { StopsBy desk.old desk.new (desk_fault result) }
     ensures refused { result ≡ Err (ImportFault.Desk DeskFault.Stopped) → Keeps (R.remaining reader.old) (R.remaining reader.new) }
+    ensures few { IfOk result (λ count. count < MOST_ROWS) }
 {
     if desk.stopped() {
         return Err(ImportFault::Desk(DeskFault::Stopped));

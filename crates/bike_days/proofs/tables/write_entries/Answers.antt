@@ -7,7 +7,7 @@ pub returns-in_err-next : goal.returns-in_err-next
 returns-in_err-next g c =
     let of = entries c.args.begin c.args.until in
     table_told g.S.Store (text of) _ _ c.from_residual.ensures.1
-    (first_failed g.S.Store of c.in_err-next.field-0.0 c.in_err-next.ensures.query)
+    (first_failed g.S.Store of c.in_err-next.field-0.0 (λ is. c.in_err-next.ensures.takes_none (ap Err is)) c.in_err-next.ensures.query)
 
 pub returns-in_err-write_header : goal.returns-in_err-write_header
 returns-in_err-write_header g c =
@@ -34,7 +34,7 @@ pub returns-in_err-next-2 : goal.returns-in_err-next-2
 returns-in_err-next-2 g c =
     let of = entries c.args.begin c.args.until in
     table_told g.S.Store (text of) _ _ c.from_residual-in_err-next-2.ensures.1
-    (next_failed g.S.Store of c.from.result c.in_err-next-2.field-0.0
+    (next_failed g.S.Store of c.from.result c.in_err-next-2.field-0.0 (λ is. c.in_err-next-2.ensures.takes_none (ap Err is))
     (walk_writes g.S.Store of c.in-Some.entry (rw c.in-Some.is at c.entries.invariant)
     (entry_asks c.args.begin c.args.until c.in-Some.entry (g.W.Write.contents c.entries.out) (g.W.Write.contents c.write_entry.new.out)
     (Ok tt) c.in_ok-write_entry.ensures)) c.in_err-next-2.ensures.query)

@@ -8,7 +8,7 @@ pub returns-in_err-next : goal.returns-in_err-next
 returns-in_err-next g c =
     let of = rentals c.args.begin c.args.until in
     rentals_told c.args.begin c.args.until g.S.Store (table_told g.S.Store (text of) _ _ c.from_residual.ensures.1
-    (first_failed g.S.Store of c.in_err-next.field-0.0 c.in_err-next.ensures.query))
+    (first_failed g.S.Store of c.in_err-next.field-0.0 (λ is. c.in_err-next.ensures.takes_none (ap Err is)) c.in_err-next.ensures.query))
 
 pub returns-in_err-write_header : goal.returns-in_err-write_header
 returns-in_err-write_header g c =
@@ -37,7 +37,7 @@ pub returns-in_err-next-2 : goal.returns-in_err-next-2
 returns-in_err-next-2 g c =
     let of = rentals c.args.begin c.args.until in
     rentals_told c.args.begin c.args.until g.S.Store (table_told g.S.Store (text of) _ _ c.from_residual-in_err-next-2.ensures.1
-    (next_failed g.S.Store of c.from.result c.in_err-next-2.field-0.0
+    (next_failed g.S.Store of c.from.result c.in_err-next-2.field-0.0 (λ is. c.in_err-next-2.ensures.takes_none (ap Err is))
     (walk_writes g.S.Store of c.in-Some.ended (rw c.in-Some.is at c.rentals.invariant)
     (rental_asks c.args.begin c.args.until c.in-Some.ended (g.W.Write.contents c.rentals.out) (g.W.Write.contents c.write_rental.new.out)
     (Ok tt) c.in_ok-write_rental.ensures)) c.in_err-next-2.ensures.query))
