@@ -1,1 +1,4 @@
 pub mod ServingLemmas
+pub mod AnsweringLemmas
+pub mod InOrder
+pub mod Playing

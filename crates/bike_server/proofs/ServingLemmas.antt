@@ -1,6 +1,7 @@
 -- One connection after the other.
-use Rattle.std.proofs.Common.{◌≡◌, ℕ, ◌≤◌, List, [], ◌∷◌, ◌++◌, length, refl, sym, subst, ◌∙◌, append_assoc, Option, Result, Ok, Err, inl, inr, arith}
+use Rattle.std.proofs.Common.{◌≡◌, ℕ, ◌≤◌, List, [], ◌∷◌, ◌++◌, length, refl, sym, subst, ◌∙◌, append_assoc, Option, Result, Ok, Err, MatchResult, inl, inr, arith}
 use Rattle.sqlite_trees.specs.declared.store.Store.{Ghosts}
+use Rattle.sqlite.specs.Held.{Held}
 use Rattle.bike_operator.specs.Operator.{Operator}
 use Rattle.bike_operator.specs.Runs.{Call, after}
 use Rattle.bike_laws.proofs.RunLemmas.{after-append}
@@ -14,6 +15,8 @@ use Rattle.bike_http.specs.declared.exchange.Served.{Served}
 use Rattle.bike_http.specs.declared.exchange.Served.TheVariants.{Empty, Status}
 use Rattle.bike_http.specs.declared.exchange.ServeFault.{ServeFault}
 use Rattle.bike_http.specs.declared.exchange.ServeFault.TheVariants.{Read, Write, Cut}
+use Rattle.bike_console.specs.declared.end.Fault.{Fault}
+use Rattle.bike_server.specs.Listening.{IsOfServing, EndsListening}
 use Rattle.bike_server.specs.Serving.{ServesRequests, StandsAfterRequests}
 
 -- what an input asks for is at most one request
@@ -69,3 +72,9 @@ module _ {S : Type 0} (g : Ghosts S) (desk : DeskValue S) where
     | inl before ↦ (it.calls, before)
     | inr later ↦ (it.calls ++ it.more, later)
   ]
+
+-- serving ended, and so listening
+pub ends_listening : {S : Type 0} (g : Ghosts S) (first last : Held S) (old new : Option (List ℕ)) (result : Result ℕ Fault)
+    → MatchResult result (λ count. count ≡ 0) IsOfServing → EndsListening g first last old new result
+ends_listening {S} g first last old new (Ok count) it = it
+ends_listening {S} g first last old new (Err told) it = inl it

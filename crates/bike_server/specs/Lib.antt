@@ -1,1 +1,6 @@
+pub mod Visits
+pub mod Played
+pub mod Arrivals
+pub mod Answering
 pub mod Serving
+pub mod Listening

@@ -1,7 +1,16 @@
 //! HTTP over sockets: a database is taken into service, and each connection on a port of the loopback address has one request answered.
+//!
+//! Serving itself knows no socket: it is generic over where connections come from, so that over memory its contract says what each
+//! of them is sent.
 #![tactic(auto)]
 
+mod arrivals;
+mod memory;
 mod server;
+mod sockets;
 mod timed;
 
-pub use server::{clock_moment, listen, serve_count};
+pub use arrivals::{AcceptFault, Arrival, Arrivals};
+pub use memory::{Parting, Played, Visit};
+pub use server::{listen, serve_count};
+pub use sockets::clock_moment;

@@ -1,6 +1,6 @@
 //! HTTP/1.1 on the loopback address: one request a connection, one connection after the other.
 
-ghost use Rattle.std.specs.Prelude.{◌≡◌, ◌≤◌, false, IsTrue, Err};
+ghost use Rattle.std.specs.Prelude.{◌≡◌, ◌≤◌, ℕ, List, [], Some, IfSome, IsSomeAnd, IfErr, MatchResult, false, IsTrue, Err};
 ghost use Rattle.sqlite.specs.State.{HasCleanDisk};
 ghost use Rattle.sqlite.specs.Held.{state};
 ghost use Rattle.sqlite_trees.specs.View.{doubt};
@@ -8,9 +8,13 @@ ghost use Rattle.bike_operator.specs.Operator.{Operator};
 ghost use Rattle.bike_schema.specs.Stands.{AllLeft, TreesStandFor};
 ghost use Rattle.bike_console.specs.declared.end.Fault.{Fault};
 ghost use Rattle.bike_http.specs.Desk.{desk_state, IsAt};
+ghost use Rattle.bike_server.specs.Visits.{IsOpen, Leaving, let_go};
+ghost use Rattle.bike_server.specs.Answering.{Exchanges, ServesInOrder, without_end};
+ghost use Rattle.bike_server.specs.Listening.{IsOfServing, EndsListening};
 ghost use Rattle.bike_server.specs.Serving.{ServesRequests, StandsAfterRequests};
 
-use crate::timed::TimedStream;
+use crate::arrivals::{AcceptFault, Arrival, Arrivals};
+use crate::sockets::Sockets;
 use bike_adoption::adopt;
 use bike_console::Fault;
 use bike_fixed::Moment;
@@ -19,90 +23,91 @@ use bike_http::{Desk, ServeFault, Served, serve_one};
 use bike_json::TokenBuffer;
 use bike_stream::write_whole;
 use sqlite::{Alter, Connection};
+use std::alloc::Global;
 use std::io::{Read, Write};
-use std::net::{TcpListener, TcpStream};
-use std::time::{Duration, SystemTime};
+use std::net::TcpListener;
 
-/// How many seconds an exchange takes at most, from its acceptance to the last byte of its answer, whatever its client does.
-const PATIENCE: u64 = 10;
-
-/// For how many milliseconds in all a client is waited for that may still send of a request which was answered before all of it was
-/// read.
-const LINGER: u64 = 200;
-
-/// In how many pieces that is read at most.
-const MOST_PIECES: u32 = 64;
-
-/// The clock's moment in whole seconds; none where the clock gives none, or one beyond the last that there is.
-pub fn clock_moment(rt: &HostRuntime) -> Option<Moment> {
-    let Ok(now) = SystemTime::now(rt) else {
-        return None;
-    };
-    let Ok(since) = now.duration_since(SystemTime::UNIX_EPOCH) else {
-        return None;
-    };
-    Moment::new(since.as_secs())
-}
-
-/// Whether the answer may have come before the whole request was read.
-fn may_be_early(served: &Result<Served, ServeFault>) -> bool {
-    matches!(served, Ok(Served::Status(400 | 404 | 405 | 413)))
-}
-
-/// Reads what a client still sends. A connection that is closed while bytes of it are unread is reset, and with that the client may
-/// lose its answer (RFC 9112, section 9.6).
-fn drain(stream: TimedStream) {
-    stream.shut_writes();
-    let Some(mut reader) = stream.for_at_most(Duration::from_millis(LINGER)) else {
-        return;
-    };
-    let mut piece = [0; 4096];
-    for _ in 0..MOST_PIECES {
-        match reader.read(&mut piece) {
-            Ok(0) | Err(_) => return,
-            Ok(_) => {}
-        }
+/// How an exchange ended whose last bytes weren't taken.
+fn cut_short(served: Result<Served, ServeFault>) -> Result<Served, ServeFault>
+    ensures { result ≡ without_end served }
+{
+    match served {
+        Ok(Served::Status(_)) => Err(ServeFault::Write),
+        Ok(Served::Empty) => Ok(Served::Empty),
+        Err(fault) => Err(fault),
     }
 }
 
-/// Serves the one request of a connection, in at most so many seconds. What fails of the connection alone is told to nobody: the client
-/// sees it end. What was accepted of it stands, and is answered as before when it is sent again.
-fn serve_stream<S: Alter>(
-    rt: &HostRuntime,
+/// One exchange, over a buffer that is handed over at its end. Gives the writer back and how it ended: an answer whose end isn't
+/// taken is a failed write.
+fn exchange<S: Alter, R: Read, W: Write + Drop>(
+    alloc: Global,
     desk: &mut Desk<S>,
     routes: &Routes,
     moment: Moment,
-    stream: &TcpStream,
-)
+    reader: &mut R,
+    writer: W,
+) -> (W, Result<Served, ServeFault>)
     ensures clean { doubt (desk_state S.Store desk.old).is_clean ≤ doubt (desk_state S.Store desk.new).is_clean }
     ensures kept { HasCleanDisk (desk_state S.Store desk.new) → (s : Operator) → IsAt S.Store desk.old s
         → ServesRequests S.Store desk.new s }
+    ensures exchanged { HasCleanDisk (desk_state S.Store desk.new) → (s : Operator) → IsAt S.Store desk.old s
+        → (input : List ℕ) → R.remaining reader.old ≡ Some input → W.contents writer ≡ Some []
+        → IsSomeAnd (W.contents result.0) (λ sent. Exchanges S.Store desk.new s (record { moment = moment; input = input })
+        (record { served = result.1; sent = sent })) }
 {
-    let Some(timed) = TimedStream::new(rt, stream, Duration::from_secs(PATIENCE)) else {
-        return;
-    };
-    let mut reader = timed;
-    let mut writer = TokenBuffer::new(timed);
-    let served = serve_one(rt.alloc(), desk, routes, moment, &mut reader, &mut writer);
+    let mut buffer = TokenBuffer::new(writer);
+    let served = serve_one(alloc, desk, routes, moment, reader, &mut buffer);
     // After a failed write the client would be waited for once more.
-    if !matches!(served, Err(ServeFault::Write)) {
-        let _ = writer.flush();
+    if matches!(served, Err(ServeFault::Write)) {
+        return (buffer.into_inner(), served);
     }
-    if may_be_early(&served) {
-        drain(timed);
+    match buffer.flush() {
+        Ok(()) => (buffer.into_inner(), served),
+        Err(_) => (buffer.into_inner(), cut_short(served)),
     }
 }
 
-/// Accepts so many connections and serves one request of each, at the clock's moment of its acceptance. It ends early where
-/// accepting or the clock fails (`ReadFailed`) and where the desk is stopped (`StoreFailed`); a connection that fails ends nothing.
-///
-/// Whatever clients send and whatever becomes of the sockets, a desk at an operator is at him after some list of requests; or it is
-/// stopped, and all that a crash may leave stands for the operator after such a list or after one request more.
-pub fn serve_count<S: Alter>(
-    rt: &HostRuntime,
+/// Serves the one request of a connection, and lets it go. What fails of the connection alone is told to nobody: the client
+/// sees it end. What was accepted of it stands, and is answered as before when it is sent again.
+fn serve_arrival<S: Alter, A: Arrivals>(
+    alloc: Global,
     desk: &mut Desk<S>,
     routes: &Routes,
-    listener: &TcpListener,
+    arrivals: &mut A,
+    arrival: Arrival<A::Reader, A::Writer>,
+)
+    requires { IsOpen (A.known arrivals.old) }
+    ensures clean { doubt (desk_state S.Store desk.old).is_clean ≤ doubt (desk_state S.Store desk.new).is_clean }
+    ensures kept { HasCleanDisk (desk_state S.Store desk.new) → (s : Operator) → IsAt S.Store desk.old s
+        → ServesRequests S.Store desk.new s }
+    ensures served { HasCleanDisk (desk_state S.Store desk.new) → (s : Operator) → IsAt S.Store desk.old s
+        → (input : List ℕ) → A.Reader.remaining arrival.reader ≡ Some input → A.Writer.contents arrival.writer ≡ Some []
+        → IfSome (A.known arrivals.old) (λ visits. (leaving : Leaving) × (A.known arrivals.new ≡ Some (let_go visits leaving))
+        × Exchanges S.Store desk.new s (record { moment = arrival.moment; input = input }) leaving) }
+{
+    let Arrival {
+        moment,
+        mut reader,
+        writer,
+    } = arrival;
+    let (writer, served) = exchange(alloc, desk, routes, moment, &mut reader, writer);
+    arrivals.finish(reader, writer, served);
+}
+
+/// Accepts so many connections, or all where there are fewer, and serves one request of each, at the moment of its acceptance. It
+/// ends early where accepting fails (`ReadFailed`) and where the desk is stopped (`StoreFailed`); a connection that fails ends
+/// nothing.
+///
+/// Whatever clients send and whatever becomes of the connections, a desk at an operator is at him after some list of requests; or it
+/// is stopped, and all that a crash may leave stands for the operator after such a list or after one request more. Where it is known
+/// what comes (`Played`), each connection is answered once, in their order, as the operator after those before it answers; what wasn't
+/// sent whole is told to `finish` as a failure.
+pub fn serve_count<S: Alter, A: Arrivals>(
+    alloc: Global,
+    desk: &mut Desk<S>,
+    routes: &Routes,
+    arrivals: &mut A,
     count: u64,
 ) -> Result<(), Fault>
     ensures clean { doubt (desk_state S.Store desk.old).is_clean ≤ doubt (desk_state S.Store desk.new).is_clean }
@@ -110,15 +115,17 @@ pub fn serve_count<S: Alter>(
         → ServesRequests S.Store desk.new s }
     ensures stopped { result ≡ Err Fault.StoreFailed → IsTrue desk.new.is_stopped }
     ensures goes_on { desk.old.is_stopped ≡ false → IsTrue desk.new.is_stopped → result ≡ Err Fault.StoreFailed }
+    ensures serves { HasCleanDisk (desk_state S.Store desk.new) → (s : Operator) → IsAt S.Store desk.old s
+        → IfSome (A.known arrivals.old) (λ before. IsSomeAnd (A.known arrivals.new)
+        (λ after. ServesInOrder S.Store desk.new s count before after result)) }
+    ensures faults { IfErr result IsOfServing }
 {
-    for _ in 0..count {
-        let Ok((stream, _)) = listener.accept() else {
-            return Err(Fault::ReadFailed);
-        };
-        let Some(moment) = clock_moment(rt) else {
-            return Err(Fault::ReadFailed);
-        };
-        serve_stream(rt, desk, routes, moment, &stream);
+    for _turn in 0..count {
+        match arrivals.accept() {
+            Ok(Some(arrival)) => serve_arrival(alloc, desk, routes, arrivals, arrival),
+            Ok(None) => return Ok(()),
+            Err(AcceptFault) => return Err(Fault::ReadFailed),
+        }
         if desk.stopped() {
             return Err(Fault::StoreFailed);
         }
@@ -127,7 +134,9 @@ pub fn serve_count<S: Alter>(
 }
 
 /// A listener on this port of 127.0.0.1.
-fn bind(rt: &HostRuntime, port: u16) -> Result<TcpListener, Fault> {
+fn bind(rt: &HostRuntime, port: u16) -> Result<TcpListener, Fault>
+    ensures faults { IfErr result IsOfServing }
+{
     let address = format!(in rt.alloc(); "127.0.0.1:{port}")?;
     match TcpListener::bind(rt, address.as_str()) {
         Ok(listener) => Ok(listener),
@@ -140,7 +149,9 @@ fn tell_port<W: Write>(
     rt: &HostRuntime,
     listener: &TcpListener,
     writer: &mut W,
-) -> Result<(), Fault> {
+) -> Result<(), Fault>
+    ensures faults { IfErr result IsOfServing }
+{
     let Ok(bound) = listener.local_addr() else {
         return Err(Fault::ReadFailed);
     };
@@ -163,6 +174,7 @@ fn listen_at<S: Alter, W: Write>(
     ensures clean { doubt (desk_state S.Store desk.old).is_clean ≤ doubt (desk_state S.Store desk.new).is_clean }
     ensures kept { HasCleanDisk (desk_state S.Store desk.new) → (s : Operator) → IsAt S.Store desk.old s
         → ServesRequests S.Store desk.new s }
+    ensures faults { IfErr result IsOfServing }
 {
     let listener = bind(rt, port)?;
     tell_port(rt, &listener, writer)?;
@@ -170,7 +182,8 @@ fn listen_at<S: Alter, W: Write>(
         Some(count) => u64::from(count),
         None => u64::MAX,
     };
-    serve_count(rt, desk, routes, &listener, count)
+    let mut sockets = Sockets::new(rt, &listener);
+    serve_count(rt.alloc(), desk, routes, &mut sockets, count)
 }
 
 /// Listens with all routes, and serves.
@@ -184,6 +197,7 @@ fn listen_all<S: Alter, W: Write>(
     ensures clean { doubt (desk_state S.Store desk.old).is_clean ≤ doubt (desk_state S.Store desk.new).is_clean }
     ensures kept { HasCleanDisk (desk_state S.Store desk.new) → (s : Operator) → IsAt S.Store desk.old s
         → ServesRequests S.Store desk.new s }
+    ensures ends { MatchResult result (λ count. count ≡ 0) IsOfServing }
 {
     let Ok(routes) = Routes::new(rt.alloc()) else {
         return Err(Fault::OutOfMemory);
@@ -198,7 +212,8 @@ fn listen_all<S: Alter, W: Write>(
 
 /// Takes the connection, which is outside a transaction, into service, listens on this port of 127.0.0.1 (0: a free one), tells that by
 /// the line `listening 127.0.0.1:PORT`, and serves so many connections, or without end. Gives the connection back, with the fault where
-/// one ended that: a port that can't be bound is `ReadFailed`.
+/// one ended that: a port that can't be bound is `ReadFailed`. Where the connection can't be taken into service, the fault tells why,
+/// and nothing is written or listened to.
 ///
 /// Where the database stood for an operator, all that a crash may then leave stands for him after some list of requests.
 pub fn listen<S: Alter, W: Write>(
@@ -213,6 +228,7 @@ pub fn listen<S: Alter, W: Write>(
     ensures kept { HasCleanDisk (state S.Store result.0) → (s : Operator)
         → TreesStandFor s (state S.Store conn).now.trees → IsTrue (state S.Store conn).is_open
         → AllLeft (state S.Store result.0) (StandsAfterRequests s) }
+    ensures ends { EndsListening S.Store conn result.0 (W.contents writer.old) (W.contents writer.new) result.1 }
 {
     match adopt(rt.alloc(), conn) {
         Ok(mut desk) => {

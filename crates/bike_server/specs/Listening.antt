@@ -1,0 +1,38 @@
+-- How listening ends.
+use Rattle.std.specs.Prelude.{◌≡◌, ◌⊎◌, ℕ, List, Option, Result, Ok, Err}
+use Rattle.std.specs.Io.KnownBytes.{Keeps}
+use Rattle.sqlite_trees.specs.declared.store.Store.{Ghosts}
+use Rattle.sqlite.specs.Held.{Held, state}
+use Rattle.sqlite.specs.State.{HasCleanDisk}
+use Rattle.bike_operator.specs.Operator.{Operator}
+use Rattle.bike_schema.specs.Stands.{TreesStandFor}
+use Rattle.bike_adoption.specs.declared.adoption.AdoptFault.{AdoptFault}
+use Rattle.bike_adoption.specs.Adoption.{handed, IsToldOf, IsWant}
+use Rattle.bike_console.specs.declared.end.Fault.{Fault}
+use Rattle.bike_console.specs.declared.end.Fault.TheVariants.{StoreFailed, OutOfMemory, ReadFailed, WriteFailed}
+use Rattle.bike_console.specs.Ends.{adopt_fault}
+
+-- a fault of serving itself: the store failed, or memory, accepting or the line that tells the port
+abbrev pub IsOfServing : Fault → Type 0
+IsOfServing StoreFailed = Unit {0}
+IsOfServing OutOfMemory = Unit {0}
+IsOfServing ReadFailed = Unit {0}
+IsOfServing WriteFailed = Unit {0}
+IsOfServing _ = ⊥
+
+-- the connection before and after, and what was written before and after
+module _ {S : Type 0} (g : Ghosts S) (first last : Held S) (old new : Option (List ℕ)) where
+  -- The connection couldn't be adopted, for memory or storage alone where it stands for an operator: that is told, the connection
+  -- is handed back as it was then, and nothing was written.
+  pub record Refuses (told : Fault) : Type 0 where
+    pub fault : AdoptFault S
+    pub is : told ≡ adopt_fault fault
+    pub conn : last ≡ handed fault
+    pub why : HasCleanDisk (state g last) → IsToldOf g first fault
+    pub want : (s : Operator) → TreesStandFor s (state g first).now.trees → HasCleanDisk (state g last) → IsWant fault
+    pub written : Keeps old new
+
+  -- HOW LISTENING ENDS: all that were to be served are, serving failed, or the connection couldn't be adopted
+  abbrev pub EndsListening : Result ℕ Fault → Type 0
+  EndsListening (Ok count) = count ≡ 0
+  EndsListening (Err told) = IsOfServing told ⊎ Refuses told

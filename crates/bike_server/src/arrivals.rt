@@ -1,0 +1,53 @@
+//! Where connections come from and where they go.
+
+ghost use Rattle.std.specs.Prelude.{◌≡◌, IfSome, Some};
+ghost use Rattle.bike_server.specs.Visits.{IsOpen, let_go};
+ghost use Rattle.bike_server.specs.Arrivals.{Accepts};
+
+use bike_fixed::Moment;
+use bike_http::{ServeFault, Served};
+use std::io::{Read, Write};
+use thiserror::Error;
+
+/// A connection: when it was accepted, what its client sends, and what is sent to it.
+#[derive(Drop)]
+pub struct Arrival<R, W> {
+    pub moment: Moment,
+    pub reader: R,
+    pub writer: W,
+}
+
+/// No more connections can be accepted.
+#[derive(Clone, Copy, Debug, PartialEq, Eq, Error)]
+#[error("accept failed")]
+pub struct AcceptFault;
+
+/// Where connections come from, one after the other, and where they go once they are answered.
+pub trait Arrivals {
+    ghost use Rattle.std.specs.Prelude.{Option};
+    ghost use Rattle.bike_server.specs.Visits.{Visits};
+
+    /// What a client sends.
+    type Reader: Read + Drop;
+
+    /// What a client is sent.
+    type Writer: Write + Drop;
+
+    // The connections ahead and those that were let go, where they are known. Of sockets nothing is.
+    ghost known: { Self → Option Visits };
+
+    /// The next connection; none where there are no more. Fails only where what comes isn't known.
+    fn accept(&mut self) -> Result<Option<Arrival<Self::Reader, Self::Writer>>, AcceptFault>
+        ensures { Accepts Self.Reader.remaining Self.Writer.contents (known self.old) (known self.new) result };
+
+    /// Lets a connection go that was accepted, by its two ends, and is told how its exchange ended.
+    fn finish(
+        &mut self,
+        reader: Self::Reader,
+        writer: Self::Writer,
+        served: Result<Served, ServeFault>,
+    )
+        requires { IsOpen (known self.old) }
+        ensures { IfSome (known self.old) (λ visits. IfSome (Self.Writer.contents writer)
+            (λ sent. known self.new ≡ Some (let_go visits (record { served = served; sent = sent })))) };
+}

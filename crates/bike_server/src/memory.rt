@@ -1,0 +1,101 @@
+//! Connections in memory: for tests, and for what the contract of serving says where everything is known.
+
+ghost use Rattle.std.specs.Prelude.{◌≡◌, ◌<◌, [], map, IfOk, Some};
+ghost use Rattle.bike_server.specs.Played.{coming_of, leaving_of};
+
+use crate::arrivals::{AcceptFault, Arrival, Arrivals};
+use bike_fixed::Moment;
+use bike_http::{ServeFault, Served};
+use std::alloc::{AllocError, Global};
+use std::marker::Model;
+
+/// A connection that will be played: the moment of its acceptance, and all that its client sends.
+#[derive(Clone, Copy, Debug)]
+pub struct Visit<'a> {
+    pub moment: Moment,
+    pub input: &'a [u8],
+}
+
+/// A connection that was played: how its exchange ended, and all that was sent to its client.
+#[derive(Debug, Drop)]
+pub struct Parting {
+    pub served: Result<Served, ServeFault>,
+    pub sent: Vec<u8>,
+}
+
+/// Connections that are played from a list and collected with what was sent to them. Reads never fail; a write fails for want of
+/// memory alone.
+#[derive(Drop)]
+pub struct Played<'a> {
+    alloc: Global,
+    visits: &'a [Visit<'a>],
+    next: usize,
+    gone: Vec<Parting>,
+}
+
+impl<'a> Model for Played<'a> {
+    ghost use Rattle.std.specs.Prelude.{◌≤◌, ◌-◌, length, vec_len, vec_capacity, map, drop};
+    ghost use Rattle.bike_server.specs.Visits.{Visits};
+    ghost use Rattle.bike_server.specs.Played.{coming_of, leaving_of};
+
+    ghost Value = { Visits };
+
+    ghost view = { λ p. record {
+      ahead = map coming_of (drop p.next p.visits.now);
+      pending = p.next - vec_len p.gone;
+      gone = map leaving_of p.gone.items;
+    } };
+
+    // There is room for each.
+    ghost invariant = { λ p. (vec_len p.gone ≤ p.next) × (p.next ≤ length p.visits.now) × (length p.visits.now ≤ vec_capacity p.gone) };
+}
+
+impl<'a> Played<'a> {
+    /// None was accepted yet. Takes the memory for all that will be let go.
+    pub fn new(alloc: Global, visits: &'a [Visit<'a>]) -> Result<Played<'a>, AllocError>
+        ensures { IfOk result (λ played. played ≡ record { ahead = map coming_of visits.now; pending = 0; gone = [] }) }
+    {
+        let gone = Vec::with_capacity(alloc, visits.len())?;
+        Ok(Played {
+            alloc,
+            visits,
+            next: 0,
+            gone,
+        })
+    }
+
+    /// Those that were let go, in their order.
+    pub fn partings(&self) -> &[Parting]
+        ensures { map leaving_of result.now ≡ self.now.gone }
+    {
+        self.gone.as_slice()
+    }
+}
+
+impl<'a> Arrivals for Played<'a> {
+    type Reader = &'a [u8];
+
+    type Writer = Vec<u8>;
+
+    ghost known = { λ played. Some played };
+
+    fn accept(&mut self) -> Result<Option<Arrival<&'a [u8], Vec<u8>>>, AcceptFault> {
+        if self.next == self.visits.len() {
+            return Ok(None);
+        }
+        let visit = &self.visits[self.next];
+        self.next += 1;
+        Ok(Some(Arrival {
+            moment: visit.moment,
+            reader: visit.input,
+            writer: Vec::new(self.alloc),
+        }))
+    }
+
+    fn finish(&mut self, _reader: &'a [u8], writer: Vec<u8>, served: Result<Served, ServeFault>) {
+        self.gone.push_reserved(Parting {
+            served,
+            sent: writer,
+        });
+    }
+}
