@@ -4,10 +4,10 @@ The wanted words follow from the rules in docs/FORMATS.md, sections 10 and 11, b
 the tables and of their keys, where a row out of its bounds counts as absent for the others.
 """
 
-import shutil
 import sqlite3
-import tempfile
 from pathlib import Path
+
+from shared import HERE, READY, SOUND, STORE_FAILED, changed, held, rows_of
 
 NOW = 1700003000
 
@@ -393,50 +393,29 @@ def told():
     return "".join(answer.replace(" ", "\t") + "\n" for _, _, answer in ASKED).encode()
 
 
-def changed(file, change=""):
-    """Changes a file by SQL, from outside. What stood in the log beside it is in the file afterwards."""
-    base = sqlite3.connect(file)
-    base.executescript(change)
-    base.execute("PRAGMA wal_checkpoint(TRUNCATE)").fetchall()
-    base.close()
-
-
 def made(program, name):
     """Makes the city in a file."""
     ended = program.run("lines", name, given=asked())
     assert ended == (0, told(), b""), ended
-    file = Path(program.folder) / name
+    file = Path(program.folder, name)
     changed(file)
     return file
 
 
-def held(file):
-    """Returns all that a file holds, as SQL. A copy is read, so that the file and the log beside it stay as they are."""
-    with tempfile.TemporaryDirectory() as folder:
-        copy = Path(folder) / file.name
-        for part in (file, file.with_name(file.name + "-wal")):
-            if part.exists():
-                shutil.copy(part, folder)
-        base = sqlite3.connect(copy)
-        lines = list(base.iterdump())
-        base.close()
-        return lines
-
-
 def checked(program, file, wanted):
     """Holds what `check` says of a file, which it leaves as it is, to what is wanted; none is `sound`."""
-    before, rows = file.read_bytes(), held(file)
+    before, rows = file.read_bytes(), held(file, whole=False)
     ended = program.run("check", file.name)
-    right = (0, b"sound\n", b"") if wanted is None else (5, b"", wanted.encode() + b"\n")
+    right = SOUND if wanted is None else (5, b"", wanted.encode() + b"\n")
     assert ended == right, (ended, right)
-    assert file.read_bytes() == before and held(file) == rows, "the file was changed"
+    assert file.read_bytes() == before and held(file, whole=False) == rows, "the file was changed"
 
 
 def test_each_change_of_a_small_city_is_found(program):
     city = made(program, "city.db").read_bytes()
     wrong = []
     for n, (change, wanted) in enumerate(CHANGES):
-        file = Path(program.folder) / f"changed{n}.db"
+        file = Path(program.folder, f"changed{n}.db")
         file.write_bytes(city)
         try:
             changed(file, change)
@@ -465,34 +444,32 @@ def test_a_file_goes_on_where_it_was(program):
 
 def test_a_new_file_gets_the_tables(program):
     ended = program.run("init", "new.db")
-    assert ended == (0, b"ready\n", b""), ended
-    file = Path(program.folder) / "new.db"
-    base = sqlite3.connect(file)
-    assert base.execute("SELECT * FROM meta").fetchall() == [(1, "bikeshare", 3, 0, 0, 0)]
-    base.close()
+    assert ended == READY, ended
+    file = Path(program.folder, "new.db")
+    assert rows_of("SELECT * FROM meta", file) == [(1, "bikeshare", 3, 0, 0, 0)]
     changed(file)
     checked(program, file, None)
     ended = program.run("init", "new.db")
-    assert ended == (0, b"ready\n", b""), ended
+    assert ended == READY, ended
 
 
 def test_a_file_that_is_no_database(program):
-    (Path(program.folder) / "text.db").write_bytes(b"no database at all\n" * 100)
+    Path(program.folder, "text.db").write_bytes(b"no database at all\n" * 100)
     ended = program.run("check", "text.db")
-    assert ended == (3, b"", b"store failed\n"), ended
+    assert ended == STORE_FAILED, ended
 
 
 def test_a_balance_that_is_off_by_one(program):
     lines = b"1700000000\toffice\tk1\tadd-rider\t17\n1700000001\toffice\tk2\ttop-up\t17\t2500\n"
     ended = program.run("lines", "city.db", given=lines)
     assert ended == (0, b"ok\nbalance\t2500\n", b""), ended
-    file = Path(program.folder) / "city.db"
+    file = Path(program.folder, "city.db")
     changed(file, "UPDATE riders SET balance = 2501")
     checked(program, file, "unsound riders 17")
 
 
 def test_changes_of_the_city_of_the_examples(program):
-    given = (Path(__file__).resolve().parent / "lines" / "the_city_of_the_examples.in").read_bytes()
+    given = (HERE / "lines/the_city_of_the_examples.in").read_bytes()
     ride = b"1700000000\toffice\tr1\tstart\t17\ta1\t1\n1700001800\toffice\tr2\tend\t7\ta1\t1\n"
     before = [
         ("UPDATE bikes SET truck = 3, ord = 1 WHERE bike = 7", "unsound bikes 7"),
@@ -510,13 +487,13 @@ def test_changes_of_the_city_of_the_examples(program):
     ]
     for n, (lines, changes) in enumerate([(given, before), (given + ride, after)]):
         for m, (change, wanted) in enumerate(changes):
-            file = Path(program.folder) / f"city{n}_{m}.db"
+            file = Path(program.folder, f"city{n}_{m}.db")
             ended = program.run("lines", file.name, given=lines)
             assert ended[0] == 0 and b"refused" not in ended[1], ended
             changed(file, change)
             checked(program, file, wanted)
     # What is served over a table of a stranger's leaves it.
-    file = Path(program.folder) / "city0_5.db"
+    file = Path(program.folder, "city0_5.db")
     ended = program.run("lines", file.name, given=ride)
     assert ended == (0, b"rental\t1\t7\nfare\t125\t2375\n", b""), ended
     assert "CREATE TABLE notes (note TEXT);" in held(file)

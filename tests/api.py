@@ -1,50 +1,38 @@
 """The requests that docs/API.md shows, in their order: each body has to be the one below its line."""
 
-import importlib.util
 import re
 import shlex
-from pathlib import Path
 
-HERE = Path(__file__).resolve().parent
+from shared import FEEDS, TOP, Server, body_of, city, get, post, timeless
+
 SHOWN = re.compile(r"^curl (-s .*)\n(\{.*\})$", re.M)
-
-
-def by_path(file, name):
-    """Returns a module by its file, since the name `http` is the library's."""
-    spec = importlib.util.spec_from_file_location(name, file)
-    module = importlib.util.module_from_spec(spec)
-    spec.loader.exec_module(module)
-    return module
-
-
-SERVING = by_path(HERE / "serving.py", "tests_serving")
 
 
 def request_of(words):
     """The request of curl's words: a POST where there is a body."""
     target = words[1].removeprefix("http://127.0.0.1:8080")
     assert words[0] == "-s" and words[1] != target and (len(words) == 2 or words[2] == "-d"), words
-    return SERVING.post(target, words[3]) if len(words) == 4 else SERVING.get(target)
+    return post(target, words[3]) if len(words) == 4 else get(target)
 
 
 def test_the_requests_of_the_document(program):
-    SERVING.city(program)
-    text = (HERE.parent / "docs/API.md").read_text(encoding="utf-8")
+    city(program)
+    text = (TOP / "docs/API.md").read_text(encoding="utf-8")
     shown = [(request_of(shlex.split(words)), body) for words, body in SHOWN.findall(text)]
     assert len(shown) == text.count("\ncurl ") > 20, len(shown)
-    with SERVING.Server(program, len(shown)) as server:
+    with Server(program, len(shown)) as server:
         for asked, body in shown:
-            found = SERVING.timeless(SERVING.body_of(server.ask(asked)))
-            assert found == SERVING.timeless(body.encode()), f"{asked!r}: {found!r}, not {body!r}"
+            found = timeless(body_of(server.ask(asked)))
+            assert found == timeless(body.encode()), f"{asked!r}: {found!r}, not {body!r}"
 
 
 def test_every_path_is_told(program):
     """The paths are those of docs/openapi.yaml, but for the feeds, which stand by one line."""
-    text = (HERE.parent / "docs/API.md").read_text(encoding="utf-8")
-    paths = re.findall(r"^  (/\S+):$", (HERE.parent / "docs/openapi.yaml").read_text(encoding="utf-8"), re.M)
+    text = (TOP / "docs/API.md").read_text(encoding="utf-8")
+    paths = re.findall(r"^  (/\S+):$", (TOP / "docs/openapi.yaml").read_text(encoding="utf-8"), re.M)
     assert len(paths) == 19, paths
     titles = " ".join(re.findall(r"^### .*$", text, re.M))
     for path in paths:
         assert path in titles or path.startswith("/gbfs/"), path
-    for name in SERVING.NAMES:
+    for name in FEEDS:
         assert f"`{name}`" in text, name

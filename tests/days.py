@@ -10,23 +10,13 @@ import sys
 from datetime import date, datetime, timedelta, timezone
 from pathlib import Path
 
+import shared
+from shared import ask, is_sound
+
 ROME = "CET-1CEST,M3.5.0,M10.5.0/3"
 ENTRIES = "number,kind,rider,rental,amount,at\n"
 RENTALS = "number,rider,bike,plan,from,start,to,end,fare\n"
-CITY = [
-    "set-system\tmetro\ten\tMetro Bikes\t24/7\tfeeds@example.org\tEtc/UTC\tEUR\thttp://127.0.0.1:8080\t30",
-    "add-plan\tbasic\tBasic\t100\tfalse\tOne euro and then a quarter\t30:25:5:-",
-    "add-type\tcity\tCity\tbicycle\thuman\t0\tbasic",
-    "add-station\ta1\tHarbour\t41.890169\t12.492269\t2",
-    "add-bike\t7\tcity",
-    "add-truck\t3\t20",
-    "open-order\t3\t*\ta1\tcity\t1",
-    "load\t3\t1\t7",
-    "unload\t3\t1\t7\tto\t1",
-    "close-order\t1",
-    "add-rider\t17",
-    "top-up\t17\t2500",
-]
+CITY = [it for it in shared.CITY if not it.startswith("mark-dock")]
 
 # Moments about the bounds of the first day of UTC and of the last, the hundredths that are paid in then, and how both are printed.
 BOUNDS = [
@@ -39,15 +29,7 @@ BOUNDS = [
     (253370764800, 2, "0.02,9999-01-01T00:00:00Z"),
 ]
 
-FACTS = Path(__file__).resolve().parent / "facts"
-
-
-def ask(program, commands, at=1699999200, first=1, caller="office"):
-    """Sends the commands, each under a key of its own, and returns the answers."""
-    given = "".join(f"{at}\t{caller}\tk{number}\t{command}\n" for number, command in enumerate(commands, first))
-    status, out, said = program.run("lines", "city.db", given=given.encode())
-    assert (status, said) == (0, b""), (status, said)
-    return out.decode().splitlines()
+FACTS = shared.HERE / "facts"
 
 
 def table(program, which, day, zone):
@@ -195,7 +177,7 @@ def test_the_greatest_amount_and_the_least(program):
         "2,18,7,gift,a1,2023-12-14T22:00:00Z,a1,2023-12-14T22:00:00Z,0.00\n",
     ]
     assert table(program, "rentals", "2023-12-14", "UTC0") == RENTALS + "".join(rentals)
-    assert program.run("check", "city.db") == (0, b"sound\n", b"")
+    is_sound(program)
 
 
 def made_city(program, seed):

@@ -1,9 +1,9 @@
 """The examples that documents show: request lines with their answers beside them."""
 
 import re
-from pathlib import Path
 
-TOP = Path(__file__).resolve().parent.parent
+from shared import TOP
+
 ROW = re.compile(r"^(\d+⇥\S+) {2,}(\S+)(?: {2,}.*)?$", re.M)
 
 

@@ -5,8 +5,6 @@ Wanted are the one line on standard error and the exit status of docs/OPERATOR.m
 request at which the program ended, or after it.
 """
 
-import contextlib
-import importlib.util
 import os
 import resource
 import shutil
@@ -16,39 +14,25 @@ import subprocess
 import time
 from pathlib import Path
 
-HERE = Path(__file__).resolve().parent
+import adoption
+from shared import READ_FAILED, SOUND, STORE_FAILED, WRITE_FAILED, Program, Server, changed, get, is_sound, removed, rows_of, told_with
+
 SECONDS = 30
-
-
-def by_path(name):
-    spec = importlib.util.spec_from_file_location(f"tests_{name}", HERE / f"{name}.py")
-    module = importlib.util.module_from_spec(spec)
-    spec.loader.exec_module(module)
-    return module
-
-
-adoption, serving = by_path("adoption"), by_path("serving")
 ASKED, TOLD = adoption.asked(), adoption.told()
-WRITE_FAILED = (6, b"write failed\n")
-READ_FAILED = (6, b"read failed\n")
-STORE_FAILED = (3, b"store failed\n")
 WORDS = [["init", "city.db"], ["check", "city.db"], ["lines", "city.db"], ["feed", "city.db", "gbfs"], ["serve", "city.db", "--port", "0", "--count", "1"]]
 
 
 def shell(program, redirected, *words, given=b""):
-    """Runs the program under the shell's redirections: its status, and what it says of faults where that isn't redirected."""
-    asked = ["sh", "-c", f'exec "$@" {redirected}', "sh", program.file, *words]
-    ran = subprocess.run(asked, input=given, cwd=program.folder, stdout=subprocess.PIPE, stderr=subprocess.PIPE, timeout=SECONDS)
-    assert not ran.stdout, (words, redirected, ran.stdout)
-    return ran.returncode, ran.stderr
+    """Runs the program under the shell's redirections."""
+    return program.shell(redirected, *words, given=given, timeout=SECONDS)
 
 
 def goes_on(program, file="city.db"):
     """The file is sound, and the list of requests has its answers whatever it had before."""
-    assert program.run("check", file) == (0, b"sound\n", b""), program.run("check", file)
+    is_sound(program, file)
     ended = program.run("lines", file, given=ASKED)
     assert ended == (0, TOLD, b""), ended
-    assert program.run("check", file) == (0, b"sound\n", b"")
+    is_sound(program, file)
 
 
 def test_output_that_is_closed(program):
@@ -59,27 +43,26 @@ def test_output_that_is_closed(program):
             if file == "city.db":
                 goes_on(program)
             ended = shell(program, ">&-", *asked, given=ASKED)
-            wanted = (1, b"system missing\n") if file == "new.db" and "feed" in words else WRITE_FAILED
+            wanted = (1, b"", b"system missing\n") if file == "new.db" and "feed" in words else WRITE_FAILED
             assert ended == wanted, (asked, ended)
             goes_on(program, file)
-            for part in Path(program.folder).glob(f"{file}*"):
-                part.unlink()
+            removed(program.folder, file)
 
 
 def test_errors_that_are_closed(program):
     """A fault is told by the status alone, and nothing is written into the file in its place."""
     goes_on(program)
     file = Path(program.folder, "city.db")
-    adoption.changed(file, "UPDATE meta SET cash = cash + 1")
+    changed(file, "UPDATE meta SET cash = cash + 1")
     before = file.read_bytes()
     for words in WORDS:
-        assert shell(program, "2>&-", *words, given=ASKED) == (5, b""), words
+        assert shell(program, "2>&-", *words, given=ASKED) == (5, b"", b""), words
         assert file.read_bytes() == before, words
-    adoption.changed(file, "UPDATE meta SET cash = cash - 1")
+    changed(file, "UPDATE meta SET cash = cash - 1")
     for redirected in ">&- 2>&-", "> /dev/full 2>&-", "<&- >&- 2>&-":
         for words in WORDS:
             ended = shell(program, redirected, *words, given=ASKED)
-            assert ended == (6, b""), (redirected, words, ended)
+            assert ended == (6, b"", b""), (redirected, words, ended)
             goes_on(program)
 
 
@@ -89,17 +72,15 @@ def test_input_that_is_closed(program):
     for words in ["lines", "city.db"], ["lines", "new.db"], []:
         assert shell(program, "<&-", *words) == READ_FAILED, (words, shell(program, "<&-", *words))
     goes_on(program)
-    asked = ["sh", "-c", 'exec "$@" <&-', "sh", program.file, "check", "city.db"]
-    ran = subprocess.run(asked, cwd=program.folder, capture_output=True, timeout=SECONDS)
-    assert (ran.returncode, ran.stdout, ran.stderr) == (0, b"sound\n", b""), ran
+    assert shell(program, "<&-", "check", "city.db") == SOUND
 
 
 def test_output_that_is_full(program):
     for words in WORDS:
         goes_on(program)
         assert shell(program, "> /dev/full", *words, given=ASKED) == WRITE_FAILED, words
-    assert shell(program, "> /dev/full", "lines", "city.db") == (0, b""), "no line is no answer"
-    assert shell(program, "> /dev/full 2> /dev/full", "lines", "city.db", given=ASKED) == (6, b"")
+    assert shell(program, "> /dev/full", "lines", "city.db") == (0, b"", b""), "no line is no answer"
+    assert shell(program, "> /dev/full 2> /dev/full", "lines", "city.db", given=ASKED) == (6, b"", b"")
     goes_on(program)
 
 
@@ -110,11 +91,10 @@ def test_output_that_nobody_reads(program):
         reader, writer = os.pipe()
         os.close(reader)
         try:
-            asked = [program.file, *words]
-            ran = subprocess.run(asked, input=ASKED, cwd=program.folder, stdout=writer, stderr=subprocess.PIPE, timeout=SECONDS)
+            ended = program.run(*words, given=ASKED, stdout=writer, timeout=SECONDS)
         finally:
             os.close(writer)
-        assert (ran.returncode, ran.stderr) == WRITE_FAILED, (words, ran)
+        assert ended == (6, None, b"write failed\n"), (words, ended)
     goes_on(program)
 
 
@@ -123,22 +103,17 @@ def test_output_that_is_left_early(program):
     lines = ASKED.splitlines(keepends=True)
     for count in 0, 1, 5, len(lines) - 1:
         file = f"left{count}.db"
-        child = subprocess.Popen(
-            [program.file, "lines", file], cwd=program.folder, stdin=subprocess.PIPE, stdout=subprocess.PIPE, stderr=subprocess.PIPE
-        )
-        child.stdin.write(b"".join(lines[:count]))
-        child.stdin.flush()
-        for _ in range(count):
-            child.stdout.readline()
-        child.stdout.close()
-        child.stdin.write(b"".join(lines[count:]))
-        child.stdin.close()
-        said = child.stderr.read()
-        child.stderr.close()
-        assert (child.wait(timeout=SECONDS), said) == WRITE_FAILED, (count, said)
-        base = adoption.sqlite3.connect(Path(program.folder, file))
-        (kept,) = base.execute("SELECT count(*) FROM kept").fetchone()
-        base.close()
+        with program.started("lines", file, stdin=subprocess.PIPE) as child:
+            child.stdin.write(b"".join(lines[:count]))
+            child.stdin.flush()
+            for _ in range(count):
+                child.stdout.readline()
+            child.stdout.close()
+            child.stdin.write(b"".join(lines[count:]))
+            child.stdin.close()
+            said = child.stderr.read()
+            assert (child.wait(timeout=SECONDS), said) == (6, b"write failed\n"), (count, said)
+        ((kept,),) = rows_of("SELECT count(*) FROM kept", program.folder, file)
         assert kept == count + 1, (count, kept)
         goes_on(program, file)
 
@@ -147,10 +122,9 @@ def test_errors_that_nobody_reads(program):
     goes_on(program)
     reader, writer = os.pipe()
     os.close(reader)
-    ran = subprocess.run([program.file, "feed", "city.db", "gbfs", "--at", "x"], cwd=program.folder, stdout=subprocess.PIPE, stderr=writer, timeout=SECONDS)
-    assert (ran.returncode, ran.stdout) == (2, b""), ran
-    ran = subprocess.run([program.file, "check", "no/city.db"], cwd=program.folder, stdout=subprocess.PIPE, stderr=writer, timeout=SECONDS)
-    assert (ran.returncode, ran.stdout) == (3, b""), ran
+    for status, words in (2, ["feed", "city.db", "gbfs", "--at", "x"]), (3, ["check", "no/city.db"]):
+        ended = program.run(*words, stderr=writer, timeout=SECONDS)
+        assert ended == (status, b"", None), (words, ended)
     os.close(writer)
 
 
@@ -164,16 +138,13 @@ def test_input_that_is_a_directory(program):
 
 def test_words_that_read_no_input(program):
     goes_on(program)
-    asked = ["sh", "-c", 'exec "$@" < .', "sh", program.file, "check", "city.db"]
-    ran = subprocess.run(asked, cwd=program.folder, capture_output=True, timeout=SECONDS)
-    assert (ran.returncode, ran.stdout, ran.stderr) == (0, b"sound\n", b""), ran
+    assert shell(program, "< .", "check", "city.db") == SOUND
 
 
 def each_word(program, file, wanted, **how):
-    for words in WORDS:
-        asked = [program.file, words[0], file, *words[2:]]
-        ran = subprocess.run(asked, input=ASKED, cwd=program.folder, capture_output=True, timeout=SECONDS, **how)
-        assert (ran.returncode, ran.stderr, ran.stdout) == (*wanted, b""), (words[0], file, ran)
+    for word, _, *words in WORDS:
+        ended = program.run(word, file, *words, given=ASKED, timeout=SECONDS, **how)
+        assert ended == wanted, (word, file, ended)
 
 
 def test_paths_where_no_database_can_be(program):
@@ -210,17 +181,17 @@ def test_a_link_is_its_file(program):
 def as_nobody(program):
     """How to run as a user who isn't root: for root, files may always be written."""
     if os.geteuid():
-        return program.file, {}
+        return program, {}
     copy = Path(program.folder, "bikeshare")
     shutil.copy(program.file, copy)
     copy.chmod(0o755)
     os.chmod(program.folder, 0o755)
-    return str(copy), {"user": 65534, "group": 65534, "extra_groups": []}
+    return Program(str(copy), program.folder), {"user": 65534, "group": 65534, "extra_groups": []}
 
 
 def test_files_that_may_not_be_written(program):
     goes_on(program)
-    file, how = as_nobody(program)
+    other, how = as_nobody(program)
     here = Path(program.folder)
     locked = here / "locked"
     locked.mkdir()
@@ -232,10 +203,8 @@ def test_files_that_may_not_be_written(program):
             for part in parts:
                 part.chmod(at_files)
             locked.chmod(at_folder)
-            for words in WORDS:
-                asked = [file, words[0], "locked/city.db", *words[2:]]
-                ran = subprocess.run(asked, input=ASKED, cwd=program.folder, capture_output=True, timeout=SECONDS, **how)
-                assert (ran.returncode, ran.stderr, ran.stdout) == (*STORE_FAILED, b""), (oct(at_files), oct(at_folder), words, ran)
+            with told_with(f"{at_files:o} {at_folder:o}"):
+                each_word(other, "locked/city.db", STORE_FAILED, **how)
     finally:
         locked.chmod(0o755)
         for part in parts:
@@ -259,14 +228,11 @@ def test_a_disk_without_room(program):
     ends = set()
     for limit in (0, 1, 41, 100, 4096, 5000, 40_000, 130_000, 262_144, 300_000, 400_000, 600_001, 999_999, 1_100_000, 4_000_000):
         file = f"full{limit}.db"
-        ran = subprocess.run(
-            [program.file, "lines", file], input=ASKED, cwd=program.folder, capture_output=True, timeout=SECONDS,
-            preexec_fn=limited(limit), restore_signals=False,
-        )
-        found = ran.stdout.splitlines(keepends=True)
-        wanted = (0, b"") if found == answers else STORE_FAILED
-        assert (ran.returncode, ran.stderr) == wanted and found == answers[: len(found)], (limit, ran)
-        ends.add(ran.returncode)
+        status, out, said = program.run("lines", file, given=ASKED, timeout=SECONDS, preexec_fn=limited(limit), restore_signals=False)
+        found = out.splitlines(keepends=True)
+        wanted = (0, b"") if found == answers else (3, b"store failed\n")
+        assert (status, said) == wanted and found == answers[: len(found)], (limit, status, out, said)
+        ends.add(status)
         goes_on(program, file)
     assert ends == {0, 3}, ends
 
@@ -275,26 +241,23 @@ def test_few_files_may_be_open(program):
     # With fewer the system could not load the program.
     for count in (4,):
         limit = lambda: resource.setrlimit(resource.RLIMIT_NOFILE, (count, count))
-        ran = subprocess.run(
-            [program.file, "lines", "city.db"], input=ASKED, cwd=program.folder, capture_output=True, timeout=SECONDS, preexec_fn=limit
-        )
-        assert (ran.returncode, ran.stdout, ran.stderr) == (3, b"", b"store failed\n"), (count, ran)
+        ended = program.run("lines", "city.db", given=ASKED, timeout=SECONDS, preexec_fn=limit)
+        assert ended == STORE_FAILED, (count, ended)
     goes_on(program)
 
 
 def test_a_second_program_on_one_file(program):
     """Only one program at a time may have the file open; the second one says so and changes nothing."""
     goes_on(program)
-    with serving.Server(program, 1) as server:
+    with Server(program, 1) as server:
         each_word(program, "city.db", STORE_FAILED)
-        server.ask(serving.get("/riders/17"))
+        server.ask(get("/riders/17"))
     goes_on(program)
 
 
 def test_an_input_that_pauses(program):
     """A line is answered when it is whole, before the next one comes."""
-    child = subprocess.Popen([program.file, "lines", "city.db"], cwd=program.folder, stdin=subprocess.PIPE, stdout=subprocess.PIPE, stderr=subprocess.PIPE)
-    try:
+    with program.started("lines", "city.db", stdin=subprocess.PIPE) as child:
         for line, answer in list(zip(ASKED.splitlines(keepends=True), TOLD.splitlines(keepends=True)))[:6]:
             child.stdin.write(line[:7])
             child.stdin.flush()
@@ -304,8 +267,4 @@ def test_an_input_that_pauses(program):
             assert child.stdout.readline() == answer
         out, said = child.communicate(timeout=SECONDS)
         assert (child.returncode, out, said) == (0, b"", b"")
-    finally:
-        with contextlib.suppress(ProcessLookupError):
-            child.kill()
-        child.wait()
     goes_on(program)

@@ -9,12 +9,8 @@ import csv
 import datetime
 import html.parser
 import http.server
-import importlib.machinery
-import importlib.util
 import json
-import os
 import re
-import shutil
 import subprocess
 import sys
 import threading
@@ -23,7 +19,8 @@ import urllib.request
 import xml.etree.ElementTree as xml
 from pathlib import Path
 
-TOP = Path(__file__).resolve().parent.parent
+from shared import TOP, Program, has, loaded, needs
+
 TOUR, MAP, PICTURE = TOP / "examples/city/run", TOP / "examples/map/map.py", TOP / "docs/pictures/city.svg"
 LIVE, SHOW = TOP / "examples/map/live.html", TOP / "examples/map/show"
 STEPS = ["init", "setup", "stations", "regions", "names", "fleet", "docks", "morning", "day", "feeds", "serve", "tables", "check"]
@@ -50,15 +47,15 @@ PLAIN = {
 
 def tour(program, folder, trips, file=None):
     """Runs the tour, and returns its status, its lines and what it says of a fault."""
-    words = [sys.executable, str(TOUR), file or program.file, "--folder", folder, "--trips", str(trips)]
-    ran = subprocess.run(words, cwd=program.folder, capture_output=True, timeout=SECONDS)
-    return ran.returncode, ran.stdout.decode().splitlines(), ran.stderr.decode()
+    words = [TOUR, file or program.file, "--folder", folder, "--trips", str(trips)]
+    status, out, said = Program(sys.executable, program.folder).run(*words, timeout=SECONDS)
+    return status, out.decode().splitlines(), said.decode()
 
 
 def draw(program, source, *words):
     """Draws a map, and returns the status, the output and what is said of a fault."""
-    ran = subprocess.run([sys.executable, str(MAP), source, *words], cwd=program.folder, capture_output=True, timeout=SECONDS)
-    return ran.returncode, ran.stdout.decode(), ran.stderr.decode()
+    status, out, said = Program(sys.executable, program.folder).run(MAP, source, *words, timeout=SECONDS)
+    return status, out.decode(), said.decode()
 
 
 def stations_of(text):
@@ -171,9 +168,7 @@ def test_the_tour_tells_a_wrong_answer(program):
 
 
 def test_the_tour_tells_a_wrong_feed(program):
-    loader = importlib.machinery.SourceFileLoader("examples_city_run", str(TOUR))
-    run = importlib.util.module_from_spec(importlib.util.spec_from_loader(loader.name, loader))
-    loader.exec_module(run)
+    run = loaded(TOUR)
     text = json.dumps({"last_updated": "2024-10-27T12:00:00Z", "ttl": 60, "version": "3.0", "data": PLAIN["station_status"]})
     at = 1730030400
     run.compare_feed("it", text, PLAIN["station_status"], at, at)
@@ -323,14 +318,6 @@ class Page(html.parser.HTMLParser):
             self.rows[-1][1][-1] += data
 
 
-def has(tool, test):
-    """Whether there is such a program on this machine; where there is none it is told that the test wasn't tried."""
-    if shutil.which(tool) or os.access(f"/usr/sbin/{tool}", os.X_OK):
-        return True
-    print(f"examples.{test}: not tried, there is no {tool}", flush=True)
-    return False
-
-
 def test_the_live_page_is_one_file(program):
     """The page asks no site but that of the feeds for anything, makes no elements of texts, and has each element that its program names."""
     text = LIVE.read_text(encoding="utf-8")
@@ -375,10 +362,9 @@ def table_of(page):
     return {about["data-station"]: cells for about, cells in page.rows if "data-station" in about}
 
 
+@needs("nginx")
 def test_the_live_page_of_the_tour(program):
     """The page, from a site of its own, draws the tour's city from the feeds that the gateway gives to every page."""
-    if not has("nginx", "test_the_live_page_of_the_tour"):
-        return
     assert tour(program, "results", 100)[::2] == (0, "")
     with shown(program, "results") as (address, gbfs):
         with urllib.request.urlopen(address, timeout=SECONDS) as answer:
@@ -391,7 +377,7 @@ def test_the_live_page_of_the_tour(program):
             with urllib.request.urlopen(urllib.request.Request(url, headers={"Origin": "http://127.0.0.1:1"}), timeout=SECONDS) as answer:
                 assert (answer.headers["Access-Control-Allow-Origin"], answer.headers["Cache-Control"]) == ("*", "public, max-age=60"), name
                 feeds[name] = json.load(answer)["data"]
-        if not has("chromium", "test_the_live_page_of_the_tour, what it shows"):
+        if not has("chromium", "examples.test_the_live_page_of_the_tour, what it shows"):
             return
         page = Page(dumped(program, address + "&station=h01"))
     states = {it["station_id"]: it for it in feeds["station_status"]["stations"]}
@@ -435,10 +421,9 @@ def served(feeds):
             server.shutdown()
 
 
+@needs("chromium")
 def test_the_live_page_of_hard_feeds(program):
     """The page shows texts as they stand and in the browser's language, goes on without a feed that is missing, and says which is late."""
-    if not has("chromium", "test_the_live_page_of_hard_feeds"):
-        return
     evil = "<img src=x onerror=\"document.title='broken in'\"></title><script>document.title='broken in'</script>&amp;"
     names = {
         "A <1>": [{"text": evil, "language": "sv"}],

@@ -5,33 +5,19 @@ import itertools
 import json
 import random
 import re
-import sqlite3
-import subprocess
 from pathlib import Path
 
-NAMES = ["gbfs", "system_information", "vehicle_types", "station_information", "station_status", "system_pricing_plans", "system_regions"]
-NOW = "1700000000"
-HEAD = '{"last_updated":"2023-11-14T22:13:20Z","ttl":30,"version":"3.0","data":'
+import shared
+from shared import FEEDS, HEAD, READY, WRITE_FAILED, accepted, ask, copied, data_of, feed, is_sound, removed
 
-SYSTEM = "set-system\tmetro\ten\tMetro Bikes\t24/7\tfeeds@example.org\tEtc/UTC\tEUR\thttp://127.0.0.1:8080\t30"
-CITY = [
-    SYSTEM,
-    "add-plan\tbasic\tBasic\t100\tfalse\tOne euro and then a quarter\t30:25:5:-",
-    "add-type\tcity\tCity\tbicycle\thuman\t0\tbasic",
-    "add-station\ta1\tHarbour\t41.890169\t12.492269\t2",
-    "add-bike\t7\tcity",
-    "add-truck\t3\t20",
-    "open-order\t3\t*\ta1\tcity\t1",
-    "load\t3\t1\t7",
-    "unload\t3\t1\t7\tto\t1",
-    "close-order\t1",
-    "mark-dock\ta1\t2\tbroken",
-]
+NOW = "1700000000"
+CITY = shared.CITY[:11]
+SYSTEM = CITY[0]
 
 # What each feed of that city holds.
 DATA = {
     "gbfs": '{"feeds":['
-    + ",".join(f'{{"name":"{name}","url":"http://127.0.0.1:8080/gbfs/3.0/{name}.json"}}' for name in NAMES[1:])
+    + ",".join(f'{{"name":"{name}","url":"http://127.0.0.1:8080/gbfs/3.0/{name}.json"}}' for name in FEEDS[1:])
     + "]}",
     "system_information": '{"system_id":"metro","languages":["en"],"name":[{"text":"Metro Bikes","language":"en"}],'
     '"opening_hours":"24/7","feed_contact_email":"feeds@example.org","timezone":"Etc/UTC"}',
@@ -49,25 +35,10 @@ DATA = {
 }
 
 
-def ask(program, commands, at=1699999200, first=1):
-    """Has the office send the commands, each under a key of its own, and returns the answers."""
-    given = "".join(f"{at}\toffice\tk{number}\t{command}\n" for number, command in enumerate(commands, first))
-    status, out, said = program.run("lines", "city.db", given=given.encode())
-    assert (status, said) == (0, b""), (status, said)
-    return out.decode().splitlines()
-
-
-def feed(program, name, at=NOW):
-    """The text of a feed, which stands alone on standard output."""
-    status, out, said = program.run("feed", "city.db", name, "--at", at)
-    assert (status, said) == (0, b""), (name, status, said)
-    return out.decode()
-
-
 def test_worked_texts(program):
     answers = ask(program, CITY)
     assert answers == ["ok"] * 6 + ["order\t1"] + ["ok"] * 4, answers
-    for name in NAMES:
+    for name in FEEDS:
         assert feed(program, name) == HEAD + DATA[name] + "}", (name, feed(program, name))
 
 
@@ -203,8 +174,7 @@ TEXTS = [
 
 def test_texts_of_the_catalogue(program):
     for commands, name, data in TEXTS:
-        for part in Path(program.folder).glob("city.db*"):
-            part.unlink()
+        removed(program.folder, "city.db")
         assert ask(program, [SYSTEM, *commands]) == ["ok"] * (1 + len(commands)), commands
         assert feed(program, name) == HEAD + data + "}", (name, feed(program, name))
 
@@ -236,10 +206,10 @@ def test_regions(program):
         for name, (old, new) in changes.items():
             assert data[name].count(old) == 1, (command, data[name])
             data[name] = data[name].replace(old, new)
-        for name in NAMES:
+        for name in FEEDS:
             assert feed(program, name) == HEAD + data[name] + "}", (command, name, feed(program, name))
     assert data == {**DATA, "system_regions": data["system_regions"]}, data
-    assert program.run("check", "city.db") == (0, b"sound\n", b"")
+    is_sound(program)
 
 
 # The same of names in further languages. A name's own language is looked for by its bytes.
@@ -291,9 +261,9 @@ def test_names_in_further_languages(program):
         for name, (old, new) in changes.items():
             assert data[name].count(old) == 1, (command, data[name])
             data[name] = data[name].replace(old, new)
-        for name in NAMES:
+        for name in FEEDS:
             assert feed(program, name) == HEAD + data[name] + "}", (command, name, feed(program, name))
-    assert program.run("check", "city.db") == (0, b"sound\n", b"")
+    is_sound(program)
 
 
 def test_names_beyond_the_first_plane(program):
@@ -306,7 +276,7 @@ def test_names_beyond_the_first_plane(program):
     assert f'"name":[{{"text":"Harbour","language":"en"}}{wanted}],' in text, text
     (station,) = json.loads(text)["data"]["stations"]
     assert [it["text"] for it in station["name"]] == ["Harbour", long, "\U0010ffff\U00010000", "a𝔘é🚲\t\\"], station
-    assert json.loads(feed(program, "system_information"))["data"]["languages"] == ["en", "aa", "bb", tag]
+    assert data_of(program, "system_information")["languages"] == ["en", "aa", "bb", tag]
 
 
 def test_many_languages(program):
@@ -319,9 +289,9 @@ def test_many_languages(program):
     commands += [f"add-name\tstation\t{station}\t{tag}\t{station} in {tag}" for station, given in named.items() for tag in given]
     answers = ask(program, commands)
     assert answers == ["ok"] * len(commands), [it for it in zip(commands, answers) if it[1] != "ok"][:3]
-    data = json.loads(feed(program, "system_information"))["data"]
+    data = data_of(program, "system_information")
     assert data["languages"] == ["en", *sorted({tag for given in named.values() for tag in given})] and len(data["languages"]) > 80, data
-    for it in json.loads(feed(program, "station_information"))["data"]["stations"]:
+    for it in data_of(program, "station_information")["stations"]:
         station = it["station_id"]
         wanted = [("en", f"Station {station}"), *((tag, f"{station} in {tag}") for tag in sorted(named[station]))]
         assert [(part["language"], part["text"]) for part in it["name"]] == wanted, it
@@ -333,9 +303,9 @@ def test_256_regions(program):
     random.Random(7).shuffle(regions)
     commands = [SYSTEM, *(f"add-region\t{it}\tRegion {it}" for it in regions), "add-station\ta1\tHarbour\t0\t0\t1", "set-region\ta1\tr99"]
     assert ask(program, commands) == ["ok"] * 259
-    found = json.loads(feed(program, "system_regions"))["data"]["regions"]
+    found = data_of(program, "system_regions")["regions"]
     assert found == [{"region_id": it, "name": [{"text": f"Region {it}", "language": "en"}]} for it in sorted(regions)], found
-    (station,) = json.loads(feed(program, "station_information"))["data"]["stations"]
+    (station,) = data_of(program, "station_information")["stations"]
     assert station["region_id"] == "r99" == found[-1]["region_id"], (station, found[-1])
 
 
@@ -370,8 +340,7 @@ NOT_RETURNING = (
 def test_texts_of_two_stations(program):
     assert ask(program, BARE, at=0) == ["ok"] * 3
     assert feed(program, "station_status") == HEAD + '{"stations":[' + NOT_INSTALLED % "" + "]}}", feed(program, "station_status")
-    answers = ask(program, BRIDGE, at=253402300799, first=10)
-    assert not [it for it in answers if it.startswith("refused")], answers
+    accepted(program, BRIDGE, at=253402300799, first=10)
     wanted = HEAD + '{"stations":[' + NOT_INSTALLED % NO_VEHICLES + "," + NOT_RETURNING + "]}}"
     assert feed(program, "station_status") == wanted, feed(program, "station_status")
 
@@ -437,8 +406,8 @@ def test_characters_as_json_has_them(program):
 
 
 def test_no_system(program):
-    assert program.run("init", "city.db") == (0, b"ready\n", b"")
-    for name in NAMES:
+    assert program.run("init", "city.db") == READY
+    for name in FEEDS:
         assert program.run("feed", "city.db", name, "--at", NOW) == (1, b"", b"system missing\n"), name
     assert program.run("feed", ":memory:", "gbfs") == (1, b"", b"system missing\n")
 
@@ -446,7 +415,7 @@ def test_no_system(program):
 def test_the_moment_is_the_one_that_is_asked_for(program):
     ask(program, CITY)
     for at, text in ("0", "1970-01-01T00:00:00Z"), ("1709251199", "2024-02-29T23:59:59Z"), ("253402300799", "9999-12-31T23:59:59Z"):
-        for name in NAMES:
+        for name in FEEDS:
             wanted = HEAD.replace("2023-11-14T22:13:20Z", text) + DATA[name] + "}"
             assert feed(program, name, at) == wanted, (name, at)
 
@@ -485,14 +454,14 @@ def test_types_with_a_motor_and_plans_without_segments(program):
         "add-type\tcargo\tCargo\tcargo_bicycle\telectric_assist\t60000\tday",
     ]
     assert ask(program, more, first=50) == ["ok"] * 3
-    plans = {it["plan_id"]: it for it in json.loads(feed(program, "system_pricing_plans"))["data"]["plans"]}
+    plans = {it["plan_id"]: it for it in data_of(program, "system_pricing_plans")["plans"]}
     assert list(plans) == sorted(plans)
     assert "per_min_pricing" not in plans["day"] and plans["day"]["is_taxable"] is True, plans["day"]
     assert plans["all"]["per_min_pricing"] == [
         {"start": 0, "rate": -0.6, "interval": 0, "end": 30},
         {"start": 20, "rate": 0.5, "interval": 10},
     ], plans["all"]
-    types = json.loads(feed(program, "vehicle_types"))["data"]["vehicle_types"]
+    types = data_of(program, "vehicle_types")["vehicle_types"]
     assert [it["vehicle_type_id"] for it in types] == ["cargo", "city"]
     assert list(types[0]) == ["vehicle_type_id", "form_factor", "propulsion_type", "max_range_meters", "name", "default_pricing_plan_id"]
     assert types[0]["max_range_meters"] == 60000 and "max_range_meters" not in types[1]
@@ -504,7 +473,7 @@ def test_flags_count_only_while_the_station_is_installed(program):
     for number, (installed, renting, returning) in enumerate(cases):
         words = "\t".join("true" if it else "false" for it in (installed, renting, returning))
         assert ask(program, [f"set-station\ta1\t{words}"], first=70 + number) == ["ok"]
-        (station,) = json.loads(feed(program, "station_status"))["data"]["stations"]
+        (station,) = data_of(program, "station_status")["stations"]
         flags = [station[it] for it in ("is_installed", "is_renting", "is_returning")]
         assert flags == [installed, installed and renting, installed and returning], (words, station)
         assert station["num_vehicles_available"] == 1, station
@@ -573,7 +542,7 @@ def told_names(program):
     """What feeds tell of each kind and identifier: languages and texts in their order."""
     told = {}
     for kind, (name, listed, _) in NAMED.items():
-        data = json.loads(feed(program, name))["data"]
+        data = data_of(program, name)
         for it in data[listed] if listed else [data]:
             parts = it["description" if kind == "description" else "name"]
             told[kind, it[f"{ {'type': 'vehicle_type', 'description': 'plan'}.get(kind, kind)}_id"]] = [(part["language"], part["text"]) for part in parts]
@@ -599,30 +568,27 @@ FROM stations_3 AS stations, types ORDER BY 1, 2
 
 def test_a_made_city_is_counted_by_sql(program):
     for seed in range(3):
-        Path(program.folder, "city.db").unlink(missing_ok=True)
-        Path(program.folder, "city.db-wal").unlink(missing_ok=True)
-        answers = ask(program, made_city(seed))
-        assert not [it for it in answers if it.startswith("refused")], answers
-        found = {it["station_id"]: it for it in json.loads(feed(program, "station_status"))["data"]["stations"]}
-        db = sqlite3.connect(Path(program.folder, "city.db"))
-        available = {}
-        for station, kind, count in db.execute(COUNTED):
-            available.setdefault(station, []).append({"vehicle_type_id": kind, "count": count})
-        in_docks = dict(db.execute("SELECT station_id, count(*) FROM bikes WHERE station_id IS NOT NULL GROUP BY station_id"))
-        broken = dict(db.execute("SELECT station_id, sum(broken) FROM docks GROUP BY station_id"))
-        both = dict(db.execute(
-            "SELECT bikes.station_id, count(*) FROM bikes JOIN docks USING (station_id, dock) WHERE docks.broken = 1 GROUP BY 1"
-        ))
-        capacity = dict(db.execute("SELECT station_id, docks FROM stations_3"))
-        region = dict(db.execute("SELECT station_id, region_id FROM stations_3 JOIN regions USING (region_id)"))
-        names = db.execute("SELECT region_id, regions.name FROM regions ORDER BY region_id").fetchall()
-        stored, languages = stored_names(db)
-        db.close()
+        removed(program.folder, "city.db")
+        accepted(program, made_city(seed))
+        found = {it["station_id"]: it for it in data_of(program, "station_status")["stations"]}
+        with copied(program.folder, "city.db") as db:
+            available = {}
+            for station, kind, count in db.execute(COUNTED):
+                available.setdefault(station, []).append({"vehicle_type_id": kind, "count": count})
+            in_docks = dict(db.execute("SELECT station_id, count(*) FROM bikes WHERE station_id IS NOT NULL GROUP BY station_id"))
+            broken = dict(db.execute("SELECT station_id, sum(broken) FROM docks GROUP BY station_id"))
+            both = dict(db.execute(
+                "SELECT bikes.station_id, count(*) FROM bikes JOIN docks USING (station_id, dock) WHERE docks.broken = 1 GROUP BY 1"
+            ))
+            capacity = dict(db.execute("SELECT station_id, docks FROM stations_3"))
+            region = dict(db.execute("SELECT station_id, region_id FROM stations_3 JOIN regions USING (region_id)"))
+            names = db.execute("SELECT region_id, regions.name FROM regions ORDER BY region_id").fetchall()
+            stored, languages = stored_names(db)
         assert told_names(program) == stored and sum(len(it) for it in stored.values()) > len(stored) + 10, (seed, stored)
-        assert json.loads(feed(program, "system_information"))["data"]["languages"] == languages, (seed, languages)
-        places = json.loads(feed(program, "station_information"))["data"]["stations"]
+        assert data_of(program, "system_information")["languages"] == languages, (seed, languages)
+        places = data_of(program, "station_information")["stations"]
         assert {it["station_id"]: it["region_id"] for it in places if "region_id" in it} == region and 3 < len(region) < len(places), (seed, places)
-        regions = json.loads(feed(program, "system_regions"))["data"]["regions"]
+        regions = data_of(program, "system_regions")["regions"]
         assert [(it["region_id"], it["name"][0]["text"]) for it in regions] == names and len(names) == 5, (seed, regions)
         assert list(found) == sorted(capacity), list(found)
         for station, shown in found.items():
@@ -648,14 +614,14 @@ def test_wrong_names_and_moments(program):
 def test_a_feed_changes_nothing(program):
     ask(program, CITY)
     before = Path(program.folder, "city.db").read_bytes()
-    for name in NAMES:
+    for name in FEEDS:
         feed(program, name)
     assert Path(program.folder, "city.db").read_bytes() == before
-    assert program.run("check", "city.db") == (0, b"sound\n", b"")
+    is_sound(program)
 
 
 def test_an_output_that_fails(program):
     ask(program, CITY)
     with open("/dev/full", "wb") as full:
-        ran = subprocess.run([program.file, "feed", "city.db", "gbfs", "--at", NOW], cwd=program.folder, stdout=full, stderr=subprocess.PIPE, timeout=60)
-    assert (ran.returncode, ran.stderr) == (6, b"write failed\n"), ran
+        ended = program.run("feed", "city.db", "gbfs", "--at", NOW, stdout=full)
+    assert ended == (WRITE_FAILED[0], None, WRITE_FAILED[2]), ended

@@ -1,20 +1,19 @@
 """The database file that the program makes where there is none: the length of its pages, and what a stop leaves while it is made."""
 
-import concurrent.futures
-import contextlib
 import os
-import sqlite3
 from pathlib import Path
 
-TOUR = Path(__file__).resolve().parent.parent / "docs/tour.txt"
+from shared import TOP, at_once, copied, is_sound, is_whole
+
+TOUR = TOP / "docs/tour.txt"
 
 
 def page_size(program, name="city.db"):
     """How long a page of the file is, as its header tells; SQLite's own test of the file finds nothing."""
     data = Path(program.folder, name).read_bytes()
     assert data[:16] == b"SQLite format 3\0", data[:16]
-    with contextlib.closing(sqlite3.connect(f"file:{Path(program.folder, name)}?mode=ro", uri=True)) as base:
-        assert base.execute("PRAGMA integrity_check").fetchall() == [("ok",)]
+    with copied(program.folder, name) as base:
+        is_whole(base)
     return int.from_bytes(data[16:18], "big")
 
 
@@ -26,7 +25,7 @@ def serves(program):
     """The tour is served, and the file is sound after it."""
     status, out, said = program.run("lines", "city.db", given=TOUR.read_bytes())
     assert (status, said) == (0, b""), (status, said)
-    assert program.run("check", "city.db") == (0, b"sound\n", b"")
+    is_sound(program)
     return out
 
 
@@ -51,7 +50,7 @@ def test_stop_before_the_first_name_goes(program):
         status, _, said = program.run(words[0], "city.db", *words[1:])
         assert (status, said) == (0, b""), (words, status, said)
         assert not made.exists(), words
-    assert program.run("check", "city.db") == (0, b"sound\n", b"")
+    is_sound(program)
 
 
 def test_name_that_a_stop_left(program):
@@ -62,7 +61,7 @@ def test_name_that_a_stop_left(program):
     assert left.read_bytes() == b"SQLite form", left.read_bytes()
     assert page_size(program) == 4096, page_size(program)
     # it is another file than the database, so no later start takes it away
-    assert program.run("check", "city.db") == (0, b"sound\n", b"")
+    is_sound(program)
     assert left.exists()
 
 
@@ -84,10 +83,9 @@ def test_many_starts_at_once(program):
     given = TOUR.read_bytes()
     for turn in range(5):
         name = f"city{turn}.db"
-        with concurrent.futures.ThreadPoolExecutor(6) as pool:
-            ends = list(pool.map(lambda _: program.run("lines", name, given=given), range(6)))
+        ends = at_once(lambda _, name=name: program.run("lines", name, given=given), range(6), 6)
         served = [out for status, out, _ in ends if status == 0]
         assert served and len(set(served)) == 1, ends
         assert all(status in (0, 3) for status, _, _ in ends), ends
-        assert program.run("check", name) == (0, b"sound\n", b"")
+        is_sound(program, name)
         assert names(program) == [f"city{it}.db" for it in range(turn + 1)], names(program)

@@ -14,36 +14,24 @@ are made from. A failure tells the seed and the input.
 """
 
 import contextlib
-import importlib.util
 import json
 import os
 import random
 import re
-import select
 import socket
 import subprocess
 import threading
 import time
 from pathlib import Path
 
-HERE = Path(__file__).resolve().parent
+import feeds
+import formats
+import model
+from shared import FEEDS, Server, accepted, data_of, get, is_sound, line_of, requests_of, reset, rest, told
+
 INPUTS = int(os.environ.get("BIKESHARE_INPUTS", "2000"))
 SEED = int(os.environ.get("BIKESHARE_SEED", "1"))
 SECONDS = 40
-
-
-def by_path(name):
-    spec = importlib.util.spec_from_file_location(f"tests_{name}", HERE / f"{name}.py")
-    module = importlib.util.module_from_spec(spec)
-    spec.loader.exec_module(module)
-    return module
-
-
-feeds, formats, model, serving = (by_path(it) for it in ("feeds", "formats", "model", "serving"))
-
-
-def told(data):
-    return repr(data if len(data) <= 600 else data[:400] + b" .. " + data[-100:]) + f" ({len(data)} bytes)"
 
 
 # ---- what inputs are made of
@@ -226,11 +214,9 @@ CITY = [
 
 def make_city(program, file):
     """Makes the city in a file, and returns the operator who holds the same."""
-    given = "".join(f"1699990000\toffice\tc{number}\t{it}\n" for number, it in enumerate(CITY)).encode()
-    status, out, said = program.run("lines", file, given=given)
-    assert (status, said) == (0, b"") and b"refused" not in out, (status, out, said)
-    operator = model.Operator()
-    assert out == b"".join(operator.answer(it) + b"\n" for it in given.splitlines()), out
+    how, operator = {"at": 1699990000, "first": 0, "key": "c"}, model.Operator()
+    answers = accepted(program, CITY, file=file, **how)
+    assert answers == [operator.answer(it).decode() for it in requests_of(CITY, **how).splitlines()], answers
     return operator
 
 
@@ -249,33 +235,25 @@ def hostile_line(pick):
 
 def fed(program, file, data, pick):
     """Feeds the input in pieces of odd sizes, and returns the status, the output and what is said."""
-    child = subprocess.Popen([program.file, "lines", file], cwd=program.folder, stdin=subprocess.PIPE, stdout=subprocess.PIPE, stderr=subprocess.PIPE)
 
-    def feed():
+    def feed(stdin):
         at = 0
         with contextlib.suppress(BrokenPipeError):
             while at < len(data):
                 size = pick.choice([1, 7, 100, 4096, 4097, 65_536, 100_000])
-                child.stdin.write(data[at : at + size])
-                child.stdin.flush()
+                stdin.write(data[at : at + size])
+                stdin.flush()
                 at += size
-            child.stdin.close()
+            stdin.close()
 
-    feeding = threading.Thread(target=feed)
-    feeding.start()
-    out, said = [], []
-    saying = threading.Thread(target=lambda: said.append(child.stderr.read()))
-    taking = threading.Thread(target=lambda: out.append(child.stdout.read()))
-    saying.start()
-    taking.start()
-    taking.join(SECONDS)
-    hangs = taking.is_alive()
-    if hangs:
-        child.kill()
-    for it in feeding, taking, saying:
-        it.join()
-    assert not hangs, f"it had not ended after {SECONDS} seconds"
-    return child.wait(timeout=SECONDS), out[0], said[0]
+    with program.started("lines", file, stdin=subprocess.PIPE) as child:
+        feeding = threading.Thread(target=feed, args=(child.stdin,))
+        # Only the thread writes to it.
+        child.stdin = None
+        feeding.start()
+        out, said = child.communicate(timeout=SECONDS)
+    feeding.join()
+    return child.returncode, out, said
 
 
 def test_lines(program):
@@ -292,12 +270,11 @@ def test_lines(program):
         if batch % 4 == 1:
             # What was accepted is answered as before, in whatever pieces it comes.
             answered(program, operator, lines, data, pick, f"seed {SEED}, batch {batch}, again")
-        ended = program.run("check", "city.db")
-        assert ended == (0, b"sound\n", b""), f"seed {SEED}, batch {batch}: check: {ended}"
+        is_sound(program, where=f"seed {SEED}, batch {batch}")
     # Feeds tell all names, in all languages, that the operator has then.
     found, right = feeds.told_names(program), operator.told_names()
     assert found == right, f"seed {SEED}: {[(it, found.get(it), right.get(it)) for it in found | right if found.get(it) != right.get(it)][:3]}"
-    found = json.loads(feeds.feed(program, "system_information"))["data"]["languages"]
+    found = data_of(program, "system_information")["languages"]
     assert found == operator.languages(), f"seed {SEED}: {found}, not {operator.languages()}"
 
 
@@ -305,17 +282,17 @@ def answered(program, operator, lines, data, pick, where):
     """Holds the answers to the lines to those of the operator."""
     status, out, said = fed(program, "city.db", data, pick)
     answers = out.split(b"\n")
-    last = told(lines[min(len(answers), len(lines)) - 1])
+    last = told(lines[min(len(answers), len(lines)) - 1], 600)
     assert (status, said) == (0, b""), f"{where}: status {status}, {said!r}, after {len(answers) - 1} answers: {last}"
     assert answers.pop() == b"" and len(answers) == len(lines), f"{where}: {len(answers)} answers to {len(lines)} lines"
     for line, found in zip(lines, answers):
         right = operator.answer(line)
-        assert formats.is_reply(found) and found == right, f"{where}: {told(line)} is answered by {found!r}, not {right!r}"
+        assert formats.is_reply(found) and found == right, f"{where}: {told(line, 600)} is answered by {found!r}, not {right!r}"
 
 
 # ---- HTTP
 
-GETS = ["/riders/1", "/bikes/1", "/rentals/1", "/orders/1", "/riders/999999", *(f"/gbfs/3.0/{it}.json" for it in serving.NAMES)]
+GETS = ["/riders/1", "/bikes/1", "/rentals/1", "/orders/1", "/riders/999999", *(f"/gbfs/3.0/{it}.json" for it in FEEDS)]
 ODD_TARGETS = [
     "/", "*", "/office/", "//office", "/%6fffice", "/office%00", "/riders/%31", "/riders/01", "/riders/0", "/riders/+1", "/riders/1000000", "/riders/" + "9" * 400,
     "/docks/A1/end", "/docks/a1", "/docks//end", "/gbfs/3.0/", "/gbfs/3.0/x.json", "/../etc/passwd", "/riders/1/start/", "http://127.0.0.1/office", "/office#x",
@@ -443,7 +420,7 @@ ROUTES = [
     (rb"/office", "POST", {"command": "command"}),
     (rb"/riders/(?P<rider>[^/]*)", "GET", "row"), (rb"/bikes/(?P<rider>[^/]*)", "GET", "row"),
     (rb"/rentals/(?P<serial>[^/]*)", "GET", "row"), (rb"/orders/(?P<serial>[^/]*)", "GET", "row"),
-    *((rb"/gbfs/3\.0/%s\.json" % it.encode(), "GET", "feed") for it in serving.NAMES),
+    *((rb"/gbfs/3\.0/%s\.json" % it.encode(), "GET", "feed") for it in FEEDS),
 ]
 
 
@@ -651,7 +628,7 @@ def exchanged(server, data, pick):
                     time.sleep(0.001)
             elif manner < 0.95:
                 client.sendall(data[: pick.randrange(len(data) + 1)])
-                return None if pick.random() < 0.5 else serving.reset(client)
+                return None if pick.random() < 0.5 else reset(client)
             else:
                 client.sendall(data)
                 return None
@@ -659,7 +636,7 @@ def exchanged(server, data, pick):
             pass
         with contextlib.suppress(OSError):
             client.shutdown(socket.SHUT_WR)
-        return serving.rest(client)
+        return rest(client)
 
 
 def test_http(program):
@@ -667,7 +644,7 @@ def test_http(program):
     operator = make_city(program, "city.db")
     make_city(program, "idle.db")
     left = INPUTS * 3 // 10
-    with serving.Server(program, file="city.db") as server, serving.Server(program, file="idle.db") as second:
+    with Server(program, file="city.db") as server, Server(program, file="idle.db") as second:
         # A client that says nothing is given up, and the next one is served.
         idle = second.connect()
         idle.sendall(b"GET /riders/1 HT")
@@ -683,21 +660,20 @@ def test_http(program):
                 wrong = judged(data, found, operator)
             except (OSError, ValueError, AttributeError, KeyError, IndexError) as fault:
                 found, wrong = None, f"{type(fault).__name__}: {fault}, and the server's status is {server.child.poll()}"
-            assert not wrong, f"seed {SEED}, {left} inputs before the end: {wrong}: {told(data)} is answered by {found and told(found)}"
+            assert not wrong, f"seed {SEED}, {left} inputs before the end: {wrong}: {told(data, 600)} is answered by {found and told(found, 600)}"
             if left % 100 == 0:
-                found = server.ask(serving.get("/bikes/1"))
+                found = server.ask(get("/bikes/1"))
                 assert found.startswith(b"HTTP/1.1 200 OK\r\n"), found
         assert server.child.poll() is None, server.child.poll()
         with second.connect() as client:
             client.settimeout(SECONDS)
-            client.sendall(serving.get("/bikes/1"))
-            assert serving.rest(client).startswith(b"HTTP/1.1 200 OK\r\n")
+            client.sendall(get("/bikes/1"))
+            assert rest(client).startswith(b"HTTP/1.1 200 OK\r\n")
         assert time.monotonic() - begun > 5, time.monotonic() - begun
-        assert serving.rest(idle) == b"", "an idle client got an answer"
+        assert rest(idle) == b"", "an idle client got an answer"
         idle.close()
     for file in "city.db", "idle.db":
-        ended = program.run("check", file)
-        assert ended == (0, b"sound\n", b""), f"seed {SEED}: check: {ended}"
+        is_sound(program, file, f"seed {SEED}, {file}")
 
 
 # ---- words
@@ -739,32 +715,25 @@ def some_words(pick):
 
 def run_words(program, words):
     """The status, output and faults; a server that listens is asked once, and ended where it goes on."""
-    asked = [program.file.encode(), *(it.encode("utf-8", "surrogateescape") for it in words)]
-    with subprocess.Popen(asked, cwd=program.folder, stdin=subprocess.DEVNULL, stdout=subprocess.PIPE, stderr=subprocess.PIPE) as child:
-        try:
-            if "serve" not in words:
-                out, said = child.communicate(timeout=SECONDS)
-                return child.returncode, out, said
-            ready, _, _ = select.select([child.stdout], [], [], SECONDS)
-            assert ready, "nothing is said"
-            line = child.stdout.readline()
-            listens = re.fullmatch(rb"listening 127\.0\.0\.1:([0-9]+)\n", line)
-            if not listens:
-                out, said = child.communicate(timeout=SECONDS)
-                return child.returncode, line + out, said
-            with socket.create_connection(("127.0.0.1", int(listens[1])), timeout=SECONDS) as client:
-                client.sendall(serving.get("/riders/1"))
-                assert serving.rest(client).startswith(b"HTTP/1.1 ")
-            # One connection may be all that it was to serve.
-            try:
-                child.wait(timeout=0.5)
-            except subprocess.TimeoutExpired:
-                return "listens", b"", b""
+    with program.started(*(it.encode("utf-8", "surrogateescape") for it in words)) as child:
+        if "serve" not in words:
             out, said = child.communicate(timeout=SECONDS)
             return child.returncode, out, said
-        finally:
-            if child.poll() is None:
-                child.kill()
+        line = line_of(child, SECONDS)
+        listens = re.fullmatch(rb"listening 127\.0\.0\.1:([0-9]+)\n", line)
+        if not listens:
+            out, said = child.communicate(timeout=SECONDS)
+            return child.returncode, line + out, said
+        with socket.create_connection(("127.0.0.1", int(listens[1])), timeout=SECONDS) as client:
+            client.sendall(get("/riders/1"))
+            assert rest(client).startswith(b"HTTP/1.1 ")
+        # One connection may be all that it was to serve.
+        try:
+            child.wait(timeout=0.5)
+        except subprocess.TimeoutExpired:
+            return "listens", b"", b""
+        out, said = child.communicate(timeout=SECONDS)
+        return child.returncode, out, said
 
 
 def test_words(program):
@@ -790,4 +759,4 @@ def test_words(program):
         for file in set(os.listdir(program.folder)) - {"city.db", "city.db-wal", "text.db"}:
             os.unlink(os.path.join(program.folder, file))
         assert Path(program.folder, "text.db").read_bytes() == b"no database\n" * 400, where
-    assert program.run("check", "city.db") == (0, b"sound\n", b""), f"seed {SEED}"
+    is_sound(program, where=f"seed {SEED}")

@@ -1,10 +1,9 @@
 """Stations from CSV, as `import` reads them: the worked tables, what counts as the header and as a row, and what is left after a fault."""
 
-import json
-import sqlite3
 from pathlib import Path
 
-HEADER = "station_id,name,lat,lon,docks\n"
+from shared import HEADER, data_of, is_sound, rows_of
+
 ROWS = 'c1,Canal,45.0,9.1,10\nc2,"Corso, north",45.000001,9.2,12\nc3,Castle,45,9.3,8\n'
 AT = "1700000000"
 
@@ -18,15 +17,7 @@ def load(program, table, name="spring", *words):
 
 def stations(program):
     """The stations in the file: identifier, name, latitude, longitude in microdegrees, docks."""
-    stored = sqlite3.connect(Path(program.folder) / "city.db")
-    columns = [row[1] for row in stored.execute("PRAGMA table_info(stations_3)")]
-    rows = [dict(zip(columns, row)) for row in stored.execute("SELECT * FROM stations_3 ORDER BY station_id")]
-    stored.close()
-    return [(row["station_id"], row["name"], row["lat"], row["lon"], row["docks"]) for row in rows]
-
-
-def is_sound(program):
-    return program.run("check", "city.db") == (0, b"sound\n", b"")
+    return rows_of("SELECT station_id, name, lat, lon, docks FROM stations_3 ORDER BY station_id", program.folder, "city.db")
 
 
 def test_worked_tables(program):
@@ -40,15 +31,14 @@ def test_worked_tables(program):
     assert stations(program) == wanted
     assert load(program, HEADER + ROWS.replace("Canal", "Kanal")) == (1, "", "row 1 key_reused\n")
     assert load(program, HEADER + ROWS, "summer") == (1, "", "row 1 already_there\n")
-    assert stations(program) == wanted and is_sound(program)
+    assert stations(program) == wanted
+    is_sound(program)
     assert before[:16] == b"SQLite format 3\0"
 
 
 def test_rows_are_kept_as_requests(program):
     assert load(program, HEADER + ROWS) == (0, "rows 3\n", "")
-    stored = sqlite3.connect(Path(program.folder) / "city.db")
-    kept = stored.execute("SELECT caller, req_key, command, reply FROM kept ORDER BY req_key").fetchall()
-    stored.close()
+    kept = rows_of("SELECT caller, req_key, command, reply FROM kept ORDER BY req_key", program.folder, "city.db")
     assert [row[:2] for row in kept] == [("import:spring", f"row-{number}") for number in (1, 2, 3)], kept
     assert kept[1][2] == "add-station\tc2\tCorso, north\t45.000001\t9.200000\t12" and {row[3] for row in kept} == {"ok"}, kept
     again = f"{AT}\timport:spring\trow-1\tadd-station\tc1\tCanal\t45\t9.1\t10\n".encode()
@@ -59,9 +49,8 @@ def test_moment(program):
     system = "1600000000\toffice\tk1\tset-system\tmetro\ten\tMetro\t24/7\tfeeds@example.org\tEtc/UTC\tEUR\thttp://127.0.0.1:8080\t30\n"
     assert program.run("lines", "city.db", given=system.encode()) == (0, b"ok\n", b"")
     assert load(program, HEADER + "c1,Canal,45,9.1,10\n", "spring", "--at", AT)[0] == 0
-    status, out, said = program.run("feed", "city.db", "station_status", "--at", AT)
-    assert (status, said) == (0, b"")
-    assert json.loads(out)["data"]["stations"][0]["last_reported"] == "2023-11-14T22:13:20Z", out
+    (station,) = data_of(program, "station_status", at=AT)["stations"]
+    assert station["last_reported"] == "2023-11-14T22:13:20Z", station
     status, out, said = program.run("import", "city.db", "autumn", given=(HEADER + "c2,Corso,45,9.1,10\n").encode())
     assert (status, out, said) == (0, b"rows 1\n", b"")
 
@@ -88,17 +77,18 @@ def test_rows_of_every_form(program):
         ("q3", "back\\tslash", 90000000, 180000000, 500),
         ("q4", "Last", -90000000, 9100000, 7),
     ], stations(program)
-    assert is_sound(program)
+    is_sound(program)
 
 
 def test_500_docks_and_501(program):
     assert load(program, HEADER + "c1,Canal,45,9.1,500\nc2,Corso,45,9.1,499\nc3,Castle,45,9.1,501\n") == (1, "", "row 3 bad_field\n")
-    assert [(row[0], row[4]) for row in stations(program)] == [("c1", 500), ("c2", 499)] and is_sound(program)
+    assert [(row[0], row[4]) for row in stations(program)] == [("c1", 500), ("c2", 499)]
+    is_sound(program)
     lines = b"".join(b"%s\toffice\tk%d\tmark-dock\tc1\t%d\tbroken\n" % (AT.encode(), dock, dock) for dock in (499, 500, 501))
     assert program.run("lines", "city.db", given=lines) == (0, b"ok\nok\nrefused\t11\tbad_field\n", b"")
     lines = f"{AT}\toffice\tm\tmark-dock\tc2\t500\tbroken\n".encode()
     assert program.run("lines", "city.db", given=lines) == (0, b"refused\t2\tunknown_dock\n", b"")
-    assert is_sound(program)
+    is_sound(program)
 
 
 def test_rows_that_are_unreadable(program):
@@ -129,7 +119,8 @@ def test_rows_that_are_unreadable(program):
         table = (HEADER + good).encode() + (row if isinstance(row, bytes) else row.encode()) + b"c9,Never,45,9.1,10\n"
         found = load(program, table)
         assert found == (1, "", f"row 2 {word}\n"), (number, row[:60], found)
-    assert [row[0] for row in stations(program)] == ["c1"] and is_sound(program)
+    assert [row[0] for row in stations(program)] == ["c1"]
+    is_sound(program)
 
 
 def test_an_open_quote_takes_the_rest(program):
@@ -146,5 +137,6 @@ def test_words_of_import(program):
 def test_many_stations(program):
     rows = [f"s{number},Station {number},45.{number:06},9.{number:06},{number % 500 + 1}\n" for number in range(1, 1001)]
     assert load(program, HEADER + "".join(rows)) == (0, "rows 1000\n", "")
-    assert len(stations(program)) == 1000 and is_sound(program)
+    assert len(stations(program)) == 1000
+    is_sound(program)
     assert load(program, HEADER + "".join(rows) + "s1001,More,45,9,1\n") == (0, "rows 1001\n", "")

@@ -5,27 +5,17 @@ the same request lines is what the earlier program showed of it.
 """
 
 import gzip
-import importlib.util
 import json
 from pathlib import Path
 
-HERE = Path(__file__).resolve().parent
-FILES, TOUR = HERE / "files", HERE.parent / "docs/tour.txt"
+from adoption import checked
+from shared import HERE, TOP, changed, held, is_sound
+
+FILES, TOUR = HERE / "files", TOP / "docs/tour.txt"
 
 # The feed gbfs ends so, and lists one feed more than it did for a file of schema 1.
 LAST = "]}}"
 LISTED = ',{"name":"system_regions","url":"http://127.0.0.1:8080/gbfs/3.0/system_regions.json"}'
-
-
-def by_path(name):
-    """Returns the module of another file of tests."""
-    spec = importlib.util.spec_from_file_location(f"tests_{name}", HERE / f"{name}.py")
-    module = importlib.util.module_from_spec(spec)
-    spec.loader.exec_module(module)
-    return module
-
-
-adoption, serving = by_path("adoption"), by_path("serving")
 
 
 def unpacked(program, name):
@@ -47,7 +37,7 @@ def shown_of(name):
 
 def shows(program, file, shown):
     """Holds what the program shows of a file, and answers over it, to what is kept."""
-    assert program.run("check", file) == (0, b"sound\n", b"")
+    is_sound(program, file)
     for feed, text in shown["feeds"].items():
         found = program.run("feed", file, feed, "--at", str(shown["moment"]))
         assert found == (0, text.encode(), b""), (feed, found)
@@ -57,7 +47,7 @@ def shows(program, file, shown):
     given, wanted = ("".join(f"{it[part]}\n" for it in shown["lines"]).encode() for part in (0, 1))
     status, found, said = program.run("lines", file, given=given)
     assert (status, said) == (0, b"") and found == wanted, [it for it in zip(shown["lines"], found.decode().splitlines()) if it[0][1] != it[1]][:3]
-    assert program.run("check", file) == (0, b"sound\n", b"")
+    is_sound(program, file)
 
 
 def made_anew_shows(program, name, lines):
@@ -70,7 +60,7 @@ def made_anew_shows(program, name, lines):
 def is_older(program, name, version):
     """Every word says so of the file, reads nothing and writes nothing, and the file stays as it is, byte for byte and row for row."""
     file = unpacked(program, name)
-    before, rows = file.read_bytes(), adoption.held(file)
+    before, rows = file.read_bytes(), held(file, whole=False)
     for words in (
         ["check"], ["init"], ["lines"], ["feed", "station_status", "--at", "1700000000"], ["feed", "system_regions", "--at", "0"],
         ["day", "entries", "2023-11-14", "UTC0"], ["import", "spring", "--at", "1700000000"], ["serve", "--port", "0", "--count", "1"], ["check"],
@@ -78,7 +68,7 @@ def is_older(program, name, version):
         given = b"1700000000\toffice\tnew\tadd-region\tnorth\tNorth\n" if words[0] == "lines" else b"station_id,name,lat,lon,docks\nz9,New,0,0,1\n"
         found = program.run(words[0], file.name, *words[1:], given=given)
         assert found == (5, b"", b"older %d\n" % version), (words, found)
-        assert file.read_bytes() == before and adoption.held(file) == rows, (words, "the file was changed")
+        assert file.read_bytes() == before and held(file, whole=False) == rows, (words, "the file was changed")
 
 
 def test_the_tour(program):
@@ -118,8 +108,8 @@ def test_an_older_file_whose_rows_are_bad(program):
     for name, version, changes in ("every", 1, older), ("regions", 2, newer):
         for change in changes:
             file = unpacked(program, name)
-            adoption.changed(file, change)
-            adoption.checked(program, file, f"older {version}")
+            changed(file, change)
+            checked(program, file, f"older {version}")
 
 
 def test_an_older_file_that_calls_itself_newer(program):
@@ -127,10 +117,10 @@ def test_an_older_file_that_calls_itself_newer(program):
     for name, versions in ("tour", {2: "older 2", 3: "foreign", 4: "newer 4"}), ("regions", {1: "older 1", 3: "foreign", 4: "newer 4"}):
         file = unpacked(program, name)
         for version, wanted in versions.items():
-            adoption.changed(file, f"UPDATE meta SET version = {version}")
-            adoption.checked(program, file, wanted)
-        adoption.changed(file, "DELETE FROM meta")
-        adoption.checked(program, file, "foreign")
+            changed(file, f"UPDATE meta SET version = {version}")
+            checked(program, file, wanted)
+        changed(file, "DELETE FROM meta")
+        checked(program, file, "foreign")
 
 
 # What schema 3 has more than schema 2, and schema 2 more than schema 1: a station's region, a table of regions, and one of further names.
@@ -154,5 +144,5 @@ def test_a_file_that_is_raised_by_hand(program):
     """No station has a region that it had not, and nothing a further name: the rest is taken as it stands."""
     for name, version in ("tour", 1), ("every", 1), ("city", 1), ("regions", 2):
         file = unpacked(program, name)
-        adoption.changed(file, RAISED[version])
+        changed(file, RAISED[version])
         shows(program, file.name, shown_of(name))

@@ -15,37 +15,24 @@ come about there.
 """
 
 import contextlib
-import importlib.util
 import itertools
 import json
 import os
 import random
 import re
-import select
-import shutil
-import socket
 import sqlite3
 import subprocess
-import tempfile
 import threading
 import time
 from pathlib import Path
 
-HERE = Path(__file__).resolve().parent
+from shared import Server, copied, is_sound, is_whole, line_of, office, post, removed
+
 KILLS = int(os.environ.get("BIKESHARE_KILLS", "10"))
 SEED = int(os.environ.get("BIKESHARE_SEED", "1"))
 MORE = int(os.environ.get("BIKESHARE_MORE", "0"))
 SECONDS = 30
 
-
-def by_path(name):
-    spec = importlib.util.spec_from_file_location(f"tests_{name}", HERE / f"{name}.py")
-    module = importlib.util.module_from_spec(spec)
-    spec.loader.exec_module(module)
-    return module
-
-
-serving = by_path("serving")
 
 # Each request has a caller and a command, and one that is refused is refused whatever comes behind it in the list. So all answers are
 # the same when the list is sent again. A number after a command is the key that it takes from an earlier request.
@@ -133,37 +120,26 @@ def as_posts():
     posts = []
     for caller, key, (word, *fields) in keyed():
         if caller == "office":
-            posts.append(serving.office(key, "\t".join([word, *fields])))
+            posts.append(office(key, "\t".join([word, *fields])))
             continue
         kind, name = caller.split(":")
         members = {it: int(field) if field.isdigit() else field for it, field in zip(names[word], fields, strict=True) if it}
-        posts.append(serving.post(f"/{kind}s/{name}/{word}".replace("/crew/", "/crews/"), json.dumps({"key": key, **members})))
+        posts.append(post(f"/{kind}s/{name}/{word}".replace("/crew/", "/crews/"), json.dumps({"key": key, **members})))
     return posts
-
-
-def copied(file, folder):
-    """Copies the file and the log beside it."""
-    for part in (file, file.with_name(file.name + "-wal")):
-        if part.exists():
-            shutil.copy(part, folder)
-    return Path(folder) / file.name
 
 
 def held(file, timeless=False):
     """What a file holds and what SQLite's own test of it says, both read from a copy. It holds nothing where it isn't made yet."""
-    with tempfile.TemporaryDirectory() as folder:
-        copy = copied(file, folder)
-        with contextlib.closing(sqlite3.connect(copy)) as base:
-            whole = base.execute("PRAGMA integrity_check").fetchall()
-            assert whole == [("ok",)], f"integrity_check: {whole}"
-            names = [name for (name,) in base.execute("SELECT name FROM sqlite_schema WHERE type = 'table' ORDER BY name")]
-            told = {}
-            for name in names:
-                rows = base.execute(f"SELECT * FROM {name}")
-                columns = [it[0] for it in rows.description]
-                out = [columns.index(it) for it in MOMENTS.get(name, [])] if timeless else []
-                told[name] = sorted((tuple((value is not None) if at in out else value for at, value in enumerate(row)) for row in rows), key=repr)
-            return told
+    with copied(file) as base:
+        is_whole(base)
+        names = [name for (name,) in base.execute("SELECT name FROM sqlite_schema WHERE type = 'table' ORDER BY name")]
+        told = {}
+        for name in names:
+            rows = base.execute(f"SELECT * FROM {name}")
+            columns = [it[0] for it in rows.description]
+            out = [columns.index(it) for it in MOMENTS.get(name, [])] if timeless else []
+            told[name] = sorted((tuple((value is not None) if at in out else value for at, value in enumerate(row)) for row in rows), key=repr)
+        return told
 
 
 class Talk:
@@ -172,9 +148,6 @@ class Talk:
     def __init__(self, program, file):
         self.program, self.file = program, file
         self.child = None
-
-    def spawn(self, *words, **how):
-        self.child = subprocess.Popen([self.program.file, *words], cwd=self.program.folder, stdout=subprocess.PIPE, stderr=subprocess.PIPE, **how)
 
     def end(self):
         """Kills the program, and returns what it says of faults."""
@@ -185,16 +158,9 @@ class Talk:
 
     def line(self):
         """A line of the program, or none where it ended before the line was whole."""
-        line, until = b"", time.monotonic() + SECONDS
-        while not line.endswith(b"\n"):
-            ready, _, _ = select.select([self.child.stdout], [], [], max(0, until - time.monotonic()))
-            assert ready, f"nothing in {SECONDS} seconds after {line!r}"
-            piece = os.read(self.child.stdout.fileno(), 1)
-            if not piece:
-                assert not line, f"a part of an answer line: {line!r}"
-                return None
-            line += piece
-        return line
+        line = line_of(self.child, SECONDS)
+        assert not line or line.endswith(b"\n"), f"a part of an answer line: {line!r}"
+        return line or None
 
 
 class ByLines(Talk):
@@ -202,7 +168,7 @@ class ByLines(Talk):
     requests = as_lines()
 
     def begin(self):
-        self.spawn("lines", self.file, stdin=subprocess.PIPE)
+        self.child = self.program.start("lines", self.file, stdin=subprocess.PIPE)
 
     def one(self, request):
         try:
@@ -230,22 +196,18 @@ class ByHttp(Talk):
     requests = as_posts()
 
     def begin(self):
-        self.spawn("serve", self.file, "--port", "0", stdin=subprocess.DEVNULL)
-        self.port = None
+        self.server = Server(self.program, file=self.file, seconds=SECONDS)
+        self.child = self.server.child
 
     def one(self, request):
-        if self.port is None:
-            line = self.line()
-            if line is None:
+        if self.server.port is None:
+            line = self.server.first_line()
+            if not line:
                 return None
-            self.port = int(re.fullmatch(rb"listening 127\.0\.0\.1:([0-9]+)\n", line)[1])
+            assert self.server.port, f"it said {line!r}"
         try:
-            with socket.create_connection(("127.0.0.1", self.port), timeout=SECONDS) as client:
-                client.sendall(request)
-                found = b""
-                while piece := client.recv(65536):
-                    found += piece
-        except (ConnectionError, BrokenPipeError):
+            found = self.server.ask(request)
+        except ConnectionError:
             return None
         # A request is acknowledged where its answer is there whole.
         head, _, body = found.partition(b"\r\n\r\n")
@@ -253,11 +215,11 @@ class ByHttp(Talk):
         return found if length and len(body) == int(length[1]) else None
 
     def strike(self, requests, delay):
-        if self.port is None:
+        if self.server.port is None:
             time.sleep(delay)
             self.child.kill()
             return
-        with contextlib.suppress(OSError), socket.create_connection(("127.0.0.1", self.port), timeout=SECONDS) as client:
+        with contextlib.suppress(OSError), self.server.connect() as client:
             client.sendall(requests[0])
             time.sleep(delay)
             self.child.kill()
@@ -348,18 +310,16 @@ def kills(program, kind):
         said = whole.end()
         assert again == wanted and not said, f"{told}: sent again: {[it for it in zip(kind.requests, again, wanted) if it[1] != it[2]][:3]}, {said!r}"
         assert held(file, kind.timeless) == fronts[-1], f"{told}: the list, sent again, ends in another city"
-        for part in Path(program.folder).glob(f"{file.name}*"):
-            part.unlink()
+        removed(file)
 
 
 def stands(program, file, kind, fronts, least, told):
     """Holds the file to a front of the list with so many requests or one more, and returns how many it surely has."""
     try:
         found = held(file, kind.timeless) if file.exists() else {}
-        ended = program.run("check", file.name)
+        is_sound(program, file.name)
     except (AssertionError, sqlite3.Error) as fault:
         raise AssertionError(f"{told}: after {least} answers: {fault}") from fault
-    assert ended == (0, b"sound\n", b""), f"{told}: check: {ended}"
     fits = [it for it in (least, least + 1) if it < len(fronts) and fronts[it] == found]
     assert fits or (least == 0 and not found), f"{told}: the file holds neither the first {least} requests nor one more: {found}"
     after = held(file, kind.timeless)

@@ -2,9 +2,10 @@
 Lists that reach the other limits are too long for a test."""
 
 import contextlib
-import json
 import sqlite3
 from pathlib import Path
+
+from shared import copied, data_of, is_sound, rows_of
 
 HEAD = "1700000000\toffice\t"
 SYSTEM = "set-system\tmetro\ten\tMetro\t24/7\tfeeds@example.org\tEtc/UTC\tEUR\thttp://127.0.0.1:8080\t30"
@@ -79,16 +80,14 @@ def served(program, rows):
     status, out, said = program.run("lines", "city.db", given=given.encode())
     wrong = [(row, found) for row, found in zip(rows, out.decode().splitlines()) if row[2] != found]
     assert (status, said) == (0, b"") and out.count(b"\n") == len(rows) and not wrong, (status, said, wrong[:3])
-    assert program.run("check", "city.db") == (0, b"sound\n", b"")
+    is_sound(program)
 
 
 def counted(program):
     """Of each station: bicycles available and disabled, docks available and disabled, as the feed tells them and as the tables store them."""
-    status, out, said = program.run("feed", "city.db", "station_status", "--at", "1700000000")
-    assert (status, said) == (0, b"")
     names = ["num_vehicles_available", "num_vehicles_disabled", "num_docks_available", "num_docks_disabled"]
-    told = {it["station_id"]: tuple(it[name] for name in names) for it in json.loads(out)["data"]["stations"]}
-    with contextlib.closing(sqlite3.connect(Path(program.folder, "city.db"))) as base:
+    told = {it["station_id"]: tuple(it[name] for name in names) for it in data_of(program, "station_status")["stations"]}
+    with copied(program.folder, "city.db") as base:
         rows = base.execute("SELECT station_id, free, broken FROM stations_3").fetchall()
         stored = {station: (0, 0, free, broken) for station, free, broken in rows}
         for station, available, disabled in base.execute("SELECT station_id, available, disabled FROM counts"):
@@ -125,8 +124,7 @@ def test_a_station_of_500_docks_in_use(program):
         ("o3", "unload\t3\t10\t1\tto\t499", "ok"), ("o4", "close-order\t10", "ok"), ("o5", "mark-dock\tb2\t500\tbroken", "ok"),
     ])
     assert counted(program) == {"a1": (251, 0, 249, 0), "b2": (249, 0, 250, 1)}
-    with contextlib.closing(sqlite3.connect(Path(program.folder, "city.db"))) as base:
-        found = dict(base.execute("SELECT bike, dock FROM bikes WHERE station_id = 'a1'"))
+    found = dict(rows_of("SELECT bike, dock FROM bikes WHERE station_id = 'a1'", program.folder, "city.db"))
     assert found == {1: 499, **{dock: dock for dock in docks if dock not in odd}}, found
 
 
@@ -139,14 +137,12 @@ def test_5000_stations_in_four_languages(program):
         base.executemany(place, [(station, f"Station {station}") for station in stations])
         names = [("station", station, language, f"{station} in {language}") for station in stations for language in languages]
         base.executemany("INSERT INTO more_names VALUES (?, ?, ?, ?)", names)
-    assert program.run("check", "city.db") == (0, b"sound\n", b"")
-    status, out, said = program.run("feed", "city.db", "station_information", "--at", "1700000000")
-    assert (status, said) == (0, b"")
-    found = {it["station_id"]: [(part["language"], part["text"]) for part in it["name"]] for it in json.loads(out)["data"]["stations"]}
+    is_sound(program)
+    places = data_of(program, "station_information")["stations"]
+    found = {it["station_id"]: [(part["language"], part["text"]) for part in it["name"]] for it in places}
     assert list(found) == sorted(stations), list(found)[:3]
     for station, told in found.items():
         assert told == [("en", f"Station {station}"), *((language, f"{station} in {language}") for language in languages)], (station, told)
-    status, out, said = program.run("feed", "city.db", "system_information", "--at", "1700000000")
-    assert (status, said) == (0, b"") and json.loads(out)["data"]["languages"] == ["en", *languages], out
+    assert data_of(program, "system_information")["languages"] == ["en", *languages]
     fourth = b"1700000000\toffice\tk2\tadd-name\tstation\ts5000\tes\tS\n1700000000\toffice\tk2\tadd-name\tstation\ts5001\tes\tS\n"
     assert program.run("lines", "city.db", given=fourth) == (0, b"refused\t32\tlimit_reached\nrefused\t1\tunknown_station\n", b"")

@@ -3,13 +3,7 @@
 It keeps plain lists and dictionaries, counts everything anew, and shares no thought with the program but the document.
 """
 
-import importlib.util
-from pathlib import Path
-
-HERE = Path(__file__).resolve().parent
-spec = importlib.util.spec_from_file_location("tests_formats", HERE / "formats.py")
-formats = importlib.util.module_from_spec(spec)
-spec.loader.exec_module(formats)
+import formats
 
 DEPOT = ("depot",)
 

@@ -5,27 +5,16 @@ with "- ", whole-line comments, and values that stand on one line. A value is JS
 else a plain word or number. Values stay as they are written until they are loaded, so that an answer can be held to them byte for byte.
 """
 
-import importlib.util
 import json
 import re
 import time
-from pathlib import Path
 
-HERE = Path(__file__).resolve().parent
+import formats
+from shared import FEEDS, TOP, Server, accepted, answer, city, get, holds, post, put, request, taken, timeless
+
 KEY = re.compile(r'("[^"\\]*"|[A-Za-z0-9_$./{}-]+):(?: (.+))?')
 PLAIN = re.compile(r"[A-Za-z0-9_][A-Za-z0-9_./-]*")
-
-
-def by_path(file, name):
-    """Returns a module by its file, since the name `http` is the library's."""
-    spec = importlib.util.spec_from_file_location(name, file)
-    module = importlib.util.module_from_spec(spec)
-    spec.loader.exec_module(module)
-    return module
-
-
-SERVING, FORMATS = by_path(HERE / "serving.py", "tests_serving"), by_path(HERE / "formats.py", "tests_formats")
-LINES = (HERE.parent / "docs/openapi.yaml").read_text(encoding="utf-8").splitlines()
+LINES = (TOP / "docs/openapi.yaml").read_text(encoding="utf-8").splitlines()
 
 
 def tree_of(lines):
@@ -153,9 +142,9 @@ def exchanges():
                 assert name not in answered, (path, name)
                 answered.add(name)
                 target = target_of(path, operation, example)
-                request = SERVING.post(target, asked[name]["value"]) if method == "post" else SERVING.get(target)
+                sent = post(target, asked[name]["value"]) if method == "post" else get(target)
                 before = json.loads(example.get("x-before", "[]"))
-                yield f"{method} {path} {name}", before, request, SERVING.answer(int(status), example["value"])
+                yield f"{method} {path} {name}", before, sent, answer(int(status), example["value"])
         assert set(asked) <= answered, (path, set(asked) - answered)
 
 
@@ -164,7 +153,7 @@ def test_every_route_is_there(program):
         "post": "/riders/{rider}/start /docks/{station}/end /docks/{station}/mark-dock /docks/{station}/mark-bike /crews/{truck}/load "
         "/crews/{truck}/unload /crews/{truck}/mark-bike /office",
         "get": "/riders/{rider} /bikes/{bike} /rentals/{rental} /orders/{order} "
-        + " ".join(f"/gbfs/3.0/{name}.json" for name in SERVING.NAMES),
+        + " ".join(f"/gbfs/3.0/{name}.json" for name in FEEDS),
     }
     for method, paths in wanted.items():
         assert sorted(path for path, found, _ in operations() if found == method) == sorted(paths.split()), method
@@ -186,9 +175,9 @@ def test_bounds_are_those_of_the_formats(program):
     """The numbers of refusals, and of docks."""
     schemas = API["components"]["schemas"]
     numbers = schemas["Refused"]["properties"]["number"]
-    assert (numbers["minimum"], numbers["maximum"]) == (1, len(FORMATS.REFUSALS)), numbers
+    assert (numbers["minimum"], numbers["maximum"]) == (1, len(formats.REFUSALS)), numbers
     docks = [schemas["Dock"], *(it["properties"]["dock"] for it in schemas.values() if "dock" in it.get("properties", {}))]
-    assert {it["maximum"] for it in docks if "maximum" in it} == {FORMATS.MOST_DOCKS}, docks
+    assert {it["maximum"] for it in docks if "maximum" in it} == {formats.MOST_DOCKS}, docks
 
 
 def test_examples_fit_their_schemas(program):
@@ -213,34 +202,27 @@ def test_examples_fit_their_schemas(program):
 
 
 def test_each_example_is_what_the_program_answers(program):
-    SERVING.city(program)
-    files = [it for it in Path(program.folder).iterdir() if it.name.startswith("city.db")]
-    made = {it: it.read_bytes() for it in files}
-    count = 0
-    for name, before, request, wanted in exchanges():
-        for it in Path(program.folder).glob("city.db*"):
-            it.unlink()
-        for it, data in made.items():
-            it.write_bytes(data)
-        given = "".join(f"{int(time.time())}\toffice\tb{number}\t{command}\n" for number, command in enumerate(before))
+    city(program)
+    made, count = taken(program.folder, "city.db"), 0
+    for name, before, sent, wanted in exchanges():
+        put(made, program.folder, "city.db")
         if before:
-            status, out, said = program.run("lines", "city.db", given=given.encode())
-            assert (status, said) == (0, b"") and b"refused" not in out, (name, status, out, said)
-        with SERVING.Server(program, 1) as server:
-            found = server.ask(request)
-        assert SERVING.timeless(found) == SERVING.timeless(wanted), f"{name}: {found!r}, not {wanted!r}"
+            accepted(program, before, at=int(time.time()), first=0, key="b")
+        with Server(program, 1) as server:
+            found = server.ask(sent)
+        assert timeless(found) == timeless(wanted), f"{name}: {found!r}, not {wanted!r}"
         count += 1
     assert count > 50, count
 
 
 def test_shared_answers(program):
-    SERVING.city(program)
+    city(program)
     rows = {
-        "BadRequest": (400, SERVING.post("/office", "[]"), None),
-        "NotFound": (404, SERVING.get("/nowhere"), None),
-        "MethodNotAllowed": (405, SERVING.get("/office"), "POST"),
-        "TooLarge": (413, SERVING.request("POST", "/office", "Content-Length: 16385"), None),
+        "BadRequest": (400, post("/office", "[]"), None),
+        "NotFound": (404, get("/nowhere"), None),
+        "MethodNotAllowed": (405, get("/office"), "POST"),
+        "TooLarge": (413, request("POST", "/office", "Content-Length: 16385"), None),
     }
     shown = {name: it["content"]["application/json"]["example"] for name, it in TREE["components"]["responses"].items()}
     assert sorted(shown) == sorted([*rows, "Unavailable"]), sorted(shown)
-    SERVING.holds(program, [(asked, SERVING.answer(status, shown[name], allow)) for name, (status, asked, allow) in rows.items()])
+    holds(program, [(asked, answer(status, shown[name], allow)) for name, (status, asked, allow) in rows.items()])

@@ -7,13 +7,11 @@ The tests of the gateway need nginx, that of the unit files systemd-analyze. Whe
 import contextlib
 import gzip
 import http.client
-import importlib.util
 import json
 import os
 import re
 import shutil
 import socket
-import sqlite3
 import subprocess
 import threading
 import time
@@ -21,49 +19,12 @@ from datetime import datetime
 from email.utils import parsedate_to_datetime
 from pathlib import Path
 
-HERE = Path(__file__).resolve().parent
-TOP = HERE.parent
+from serving import ended
+from shared import CITY, FEEDS, READY, STORE_FAILED, TOP, Server, body_of, city, get, is_sound, needs, office, put, ran, removed, rows_of, taken
+
 DEPLOY = TOP / "deploy"
 SECONDS = 30
 NOBODY = 65534
-
-
-def by_path(name):
-    """Returns the module of another file of tests."""
-    spec = importlib.util.spec_from_file_location(f"tests_{name}", HERE / f"{name}.py")
-    module = importlib.util.module_from_spec(spec)
-    spec.loader.exec_module(module)
-    return module
-
-
-serving = by_path("serving")
-
-
-def has(tool, test):
-    """Whether there is such a program on this machine; where there is none it is told that the test wasn't tried."""
-    if shutil.which(tool) or os.access(f"/usr/sbin/{tool}", os.X_OK):
-        return True
-    print(f"operating.{test}: not tried, there is no {tool}", flush=True)
-    return False
-
-
-def ran(*words, **how):
-    """Runs a program, and returns its exit status and all that it said."""
-    how = {"timeout": SECONDS, **how}
-    done = subprocess.run([str(it) for it in words], stdout=subprocess.PIPE, stderr=subprocess.STDOUT, **how)
-    return done.returncode, done.stdout.decode(errors="replace")
-
-
-def is_sound(program, file):
-    """Holds that `check` accepts a file."""
-    ended = program.run("check", file)
-    assert ended == (0, b"sound\n", b""), (file, ended)
-
-
-def rows(path, query):
-    """The rows that a query has of a file that nobody serves."""
-    with contextlib.closing(sqlite3.connect(path)) as base:
-        return base.execute(query).fetchall()
 
 
 # ---- copies
@@ -71,13 +32,13 @@ def rows(path, query):
 
 def top_ups(server, numbers):
     """Sends a top-up of 1 hundredth for each number, and returns the numbers of those that were answered."""
-    asked = ((it, serving.office(f"n{it}", "top-up\t17\t1")) for it in numbers)
+    asked = ((it, office(f"n{it}", "top-up\t17\t1")) for it in numbers)
     return [it for it, request in asked if b'"balance_cents"' in server.ask(request)]
 
 
 def keys_in(path):
     """The numbers of the top-ups that a file holds."""
-    return sorted(int(it[1:]) for (it,) in rows(path, "SELECT req_key FROM kept WHERE req_key GLOB 'n[0-9]*'"))
+    return sorted(int(it[1:]) for (it,) in rows_of("SELECT req_key FROM kept WHERE req_key GLOB 'n[0-9]*'", path))
 
 
 class Sender(threading.Thread):
@@ -110,9 +71,9 @@ def backup(program, copy):
 
 def test_copies_while_it_serves(program):
     """A copy holds what was answered before it was begun, nothing that was asked after its end, and is one sound file."""
-    serving.city(program)
+    city(program)
     here = Path(program.folder)
-    with serving.Server(program) as server, Sender(server) as sender:
+    with Server(program) as server, Sender(server) as sender:
         for turn in range(5):
             time.sleep(0.1)
             before = sender.answered
@@ -132,12 +93,12 @@ def test_copies_while_it_serves(program):
 
 def test_a_copy_that_is_killed(program):
     """The program goes on where the script is killed while it stands still."""
-    serving.city(program)
+    city(program)
     slow = Path(program.folder, "slow")
     slow.mkdir()
     (slow / "cp").write_text("#!/bin/sh\nsleep 1\n")
     (slow / "cp").chmod(0o755)
-    with serving.Server(program) as server:
+    with Server(program) as server:
         told = {**os.environ, "BIKESHARE": program.file, "PATH": f"{slow}:{os.environ['PATH']}"}
         copying = subprocess.Popen([DEPLOY / "backup", "city.db", "copy.db"], cwd=program.folder, env=told, stdout=subprocess.DEVNULL)
         status, until = Path(f"/proc/{server.child.pid}/status"), time.monotonic() + SECONDS
@@ -151,9 +112,9 @@ def test_a_copy_that_is_killed(program):
 
 def test_sqlite3_beside_it(program):
     """While the program has the file, sqlite3 neither reads nor copies it, and after it was killed both do."""
-    serving.city(program)
+    city(program)
     here = Path(program.folder)
-    with serving.Server(program) as server:
+    with Server(program) as server:
         assert top_ups(server, [1, 2, 3]) == [1, 2, 3]
         for words in (["SELECT count(*) FROM kept"], [".backup beside.db"]):
             for ways in ([], ["-readonly"]):
@@ -168,19 +129,18 @@ def test_sqlite3_beside_it(program):
 
 def plain_copy(here, to, log=True):
     """Copies city.db, with its log or without, as cp does."""
-    shutil.copy(here / "city.db", here / to)
-    if log and (here / "city.db-wal").exists():
-        shutil.copy(here / "city.db-wal", here / f"{to}-wal")
+    parts = taken(here, "city.db")
+    put({part: data for part, data in parts.items() if not part or (log and part == "-wal")}, here, to)
 
 
 def test_plain_copies_after_the_end(program):
     """After a list that ended the file alone is whole. After a kill file and log are, and the file alone is an older city."""
-    serving.city(program)
+    city(program)
     here = Path(program.folder)
     plain_copy(here, "ended.db", log=False)
     is_sound(program, "ended.db")
-    assert rows(here / "ended.db", "SELECT count(*) FROM kept") == [(len(serving.CITY),)]
-    with serving.Server(program) as server:
+    assert rows_of("SELECT count(*) FROM kept", here, "ended.db") == [(len(CITY),)]
+    with Server(program) as server:
         top_ups(server, [1, 2, 3])
     plain_copy(here, "both.db")
     plain_copy(here, "alone.db", log=False)
@@ -193,42 +153,36 @@ def test_plain_copies_after_the_end(program):
     assert keys_in(here / "settled.db") == [1, 2, 3]
 
 
-def removed(here, name="city.db"):
-    """Removes a file and its log."""
-    for part in name, f"{name}-wal":
-        (here / part).unlink(missing_ok=True)
-
-
 def test_restore(program):
     """The log goes with the file that is replaced. What was accepted since the copy is gone, and is accepted when it is sent again."""
-    serving.city(program)
+    city(program)
     here = Path(program.folder)
-    with serving.Server(program) as server:
+    with Server(program) as server:
         top_ups(server, [1, 2])
         assert backup(program, "copy.db")[0] == 0
         top_ups(server, [3, 4])
-    removed(here)
+    removed(here, "city.db")
     shutil.copy(here / "copy.db", here / "city.db")
     is_sound(program, "city.db")
-    with serving.Server(program) as server:
-        assert serving.body_of(server.ask(serving.get("/riders/17"))) == b'{"rider":17,"state":"open","balance_cents":2502,"rental":0}'
+    with Server(program) as server:
+        assert body_of(server.ask(get("/riders/17"))) == b'{"rider":17,"state":"open","balance_cents":2502,"rental":0}'
         assert top_ups(server, [1, 2, 3, 4]) == [1, 2, 3, 4]
-        assert serving.body_of(server.ask(serving.get("/riders/17"))) == b'{"rider":17,"state":"open","balance_cents":2504,"rental":0}'
+        assert body_of(server.ask(get("/riders/17"))) == b'{"rider":17,"state":"open","balance_cents":2504,"rental":0}'
 
 
 def test_a_standby(program):
     """A second program isn't let at the file. A copy elsewhere goes on from its moment, and knows the requests before it."""
-    serving.city(program)
-    with serving.Server(program) as server:
-        first = server.ask(serving.office("n1", "top-up\t17\t1"))
-        assert serving.ended(program, "city.db", "--port", "0", "--count", "1") == (3, b"", b"store failed\n")
+    city(program)
+    with Server(program) as server:
+        first = server.ask(office("n1", "top-up\t17\t1"))
+        assert ended(program, "city.db", "--port", "0", "--count", "1") == STORE_FAILED
         Path(program.folder, "standby").mkdir()
         assert backup(program, "standby/city.db")[0] == 0
-        lost = server.ask(serving.office("n2", "top-up\t17\t1"))
-    with serving.Server(program, 3, "standby/city.db") as server:
-        assert server.ask(serving.office("n1", "top-up\t17\t1")) == first
-        assert server.ask(serving.office("n2", "top-up\t17\t1")) == lost
-        assert b'"balance_cents":2502' in server.ask(serving.get("/riders/17"))
+        lost = server.ask(office("n2", "top-up\t17\t1"))
+    with Server(program, 3, "standby/city.db") as server:
+        assert server.ask(office("n1", "top-up\t17\t1")) == first
+        assert server.ask(office("n2", "top-up\t17\t1")) == lost
+        assert b'"balance_cents":2502' in server.ask(get("/riders/17"))
 
 
 # ---- documents, release, unit files
@@ -290,10 +244,9 @@ def test_release_in_an_empty_root(program):
     assert ran(*words, "check", "/city.db") == (0, "sound\n")
 
 
+@needs("systemd-analyze")
 def test_unit_files(program):
     """systemd knows each line of the unit files, and finds the programs that they name."""
-    if not has("systemd-analyze", "test_unit_files"):
-        return
     folder = Path(program.folder)
     for name in ("bikeshare@.service", "bikeshare-gateway.service"):
         text = (DEPLOY / name).read_text()
@@ -399,12 +352,11 @@ NEVER = [
 ]
 
 
+@needs("nginx")
 def test_gateway_callers(program):
     """Each caller gets to its own paths alone, and what isn't let through reaches no program."""
-    if not has("nginx", "test_gateway_callers"):
-        return
-    serving.city(program)
-    with serving.Server(program) as server, Gateway(program, {"metro": server.port}) as gateway:
+    city(program)
+    with Server(program) as server, Gateway(program, {"metro": server.port}) as gateway:
         for method, path in ROUTES:
             body = "{}" if method == "POST" else None
             assert gateway.told(method, path, body=body) == UNAUTHORIZED, (method, path)
@@ -420,12 +372,11 @@ def test_gateway_callers(program):
         assert gateway.told("GET", "/riders/17", "office:anna", host="other.example")[0] == 421
 
 
+@needs("nginx")
 def test_gateway_requests(program):
     """A request is done under its caller, and comes to the program with a length, whatever fields and pieces the client sent."""
-    if not has("nginx", "test_gateway_requests"):
-        return
-    serving.city(program)
-    with serving.Server(program) as server, Gateway(program, {"metro": server.port}) as gateway:
+    city(program)
+    with Server(program) as server, Gateway(program, {"metro": server.port}) as gateway:
         start = '{"key":"s1","station":"a1","dock":1}'
         fields = {f"X_Field_{it}": "x" * 200 for it in range(40)}
         for how in {}, fields, {"Transfer_Encoding": "chunked"}:
@@ -442,12 +393,11 @@ def test_gateway_requests(program):
     assert [it["caller"] for it in log[:3]] == ["rider:17"] * 3 and TOKENS["rider:17"] not in (gateway.folder / "access.log").read_text()
 
 
+@needs("nginx")
 def test_gateway_feeds(program):
     """Everybody may read feeds, also while the program is down, and the program isn't asked for one again within its ttl."""
-    if not has("nginx", "test_gateway_feeds"):
-        return
-    serving.city(program)
-    with serving.Server(program) as server, Gateway(program, {"metro": server.port}) as gateway:
+    city(program)
+    with Server(program) as server, Gateway(program, {"metro": server.port}) as gateway:
         first = gateway.ask("GET", "/gbfs/3.0/station_status.json")
         assert first[0] == 200 and first[2]["ttl"] == 30, first
         server.stop()
@@ -463,12 +413,11 @@ def test_gateway_feeds(program):
         assert gateway.told("GET", "/gbfs/3.0/vehicle_status.json") == gateway.told("GET", "/gbfs/3.0/gbfs.json%0a") == UNAUTHORIZED
 
 
+@needs("nginx")
 def test_gateway_slow_clients(program):
     """Clients that are slow hold up nobody: the program hears of a request when the gateway has all of it."""
-    if not has("nginx", "test_gateway_slow_clients"):
-        return
-    serving.city(program)
-    with serving.Server(program) as server, Gateway(program, {"metro": server.port}) as gateway, contextlib.ExitStack() as slow:
+    city(program)
+    with Server(program) as server, Gateway(program, {"metro": server.port}) as gateway, contextlib.ExitStack() as slow:
         body = b'{"key":"slow","command":"top-up\\t17\\t1"}'
         head = f"POST /office HTTP/1.1\r\nHost: metro.example\r\nAuthorization: Bearer {TOKENS['office:anna']}\r\nContent-Length: {len(body)}\r\n\r\n"
         clients = [slow.enter_context(socket.create_connection(("127.0.0.1", gateway.port), timeout=SECONDS)) for _ in range(20)]
@@ -481,14 +430,13 @@ def test_gateway_slow_clients(program):
         assert b'"balance_cents":2501' in clients[0].recv(65536)
 
 
+@needs("nginx")
 def test_gateway_of_two_cities(program):
     """One gateway stands before two programs; a token is good for its city alone."""
-    if not has("nginx", "test_gateway_of_two_cities"):
-        return
-    serving.city(program)
+    city(program)
     plain_copy(Path(program.folder), "rome.db")
     tokens = {"metro": TOKENS, "rome": {"office:bruno": "0b" * 16}}
-    with serving.Server(program) as one, serving.Server(program, file="rome.db") as two:
+    with Server(program) as one, Server(program, file="rome.db") as two:
         with Gateway(program, {"metro": one.port, "rome": two.port}, tokens) as gateway:
             body = '{"key":"r1","command":"add-rider\\t18"}'
             assert gateway.told("POST", "/office", "0b" * 16, body, "rome.example") == (200, "")
@@ -508,13 +456,12 @@ def readers(head):
     return head["Access-Control-Allow-Origin"], head["Cache-Control"]
 
 
+@needs("nginx")
 def test_gateway_feeds_for_pages_and_caches(program):
     """Pages of every site may read feeds, and caches may keep them as long as their ttl. HEAD tells the same as GET."""
-    if not has("nginx", "test_gateway_feeds_for_pages_and_caches"):
-        return
-    serving.city(program)
-    with serving.Server(program) as server, Gateway(program, {"metro": server.port}) as gateway:
-        found = {f"/gbfs/3.0/{name}.json": gateway.ask("GET", f"/gbfs/3.0/{name}.json") for name in serving.NAMES}
+    city(program)
+    with Server(program) as server, Gateway(program, {"metro": server.port}) as gateway:
+        found = {f"/gbfs/3.0/{name}.json": gateway.ask("GET", f"/gbfs/3.0/{name}.json") for name in FEEDS}
         server.stop()
         time.sleep(1.1)
         for path, (status, head, body) in found.items():
@@ -530,12 +477,11 @@ def test_gateway_feeds_for_pages_and_caches(program):
         assert len({head["ETag"] for _, head, _ in found.values()}) == len(found)
 
 
+@needs("nginx")
 def test_gateway_feeds_are_pressed(program):
     """Who takes gzip gets a feed as gzip, also through another proxy; who doesn't gets it as it is."""
-    if not has("nginx", "test_gateway_feeds_are_pressed"):
-        return
-    serving.city(program)
-    with serving.Server(program) as server, Gateway(program, {"metro": server.port}) as gateway:
+    city(program)
+    with Server(program) as server, Gateway(program, {"metro": server.port}) as gateway:
         _, plain, body = gateway.ask("GET", FEED)
         for fields in {"Accept_Encoding": "gzip"}, {"Accept_Encoding": "br, gzip;q=0.5", "Via": "1.1 other"}:
             status, head, pressed = gateway.ask("GET", FEED, **fields)
@@ -546,12 +492,11 @@ def test_gateway_feeds_are_pressed(program):
             assert (head["Content-Encoding"], same, head["ETag"]) == (None, body, plain["ETag"]), head.items()
 
 
+@needs("nginx")
 def test_gateway_feeds_that_are_still_good(program):
     """Who has a feed is told so until the program is asked anew. While that is away, the feed of before says how old it is."""
-    if not has("nginx", "test_gateway_feeds_that_are_still_good"):
-        return
-    serving.city(program)
-    with serving.Server(program) as server, Gateway(program, {"metro": server.port}, ttl=2) as gateway:
+    city(program)
+    with Server(program) as server, Gateway(program, {"metro": server.port}, ttl=2) as gateway:
         _, first, _ = gateway.ask("GET", FEED)
         tag, told = first["ETag"], ("*", "public, max-age=2")
         for method in "GET", "HEAD":
@@ -570,15 +515,14 @@ def test_gateway_feeds_that_are_still_good(program):
         assert (status, head["Date"], head["ETag"], readers(head)) == (200, second["Date"], second["ETag"], told), (status, head.items())
 
 
+@needs("nginx")
 def test_gateway_answers_preflights(program):
     """What a browser asks before a page's request is answered for feeds alone, and by the gateway itself."""
-    if not has("nginx", "test_gateway_answers_preflights"):
-        return
-    serving.city(program)
+    city(program)
     asked = {"Origin": "https://other.example", "Access_Control_Request_Method": "GET", "Access_Control_Request_Headers": "x-page"}
-    with serving.Server(program) as server, Gateway(program, {"metro": server.port}) as gateway:
+    with Server(program) as server, Gateway(program, {"metro": server.port}) as gateway:
         server.stop()
-        for name in serving.NAMES:
+        for name in FEEDS:
             status, head, body = gateway.ask("OPTIONS", f"/gbfs/3.0/{name}.json", **asked)
             found = [head[f"Access-Control-{it}"] for it in ("Allow-Origin", "Allow-Methods", "Allow-Headers", "Allow-Credentials")]
             assert (status, found, head["Allow"], body) == (204, ["*", "GET, HEAD", "*", None], "GET, HEAD, OPTIONS", None), (name, head.items())
@@ -589,13 +533,12 @@ def test_gateway_answers_preflights(program):
                 assert not [it for it in head if it.startswith("Access-Control")], head.items()
 
 
+@needs("nginx")
 def test_gateway_keeps_callers_answers_to_them(program):
     """What the office, riders, docks and crews are answered, and errors there, no cache keeps and no page of another site reads."""
-    if not has("nginx", "test_gateway_keeps_callers_answers_to_them"):
-        return
-    serving.city(program)
+    city(program)
     origin = {"Origin": "https://other.example", "Accept_Encoding": "gzip"}
-    with serving.Server(program) as server, Gateway(program, {"metro": server.port}) as gateway:
+    with Server(program) as server, Gateway(program, {"metro": server.port}) as gateway:
         statuses = set()
         for method, path in [*ROUTES, ("GET", "/gbfs/3.0/vehicle_status.json"), ("GET", "/riders/17/"), ("POST", "/riders/1/start")]:
             for caller in (None, *TOKENS):
@@ -612,11 +555,10 @@ def test_gateway_keeps_callers_answers_to_them(program):
         assert statuses == {200, 400, 401, 403, 404, 413, 421, 503}, statuses
 
 
+@needs("nginx")
 def test_gateway_errors_at_feeds(program):
     """An error at a feed's path has the form of the program's, pages of every site may read it, and no cache keeps it."""
-    if not has("nginx", "test_gateway_errors_at_feeds"):
-        return
-    assert program.run("init", "city.db") == (0, b"ready\n", b"")
+    assert program.run("init", "city.db") == READY
 
     def error(wanted, name, pause=None, **how):
         """Holds that a feed is answered by this error."""
@@ -625,7 +567,7 @@ def test_gateway_errors_at_feeds(program):
         assert (head["Content-Type"], head["Retry-After"], head["ETag"]) == ("application/json", pause, None), head.items()
         assert pause is None or "Retry-After" in head["Access-Control-Expose-Headers"], head.items()
 
-    with serving.Server(program) as server, Gateway(program, {"metro": server.port}) as gateway:
+    with Server(program) as server, Gateway(program, {"metro": server.port}) as gateway:
         error(404, "not_found")
         error(404, "not_found", If_None_Match="*", Accept_Encoding="gzip")
         error(403, "forbidden", method="POST", body="{}")

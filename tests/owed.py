@@ -12,40 +12,30 @@ BIKESHARE_OWED is how many tables, and how many time zones and dates, are made; 
 memory behind the opening of the file is refused, in place of some. BIKESHARE_SEED is what is made from. A failure tells the seed and the input.
 """
 
-import contextlib
-import copy
-import functools
-import importlib.util
 import json
 import os
 import random
 import re
 import resource
-import shutil
-import sqlite3
-import subprocess
-import tempfile
 from datetime import date, timedelta
 from pathlib import Path
 
-HERE = Path(__file__).resolve().parent
+import adoption
+import days
+import formats
+import hostile
+import imports
+import model
+import shared
+from shared import DONE, HERE, KILLED, READ_FAILED, START, STARTED, WANTS, Server, changed, city, environment, error, get, held, holds
+from shared import is_sound, office, put, quickly, removed, taken
+
 MADE = int(os.environ.get("BIKESHARE_OWED", "120"))
 ALL = "BIKESHARE_OWED" in os.environ
 SEED = int(os.environ.get("BIKESHARE_SEED", "1"))
 SECONDS = 60
 
-
-def by_path(name):
-    """Returns the module of another file of tests."""
-    spec = importlib.util.spec_from_file_location(f"tests_{Path(name).name}", HERE / f"{name}.py")
-    module = importlib.util.module_from_spec(spec)
-    spec.loader.exec_module(module)
-    return module
-
-
-adoption, days, imports, model, stops = (by_path(it) for it in ("adoption", "days", "imports", "model", "stops"))
-day_bounds = by_path("facts/day_bounds")
-formats, serving = model.formats, stops.serving
+day_bounds = shared.loaded(HERE / "facts/day_bounds.py")
 HEADER, AT = imports.HEADER, imports.AT
 IMPORT = ["import", "city.db", "spring", "--at", AT]
 UTC = "UTC0"
@@ -60,39 +50,19 @@ def said_of(program, word, *words, given=b""):
     return status, said.decode()
 
 
-def faulty(program, words, given=b"", file="city.db", **faults):
+def faulty(program, words, given=b"", **faults):
     """Runs the program under faults.c, and returns its status, its output and what it says."""
-    env = stops.environment(program.folder, file, **faults)
-    ran = subprocess.run([program.file, *words], input=given, cwd=program.folder, capture_output=True, timeout=SECONDS, env=env)
-    return ran.returncode, ran.stdout, ran.stderr
+    return shared.disturbed(program, words, given, **faults)[:3]
 
 
-def rows_of(program, query, file="city.db"):
-    """The rows that plain SQL has of a copy of a file and its log."""
-    with tempfile.TemporaryDirectory() as folder:
-        for part in Path(program.folder).glob(f"{file}*"):
-            shutil.copy(part, folder)
-        with contextlib.closing(sqlite3.connect(Path(folder, file))) as base:
-            return base.execute(query).fetchall()
+def exchanged(program, request, **faults):
+    """Sends a request to a server of one connection under faults.c, and returns its status, the answer and what it says."""
+    return shared.exchanged(program, request, env=environment(program.folder, "city.db", **faults))
 
 
-def quickly(test):
-    """The test with its files where a flush costs nothing, as in stops.py."""
-
-    @functools.wraps(test)
-    def tried(program):
-        with tempfile.TemporaryDirectory(prefix="bikeshare-owed-", dir=stops.ROOM) as folder:
-            here = copy.copy(program)
-            here.folder = os.path.realpath(folder)
-            test(here)
-
-    return tried
-
-
-def removed(program, file="city.db"):
-    """Removes a file and its log."""
-    for part in Path(program.folder).glob(f"{file}*"):
-        part.unlink()
+def rows_of(program, query):
+    """The rows that SQL has of the city."""
+    return shared.rows_of(query, program.folder, "city.db")
 
 
 # ---- Days
@@ -141,7 +111,7 @@ def holds_days(program, found, where):
     moments = sorted({at for _, _, begin, end in found for at in (begin - 1, begin, end - 1, end) if at >= 0})
     booked = (f"{at}\toffice\tz{number}\ttop-up\t17\t1\n" for number, at in enumerate(moments))
     given = "0\toffice\tz\tadd-rider\t17\n" + "".join(booked)
-    removed(program)
+    removed(program.folder, "city.db")
     status, out, said = program.run("lines", "city.db", given=given.encode())
     assert (status, said, out.count(b"balance")) == (0, b"", len(moments)), (status, said, out[:200])
     for rule, day, begin, end in found:
@@ -253,13 +223,13 @@ def test_spoiled_dates_and_zones(program):
 def test_rows_by_number(program):
     """A rental that began first and ended last stands first; one of no length lies in the day at whose begin it is."""
     more = ["add-bike\t8\tcity", "open-order\t3\t*\ta1\tcity\t1", "load\t3\t2\t8", "unload\t3\t2\t8\tto\t2", "add-rider\t18", "top-up\t18\t1000"]
-    days.ask(program, [*days.CITY, *more])
+    shared.ask(program, [*days.CITY, *more])
     begin, last = 1711839600, 1711922399
     for number, (at, command, answer) in enumerate((
         (begin, "start\t17\ta1\t1", "rental\t1\t7"), (begin, "start\t18\ta1\t2", "rental\t2\t8"), (begin, "end\t8\ta1\t2", "fare\t100\t900"),
         (last, "end\t7\ta1\t1", "fare\t6850\t-4350"),
     )):
-        assert days.ask(program, [command], at, first=90 + number) == [answer], command
+        assert shared.ask(program, [command], at, first=90 + number) == [answer], command
     first = "1,17,7,basic,a1,2024-03-30T23:00:00Z,a1,2024-03-31T21:59:59Z,68.50\n"
     second = "2,18,8,basic,a1,2024-03-30T23:00:00Z,a1,2024-03-30T23:00:00Z,1.00\n"
     assert days.table(program, "rentals", "2024-03-31", days.ROME) == days.RENTALS + first + second
@@ -273,13 +243,13 @@ def test_rows_by_number(program):
 @quickly
 def test_a_table_changes_nothing(program):
     """Neither a day's table nor a day that is refused changes a byte of the file."""
-    days.ask(program, days.CITY)
+    shared.ask(program, days.CITY)
     file = Path(program.folder, "city.db")
-    before, held = file.read_bytes(), adoption.held(file)
+    before = file.read_bytes(), held(file)
     for which in "entries", "rentals":
         days.table(program, which, "2023-11-14", UTC)
         said_of(program, "day", "city.db", which, "2023-02-29", UTC)
-    assert (file.read_bytes(), adoption.held(file)) == (before, held)
+    assert (file.read_bytes(), held(file)) == before
 
 
 # ---- Imports
@@ -315,15 +285,15 @@ def test_which_fault_of_a_row_comes_first(program):
 def test_the_same_table_again_changes_nothing(program):
     """Not even the city's time, whatever moment is given."""
     assert imports.load(program, HEADER + imports.ROWS) == (0, "rows 3\n", "")
-    before = adoption.held(Path(program.folder, "city.db"))
+    before = held(program.folder, "city.db")
     assert imports.load(program, HEADER + imports.ROWS, "spring", "--at", "1800000000") == (0, "rows 3\n", "")
     assert imports.load(program, HEADER + imports.ROWS, "summer", "--at", "1800000000") == (1, "", "row 1 already_there\n")
-    assert adoption.held(Path(program.folder, "city.db")) == before
+    assert held(program.folder, "city.db") == before
 
 
 def test_the_moment_of_an_import_is_the_later_one(program):
     """Recorded times never go back: an import for a moment before the city's has the city's."""
-    days.ask(program, days.CITY)
+    shared.ask(program, days.CITY)
     assert imports.load(program, HEADER + "c1,Canal,45,9.1,10\n", "spring", "--at", "1600000000") == (0, "rows 1\n", "")
     out = program.run("feed", "city.db", "station_status", "--at", "0")[1]
     assert [it["last_reported"] for it in json.loads(out)["data"]["stations"]] == ["2023-11-14T22:00:00Z"] * 2, out
@@ -336,32 +306,26 @@ def test_5001_stations(program):
     assert (status, out, said) == (1, b"", b"row 5001 limit_reached\n"), (status, out, said)
 
 
+def limited():
+    """Leaves the program an address space of 48 MB."""
+    resource.setrlimit(resource.RLIMIT_AS, (48_000_000, 48_000_000))
+
+
 def test_a_longer_table_takes_no_more_memory(program):
     """64 MB of empty lines, which are no rows, are read in the address space in which a short table is."""
-    limit = 48_000_000
-
-    def limited():
-        resource.setrlimit(resource.RLIMIT_AS, (limit, limit))
-
     for between in b"\n" * 1000, b"\r\n" * 32_000_000:
         given = HEADER.encode() + b"c1,Canal,45,9.1,10\n" + between + b"c2,Corso,45,9.1,10\n"
-        removed(program)
-        ran = subprocess.run([program.file, *IMPORT], input=given, cwd=program.folder, capture_output=True, timeout=SECONDS, preexec_fn=limited)
-        assert (ran.returncode, ran.stdout, ran.stderr) == (0, b"rows 2\n", b""), (len(between), ran)
+        removed(program.folder, "city.db")
+        ended = program.run(*IMPORT, given=given, timeout=SECONDS, preexec_fn=limited)
+        assert ended == (0, b"rows 2\n", b""), (len(between), ended)
 
 
 def test_a_longer_line_takes_no_more_memory(program):
     """A line of 64 MB is read to its end in the address space in which a short one is, and the next one whole."""
-    limit = 48_000_000
-
-    def limited():
-        resource.setrlimit(resource.RLIMIT_AS, (limit, limit))
-
     for size in 1000, 64_000_000:
         given = LINES + b"x" * size + b"\n" + LINES
-        ran = subprocess.run([program.file], input=given, cwd=program.folder, capture_output=True, timeout=SECONDS, preexec_fn=limited)
-        wanted = ANSWERS + b"refused\t11\tbad_field\n" + ANSWERS
-        assert (ran.returncode, ran.stdout, ran.stderr) == (0, wanted, b""), (size, ran)
+        ended = program.run(given=given, timeout=SECONDS, preexec_fn=limited)
+        assert ended == (0, ANSWERS + b"refused\t11\tbad_field\n" + ANSWERS, b""), (size, ended)
 
 
 def cell(pick, value):
@@ -443,14 +407,14 @@ def test_made_tables(program):
         table, wanted = made_table(pick, operator, name)
         found = imports.load(program, table, name)
         assert found == wanted, f"seed {SEED}, table {number}: {name}: {table[:600]!r}: {found}, not {wanted}"
-    assert {it[0] for it in imports.stations(program)} == set(operator.stations) and imports.is_sound(program), f"seed {SEED}"
+    assert {it[0] for it in imports.stations(program)} == set(operator.stations), f"seed {SEED}"
+    is_sound(program, where=f"seed {SEED}")
 
 
 @quickly
 def test_spoiled_tables(program):
     """Whatever the bytes, an import ends by a named end, and what stands are the rows before that."""
     pick = random.Random(f"{SEED} spoiled tables")
-    hostile = by_path("hostile")
     for number in range(MADE):
         rows = [[f"{chr(97 + at)}{number}".encode(), *row_of(pick)[1:]] for at in range(pick.choice([1, 3, 8]))]
         table = hostile.mutated(pick, HEADER.encode() + b"".join(record(pick, it) for it in rows), True)
@@ -461,7 +425,7 @@ def test_spoiled_tables(program):
         assert is_named, f"{where}: {status, out, said}"
         count = int(whole[1]) if whole else int(row[1]) - 1 if row else 0
         assert [it[0] for it in kept(program, name)] == [f"row-{it}" for it in range(1, count + 1)], f"{where}: {status, out, said}"
-    assert imports.is_sound(program), f"seed {SEED}"
+    is_sound(program, where=f"seed {SEED}")
 
 
 # ---- Words
@@ -487,7 +451,7 @@ def test_no_word_serves_a_file_that_is_refused(program):
         ("UPDATE meta SET version = 2", "older 2"), ("UPDATE more_names SET id = 'zz' WHERE kind = 'region'", "unsound more_names region/zz/de"),
     ):
         file.write_bytes(city)
-        adoption.changed(file, change)
+        changed(file, change)
         before = file.read_bytes()
         for words in EVERY_WORD:
             ended = program.run(*words, given=HEADER.encode() + b"c1,Canal,45,9.1,10\n")
@@ -499,15 +463,15 @@ def test_no_word_serves_a_file_that_is_refused(program):
 def test_tables_of_others_stay(program):
     """A table of another name stays as it is, whatever the word."""
     file = adoption.made(program, "city.db")
-    adoption.changed(file, "CREATE TABLE notes (note TEXT); INSERT INTO notes VALUES ('x'), (NULL), (7)")
+    changed(file, "CREATE TABLE notes (note TEXT); INSERT INTO notes VALUES ('x'), (NULL), (7)")
     wanted = rows_of(program, "SELECT * FROM notes")
     for words in EVERY_WORD[:-1]:
         program.run(*words, given=b"1700009000\toffice\tn1\ttop-up\t17\t5\n" if words[0] == "lines" else (HEADER + "c1,Canal,45,9.1,10\n").encode())
         assert rows_of(program, "SELECT * FROM notes") == wanted, words
-    with serving.Server(program, 1) as server:
-        assert server.ask(serving.office("o1", "add-rider\t40")) == serving.DONE
+    with Server(program, 1) as server:
+        assert server.ask(office("o1", "add-rider\t40")) == DONE
     assert rows_of(program, "SELECT * FROM notes") == wanted
-    assert imports.is_sound(program)
+    is_sound(program)
 
 
 @quickly
@@ -521,12 +485,12 @@ def test_files_that_are_not_there(program):
     ):
         assert program.run(*words) == ended, words
         assert rows_of(program, "SELECT * FROM meta") == [(1, "bikeshare", 3, 0, 0, 0)], words
-        removed(program)
+        removed(program.folder, "city.db")
 
 
 def test_numbers_among_the_words(program):
     """Numbers are spelled as in request lines."""
-    days.ask(program, days.CITY)
+    shared.ask(program, days.CITY)
     for text in "01", "+1", "-1", " 1", "1 ", "1.0", "1e3", "0x1", "", "١", "253402300800", "9" * 40:
         for word, *more in ["feed", "gbfs", "--at", text], ["feed", "gbfs", f"--at={text}"], ["import", "spring", "--at", text]:
             status, out, said = program.run(word, "city.db", *more, given=HEADER.encode())
@@ -538,14 +502,13 @@ def test_numbers_among_the_words(program):
 @quickly
 def test_a_clock_without_a_moment(program):
     """Beyond the last moment the clock gives none. Only what asks it fails, and changes nothing."""
-    days.ask(program, days.CITY)
-    before = adoption.held(Path(program.folder, "city.db"))
+    shared.ask(program, days.CITY)
+    before = held(program.folder, "city.db")
     late, table = {"CLOCK": formats.LAST_MOMENT + 1}, (HEADER + "c1,Canal,45,9.1,10\n").encode()
     for words in ["feed", "city.db", "gbfs"], ["import", "city.db", "spring"]:
-        assert faulty(program, words, table, **late) == (6, b"", b"read failed\n"), words
-    run = stops.Exchange(program.file, {}, serving.get("/riders/17"), None)
-    assert run.disturbed(program.folder, "city.db", stops.environment(program.folder, "city.db", **late)) == (6, b"", b"read failed\n")
-    assert adoption.held(Path(program.folder, "city.db")) == before
+        assert faulty(program, words, table, **late) == READ_FAILED, words
+    assert exchanged(program, get("/riders/17"), **late) == READ_FAILED
+    assert held(program.folder, "city.db") == before
     for word, *more in ["check"], ["init"], ["lines"], ["day", "entries", "2023-11-14", UTC], ["feed", "gbfs", "--at", AT]:
         assert faulty(program, [word, "city.db", *more], **late)[0] == 0, word
     assert faulty(program, IMPORT, table, **late) == (0, b"rows 1\n", b"")
@@ -564,16 +527,15 @@ def test_reads_are_counted(program):
     row = HEADER.encode() + b"c1,Canal,45,9.1,10\n"
     assert faulty(program, IMPORT, row + b"\n" * 900_000, **BYTE_BY_BYTE) == (0, b"rows 1\n", b"")
     for endless in b"\n", b"x":
-        assert faulty(program, IMPORT, row + endless * 1_000_000, **BYTE_BY_BYTE) == (6, b"", b"read failed\n"), endless
+        assert faulty(program, IMPORT, row + endless * 1_000_000, **BYTE_BY_BYTE) == READ_FAILED, endless
         assert [it[0] for it in imports.stations(program)] == ["c1"], endless
-    removed(program)
-    serving.city(program)
+    removed(program.folder, "city.db")
+    city(program)
     head = b"POST /riders/17/start HTTP/1.1\r\nContent-Length: 16384\r\nX: \r\n\r\n"
-    body = serving.START.encode() + b" " * (16384 - 36)
-    for size, found in (8192, b""), (3000, serving.STARTED):
+    body = START.encode() + b" " * (16384 - 36)
+    for size, found in (8192, b""), (3000, STARTED):
         asked = head.replace(b"X: ", b"X: " + b"x" * (size - len(head))) + body
-        run = stops.Exchange(program.file, {}, asked, None)
-        assert run.disturbed(program.folder, "city.db", stops.environment(program.folder, "city.db", **BYTE_BY_BYTE)) == (0, found, b""), size
+        assert exchanged(program, asked, **BYTE_BY_BYTE) == (0, found, b""), size
 
 
 # Texts, and how many lines each has. None of them spells a request.
@@ -602,14 +564,14 @@ def test_texts_that_come_byte_by_byte(program):
 
 # What a server says first is written byte by byte too; a free port has five digits.
 LISTENING = len(b"listening 127.0.0.1:65535\n")
-ROW_13 = b"POST /riders/17/start HTTP/1.1\r\nContent-Length: 36\r\n\r\n" + serving.START.encode()
+ROW_13 = b"POST /riders/17/start HTTP/1.1\r\nContent-Length: 36\r\n\r\n" + START.encode()
 
 
 def test_fronts_of_a_request(program):
     """No front of a request is one, with a head of two lines as with another."""
-    serving.city(program)
-    fronts = [(ROW_13[:size], serving.error(400) if size else b"") for size in range(len(ROW_13))]
-    serving.holds(program, [*fronts, (ROW_13, serving.STARTED), (ROW_13, serving.STARTED)], ends=True)
+    city(program)
+    fronts = [(ROW_13[:size], error(400) if size else b"") for size in range(len(ROW_13))]
+    holds(program, [*fronts, (ROW_13, STARTED), (ROW_13, STARTED)], ends=True)
     assert rows_of(program, "SELECT count(*) FROM rentals") == [(1,)]
 
 
@@ -621,18 +583,16 @@ def some(count, stride):
 @quickly
 def test_an_answer_that_fails_behind_each_byte(program):
     """Of an answer over HTTP exactly the bytes before are sent, and the request, sent again, has its answer."""
-    serving.city(program)
-    parts = stops.taken(program.folder, "city.db")
-    for size in some(len(serving.STARTED), 19):
-        stops.put(parts, program.folder, "city.db")
-        run = stops.Exchange(program.file, parts, ROW_13, None)
-        env = stops.environment(program.folder, "city.db", ONLY_ENDS=2, SHORT_FROM=1, FAIL_AT=LISTENING + size + 1)
-        ended = run.disturbed(program.folder, "city.db", env)
-        assert ended == (0, serving.STARTED[:size], b""), (size, ended)
-        again = stops.Exchange(program.file, parts, ROW_13, None).disturbed(program.folder, "city.db", dict(os.environ))
-        assert again == (0, serving.STARTED, b""), (size, again)
+    city(program)
+    parts = taken(program.folder, "city.db")
+    for size in some(len(STARTED), 19):
+        put(parts, program.folder, "city.db")
+        ended = exchanged(program, ROW_13, ONLY_ENDS=2, SHORT_FROM=1, FAIL_AT=LISTENING + size + 1)
+        assert ended == (0, STARTED[:size], b""), (size, ended)
+        again = shared.exchanged(program, ROW_13)
+        assert again == (0, STARTED, b""), (size, again)
         assert rows_of(program, "SELECT count(*) FROM rentals") == [(1,)], size
-        stops.removed(program.folder, "city.db")
+        removed(program.folder, "city.db")
 
 
 LINES = b"1700000000\toffice\tk1\tadd-rider\t17\n1700000001\toffice\tk2\ttop-up\t17\t2500\n1700000002\toffice\tk2\ttop-up\t17\t2500\n"
@@ -643,7 +603,7 @@ ANSWERS = b"ok\nbalance\t2500\nbalance\t2500\n"
 def test_answer_lines_that_fail_behind_each_byte(program):
     """Exactly the bytes before are written; the line at which it ends has acted, and no other."""
     for size in some(len(ANSWERS), 1):
-        removed(program)
+        removed(program.folder, "city.db")
         found = faulty(program, ["lines", "city.db"], LINES, ONLY_ENDS=2, SHORT_FROM=1, FAIL_AT=size + 1)
         assert found == (6, ANSWERS[:size], b"write failed\n"), (size, found)
         lines = ANSWERS[:size].count(b"\n") + 1
@@ -666,21 +626,20 @@ def test_ends_that_take_few_bytes_or_none(program):
     for count in range(len(answers)):
         found = faulty(program, memory, LINES, ONLY_ENDS=2, SHORT_FROM=count + 1, SHORT_BYTES=0)
         assert found == (6, b"".join(answers[:count]), b"write failed\n"), (count, found)
-    serving.city(program)
+    city(program)
     feed = ["feed", "city.db", "station_status", "--at", AT]
     whole = program.run(*feed)
     assert whole[0] == 0 and faulty(program, feed, ONLY_ENDS=2, SHORT_FROM=1, SHORT_BYTES=20) == whole
     assert faulty(program, feed, ONLY_ENDS=2, SHORT_FROM=1, SHORT_BYTES=0) == (6, b"", b"write failed\n")
-    env = stops.environment(program.folder, "city.db", ONLY_ENDS=2, SHORT_FROM=2, SHORT_BYTES=0)
-    assert stops.Exchange(program.file, {}, ROW_13, None).disturbed(program.folder, "city.db", env) == (0, b"", b"")
-    serving.holds(program, [(ROW_13, serving.STARTED)])
+    assert exchanged(program, ROW_13, ONLY_ENDS=2, SHORT_FROM=2, SHORT_BYTES=0) == (0, b"", b"")
+    holds(program, [(ROW_13, STARTED)])
 
 
 @quickly
 def test_texts_that_fail_behind_each_byte(program):
     """So it is with a feed, a day's table, and the one line of other words: after one write that fails none comes. What stands doesn't depend on it."""
-    days.ask(program, [*days.CITY, "add-name\tsystem\tmetro\tde\tMetro", "add-name\tstation\ta1\tfr\tPort"])
-    before = adoption.held(Path(program.folder, "city.db"))
+    shared.ask(program, [*days.CITY, "add-name\tsystem\tmetro\tde\tMetro", "add-name\tstation\ta1\tfr\tPort"])
+    before = held(program.folder, "city.db")
     feed, day = ["feed", "city.db", "station_status", "--at", AT], ["day", "city.db", "entries", "2023-11-14", UTC]
     named = ["feed", "city.db", "system_information", "--at", AT]
     for words, stride in (feed, 61), (named, 53), (day, 17), (["check", "city.db"], 2), (["init", "city.db"], 2):
@@ -689,9 +648,9 @@ def test_texts_that_fail_behind_each_byte(program):
         for size in some(len(whole[1]), stride):
             found = faulty(program, words, ONLY_ENDS=2, SHORT_FROM=1, FAIL_AT=size + 1)
             assert found == (6, whole[1][:size], b"write failed\n"), (words, size, found)
-        assert adoption.held(Path(program.folder, "city.db")) == before, words
+        assert held(program.folder, "city.db") == before, words
     for size in range(len(b"rows 3\n")):
-        removed(program)
+        removed(program.folder, "city.db")
         found = faulty(program, IMPORT, (HEADER + imports.ROWS).encode(), ONLY_ENDS=2, SHORT_FROM=1, FAIL_AT=size + 1)
         assert found == (6, b"rows 3\n"[:size], b"write failed\n"), (size, found)
         assert len(imports.stations(program)) == 3 and imports.load(program, HEADER + imports.ROWS) == (0, "rows 3\n", ""), size
@@ -702,7 +661,7 @@ def test_inputs_that_fail_at_each_read(program):
     """The lines that were read whole are answered, and no other acts. Each call moves a byte, so that a fault comes behind each byte."""
     lines, wanted, seen = LINES.splitlines(keepends=True), ANSWERS.splitlines(keepends=True), 0
     for turn in some(len(LINES) + len(ANSWERS) + 1, 5):
-        removed(program)
+        removed(program.folder, "city.db")
         status, out, said = faulty(program, ["lines", "city.db"], LINES, FAIL_AT=turn + 1, **BYTE_BY_BYTE)
         if said == b"write failed\n":
             assert status == 6 and ANSWERS.startswith(out), (turn, status, out, said)
@@ -720,9 +679,9 @@ def test_tables_that_fail_at_each_read(program):
     """The rows that were read whole stand. A row is whole behind its line end, and nothing is told on standard output."""
     table = (HEADER + imports.ROWS).encode()
     for turn in some(len(table) + 1, 7):
-        removed(program)
+        removed(program.folder, "city.db")
         ended = faulty(program, IMPORT, table, FAIL_AT=turn + 1, **BYTE_BY_BYTE)
-        assert ended == (6, b"", b"read failed\n"), (turn, ended)
+        assert ended == READ_FAILED, (turn, ended)
         whole = max(0, table[:turn].count(b"\n") - 1)
         assert [it[0] for it in kept(program, "spring")] == [f"row-{it}" for it in range(1, whole + 1)], (turn, kept(program, "spring"))
         assert imports.load(program, table) == (0, "rows 3\n", ""), turn
@@ -731,14 +690,13 @@ def test_tables_that_fail_at_each_read(program):
 @quickly
 def test_a_request_whose_reading_fails(program):
     """Nothing is answered and nothing acts, at whatever byte a read fails; the server goes on to its end."""
-    serving.city(program)
-    parts = stops.taken(program.folder, "city.db")
+    city(program)
+    parts = taken(program.folder, "city.db")
     for turn in some(len(ROW_13), 13):
-        env = stops.environment(program.folder, "city.db", ONLY_ENDS=1, SHORT_FROM=1, FAIL_AT=LISTENING + turn + 1)
-        ended = stops.Exchange(program.file, parts, ROW_13, None).disturbed(program.folder, "city.db", env)
+        ended = exchanged(program, ROW_13, ONLY_ENDS=1, SHORT_FROM=1, FAIL_AT=LISTENING + turn + 1)
         assert ended == (0, b"", b""), (turn, ended)
     assert rows_of(program, "SELECT count(*) FROM kept WHERE caller = 'rider:17'") == [(0,)]
-    serving.holds(program, [(ROW_13, serving.STARTED)])
+    holds(program, [(ROW_13, STARTED)])
 
 
 # ---- Stops and memory in the worked rows
@@ -747,34 +705,33 @@ def test_a_request_whose_reading_fails(program):
 @quickly
 def test_stops_in_an_end(program):
     """The bicycle is in its rental and the balance is 25.00, or it is in dock 1 and a fare is booked; sent again the end has its answer."""
-    serving.city(program)
+    city(program)
     assert program.run("lines", "city.db", given=b"1700000000\trider:17\ts1\tstart\t17\ta1\t1\n") == (0, b"rental\t1\t7\n", b"")
-    parts, end = stops.taken(program.folder, "city.db"), b"1700000000\tdock:a1\te1\tend\t7\ta1\t1\n"
+    parts, end = taken(program.folder, "city.db"), b"1700000000\tdock:a1\te1\tend\t7\ta1\t1\n"
     fares = "(SELECT count(*) FROM entries WHERE kind = 2)"
     query = f"SELECT balance, rental, station_id, dock, {fares} FROM riders, bikes WHERE rider = 17 AND bike = 7"
     before, after, seen, calls = (2500, 1, None, None, 0), (2400, None, "a1", 1, 1), set(), 0
     while calls < 200:
-        stops.removed(program.folder, "city.db")
-        stops.put(parts, program.folder, "city.db")
+        put(parts, program.folder, "city.db")
         calls += 1
         status, out, said = faulty(program, ["lines", "city.db"], end, STOP_AT=calls, ONLY_CHANGES=1, ENDS=1)
         (found,) = rows_of(program, query)
-        assert imports.is_sound(program) and found in (before, after) and out in (b"", b"fare\t100\t2400\n"), (calls, found, out)
+        is_sound(program)
+        assert found in (before, after) and out in (b"", b"fare\t100\t2400\n"), (calls, found, out)
         assert not out or found == after, calls
         seen.add(found)
         assert program.run("lines", "city.db", given=end) == (0, b"fare\t100\t2400\n", b"") and rows_of(program, query) == [after], calls
         if status == 0:
             break
-        assert (status, said) == (stops.KILLED, b""), (calls, status, said)
+        assert (status, said) == (KILLED, b""), (calls, status, said)
     assert seen == {before, after} and 5 < calls < 200, (calls, seen)
 
 
 def requests_for_memory(program, words, given=b""):
     """How many requests for memory a run makes that nobody disturbs, and what it writes."""
-    status, out, said = faulty(program, words, given)
-    assert (status, said) == (0, b""), (words, status, said)
-    told = Path(program.folder, "city.db.told").read_text(encoding="ascii")
-    return int(re.search("^memory ([0-9]+)$", told, re.M)[1]), out
+    ran = shared.disturbed(program, words, given)
+    assert (ran.status, ran.said) == (0, b""), (words, ran)
+    return ran.memory, ran.out
 
 
 def kept_of(program):
@@ -787,29 +744,28 @@ def kept_of(program):
 def test_memory_that_is_refused_behind_the_opening(program):
     """Alone and with all after it: what is written is a front, whole lines of `lines` alone, and the want is named; what stands are the
     requests that were answered or one more, of an import some rows; without the fault all is as ever."""
-    days.ask(program, days.CITY)
-    days.ask(program, ["start\t17\ta1\t1"], 1711918800, first=70)
-    days.ask(program, ["end\t7\ta1\t1"], 1711922399, first=71)
-    parts, wants = stops.taken(program.folder, "city.db"), {3: b"store failed\n", 4: b"out of memory\n"}
+    shared.ask(program, days.CITY)
+    shared.ask(program, ["start\t17\ta1\t1"], 1711918800, first=70)
+    shared.ask(program, ["end\t7\ta1\t1"], 1711922399, first=71)
+    parts = taken(program.folder, "city.db")
     opening, _ = requests_for_memory(program, ["check", "city.db"])
     lines = LINES.replace(b"office", b"crew:9").replace(b"\t17", b"\t18")
     for words, given, stride in (
         (["day", "city.db", "rentals", "2024-03-31", days.ROME], b"", 29), (["feed", "city.db", "station_status", "--at", AT], b"", 29),
         (IMPORT, (HEADER + imports.ROWS).encode(), 173), (["lines", "city.db"], lines, 173),
     ):
-        stops.removed(program.folder, "city.db")
-        stops.put(parts, program.folder, "city.db")
+        put(parts, program.folder, "city.db")
         total, whole = requests_for_memory(program, words, given)
         for turn in range(opening - 20, total + 1, 1 if ALL else stride):
             for how in {"REFUSE_AT": turn}, {"REFUSE_FROM": turn}:
-                stops.removed(program.folder, "city.db")
-                stops.put(parts, program.folder, "city.db")
+                put(parts, program.folder, "city.db")
                 status, out, said = faulty(program, words, given, **how)
-                front = whole.startswith(out) and said == wants.get(status)
+                front = whole.startswith(out) and said == WANTS.get(status)
                 assert front or (status, out, said) == (0, whole, b""), (words, how, status, out, said)
                 answers, count = out.count(b"\n"), kept_of(program)
                 wanted = (0, 1, 2, 3) if words is IMPORT else (min(answers, 2), min(answers + 1, 2)) if given else (0,)
-                assert imports.is_sound(program) and count in wanted, (words, how, out, count)
+                is_sound(program, where=f"{words}, {how}")
+                assert count in wanted, (words, how, out, count)
                 assert program.run(*words, given=given) == (0, whole, b""), (words, how)
 
 
@@ -830,15 +786,15 @@ def test_memory_that_is_refused_for_fields(program):
     """A request for memory that is refused ends the program, whatever field it was for, and all is accepted when it is sent again."""
     lines = "".join(f"1700000000|{line}\n" for line in SET_UP).replace("|", "\t").encode()
     program.run("init", "city.db")
-    parts, wants, seen = stops.taken(program.folder, "city.db"), {3: b"store failed\n", 4: b"out of memory\n"}, set()
+    parts, seen = taken(program.folder, "city.db"), set()
     opening, _ = requests_for_memory(program, ["check", "city.db"])
     total, whole = requests_for_memory(program, ["lines", "city.db"], lines)
     assert whole == b"ok\n" * len(SET_UP), whole
     for turn in range(opening - 20, total + 1, 1 if ALL else 59):
-        stops.removed(program.folder, "city.db")
-        stops.put(parts, program.folder, "city.db")
+        put(parts, program.folder, "city.db")
         status, out, said = faulty(program, ["lines", "city.db"], lines, REFUSE_AT=turn)
-        assert (whole.startswith(out) and said == wants.get(status)) or (status, out, said) == (0, whole, b""), (turn, status, out, said)
-        assert program.run("lines", "city.db", given=lines) == (0, whole, b"") and imports.is_sound(program), turn
+        assert (whole.startswith(out) and said == WANTS.get(status)) or (status, out, said) == (0, whole, b""), (turn, status, out, said)
+        assert program.run("lines", "city.db", given=lines) == (0, whole, b""), turn
+        is_sound(program)
         seen.add((status, len(out)))
     assert len(seen) > 2, seen

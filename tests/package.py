@@ -11,30 +11,15 @@ import io
 import os
 import re
 import shlex
-import shutil
 import subprocess
 import tarfile
 from pathlib import Path
 
-HERE = Path(__file__).resolve().parent
-TOP = HERE.parent
+from shared import TOP, needs, ran
+
 DEPLOY = TOP / "deploy"
 SECONDS = 120
 DOCUMENTS = "usr/share/doc/bikeshare"
-
-
-def has(tool, test):
-    """Whether there is such a program on this machine; where there is none it is told that the test wasn't tried."""
-    if shutil.which(tool):
-        return True
-    print(f"package.{test}: not tried, there is no {tool}", flush=True)
-    return False
-
-
-def ran(*words, **how):
-    """Runs a program, and returns its exit status and all that it said."""
-    done = subprocess.run([str(it) for it in words], stdout=subprocess.PIPE, stderr=subprocess.STDOUT, timeout=SECONDS, **how)
-    return done.returncode, done.stdout.decode(errors="replace")
 
 
 # ---- the package
@@ -43,7 +28,7 @@ def ran(*words, **how):
 def released(program, folder, **how):
     """Makes a release in this folder, and returns its status, what it said, and its packages."""
     told = {**os.environ, "BIKESHARE": program.file, **how.pop("told", {})}
-    return *ran(TOP / "tools/release", folder / "release", env=told, **how), sorted(folder.glob("*.deb"))
+    return *ran(TOP / "tools/release", folder / "release", env=told, timeout=SECONDS, **how), sorted(folder.glob("*.deb"))
 
 
 def files_of(package, what):
@@ -142,10 +127,9 @@ def has_good_changes(text, version):
     assert max(map(len, text.splitlines())) <= 120 and all(len(it) <= 80 for it in text.splitlines() if it.startswith("  "))
 
 
+@needs("dpkg-deb")
 def test_package(program):
     """It holds what it should and nothing else, all of it root's; and it has the same bytes whoever makes it, wherever, whenever."""
-    if not has("dpkg-deb", "test_package"):
-        return
     one, two = Path(program.folder, "one"), Path(program.folder, "two")
     status, said, packages = released(program, one)
     assert status == 0 and len(packages) == 1 and f"{packages[0]}: version " in said, (status, said, packages)
@@ -223,11 +207,11 @@ def test_the_manual_page_tells_the_usage_text(program):
     assert {it for it, _ in page["EXIT STATUS"] if it} == set(statuses), page["EXIT STATUS"]
 
 
+@needs("groff")
 def test_the_manual_page_is_laid_out(program):
     """groff finds nothing wrong in it."""
-    if has("groff", "test_the_manual_page_is_laid_out"):
-        said = ran("groff", "-man", "-Tutf8", "-ww", "-z", DEPLOY / "bikeshare.1")
-        assert said == (0, ""), said
+    said = ran("groff", "-man", "-Tutf8", "-ww", "-z", DEPLOY / "bikeshare.1")
+    assert said == (0, ""), said
 
 
 def completed(folder, *words):

@@ -6,10 +6,10 @@ import pty
 import subprocess
 from pathlib import Path
 
+from shared import CITY, HEADER, SOUND, ask, changed, is_sound
+
 ANEW, BACK, ERASED = b"\r\r\n\x1b[K", b"\x1b[A\r", b"\r\x1b[J"
 TABLES = "meta system plans segments types regions stations_3 docks bikes trucks riders rentals orders entries kept counts more_names".split()
-SYSTEM = "1700000000\toffice\tk1\tset-system\tmetro\ten\tMetro\t24/7\tfeeds@example.org\tEtc/UTC\tEUR\thttp://127.0.0.1:8080\t30\n"
-HEADER = "station_id,name,lat,lon,docks\n"
 
 
 def looked_on(program, *words, given=b""):
@@ -34,7 +34,7 @@ def looked_on(program, *words, given=b""):
 
 
 def made(program):
-    assert program.run("lines", "city.db", given=SYSTEM.encode()) == (0, b"ok\n", b"")
+    assert ask(program, CITY[:1]) == ["ok"]
 
 
 def test_a_check_tells_its_tables(program):
@@ -45,7 +45,7 @@ def test_a_check_tells_its_tables(program):
 
 def test_a_check_that_fails_tells_up_to_the_table(program):
     made(program)
-    subprocess.run(["sqlite3", Path(program.folder, "city.db"), "INSERT INTO riders VALUES (17, 0, 5)"], check=True)
+    changed(Path(program.folder, "city.db"), "INSERT INTO riders VALUES (17, 0, 5)")
     status, out, told = looked_on(program, "check", "city.db")
     assert (status, out) == (5, b"")
     assert told.endswith(b"checking riders, table 11 of 17" + BACK + ERASED + b"unsound riders 17\r\n"), told
@@ -63,7 +63,7 @@ def test_an_import_tells_its_lines(program):
 
 def test_nobody_is_told_otherwise(program):
     made(program)
-    assert program.run("check", "city.db") == (0, b"sound\n", b"")
+    is_sound(program)
     given = (HEADER + "s1,One,41.0,12.0,3\n").encode()
     assert program.run("import", "city.db", "spring", "--at", "1700000000", given=given) == (0, b"rows 1\n", b"")
     for words in (["init", "city.db"], ["feed", "city.db", "system_information", "--at", "1700000000"], ["day", "city.db", "entries", "2023-11-14", "UTC0"]):
@@ -72,4 +72,4 @@ def test_nobody_is_told_otherwise(program):
 
 
 def test_a_memory_is_not_told(program):
-    assert looked_on(program, "check", ":memory:") == (0, b"sound\n", b"")
+    assert looked_on(program, "check", ":memory:") == SOUND

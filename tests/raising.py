@@ -17,9 +17,7 @@ is drawn from.
 
 import collections
 import contextlib
-import copy
 import functools
-import importlib.util
 import inspect
 import os
 import random
@@ -28,30 +26,25 @@ import sqlite3
 import subprocess
 import tempfile
 import time
-from concurrent.futures import ThreadPoolExecutor
 from pathlib import Path
 
-HERE = Path(__file__).resolve().parent
+import adoption
+import kept_files
+import kill
+import memory
+import stops
+import stored
+import tampered
+import traffic
+import words
+from shared import FEEDS, FOREIGN, HEAD, KILLED, READY, SOUND, STORE_FAILED, TOP, WRITE_FAILED, Program, Server
+from shared import at_once, changed, copied, disturbed, is_whole, nothing_is, put, quickly, removed, taken, tell, told_with, wrong_of
+
 SEED = int(os.environ.get("BIKESHARE_SEED", "1"))
 SECONDS = 60
 
-
-def by_path(name, file=None):
-    """Returns a new module of another file of tests."""
-    spec = importlib.util.spec_from_file_location(f"tests_{name}", file or HERE / f"{name}.py")
-    module = importlib.util.module_from_spec(spec)
-    spec.loader.exec_module(module)
-    return module
-
-
-adoption, kept_files, kill, memory, stops, stored, tampered, traffic, words = (
-    by_path(it) for it in ("adoption", "kept_files", "kill", "memory", "stops", "stored", "tampered", "traffic", "words")
-)
-serving = stops.serving
-
 NEWEST = 3
 DONE = (0, b"version 3\n", b"")
-SOUND, FAILED, FOREIGN = (0, b"sound\n", b""), (3, b"", b"store failed\n"), (5, b"", b"foreign\n")
 WITHOUT_MEMORY = (4, b"", b"out of memory\n")
 MOST_DOCKS_BEFORE = 200
 
@@ -78,12 +71,12 @@ def unsound(table, key):
 Held = collections.namedtuple("Held", "schema rows")
 
 
-def held(file, is_whole=True):
+def held(file, whole=True):
     """The entries of a file's schema, and the rows of each table: of a copy with its log, of which SQLite's own test finds nothing."""
-    with tempfile.TemporaryDirectory(dir=file.parent) as folder, contextlib.closing(sqlite3.connect(kill.copied(file, folder))) as base:
+    with copied(file) as base:
         base.text_factory = bytes
-        whole = base.execute("PRAGMA integrity_check").fetchall()
-        assert not is_whole or whole == [(b"ok",)], f"integrity_check: {whole}"
+        if whole:
+            is_whole(base)
         entries = base.execute("SELECT type, name, tbl_name, sql FROM sqlite_schema").fetchall()
         schema = sorted((tuple(part and part.decode() for part in it) for it in entries), key=repr)
         tables = [name for kind, name, _, _ in schema if kind == "table"]
@@ -94,7 +87,7 @@ def held(file, is_whole=True):
 def newest_schema(file):
     """The schema of a file that the program makes."""
     with tempfile.TemporaryDirectory() as folder:
-        assert subprocess.run([file, "init", "new.db"], cwd=folder, capture_output=True, timeout=SECONDS).returncode == 0
+        assert Program(file, folder).run("init", "new.db") == READY
         return held(Path(folder, "new.db")).schema
 
 
@@ -106,11 +99,6 @@ def raised(program, before, version):
     rows["meta"] = [it[:2] + (NEWEST,) + it[3:] for it in before.rows["meta"]]
     schema = [it for it in before.schema if it[2] != OLD[version]] + [it for it in newest_schema(program.file) if it[2] in NEW[version]]
     return Held(sorted(schema, key=repr), rows)
-
-
-def gone(file):
-    """Removes a file with its log."""
-    stops.removed(file.parent, file.name)
 
 
 def is_raised(program, file, version):
@@ -125,12 +113,12 @@ def is_raised(program, file, version):
     return before
 
 
-def stays(program, file, *wanted, is_whole=True):
+def stays(program, file, *wanted, whole=True):
     """Holds what `raise` says of a file, whose rows it leaves, to one of these."""
-    before = held(file, is_whole)
+    before = held(file, whole)
     ended = program.run("raise", file.name)
     assert ended in wanted, (ended, wanted)
-    assert held(file, is_whole) == before, f"the file was changed, after {ended}"
+    assert held(file, whole) == before, f"the file was changed, after {ended}"
     return ended
 
 
@@ -148,7 +136,7 @@ def lowered(file, version):
     """Takes from a file of the newest schema what came after an earlier one."""
     columns = ", ".join(f'"{it}"' for it in COLUMNS[version])
     moved = f"INSERT INTO {OLD[version]} SELECT {columns} FROM stations_3; DROP TABLE stations_3; DROP TABLE more_names"
-    adoption.changed(file, f"{LOWERED[version]} {moved}; UPDATE meta SET version = {version}")
+    changed(file, f"{LOWERED[version]} {moved}; UPDATE meta SET version = {version}")
 
 
 def declared(name, columns):
@@ -189,7 +177,6 @@ INDEXES = [
     "CREATE INDEX bikes_by_dock ON bikes (station_id, dock)", "CREATE INDEX bikes_by_truck ON bikes (truck)",
     "CREATE INDEX rentals_by_rider ON rentals (rider)",
 ]
-HEAD = '{"last_updated":"2023-11-14T22:13:20Z","ttl":30,"version":"3.0","data":'
 STATUS = (
     '{"stations":[{"station_id":"a1","num_vehicles_available":1,"vehicle_types_available":[{"vehicle_type_id":"city","count":1}],'
     '"num_vehicles_disabled":0,"num_docks_available":0,"num_docks_disabled":1,"is_installed":true,"is_renting":true,"is_returning":true,'
@@ -315,11 +302,11 @@ def test_cities_of_traffic(program):
         wanted = traffic.joined(told) + b"ok\n" * (len(regions) if version == 2 else 0)
         assert program.run("lines", file.name, given=given) == (0, wanted, b"")
         whole = held(file)
-        feeds = {it: program.run("feed", file.name, it, "--at", "1800000000") for it in serving.NAMES}
+        feeds = {it: program.run("feed", file.name, it, "--at", "1800000000") for it in FEEDS}
         lowered(file, version)
         is_raised(program, file, version)
         assert held(file) == whole
-        assert {it: program.run("feed", file.name, it, "--at", "1800000000") for it in serving.NAMES} == feeds
+        assert {it: program.run("feed", file.name, it, "--at", "1800000000") for it in FEEDS} == feeds
 
 
 def test_files_of_the_newest_schema(program):
@@ -332,7 +319,7 @@ def test_files_of_the_newest_schema(program):
         ("UPDATE stations_3 SET region_id = NULL WHERE station_id = 'a1'", DONE),
         ("DROP TABLE counts", FOREIGN), ("DELETE FROM meta", FOREIGN),
     ):
-        adoption.changed(file, change)
+        changed(file, change)
         before = tampered.parts(file)
         stays(program, file, wanted)
         assert tampered.parts(file) == before, (change, "the file was changed")
@@ -341,7 +328,7 @@ def test_files_of_the_newest_schema(program):
 def test_a_sound_file_without_its_row_of_meta(program):
     """Without row 1 of meta the newest schema is assumed."""
     assert program.run("init", "city.db") == (0, b"ready\n", b"")
-    adoption.changed(Path(program.folder, "city.db"), "DELETE FROM meta")
+    changed(Path(program.folder, "city.db"), "DELETE FROM meta")
     stays(program, Path(program.folder, "city.db"), unsound("meta", b"1"))
 
 
@@ -358,16 +345,16 @@ def test_what_is_empty_stays_so(program):
             assert base.execute("SELECT count(*) FROM sqlite_schema").fetchall() == [(0,)], name
         assert program.run("check", name) == SOUND, name
     notes = Path(program.folder, "notes.db")
-    adoption.changed(notes, "CREATE TABLE notes (note TEXT); INSERT INTO notes VALUES ('x'); CREATE VIEW seen AS SELECT * FROM notes")
+    changed(notes, "CREATE TABLE notes (note TEXT); INSERT INTO notes VALUES ('x'); CREATE VIEW seen AS SELECT * FROM notes")
     stays(program, notes, DONE)
 
 
 def test_a_file_that_is_not_there(program):
     """It isn't made."""
     for name in "none.db", "none/none.db":
-        assert program.run("raise", name) in (FAILED, DONE), name
+        assert program.run("raise", name) in (STORE_FAILED, DONE), name
         assert not os.listdir(program.folder), os.listdir(program.folder)
-    assert program.run("raise", "none/none.db") == FAILED
+    assert program.run("raise", "none/none.db") == STORE_FAILED
 
 
 def test_words(program):
@@ -388,7 +375,7 @@ def test_a_log_of_an_earlier_schema(program):
         with contextlib.closing(sqlite3.connect(file, isolation_level=None)) as base:
             base.execute("PRAGMA journal_mode = WAL").fetchall()
             base.execute(f"UPDATE {OLD[version]} SET name = 'Quay'")
-            stops.put(stops.taken(file.parent, file.name), left.parent, left.name)
+            put(taken(file), left)
         assert left.with_name(left.name + "-wal").stat().st_size > tampered.LEAST_LOG
         is_raised(program, left, version)
         tells(program, left, station_information=INFORMATION.format(names=HARBOUR.replace("Harbour", "Quay"), region=""))
@@ -402,13 +389,13 @@ def test_files_of_other_versions(program):
     for version, told in (1, {2: FOREIGN, 3: FOREIGN}), (2, {1: FOREIGN, 3: FOREIGN}):
         file = of_sql(program.folder, version)
         for number, wanted in {**told, 4: newer(4), 2**40: newer(2**40), 2**63 - 1: newer(2**63 - 1), 0: FOREIGN, -1: FOREIGN}.items():
-            adoption.changed(file, f"UPDATE meta SET version = {number}")
+            changed(file, f"UPDATE meta SET version = {number}")
             stays(program, file, wanted)
-        adoption.changed(file, f"UPDATE meta SET version = {version}, app = 'other'")
+        changed(file, f"UPDATE meta SET version = {version}, app = 'other'")
         stays(program, file, FOREIGN)
-        adoption.changed(file, "DELETE FROM meta")
+        changed(file, "DELETE FROM meta")
         stays(program, file, FOREIGN)
-        adoption.changed(file, f"INSERT INTO meta VALUES (1, 'bikeshare', {version}, {AT}, 2500, 0)")
+        changed(file, f"INSERT INTO meta VALUES (1, 'bikeshare', {version}, {AT}, 2500, 0)")
         is_raised(program, file, version)
 
 
@@ -430,9 +417,9 @@ def test_a_station_of_more_docks(program):
             (f"{more}; UPDATE {OLD[version]} SET name = '' WHERE station_id = (SELECT min(station_id) FROM {OLD[version]})", None),
             (f"UPDATE {OLD[version]} SET docks = 501, free = free + 301 WHERE docks = {MOST_DOCKS_BEFORE}", unsound(OLD[version], most)),
         ):
-            gone(file)
+            removed(file)
             file.write_bytes(base)
-            adoption.changed(file, change)
+            changed(file, change)
             right = verdict(file, version)
             assert wanted in (None, right), (change, wanted, right)
             if right == DONE:
@@ -453,7 +440,7 @@ def test_what_others_have_stays(program):
     ]
     for version in OLD:
         file = of_sql(program.folder, version)
-        adoption.changed(file, ";".join(made))
+        changed(file, ";".join(made))
         before = is_raised(program, file, version)
         with contextlib.closing(sqlite3.connect(file)) as base:
             found = [base.execute(f"PRAGMA {it}").fetchone() for it in ("user_version", "application_id")]
@@ -465,7 +452,7 @@ def test_what_others_have_of_the_old_table(program):
     """An index of the table goes with it, and a view of it stays as a text."""
     for version in OLD:
         file = of_sql(program.folder, version)
-        adoption.changed(file, f"CREATE INDEX more ON {OLD[version]} (name); CREATE VIEW seen AS SELECT name FROM {OLD[version]}")
+        changed(file, f"CREATE INDEX more ON {OLD[version]} (name); CREATE VIEW seen AS SELECT name FROM {OLD[version]}")
         is_raised(program, file, version)
         assert "seen" in [it[1] for it in held(file).schema]
 
@@ -479,18 +466,18 @@ def test_names_that_others_have_taken(program):
         foreign += [declared(it, list(tampered.BOUNDS[it])) for it in new] + [f"CREATE TABLE {it.upper()} (a)" for it in new]
         failed = [f"CREATE VIEW {it} AS SELECT 1" for it in new] + [f"CREATE INDEX {it} ON bikes (bike)" for it in new]
         failed += [index.format("TABLE", "(a)"), index.format("VIEW", "AS SELECT 1"), index.format("INDEX", "ON bikes (bike)")]
-        for change, wanted in [*((it, FOREIGN) for it in foreign), *((it, FAILED) for it in failed)]:
+        for change, wanted in [*((it, FOREIGN) for it in foreign), *((it, STORE_FAILED) for it in failed)]:
             file = of_sql(program.folder, version)
-            adoption.changed(file, change)
+            changed(file, change)
             with told_with(f"version {version}, {change}"):
                 stays(program, file, wanted)
-            gone(file)
+            removed(file)
 
 
 def test_another_table_of_a_name_between(program):
     """The name that the table of stations had in schema 2 is none of schema 1. Such a file is another program's, or the table stays."""
     file = of_sql(program.folder, 1)
-    adoption.changed(file, "CREATE TABLE stations_2 (a); INSERT INTO stations_2 VALUES (1)")
+    changed(file, "CREATE TABLE stations_2 (a); INSERT INTO stations_2 VALUES (1)")
     before = held(file)
     ended = program.run("raise", file.name)
     assert ended in (DONE, FOREIGN), ended
@@ -501,11 +488,11 @@ def test_files_that_are_no_database(program):
     for number, data in enumerate([b"xx", b"SQLite format 3\0", bytes(100), b"text\n" * 1000, random.Random(SEED).randbytes(4096)]):
         file = Path(program.folder, f"no{number}.db")
         file.write_bytes(data)
-        assert program.run("raise", file.name) == FAILED, data[:20]
+        assert program.run("raise", file.name) == STORE_FAILED, data[:20]
         assert file.read_bytes() == data
     file = of_sql(program.folder, 1)
     os.link(file, file.with_name("other.db"))
-    stays(program, file, FAILED)
+    stays(program, file, STORE_FAILED)
 
 
 def test_a_file_that_another_program_has(program):
@@ -513,10 +500,10 @@ def test_a_file_that_another_program_has(program):
     file = of_sql(program.folder, 2)
     with contextlib.closing(sqlite3.connect(file, isolation_level=None)) as base:
         base.execute("BEGIN EXCLUSIVE")
-        assert program.run("raise", file.name) == FAILED
+        assert program.run("raise", file.name) == STORE_FAILED
     is_raised(program, file, 2)
-    with serving.Server(program, file=file.name):
-        assert program.run("raise", file.name) == FAILED
+    with Server(program, file=file.name):
+        assert program.run("raise", file.name) == STORE_FAILED
 
 
 def test_raised_by_many_at_once(program):
@@ -524,23 +511,21 @@ def test_raised_by_many_at_once(program):
     for turn in range(5):
         file = of_sql(program.folder, 1 + turn % 2)
         wanted = raised(program, held(file), 1 + turn % 2)
-        with ThreadPoolExecutor(6) as pool:
-            ends = list(pool.map(lambda _, file=file: program.run("raise", file.name), range(6)))
-        assert DONE in ends and all(it in (DONE, FAILED) for it in ends), ends
+        ends = at_once(lambda _, file=file: program.run("raise", file.name), range(6), 6)
+        assert DONE in ends and all(it in (DONE, STORE_FAILED) for it in ends), ends
         assert held(file) == wanted
-        gone(file)
+        removed(file)
 
 
 def test_output_that_takes_nothing(program):
     """It is written when the file is raised."""
-    for version, end in (1, "/dev/full"), (2, None):
+    for version, end in (1, "/dev/full"), (2, "&-"):
         file = of_sql(program.folder, version)
         wanted = raised(program, held(file), version)
-        told = ["sh", "-c", f'exec "$@" >{end or "&-"}', "sh", program.file, "raise", file.name]
-        ran = subprocess.run(told, cwd=program.folder, stdin=subprocess.DEVNULL, capture_output=True, timeout=SECONDS)
-        assert (ran.returncode, ran.stderr) == (6, b"write failed\n"), ran
+        ended = program.shell(f">{end}", "raise", file.name)
+        assert ended == WRITE_FAILED, ended
         assert held(file) == wanted
-        gone(file)
+        removed(file)
 
 
 # ---- Rows that are bad
@@ -548,14 +533,8 @@ def test_output_that_takes_nothing(program):
 
 def read(file, version):
     """The tables of an earlier schema by the names of today, texts as bytes."""
-    with contextlib.closing(sqlite3.connect(f"file:{file}?immutable=1", uri=True)) as base:
-        base.text_factory = bytes
-        told = {}
-        for name in tampered.TABLES:
-            if name not in NEW[version] or name == "stations_3":
-                rows = base.execute(f"SELECT * FROM {OLD[version] if name == 'stations_3' else name}")
-                told[name] = [dict(zip([it[0] for it in rows.description], row)) for row in rows]
-        return told
+    names = {it: it for it in tampered.TABLES if it not in NEW[version]}
+    return tampered.read(file, {**names, "stations_3": OLD[version]})
 
 
 def verdict(file, version):
@@ -588,17 +567,11 @@ def old_city(program, version):
     return file.read_bytes(), tables
 
 
-class Changes:
+def changes_of(version, kind, tables):
     """The changes of tampered.py, as statements of SQL that name the table of stations as an earlier schema does."""
-
-    def __init__(self, version):
-        self.version, self.made = version, by_path("tampered")
-        self.made.by_sql = lambda *told, **loose: (told, loose)
-
-    def of(self, kind, tables):
-        for name, (told, loose) in getattr(self.made, kind)(tables):
-            sql, *values = told
-            yield name, tampered.by_sql(sql.replace("stations_3", OLD[self.version]), *values, **loose)
+    for name, change in getattr(tampered, kind)(tables):
+        sql, *more = change.args
+        yield name, tampered.by_sql(sql.replace("stations_3", OLD[version]), *more)
 
 
 def judged(program, city, version, changes, salt, wanted=None):
@@ -613,18 +586,18 @@ def judged(program, city, version, changes, salt, wanted=None):
             if right == [DONE]:
                 is_raised(program, file, version)
             else:
-                ended = stays(program, file, *right, is_whole=False)
+                ended = stays(program, file, *right, whole=False)
                 assert ended != DONE or program.run("check", file.name) == SOUND
         except (AssertionError, sqlite3.Error) as fault:
             wrong.append(f"version {version}, {name}: {fault}")
-        gone(file)
-    assert not wrong, "\n".join([f"seed {SEED}", *wrong[: stops.SHOWN], f"{len(wrong)} in all"])
+        removed(file)
+    nothing_is(wrong, f"seed {SEED}")
 
 
 def each_change(program, kind, wanted=None):
     for version in OLD:
         city, tables = old_city(program, version)
-        judged(program, city, version, Changes(version).of(kind, tables), kind, wanted)
+        judged(program, city, version, changes_of(version, kind, tables), kind, wanted)
 
 
 def test_each_column_of_each_table(program):
@@ -633,7 +606,7 @@ def test_each_column_of_each_table(program):
 
 def test_columns_of_another_kind(program):
     """The store itself finds the row against its table."""
-    each_change(program, "unlike", lambda file: [FAILED])
+    each_change(program, "unlike", lambda file: [STORE_FAILED])
 
 
 def test_texts_that_are_not_utf_8(program):
@@ -651,13 +624,13 @@ def test_kept_requests_are_judged_by_todays_texts(program):
     for version in OLD:
         for text in [*good, *bad]:
             file = of_sql(program.folder, version)
-            adoption.changed(file, f"UPDATE kept SET command = '{text.replace('|', chr(9))}' WHERE req_key = 'f5'")
+            changed(file, f"UPDATE kept SET command = '{text.replace('|', chr(9))}' WHERE req_key = 'f5'")
             with told_with(f"version {version}, {text}"):
                 if text in good:
                     is_raised(program, file, version)
                 else:
                     stays(program, file, unsound("kept", b"office/f5"))
-            gone(file)
+            removed(file)
 
 
 def test_tables_and_columns(program):
@@ -670,7 +643,7 @@ def test_tables_and_columns(program):
             changes += [f"DROP TABLE {name}", f"ALTER TABLE {name} RENAME TO {name}_old", f"ALTER TABLE {name} ADD COLUMN more INTEGER"]
             changes += [f'ALTER TABLE {name} RENAME COLUMN "{it}" TO other' for it in columns]
             changes += [f'ALTER TABLE {name} DROP COLUMN "{columns[-1]}"'] if name != "bikes" else []
-        judged(program, city, version, [(it, tampered.by_sql(it)) for it in changes], "tables", lambda file: [FOREIGN, FAILED])
+        judged(program, city, version, [(it, tampered.by_sql(it)) for it in changes], "tables", lambda file: [FOREIGN, STORE_FAILED])
 
 
 def as_sqlite_reads(file, version):
@@ -681,9 +654,9 @@ def as_sqlite_reads(file, version):
         columns = {name: COLUMNS[version] if name == "stations_3" else list(tampered.BOUNDS[name]) for name in found}
         # A byte of a table's text may have changed the name of a column.
         same = all(list(rows[0]) == columns[name] for name, rows in found.items() if rows)
-        return [FAILED, FOREIGN, *([verdict(file, version)] if same else [])]
+        return [STORE_FAILED, FOREIGN, *([verdict(file, version)] if same else [])]
     except (AssertionError, sqlite3.Error, UnicodeDecodeError):
-        return [FAILED, FOREIGN]
+        return [STORE_FAILED, FOREIGN]
 
 
 def test_bytes_anywhere(program):
@@ -701,8 +674,8 @@ def test_bytes_anywhere(program):
             after = program.run("check", file.name) if ended == DONE else SOUND
             if ended not in right or after != SOUND or (ended != DONE and tampered.parts(file) != before):
                 wrong.append(f"version {version}, byte {at} = {value}: {ended}, not {right}; and then {after}")
-            gone(file)
-    assert not wrong, "\n".join([f"seed {SEED}", *wrong[: stops.SHOWN], f"{len(wrong)} in all"])
+            removed(file)
+    nothing_is(wrong, f"seed {SEED}")
 
 
 # ---- Stops
@@ -711,27 +684,6 @@ FAILURES = {**stops.FAILURES, **stops.SHORT}
 ENDS = {**stops.STOPS, **stops.LOSSES, **FAILURES}
 # Every so many of the turns of each kind stands in the gate.
 STRIDES = {"tour": 31, "regions": 37, "every": 41, "city": 43}
-
-
-@contextlib.contextmanager
-def told_with(what):
-    try:
-        yield
-    except AssertionError as fault:
-        raise AssertionError(f"{what}: {fault}") from fault
-
-
-def quickly(test):
-    """The test with its files where a flush costs nothing, as in stops.py."""
-
-    @functools.wraps(test)
-    def tried(program):
-        with tempfile.TemporaryDirectory(prefix="bikeshare-raising-", dir=stops.ROOM) as folder:
-            here = copy.copy(program)
-            here.folder = os.path.realpath(folder)
-            test(here)
-
-    return tried
 
 
 class Raising:
@@ -746,17 +698,15 @@ class Raising:
         assert ended == DONE and held(file) == self.after, ended
         self.feed = self.shown(file.name)
         assert self.feed[1].decode() == kept_files.shown_of(name)["feeds"]["station_status"]
-        stops.removed(program.folder, file.name)
+        removed(program.folder, file.name)
 
     def shown(self, file):
         return self.program.run("feed", file, "station_status", "--at", str(kept_files.shown_of(self.name)["moment"]))
 
     def disturbed(self, file, **faults):
         """Raises the file under faults: how that ends, how many calls it makes, and which of them was hit."""
-        env = stops.environment(self.program.folder, file, ONLY_CHANGES=1, ENDS=1, **faults)
-        ran = subprocess.run([self.program.file, "raise", file], cwd=self.program.folder, stdin=subprocess.DEVNULL, capture_output=True, timeout=SECONDS, env=env)
-        told = dict(it.split(" ", 1) for it in Path(self.program.folder, file + ".told").read_text().splitlines())
-        return (ran.returncode, ran.stdout, ran.stderr), int(told["calls"]), told["hit"]
+        ran = disturbed(self.program, ["raise", file], file=file, ONLY_CHANGES=1, ENDS=1, **faults)
+        return ran[:3], ran.calls, ran.hit
 
     def stands(self, file, ended):
         """What a fault left is the file of the earlier schema or the raised one, whole. Where it was answered it is the raised one."""
@@ -767,12 +717,12 @@ class Raising:
         assert is_done or not ended[1], f"it said {ended[1]} too early"
         # What opens the file may clean up behind the stop, so another copy of it is looked at.
         other = file.with_name(f"other-{file.name}")
-        stops.put(stops.taken(file.parent, file.name), other.parent, other.name)
+        put(taken(file), other)
         checked = self.program.run("check", other.name)
         assert checked == (SOUND if is_done else older(self.version)), f"check: {checked}"
         assert held(other) == found, "check changed the file"
-        stops.removed(other.parent, other.name)
-        self.ends[("killed, " if ended[0] == stops.KILLED else f"{ended[2].decode().strip() or 'done'}, ") + ("raised" if is_done else "as it was")] += 1
+        removed(other)
+        self.ends[("killed, " if ended[0] == KILLED else f"{ended[2].decode().strip() or 'done'}, ") + ("raised" if is_done else "as it was")] += 1
 
     def finishes(self, file):
         """A raise without faults has the file raised, and it is served."""
@@ -780,11 +730,11 @@ class Raising:
         assert ended == DONE, f"raised again: {ended}"
         assert held(Path(self.program.folder, file)) == self.after, "raised again, the file holds something else"
         assert self.shown(file) == self.feed
-        stops.removed(self.program.folder, file)
+        removed(self.program.folder, file)
 
     def tried(self, file, how, at, *more):
         """A fault at a call, and perhaps one at a call of the raise behind it."""
-        stops.put(self.parts, self.program.folder, file)
+        put(self.parts, self.program.folder, file)
         for how, at in ((how, at), *more):
             with told_with(f"{how}, {at}"):
                 ended, _, hit = self.disturbed(file, **ENDS[how](at))
@@ -795,23 +745,15 @@ class Raising:
     def each(self, turns):
         """Tries turns, as many at once as BIKESHARE_JOBS says, and returns what is wrong."""
 
-        def why(numbered):
-            number, turn = numbered
-            try:
-                return self.tried(f"turn{number}.db", *turn)
-            except (AssertionError, sqlite3.Error, subprocess.TimeoutExpired, OSError) as fault:
-                return f"{self.name}, {turn}: {fault}"
-
-        with ThreadPoolExecutor(stops.JOBS) as pool:
-            return [it for it in pool.map(why, enumerate(turns)) if it]
+        return [f"{self.name}, {it}" for it in wrong_of(self.tried, turns)]
 
 
 def is_an_end(how, ended):
     """Whether a raise may end so under such a fault."""
     if how in FAILURES:
         # A line that was not written is another fault, and comes when the file is raised.
-        return ended in (DONE, FAILED) or (ended[0] == 6 and ended[2] == b"write failed\n")
-    return ended[0] == stops.KILLED and DONE[1].startswith(ended[1]) and not ended[2]
+        return ended in (DONE, STORE_FAILED) or (ended[0] == 6 and ended[2] == b"write failed\n")
+    return ended[0] == KILLED and DONE[1].startswith(ended[1]) and not ended[2]
 
 
 def disturbs(program, kinds, salt):
@@ -822,8 +764,8 @@ def disturbs(program, kinds, salt):
         stride = stops.STRIDE or STRIDES[name]
         turns = [(how, at) for first, how in enumerate(kinds) for at in range(1 + (7 * first + stops.FIRST) % stride, raising.calls + 1, stride)]
         wrong += raising.each(turns)
-        stops.tell(f"raise, {salt}", name, raising.ends, len(turns))
-    assert not wrong, "\n".join([*wrong[: stops.SHOWN], f"{len(wrong)} in all"])
+        tell(f"raise, {salt}", name, raising.ends, len(turns))
+    nothing_is(wrong)
 
 
 @quickly
@@ -849,8 +791,8 @@ def test_a_second_stop_while_it_is_raised_again(program):
         ways = [*stops.STOPS, *stops.LOSSES]
         turns = [[(pick.choice(ways), pick.randint(1, raising.calls)) for _ in range(3)] for _ in range(count)]
         wrong += raising.each((*first, *more) for first, *more in turns)
-        stops.tell("raise, three stops", name, raising.ends, len(turns))
-    assert not wrong, "\n".join([*wrong[: stops.SHOWN], f"{len(wrong)} in all"])
+        tell("raise, three stops", name, raising.ends, len(turns))
+    nothing_is(wrong)
 
 
 @quickly
@@ -861,18 +803,18 @@ def test_killed_at_random_moments(program):
     ends = collections.Counter()
     while number < kill.KILLS:
         it, file = raising[pick.choice(["city", "city", "every", "regions"])], f"killed{number}.db"
-        stops.put(it.parts, program.folder, file)
+        put(it.parts, program.folder, file)
         begun = time.monotonic()
         it.disturbed(file)
         lasted = time.monotonic() - begun
-        stops.removed(program.folder, file)
-        stops.put(it.parts, program.folder, file)
+        removed(program.folder, file)
+        put(it.parts, program.folder, file)
         for _ in range(pick.randint(1, 3)):
             number += 1
-            child = subprocess.Popen([program.file, "raise", file], cwd=program.folder, stdout=subprocess.PIPE, stderr=subprocess.PIPE)
-            time.sleep(pick.random() * lasted)
-            child.kill()
-            out, said = child.communicate(timeout=SECONDS)
+            with program.started("raise", file) as child:
+                time.sleep(pick.random() * lasted)
+                child.kill()
+                out, said = child.communicate(timeout=SECONDS)
             with told_with(f"seed {SEED}, kill {number}, {it.name}"):
                 assert not said and DONE[1].startswith(out), (out, said)
                 it.stands(file, (child.returncode, out, said))
@@ -880,7 +822,7 @@ def test_killed_at_random_moments(program):
             it.finishes(file)
         ends += it.ends
         it.ends.clear()
-    stops.tell("raise", "kills at random moments", ends, number)
+    tell("raise", "kills at random moments", ends, number)
 
 
 # ---- Memory
@@ -888,29 +830,26 @@ def test_killed_at_random_moments(program):
 
 def test_refused_memory(program):
     """Each request for memory is refused in turn. The file is as it was, or raised."""
-    refusing = memory.Refusing(program)
     for name, version in ("tour", 1), ("regions", 2):
         raising = Raising(program, name, version)
         file = Path(program.folder, "city.db")
-        stops.put(raising.parts, program.folder, file.name)
-        assert refusing.run(["check", file.name], b"") == older(version)
-        opened = max(0, refusing.count() - memory.SPARED)
-        assert refusing.run(["raise", file.name], b"") == DONE
+        put(raising.parts, file)
+        opened, right = memory.opened(program, "check", older(version)), disturbed(program, ["raise", file.name])
+        assert right[:3] == DONE, right
 
-        def tried(mine, first, last, raising=raising):
-            put = Path(mine.program.folder, "city.db")
-            stops.removed(put.parent, put.name)
-            stops.put(raising.parts, put.parent, put.name)
-            ended = mine.run(["raise", put.name], b"", first, last)
-            with told_with(f"{raising.name}, memory refused from {first} to {last}: {ended}"):
-                assert ended in (DONE, FAILED, WITHOUT_MEMORY)
-                found = held(put)
+        def tried(mine, refusal, raising=raising):
+            there = Path(mine.folder, "city.db")
+            put(raising.parts, there)
+            ended = disturbed(mine, ["raise", there.name], **refusal)[:3]
+            with told_with(f"{raising.name}, {refusal}: {ended}"):
+                assert ended in (DONE, STORE_FAILED, WITHOUT_MEMORY)
+                found = held(there)
                 assert found in ([raising.after] if ended == DONE else [raising.before, raising.after])
-                assert mine.program.run("raise", put.name) == DONE
-                assert held(put) == raising.after
+                assert mine.run("raise", there.name) == DONE
+                assert held(there) == raising.after
 
-        refusing.try_each(refusing.count(), tried, opened)
-        gone(file)
+        memory.try_each(program, right.memory, tried, opened)
+        removed(file)
 
 
 # ---- A large city
@@ -921,7 +860,7 @@ LARGE = ["--stations", "5000", "--docks", "20", "--bicycles", "20000", "--riders
 def timed(program, *given):
     """Runs words, and returns how they end, and the seconds of processor and of the clock and the megabytes that they take."""
     begun = time.monotonic()
-    with subprocess.Popen([program.file, *given], cwd=program.folder, stdout=subprocess.PIPE, stderr=subprocess.PIPE) as child:
+    with program.start(*given) as child:
         out, said = child.stdout.read(), child.stderr.read()
         _, status, used = os.wait4(child.pid, 0)
         child.returncode = os.waitstatus_to_exitcode(status)
@@ -933,7 +872,7 @@ def test_a_large_city(program):
     """What a raise takes beside a check."""
     if "BIKESHARE_LARGE" not in os.environ:
         return
-    make = [HERE.parent / "bench/city.py", "made", *LARGE, "--requests", "0", "--make", "city.db", "--program", program.file]
+    make = [TOP / "bench/city.py", "made", *LARGE, "--requests", "0", "--make", "city.db", "--program", program.file]
     subprocess.run(["python3", *make], cwd=program.folder, check=True)
     file = Path(program.folder, "city.db")
     feeds = [program.run("feed", file.name, it, "--at", "1800000000") for it in ("station_status", "station_information")]
@@ -950,7 +889,7 @@ def test_a_large_city(program):
             assert ended == wanted, ended
             print(f"schema {version}, {word}: {took}")
         assert [program.run("feed", old.name, it, "--at", "1800000000") for it in ("station_status", "station_information")] == feeds
-        gone(old)
+        removed(old)
 
 
 # ---- Where the word isn't built
@@ -959,8 +898,7 @@ def test_a_large_city(program):
 @functools.cache
 def is_built(file):
     """Whether the program's usage has a line of the word. It is told once where it hasn't."""
-    said = subprocess.run([file, "--help"], capture_output=True, timeout=SECONDS).stderr
-    if b"\n  raise FILE  " in said:
+    if b"\n  raise FILE  " in Program(file, None).run("--help")[2]:
         return True
     print("raising: nothing was tried, since the program's usage has no line with `raise FILE`", flush=True)
     return False

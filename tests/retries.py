@@ -18,39 +18,20 @@ the first of which BIKESHARE_SEED is; BIKESHARE_JOBS is how many are tried at a 
 """
 
 import collections
-import contextlib
-import copy
-import functools
-import importlib.util
 import itertools
 import os
 import random
-import sqlite3
-import subprocess
-import tempfile
-from concurrent.futures import ThreadPoolExecutor
-from pathlib import Path
 
-HERE = Path(__file__).resolve().parent
+import stored
+import traffic
+from shared import EIO, ENOSPC, KILLED, START, STARTED, UNAVAILABLE, Server, counted, disturbed, environment, exchanged, held, is_sound, nothing_is
+from shared import post, put, quickly, removed, rows_of, taken, tell, told_with, wrong_of
+from stops import as_line
+
 TRIED = os.environ.get("BIKESHARE_RETRIES", "30")
 LISTS = int(os.environ.get("BIKESHARE_LISTS", "3"))
 SEED = int(os.environ.get("BIKESHARE_SEED", "1"))
 LONG, STOPPED = 200, 10
-SHOWN = 5
-
-
-def by_path(name):
-    """Returns the module of another file of tests."""
-    spec = importlib.util.spec_from_file_location(f"tests_{name}", HERE / f"{name}.py")
-    module = importlib.util.module_from_spec(spec)
-    spec.loader.exec_module(module)
-    return module
-
-
-stops, stored, traffic = (by_path(it) for it in ("stops", "stored", "traffic"))
-serving = stops.serving
-
-Ran = collections.namedtuple("Ran", "status out said calls hit")
 
 # How a program is stopped at its call of this number.
 STOPS = {
@@ -59,9 +40,9 @@ STOPS = {
     "behind": lambda at: {"LOSE_AT": at, "LOSE_SEED": SEED + 7919 * at},
 }
 FAILURES = {
-    "no disk from": lambda at: {"FAIL_FROM": at, "FAIL_WITH": stops.EIO},
-    "no room from": lambda at: {"FAIL_FROM": at, "FAIL_WITH": stops.ENOSPC},
-    "an error at": lambda at: {"FAIL_AT": at, "FAIL_WITH": stops.EIO},
+    "no disk from": lambda at: {"FAIL_FROM": at, "FAIL_WITH": EIO},
+    "no room from": lambda at: {"FAIL_FROM": at, "FAIL_WITH": ENOSPC},
+    "an error at": lambda at: {"FAIL_AT": at, "FAIL_WITH": EIO},
 }
 
 # ---- Sessions
@@ -69,11 +50,7 @@ FAILURES = {
 
 def session(program, file, lines, **faults):
     """The program is started on a file, is given lines, and is stopped where that is told."""
-    env = stops.environment(program.folder, file, ONLY_CHANGES=1, ENDS=1, **faults)
-    words = [program.file, "lines", file]
-    ran = subprocess.run(words, input=b"".join(lines), cwd=program.folder, capture_output=True, timeout=stops.SECONDS, env=env)
-    told = dict(it.split(" ", 1) for it in Path(program.folder, file + ".told").read_text().splitlines())
-    return Ran(ran.returncode, ran.stdout, ran.stderr, int(told["calls"]), told["hit"])
+    return disturbed(program, ["lines", file], b"".join(lines), file, ONLY_CHANGES=1, ENDS=1, **faults)
 
 
 def is_whole(ran, answers):
@@ -83,44 +60,20 @@ def is_whole(ran, answers):
 
 def is_stopped(ran, answers):
     """It was stopped, and what it answered is a front of the answers. Returns how many came whole."""
-    assert (ran.status, ran.said) == (stops.KILLED, b""), f"it wasn't stopped: {ran}"
+    assert (ran.status, ran.said) == (KILLED, b""), f"it wasn't stopped: {ran}"
     assert b"".join(answers).startswith(ran.out), f"it answered {ran.out[-300:]}"
     return ran.out.count(b"\n")
 
 
-def quickly(test):
-    """The test with its files where a flush costs nothing, as in stops.py."""
-
-    @functools.wraps(test)
-    def tried(program):
-        with tempfile.TemporaryDirectory(prefix="bikeshare-retries-", dir=stops.ROOM) as folder:
-            here = copy.copy(program)
-            here.folder = os.path.realpath(folder)
-            test(here)
-
-    return tried
-
-
 def each(tried, draws):
-    """Tries these at once, as many as BIKESHARE_JOBS, and tells of those that are wrong. Each has a file of its own by its number."""
-
-    def why(numbered):
-        number, drawn = numbered
-        try:
-            return tried(f"turn{number}.db", *drawn)
-        except (AssertionError, sqlite3.Error, subprocess.TimeoutExpired, OSError) as fault:
-            return f"{drawn}: {fault}"
-
-    draws = list(draws)
-    with ThreadPoolExecutor(stops.JOBS) as pool:
-        wrong = [it for it in pool.map(why, enumerate(draws)) if it]
-    assert not wrong, "\n".join([f"seed {SEED}", *wrong[:SHOWN], f"{len(wrong)} of {len(draws)}"])
+    """Tries these at once, and tells of those that are wrong. Each has a file of its own by its number."""
+    nothing_is(wrong_of(tried, draws), f"seed {SEED}")
 
 
 # ---- Three sessions
 
-START, RENTED = stops.as_line("1700000000 rider:17 s1 start 17 a1 1"), b"rental\t1\t7\n"
-END, CHARGED = stops.as_line("1700001800 dock:a1 e1 end 7 a1 1"), b"fare\t125\t2375\n"
+ASKED, RENTED = as_line("1700000000 rider:17 s1 start 17 a1 1"), b"rental\t1\t7\n"
+END, CHARGED = as_line("1700001800 dock:a1 e1 end 7 a1 1"), b"fare\t125\t2375\n"
 ENTRIES = b"""number,kind,rider,rental,amount,at
 1,topup,17,0,25.00,2023-11-14T22:00:00Z
 2,fare,17,1,1.25,2023-11-14T22:43:20Z
@@ -134,24 +87,17 @@ def small_city(program):
     """The city of docs/FORMATS.md with rider 17, who has 25.00: its file with its log."""
     lines, answers = (stored.text(part) for part in zip(*stored.CITY))
     assert program.run("lines", "city.db", given=lines) == (0, answers, b"")
-    return stops.taken(program.folder, "city.db")
-
-
-def asked(program, file, query):
-    """What SQL answers of a copy of a file and its log."""
-    with tempfile.TemporaryDirectory(dir=program.folder) as folder:
-        stops.put(stops.taken(program.folder, file), folder, "copy.db")
-        with contextlib.closing(sqlite3.connect(Path(folder, "copy.db"))) as base:
-            return base.execute(query).fetchall()
+    return taken(program.folder, "city.db")
 
 
 def has_ridden_once(program, file):
     """One rental and two entries stand, and bicycle 7 is back in its dock."""
-    assert program.run("check", file) == (0, b"sound\n", b"")
+    is_sound(program, file)
     assert program.run("day", file, "entries", "2023-11-14", "UTC0") == (0, ENTRIES, b"")
     assert program.run("day", file, "rentals", "2023-11-14", "UTC0") == (0, RENTALS, b"")
-    assert asked(program, file, "SELECT count(*) FROM rentals") == [(1,)] and asked(program, file, "SELECT count(*) FROM entries") == [(2,)]
-    assert asked(program, file, "SELECT station_id, dock, rental, truck, ord FROM bikes WHERE bike = 7") == [("a1", 1, None, None, None)]
+    assert rows_of("SELECT (SELECT count(*) FROM rentals), (SELECT count(*) FROM entries)", program.folder, file) == [(1, 2)]
+    place = rows_of("SELECT station_id, dock, rental, truck, ord FROM bikes WHERE bike = 7", program.folder, file)
+    assert place == [("a1", 1, None, None, None)], place
 
 
 class ThreeSessions:
@@ -160,32 +106,32 @@ class ThreeSessions:
     def __init__(self, program):
         self.program, self.city = program, small_city(program)
         self.ends = collections.Counter()
-        stops.put(self.city, program.folder, "whole.db")
-        self.first = session(program, "whole.db", [START])
+        put(self.city, program.folder, "whole.db")
+        self.first = session(program, "whole.db", [ASKED])
         is_whole(self.first, [RENTED])
         for _ in range(2):
-            is_whole(session(program, "whole.db", [START, END]), [RENTED, CHARGED])
+            is_whole(session(program, "whole.db", [ASKED, END]), [RENTED, CHARGED])
         has_ridden_once(program, "whole.db")
-        self.held = stops.held(program.folder, "whole.db")
+        self.held = held(program.folder, "whole.db")
 
     def left_by(self, file, how, at):
         """The file as a first session leaves it that is stopped at a call, and how many calls the second then makes."""
-        stops.put(self.city, self.program.folder, file)
-        is_stopped(session(self.program, file, [START], **STOPS[how](at)), [RENTED])
-        left = stops.taken(self.program.folder, file)
-        second = session(self.program, file, [START, END])
+        put(self.city, self.program.folder, file)
+        is_stopped(session(self.program, file, [ASKED], **STOPS[how](at)), [RENTED])
+        left = taken(self.program.folder, file)
+        second = session(self.program, file, [ASKED, END])
         is_whole(second, [RENTED, CHARGED])
-        stops.removed(self.program.folder, file)
+        removed(self.program.folder, file)
         return left, second.calls
 
     def ended(self, file, left, how, at):
         """The second session is stopped at a call, and the third is not."""
-        stops.put(left, self.program.folder, file)
-        came = is_stopped(session(self.program, file, [START, END], **STOPS[how](at)), [RENTED, CHARGED])
+        put(left, self.program.folder, file)
+        came = is_stopped(session(self.program, file, [ASKED, END], **STOPS[how](at)), [RENTED, CHARGED])
         self.ends[f"{came} answers of the second session"] += 1
-        is_whole(session(self.program, file, [START, END]), [RENTED, CHARGED])
-        assert stops.held(self.program.folder, file) == self.held, "the file holds another city"
-        stops.removed(self.program.folder, file)
+        is_whole(session(self.program, file, [ASKED, END]), [RENTED, CHARGED])
+        assert held(self.program.folder, file) == self.held, "the file holds another city"
+        removed(self.program.folder, file)
 
     def of_a_first(self, file, how, at):
         """Each call of the second session after a stop of the first."""
@@ -201,14 +147,6 @@ class ThreeSessions:
             self.ended(file, left, other, 1 + int(share * calls))
 
 
-@contextlib.contextmanager
-def told_with(what):
-    try:
-        yield
-    except AssertionError as fault:
-        raise AssertionError(f"{what}: {fault}") from fault
-
-
 @quickly
 def test_three_sessions(program):
     three = ThreeSessions(program)
@@ -218,12 +156,12 @@ def test_three_sessions(program):
     else:
         pick = random.Random(f"{SEED} sessions")
         each(three.of_a_draw, [(pick.choice(list(STOPS)), pick.randint(1, calls), pick.choice(list(STOPS)), pick.random()) for _ in range(int(TRIED))])
-    stops.tell("retries", "three sessions", three.ends, sum(three.ends.values()))
+    tell("retries", "three sessions", three.ends, sum(three.ends.values()))
 
 
 # ---- Over HTTP
 
-POST = serving.post("/riders/17/start", serving.START)
+POST = post("/riders/17/start", START)
 
 
 @quickly
@@ -233,28 +171,36 @@ def test_a_start_over_http(program):
 
     def first(file, **faults):
         """The first connection of a server, under faults."""
-        stops.put(city, program.folder, file)
-        env = stops.environment(program.folder, file, ONLY_CHANGES=1, ENDS=1, **faults)
-        return stops.Exchange(program.file, city, POST, env).disturbed(program.folder, file, env)
+        put(city, program.folder, file)
+        env = environment(program.folder, file, ONLY_CHANGES=1, ENDS=1, **faults)
+        return counted(exchanged(program, POST, file, env), program.folder, file)
+
+    def sent_again(file, found):
+        """The request comes twice more to a server that goes on, after what was answered first."""
+        ends["200" if found == STARTED else "503" if found == UNAVAILABLE else "no answer"] += 1
+        with Server(program, 2, file) as server:
+            again = [server.ask(POST) for _ in range(2)]
+        assert again == [STARTED] * 2, f"after {found!r} it answered {again}"
+        assert rows_of("SELECT rental, rider, bike, finish FROM rentals", program.folder, file) == [(1, 17, 7, None)]
+        is_sound(program, file)
+        removed(program.folder, file)
 
     def tried(file, how, at):
-        status, found, said = first(file, **kinds[how](at))
-        killed, failed = (status, said) == (stops.KILLED, b""), (status, said) == (3, b"store failed\n")
-        assert killed if how in STOPS else failed or (status, said) == (0, b""), f"it ended with {status} and said {said!r}"
-        assert found == stops.UNAVAILABLE or serving.STARTED.startswith(found), f"it answered {found!r}"
-        ends["200" if found == serving.STARTED else "503" if found == stops.UNAVAILABLE else "no answer"] += 1
-        with serving.Server(program, 2, file) as server:
-            again = [server.ask(POST) for _ in range(2)]
-        assert again == [serving.STARTED] * 2, f"after {found!r} it answered {again}"
-        assert asked(program, file, "SELECT rental, rider, bike, finish FROM rentals") == [(1, 17, 7, None)]
-        assert program.run("check", file) == (0, b"sound\n", b"")
-        stops.removed(program.folder, file)
+        status, found, said, *_ = first(file, **kinds[how](at))
+        killed, failed = (status, said) == (KILLED, b""), (status, said) == (3, b"store failed\n")
+        # Where the port can't be told, nobody is served.
+        untold = (status, found, said) == (6, b"", b"write failed\n")
+        assert killed if how in STOPS else failed or untold or (status, said) == (0, b""), f"it ended with {status} and said {said!r}"
+        assert found == UNAVAILABLE or STARTED.startswith(found), f"it answered {found!r}"
+        sent_again(file, found)
 
-    assert first("whole.db") == (0, serving.STARTED, b"")
-    calls = int(Path(program.folder, "whole.db.told").read_text().split()[1])
-    turns = list(itertools.product(kinds, range(1, calls + 1)))
+    # The answer is the last that the server writes: it is whole where no fault comes.
+    whole = first("whole.db")
+    assert whole[:3] == (0, STARTED, b""), whole
+    sent_again("whole.db", whole.out)
+    turns = list(itertools.product(kinds, range(1, whole.calls + 1)))
     each(tried, turns if TRIED == "all" else random.Random(f"{SEED} http").sample(turns, min(len(turns), int(TRIED))))
-    stops.tell("retries", "a start over HTTP", ends, sum(ends.values()))
+    tell("retries", "a start over HTTP", ends, sum(ends.values()))
     assert TRIED != "all" or all(ends[it] for it in ("200", "503", "no answer")), ends
 
 
@@ -281,24 +227,24 @@ class Lists:
         self.ends = collections.Counter()
         listed = Listed(SEED)
         assert program.run("lines", "begun.db", given=b"".join(listed.setup)) == (0, b"".join(listed.built), b"")
-        self.setup, self.city = listed.setup, stops.taken(program.folder, "begun.db")
+        self.setup, self.city = listed.setup, taken(program.folder, "begun.db")
 
     def undisturbed(self, file, listed):
         """How many calls a list makes that nothing stops, and what the file holds when it came twice."""
-        stops.put(self.city, self.program.folder, file)
+        put(self.city, self.program.folder, file)
         ran = session(self.program, file, listed.lines)
         is_whole(ran, listed.answers)
         is_whole(session(self.program, file, listed.lines), listed.again)
-        held = stops.held(self.program.folder, file)
-        stops.removed(self.program.folder, file)
-        return ran.calls, held
+        whole = held(self.program.folder, file)
+        removed(self.program.folder, file)
+        return ran.calls, whole
 
     def stopped(self, file, seed):
         """Sends a list with ten stops. They are as far apart as calls that are drawn from the undisturbed run, so each of them comes in time."""
         listed, pick = Listed(seed), random.Random(f"{SEED} {seed} list")
         assert listed.setup == self.setup
-        calls, held = self.undisturbed(file, listed)
-        stops.put(self.city, self.program.folder, file)
+        calls, whole = self.undisturbed(file, listed)
+        put(self.city, self.program.folder, file)
         answered, told = 0, []
         for before, at in itertools.pairwise([0, *sorted(pick.sample(range(1, calls + 1), STOPPED))]):
             how = pick.choice(list(STOPS))
@@ -310,15 +256,15 @@ class Lists:
         with told_with(f"stopped {', '.join(told)}, {answered} answered"):
             is_whole(session(self.program, file, listed.lines[answered:]), listed.answers[answered:])
             is_whole(session(self.program, file, listed.lines), listed.again)
-            assert stops.held(self.program.folder, file) == held, "the file holds another city"
-        stops.removed(self.program.folder, file)
+            assert held(self.program.folder, file) == whole, "the file holds another city"
+        removed(self.program.folder, file)
 
 
 @quickly
 def test_lists_with_ten_stops(program):
     lists = Lists(program)
     each(lists.stopped, [(SEED + it,) for it in range(LISTS)])
-    stops.tell("retries", f"{LISTS} lists", lists.ends, sum(lists.ends.values()))
+    tell("retries", f"{LISTS} lists", lists.ends, sum(lists.ends.values()))
 
 
 @quickly

@@ -7,191 +7,21 @@ Each wanted answer is written by hand from docs/FORMATS.md, sections 5 and 6.
 import contextlib
 import json
 import os
-import re
 import select
 import socket
 import sqlite3
-import struct
-import subprocess
 import time
 from datetime import datetime, timezone
 
-SECONDS = 10
-NAMES = ["gbfs", "system_information", "vehicle_types", "station_information", "station_status", "system_pricing_plans", "system_regions"]
+from shared import BAD_FIELD, CITY, DONE, FEEDS, FOREIGN, MOMENT, READ_FAILED, READY, SECONDS, START, STARTED, STORE_FAILED, Server
+from shared import answer, ask, city, error, feed, get, get_feed, holds, is_sound, office, post, refused, request, reset, rest, timeless
 
-CITY = [
-    "set-system\tmetro\ten\tMetro Bikes\t24/7\tfeeds@example.org\tEtc/UTC\tEUR\thttp://127.0.0.1:8080\t30",
-    "add-plan\tbasic\tBasic\t100\tfalse\tOne euro and then a quarter\t30:25:5:-",
-    "add-type\tcity\tCity\tbicycle\thuman\t0\tbasic",
-    "add-station\ta1\tHarbour\t41.890169\t12.492269\t2",
-    "add-bike\t7\tcity",
-    "add-truck\t3\t20",
-    "open-order\t3\t*\ta1\tcity\t1",
-    "load\t3\t1\t7",
-    "unload\t3\t1\t7\tto\t1",
-    "close-order\t1",
-    "mark-dock\ta1\t2\tbroken",
-    "add-rider\t17",
-    "top-up\t17\t2500",
-]
-
-REASONS = {
-    200: "OK",
-    400: "Bad Request",
-    404: "Not Found",
-    405: "Method Not Allowed",
-    409: "Conflict",
-    413: "Payload Too Large",
-}
-ERRORS = {400: "bad_request", 404: "not_found", 405: "method_not_allowed", 413: "too_large"}
-
-
-class Server:
-    """`serve` on a free port, for so many connections, or without end. Leaving it waits for its end, or stops the one that has none."""
-
-    def __init__(self, program, count=None, file="city.db"):
-        words = [program.file, "serve", file, "--port", "0", *(["--count", str(count)] if count else [])]
-        self.count = count
-        self.child = subprocess.Popen(words, cwd=program.folder, stdin=subprocess.DEVNULL, stdout=subprocess.PIPE, stderr=subprocess.PIPE)
-
-    def __enter__(self):
-        try:
-            line = self.first_line()
-            found = re.fullmatch(rb"listening 127\.0\.0\.1:([1-9][0-9]{0,4})\n", line)
-            assert found, f"it said {line!r}"
-            self.port = int(found[1])
-        except BaseException:
-            self.stop()
-            raise
-        return self
-
-    def __exit__(self, kind, fault, trace):
-        try:
-            if kind is None and self.count:
-                out, said = self.child.communicate(timeout=SECONDS)
-                assert (self.child.returncode, out, said) == (0, b"", b""), (self.child.returncode, out, said)
-        finally:
-            self.stop()
-
-    def first_line(self):
-        line, until = b"", time.monotonic() + SECONDS
-        while not line.endswith(b"\n"):
-            ready, _, _ = select.select([self.child.stdout], [], [], max(0, until - time.monotonic()))
-            assert ready, f"it said only {line!r} in {SECONDS} seconds"
-            piece = os.read(self.child.stdout.fileno(), 1)
-            assert piece, f"it ended after {line!r}: {self.child.communicate(timeout=SECONDS)[1]!r}"
-            line += piece
-        return line
-
-    def stop(self):
-        if self.child.poll() is None:
-            self.child.kill()
-        self.child.communicate()
-
-    def connect(self):
-        client = socket.create_connection(("127.0.0.1", self.port), timeout=SECONDS)
-        client.setsockopt(socket.IPPROTO_TCP, socket.TCP_NODELAY, 1)
-        return client
-
-    def ask(self, request, ends=False):
-        """Sends the bytes over a connection of their own, ends the input where told to, and returns all bytes that come back."""
-        with self.connect() as client:
-            client.sendall(request)
-            if ends:
-                client.shutdown(socket.SHUT_WR)
-            return rest(client)
-
-
-def rest(client):
-    """Returns all bytes that still come."""
-    found = b""
-    while True:
-        try:
-            piece = client.recv(65536)
-        except ConnectionResetError:
-            # A socket that is closed with bytes unread is reset behind its answer; that is an end too.
-            return found
-        if not piece:
-            return found
-        found += piece
-
-
-def city(program, *more):
-    """Makes the city of docs/FORMATS.md with rider 17, who has 25.00, and then sends these commands of the office."""
-    commands = [*CITY, *more]
-    given = "".join(f"1699999200\toffice\tf{number}\t{command}\n" for number, command in enumerate(commands, 1))
-    status, out, said = program.run("lines", "city.db", given=given.encode())
-    assert (status, said) == (0, b"") and b"refused" not in out and out.count(b"\n") == len(commands), (status, out, said)
-
-
-def request(method, target, *fields, body=b""):
-    """A request with these fields alone."""
-    lines = [f"{method} {target} HTTP/1.1", *fields, "", ""]
-    return "\r\n".join(lines).encode() + body
-
-
-def get(target, method="GET"):
-    return request(method, target, "Host: 127.0.0.1")
-
-
-def post(target, body):
-    body = body if isinstance(body, bytes) else body.encode()
-    return request("POST", target, "Host: 127.0.0.1", f"Content-Length: {len(body)}", body=body)
-
-
-def office(key, command):
-    """A command of the office; its TABs are escaped as JSON wants it."""
-    return post("/office", json.dumps({"key": key, "command": command}))
-
-
-def answer(status, body, allow=None):
-    """The whole answer with this body."""
-    head = f"HTTP/1.1 {status} {REASONS[status]}\r\nContent-Type: application/json\r\nContent-Length: {len(body.encode())}\r\n"
-    return (head + "Connection: close\r\n" + (f"Allow: {allow}\r\n" if allow else "") + "\r\n" + body).encode()
-
-
-def error(status, allow=None):
-    return answer(status, f'{{"result":"error","name":"{ERRORS[status]}"}}', allow)
-
-
-def refused(number, name):
-    return answer(400 if number == 11 else 409, f'{{"result":"refused","number":{number},"name":"{name}"}}')
-
-
-DONE = answer(200, '{"result":"ok"}')
-STARTED = answer(200, '{"result":"ok","rental":1,"bike":7}')
-BAD_FIELD = refused(11, "bad_field")
-START = '{"key":"s1","station":"a1","dock":1}'
 NOT_RIDING = answer(200, '{"rider":17,"state":"open","balance_cents":2500,"rental":0}')
-MOMENT = "0000-00-00T00:00:00Z"
-
-
-def timeless(found):
-    """The answer with one text, of the same length, in place of each moment."""
-    return re.sub(rb"[0-9]{4}-[0-9]{2}-[0-9]{2}T[0-9]{2}:[0-9]{2}:[0-9]{2}Z", MOMENT.encode(), found)
 
 
 def ended(program, *words):
     """Runs words with which nothing is served."""
-    asked = [program.file, "serve", *words]
-    ran = subprocess.run(asked, cwd=program.folder, stdin=subprocess.DEVNULL, capture_output=True, timeout=SECONDS)
-    return ran.returncode, ran.stdout, ran.stderr
-
-
-def told(asked):
-    return repr(asked if len(asked) <= 200 else asked[:160] + b" .. " + asked[-20:])
-
-
-def holds(program, rows, ends=False):
-    """Sends each request over a connection of its own, one after the other to one server, and holds each answer to what is wanted."""
-    with Server(program, len(rows)) as server:
-        for asked, wanted in rows:
-            found = timeless(server.ask(asked, ends))
-            assert found == wanted, f"{told(asked)}: {found!r}, not {wanted!r}"
-
-
-def body_of(found):
-    return found.split(b"\r\n\r\n", 1)[1]
+    return program.run("serve", *words, timeout=SECONDS)
 
 
 def seconds(moment):
@@ -295,7 +125,7 @@ def test_every_post(program):
         (office("o3", "close-order\t2"), DONE),
         (get("/bikes/7"), answer(200, '{"bike":7,"type":"city","state":"fit","place":"depot"}')),
     ])
-    assert program.run("check", "city.db") == (0, b"sound\n", b"")
+    is_sound(program)
 
 
 def test_every_row_that_is_shown(program):
@@ -350,9 +180,9 @@ def test_every_feed_is_the_text_of_feed(program):
         "set-region\tb2\tnorth", "add-name\tstation\tb2\tpl\tŁódź \\\\ 🚲", "add-name\tregion\tnorth\tDE\tNorden", "add-name\tsystem\tmetro\tde\tMetro",
         "add-name\ttype\tcity\tzh-Hant\t城市", "add-name\tplan\tbasic\tde\tEinfach", "add-name\tdescription\tbasic\tfr\tUn euro",
     )
-    with Server(program, len(NAMES)) as server:
-        found = {name: server.ask(get(f"/gbfs/3.0/{name}.json")) for name in NAMES}
-    for name in NAMES:
+    with Server(program, len(FEEDS)) as server:
+        found = {name: server.ask(get_feed(name)) for name in FEEDS}
+    for name in FEEDS:
         head, body = found[name].split(b"\r\n\r\n", 1)
         wanted = f"HTTP/1.1 200 OK\r\nContent-Type: application/json\r\nContent-Length: {len(body)}\r\nConnection: close".encode()
         assert head == wanted, (name, head)
@@ -367,12 +197,9 @@ def city_of(program, file, longer):
     """A city with five types and stations whose identifiers are as many characters longer than one letter and four digits."""
     types = [f"add-type\tt{it}\tType\tbicycle\thuman\t0\tbasic" for it in range(5)]
     stations = [f"add-station\ts{it:04}{'x' * more}\tStation\t0\t0\t1" for it, more in enumerate(longer)]
-    lines = [f"1699999200\toffice\tf{it}\t{command}\n" for it, command in enumerate([*CITY[:2], *types, *stations])]
-    status, out, said = program.run("lines", file, given="".join(lines).encode())
-    assert (status, out, said) == (0, b"ok\n" * len(lines), b""), (status, said)
-    status, text, said = program.run("feed", file, "station_status", "--at", "1700000000")
-    assert (status, said) == (0, b""), (status, said)
-    return text
+    commands = [*CITY[:2], *types, *stations]
+    assert ask(program, commands, file=file) == ["ok"] * len(commands)
+    return feed(program, "station_status", file=file).encode()
 
 
 def test_feeds_at_the_length_that_is_held(program):
@@ -395,7 +222,7 @@ def test_feeds_at_the_length_that_is_held(program):
 
 def test_the_worked_status_feed(program):
     city(program)
-    holds(program, [(get("/gbfs/3.0/station_status.json"), answer(
+    holds(program, [(get_feed("station_status"), answer(
         200,
         f'{{"last_updated":"{MOMENT}","ttl":30,"version":"3.0","data":{{"stations":[{{"station_id":"a1","num_vehicles_available":1,'
         '"vehicle_types_available":[{"vehicle_type_id":"city","count":1}],"num_vehicles_disabled":0,"num_docks_available":0,'
@@ -409,7 +236,7 @@ def test_the_worked_regions(program):
     head = f'{{"last_updated":"{MOMENT}","ttl":30,"version":"3.0","data":'
     place = head + '{"stations":[{"station_id":"a1","name":[{"text":"Harbour","language":"en"}],"lat":41.890169,"lon":12.492269,%s"capacity":2}]}}'
     north = head + '{"regions":[{"region_id":"north","name":[{"text":"North","language":"en"}]}]}}'
-    regions, places = get("/gbfs/3.0/system_regions.json"), get("/gbfs/3.0/station_information.json")
+    regions, places = get_feed("system_regions"), get_feed("station_information")
     unknown = refused(37, "unknown_region")
     holds(program, [
         (regions, answer(200, head + '{"regions":[]}}')),
@@ -428,14 +255,15 @@ def test_the_worked_regions(program):
         (office("r2", "set-region\ta1\tnorth"), DONE),
         (office("r2", "set-region\ta1\t*"), refused(33, "key_reused")),
         (places, answer(200, place % "")),
-        (get("/gbfs/3.0/gbfs.json"), answer(200, head + '{"feeds":[' + ",".join(
-            f'{{"name":"{it}","url":"http://127.0.0.1:8080/gbfs/3.0/{it}.json"}}' for it in NAMES[1:]
+        (get_feed("gbfs"), answer(200, head + '{"feeds":[' + ",".join(
+            f'{{"name":"{it}","url":"http://127.0.0.1:8080/gbfs/3.0/{it}.json"}}' for it in FEEDS[1:]
         ) + "]}}")),
         (post("/gbfs/3.0/system_regions.json", "{}"), error(405, "GET")),
         (get("/gbfs/3.0/system_regions"), error(404)),
         (get("/regions/north"), error(404)),
     ])
-    assert NAMES[-1] == "system_regions" and program.run("check", "city.db") == (0, b"sound\n", b"")
+    assert FEEDS[-1] == "system_regions"
+    is_sound(program)
 
 
 def test_the_worked_names(program):
@@ -448,7 +276,7 @@ def test_the_worked_names(program):
         '"feed_contact_email":"feeds@example.org","timezone":"Etc/UTC"}}'
     )
     harbour, port, porto = (f',{{"text":"{text}","language":"{language}"}}' for text, language in (("Hafen", "de"), ("Port", "fr"), ("Porto", "it")))
-    places, about = get("/gbfs/3.0/station_information.json"), get("/gbfs/3.0/system_information.json")
+    places, about = get_feed("station_information"), get_feed("system_information")
     there = refused(10, "already_there")
     holds(program, [
         (places, answer(200, place % "")),
@@ -478,7 +306,7 @@ def test_the_worked_names(program):
         (office("n4", "add-name\tbike\t7\tde\tX"), BAD_FIELD),
         (places, answer(200, place % (harbour + port + porto))),
     ])
-    assert program.run("check", "city.db") == (0, b"sound\n", b"")
+    is_sound(program)
 
 
 def test_a_station_of_500_docks(program):
@@ -503,19 +331,19 @@ def test_a_station_of_500_docks(program):
         (post("/crews/3/unload", '{"key":"u1","order":2,"bike":7,"side":"from","dock":500}'), DONE),
         (get("/bikes/7"), answer(200, docked)),
     ])
-    assert program.run("check", "city.db") == (0, b"sound\n", b"")
+    is_sound(program)
 
 
 def test_no_system(program):
-    assert program.run("init", "city.db") == (0, b"ready\n", b"")
+    assert program.run("init", "city.db") == READY
     holds(program, [
         (office("o1", "add-name\tstation\ta1\tde\tHafen"), refused(38, "system_missing")),
         (office("o1", "add-name\tsystem\tmetro\tde\tMetro"), refused(38, "system_missing")),
-        *((get(f"/gbfs/3.0/{name}.json"), error(404)) for name in NAMES),
+        *((get_feed(name), error(404)) for name in FEEDS),
         *((get(target), error(404)) for target in ("/riders/17", "/bikes/7", "/rentals/1", "/orders/1")),
         (post("/riders/17/start", START), refused(4, "unknown_rider")),
         (office("o1", CITY[0]), DONE),
-        (get("/gbfs/3.0/station_status.json"), answer(
+        (get_feed("station_status"), answer(
             200, f'{{"last_updated":"{MOMENT}","ttl":30,"version":"3.0","data":{{"stations":[]}}}}'
         )),
     ])
@@ -877,7 +705,7 @@ def test_other_methods(program):
     others = ["HEAD", "OPTIONS", "PUT", "DELETE", "PATCH", "TRACE", "CONNECT", "get", "Get", "post", "GETS", "X-Y", "!"]
     posts = ["/office", "/riders/17/start", "/docks/a1/end", "/docks/a1/mark-dock", "/docks/a1/mark-bike"]
     posts += ["/crews/3/load", "/crews/3/unload", "/crews/3/mark-bike"]
-    gets = ["/riders/17", "/bikes/7", "/rentals/1", "/orders/1", *(f"/gbfs/3.0/{name}.json" for name in NAMES)]
+    gets = ["/riders/17", "/bikes/7", "/rentals/1", "/orders/1", *(f"/gbfs/3.0/{name}.json" for name in FEEDS)]
     holds(program, [
         *((get(it), error(405, "POST")) for it in posts),
         *((post(it, START), error(405, "GET")) for it in gets),
@@ -971,12 +799,6 @@ def test_what_follows_the_body_is_left(program):
     ])
 
 
-def reset(client):
-    """Closes a connection by a reset, as a system does whose program was ended."""
-    client.setsockopt(socket.SOL_SOCKET, socket.SO_LINGER, struct.pack("ii", 1, 0))
-    client.close()
-
-
 def test_clients_that_go_away(program):
     """The next client is served. A whole request counts even where nobody waits for its answer; a part of one never does."""
     city(program)
@@ -991,7 +813,7 @@ def test_clients_that_go_away(program):
         assert server.ask(get("/riders/17")) == NOT_RIDING
         for _ in range(20):
             client = server.connect()
-            client.sendall(get("/gbfs/3.0/station_information.json"))
+            client.sendall(get_feed("station_information"))
             client.close()
         assert server.ask(get("/riders/17")) == NOT_RIDING
         client = server.connect()
@@ -1028,10 +850,10 @@ def test_moments_are_the_clocks(program):
     before = int(time.time())
     with Server(program, 4) as server:
         assert server.ask(post("/riders/17/start", START)) == STARTED
-        start = seconds(json.loads(body_of(server.ask(get("/rentals/1"))))["start"])
-        feed = json.loads(body_of(server.ask(get("/gbfs/3.0/station_status.json"))))
+        start = seconds(server.told("/rentals/1")["start"])
+        feed = server.told("/gbfs/3.0/station_status.json")
         time.sleep(1.1)
-        later = json.loads(body_of(server.ask(get("/gbfs/3.0/station_status.json"))))
+        later = server.told("/gbfs/3.0/station_status.json")
     after = int(time.time())
     moments = [start, seconds(feed["last_updated"]), seconds(later["last_updated"])]
     assert before <= moments[0] <= moments[1] < moments[2] <= after, (before, moments, after)
@@ -1047,7 +869,7 @@ def test_a_clock_behind_the_city(program):
         assert server.ask(post("/riders/17/start", START)) == STARTED
         found = server.ask(get("/rentals/1"))
         assert b'"start":"2100-01-01T00:00:00Z"' in found, found
-        feed = json.loads(body_of(server.ask(get("/gbfs/3.0/station_status.json"))))
+        feed = server.told("/gbfs/3.0/station_status.json")
         found = server.ask(post("/docks/a1/end", '{"key":"e1","bike":7,"dock":1}'))
         assert found == answer(200, '{"result":"ok","fare_cents":100,"balance_cents":2401}'), found
     assert before <= seconds(feed["last_updated"]) <= int(time.time()), feed
@@ -1066,8 +888,7 @@ def test_what_is_refused_changes_nothing(program):
     # The city's time is still that of its last command: a line of the past is accepted at that moment.
     given = b"1600000000\toffice\tlast\tset-station\ta1\ttrue\ttrue\ttrue\n"
     assert program.run("lines", "city.db", given=given) == (0, b"ok\n", b"")
-    status, out, said = program.run("feed", "city.db", "station_status", "--at", "1700000000")
-    assert (status, said) == (0, b"") and b'"last_reported":"2023-11-14T22:00:00Z"' in out, out
+    assert '"last_reported":"2023-11-14T22:00:00Z"' in feed(program, "station_status")
 
 
 def test_a_port_of_choice(program):
@@ -1075,19 +896,13 @@ def test_a_port_of_choice(program):
     with socket.socket() as free:
         free.bind(("127.0.0.1", 0))
         port = free.getsockname()[1]
-    words = [program.file, "serve", "city.db", "--port", str(port), "--count", "1"]
-    child = subprocess.Popen(words, cwd=program.folder, stdout=subprocess.PIPE, stderr=subprocess.PIPE)
-    try:
+    with program.started("serve", "city.db", "--port", str(port), "--count", "1") as child:
         assert child.stdout.readline() == f"listening 127.0.0.1:{port}\n".encode()
         with socket.create_connection(("127.0.0.1", port), timeout=SECONDS) as client:
             client.sendall(get("/riders/17"))
             assert rest(client) == NOT_RIDING
         out, said = child.communicate(timeout=SECONDS)
         assert (child.returncode, out, said) == (0, b"", b""), (child.returncode, out, said)
-    finally:
-        if child.poll() is None:
-            child.kill()
-            child.communicate()
 
 
 def test_a_server_that_is_killed(program):
@@ -1098,7 +913,7 @@ def test_a_server_that_is_killed(program):
         for _ in range(5):
             assert server.ask(asked) == STARTED
         assert server.child.poll() is None
-    assert program.run("check", "city.db") == (0, b"sound\n", b"")
+    is_sound(program)
     holds(program, [(asked, STARTED), (get("/bikes/7"), answer(
         200, '{"bike":7,"type":"city","state":"fit","place":"rental","rental":1}'
     ))])
@@ -1108,7 +923,7 @@ def test_a_city_in_memory(program):
     with Server(program, 3, file=":memory:") as server:
         assert server.ask(office("o1", "add-rider\t17")) == DONE
         assert server.ask(get("/riders/17")) == answer(200, '{"rider":17,"state":"open","balance_cents":0,"rental":0}')
-        assert server.ask(get("/gbfs/3.0/gbfs.json")) == error(404)
+        assert server.ask(get_feed("gbfs")) == error(404)
     assert not os.listdir(program.folder), os.listdir(program.folder)
 
 
@@ -1116,18 +931,18 @@ def test_files_that_are_not_served(program):
     words = ["--port", "0", "--count", "1"]
     with contextlib.closing(sqlite3.connect(os.path.join(program.folder, "other.db"))) as db:
         db.execute("CREATE TABLE meta (one INTEGER PRIMARY KEY, app TEXT)")
-    assert ended(program, "other.db", *words) == (5, b"", b"foreign\n")
+    assert ended(program, "other.db", *words) == FOREIGN
     with open(os.path.join(program.folder, "text.db"), "wb") as file:
         file.write(b"no database\n" * 100)
-    assert ended(program, "text.db", *words) == (3, b"", b"store failed\n")
-    assert ended(program, "nowhere/city.db", *words) == (3, b"", b"store failed\n")
+    assert ended(program, "text.db", *words) == STORE_FAILED
+    assert ended(program, "nowhere/city.db", *words) == STORE_FAILED
 
 
 def test_a_port_that_is_taken(program):
     city(program)
     with socket.create_server(("127.0.0.1", 0)) as taken:
         port = str(taken.getsockname()[1])
-        assert ended(program, "city.db", "--port", port, "--count", "1") == (6, b"", b"read failed\n")
+        assert ended(program, "city.db", "--port", port, "--count", "1") == READ_FAILED
 
 
 def test_wrong_words(program):

@@ -15,56 +15,30 @@ Every turn of the short runs and some of the long ones stand in the gate. By han
     BIKESHARE_STOPS=1 BIKESHARE_JOBS=4 tests/run stops.
 
 BIKESHARE_STOPS is the stride for all runs, so 1 tries each turn; BIKESHARE_STOPS_FIRST is how many turns are left out before the first;
-BIKESHARE_SEED is what the losses are drawn from; BIKESHARE_JOBS is how many programs run at a time; BIKESHARE_STOPS_TOLD names a file to which each test adds how many turns it tried
-and how they ended.
+BIKESHARE_SEED is what the losses are drawn from; BIKESHARE_JOBS is how many programs run at a time; BIKESHARE_STOPS_TOLD names a file to which each
+test adds how many turns it tried and how they ended.
 """
 
 import collections
-import concurrent.futures
-import contextlib
 import copy
 import functools
-import importlib.util
 import os
-import re
-import shutil
-import socket
 import sqlite3
-import subprocess
 import tempfile
-import threading
 from pathlib import Path
 
-HERE = Path(__file__).resolve().parent
+import shared
+from shared import DISTURBED, EINTR, EIO, ENOSPC, FAULTS, KILLED, ROOM, SOUND, TOP, UNAVAILABLE, WANTS, Program
+from shared import at_once, counted, environment, exchanged, get_feed, held, nothing_is, post, put, removed, taken, tell
+
 STRIDE = int(os.environ.get("BIKESHARE_STOPS", "0"))
 FIRST = int(os.environ.get("BIKESHARE_STOPS_FIRST", "0"))
 SEED = int(os.environ.get("BIKESHARE_SEED", "5"))
-JOBS = int(os.environ.get("BIKESHARE_JOBS", "1"))
-SECONDS = 60
-SHOWN = 5
-CLOCK = "1700005000"
 AT = "1700009000"
-PARTS = ["", "-wal", "-journal", "-shm"]
-# The wrapper knows what was flushed, so the files may stand where a flush costs nothing.
-ROOM = "/dev/shm" if os.access("/dev/shm", os.W_OK) else None
-KILLED = -9
-EIO, ENOSPC, EINTR = 5, 28, 4
-
-Ran = collections.namedtuple("Ran", "status out said calls memory hit")
-
-
-def by_path(name):
-    spec = importlib.util.spec_from_file_location(f"tests_{name}", HERE / f"{name}.py")
-    module = importlib.util.module_from_spec(spec)
-    spec.loader.exec_module(module)
-    return module
-
-
-serving = by_path("serving")
 
 # ---- What is asked, and the answers, written by hand
 
-TOUR = (HERE.parent / "docs/tour.txt").read_bytes().splitlines(keepends=True)
+TOUR = (TOP / "docs/tour.txt").read_bytes().splitlines(keepends=True)
 TOUR_ANSWERS = (
     "ok|ok|ok|ok|ok|ok|order 1|ok|ok|ok|ok|balance 2500|balance 2500|refused 33 key_reused|rental 1 7|refused 20 rider_is_riding|fare 125 2375|fare 125 2375"
 )
@@ -105,7 +79,7 @@ def as_line(text):
 
 LINES = TOUR + [as_line(line) for line, _ in MORE]
 ANSWERS = [as_line(it) for it in TOUR_ANSWERS.split("|")] + [as_line(answer) for _, answer in MORE]
-HEADER = b"station_id,name,lat,lon,docks\n"
+HEADER = shared.HEADER.encode()
 ROWS = [b"c1,Canal,45.0,9.1,10\n", b'c2,"Corso, north",45.000001,9.2,12\n', b"c3,Castle,45,9.3,8\n"]
 ENTRIES = b"""number,kind,rider,rental,amount,at
 1,topup,17,0,25.00,2023-11-14T22:18:20Z
@@ -114,49 +88,13 @@ ENTRIES = b"""number,kind,rider,rental,amount,at
 4,fare,17,2,1.25,2023-11-14T23:25:00Z
 5,topup,17,0,1.50,2023-11-14T23:26:40Z
 """
-START = serving.post("/riders/17/start", '{"key":"h1","station":"a1","dock":1}')
-STATUS = serving.get("/gbfs/3.0/station_status.json")
-UNAVAILABLE = (
-    b"HTTP/1.1 503 Service Unavailable\r\nContent-Type: application/json\r\nContent-Length: 39\r\nConnection: close\r\n\r\n"
-    b'{"result":"error","name":"unavailable"}'
-)
+START = post("/riders/17/start", '{"key":"h1","station":"a1","dock":1}')
 
 
 def top_ups(count):
     """So many requests more, that fill the log."""
     told = [(as_line(f"1700004600 office t{it} top-up 17 1"), as_line(f"balance {2500 + it}")) for it in range(1, count + 1)]
     return [line for line, _ in told], [answer for _, answer in told]
-
-
-# ---- Files
-
-
-def put(parts, folder, name):
-    """Puts a file that was taken, with the log beside it."""
-    for part, data in parts.items():
-        Path(folder, name + part).write_bytes(data)
-
-
-def taken(folder, name):
-    return {part: Path(folder, name + part).read_bytes() for part in PARTS if Path(folder, name + part).exists()}
-
-
-def removed(folder, name):
-    for part in [*PARTS, ".told"]:
-        Path(folder, name + part).unlink(missing_ok=True)
-
-
-def held(folder, name):
-    """All that a file holds, as SQL, and nothing where there is no table. SQLite reads a copy and finds it whole."""
-    with tempfile.TemporaryDirectory(dir=folder) as inner:
-        for part in PARTS:
-            if Path(folder, name + part).exists():
-                shutil.copy(Path(folder, name + part), inner)
-        with contextlib.closing(sqlite3.connect(Path(inner, name))) as base:
-            whole = base.execute("PRAGMA integrity_check").fetchall()
-            assert whole == [("ok",)], f"integrity_check: {whole}"
-            lines = list(base.iterdump())
-    return lines if len(lines) > 2 else []
 
 
 # ---- Runs
@@ -170,17 +108,17 @@ class Lines:
         self.wanted = b"".join(answers)
         self.is_new = not parts
 
-    def words_for(self, name):
-        return [self.file, *[name if it == "FILE" else it for it in self.words]]
+    def given(self, folder, name, lines, env=None):
+        """A run that is given lines."""
+        words = [name if it == "FILE" else it for it in self.words]
+        return Program(self.file, folder).run(*words, given=b"".join(lines), env=env, timeout=DISTURBED)
 
     def plain(self, folder, name, lines):
         """A run that nobody disturbs, which may be given a part of the lines."""
-        ran = subprocess.run(self.words_for(name), input=b"".join(lines), cwd=folder, capture_output=True, timeout=SECONDS)
-        return ran.returncode, ran.stdout, ran.stderr
+        return self.given(folder, name, lines)
 
     def disturbed(self, folder, name, env):
-        ran = subprocess.run(self.words_for(name), input=b"".join(self.lines), cwd=folder, capture_output=True, timeout=SECONDS, env=env)
-        return ran.returncode, ran.stdout, ran.stderr
+        return self.given(folder, name, self.lines, env)
 
     def answered(self, out):
         return out.count(b"\n") if self.lines else 0
@@ -199,12 +137,8 @@ class Lines:
 class Import(Lines):
     """Stations of a CSV table, a row each. What it answers tells of all rows or of none, so that any front of them may stand."""
 
-    def plain(self, folder, name, lines):
-        return super().plain(folder, name, [HEADER, *lines])
-
-    def disturbed(self, folder, name, env):
-        ran = subprocess.run(self.words_for(name), input=HEADER + b"".join(self.lines), cwd=folder, capture_output=True, timeout=SECONDS, env=env)
-        return ran.returncode, ran.stdout, ran.stderr
+    def given(self, folder, name, lines, env=None):
+        return super().given(folder, name, [HEADER, *lines], env)
 
     def answered(self, out):
         return len(self.lines) if out == self.wanted else 0
@@ -228,27 +162,7 @@ class Exchange(Lines):
         return self.disturbed(folder, name, self.env) if lines else (0, b"", b"")
 
     def disturbed(self, folder, name, env):
-        child = subprocess.Popen(
-            self.words_for(name), cwd=folder, stdin=subprocess.DEVNULL, stdout=subprocess.PIPE, stderr=subprocess.PIPE, env=env
-        )
-        ending = threading.Timer(SECONDS, child.kill)
-        ending.start()
-        try:
-            found = b""
-            port = re.fullmatch(rb"listening 127\.0\.0\.1:([0-9]+)\n", child.stdout.readline())
-            if port:
-                with contextlib.suppress(ConnectionError), socket.create_connection(("127.0.0.1", int(port[1])), timeout=SECONDS) as client:
-                    client.sendall(self.lines[0])
-                    while piece := client.recv(65536):
-                        found += piece
-            out, said = child.communicate(timeout=SECONDS)
-            assert not out, f"it said {out!r} after its first line"
-            return child.returncode, found, said
-        finally:
-            ending.cancel()
-            if child.poll() is None:
-                child.kill()
-                child.communicate()
+        return exchanged(Program(self.file, folder), self.lines[0], name, env)
 
     def answered(self, out):
         return int(bool(self.wanted) and out == self.wanted)
@@ -281,23 +195,8 @@ def room():
     return tempfile.TemporaryDirectory(prefix="bikeshare-stops-", dir=ROOM)
 
 
-@functools.cache
-def built():
-    """faults.c, built once. Not every RAM disk lets a library be loaded from it, so it stands elsewhere."""
-    folder = tempfile.TemporaryDirectory(prefix="bikeshare-faults-")
-    library = Path(folder.name, "faults.so")
-    subprocess.run(["cc", "-shared", "-fPIC", "-O2", "-o", library, HERE / "stops/faults.c", "-ldl"], check=True)
-    return folder, library
-
-
-def environment(folder, name, **faults):
-    told = {"LD_PRELOAD": built()[1], "FAULT_FILE": Path(folder, name), "TOLD_TO": Path(folder, name + ".told"), "CLOCK": CLOCK, **faults}
-    return {**os.environ, **{key: str(value) for key, value in told.items()}}
-
-
 def feed(file, folder, name):
-    ran = subprocess.run([file, "feed", name, "station_status", "--at", AT], cwd=folder, capture_output=True, timeout=SECONDS)
-    return ran.returncode, ran.stdout, ran.stderr
+    return Program(file, folder).run("feed", name, "station_status", "--at", AT, timeout=DISTURBED)
 
 
 @functools.cache
@@ -348,7 +247,7 @@ def run_named(file, name):
         return Import(file, made(file, len(LINES)), ["import", "FILE", "spring", "--at", AT], ROWS, [])
     env = environment(tempfile.gettempdir(), "none.db")
     del env["TOLD_TO"]
-    return Exchange(file, made(file, len(LINES)), START if name == "a start over HTTP" else STATUS, env)
+    return Exchange(file, made(file, len(LINES)), START if name == "a start over HTTP" else get_feed("station_status"), env)
 
 
 LONG = ["lines of a new file", "lines of a file", "lines of other commands", "lines while the log is copied"]
@@ -398,12 +297,9 @@ class Turns:
 
     def disturbed(self, file, **faults):
         """The run over a file of its own, with these faults."""
-        removed(self.folder, file)
         put(self.run.parts, self.folder, file)
         ended = self.run.disturbed(self.folder, file, environment(self.folder, file, **self.always, **faults))
-        told = Path(self.folder, file + ".told")
-        rows = dict(it.split(" ", 1) for it in told.read_text().splitlines()) if told.exists() else {"calls": -1, "memory": -1, "hit": "unknown"}
-        return Ran(*ended, int(rows["calls"]), int(rows["memory"]), rows["hit"])
+        return counted(ended, self.folder, file)
 
     def total(self, of):
         """How many calls, or requests for memory, there are where no fault comes."""
@@ -431,7 +327,7 @@ class Turns:
             assert begins and str(fault) == "file is not a database", f"SQLite: {fault}"
             found = []
         ended = Lines(self.file, {}, ["check", "FILE"], [], []).plain(self.folder, file, [])
-        assert ended == (0, b"sound\n", b""), f"check: {ended}"
+        assert ended == SOUND, f"check: {ended}"
         after = held(self.folder, file)
         assert after == found or (begins and not found), "check changed the file"
         fits = [it for it in self.run.fronts(answered, one_more) if self.fronts[it] == after]
@@ -456,7 +352,7 @@ class Turns:
             exact = ran.status == 4 or (ran.out == UNAVAILABLE and ran.status == 0)
             self.stands(file, answered, one_more=not exact)
             self.ends["no fault came" if ran.hit == "nothing" else {0: "all answered", KILLED: "killed"}.get(ran.status, ran.said.decode().strip())] += 1
-        except (AssertionError, sqlite3.Error, subprocess.TimeoutExpired, OSError) as fault:
+        except FAULTS as fault:
             hit = Path(self.folder, file + ".told")
             return f"{self.name}, {faults}, {hit.read_text().splitlines() if hit.exists() else 'nothing told'}: {fault}"
         finally:
@@ -469,14 +365,7 @@ class Turns:
         return self.at_once([(it, faults(it)) for it in turns]), len(turns)
 
     def at_once(self, turns):
-        with concurrent.futures.ThreadPoolExecutor(JOBS) as pool:
-            return [it for it in pool.map(lambda turn: self.turn(*turn), turns) if it]
-
-
-def tell(kind, name, ends, tried):
-    if "BIKESHARE_STOPS_TOLD" in os.environ:
-        with open(os.environ["BIKESHARE_STOPS_TOLD"], "a", encoding="ascii") as told:
-            told.write(f"{kind}; {name}: {tried} tried: " + ", ".join(f"{count} {end}" for end, count in sorted(ends.items())) + "\n")
+        return [it for it in at_once(lambda turn: self.turn(*turn), turns) if it]
 
 
 def each_turn(program, kind, judge, of, kinds, strides, **always):
@@ -488,7 +377,7 @@ def each_turn(program, kind, judge, of, kinds, strides, **always):
             found, tried = turns.tried(of, faults, STRIDE or strides.get(name, strides[""]), first)
             tell(f"{kind}, {how}", name, turns.ends, tried)
             wrong += found
-    assert not wrong, "\n".join([*wrong[:SHOWN], f"{len(wrong)} in all"])
+    nothing_is(wrong)
 
 
 # ---- How a run may end
@@ -510,9 +399,8 @@ def goes_on(ran, wanted):
 
 
 def wants_memory(ran, wanted):
-    wants = {3: b"store failed\n", 4: b"out of memory\n"}
     whole = (ran.status, ran.said) == (0, b"") and (ran.out in (wanted, UNAVAILABLE) or is_cut(ran.out, wanted))
-    assert whole or ran.said == wants.get(ran.status), f"{ran}"
+    assert whole or ran.said == WANTS.get(ran.status), f"{ran}"
 
 
 def loses_an_end(ran, wanted):
@@ -588,7 +476,7 @@ def test_a_second_stop_while_what_is_left_is_opened(program):
             wrong += [f"after {faults} ({ran.hit}): {it}" for it in second.at_once(list(zip(turns, kinds)))]
             tried, ends = tried + len(turns), ends + second.ends
     tell("second stop", "check of what is left", ends, tried)
-    assert not wrong, "\n".join([*wrong[:SHOWN], f"{len(wrong)} in all"])
+    nothing_is(wrong)
 
 
 def test_changes_that_fail(program):
@@ -621,7 +509,7 @@ def test_refused_memory(program):
             asked = [*range(1 + first, opened, STRIDE or 9001), *range(opened + first, total + 1, STRIDE or max(1, (total - opened) // 5)), total + 1]
             wrong += turns.at_once([(it, faults(it)) for it in asked])
             tell(f"memory, {how}", name, turns.ends, len(asked))
-    assert not wrong, "\n".join([*wrong[:SHOWN], f"{len(wrong)} in all"])
+    nothing_is(wrong)
 
 
 def test_ends_that_fail(program):

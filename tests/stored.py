@@ -1,9 +1,7 @@
 """The numbers that the tables store beside the rows that they follow from: a rider's balance, cash and revenue, a station's free and broken docks,
 the bicycles that are counted at it; the entries of each kind; the texts that are kept of commands and callers, and the values of their fields."""
 
-import contextlib
-import sqlite3
-from pathlib import Path
+from shared import copied, rows_of
 
 # One station of two docks, of which the second is broken, and bicycle 7 in the first; rider 17 has paid 25.00.
 CITY = [
@@ -119,7 +117,7 @@ def test_numbers(program):
         name, lines = f"city{at}.db", CITY + served
         asked, answers = (text(part) for part in zip(*lines))
         assert program.run("lines", name, given=asked) == (0, answers, b"")
-        with contextlib.closing(sqlite3.connect(Path(program.folder, name))) as base:
+        with copied(program.folder, name) as base:
             found = {query: base.execute(query).fetchone() for query in wanted}
         assert found == wanted, (served, found)
 
@@ -128,7 +126,7 @@ def test_kept_commands_and_their_values(program):
     rows = [(f"1700000000|office|w{at}|{spelled}", "ok") for at, (spelled, _) in enumerate(OWN)]
     asked, answers = (text(part) for part in zip(*rows))
     assert program.run("lines", "kept.db", given=asked) == (0, answers, b"")
-    with contextlib.closing(sqlite3.connect(Path(program.folder, "kept.db"))) as base:
+    with copied(program.folder, "kept.db") as base:
         found = dict(base.execute("SELECT req_key, command FROM kept"))
         values = {query: base.execute(query).fetchall() for query in VALUES}
     assert found == {f"w{at}": own.replace("|", "\t") for at, (_, own) in enumerate(OWN)}, found
@@ -138,14 +136,12 @@ def test_kept_commands_and_their_values(program):
 def test_entries(program):
     asked, answers = (text(part) for part in zip(*CITY, *REFUND))
     assert program.run("lines", "city.db", given=asked) == (0, answers, b"")
-    with contextlib.closing(sqlite3.connect(Path(program.folder, "city.db"))) as base:
-        found = base.execute("SELECT entry, kind, rider, rental, amount, at FROM entries ORDER BY entry").fetchall()
+    found = rows_of("SELECT entry, kind, rider, rental, amount, at FROM entries ORDER BY entry", program.folder, "city.db")
     assert found == ENTRIES, found
 
 
 def test_kept_callers(program):
     asked = text(f"0|{caller}|k|add-rider|{rider}" for rider, caller in enumerate(CALLERS, 1))
     assert program.run("lines", "city.db", given=asked) == (0, b"ok\n" * len(CALLERS), b"")
-    with contextlib.closing(sqlite3.connect(Path(program.folder, "city.db"))) as base:
-        found = base.execute("SELECT caller, command FROM kept").fetchall()
+    found = rows_of("SELECT caller, command FROM kept", program.folder, "city.db")
     assert sorted(found) == sorted((caller, f"add-rider\t{rider}") for rider, caller in enumerate(CALLERS, 1)), found

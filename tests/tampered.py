@@ -12,7 +12,7 @@ BIKESHARE_TAMPERED is how many changes each test draws, BIKESHARE_SEED what they
 """
 
 import contextlib
-import importlib.util
+import functools
 import itertools
 import os
 import random
@@ -20,19 +20,12 @@ import sqlite3
 import subprocess
 from pathlib import Path
 
-HERE = Path(__file__).resolve().parent
+import formats
+from shared import FOREIGN, SOUND, STORE_FAILED, changed, is_whole, removed
+
 TRIED = os.environ.get("BIKESHARE_TAMPERED", "15")
 SEED = int(os.environ.get("BIKESHARE_SEED", "1"))
 
-
-def by_path(name):
-    spec = importlib.util.spec_from_file_location(f"tests_{name}", HERE / f"{name}.py")
-    module = importlib.util.module_from_spec(spec)
-    spec.loader.exec_module(module)
-    return module
-
-
-formats = by_path("formats")
 
 # ---- the city
 
@@ -79,7 +72,7 @@ def asked():
 def made(program):
     """Makes the city and returns the bytes of its file, in which all of its log is, and of the file and the log as the program left them when
     it was killed: where it ends by itself it copies the log into the file."""
-    with subprocess.Popen([program.file, "lines", "city.db"], cwd=program.folder, stdin=subprocess.PIPE, stdout=subprocess.PIPE) as running:
+    with program.started("lines", "city.db", stdin=subprocess.PIPE) as running:
         running.stdin.write(asked())
         running.stdin.flush()
         told = [running.stdout.readline() for _ in ASKED]
@@ -87,11 +80,9 @@ def made(program):
     assert all(told) and not any(it.startswith(b"refused") for it in told), told
     file, log = Path(program.folder, "city.db"), Path(program.folder, "city.db-wal")
     left = file.read_bytes(), log.read_bytes()
-    with contextlib.closing(sqlite3.connect(file)) as base:
-        base.execute("PRAGMA wal_checkpoint(TRUNCATE)").fetchall()
+    changed(file)
     whole = file.read_bytes()
-    file.unlink()
-    log.unlink(missing_ok=True)
+    removed(file)
     return whole, left
 
 
@@ -378,13 +369,13 @@ def rank(value):
     return (0, 0) if value is None else (1, value) if isinstance(value, (int, float)) else (2, value)
 
 
-def read(file):
-    """All rows of the product's tables by column, texts as bytes; a blob is told from a text by its class."""
+def read(file, names=None):
+    """All rows of the product's tables by column, texts as bytes; a blob is told from a text by its class. A table may have another name in the file."""
     with contextlib.closing(sqlite3.connect(f"file:{file}?immutable=1", uri=True)) as base:
         base.text_factory = bytes
         told = {}
-        for name in TABLES:
-            rows = base.execute(f"SELECT * FROM {name}")
+        for name, named in (names or dict(zip(TABLES, TABLES))).items():
+            rows = base.execute(f"SELECT * FROM {named}")
             columns = [it[0] for it in rows.description]
             told[name] = [dict(zip(columns, row)) for row in rows]
         return told
@@ -405,16 +396,11 @@ def verdict(tables):
         return 5, b"", b"%s %d\n" % (b"newer" if row["version"] > NEWEST else b"older", row["version"])
     bad = Audit(tables).first_bad()
     if bad is None:
-        return 0, b"sound\n", b""
+        return SOUND
     return 5, b"", b"unsound %s %s\n" % (bad[0].encode(), b"/".join(shown(it) for it in bad[1]))
 
 
 # ---- changes
-
-SOUND = (0, b"sound\n", b"")
-FAILED = (3, b"", b"store failed\n")
-FOREIGN = (5, b"", b"foreign\n")
-
 
 def drawn(changes, salt):
     """A sample of the changes, in their order."""
@@ -463,34 +449,34 @@ def holds(program, city, changes, wanted, salt):
                 wrong.append(f"{name}: {found}, not {right[0]}")
         except (AssertionError, sqlite3.Error) as fault:
             wrong.append(f"{name}: {fault}")
-        for part in file.parent.glob(f"{file.name}*"):
-            part.unlink()
+        removed(file)
     assert not wrong, f"seed {SEED}\n" + "\n".join(wrong)
 
 
 def by_sql(sql, values=(), loose=False):
     """A change by SQL. A loose one passes by what the tables demand of their columns: they lose STRICT and NOT NULL for it."""
+    return functools.partial(done_by_sql, sql, values, loose)
 
-    def change(file):
-        with contextlib.closing(sqlite3.connect(file, isolation_level=None)) as base:
-            base.execute("PRAGMA synchronous = OFF")
-            base.execute("PRAGMA journal_mode = DELETE").fetchall()
-            if loose:
-                texts = base.execute("SELECT name, sql FROM sqlite_schema WHERE type = 'table'").fetchall()
-                base.execute("PRAGMA writable_schema = ON")
-                base.execute("UPDATE sqlite_schema SET sql = replace(replace(sql, ' STRICT', ''), ' NOT NULL', '') WHERE type = 'table'")
-                base.execute("PRAGMA writable_schema = RESET")
-        with contextlib.closing(sqlite3.connect(file, isolation_level=None)) as base:
-            base.execute("PRAGMA synchronous = OFF")
-            base.execute(sql, values)
-            if loose:
-                base.execute("PRAGMA writable_schema = ON")
-                for name, text in texts:
-                    base.execute("UPDATE sqlite_schema SET sql = ? WHERE name = ?", (text, name))
-                base.execute("PRAGMA writable_schema = RESET")
-            base.execute("PRAGMA journal_mode = WAL").fetchall()
 
-    return change
+def done_by_sql(sql, values, loose, file):
+    """Changes a file so."""
+    with contextlib.closing(sqlite3.connect(file, isolation_level=None)) as base:
+        base.execute("PRAGMA synchronous = OFF")
+        base.execute("PRAGMA journal_mode = DELETE").fetchall()
+        if loose:
+            texts = base.execute("SELECT name, sql FROM sqlite_schema WHERE type = 'table'").fetchall()
+            base.execute("PRAGMA writable_schema = ON")
+            base.execute("UPDATE sqlite_schema SET sql = replace(replace(sql, ' STRICT', ''), ' NOT NULL', '') WHERE type = 'table'")
+            base.execute("PRAGMA writable_schema = RESET")
+    with contextlib.closing(sqlite3.connect(file, isolation_level=None)) as base:
+        base.execute("PRAGMA synchronous = OFF")
+        base.execute(sql, values)
+        if loose:
+            base.execute("PRAGMA writable_schema = ON")
+            for name, text in texts:
+                base.execute("UPDATE sqlite_schema SET sql = ? WHERE name = ?", (text, name))
+            base.execute("PRAGMA writable_schema = RESET")
+        base.execute("PRAGMA journal_mode = WAL").fetchall()
 
 
 NUMBERS = [-1, 0, 1, 2, 3, 4, 5, 7, 61, 201, 256, 500, 501, 60_000, 1_000_000, 1_000_001, 100_000_001, 2**31, 2**32 + 1, 2**53 + 1, 2**63 - 1, -(2**63)]
@@ -576,7 +562,7 @@ def of_rows(file, told):
 
 def of_rows_or_no_store(file, told):
     """Where the store itself finds the row against its table it need not be read."""
-    return [FAILED]
+    return [STORE_FAILED]
 
 
 def tables_of(city, program):
@@ -691,7 +677,7 @@ def test_tables_and_columns(program):
     # The names of tables that other versions have are free here.
     sound += [f"CREATE TABLE {it} (note TEXT)" for it in ("stations", "stations_2")]
     sound += ["CREATE TABLE helmets (helmet INTEGER PRIMARY KEY, size TEXT UNIQUE)", "PRAGMA user_version = 7", "PRAGMA application_id = 77", "VACUUM"]
-    holds(program, city, [(it, by_sql(it)) for it in foreign], lambda file, told: [FOREIGN, FAILED], "foreign")
+    holds(program, city, [(it, by_sql(it)) for it in foreign], lambda file, told: [FOREIGN, STORE_FAILED], "foreign")
     holds(program, city, [(it, by_sql(it)) for it in sound], lambda file, told: [SOUND], "sound")
 
 
@@ -716,12 +702,11 @@ def readable(file):
     try:
         with contextlib.closing(sqlite3.connect(f"file:{file}?immutable=1", uri=True)) as base:
             base.text_factory = bytes
-            if base.execute("PRAGMA integrity_check").fetchall() != [(b"ok",)]:
-                return None
+            is_whole(base)
         tables = read(file)
         # A byte of a table's text may have changed the name of a column.
         return tables if all(list(it) == list(BOUNDS[name]) for name, rows in tables.items() for it in rows[:1]) else None
-    except (sqlite3.Error, UnicodeDecodeError):
+    except (AssertionError, sqlite3.Error, UnicodeDecodeError):
         return None
 
 
@@ -729,8 +714,8 @@ def as_sqlite_reads(file, told):
     """A fault of the store may always be named. What SQLite reads as whole may be judged by its rows, and nothing else may be called sound."""
     tables = readable(file)
     if tables is None:
-        return [FAILED, FOREIGN]
-    return [FAILED, FOREIGN, verdict(tables)]
+        return [STORE_FAILED, FOREIGN]
+    return [STORE_FAILED, FOREIGN, verdict(tables)]
 
 
 def test_bytes_of_the_header(program):
@@ -757,14 +742,14 @@ def test_pages_that_are_cut(program):
     sizes = sorted({*range(0, len(city), 4096), *range(1, 200, 11), 100, 4095, 4097, len(city) - 1, len(city) - 4095, len(city) + 0} - {len(city)})
 
     # A file of one byte or none is taken for one whose making was stopped: the tables are made, as where there is no file.
-    holds(program, city, [(f"cut to {it}", cut(it)) for it in sizes if it > 1], lambda file, told: [FAILED], "cut")
+    holds(program, city, [(f"cut to {it}", cut(it)) for it in sizes if it > 1], lambda file, told: [STORE_FAILED], "cut")
     for size in 0, 1:
         file = Path(program.folder, f"begun{size}.db")
         file.write_bytes(city[:size])
         assert program.run("check", file.name) == SOUND and program.run("check", file.name) == SOUND, size
     more = [(f"{count} bytes of {value} behind", with_bytes(lambda data, count=count, value=value: data + bytes([value]) * count))
             for count in (1, 100, 4096, 8192) for value in (0, 255)]
-    holds(program, city, more, lambda file, told: [SOUND, FAILED], "more")
+    holds(program, city, more, lambda file, told: [SOUND, STORE_FAILED], "more")
 
 
 def test_pages_in_other_places(program):
@@ -810,7 +795,7 @@ def test_logs_that_are_changed(program):
         beside = file.with_name(file.name + "-wal")
         beside.write_bytes(bytes_of_log)
         ended = program.run("check", file.name)
-        if ended not in (SOUND, FAILED) or file.read_bytes() != main:
+        if ended not in (SOUND, STORE_FAILED) or file.read_bytes() != main:
             wrong.append(f"{name}: {ended}, {'the file stands' if file.read_bytes() == main else 'the file was changed'}")
         again = program.run("check", file.name)
         if again != ended:
@@ -821,8 +806,7 @@ def test_logs_that_are_changed(program):
                 kept = base.execute("SELECT count(*) FROM kept").fetchone()[0] if there else 0
             if verdict(read(file)) != SOUND:
                 wrong.append(f"{name}: {verdict(read(file))}, and check says sound, of {kept} requests")
-        for part in file.parent.glob(f"{file.name}*"):
-            part.unlink()
+        removed(file)
     assert not wrong, f"seed {SEED}\n" + "\n".join(wrong)
 
 
@@ -834,7 +818,7 @@ def test_files_of_no_city(program):
                                    b"SQLite format 3\0" + bytes(4080), b"SQLite format 3\0" + pick.randbytes(4080), b"text\n" * 1000]):
         file = folder / f"no{number}.db"
         file.write_bytes(data)
-        assert says(program, file) == FAILED, (data[:20], says(program, file))
+        assert says(program, file) == STORE_FAILED, (data[:20], says(program, file))
     for number, name in enumerate(["meta", "regions", "more_names", "stations", "stations_2", "stations_3", "counts"]):
         sql = f"CREATE TABLE {name} (a)"
         file = folder / f"other{number}.db"

@@ -1,21 +1,11 @@
 """The traffic of a made city (bench/city.py, from a seed), answered as the operator of the document answers it."""
 
-import importlib.util
 import itertools
-import sqlite3
-from pathlib import Path
 
-HERE = Path(__file__).resolve().parent
+import model
+from shared import TOP, copied, is_sound, loaded
 
-
-def by_path(name, file):
-    spec = importlib.util.spec_from_file_location(name, file)
-    module = importlib.util.module_from_spec(spec)
-    spec.loader.exec_module(module)
-    return module
-
-
-city, model = by_path("bench_city", HERE.parent / "bench/city.py"), by_path("tests_model", HERE / "model.py")
+city = loaded(TOP / "bench/city.py")
 SIZES = {"stations": 9, "docks": 8, "types": 3, "bicycles": 40, "riders": 60, "trucks": 3, "daily": 600}
 
 
@@ -52,14 +42,13 @@ def test_the_same_in_a_file_in_parts(program):
     for at in range(0, len(lines), 300):
         status, told, said = program.run("lines", "city.db", given="".join(lines[at : at + 300]).encode())
         assert (status, told, said) == (0, joined(answers[at : at + 300]), b""), f"lines {at} to {at + 300}: {said!r}"
-    assert program.run("check", "city.db") == (0, b"sound\n", b"")
-    base = sqlite3.connect(Path(program.folder, "city.db"))
-    found = base.execute("SELECT station_id, docks, free, broken FROM stations_3").fetchall()
-    for station, docks, free, broken in found:
-        marked = {dock for (dock,) in base.execute("SELECT dock FROM docks WHERE station_id = ? AND broken = 1", (station,))}
-        held = {dock for (dock,) in base.execute("SELECT dock FROM bikes WHERE station_id = ?", (station,))}
-        assert (free, broken) == (docks - len(marked | held), len(marked)), station
-    base.close()
+    is_sound(program)
+    with copied(program.folder, "city.db") as base:
+        found = base.execute("SELECT station_id, docks, free, broken FROM stations_3").fetchall()
+        for station, docks, free, broken in found:
+            marked = {dock for (dock,) in base.execute("SELECT dock FROM docks WHERE station_id = ? AND broken = 1", (station,))}
+            held = {dock for (dock,) in base.execute("SELECT dock FROM bikes WHERE station_id = ?", (station,))}
+            assert (free, broken) == (docks - len(marked | held), len(marked)), station
     assert len(found) == SIZES["stations"]
 
 

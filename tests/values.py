@@ -5,23 +5,12 @@ Each wanted answer is worked out by hand from docs/OPERATOR.md and docs/FORMATS.
 """
 
 import contextlib
-import importlib.util
-import json
 import sqlite3
 from pathlib import Path
 
-HERE = Path(__file__).resolve().parent
-
-
-def by_path(name):
-    """Returns the module of another file of tests."""
-    spec = importlib.util.spec_from_file_location(f"tests_{name}", HERE / f"{name}.py")
-    module = importlib.util.module_from_spec(spec)
-    spec.loader.exec_module(module)
-    return module
-
-
-serving, stored = by_path("serving"), by_path("stored")
+import shared
+import stored
+from shared import Server, answer, city, error, get, holds, is_sound, office
 
 # ---- Fields
 
@@ -180,12 +169,12 @@ def test_characters(program):
 
 def test_line_ends_within_fields(program):
     """A line feed ends a request line. In a text over HTTP, as in a line, neither it nor a carriage return stands for itself."""
-    serving.city(program)
+    city(program)
     good, texts = "add-plan\tp\t{}\t0\ttrue\tD\t-", ("a\nb", "a\rb", "\n", "a\r\n", "a\0b")
-    serving.holds(program, [
-        *((serving.office("k", good.format(text)), serving.BAD_FIELD) for text in texts),
-        *((serving.office("k", f"{good.format('N')}{end}"), serving.BAD_FIELD) for end in ("\n", "\r", "\t", ";", " ")),
-        (serving.office("k", good.format("a\\nb\\r")), serving.DONE),
+    holds(program, [
+        *((office("k", good.format(text)), shared.BAD_FIELD) for text in texts),
+        *((office("k", f"{good.format('N')}{end}"), shared.BAD_FIELD) for end in ("\n", "\r", "\t", ";", " ")),
+        (office("k", good.format("a\\nb\\r")), shared.DONE),
     ])
 
 
@@ -241,10 +230,10 @@ def test_replies_are_read_back(program):
     texts, bodies = zip(*REPLIES)
     file, lines = asked(program, len(texts))
     replied(file, texts)
-    assert program.run("check", "city.db") == (0, b"sound\n", b"")
+    is_sound(program)
     wanted = "".join(f"{text}\n" for text in texts).replace("|", "\t").encode()
     assert program.run("lines", "city.db", given=lines) == (0, wanted, b"")
-    serving.holds(program, [(serving.office(f"r{at}", f"add-rider\t{at + 1}"), serving.answer(200, body)) for at, body in enumerate(bodies)])
+    holds(program, [(office(f"r{at}", f"add-rider\t{at + 1}"), answer(200, body)) for at, body in enumerate(bodies)])
 
 
 def test_other_texts_are_no_replies(program):
@@ -296,12 +285,7 @@ NUMBERS = ["num_vehicles_available", "num_vehicles_disabled", "num_docks_availab
 
 def shown(body):
     """The answer that shows a row, or says that there is none."""
-    return serving.answer(200, body) if body else serving.error(404)
-
-
-def feed(server, name):
-    """The data of a feed."""
-    return json.loads(serving.body_of(server.ask(serving.get(f"/gbfs/3.0/{name}.json"))))["data"]
+    return answer(200, body) if body else error(404)
 
 
 def test_what_is_told_of_a_city(program):
@@ -315,11 +299,12 @@ def test_what_is_told_of_a_city(program):
             "/riders/17": f'{{"rider":17,"state":"open","balance_cents":{balance},"rental":{rental}}}',
             "/rentals/1": rented, "/orders/1": CARRIED_OUT, "/orders/2": carried, "/bikes/8": None, "/riders/18": None, "/rentals/2": None, "/orders/3": None,
         }
-        with serving.Server(program, len(rows) + 2, name) as server:
+        with Server(program, len(rows) + 2, name) as server:
             for target, body in rows.items():
-                found = server.ask(serving.get(target))
+                found = server.ask(get(target))
                 assert found == shown(body), (served, target, found)
-            (station,) = feed(server, "station_status")["stations"]
+            (station,) = server.told("/gbfs/3.0/station_status.json")["data"]["stations"]
             assert station["vehicle_types_available"] == [{"vehicle_type_id": "city", "count": counts[0]}], (served, station)
             assert tuple(station[number] for number in NUMBERS) == counts, (served, station)
-            assert [plan["currency"] for plan in feed(server, "system_pricing_plans")["plans"]] == ["EUR"], served
+            plans = server.told("/gbfs/3.0/system_pricing_plans.json")["data"]["plans"]
+            assert [plan["currency"] for plan in plans] == ["EUR"], served

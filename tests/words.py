@@ -1,7 +1,10 @@
 """The words of the program: what it does with a file, and what it says where the words are none of its own."""
 
+import contextlib
 import os
 import sqlite3
+
+from shared import READY, SOUND, STORE_FAILED, is_whole
 
 ADD = b"1700000000\toffice\tk0\tadd-rider\t17\n"
 ADD_AGAIN = b"1700000000\toffice\tk1\tadd-rider\t17\n"
@@ -24,8 +27,8 @@ def test_no_words_are_lines_in_memory(program):
 
 
 def test_init(program):
-    assert program.run("init", "city.db") == (0, b"ready\n", b"")
-    assert program.run("init", "city.db") == (0, b"ready\n", b"")
+    assert program.run("init", "city.db") == READY
+    assert program.run("init", "city.db") == READY
     with open(os.path.join(program.folder, "city.db"), "rb") as file:
         assert file.read(16) == b"SQLite format 3\0"
 
@@ -39,53 +42,51 @@ def page_length(path):
 def test_a_file_keeps_its_pages(program):
     for length in 512, 1024, 2048, 4096, 8192, 32768:
         path = os.path.join(program.folder, f"{length}.db")
-        base = sqlite3.connect(path)
-        base.execute(f"PRAGMA page_size = {length}")
-        base.execute("VACUUM")
-        base.close()
-        assert program.run("init", path) == (0, b"ready\n", b""), length
+        with contextlib.closing(sqlite3.connect(path)) as base:
+            base.execute(f"PRAGMA page_size = {length}")
+            base.execute("VACUUM")
+        assert program.run("init", path) == READY, length
         assert program.run("lines", path, given=ADD) == (0, b"ok\n", b""), length
         assert program.run("lines", path, given=ADD_AGAIN) == (0, b"refused\t10\talready_there\n", b""), length
         assert page_length(path) == length, (length, page_length(path))
-        base = sqlite3.connect(path)
-        assert base.execute("PRAGMA integrity_check").fetchall() == [("ok",)], length
-        base.close()
+        with contextlib.closing(sqlite3.connect(path)) as base:
+            is_whole(base)
 
 
 def test_an_empty_file_becomes_a_database(program):
     path = os.path.join(program.folder, "city.db")
     with open(path, "wb"):
         pass
-    assert program.run("init", path) == (0, b"ready\n", b"")
-    assert program.run("check", path) == (0, b"sound\n", b"")
+    assert program.run("init", path) == READY
+    assert program.run("check", path) == SOUND
 
 
 def test_what_names_no_file_makes_none(program):
     for name in "file:city.db", os.path.join("missing", "city.db"):
-        assert program.run("init", name) == (3, b"", b"store failed\n"), name
+        assert program.run("init", name) == STORE_FAILED, name
     assert not os.listdir(program.folder), os.listdir(program.folder)
 
 
 def test_init_reads_no_lines(program):
-    assert program.run("init", "city.db", given=ADD) == (0, b"ready\n", b"")
+    assert program.run("init", "city.db", given=ADD) == READY
     assert program.run("lines", "city.db", given=ADD_AGAIN) == (0, b"ok\n", b"")
 
 
 def test_init_keeps_what_is_there(program):
     assert program.run("lines", "city.db", given=ADD) == (0, b"ok\n", b"")
-    assert program.run("init", "city.db") == (0, b"ready\n", b"")
+    assert program.run("init", "city.db") == READY
     assert program.run("lines", "city.db", given=ADD_AGAIN) == (0, b"refused\t10\talready_there\n", b"")
 
 
 def test_check(program):
-    assert program.run("init", "city.db") == (0, b"ready\n", b"")
-    assert program.run("check", "city.db") == (0, b"sound\n", b"")
+    assert program.run("init", "city.db") == READY
+    assert program.run("check", "city.db") == SOUND
     assert program.run("lines", "city.db", given=ADD) == (0, b"ok\n", b"")
-    assert program.run("check", "city.db", given=ADD_AGAIN) == (0, b"sound\n", b"")
+    assert program.run("check", "city.db", given=ADD_AGAIN) == SOUND
 
 
 def test_check_in_memory(program):
-    assert program.run("check", ":memory:") == (0, b"sound\n", b"")
+    assert program.run("check", ":memory:") == SOUND
     assert not os.listdir(program.folder), os.listdir(program.folder)
 
 
@@ -97,7 +98,7 @@ def test_lines_of_a_file_are_kept(program):
 
 def test_a_file_that_begins_with_a_hyphen(program):
     refuses(program, "init", "-city.db")
-    assert program.run("init", "--", "-city.db") == (0, b"ready\n", b"")
+    assert program.run("init", "--", "-city.db") == READY
     assert "-city.db" in os.listdir(program.folder), os.listdir(program.folder)
 
 
