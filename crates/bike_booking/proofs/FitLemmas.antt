@@ -44,7 +44,7 @@ use Rattle.bike_facts.specs.Reading.{IsReading}
 use Rattle.bike_facts.specs.Named.{IsRiderNamed, IsOrderNamed}
 use Rattle.bike_facts.specs.Shares.{MayMoveNumber}
 use Rattle.bike_facts.proofs.ShownLemmas.{docked_row, found_in}
-use Rattle.bike_facts.proofs.ShownFacts.{start_shown, end_shown, recover_shown, mark_shown, retire_shown, load_shown, unload_shown, touched_station}
+use Rattle.bike_facts.proofs.ShownFacts.{depot_away, truck_away, start_shown, end_shown, recover_shown, mark_shown, retire_shown, load_shown, unload_shown, touched_station}
 use Rattle.bike_core.specs.Made.{IsAlone, IsReportAt, mark_made, IsPutAtEnd, delivery_made, AreMade}
 use Rattle.bike_booking.specs.declared.stage.Stage.{Stage}
 use Rattle.bike_booking.specs.declared.stage.Stage.TheVariants.{First, Rented, Stored, Moved, Last}
@@ -176,18 +176,6 @@ module _ {s : Operator} {m : Listed} {now : ℕ} {r : Reading} {kept : map.FinMa
 station_there : (o : Option Station) → is_some (station_view o) ≡ true → (x : Station) × (o ≡ Some x)
 station_there None e = absurd cc
 station_there (Some x) e = (x, refl)
-
-depot_away : (p : Place) → is_depot p ≡ true → IsAway p
-depot_away (place.Dock station dock) h = absurd cc
-depot_away (place.Rental rental) h = tt
-depot_away (place.Truck truck order) h = tt
-depot_away place.Depot h = tt
-
-truck_away : (truck : ℕ) (p : Place) → is_on_truck truck p ≡ true → IsAway p
-truck_away truck (place.Dock station dock) h = absurd cc
-truck_away truck (place.Rental rental) h = tt
-truck_away truck (place.Truck on order) h = tt
-truck_away truck place.Depot h = tt
 
 -- a station that is there has few docks
 docks_few : (s : Operator) (station : List ℕ) (x : Station) → IsSound s → map.get s.stations station ≡ Some x → x.row.docks ≤ 500

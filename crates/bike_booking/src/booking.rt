@@ -31,7 +31,7 @@ use bike_operator::{Change, NewPlace, View};
 use std::alloc::Global;
 
 /// A request makes at most this many row changes: with room for them, no memory is asked for.
-pub const MOST_ROWS: usize = 16;
+pub const MOST_ROW_CHANGES: usize = 16;
 
 /// The stage after a bicycle is put in a place.
 fn stage_after(bike: u32, place: &NewPlace) -> Stage
@@ -247,7 +247,7 @@ fn book_changes<'a>(
 }
 
 /// The row changes by which an acceptance with this entry and these changes is stored, or false where there is no memory, and
-/// where what was read can't be a sound operator's. With room for `MOST_ROWS` it isn't false for what `decide` makes of the
+/// where what was read can't be a sound operator's. With room for `MOST_ROW_CHANGES` it isn't false for what `decide` makes of the
 /// view of one.
 pub fn book_request<'a>(
     rows: &mut Vec<RowChange<'a>, Global>,
@@ -264,7 +264,7 @@ pub fn book_request<'a>(
     ensures books { (s : Operator) (m : Listed) (q : Request) (reply : Reply) → rows.old.items ≡ [] → command.now ≡ q.command
         → IsAccepted s m now q view.now touched.now numbers.now (record { reply = reply; entry = entry.now; changes = changes.now })
         → AreSums s sums.now → AreTexts s now q texts.now → result ≡ true → Books rows.new.items s m now q }
-    ensures total { (s : Operator) (m : Listed) (q : Request) (reply : Reply) → rows.old.items ≡ [] → MOST_ROWS ≤ vec_capacity rows.old
+    ensures total { (s : Operator) (m : Listed) (q : Request) (reply : Reply) → rows.old.items ≡ [] → MOST_ROW_CHANGES ≤ vec_capacity rows.old
         → command.now ≡ q.command → IsBookable s m now q view.now touched.now numbers.now
         (record { reply = reply; entry = entry.now; changes = changes.now }) sums.now → result ≡ true }
 {

@@ -13,7 +13,7 @@ mod stored;
 mod texts;
 
 pub use bike_facts::{StoredNumbers, Touched, find_touched};
-pub use booking::{MOST_ROWS, book_request};
+pub use booking::{MOST_ROW_CHANGES, book_request};
 pub use stage::Stage;
 pub use stored::Sums;
 pub use texts::KeptTexts;

@@ -58,13 +58,13 @@ docked_place_read (Some t) type_id (place.Rental rental) h = tt
 docked_place_read (Some t) type_id (place.Truck truck order) h = tt
 docked_place_read (Some t) type_id place.Depot h = tt
 
-depot_away : (p : Place) → is_depot p ≡ true → IsAway p
+pub depot_away : (p : Place) → is_depot p ≡ true → IsAway p
 depot_away (place.Dock station dock) h = absurd cc
 depot_away (place.Rental rental) h = tt
 depot_away (place.Truck truck order) h = tt
 depot_away place.Depot h = tt
 
-truck_away : (truck : ℕ) (p : Place) → is_on_truck truck p ≡ true → IsAway p
+pub truck_away : (truck : ℕ) (p : Place) → is_on_truck truck p ≡ true → IsAway p
 truck_away truck (place.Dock station dock) h = absurd cc
 truck_away truck (place.Rental rental) h = tt
 truck_away truck (place.Truck on order) h = tt

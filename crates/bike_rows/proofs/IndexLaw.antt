@@ -62,7 +62,7 @@ is_free s def if_missing = creates if_missing def.name (index_named s def.name) 
 abbrev once_free : IndexText → ℕ → Table → Bool → Checked Command
 once_free def at table is_new = if is_new then and_then (define.index table def) (λ _. Ok (CreateIndex at)) else Ok Nothing
 
-abbrev IsIndexing : Command → Type 0
+abbrev pub IsIndexing : Command → Type 0
 IsIndexing k = (at : ℕ) × (k ≡ CreateIndex at)
 
 makes_index : (s : Schema) (def : IndexText) → def.if_missing ≡ false → (k : Command) → create_index s def ≡ Ok k → IsIndexing k
@@ -89,10 +89,11 @@ abbrev pub IsOnlyIndex : Checked Parsed → Type 0
 IsOnlyIndex (Ok p) = IsBare p.statement × (p.formats ≡ [])
 IsOnlyIndex (Err e) = ⊥
 
-record Makes (c : Compiled) : Type 0 where
-  makes : IsIndexing c.command
-  shows : c.returning ≡ None
-  timeless : c.formats ≡ []
+-- it makes an index, and has neither RETURNING nor a clock
+pub record Makes (c : Compiled) : Type 0 where
+  pub makes : IsIndexing c.command
+  pub shows : c.returning ≡ None
+  pub timeless : c.formats ≡ []
 
 module _ (text : List ℕ) (p : Parsed) (parsed : first text ≡ Ok p) (def : IndexText) (statement : p.statement ≡ written.CreateIndex def) (once : def.if_missing ≡ false) (timeless : p.formats ≡ []) where
   compiled_makes : (s : Schema) (c : Compiled) → compiled s text ≡ Ok c → Makes c
@@ -125,7 +126,7 @@ module _ (text : List ℕ) (p : Parsed) (parsed : first text ≡ Ok p) (def : In
       by true h = listed (compiled listing_schema text) refl h
       by false h = compiled_makes s c h
 
-understood_as : (text : List ℕ) → IsOnlyIndex (first text) → (s : Schema) (c : Compiled) → understood s text ≡ Ok c → Makes c
+pub understood_as : (text : List ℕ) → IsOnlyIndex (first text) → (s : Schema) (c : Compiled) → understood s text ≡ Ok c → Makes c
 understood_as text only = parse (first text) refl only
   where
     parse : (o : Checked Parsed) → first text ≡ o → IsOnlyIndex o → (s : Schema) (c : Compiled) → understood s text ≡ Ok c → Makes c

@@ -7,7 +7,7 @@ pub mod ReadLemmas
 mod RunLemmas
 pub mod MakeTexts
 pub mod MakeFacts
-mod MakeLemmas
-mod GrowthLemmas
+pub mod MakeLemmas
+pub mod GrowthLemmas
 mod FreshLemmas
 mod ColumnLemmas
