@@ -1,6 +1,6 @@
--- Tables that are judged before: all their rows are good, so partners are read as the operator has them.
+-- Tables that are judged before: all their rows are good, so what they have under a key is what the operator has.
 use Rattle.std.proofs.Common.{◌≡◌, ℕ, ℤ, ◌<◌, List, take, Option, Some, None, refl, sym, ap, subst, ◌∙◌}
-use Rattle.std.specs.Prelude.{option_map, is_some}
+use Rattle.std.specs.Prelude.{option_map, option_and_then, is_some}
 use Rattle.std.specs.FinMap as fin
 use Rattle.sqlite_value.specs.Order.{Row}
 use Rattle.sqlite_rules.specs.Lists.{Has}
@@ -22,13 +22,19 @@ use Rattle.bike_readings.proofs.Places.{has_under}
 use Rattle.bike_readings.proofs.ReadLists.{IsStored, AreRowsOf, read_map}
 use Rattle.bike_readings.proofs.ReadRows.{stored_plain, stored_part}
 use Rattle.bike_readings.proofs.RowRules.{some_with}
-use Rattle.bike_judges.specs.Lines.{or_nulls}
 use Rattle.bike_judges.specs.Verdicts.{EarlierGood}
-use Rattle.bike_ledger_rules.proofs.Lookups.{reads_partner}
+use Rattle.bike_ledger_rules.specs.Known.{has_rider, rental_at, bike_rental, has_plan, has_station}
+use Rattle.bike_ledger_rules.proofs.Lookups.{reads_under}
 
-pub mapped_some : {A B : Type 0} (f : A → B) (o : Option A) → is_some (option_map f o) ≡ is_some o
+mapped_some : {A B : Type 0} (f : A → B) (o : Option A) → is_some (option_map f o) ≡ is_some o
 mapped_some f None = refl
 mapped_some f (Some x) = refl
+
+-- a row spells something where it spells a part of that
+there_under : {X Y : Type 0} (read : Row → Option X) (f : X → Y) (o : Option Row)
+    → is_some (option_and_then read o) ≡ is_some (option_and_then (λ r. option_map f (read r)) o)
+there_under read f None = refl
+there_under read f (Some r) = sym (mapped_some f (read r))
 
 module _ (t : Tables) (up : AreInOrder t) where
   abbrev s : Operator
@@ -56,10 +62,10 @@ module _ (t : Tables) (up : AreInOrder t) where
     riders_are : AreRowsOf numbers (stored_rider s.entries) (λ e. refl) rider_in t.riders s.riders
     riders_are = read_map numbers (stored_rider s.entries) (λ e. refl) rider_in t.riders (up Riders) stored_riders (λ r e has is. tt)
 
-    pub rider_partner : (k : ℕ) → is_some (rider_read (or_nulls 3 (row_with 1 (number_key k) t.riders))) ≡ fin.contains_key s.riders k
-    rider_partner k =
-        sym (mapped_some (λ e. (e.0, e.1)) (rider_read (or_nulls 3 (row_with 1 (number_key k) t.riders))))
-        ∙ ap (λ (o : Option _). is_some o) (reads_partner numbers (λ q. tt) (stored_rider s.entries) (λ e. refl) rider_in t.riders s.riders riders_are stored_riders 3 rider_in refl (λ r has. refl) k)
+    pub rider_under : (k : ℕ) → has_rider t k ≡ fin.contains_key s.riders k
+    rider_under k =
+        there_under rider_read (λ e. (e.0, e.1)) (row_with 1 (number_key k) t.riders)
+        ∙ ap (λ (o : Option _). is_some o) (reads_under numbers (λ q. tt) (stored_rider s.entries) (λ e. refl) rider_in t.riders s.riders riders_are stored_riders rider_in (λ r has. refl) k)
         ∙ mapped_some (λ v. (k, v)) (fin.get s.riders k)
 
   -- ---- bicycles
@@ -78,8 +84,15 @@ module _ (t : Tables) (up : AreInOrder t) where
     bikes_are : AreRowsOf numbers stored_bike (λ e. refl) bike_in t.bikes s.bikes
     bikes_are = read_map numbers stored_bike (λ e. refl) bike_in t.bikes (up Bikes) stored_bikes (λ r e has is. tt)
 
-    pub bike_partner : (k : ℕ) → bike_read (or_nulls 8 (row_with 1 (number_key k) t.bikes)) ≡ option_map (λ v. (k, v)) (fin.get s.bikes k)
-    bike_partner k = reads_partner numbers (λ q. tt) stored_bike (λ e. refl) bike_in t.bikes s.bikes bikes_are stored_bikes 8 bike_read refl one_bike k
+    pub bike_under : (k : ℕ) → bike_rental t k ≡ option_map (λ b. rental_at b.place) (fin.get s.bikes k)
+    bike_under k =
+        ap (option_map (λ (b : ℕ × Bike). rental_at b.1.place))
+        (reads_under numbers (λ q. tt) stored_bike (λ e. refl) bike_in t.bikes s.bikes bikes_are stored_bikes bike_read one_bike k)
+        ∙ go (fin.get s.bikes k)
+      where
+        go : (o : Option Bike) → option_map (λ (b : ℕ × Bike). rental_at b.1.place) (option_map (λ v. (k, v)) o) ≡ option_map (λ b. rental_at b.place) o
+        go None = refl
+        go (Some b) = refl
 
   -- ---- plans
 
@@ -90,10 +103,10 @@ module _ (t : Tables) (up : AreInOrder t) where
     plans_are : AreRowsOf texts stored_plan (λ e. refl) (plan_in t.segments) t.plans s.plans
     plans_are = read_map texts stored_plan (λ e. refl) (plan_in t.segments) t.plans (up Plans) stored_plans (λ r e has is. tt)
 
-    pub plan_partner : (id : List ℕ) → is_some (plan_read (or_nulls 5 (row_with 1 (text_key id) t.plans))) ≡ fin.contains_key s.plans id
-    plan_partner id =
-        sym (mapped_some (with_segments t.segments) (plan_read (or_nulls 5 (row_with 1 (text_key id) t.plans))))
-        ∙ ap (λ (o : Option _). is_some o) (reads_partner texts (λ q. tt) stored_plan (λ e. refl) (plan_in t.segments) t.plans s.plans plans_are stored_plans 5 (plan_in t.segments) refl (λ r has. refl) id)
+    pub plan_under : (id : List ℕ) → has_plan t id ≡ fin.contains_key s.plans id
+    plan_under id =
+        there_under plan_read (with_segments t.segments) (row_with 1 (text_key id) t.plans)
+        ∙ ap (λ (o : Option _). is_some o) (reads_under texts (λ q. tt) stored_plan (λ e. refl) (plan_in t.segments) t.plans s.plans plans_are stored_plans (plan_in t.segments) (λ r has. refl) id)
         ∙ mapped_some (λ v. (id, v)) (fin.get s.plans id)
 
   -- ---- stations
@@ -107,8 +120,8 @@ module _ (t : Tables) (up : AreInOrder t) where
     stations_are : AreRowsOf texts (stored_station s) (λ e. refl) station_in t.stations s.stations
     stations_are = read_map texts (stored_station s) (λ e. refl) station_in t.stations (up Stations) stored_stations (λ r e has is. tt)
 
-    pub station_partner : (id : List ℕ) → is_some (station_read (or_nulls 12 (row_with 1 (text_key id) t.stations))) ≡ fin.contains_key s.stations id
-    station_partner id =
-        sym (mapped_some (λ e. (e.0, e.1)) (station_read (or_nulls 12 (row_with 1 (text_key id) t.stations))))
-        ∙ ap (λ (o : Option _). is_some o) (reads_partner texts (λ q. tt) (stored_station s) (λ e. refl) station_in t.stations s.stations stations_are stored_stations 12 station_in refl (λ r has. refl) id)
+    pub station_under : (id : List ℕ) → has_station t id ≡ fin.contains_key s.stations id
+    station_under id =
+        there_under station_read (λ e. (e.0, e.1)) (row_with 1 (text_key id) t.stations)
+        ∙ ap (λ (o : Option _). is_some o) (reads_under texts (λ q. tt) (stored_station s) (λ e. refl) station_in t.stations s.stations stations_are stored_stations station_in (λ r has. refl) id)
         ∙ mapped_some (λ v. (id, v)) (fin.get s.stations id)

@@ -1,6 +1,6 @@
 -- The lines of an entry pass exactly where what they are asked holds of the entry.
 use Rattle.std.proofs.Common.{◌≡◌, ℕ, ℤ, ◌+◌, ◌<◌, ◌≤◌, ◌==◌, ◌&&◌, List, [], ◌∷◌, length, take, Bool, true, false, Option, Some, None, refl, sym, ap, subst, ◌∙◌, arith}
-use Rattle.std.specs.Prelude.{option_map, option_and_then, is_some, nat_lt, nat_le}
+use Rattle.std.specs.Prelude.{option_map, option_and_then, nat_lt, nat_le}
 use Rattle.std.specs.Bool.{Decides}
 use Rattle.std.specs.FinMap as fin
 use Rattle.std.specs.List.{fold, filter_map}
@@ -23,7 +23,7 @@ use Rattle.bike_book.specs.Tables.{Tables, Riders, Rentals}
 use Rattle.bike_book.specs.Rows.{rental_row}
 use Rattle.bike_book.specs.Stored.{stored_rental}
 use Rattle.bike_book.proofs.Keys.{number_key}
-use Rattle.bike_readings.specs.Readings.{rider_read, rental_read, entry_read}
+use Rattle.bike_readings.specs.Readings.{rental_read, entry_read}
 use Rattle.bike_readings.proofs.LedgerRows.{rental_reading, entry_reading}
 use Rattle.bike_readings.specs.ReadOff.{operator_of, rental_in}
 use Rattle.bike_readings.specs.Demands.{IsGoodRental}
@@ -33,8 +33,9 @@ use Rattle.bike_readings.proofs.ReadRows.{stored_part, AreRowsOfList, read_list}
 use Rattle.bike_readings.proofs.RowRules.{some_with}
 use Rattle.bike_judges.specs.Lines.{part, or_nulls}
 use Rattle.bike_ledger_rules.specs.declared.open_rentals.RentalCount.{RentalCount}
-use Rattle.bike_ledger_rules.specs.Entries.{one_open, one_rental_more, IsRentalCount, is_paid, is_closed_for, is_of, is_booked, line_rental, rider_holds, entry_rider, entry_rider_line, rental_holds, entry_rental, entry_rental_line}
-use Rattle.bike_ledger_rules.proofs.Earlier.{AreGood, rider_partner}
+use Rattle.bike_ledger_rules.specs.Entries.{one_open, one_rental_more, IsRentalCount, is_paid, is_closed_for, is_of, is_booked, line_rental, is_next, is_first, passes, entry_holds, entry_line}
+use Rattle.bike_ledger_rules.specs.Known.{has_rider}
+use Rattle.bike_ledger_rules.proofs.Earlier.{AreGood, rider_under}
 use Rattle.bike_ledger_rules.proofs.Folds.{rental_of_row, rentals_read}
 use Rattle.bike_ledger_rules.proofs.Parts.{partner_wide, own_of_one, partner_of_one}
 use Rattle.bike_ledger_rules.proofs.RiderFolds.{AreWide, count_option}
@@ -116,7 +117,7 @@ booked_decides s TopUp e = (λ h. tt, λ h. refl)
 booked_decides s Fare e = of_decides s Fare e
 booked_decides s Refund e = of_decides s Refund e
 
--- ---- what the line with the rider is asked
+-- ---- what an entry is asked by itself
 
 pub record NumberGood (s : Operator) (before : ℕ) (e : Entry) : Type 0 where
   pub number_is : e.number ≡ before + 1
@@ -130,104 +131,101 @@ at_most a b = (λ e. leb-true a b e, λ h. le-leb a b h)
 is_true : (b c : Bool) → b ≡ c → Decides b (c ≡ true)
 is_true b c e = (λ h. sym e ∙ h, λ h. e ∙ h)
 
-module _ (t : Tables) (up : AreInOrder t) where
+-- all that an entry is asked, where the entries before it have these fares
+pub record EntryGood (s : Operator) (before : ℕ) (fares : List ℤ) (e : Entry) : Type 0 where
+  pub number : NumberGood s before e
+  pub booked : Booked s e.kind e
+  pub first : is_first fares e ≡ true
+
+-- a line holds its entry in front
+pub own : (t : Tables) → AreWide 10 t.rentals → (r : Row) → length r ≡ 6 → part 0 6 (entry_line t r) ≡ r
+own t rentals r wide =
+    own_of_one r 6 10 (partner 1 (column r 3 ∷ []) t.rentals) wide (partner_wide 10 1 (column r 3 ∷ []) t.rentals rentals)
+
+module _ (t : Tables) (up : AreInOrder t) (good : AreGood t up Riders) (good_rentals : AreGood t up Rentals) (rentals : AreWide 10 t.rentals) where
   abbrev s : Operator
   s = operator_of t
 
-  module _ (good : AreGood t up Riders) (riders : AreWide 3 t.riders) (r : Row) (wide : length r ≡ 6) where
-    abbrev rider_of_it : Option Row
-    rider_of_it = partner 1 (column r 2 ∷ []) t.riders
+  next_decides : (n : ℕ) (e : Entry) → Decides (is_next (has_rider t) s.now (open_rentals s) n e) (NumberGood s n e)
+  next_decides n e =
+      let next = e.number == n + 1 in
+      let room = nat_lt (n + open_rentals s) MOST_ENTRIES in
+      let rider = has_rider t e.rider in
+      let past = nat_le e.at s.now in
+      Decides-like (next && (room && (rider && past)))
+      (λ h. record { number_is = h.0; room = h.1.0; rider_is = h.1.1.0; by_now = h.1.1.1 })
+      (λ (g : NumberGood s n e). (g.number_is, (g.room, (g.rider_is, g.by_now))))
+      (Decides-and next (room && (rider && past)) (Decides-eqb e.number (n + 1))
+      (Decides-and room (rider && past) (Decides-ltb (n + open_rentals s) MOST_ENTRIES)
+      (Decides-and rider past (is_true rider (fin.contains_key s.riders e.rider) (rider_under t up good e.rider)) (at_most e.at s.now))))
 
-    rider_wide : length (or_nulls 3 rider_of_it) ≡ 3
-    rider_wide = partner_wide 3 1 (column r 2 ∷ []) t.riders riders
+  -- ---- with its rental
 
-    abbrev has_rider : Bool
-    has_rider = is_some (rider_read (part 6 3 (entry_rider_line t r)))
+  abbrev below : Row → ℕ
+  below r = rows_below t Rentals (take 1 r)
 
-    rider_there : (e : Entry) → entry_read r ≡ Some e → has_rider ≡ fin.contains_key s.riders e.rider
-    rider_there e is =
-        ap (λ (x : Row). is_some (rider_read x)) (partner_of_one r 6 3 rider_of_it wide rider_wide)
-        ∙ ap (λ (x : Row). is_some (rider_read (or_nulls 3 (partner 1 (column x 2 ∷ []) t.riders)))) (entry_reading.sound r e is).0
-        ∙ rider_partner t up good e.rider
+  rentals_are : AreRowsOfList (stored_rental s.entries) rental_in t.rentals s.rentals
+  rentals_are =
+      read_list (stored_rental s.entries) rental_in t.rentals (up Rentals)
+      (λ r has. stored_part rental_reading (λ e. (e.0, e.1)) (stored_rental s.entries) (IsGoodRental s (below r)) r (good_rentals r has)
+      (λ a is fact. ap (λ (z : ℤ). rental_row a.0 a.1 z) fact.refunded_is))
+      (λ r has.
+      let it = some_with (IsGoodRental s (below r)) (rental_read r) (good_rentals r has) in
+      let parts = ap (option_map (λ (e : ℕ × Rental × ℤ). (e.0, e.1))) it.value_is in
+      (it.value.1, parts ∙ ap (λ (n : ℕ). Some (n, it.value.1)) it.fact.number_is))
 
-    abbrev holds_of : ℕ → Option Entry → Bool
-    holds_of n = rider_holds s.now (open_rentals s) n (entry_rider_line t r)
+  -- the rental that a row spells, or NULLs
+  abbrev rental_of : Option Row → Option Rental
+  rental_of o = rental_of_row (or_nulls 10 o)
 
-    pub number_decides : (n : ℕ)
-        → Decides (entry_rider s.now (open_rentals s) n (entry_rider_line t r)) (IsSomeAnd (entry_read r) (NumberGood s n))
-    number_decides n =
-        subst (λ (x : Row). Decides (holds_of n (entry_read x)) (IsSomeAnd (entry_read r) (NumberGood s n)))
-        (sym (own_of_one r 6 3 rider_of_it wide rider_wide)) (go (entry_read r) refl)
-      where
-        go : (o : Option Entry) → entry_read r ≡ o → Decides (holds_of n o) (IsSomeAnd o (NumberGood s n))
-        go None is = (λ e. absurd cc, λ h. absurd h)
-        go (Some e) is =
-            let next = e.number == n + 1 in
-            let room = nat_lt (n + open_rentals s) MOST_ENTRIES in
-            let past = nat_le e.at s.now in
-            Decides-like (next && (room && (has_rider && past)))
-            (λ h. record { number_is = h.0; room = h.1.0; rider_is = h.1.1.0; by_now = h.1.1.1 })
-            (λ (g : NumberGood s n e). (g.number_is, (g.room, (g.rider_is, g.by_now))))
-            (Decides-and next (room && (has_rider && past)) (Decides-eqb e.number (n + 1))
-            (Decides-and room (has_rider && past) (Decides-ltb (n + open_rentals s) MOST_ENTRIES)
-            (Decides-and has_rider past (is_true has_rider (fin.contains_key s.riders e.rider) (rider_there e is)) (at_most e.at s.now))))
+  -- the rental under a number is that of its place
+  rental_partner : (k : ℕ) → rental_of (row_with 1 (number_key k) t.rentals) ≡ item_numbered k s.rentals
+  rental_partner k =
+      read (row_with 1 (number_key k) t.rentals)
+      ∙ at_number (stored_rental s.entries) (λ e. refl) rental_in t.rentals s.rentals rentals_are.rows_are rentals_are.back k
+    where
+      parts : (o : Option (ℕ × Rental × ℤ))
+          → option_map (λ (e : ℕ × Rental × ℤ). e.1) o ≡ option_map (λ (e : ℕ × Rental). e.1) (option_map (λ (e : ℕ × Rental × ℤ). (e.0, e.1)) o)
+      parts None = refl
+      parts (Some e) = refl
 
-  -- ---- what the line with the rental is asked
+      read : (o : Option Row) → rental_of o ≡ option_map (λ (e : ℕ × Rental). e.1) (option_and_then rental_in o)
+      read None = refl
+      read (Some r) = parts (rental_read r)
 
-  module _ (good_rentals : AreGood t up Rentals) (rentals : AreWide 10 t.rentals) where
-    abbrev below : Row → ℕ
-    below r = rows_below t Rentals (take 1 r)
+  module _ (r : Row) (wide : length r ≡ 6) where
+    abbrev rental_of_it : Option Row
+    rental_of_it = partner 1 (column r 3 ∷ []) t.rentals
 
-    rentals_are : AreRowsOfList (stored_rental s.entries) rental_in t.rentals s.rentals
-    rentals_are =
-        read_list (stored_rental s.entries) rental_in t.rentals (up Rentals)
-        (λ r has. stored_part rental_reading (λ e. (e.0, e.1)) (stored_rental s.entries) (IsGoodRental s (below r)) r (good_rentals r has)
-        (λ a is fact. ap (λ (z : ℤ). rental_row a.0 a.1 z) fact.refunded_is))
-        (λ r has.
-        let it = some_with (IsGoodRental s (below r)) (rental_read r) (good_rentals r has) in
-        let parts = ap (option_map (λ (e : ℕ × Rental × ℤ). (e.0, e.1))) it.value_is in
-        (it.value.1, parts ∙ ap (λ (n : ℕ). Some (n, it.value.1)) it.fact.number_is))
+    rental_wide : length (or_nulls 10 rental_of_it) ≡ 10
+    rental_wide = partner_wide 10 1 (column r 3 ∷ []) t.rentals rentals
 
-    -- the rental that a row spells, or NULLs
-    abbrev rental_of : Option Row → Option Rental
-    rental_of o = rental_of_row (or_nulls 10 o)
+    rental_there : (e : Entry) → entry_read r ≡ Some e → line_rental (entry_line t r) ≡ item_numbered e.rental s.rentals
+    rental_there e is =
+        ap rental_of_row (partner_of_one r 6 10 rental_of_it wide rental_wide)
+        ∙ ap (λ (x : Row). rental_of (partner 1 (column x 3 ∷ []) t.rentals)) (entry_reading.sound r e is).0 ∙ rental_partner e.rental
 
-    -- the rental under a number is that of its place
-    rental_partner : (k : ℕ) → rental_of (row_with 1 (number_key k) t.rentals) ≡ item_numbered k s.rentals
-    rental_partner k =
-        read (row_with 1 (number_key k) t.rentals)
-        ∙ at_number (stored_rental s.entries) (λ e. refl) rental_in t.rentals s.rentals rentals_are.rows_are rentals_are.back k
-      where
-        parts : (o : Option (ℕ × Rental × ℤ))
-            → option_map (λ (e : ℕ × Rental × ℤ). e.1) o ≡ option_map (λ (e : ℕ × Rental). e.1) (option_map (λ (e : ℕ × Rental × ℤ). (e.0, e.1)) o)
-        parts None = refl
-        parts (Some e) = refl
+    -- ---- all of it
 
-        read : (o : Option Row) → rental_of o ≡ option_map (λ (e : ℕ × Rental). e.1) (option_and_then rental_in o)
-        read None = refl
-        read (Some r) = parts (rental_read r)
+    module _ (n : ℕ) (fares : List ℤ) where
+      abbrev passing : Option Entry → Bool
+      passing = passes (has_rider t) s.now (open_rentals s) fares n (entry_line t r)
 
-    module _ (r : Row) (wide : length r ≡ 6) where
-      abbrev rental_of_it : Option Row
-      rental_of_it = partner 1 (column r 3 ∷ []) t.rentals
+      passing_decides : (o : Option Entry) → entry_read r ≡ o → Decides (passing o) (IsSomeAnd o (EntryGood s n fares))
+      passing_decides None is = (λ e. absurd cc, λ h. absurd h)
+      passing_decides (Some e) is =
+          let next = is_next (has_rider t) s.now (open_rentals s) n e in
+          let booked = is_booked e.kind e (line_rental (entry_line t r)) in
+          let first = is_first fares e in
+          Decides-like (next && (booked && first))
+          (λ h. record { number = h.0; booked = h.1.0; first = h.1.1 })
+          (λ (g : EntryGood s n fares e). (g.number, (g.booked, g.first)))
+          (Decides-and next (booked && first) (next_decides n e)
+          (Decides-and booked first
+          (subst (λ (o : Option Rental). Decides (is_booked e.kind e o) (Booked s e.kind e)) (sym (rental_there e is)) (booked_decides s e.kind e))
+          (is_true first first refl)))
 
-      rental_wide : length (or_nulls 10 rental_of_it) ≡ 10
-      rental_wide = partner_wide 10 1 (column r 3 ∷ []) t.rentals rentals
-
-      rental_there : (e : Entry) → entry_read r ≡ Some e → line_rental (entry_rental_line t r) ≡ item_numbered e.rental s.rentals
-      rental_there e is =
-          ap rental_of_row (partner_of_one r 6 10 rental_of_it wide rental_wide)
-          ∙ ap (λ (x : Row). rental_of (partner 1 (column x 3 ∷ []) t.rentals)) (entry_reading.sound r e is).0 ∙ rental_partner e.rental
-
-      abbrev BookedOf : Entry → Type 0
-      BookedOf e = Booked s e.kind e
-
-      pub book_decides : (n : ℕ) → Decides (entry_rental n (entry_rental_line t r)) (IsSomeAnd (entry_read r) BookedOf)
-      book_decides n =
-          subst (λ (x : Row). Decides (rental_holds (entry_rental_line t r) (entry_read x)) (IsSomeAnd (entry_read r) BookedOf))
-          (sym (own_of_one r 6 10 rental_of_it wide rental_wide)) (go (entry_read r) refl)
-        where
-          go : (o : Option Entry) → entry_read r ≡ o → Decides (rental_holds (entry_rental_line t r) o) (IsSomeAnd o BookedOf)
-          go None is = (λ e. absurd cc, λ h. absurd h)
-          go (Some e) is =
-              subst (λ (o : Option Rental). Decides (is_booked e.kind e o) (BookedOf e)) (sym (rental_there e is)) (booked_decides s e.kind e)
+      pub entry_decides : Decides (entry_holds (has_rider t) s.now (open_rentals s) fares n (entry_line t r)) (IsSomeAnd (entry_read r) (EntryGood s n fares))
+      entry_decides =
+          subst (λ (x : Row). Decides (passing (entry_read x)) (IsSomeAnd (entry_read r) (EntryGood s n fares))) (sym (own t rentals r wide))
+          (passing_decides (entry_read r) refl)

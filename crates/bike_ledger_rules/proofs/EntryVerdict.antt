@@ -1,5 +1,5 @@
--- What the three passes over the lines of entries find is together the verdict on the table.
-use Rattle.std.proofs.Common.{◌≡◌, inl, inr, ℕ, zero, suc, ℤ, pos, ◌+◌, ◌<◌, ◌==◌, List, [], ◌∷◌, ◌++◌, length, take, Bool, true, Option, Some, None, refl, sym, ap, subst, ◌∙◌, arith, replicate}
+-- What the pass over the lines of entries finds is the verdict on the table.
+use Rattle.std.proofs.Common.{◌≡◌, inl, inr, ℕ, zero, suc, ℤ, pos, ◌+◌, ◌<◌, ◌==◌, List, [], ◌∷◌, ◌++◌, length, map, take, Bool, true, Option, Some, None, refl, sym, ap, subst, ◌∙◌, arith, replicate}
 use Rattle.std.specs.Prelude.{option_map}
 use Rattle.std.specs.Bool.{Decides}
 use Rattle.std.specs.List.{filter_map}
@@ -34,28 +34,27 @@ use Rattle.bike_readings.specs.ReadOff.{operator_of}
 use Rattle.bike_readings.specs.Demands.{IsGoodEntry, IsOneFare, IsFirstFare, IsFareOf}
 use Rattle.bike_readings.specs.Rules.{AreInOrder, IsGoodKey, IsGoodAt, rows_below, row_under}
 use Rattle.bike_readings.proofs.Places.{has_under, under_has, has_between, lesser_before}
-use Rattle.bike_readings.proofs.RowRules.{some_with, some_is, some_and}
+use Rattle.bike_readings.proofs.RowRules.{some_with, some_and}
 use Rattle.bike_readings.proofs.RulesLaws.{stored_in_order}
 use Rattle.bike_judges.specs.declared.key.BadKey.{BadKey}
 use Rattle.bike_judges.specs.Judging.{key_row}
+use Rattle.bike_judges.specs.Lines.{part}
 use Rattle.bike_judges.specs.Passes.{Demands}
 use Rattle.bike_judges.specs.Verdicts.{EarlierGood, IsFirstFailing, IsTableVerdict}
-use Rattle.bike_judges.specs.Least.{least_key}
-use Rattle.bike_judges.proofs.LeastLaw.{least_verdict}
 use Rattle.bike_judges.proofs.LineLaw.{below_tied}
-use Rattle.bike_ledger_rules.specs.Lines.{FindsFailing}
 use Rattle.bike_ledger_rules.specs.Sums.{sum_at}
-use Rattle.bike_ledger_rules.specs.Entries.{entry_rider, entry_rider_line, entry_rental, entry_rental_line, with_fares, is_first, first_fare, IsRentalCount}
+use Rattle.bike_ledger_rules.specs.Entries.{entry_line, entry_test, with_fares, is_first, first_bad, IsRentalCount}
+use Rattle.bike_ledger_rules.specs.Known.{has_rider, is_listed}
 use Rattle.bike_ledger_rules.specs.declared.open_rentals.RentalCount.{RentalCount}
-use Rattle.bike_ledger_rules.proofs.Earlier.{AreGood, earlier_good}
-use Rattle.bike_ledger_rules.proofs.EntryRules.{OfRental, Booked, NumberGood, number_decides, book_decides}
+use Rattle.bike_ledger_rules.proofs.Earlier.{earlier_good}
+use Rattle.bike_ledger_rules.proofs.EntryRules.{OfRental, Booked, EntryGood, entry_decides, own}
 use Rattle.bike_ledger_rules.proofs.FirstItems.{front_item, item_low, numbered_front, numbered_low, split, has_front, read_append, read_few, read_all}
-use Rattle.bike_ledger_rules.proofs.FirstFares.{is_fare_of, fares_counted, first_finds, finds_first, kind_of_fare}
+use Rattle.bike_ledger_rules.proofs.FirstFares.{of_all, entries_pass, is_fare_of, fares_counted, first_finds, finds_first, kind_of_fare}
 use Rattle.bike_ledger_rules.proofs.Folds.{entries_read, rentals_read, rental_of_row}
 use Rattle.bike_ledger_rules.proofs.Once.{passing_counts, counted_passes}
 use Rattle.bike_ledger_rules.proofs.RiderFolds.{AreWide}
-use Rattle.bike_ledger_rules.proofs.Rows.{demanded, demands, lacking}
-use Rattle.bike_ledger_rules.proofs.Widths.{riders_wide, rentals_wide, entries_wide}
+use Rattle.bike_ledger_rules.proofs.Rows.{demanded, demands, lacking, lines_failing}
+use Rattle.bike_ledger_rules.proofs.Widths.{rentals_wide, entries_wide}
 
 -- ---- one entry
 
@@ -109,7 +108,7 @@ same_pos a b e = cc
 
 -- ---- the table
 
-module _ (t : Tables) (up : AreInOrder t) (riders : AreWide 3 t.riders) (rentals : AreWide 10 t.rentals) (entries : AreWide 6 t.entries)
+module _ (t : Tables) (up : AreInOrder t) (rentals : AreWide 10 t.rentals) (entries : AreWide 6 t.entries)
     (earlier : EarlierGood t Entries) where
   abbrev s : Operator
   s = operator_of t
@@ -122,51 +121,34 @@ module _ (t : Tables) (up : AreInOrder t) (riders : AreWide 3 t.riders) (rentals
 
   -- ---- what is asked of each row
 
-  abbrev numbers : ℕ → Row → Bool
-  numbers n row = entry_rider s.now (open_rentals s) n (entry_rider_line t row)
-
-  abbrev books : ℕ → Row → Bool
-  books n row = entry_rental n (entry_rental_line t row)
-
   -- rentals are numbered from 1
   abbrev rental_end : ℕ
   rental_end = length t.rentals + 1
 
-  abbrev fares : ℕ → Row → Bool
-  fares = first_fare (replicate rental_end (pos 0)) t
+  abbrev none : List ℤ
+  none = replicate rental_end (pos 0)
 
-  abbrev Numbered : Row → Type 0
-  Numbered = Demands t Entries numbers
-
-  abbrev IsInBooks : Row → Type 0
-  IsInBooks = Demands t Entries books
-
-  abbrev IsOnce : Row → Type 0
-  IsOnce = Demands t Entries fares
+  abbrev test : ℕ → Row → Bool
+  test = entry_test s.now (open_rentals s) none t
 
   abbrev Asked : Row → Type 0
-  Asked key = (Numbered key × IsInBooks key) × IsOnce key
+  Asked = Demands t Entries test
 
-  good_riders : AreGood t up Riders
-  good_riders = earlier_good t up Entries earlier Riders (omega arith)
+  -- how many fares each rental has before a key
+  abbrev sums : Row → List ℤ
+  sums key = with_fares none (take (below key) t.entries)
 
-  good_rentals : AreGood t up Rentals
-  good_rentals = earlier_good t up Entries earlier Rentals (omega arith)
+  abbrev AsksOf : Row → Entry → Type 0
+  AsksOf key = EntryGood s (below key) (sums key)
 
-  number_decides_at : (key r : Row) → Has t.entries r
-      → Decides (numbers (below key) r) (IsSomeAnd (entry_read r) (NumberGood s (below key)))
-  number_decides_at key r has = number_decides t up good_riders riders r (entries r has) (below key)
-
-  book_decides_at : (key r : Row) → Has t.entries r
-      → Decides (books (below key) r) (IsSomeAnd (entry_read r) (λ e. Booked s e.kind e))
-  book_decides_at key r has = book_decides t up good_rentals rentals r (entries r has) (below key)
+  decides_at : (key r : Row) → Has t.entries r → Decides (test (below key) r) (IsSomeAnd (entry_read r) (AsksOf key))
+  decides_at key r has =
+      entry_decides t up (earlier_good t up Entries earlier Riders (omega arith)) (earlier_good t up Entries earlier Rentals (omega arith))
+      rentals r (entries r has) (below key) (sums key)
 
   -- what holds of a row under a key of which it was asked
-  number_good : (key r : Row) → under key ≡ Some r → Has t.entries r → Numbered key → IsSomeAnd (entry_read r) (NumberGood s (below key))
-  number_good key r is has p = (number_decides_at key r has).0 (demanded t Entries numbers key r is p)
-
-  book_good : (key r : Row) → under key ≡ Some r → Has t.entries r → IsInBooks key → IsSomeAnd (entry_read r) (λ e. Booked s e.kind e)
-  book_good key r is has p = (book_decides_at key r has).0 (demanded t Entries books key r is p)
+  asked_good : (key r : Row) → under key ≡ Some r → Has t.entries r → Asked key → IsSomeAnd (entry_read r) (AsksOf key)
+  asked_good key r is has p = (decides_at key r has).0 (demanded t Entries test key r is p)
 
   -- a rental that is there has a number below the end
   low_rental : (n : ℕ) (r : Rental) → item_numbered n s.rentals ≡ Some r → n < rental_end
@@ -207,7 +189,7 @@ module _ (t : Tables) (up : AreInOrder t) (riders : AreWide 3 t.riders) (rentals
     entries_are = entries_read t.entries ∙ ap (filter_map entry_read) parts ∙ read_append entry_read before (r ∷ behind)
 
     -- where all before it are asked, so many are read
-    front_length : ((other : Row) → row_cmp other key ≡ Less → Numbered other) → length front ≡ length before
+    front_length : ((other : Row) → row_cmp other key ≡ Less → Asked other) → length front ≡ length before
     front_length all = read_all entry_read before each where
       low_key : (x : Row) → Has before x → row_cmp (take 1 x) key ≡ Less
       low_key x has =
@@ -218,24 +200,20 @@ module _ (t : Tables) (up : AreInOrder t) (riders : AreWide 3 t.riders) (rentals
       each : (x : Row) → Has before x → (e : Entry) × (entry_read x ≡ Some e)
       each x has =
           let there : Has t.entries x = subst (λ (rows : List Row). Has rows x) (sym parts) (has_front before (r ∷ behind) x has) in
-          let good = number_good (take 1 x) x (has_under 1 t.entries x (up Entries) there) there (all (take 1 x) (low_key x has)) in
-          let it = some_with (NumberGood s (below (take 1 x))) (entry_read x) good in
+          let good = asked_good (take 1 x) x (has_under 1 t.entries x (up Entries) there) there (all (take 1 x) (low_key x has)) in
+          let it = some_with (AsksOf (take 1 x)) (entry_read x) good in
           (it.value, it.value_is)
-
-    -- how many fares each rental has before it
-    abbrev sums : List ℤ
-    sums = with_fares (replicate rental_end (pos 0)) (take (below key) t.entries)
 
     rows_before : take (below key) t.entries ≡ before
     rows_before = (λ i. take (so_many i) (parts i)) ∙ take_at before (r ∷ behind) (length before) refl
 
-    sum_is : (n : ℕ) → n < rental_end → sum_at sums n ≡ pos (count (is_fare_of n) front)
+    sum_is : (n : ℕ) → n < rental_end → sum_at (sums key) n ≡ pos (count (is_fare_of n) front)
     sum_is n low =
-        ap (λ (rows : List Row). sum_at (with_fares (replicate rental_end (pos 0)) rows) n) rows_before ∙ fares_counted rental_end before n low
+        ap (λ (rows : List Row). sum_at (with_fares none rows) n) rows_before ∙ fares_counted rental_end before n low
 
     -- with no fare of its rental before it it is the first, and the other way round
     module _ (e : Entry) (number : e.number ≡ below key + 1) (low : e.rental < rental_end) where
-      none_before : ((other : Row) → row_cmp other key ≡ Less → Numbered other) → sum_at sums e.rental ≡ pos 0
+      none_before : ((other : Row) → row_cmp other key ≡ Less → Asked other) → sum_at (sums key) e.rental ≡ pos 0
           → IsFirstFare s e.number e.rental
       none_before all nothing other x less found fare same =
           let few = front_length all in
@@ -247,7 +225,7 @@ module _ (t : Tables) (up : AreInOrder t) (riders : AreWide 3 t.riders) (rentals
           let none = same_pos (count (is_fare_of e.rental) front) 0 (sym (sum_is e.rental low) ∙ nothing) in
           omega (arith, some, none)
 
-      before_none : IsFirstFare s e.number e.rental → sum_at sums e.rental ≡ pos 0
+      before_none : IsFirstFare s e.number e.rental → sum_at (sums key) e.rental ≡ pos 0
       before_none first = sum_is e.rental low ∙ ap pos (go (count (is_fare_of e.rental) front) refl) where
         go : (n : ℕ) → count (is_fare_of e.rental) front ≡ n → n ≡ 0
         go zero so = refl
@@ -264,34 +242,31 @@ module _ (t : Tables) (up : AreInOrder t) (riders : AreWide 3 t.riders) (rentals
 
   -- ---- a key
 
-  good_row : (key r : Row) → under key ≡ Some r → ((other : Row) → row_cmp other key ≡ Less → Numbered other) → Asked key
+  good_row : (key r : Row) → under key ≡ Some r → ((other : Row) → row_cmp other key ≡ Less → Asked other) → Asked key
       → IsSomeAnd (entry_read r) (IsGoodEntry s (below key))
   good_row key r is all p =
       let has = (under_has 1 key t.entries r is).0 in
       let parts = split t.entries r has in
-      let it = some_with (NumberGood s (below key)) (entry_read r) (number_good key r is has p.0.0) in
+      let it = some_with (AsksOf key) (entry_read r) (asked_good key r is has p) in
       let e = it.value in
-      let number = it.fact.number_is in
-      let booked = some_is (λ e. Booked s e.kind e) (entry_read r) e (book_good key r is has p.0.1) it.value_is in
+      let number = it.fact.number in
       let stored = (entry_reading.sound r e it.value_is).1 in
-      let fares_before = sums key r is parts.0 parts.1 parts.2 in
-      let asked = subst (λ (o : Option Entry). is_first fares_before o ≡ true) it.value_is (demanded t Entries fares key r is p.1) in
       some_and (IsGoodEntry s (below key)) (entry_read r) e it.value_is (record {
-        number_is = number;
-        room = it.fact.room;
+        number_is = number.number_is;
+        room = number.room;
         good = record {
           number_is = refl;
-          rider_is = it.fact.rider_is;
-          booking = booking s e e.kind stored.rental stored.amount booked;
-          by_now = it.fact.by_now;
+          rider_is = number.rider_is;
+          booking = booking s e e.kind stored.rental stored.amount it.fact.booked;
+          by_now = number.by_now;
         };
-        fare = one_fare s e e.kind booked (λ kind.
-            let rental = booked_rental s e e.kind booked kind in
+        fare = one_fare s e e.kind it.fact.booked (λ kind.
+            let rental = booked_rental s e e.kind it.fact.booked kind in
             let low = low_rental e.rental rental.0 rental.1 in
-            none_before key r is parts.0 parts.1 parts.2 e number low all (first_finds e.kind _ asked kind));
+            none_before key r is parts.0 parts.1 parts.2 e number.number_is low all (first_finds e.kind _ it.fact.first kind));
       })
 
-  good_key : (key : Row) → ((other : Row) → row_cmp other key ≡ Less → Numbered other) → Asked key → IsGoodKey t Entries key
+  good_key : (key : Row) → ((other : Row) → row_cmp other key ≡ Less → Asked other) → Asked key → IsGoodKey t Entries key
   good_key key all p = go (under key) refl where
     go : (o : Option Row) → under key ≡ o → IsGoodAt t s Entries key (below key) o
     go None is = tt
@@ -303,71 +278,67 @@ module _ (t : Tables) (up : AreInOrder t) (riders : AreWide 3 t.riders) (rentals
       let parts = split t.entries r has in
       let it = some_with (IsGoodEntry s (below key)) (entry_read r) h in
       let e = it.value in
-      let number : NumberGood s (below key) e =
-      record { number_is = it.fact.number_is; room = it.fact.room; rider_is = it.fact.good.rider_is; by_now = it.fact.good.by_now } in
-      let booked = booked_of s e e.kind it.fact.good.booking it.fact.fare in
-      let first : is_first (sums key r is parts.0 parts.1 parts.2) (Some e) ≡ true = finds_first e.kind _ (λ kind.
+      let first : is_first (sums key) e ≡ true = finds_first e.kind _ (λ kind.
       let fare = first_of s e e.kind it.fact.fare kind in
       let low = low_rental e.rental fare.0.row fare.0.found in
-      before_none key r is parts.0 parts.1 parts.2 e it.fact.number_is low fare.1) in (
-        (
-          demands t Entries numbers key r is
-              ((number_decides_at key r has).1 (some_and (NumberGood s (below key)) (entry_read r) e it.value_is number)),
-          demands t Entries books key r is
-              ((book_decides_at key r has).1 (some_and (λ e. Booked s e.kind e) (entry_read r) e it.value_is booked)),
-        ),
-        demands t Entries fares key r is
-            (subst (λ (o : Option Entry). is_first (sums key r is parts.0 parts.1 parts.2) o ≡ true) (sym it.value_is) first),
-      )
+      before_none key r is parts.0 parts.1 parts.2 e it.fact.number_is low fare.1) in
+      demands t Entries test key r is ((decides_at key r has).1 (some_and (AsksOf key) (entry_read r) e it.value_is (record {
+        number = record { number_is = it.fact.number_is; room = it.fact.room; rider_is = it.fact.good.rider_is; by_now = it.fact.good.by_now };
+        booked = booked_of s e e.kind it.fact.good.booking it.fact.fare;
+        first = first;
+      })))
 
   key_good : (key : Row) → IsGoodKey t Entries key → Asked key
   key_good key good = go (under key) refl good where
     go : (o : Option Row) → under key ≡ o → IsGoodAt t s Entries key (below key) o → Asked key
-    go None is h = ((lacking t Entries numbers key is, lacking t Entries books key is), lacking t Entries fares key is)
+    go None is h = lacking t Entries test key is
     go (Some r) is h = row_good key r is h
 
-  verdict : (v : Option Row) → IsFirstFailing t Entries Asked v → IsTableVerdict t Entries v
-  verdict None all = λ key. good_key key (λ other low. (all other).0.0) (all key)
-  verdict (Some k) it = record {
+  pub entries_verdict : (v : Option Row) → IsFirstFailing t Entries Asked v → IsTableVerdict t Entries v
+  entries_verdict None all = λ key. good_key key (λ other low. all other) (all key)
+  entries_verdict (Some k) it = record {
     bad = λ good. it.bad (key_good k good);
     own = it.own;
-    before = λ other low. good_key other (λ less under. (it.before less (row_cmp_total.trans less other k under low)).0.0) (it.before other low);
+    before = λ other low. good_key other (λ less under. it.before less (row_cmp_total.trans less other k under low)) (it.before other low);
   }
 
-  pub entries_verdict : (a b c : Option Row)
-      → IsFirstFailing t Entries Numbered a → IsFirstFailing t Entries IsInBooks b → IsFirstFailing t Entries IsOnce c
-      → IsTableVerdict t Entries (least_key (least_key a b) c)
-  entries_verdict a b c p q u =
-      verdict (least_key (least_key a b) c)
-      (least_verdict t Entries (λ key. Numbered key × IsInBooks key) IsOnce (least_key a b) c
-      (least_verdict t Entries Numbered IsInBooks a b p q) u)
+-- ---- the pass over the lines
 
--- ---- all three
+line_begins : (t : Tables) (r : Row) → length r ≡ 6 → take 1 (entry_line t r) ≡ take 1 r
+line_begins t [] wide = absurd cc
+line_begins t (v ∷ r) wide = refl
 
 module _ (db : Database) (ours : IsOurs db) (moment : ℕ) (now : moment ≡ (operator_of (tables_of db)).now)
-    (rentals : RentalCount) (are : IsRentalCount (tables_of db) rentals) (fares : List ℤ) (nothing : fares ≡ replicate rentals.next (pos 0)) where
+    (rentals : RentalCount) (are : IsRentalCount (tables_of db) rentals) (fares : List ℤ) (nothing : fares ≡ replicate rentals.next (pos 0))
+    (riders : List (Option (Unit {0}))) (riders_are : is_listed riders ≡ has_rider (tables_of db)) where
   abbrev t : Tables
   t = tables_of db
 
-  abbrev riding : ℕ
-  riding = open_rentals (operator_of t)
+  abbrev lines : List Row
+  lines = map (entry_line t) t.entries
 
-  pub entries_judged : EarlierGood t Entries → (a b c : Option BadKey)
-      → FindsFailing Entries (λ t n row. entry_rider moment rentals.riding n (entry_rider_line t row)) db a
-      → FindsFailing Entries (λ t n row. entry_rental n (entry_rental_line t row)) db b → FindsFailing Entries (first_fare fares) db c
-      → IsTableVerdict t Entries (least_key (least_key (option_map key_row a) (option_map key_row b)) (option_map key_row c))
-  entries_judged earlier a b c p q u =
-      entries_verdict t (stored_in_order db) (riders_wide db ours.has) (rentals_wide db ours.has) (entries_wide db ours.has) earlier _ _ _
-      (subst (λ (n : ℕ). FindsFailing Entries (λ t m row. entry_rider n riding m (entry_rider_line t row)) db a) now
-      (subst (λ (n : ℕ). FindsFailing Entries (λ t m row. entry_rider moment n m (entry_rider_line t row)) db a) are.riding_is p)) q
-      (subst (λ (sums : List ℤ). FindsFailing Entries (first_fare sums) db c) (nothing ∙ ap (λ (n : ℕ). replicate n (pos 0)) are.next_is) u)
+  -- what the judge finds from what it knows
+  abbrev found_by : (ℕ → Bool) → ℕ → ℕ → List ℤ → Option Row
+  found_by riders now riding fares = first_bad riders now riding fares 0 lines
 
--- ---- the passes
+  abbrev stored : Operator
+  stored = operator_of t
 
-pub rider_line_begins : (t : Tables) (r : Row) → length r ≡ 6 → take 1 (entry_rider_line t r) ≡ take 1 r
-rider_line_begins t [] wide = absurd cc
-rider_line_begins t (v ∷ r) wide = refl
+  abbrev nothing_paid : List ℤ
+  nothing_paid = replicate (length t.rentals + 1) (pos 0)
 
-pub rental_line_begins : (t : Tables) (r : Row) → length r ≡ 6 → take 1 (entry_rental_line t r) ≡ take 1 r
-rental_line_begins t [] wide = absurd cc
-rental_line_begins t (v ∷ r) wide = refl
+  nothing_is : fares ≡ nothing_paid
+  nothing_is = nothing ∙ ap (λ (n : ℕ). replicate n (pos 0)) are.next_is
+
+  shows : (r : Row) → Has t.entries r → part 0 6 (entry_line t r) ≡ r
+  shows r has = own t (rentals_wide db ours.has) r (entries_wide db ours.has r has)
+
+  pub entries_judged : EarlierGood t Entries → (found : Option BadKey)
+      → ((v : Option Row) → found_by (is_listed riders) moment rentals.riding fares ≡ v → option_map key_row found ≡ v)
+      → IsTableVerdict t Entries (option_map key_row found)
+  entries_judged earlier found says =
+      entries_verdict t (stored_in_order db) (rentals_wide db ours.has) (entries_wide db ours.has) earlier (option_map key_row found)
+      (lines_failing Entries entry_line (of_all (has_rider t) stored.now (open_rentals stored) nothing_paid (entry_line t) t.entries) 6 line_begins
+      db (entries_wide db ours.has) found (λ v is.
+      says v ((λ i. found_by (riders_are i) (now i) (are.riding_is i) (nothing_is i))
+      ∙ entries_pass (has_rider t) stored.now (open_rentals stored) nothing_paid (entry_line t) t.entries shows ∙ is)))

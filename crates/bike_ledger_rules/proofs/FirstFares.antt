@@ -1,5 +1,5 @@
--- The pass over entries that counts fares fails first where the entries before one have a fare of its rental.
-use Rattle.std.proofs.Common.{◌≡◌, ℕ, suc, ℤ, pos, ◌<◌, ◌==◌, ◌&&◌, List, [], ◌∷◌, ◌++◌, append_assoc, length, length-append, take, Bool, true, cond, Some, refl, sym, ap, ◌∙◌, arith, replicate}
+-- The pass over entries counts the fares of those before each.
+use Rattle.std.proofs.Common.{◌≡◌, inl, inr, ℕ, suc, ℤ, pos, ◌+◌, ◌<◌, ◌==◌, ◌&&◌, List, [], ◌∷◌, ◌++◌, append_assoc, length, length-append, map, take, Bool, true, cond, Some, refl, sym, ap, ◌∙◌, arith, replicate}
 use Rattle.std.specs.List.{filter_map}
 use Rattle.std.specs.Ordering.{int_eq}
 use Rattle.std.proofs.lemmas.Bool.Decides.{Decides-int_eq}
@@ -11,30 +11,39 @@ use Rattle.bike_ledger.specs.declared.entry.EntryKind.TheVariants.{TopUp, Fare, 
 use Rattle.bike_operator.specs.Counts.{count}
 use Rattle.bike_operator.specs.Sound.{is_fare}
 use Rattle.bike_readings.specs.Readings.{entry_read}
+use Rattle.sqlite_rules.specs.Lists.{Has}
+use Rattle.bike_judges.specs.Lines.{part}
 use Rattle.bike_judges.specs.Passes.{first_failing}
 use Rattle.bike_ledger_rules.specs.Sums.{sum_at, with_read}
-use Rattle.bike_ledger_rules.specs.Entries.{with_fare, with_fares, is_first, second_fare}
+use Rattle.bike_ledger_rules.specs.Entries.{with_fare, with_fares, entry_holds, first_bad}
 use Rattle.bike_ledger_rules.proofs.Folds.{fold_append}
 use Rattle.bike_ledger_rules.proofs.SumLemmas.{fold_read, count_of_items}
 
 -- ---- the pass
 
-module _ (fares : List ℤ) where
+module _ (riders : ℕ → Bool) (now riding : ℕ) (fares : List ℤ) (line : Row → Row) where
   -- one more row, after those that stand before it
   abbrev next : List ℤ → Row → List ℤ
   next sums row = with_read with_fare sums (entry_read row)
 
-  abbrev of_all : List Row → ℕ → Row → Bool
-  of_all all n row = is_first (with_fares fares (take n all)) (entry_read row)
+  -- what a line is asked with the fares of the rows before it
+  abbrev pub of_all : List Row → ℕ → Row → Bool
+  of_all all n = entry_holds riders now riding (with_fares fares (take n all)) n
+
+  -- a line holds its entry in front
+  abbrev Shows : List Row → Type 0
+  Shows rows = (row : Row) → Has rows row → part 0 6 (line row) ≡ row
 
   -- the pass over these rows, which stand behind those
   abbrev Passes : List Row → List Row → Type 0
-  Passes before rows = second_fare (with_fares fares before) rows ≡ first_failing (of_all (before ++ rows)) (take 1) (length before) rows
+  Passes before rows =
+      first_bad riders now riding (with_fares fares before) (length before) (map line rows)
+      ≡ first_failing (of_all (before ++ rows)) (take 1) (length before) (map line rows)
 
-  passes : (before rows : List Row) → Passes before rows
+  passing : (before rows : List Row) → Shows rows → Passes before rows
   unfolding first_failing
-  passes before [] = refl
-  passes before (row ∷ rows) = go (passes (before ++ row ∷ []) rows) where
+  passing before [] shows = refl
+  passing before (row ∷ rows) shows = go (passing (before ++ row ∷ []) rows (λ r has. shows r (inr has))) where
     here : before ≡ take (length before) (before ++ row ∷ rows)
     here = sym (take_at before (row ∷ rows) (length before) refl)
 
@@ -42,15 +51,18 @@ module _ (fares : List ℤ) where
     go later =
         let all = before ++ row ∷ rows in
         let front = before ++ row ∷ [] in
-        let rest : second_fare (next (with_fares fares before) row) rows ≡ first_failing (of_all all) (take 1) (suc (length before)) rows =
-        ap (λ (sums : List ℤ). second_fare sums rows) (sym (fold_append next fares before (row ∷ []))) ∙ later
-        ∙ ap (λ (xs : List Row). first_failing (of_all xs) (take 1) (length front) rows) (append_assoc before (row ∷ []) rows)
-        ∙ ap (λ (n : ℕ). first_failing (of_all all) (take 1) n rows) (length-append before (row ∷ []) ∙ (omega arith)) in
-        λ i. cond (is_first (with_fares fares (here i)) (entry_read row)) (rest i) (Some (take 1 row))
+        let pass = λ (sums : List ℤ) (n : ℕ). first_bad riders now riding sums n (map line rows) in
+        let rest : pass (next (with_fares fares before) (part 0 6 (line row))) (length before + 1) ≡ first_failing (of_all all) (take 1) (suc (length before)) (map line rows) =
+        ap (λ (r : Row). pass (next (with_fares fares before) r) (length before + 1)) (shows row (inl refl))
+        ∙ ap (λ (sums : List ℤ). pass sums (length before + 1)) (sym (fold_append next fares before (row ∷ [])))
+        ∙ ap (pass (with_fares fares front)) (sym (length-append before (row ∷ []))) ∙ later
+        ∙ ap (λ (xs : List Row). first_failing (of_all xs) (take 1) (length front) (map line rows)) (append_assoc before (row ∷ []) rows)
+        ∙ ap (λ (n : ℕ). first_failing (of_all all) (take 1) n (map line rows)) (length-append before (row ∷ []) ∙ (omega arith)) in
+        λ i. cond (entry_holds riders now riding (with_fares fares (here i)) (length before) (line row)) (rest i) (Some (take 1 (line row)))
 
   -- THE PASS over all rows
-  pub fares_pass : (rows : List Row) → second_fare fares rows ≡ first_failing (of_all rows) (take 1) 0 rows
-  fares_pass rows = passes [] rows
+  pub entries_pass : (rows : List Row) → Shows rows → first_bad riders now riding fares 0 (map line rows) ≡ first_failing (of_all rows) (take 1) 0 (map line rows)
+  entries_pass rows shows = passing [] rows shows
 
 -- ---- how many fares there are
 

@@ -9,6 +9,10 @@ pub mod Widths
 pub mod Parts
 pub mod Lookups
 pub mod ReadLaws
+pub mod Values
+pub mod IdentSets
+pub mod KnownFolds
+pub mod KnownRows
 pub mod Earlier
 pub mod RentalRules
 pub mod MetaRow

@@ -1,6 +1,6 @@
 -- What is found under a key in rows that are those of a map is the record that the map has.
 use Rattle.std.proofs.Common.{◌≡◌, ℕ, List, Option, Some, None, refl, sym, ap, ◌∙◌}
-use Rattle.std.specs.Prelude.{option_map}
+use Rattle.std.specs.Prelude.{option_map, option_and_then}
 use Rattle.std.specs.declared.cmp.Ordering.{Ordering}
 use Rattle.std.specs.FinMap as fin
 use Rattle.std.specs.FinMap.{FinMap}
@@ -10,7 +10,6 @@ use Rattle.sqlite_rules.specs.Lists.{Has}
 use Rattle.bike_rows.specs.View.{row_with}
 use Rattle.bike_book.proofs.MapRows.{StoresKeys, BeginsWithKey, found_entries}
 use Rattle.bike_readings.proofs.ReadLists.{IsStored, AreRowsOf}
-use Rattle.bike_judges.specs.Lines.{nulls, or_nulls}
 
 module _ {K X : Type 0} {R : K → K → Ordering} {keys : ℕ} {key_row : K → Row} {IsGood : K → Type 0} (h : StoresKeys R keys key_row IsGood) (every : (k : K) → IsGood k) (row : K × X → Row) (begins : BeginsWithKey h row)
     (read : Row → Option (K × X)) (rows : List Row) (m : FinMap R X) (are : AreRowsOf h row begins read rows m) (stored : (r : Row) → Has rows r → IsStored read row r) where
@@ -39,12 +38,12 @@ module _ {K X : Type 0} {R : K → K → Ordering} {keys : ℕ} {key_row : K →
   pub none_row : (k : K) → fin.get m k ≡ None → row_with keys (key_row k) rows ≡ None
   none_row k is = under k ∙ ap (option_map (λ (x : X). row (k, x))) is
 
-  -- a reader of rows, which reads NULLs as nothing, reads the partner as the map has it
-  pub reads_partner : (width : ℕ) (reads : Row → Option (K × X)) → reads (nulls width) ≡ None → ((r : Row) → Has rows r → reads r ≡ read r) → (k : K)
-      → reads (or_nulls width (row_with keys (key_row k) rows)) ≡ option_map (λ v. (k, v)) (fin.get m k)
-  reads_partner width reads nothing same k = go (fin.get m k) refl where
-    go : (o : Option X) → fin.get m k ≡ o → reads (or_nulls width (row_with keys (key_row k) rows)) ≡ option_map (λ v. (k, v)) o
-    go None is = ap (λ (r : Option Row). reads (or_nulls width r)) (none_row k is) ∙ nothing
+  -- a reader of rows reads the row under a key as the map has it
+  pub reads_under : (reads : Row → Option (K × X)) → ((r : Row) → Has rows r → reads r ≡ read r) → (k : K)
+      → option_and_then reads (row_with keys (key_row k) rows) ≡ option_map (λ v. (k, v)) (fin.get m k)
+  reads_under reads same k = go (fin.get m k) refl where
+    go : (o : Option X) → fin.get m k ≡ o → option_and_then reads (row_with keys (key_row k) rows) ≡ option_map (λ v. (k, v)) o
+    go None is = ap (option_and_then reads) (none_row k is)
     go (Some v) is =
         let it = found_row k v is in
-        ap (λ (r : Option Row). reads (or_nulls width r)) it.row_is ∙ same it.item it.has ∙ it.read_is
+        ap (option_and_then reads) it.row_is ∙ same it.item it.has ∙ it.read_is

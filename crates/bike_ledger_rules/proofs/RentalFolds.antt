@@ -1,4 +1,4 @@
--- What the entries of rentals come to by their numbers is what the ledger says.
+-- What the entries of rentals come to by their numbers is what the ledger says, and rentals are asked the same by what is held in memory.
 use Rattle.std.proofs.Common.{◌≡◌, ℕ, ℤ, pos, ◌+◌, ◌<◌, ◌≤◌, ◌==◌, ◌&&◌, List, length, filter, replicate, Bool, true, false, cond, Option, Some, None, refl, sym, ap, ap₂, subst, ◌∙◌, arith}
 use Rattle.std.specs.Prelude.{option_map, take}
 use Rattle.std.specs.List.{fold, filter_map}
@@ -23,10 +23,12 @@ use Rattle.bike_judges.specs.Judging.{key_row}
 use Rattle.bike_judges.specs.Passes.{first_failing, OfRow, Demands}
 use Rattle.bike_judges.specs.Verdicts.{IsFirstFailing}
 use Rattle.bike_judges.proofs.LineLaw.{below_tied, rows_verdict}
+use Rattle.bike_ledger_rules.specs.declared.known.Names.{Names}
 use Rattle.bike_ledger_rules.specs.declared.rental_entries.RentalEntries.{RentalEntries}
 use Rattle.bike_ledger_rules.specs.Lines.{FindsFailing, first_column}
 use Rattle.bike_ledger_rules.specs.Sums.{sum_at, with_added}
-use Rattle.bike_ledger_rules.specs.Rentals.{is_booked, books_hold, fare_count, refund_sum, books_test, sums_test, with_entry, with_line, AreSums}
+use Rattle.bike_ledger_rules.specs.Known.{Known, has_station, known_in, held_in}
+use Rattle.bike_ledger_rules.specs.Rentals.{names_test, ends_test, is_booked, fare_count, refund_sum, passes, rental_test, held_test, with_entry, with_line, AreSums}
 use Rattle.bike_ledger_rules.proofs.Folds.{entries_read}
 use Rattle.bike_ledger_rules.proofs.Rows.{failing_same}
 use Rattle.bike_ledger_rules.proofs.SumLemmas.{with_all, fold_read, fold_held, sum_of_entries, count_of_items}
@@ -90,45 +92,57 @@ module _ (t : Tables) where
 
   -- ---- what is asked by them
 
-  module _ (a : RentalEntries) (are : AreSums t a) where
-    same_test : (n : ℕ) (r : Row) → n < length t.rentals → sums_test a n r ≡ books_test t n r
-    same_test n r low = go (rental_read r) where
-      by : (e : ℕ × Rental × ℤ) (next : Bool) → (next ≡ true → e.0 ≤ length t.rentals)
-          → (next && is_booked (sum_at a.fares e.0) (sum_at a.refunds e.0) e.1 e.2)
-          ≡ (next && is_booked (fare_count t e.0) (refund_sum t e.0) e.1 e.2)
-      by e false within = refl
-      by e true within = ap₂ (λ (x y : ℤ). is_booked x y e.1 e.2) (are.fares e.0 (within refl)) (are.refunds e.0 (within refl))
+  module _ (now : ℕ) (names : Names) (known : held_in names ≡ known_in t) (a : RentalEntries) (are : AreSums t a) where
+    abbrev held : ℕ → Row → Bool
+    held = held_test now names a
 
-      go : (o : Option (ℕ × Rental × ℤ)) → books_hold n (sum_at a.fares) (sum_at a.refunds) o ≡ books_hold n (fare_count t) (refund_sum t) o
-      go None = refl
-      go (Some e) = by e (e.0 == n + 1) (λ next. let is = (Decides-eqb e.0 (n + 1)).0 next in omega (arith, is, low))
+    abbrev rule : ℕ → Row → Bool
+    rule = rental_test now t
+
+    same_test : (n : ℕ) (r : Row) → n < length t.rentals → held n r ≡ rule n r
+    same_test n r low =
+        ap (λ (k : Known). passes k now (sum_at a.fares) (sum_at a.refunds) n (rental_read r)) known ∙ go (rental_read r)
+      where
+        by : (e : ℕ × Rental × ℤ) (next : Bool) → (next ≡ true → e.0 ≤ length t.rentals)
+            → (next && is_booked (sum_at a.fares e.0) (sum_at a.refunds e.0) e.1 e.2)
+            ≡ (next && is_booked (fare_count t e.0) (refund_sum t e.0) e.1 e.2)
+        by e false within = refl
+        by e true within = ap₂ (λ (x y : ℤ). is_booked x y e.1 e.2) (are.fares e.0 (within refl)) (are.refunds e.0 (within refl))
+
+        go : (o : Option (ℕ × Rental × ℤ)) → passes (known_in t) now (sum_at a.fares) (sum_at a.refunds) n o
+            ≡ passes (known_in t) now (fare_count t) (refund_sum t) n o
+        go None = refl
+        go (Some e) =
+            ap (λ (books : Bool). names_test (known_in t) e && (ends_test (has_station t) now e && books))
+            (by e (e.0 == n + 1) (λ next. let is = (Decides-eqb e.0 (n + 1)).0 next in omega (arith, is, low)))
 
     below : (key r : Row) → row_under t Rentals key ≡ Some r → rows_below t Rentals key < length t.rentals
     below key r is =
         let there = under_has 1 key t.rentals r is in
         subst (λ (n : ℕ). n < length t.rentals) (below_tied 1 (take 1 r) key there.1 t.rentals) (lesser_fewer 1 t.rentals r there.0)
 
-    to : (key : Row) → Demands t Rentals (sums_test a) key → Demands t Rentals (books_test t) key
+    to : (key : Row) → Demands t Rentals held key → Demands t Rentals rule key
     to key = go (rows_below t Rentals key) (row_under t Rentals key) (below key) where
-      go : (n : ℕ) (o : Option Row) → ((r : Row) → o ≡ Some r → n < length t.rentals) → OfRow (sums_test a) n o → OfRow (books_test t) n o
+      go : (n : ℕ) (o : Option Row) → ((r : Row) → o ≡ Some r → n < length t.rentals) → OfRow held n o → OfRow rule n o
       go n None low h = tt
       go n (Some r) low h = sym (same_test n r (low r refl)) ∙ h
 
-    back : (key : Row) → Demands t Rentals (books_test t) key → Demands t Rentals (sums_test a) key
+    back : (key : Row) → Demands t Rentals rule key → Demands t Rentals held key
     back key = go (rows_below t Rentals key) (row_under t Rentals key) (below key) where
-      go : (n : ℕ) (o : Option Row) → ((r : Row) → o ≡ Some r → n < length t.rentals) → OfRow (books_test t) n o → OfRow (sums_test a) n o
+      go : (n : ℕ) (o : Option Row) → ((r : Row) → o ≡ Some r → n < length t.rentals) → OfRow rule n o → OfRow held n o
       go n None low h = tt
       go n (Some r) low h = same_test n r (low r refl) ∙ h
 
-    pub books_same : (v : Option Row) → IsFirstFailing t Rentals (Demands t Rentals (sums_test a)) v
-        → IsFirstFailing t Rentals (Demands t Rentals (books_test t)) v
-    books_same = failing_same t Rentals (Demands t Rentals (sums_test a)) (Demands t Rentals (books_test t)) to back
+    pub rule_fails : (v : Option Row) → IsFirstFailing t Rentals (Demands t Rentals held) v → IsFirstFailing t Rentals (Demands t Rentals rule) v
+    rule_fails = failing_same t Rentals (Demands t Rentals held) (Demands t Rentals rule) to back
 
-pub books_failing : (db : Database) (a : RentalEntries) → AreSums (tables_of db) a → (found : Option BadKey)
-    → ((v : Option Row) → first_failing (sums_test a) first_column 0 (tables_of db).rentals ≡ v → option_map key_row found ≡ v)
-    → FindsFailing Rentals books_test db found
-books_failing db a are found says =
+-- what fails first by what is held in memory fails the rule first
+pub rentals_failing : (db : Database) (now : ℕ) (names : Names) → held_in names ≡ known_in (tables_of db)
+    → (a : RentalEntries) → AreSums (tables_of db) a → (found : Option BadKey)
+    → ((v : Option Row) → first_failing (held_test now names a) first_column 0 (tables_of db).rentals ≡ v → option_map key_row found ≡ v)
+    → FindsFailing Rentals (rental_test now) db found
+rentals_failing db now names known a are found says =
     let t = tables_of db in
-    books_same t a are (option_map key_row found)
-    (rows_verdict t Rentals (stored_in_order db) (sums_test a) first_column (λ row has. refl) (option_map key_row found)
-    (sym (says (first_failing (sums_test a) first_column 0 t.rentals) refl)))
+    rule_fails t now names known a are (option_map key_row found)
+    (rows_verdict t Rentals (stored_in_order db) (held_test now names a) first_column (λ row has. refl) (option_map key_row found)
+    (sym (says (first_failing (held_test now names a) first_column 0 t.rentals) refl)))

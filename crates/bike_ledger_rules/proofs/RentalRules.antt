@@ -1,5 +1,5 @@
--- The line of a rental passes exactly where what it is asked holds of the rental.
-use Rattle.std.proofs.Common.{◌≡◌, ℕ, ℤ, ◌+◌, ◌≤◌, ◌≤ℤ◌, ◌==◌, ◌&&◌, ◌||◌, pos, List, [], ◌∷◌, ◌++◌, length, Bool, true, cond, Option, Some, None, refl, sym, ap, subst, ◌∙◌, arith}
+-- A rental passes exactly where what it is asked holds of it.
+use Rattle.std.proofs.Common.{◌≡◌, ℕ, ℤ, ◌+◌, ◌≤◌, ◌≤ℤ◌, ◌==◌, ◌&&◌, ◌||◌, pos, List, Bool, true, cond, Option, Some, None, refl, sym, ap, subst, ◌∙◌, arith}
 use Rattle.std.specs.Prelude.{option_map, is_some, is_none, nat_le, int_le}
 use Rattle.std.specs.Bool.{Decides}
 use Rattle.std.specs.FinMap as fin
@@ -8,11 +8,6 @@ use Rattle.std.proofs.lemmas.Bool.{le-leb, leb-true}
 use Rattle.std.proofs.lemmas.Bool.Decides.{Decides-eqb, Decides-int_eq, Decides-and, Decides-like}
 use Rattle.std.proofs.lemmas.Int.{ints}
 use Rattle.std.proofs.lemmas.Option.{same_Some}
-use Rattle.sqlite_value.specs.declared.value.Value.{Value}
-use Rattle.sqlite_value.specs.declared.value.Value.TheVariants.{Int, Text}
-use Rattle.sqlite_value.specs.Order.{Row, column}
-use Rattle.sqlite.specs.Values.{or_null}
-use Rattle.bike_rows.specs.View.{partner}
 use Rattle.bike_ledger.specs.Ledger.{refunded_of}
 use Rattle.bike_operator.specs.declared.records.Bike.{Bike}
 use Rattle.bike_operator.specs.declared.records.Place.{Place}
@@ -22,18 +17,12 @@ use Rattle.bike_operator.specs.declared.records.Closing.{Closing}
 use Rattle.bike_operator.specs.Operator.{Operator}
 use Rattle.bike_operator.specs.Sound.{IsOut, IsStop, most_refunded}
 use Rattle.bike_book.specs.Tables.{Tables, Plans, Stations, Bikes, Riders}
-use Rattle.bike_book.specs.Rows.{closing_columns, rental_row}
 use Rattle.bike_readings.specs.Demands.{HasFare}
-use Rattle.bike_readings.specs.Readings.{rider_read, bike_read, plan_read, station_read, rental_read}
-use Rattle.bike_readings.proofs.LedgerRows.{rental_reading}
 use Rattle.bike_readings.specs.ReadOff.{operator_of}
 use Rattle.bike_readings.specs.Rules.{AreInOrder}
-use Rattle.bike_judges.specs.Lines.{part, with_one, or_nulls}
-use Rattle.bike_ledger_rules.specs.declared.rentals.Named.TheVariants as named
-use Rattle.bike_ledger_rules.specs.Rentals.{named_line, named_test, is_in, is_out, bike_holds, bike_line, bike_test, names_test, stops, closes, ends_hold, ends_line, ends_test, books_hold, fare_count, refund_sum}
-use Rattle.bike_ledger_rules.proofs.Earlier.{AreGood, rider_partner, bike_partner, plan_partner, station_partner}
-use Rattle.bike_ledger_rules.proofs.Parts.{partner_wide, own_of_one, partner_of_one}
-use Rattle.bike_ledger_rules.proofs.RiderFolds.{AreWide}
+use Rattle.bike_ledger_rules.specs.Known.{has_rider, rental_at, bike_rental, has_plan, has_station, known_in}
+use Rattle.bike_ledger_rules.specs.Rentals.{is_in, is_out, names_test, is_stop, closes, ends_test, books_test, fare_count, refund_sum}
+use Rattle.bike_ledger_rules.proofs.Earlier.{AreGood, rider_under, bike_under, plan_under, station_under}
 
 -- ---- what is asked
 
@@ -75,7 +64,7 @@ at_most_z a b = (λ e. grind (arith, ints, e), λ h. grind (arith, ints, h))
 is_true : (b c : Bool) → b ≡ c → Decides b (c ≡ true)
 is_true b c e = (λ h. sym e ∙ h, λ h. e ∙ h)
 
-in_rental : (number : ℕ) (p : Place) → Decides (is_in number p) (p ≡ place.Rental number)
+in_rental : (number : ℕ) (p : Place) → Decides (is_in number (rental_at p)) (p ≡ place.Rental number)
 in_rental number (place.Dock station dock) = (λ e. absurd cc, λ e. absurd cc)
 in_rental number (place.Rental rental) =
     (λ e. ap place.Rental ((Decides-eqb rental number).0 e), λ e. (Decides-eqb rental number).1 (let f = e in cc))
@@ -86,14 +75,14 @@ in_rental number place.Depot = (λ e. absurd cc, λ e. absurd cc)
 abbrev pub IsOutThere : Operator → ℕ → Rental → Type 0
 IsOutThere s number r = (fin.contains_key s.bikes r.bike ≡ true) × OutIfOpen s number r r.closing
 
--- the bicycle as a map gives it
-abbrev bike_under : Operator → ℕ → Option (ℕ × Bike)
-bike_under s bike = option_map (λ b. (bike, b)) (fin.get s.bikes bike)
+-- the rental in which a bicycle is, as a map gives the bicycle
+abbrev rental_with : Operator → ℕ → Option (Option ℕ)
+rental_with s bike = option_map (λ b. rental_at b.place) (fin.get s.bikes bike)
 
-out_decides : (s : Operator) (number : ℕ) (r : Rental) → Decides (is_out number r (bike_under s r.bike)) (IsOutThere s number r)
+out_decides : (s : Operator) (number : ℕ) (r : Rental) → Decides (is_out number r (rental_with s r.bike)) (IsOutThere s number r)
 out_decides s number r = go (fin.get s.bikes r.bike) refl where
   there : (b : Bike) → fin.get s.bikes r.bike ≡ Some b → (c : Option Closing)
-      → Decides (cond (is_none c) (is_in number b.place) true) ((true ≡ true) × OutIfOpen s number r c)
+      → Decides (cond (is_none c) (is_in number (rental_at b.place)) true) ((true ≡ true) × OutIfOpen s number r c)
   there b is None = (
     λ e. (refl, record { row = b; found = is; place_is = (in_rental number b.place).0 e }),
     λ h. (in_rental number b.place).1 (ap (λ (x : Bike). x.place) (same_Some b h.1.row (sym is ∙ h.1.found)) ∙ h.1.place_is),
@@ -101,7 +90,7 @@ out_decides s number r = go (fin.get s.bikes r.bike) refl where
   there b is (Some c) = (λ e. (refl, tt), λ h. refl)
 
   go : (o : Option Bike) → fin.get s.bikes r.bike ≡ o
-      → Decides (is_out number r (option_map (λ b. (r.bike, b)) o)) ((is_some o ≡ true) × OutIfOpen s number r r.closing)
+      → Decides (is_out number r (option_map (λ b. rental_at b.place) o)) ((is_some o ≡ true) × OutIfOpen s number r r.closing)
   go None is = (λ e. absurd cc, λ h. absurd (let e = h.0 in cc))
   go (Some b) is = there b is r.closing
 
@@ -128,7 +117,7 @@ module _ (t : Tables) (before : ℕ) (e : ℕ × Rental × ℤ) where
   abbrev is_refunded : Bool
   is_refunded = int_eq e.2 sum && int_le sum (most_refunded e.1.closing)
 
-  pub books_decide : Decides (books_hold before (fare_count t) (refund_sum t) (Some e)) (BooksGood (operator_of t) before e)
+  pub books_decide : Decides (books_test (fare_count t) (refund_sum t) before e) (BooksGood (operator_of t) before e)
   books_decide =
       Decides-like (is_next && (is_fared && is_refunded))
       (λ h. record { number_is = h.0; booked = h.1.0; refunded_is = h.1.1.0; refunded = h.1.1.1 })
@@ -138,109 +127,59 @@ module _ (t : Tables) (before : ℕ) (e : ℕ × Rental × ℤ) where
       (Decides-and (int_eq e.2 sum) (int_le sum (most_refunded e.1.closing)) (Decides-int_eq e.2 sum)
       (at_most_z sum (most_refunded e.1.closing)))))
 
--- ---- the rows beside a rental's
+-- ---- what the tables have under its names
 
--- The tables of what a rental names: their rows are good, and as wide as the tables.
+-- The rows of the tables of what a rental names are good.
 pub record AreNamed (t : Tables) (up : AreInOrder t) : Type 0 where
   pub riders : AreGood t up Riders
   pub plans : AreGood t up Plans
   pub stations : AreGood t up Stations
   pub bikes : AreGood t up Bikes
-  pub wide_riders : AreWide 3 t.riders
-  pub wide_plans : AreWide 5 t.plans
-  pub wide_stations : AreWide 12 t.stations
-  pub wide_bikes : AreWide 8 t.bikes
 
-module _ (t : Tables) (up : AreInOrder t) (are : AreNamed t up)
-    (r : Row) (wide : length r ≡ 10) (e : ℕ × Rental × ℤ) (is : rental_read r ≡ Some e) where
+module _ (t : Tables) (up : AreInOrder t) (are : AreNamed t up) (e : ℕ × Rental × ℤ) where
   abbrev s : Operator
   s = operator_of t
 
-  abbrev stored : Row
-  stored = rental_row e.0 e.1 e.2
+  bike_decides : Decides (is_out e.0 e.1 (bike_rental t e.1.bike)) (IsOutThere s e.0 e.1)
+  bike_decides =
+      subst (λ (o : Option (Option ℕ)). Decides (is_out e.0 e.1 o) (IsOutThere s e.0 e.1)) (sym (bike_under t up are.bikes e.1.bike))
+      (out_decides s e.0 e.1)
 
-  -- the two parts of a line with one row beside the rental's
-  module _ (width at : ℕ) (rows : List Row) (all_wide : AreWide width rows) where
-    abbrev beside : Option Row
-    beside = partner 1 (column r at ∷ []) rows
-
-    own_read : rental_read (part 0 10 (with_one width r beside)) ≡ Some e
-    own_read = ap rental_read (own_of_one r 10 width beside wide (partner_wide width 1 (column r at ∷ []) rows all_wide)) ∙ is
-
-    beside_is : part 10 width (with_one width r beside) ≡ or_nulls width (partner 1 (column stored at ∷ []) rows)
-    beside_is =
-        partner_of_one r 10 width beside wide (partner_wide width 1 (column r at ∷ []) rows all_wide)
-        ∙ ap (λ (x : Row). or_nulls width (partner 1 (column x at ∷ []) rows)) (rental_reading.sound r e is).0
-
-  -- ---- the names
-
-  rider_there : is_some (rider_read (part 10 3 (named_line named.Rider t r))) ≡ fin.contains_key s.riders e.1.rider
-  rider_there = ap (λ (x : Row). is_some (rider_read x)) (beside_is 3 1 t.riders are.wide_riders) ∙ rider_partner t up are.riders e.1.rider
-
-  plan_there : is_some (plan_read (part 10 5 (named_line named.Plan t r))) ≡ fin.contains_key s.plans e.1.plan
-  plan_there = ap (λ (x : Row). is_some (plan_read x)) (beside_is 5 3 t.plans are.wide_plans) ∙ plan_partner t up are.plans e.1.plan
-
-  from_there : is_some (station_read (part 10 12 (named_line named.Station t r))) ≡ fin.contains_key s.stations e.1.from_station
-  from_there =
-      ap (λ (x : Row). is_some (station_read x)) (beside_is 12 4 t.stations are.wide_stations)
-      ∙ station_partner t up are.stations e.1.from_station
-
-  bike_there : bike_read (part 10 8 (bike_line t r)) ≡ bike_under s e.1.bike
-  bike_there = ap (λ (x : Row). bike_read x) (beside_is 8 2 t.bikes are.wide_bikes) ∙ bike_partner t up are.bikes e.1.bike
-
-  bike_decides : (n : ℕ) → Decides (bike_test t n r) (IsOutThere s e.0 e.1)
-  bike_decides n =
-      subst (λ (o : Option (ℕ × Rental × ℤ)). Decides (bike_holds (bike_line t r) o) (IsOutThere s e.0 e.1))
-      (sym (own_read 8 2 t.bikes are.wide_bikes))
-      (subst (λ (o : Option (ℕ × Bike)). Decides (is_out e.0 e.1 o) (IsOutThere s e.0 e.1)) (sym bike_there) (out_decides s e.0 e.1))
-
-  pub names_decide : (n : ℕ) → Decides (names_test t n r) (NamesGood s e)
-  names_decide n =
-      let rider = named_test named.Rider t n r in
-      let plan = named_test named.Plan t n r in
-      let station = named_test named.Station t n r in
-      let bike = bike_test t n r in
+  pub names_decide : Decides (names_test (known_in t) e) (NamesGood s e)
+  names_decide =
+      let rider = has_rider t e.1.rider in
+      let plan = has_plan t e.1.plan in
+      let station = has_station t e.1.from_station in
+      let bike = is_out e.0 e.1 (bike_rental t e.1.bike) in
       Decides-like ((rider && plan) && (station && bike))
       (λ h. record { rider_is = h.0.0; plan_is = h.0.1; from_is = h.1.0; bike_is = h.1.1.0; out = h.1.1.1 })
       (λ (g : NamesGood s e). ((g.rider_is, g.plan_is), (g.from_is, (g.bike_is, g.out))))
       (Decides-and (rider && plan) (station && bike)
       (Decides-and rider plan
-      (is_true rider (fin.contains_key s.riders e.1.rider) rider_there)
-      (is_true plan (fin.contains_key s.plans e.1.plan) plan_there))
-      (Decides-and station bike (is_true station (fin.contains_key s.stations e.1.from_station) from_there) (bike_decides n)))
+      (is_true rider (fin.contains_key s.riders e.1.rider) (rider_under t up are.riders e.1.rider))
+      (is_true plan (fin.contains_key s.plans e.1.plan) (plan_under t up are.plans e.1.plan)))
+      (Decides-and station bike
+      (is_true station (fin.contains_key s.stations e.1.from_station) (station_under t up are.stations e.1.from_station)) bike_decides))
 
-  -- ---- with the station where it ended
+  -- ---- how it ended
 
-  -- the column of the station where it ended
-  to_column : (c : Closing) → e.1.closing ≡ Some c → (station : List ℕ) → c.to_station ≡ Some station → column stored 6 ≡ Text station
-  to_column c closed station to = ap (λ (o : Option Closing). column (closing_columns o ++ Int e.2 ∷ []) 0) closed ∙ ap (or_null Text) to
+  stop_decides : (to : Option (List ℕ)) → Decides (is_stop (has_station t) to) (IsStop s to)
+  stop_decides None = (λ h. tt, λ h. refl)
+  stop_decides (Some station) = is_true (has_station t station) (fin.contains_key s.stations station) (station_under t up are.stations station)
 
-  to_there : (c : Closing) → e.1.closing ≡ Some c → (station : List ℕ) → c.to_station ≡ Some station
-      → is_some (station_read (part 10 12 (ends_line t r))) ≡ fin.contains_key s.stations station
-  to_there c closed station to =
-      ap (λ (x : Row). is_some (station_read x)) (beside_is 12 6 t.stations are.wide_stations)
-      ∙ ap (λ (v : Value). is_some (station_read (or_nulls 12 (partner 1 (v ∷ []) t.stations)))) (to_column c closed station to)
-      ∙ station_partner t up are.stations station
-
-  closes_decide : (o : Option Closing) → e.1.closing ≡ o → Decides (closes s.now (ends_line t r) e.1.start o) (EndedWell s e.1.start o)
-  closes_decide None closed = (λ h. tt, λ h. refl)
-  closes_decide (Some c) closed =
+  closes_decide : (o : Option Closing) → Decides (closes (has_station t) s.now e.1.start o) (EndedWell s e.1.start o)
+  closes_decide None = (λ h. tt, λ h. refl)
+  closes_decide (Some c) =
       let after = nat_le e.1.start c.finish in
       let by_now = nat_le c.finish s.now in
-      let at_stop = stops (ends_line t r) c.to_station in
+      let at_stop = is_stop (has_station t) c.to_station in
       Decides-like (after && (by_now && at_stop)) (λ h. (h.0, h.1.0, h.1.1)) (λ h. (h.0, (h.1, h.2)))
       (Decides-and after (by_now && at_stop) (at_most e.1.start c.finish)
-      (Decides-and by_now at_stop (at_most c.finish s.now) (go c.to_station refl)))
-    where
-      go : (to : Option (List ℕ)) → c.to_station ≡ to → Decides (stops (ends_line t r) to) (IsStop s to)
-      go None to = (λ h. tt, λ h. refl)
-      go (Some station) to = is_true _ (fin.contains_key s.stations station) (to_there c closed station to)
+      (Decides-and by_now at_stop (at_most c.finish s.now) (stop_decides c.to_station)))
 
-  pub ends_decide : (n : ℕ) → Decides (ends_test s.now t n r) (EndsGood s e)
-  ends_decide n =
+  pub ends_decide : Decides (ends_test (has_station t) s.now e) (EndsGood s e)
+  ends_decide =
       let by_now = nat_le e.1.start s.now in
-      let ended = closes s.now (ends_line t r) e.1.start e.1.closing in
-      subst (λ (o : Option (ℕ × Rental × ℤ)). Decides (ends_hold s.now (ends_line t r) o) (EndsGood s e))
-      (sym (own_read 12 6 t.stations are.wide_stations))
-      (Decides-like (by_now && ended) (λ h. record { by_now = h.0; ended = h.1 }) (λ (g : EndsGood s e). (g.by_now, g.ended))
-      (Decides-and by_now ended (at_most e.1.start s.now) (closes_decide e.1.closing refl)))
+      let ended = closes (has_station t) s.now e.1.start e.1.closing in
+      Decides-like (by_now && ended) (λ h. record { by_now = h.0; ended = h.1 }) (λ (g : EndsGood s e). (g.by_now, g.ended))
+      (Decides-and by_now ended (at_most e.1.start s.now) (closes_decide e.1.closing))

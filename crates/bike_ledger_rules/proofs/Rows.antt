@@ -1,5 +1,5 @@
 -- What fails first on the rows of a table is its verdict, where each row passes exactly where it is good.
-use Rattle.std.proofs.Common.{◌≡◌, ℕ, ◌&&◌, map, length, take, Bool, true, false, Option, Some, None, refl, sym, ap₂, subst}
+use Rattle.std.proofs.Common.{◌≡◌, ℕ, map, length, take, Bool, true, Option, Some, None, refl, sym, subst}
 use Rattle.std.specs.Prelude.{option_map}
 use Rattle.sqlite_value.specs.Order.{Row}
 use Rattle.sqlite_rules.specs.Lists.{Has}
@@ -12,10 +12,8 @@ use Rattle.bike_readings.proofs.Places.{under_has}
 use Rattle.bike_readings.proofs.RulesLaws.{stored_in_order}
 use Rattle.bike_judges.specs.declared.key.BadKey.{BadKey}
 use Rattle.bike_judges.specs.Judging.{key_row}
-use Rattle.bike_judges.specs.Least.{least_key}
 use Rattle.bike_judges.specs.Passes.{first_failing, OfRow, Demands}
 use Rattle.bike_judges.specs.Verdicts.{IsFirstFailing, IsTableVerdict}
-use Rattle.bike_judges.proofs.LeastLaw.{least_verdict}
 use Rattle.bike_judges.proofs.LineLaw.{lines_verdict}
 use Rattle.bike_ledger_rules.specs.Lines.{first_column, FindsFailing}
 use Rattle.bike_ledger_rules.proofs.RiderFolds.{AreWide}
@@ -66,42 +64,3 @@ lines_failing name line test width begins db wide found says =
     let t = tables_of db in
     lines_verdict t name (stored_in_order db) (line t) test first_column (λ row has. begins t row (wide row has)) (option_map key_row found)
     (sym (says (first_failing test first_column 0 (map (line t) (rows_in t name))) refl))
-
--- ---- two tests of the same rows
-
--- both tests of a row
-abbrev pub both : (Tables → ℕ → Row → Bool) → (Tables → ℕ → Row → Bool) → Tables → ℕ → Row → Bool
-both f g t n row = f t n row && g t n row
-
-module _ (name : TableName) (f g : Tables → ℕ → Row → Bool) where
-  parts : (a b : Bool) → (a && b) ≡ true → (a ≡ true) × (b ≡ true)
-  parts true b e = (refl, e)
-  parts false b e = absurd cc
-
-  module _ (t : Tables) where
-    abbrev P : Row → Type 0
-    P = Demands t name (f t)
-
-    abbrev Q : Row → Type 0
-    Q = Demands t name (g t)
-
-    join : (key : Row) → P key × Q key → Demands t name (both f g t) key
-    join key = go (rows_below t name key) (row_under t name key) where
-      go : (n : ℕ) (o : Option Row) → OfRow (f t) n o × OfRow (g t) n o → OfRow (both f g t) n o
-      go n None h = tt
-      go n (Some r) h = ap₂ (λ (a b : Bool). a && b) h.0 h.1
-
-    split : (key : Row) → Demands t name (both f g t) key → P key × Q key
-    split key = go (rows_below t name key) (row_under t name key) where
-      go : (n : ℕ) (o : Option Row) → OfRow (both f g t) n o → OfRow (f t) n o × OfRow (g t) n o
-      go n None h = (tt, tt)
-      go n (Some r) h = parts (f t n r) (g t n r) h
-
-  -- the lesser of what two passes found fails both tests first
-  pub both_failing : (db : Database) (a b found : Option BadKey) → FindsFailing name f db a → FindsFailing name g db b
-      → option_map key_row found ≡ least_key (option_map key_row a) (option_map key_row b) → FindsFailing name (both f g) db found
-  both_failing db a b found p q is =
-      let t = tables_of db in
-      failing_same t name (λ key. P t key × Q t key) (Demands t name (both f g t)) (join t) (split t) (option_map key_row found)
-      (subst (IsFirstFailing t name (λ key. P t key × Q t key)) (sym is)
-      (least_verdict t name (P t) (Q t) (option_map key_row a) (option_map key_row b) p q))

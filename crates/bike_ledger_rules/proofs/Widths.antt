@@ -10,7 +10,7 @@ use Rattle.bike_rows.proofs.FrameLemmas.{rows_of_is}
 use Rattle.bike_rows.proofs.ListLemmas.{map_has}
 use Rattle.bike_rows.proofs.OrderLemmas.{order_has}
 use Rattle.bike_rows.proofs.TreeLemmas.{by_key_total}
-use Rattle.bike_book.specs.Tables.{Plans, Stations, Bikes, Riders, Rentals, Entries}
+use Rattle.bike_book.specs.Tables.{Stations, Bikes, Rentals, Entries}
 use Rattle.bike_schema.specs.Layouts.{layout_of}
 use Rattle.bike_schema.specs.Tables.{tables_of, HasTables}
 use Rattle.bike_ledger_rules.proofs.RiderFolds.{AreWide}
@@ -23,17 +23,11 @@ wide width keys layout db it each r has =
     ap (λ (x : Row). length x) row.2 ∙ each row.0
 
 module _ (db : Database) (has : HasTables db) where
-  pub riders_wide : AreWide 3 (tables_of db).riders
-  riders_wide = wide 3 1 (layout_of Riders) db (has Riders) (λ r. refl)
-
   pub rentals_wide : AreWide 10 (tables_of db).rentals
   rentals_wide = wide 10 1 (layout_of Rentals) db (has Rentals) (λ r. refl)
 
   pub entries_wide : AreWide 6 (tables_of db).entries
   entries_wide = wide 6 1 (layout_of Entries) db (has Entries) (λ r. refl)
-
-  pub plans_wide : AreWide 5 (tables_of db).plans
-  plans_wide = wide 5 1 (layout_of Plans) db (has Plans) (λ r. refl)
 
   pub stations_wide : AreWide 12 (tables_of db).stations
   stations_wide = wide 12 1 (layout_of Stations) db (has Stations) (λ r. refl)

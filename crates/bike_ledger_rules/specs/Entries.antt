@@ -1,5 +1,5 @@
--- What is asked of the lines of entries: of each with its rider, with its rental, and with the entries before it.
-use Rattle.std.specs.Prelude.{◌≡◌, ℕ, ℤ, pos, ◌+◌, ◌==◌, ◌&&◌, nat_lt, nat_le, Bool, true, false, if◌then◌else◌, List, [], ◌∷◌, length, take, fold, Option, Some, None, is_some, option_map}
+-- What is asked of the lines of entries: of each by itself, with its rental, and with the entries before it.
+use Rattle.std.specs.Prelude.{◌≡◌, ℕ, ℤ, pos, ◌+◌, ◌==◌, ◌&&◌, nat_lt, nat_le, Bool, true, false, if◌then◌else◌, List, [], ◌∷◌, length, take, fold, Option, Some, None, option_map}
 use Rattle.std.specs.Ordering.{int_eq}
 use Rattle.sqlite_value.specs.Order.{Row, column}
 use Rattle.bike_ledger.specs.Entries.{Entry}
@@ -12,10 +12,11 @@ use Rattle.bike_operator.specs.Counts.{is_open, open_rentals}
 use Rattle.bike_operator.specs.Sound.{is_fare}
 use Rattle.bike_rows.specs.View.{partner}
 use Rattle.bike_book.specs.Tables.{Tables}
-use Rattle.bike_readings.specs.Readings.{rider_read, rental_read, entry_read}
+use Rattle.bike_readings.specs.Readings.{rental_read, entry_read}
 use Rattle.bike_readings.specs.ReadOff.{operator_of}
 use Rattle.bike_judges.specs.Lines.{part, with_one}
 use Rattle.bike_ledger_rules.specs.declared.open_rentals.RentalCount.{RentalCount}
+use Rattle.bike_ledger_rules.specs.Known.{has_rider}
 use Rattle.bike_ledger_rules.specs.Sums.{sum_at, with_added, with_read}
 
 -- ---- how many rentals there are
@@ -33,19 +34,12 @@ pub record IsRentalCount (t : Tables) (n : RentalCount) : Type 0 where
   pub next_is : n.next ≡ length t.rentals + 1
   pub riding_is : n.riding ≡ open_rentals (operator_of t)
 
--- ---- an entry with its rider
+-- ---- an entry by itself
 
 -- Of so many entries before it it is the next one, there is room for it beside the open rentals, its rider is there, and it is of the past.
-abbrev pub rider_holds : ℕ → ℕ → ℕ → Row → Option Entry → Bool
-rider_holds now riding before line None = false
-rider_holds now riding before line (Some e) =
-    (e.number == before + 1) && (nat_lt (before + riding) MOST_ENTRIES && (is_some (rider_read (part 6 3 line)) && nat_le e.at now))
-
-abbrev pub entry_rider : ℕ → ℕ → ℕ → Row → Bool
-entry_rider now riding before line = rider_holds now riding before line (entry_read (part 0 6 line))
-
-abbrev pub entry_rider_line : Tables → Row → Row
-entry_rider_line t row = with_one 3 row (partner 1 (column row 2 ∷ []) t.riders)
+abbrev pub is_next : (ℕ → Bool) → ℕ → ℕ → ℕ → Entry → Bool
+is_next riders now riding before e =
+    (e.number == before + 1) && (nat_lt (before + riding) MOST_ENTRIES && (riders e.rider && nat_le e.at now))
 
 -- ---- an entry with its rental
 
@@ -74,15 +68,8 @@ is_booked Refund e r = is_of Refund e r
 abbrev pub line_rental : Row → Option Rental
 line_rental line = option_map (λ r. r.1) (rental_read (part 6 10 line))
 
-abbrev pub rental_holds : Row → Option Entry → Bool
-rental_holds line None = false
-rental_holds line (Some e) = is_booked e.kind e (line_rental line)
-
-abbrev pub entry_rental : ℕ → Row → Bool
-entry_rental before line = rental_holds line (entry_read (part 0 6 line))
-
-abbrev pub entry_rental_line : Tables → Row → Row
-entry_rental_line t row = with_one 10 row (partner 1 (column row 3 ∷ []) t.rentals)
+abbrev pub entry_line : Tables → Row → Row
+entry_line t row = with_one 10 row (partner 1 (column row 3 ∷ []) t.rentals)
 
 -- ---- an entry with those before it
 
@@ -94,16 +81,29 @@ abbrev pub with_fares : List ℤ → List Row → List ℤ
 with_fares = fold (λ fares row. with_read with_fare fares (entry_read row))
 
 -- its rental had no fare, where it is one
-abbrev pub is_first : List ℤ → Option Entry → Bool
-is_first fares None = true
-is_first fares (Some e) = if is_fare e.kind then int_eq (sum_at fares e.rental) (pos 0) else true
+abbrev pub is_first : List ℤ → Entry → Bool
+is_first fares e = if is_fare e.kind then int_eq (sum_at fares e.rental) (pos 0) else true
 
--- so many rows stand before it
-abbrev pub first_fare : List ℤ → Tables → ℕ → Row → Bool
-first_fare fares t before row = is_first (with_fares fares (take before t.entries)) (entry_read row)
+-- ---- all that is asked of an entry
 
--- the key of the first fare of a rental that had one
-abbrev pub second_fare : List ℤ → List Row → Option Row
-second_fare fares [] = None
-second_fare fares (row ∷ rows) =
-    if is_first fares (entry_read row) then second_fare (with_read with_fare fares (entry_read row)) rows else Some (take 1 row)
+module _ (riders : ℕ → Bool) (now riding : ℕ) where
+  abbrev pub passes : List ℤ → ℕ → Row → Option Entry → Bool
+  passes fares before line None = false
+  passes fares before line (Some e) = is_next riders now riding before e && (is_booked e.kind e (line_rental line) && is_first fares e)
+
+  -- of the entry in a line with its rental, before which so many stand with these fares
+  abbrev pub entry_holds : List ℤ → ℕ → Row → Bool
+  entry_holds fares before line = passes fares before line (entry_read (part 0 6 line))
+
+  -- the key of the first line of which it doesn't hold
+  abbrev pub first_bad : List ℤ → ℕ → List Row → Option Row
+  first_bad fares before [] = None
+  first_bad fares before (line ∷ lines) =
+      if entry_holds fares before line
+      then first_bad (with_read with_fare fares (entry_read (part 0 6 line))) (before + 1) lines
+      else Some (take 1 line)
+
+-- THE RULE of a row of entries, before which so many rows stand
+abbrev pub entry_test : ℕ → ℕ → List ℤ → Tables → ℕ → Row → Bool
+entry_test now riding none t before row =
+    entry_holds (has_rider t) now riding (with_fares none (take before t.entries)) before (entry_line t row)

@@ -1,5 +1,6 @@
 pub mod Lines
 pub mod Sums
+pub mod Known
 pub mod Riders
 pub mod Rentals
 pub mod Entries

@@ -4,13 +4,16 @@
 //! by `JudgesTable` of bike_judges.
 //!
 //! Each query walks one table in the order of its key, alone or with one partner beside each row, so the database holds no table
-//! in memory. What is summed over another table stands in `Sums`, an array by number.
+//! in memory. What each rental or entry names is read once, into sets of numbers and identifiers (`known`), which the limits of a city
+//! bound. What is summed over another table stands in `Sums`, an array by number.
 #![tactic(auto)]
 
 mod columns;
 mod entries;
-mod fares;
+mod idents;
+mod known;
 mod moment;
+mod numbers;
 mod open_rentals;
 mod rental_entries;
 mod rentals;

@@ -1,17 +1,15 @@
 //! What the entries of rentals come to, by the rental's number.
 
 ghost use Rattle.std.specs.Prelude.{◌≡◌, IfOk, replicate, pos};
-ghost use Rattle.bike_book.specs.Tables.{Rentals};
 ghost use Rattle.bike_rows.specs.Calls.{ReadsWhere};
 ghost use Rattle.bike_schema.specs.Tables.{IsOurs, tables_of};
 ghost use Rattle.bike_readings.specs.Views.{rental_of};
-ghost use Rattle.bike_ledger_rules.specs.Lines.{FindsFailing, first_column};
-ghost use Rattle.bike_ledger_rules.specs.Rentals.{is_booked, books_test, sums_test, with_line, AreSums};
+ghost use Rattle.bike_ledger_rules.specs.Sums.{sum_at};
+ghost use Rattle.bike_ledger_rules.specs.Rentals.{is_booked, books_test, with_line, AreSums};
 
-use crate::columns::number_key;
 use crate::open_rentals::count_rentals;
 use crate::sums::Sums;
-use bike_judges::{BadKey, LineFold, LineJudge, LineTest, Query, fold_lines, judge_lines};
+use bike_judges::{LineFold, Query, fold_lines};
 use bike_ledger::EntryKind;
 use bike_readings::{Part, StoredRental, read_entry, read_rental};
 use bike_schema::StatementFault;
@@ -20,7 +18,7 @@ use std::alloc::Global;
 
 /// What the entries of each rental come to, by its number.
 #[derive(Debug, Drop)]
-pub struct RentalEntries {
+pub(crate) struct RentalEntries {
     /// How many of them are fares.
     fares: Sums,
     /// The sum of its refunds, in hundredths.
@@ -57,24 +55,16 @@ fn is_booked(rental: &StoredRental<'_>, fares: i64, refunded: i64) -> bool
     has_fare && rental.refunded.hundredths() == refunded && refunded <= most
 }
 
-impl LineTest for RentalEntries {
-    ghost test = { sums_test };
-
-    ghost key = { λ this. first_column };
-
-    fn is_good(&self, before: u64, line: &Row) -> Result<bool, StatementFault> {
-        let Some(rental) = read_rental(Part::whole(line)) else {
-            return Ok(false);
-        };
+impl RentalEntries {
+    /// Whether it has the next number where so many stand before it, and is booked with the fares and refunds of its number.
+    pub(crate) fn has_books(&self, before: u64, rental: &StoredRental<'_>) -> bool
+        ensures { result ≡ books_test (sum_at self.now.fares) (sum_at self.now.refunds) before (rental_of rental.now) }
+    {
         let number = rental.rental.get();
         let is_next = u64::from(number).checked_sub(1) == Some(before);
         let fares = self.fares.at(number as usize);
         let refunded = self.refunds.at(number as usize);
-        Ok(is_next && is_booked(&rental, fares, refunded))
-    }
-
-    fn bad_key(&self, line: &Row) -> Result<BadKey, StatementFault> {
-        number_key(line)
+        is_next && is_booked(rental, fares, refunded)
     }
 }
 
@@ -90,7 +80,7 @@ fn no_entries(alloc: Global, next: usize) -> Result<RentalEntries, StatementFaul
 
 /// What the entries of each rental come to, for each number that a good rental has. `NoMemory` where memory is refused, `StoreFailed`
 /// where the database fails or a sum passes 64 bits.
-fn sum_entries<S: Alter>(
+pub(crate) fn sum_entries<S: Alter>(
     alloc: Global,
     conn: &mut Connection<S>,
 ) -> Result<RentalEntries, StatementFault>
@@ -99,17 +89,4 @@ fn sum_entries<S: Alter>(
     let rentals = count_rentals(conn)?;
     let none = no_entries(alloc, rentals.next)?;
     fold_lines(conn, Query::Entries, none)
-}
-
-/// The first row that spells no rental, or a rental whose number isn't the next, that is closed with no fare, or whose refunds are not
-/// what is stored or over its fare. It takes 16 bytes of memory for each rental. `NoMemory` where memory is refused, `StoreFailed`
-/// where the database fails or a sum passes 64 bits.
-pub(crate) fn judge_books<S: Alter>(
-    alloc: Global,
-    conn: &mut Connection<S>,
-) -> Result<Option<BadKey>, StatementFault>
-    ensures { ReadsWhere S.Store IsOurs conn.old conn.new result (FindsFailing Rentals books_test) }
-{
-    let sums = sum_entries(alloc, conn)?;
-    judge_lines(conn, Query::Rentals, LineJudge::new(sums))
 }
