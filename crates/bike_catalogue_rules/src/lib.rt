@@ -3,7 +3,8 @@
 //!
 //! Each function names the first bad key of its table, where all tables before it are good. It reads the table's
 //! lines once and keeps one line at a time; the sums in `meta` take a pass over all entries too, and names are read
-//! three times: in their order, with the places that have them, and with the types and plans.
+//! three times: in their order, with the places that have them, and with the types and plans. Kept requests are read in
+//! whatever order they lie, and in that of their key only where one is bad.
 #![tactic(auto)]
 
 mod kept;

@@ -10,6 +10,9 @@ mod UnionOfThreeTexts
 mod RowSteps
 mod StepLemmas
 mod FoldOrder
+mod AnyOrderLaws
+mod BeginLaws
+mod KeptText
 pub mod LineLaw
 pub mod StretchLaw
 pub mod LeastLaw

@@ -7,3 +7,4 @@ pub mod Texts
 pub mod Closing
 pub mod Least
 pub mod Own
+pub mod AnyOrder
