@@ -2,3 +2,5 @@ pub mod TextLemmas
 pub mod RowLemmas
 pub mod SegmentLemmas
 pub mod NameLemmas
+pub mod NewestRows
+pub mod NewestLemmas

@@ -1,5 +1,5 @@
 -- The rows of further names, and what is read of them.
-use Rattle.std.proofs.Common.{◌≡◌, ◌+◌, ◌<◌, ℕ, List, [], ◌∷◌, ◌++◌, length, take, get_or, map, filter, Bool, true, false, cond, ◌&&◌, codes, Option, Some, None, refl, sym, ap, ap₂, subst, ◌∙◌}
+use Rattle.std.proofs.Common.{◌≡◌, ◌+◌, ◌<◌, ℕ, List, [], ◌∷◌, ◌++◌, length, take, get_or, map, filter, Bool, true, false, cond, ◌&&◌, codes, negsuc, Option, Some, None, refl, sym, ap, ap₂, subst, ◌∙◌}
 use Rattle.std.specs.Prelude.{option_map}
 use Rattle.std.specs.List.{AllZip}
 use Rattle.std.specs.Ordering.{is_eq, ordering_then}
@@ -8,12 +8,15 @@ use Rattle.std.specs.declared.cmp.Ordering.TheVariants.{Less, Equal, Greater}
 use Rattle.std.proofs.lemmas.List.{take_more}
 use Rattle.std.proofs.lemmas.Map.Text.{is_eq-slice_cmp}
 use Rattle.std.proofs.lemmas.Slice.Zip.{all_zipped_more}
-use Rattle.sqlite_value.specs.declared.value.Value.TheVariants.{Text}
+use Rattle.sqlite_value.specs.declared.value.Value.TheVariants.{Text, Int}
 use Rattle.sqlite_value.specs.Order.{Row, column, row_cmp}
 use Rattle.sqlite_value.proofs.OrderLemmas.{value_cmp-Text}
+use Rattle.sqlite_sql.specs.Term.{Term, lit, col}
 use Rattle.sqlite_tied.specs.Compute.{everything}
+use Rattle.bike_rows.specs.Queries.{key_tests}
 use Rattle.bike_rows.specs.View.{rows_where}
-use Rattle.bike_rows.proofs.SelectLaws.{rows_with}
+use Rattle.bike_rows.proofs.SelectLaws.{places_of, rows_passing}
+use Rattle.bike_rows.proofs.TestLemmas.{tests_key}
 use Rattle.bike_catalogue.specs.Rows.{MoreNameRow, SystemRow}
 use Rattle.bike_operator.specs.NameKind.{NameKind}
 use Rattle.bike_operator.specs.NameKinds.{kind_text}
@@ -22,15 +25,32 @@ use Rattle.bike_operator.specs.Names.{part_at, is_name_of}
 use Rattle.bike_book.specs.Tables.{MoreNames}
 use Rattle.bike_book.specs.Rows.{system_row}
 use Rattle.bike_book.specs.Stored.{stored_name}
+use Rattle.bike_schema.specs.Layouts.{layout_of}
 use Rattle.bike_schema.proofs.KeyLemmas.{table_key}
 use Rattle.bike_accounts.specs.Accounts.{system_key}
-use Rattle.bike_accounts.specs.ReadRows.{named_in, IsNamedBy}
+use Rattle.bike_accounts.specs.ReadRows.{named_in, shown_name, IsNamedBy}
 use Rattle.bike_accounts.proofs.SegmentLemmas.{ListsIn}
 
+abbrev of_what : List Term
+of_what = key_tests 0 (places_of (layout_of MoreNames) (0 ∷ 1 ∷ []))
+
+-- the language and the name, where they are stored
+abbrev language_and_name : List Term
+language_and_name = map (λ place. col 1 place) (places_of (layout_of MoreNames) (2 ∷ 3 ∷ []))
+
+abbrev values_of : NameKind → List ℕ → Row
+values_of kind id = Text (kind_text kind) ∷ Text id ∷ []
+
+abbrev is_of : NameKind → List ℕ → Row → Bool
+is_of kind id row = is_eq (row_cmp (map (column row) (0 ∷ 1 ∷ [])) (values_of kind id))
+
 pub lists_names : (kind : NameKind) (id : List ℕ)
-    → ListsIn (codes "SELECT * FROM more_names WHERE kind = ?1 AND id = ?2 ORDER BY kind, id, language") (Text (kind_text kind) ∷ Text id ∷ []) (λ t. rows_where (0 ∷ 1 ∷ []) (Text (kind_text kind) ∷ Text id ∷ []) t.more_names)
+    → ListsIn (codes "SELECT language, name FROM more_names WHERE kind = ?1 AND id = ?2 ORDER BY kind, id, language") (values_of kind id) (λ t. map shown_name (rows_where (0 ∷ 1 ∷ []) (values_of kind id) t.more_names))
 unfolding everything
-lists_names kind id = record { lists = λ db has. rows_with (table_key MoreNames) (has MoreNames) 0 (0 ∷ 1 ∷ []) (λ tree. refl, refl) refl (λ r. refl) }
+lists_names kind id = record {
+  lists = λ db has. rows_passing (table_key MoreNames) (has MoreNames) language_and_name shown_name (λ r. refl) of_what (lit (Int (negsuc 0))) (is_of kind id) (λ tree. refl, refl)
+      (λ r. tests_key 0 (places_of (layout_of MoreNames) (0 ∷ 1 ∷ [])) (values_of kind id) r refl);
+}
 
 -- ---- the rows of what has a kind and an identifier
 
@@ -67,7 +87,7 @@ next_named rows names i row x below is named so =
     subst (λ front. AllZip IsNamedBy front (names ++ x ∷ [])) (ap (λ r. take i rows ++ r ∷ []) is ∙ sym (take_more rows i row below)) (all_zipped_more IsNamedBy (take i rows) names row x so named)
 
 -- what is read of the rows of names are those names
-pub names_read : (es : List (NameKey × List ℕ)) (names : List MoreNameRow) → AllZip IsNamedBy (map stored_name es) names → names ≡ map named_in es
+pub names_read : (es : List (NameKey × List ℕ)) (names : List MoreNameRow) → AllZip IsNamedBy (map shown_name (map stored_name es)) names → names ≡ map named_in es
 names_read [] [] named = refl
 names_read [] (x ∷ names) named = absurd named
 names_read (e ∷ es) [] named = absurd named

@@ -31,6 +31,10 @@ KeepsRow row x =
 abbrev pub named_in : NameKey × List ℕ → MoreNameRow
 named_in e = record { language = part_at e.0 2; name = e.1 }
 
+-- what is asked of the row of a further name: its language and the name
+abbrev pub shown_name : Row → Row
+shown_name row = column row 2 ∷ column row 3 ∷ []
+
 -- the row is of a further name, and this is it
 abbrev pub IsNamedBy : Row → MoreNameRow → Type 0
-IsNamedBy row x = (e : NameKey × List ℕ) → row ≡ stored_name e → x ≡ named_in e
+IsNamedBy row x = (e : NameKey × List ℕ) → row ≡ shown_name (stored_name e) → x ≡ named_in e

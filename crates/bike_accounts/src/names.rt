@@ -1,6 +1,6 @@
 //! Names in further languages, and the system's own language.
 
-ghost use Rattle.std.specs.Prelude.{◌≡◌, ◌≤◌, [], ◌∷◌, IfOk, length, option_map};
+ghost use Rattle.std.specs.Prelude.{◌≡◌, ◌≤◌, [], ◌∷◌, IfOk, length, map, option_map};
 ghost use Rattle.std.specs.List.{AllZip};
 ghost use Rattle.sqlite_value.specs.declared.value.Value.TheVariants.{Text};
 ghost use Rattle.sqlite_value.specs.Order.{column};
@@ -12,7 +12,7 @@ ghost use Rattle.bike_book.specs.Rows.{system_row};
 ghost use Rattle.bike_book.specs.Found.{rows_by};
 ghost use Rattle.bike_schema.specs.Answers.{Answers};
 ghost use Rattle.bike_accounts.specs.Accounts.{system_key};
-ghost use Rattle.bike_accounts.specs.ReadRows.{IsNamedBy};
+ghost use Rattle.bike_accounts.specs.ReadRows.{IsNamedBy, shown_name};
 
 use crate::plans::find_system_row;
 use bike_catalogue::{MoreName, NameKind};
@@ -22,17 +22,17 @@ use bike_schema::{StatementFault, ident_at, name_at, text_at};
 use sqlite::{Alter, Connection, Row, params};
 use std::alloc::Global;
 
-/// The rows of the further names of what has this kind and identifier, in byte order of their languages.
+/// The languages and the further names of what has this kind and identifier, in byte order of their languages.
 fn find_name_rows<S: Alter>(
     conn: &mut Connection<S>,
     kind: NameKind,
     id: &Ident,
 ) -> Result<Vec<Row>, StatementFault>
     ensures { Answers S.Store conn.old conn.new result
-        (λ s m rows. rows.items ≡ rows_by s m MoreNames (0 ∷ 1 ∷ []) (Text (kind_text kind) ∷ Text id.now ∷ [])) }
+        (λ s m rows. rows.items ≡ map shown_name (rows_by s m MoreNames (0 ∷ 1 ∷ []) (Text (kind_text kind) ∷ Text id.now ∷ []))) }
 {
     let rows = conn.query_all(
-        "SELECT * FROM more_names WHERE kind = ?1 AND id = ?2 ORDER BY kind, id, language",
+        "SELECT language, name FROM more_names WHERE kind = ?1 AND id = ?2 ORDER BY kind, id, language",
         params![kind.as_str(), id.as_str()],
     )?;
     Ok(rows)
@@ -46,12 +46,12 @@ pub fn language_at(alloc: Global, row: &Row, at: usize) -> Result<Language, Stat
     Language::read(alloc, text.as_str())?.ok_or(StatementFault::StoreFailed)
 }
 
-/// The name that stands in a row of `more_names`, whatever has it.
+/// The name that stands beside its language, whatever has it.
 fn read_name(alloc: Global, row: &Row) -> Result<MoreName, StatementFault>
     ensures { IfOk result (IsNamedBy row.now) }
 {
-    let language = language_at(alloc, row, 2)?;
-    let name = name_at(alloc, row, 3)?;
+    let language = language_at(alloc, row, 0)?;
+    let name = name_at(alloc, row, 1)?;
     Ok(MoreName::from_fields(language, name))
 }
 

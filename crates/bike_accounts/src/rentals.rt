@@ -1,6 +1,6 @@
 //! The rentals.
 
-ghost use Rattle.std.specs.Prelude.{◌≡◌, [], ◌∷◌, IfOk, Some, length};
+ghost use Rattle.std.specs.Prelude.{◌≡◌, [], ◌∷◌, IfOk, IsTrue, Some, length};
 ghost use Rattle.sqlite_sql.specs.Aggregate.{count};
 ghost use Rattle.bike_operator.specs.Counts.{is_riding as rides, open_rentals};
 ghost use Rattle.bike_book.specs.Tables.{Rentals};
@@ -8,8 +8,10 @@ ghost use Rattle.bike_book.specs.Rows.{number_value, rental_row};
 ghost use Rattle.bike_book.specs.Found.{row_under, open_row, last_row, rows_of, rows_open};
 ghost use Rattle.bike_schema.specs.Answers.{Answers, IsReadOf};
 ghost use Rattle.bike_accounts.specs.Accounts.{stored_rental_at};
+ghost use Rattle.bike_accounts.specs.Newest.{NewestTells};
 ghost use Rattle.bike_accounts.specs.ReadRows.{HasClosing};
 
+use crate::newest::is_newest_open;
 use crate::numbers::{last_number, read_count};
 use bike_fields::{RentalNumber, RiderNumber};
 use bike_operator::{Closing, Rental};
@@ -139,13 +141,18 @@ pub fn find_rental<S: Alter>(
     }
 }
 
-/// Whether the rider has an open rental. Every fault is the database's.
+/// Whether the rider has an open rental. Where the caller knows that each open rental is its rider's newest, as
+/// `newest_tells` answers, the newest alone is read; else his rentals are walked. Every fault is the database's.
 pub fn is_riding<S: Alter>(
     conn: &mut Connection<S>,
     rider: RiderNumber,
+    newest_tells: bool,
 ) -> Result<bool, StatementFault>
-    ensures { Answers S.Store conn.old conn.new result (λ s m x. x ≡ rides s rider) }
+    ensures { Answers S.Store conn.old conn.new result (λ s m x. (IsTrue newest_tells → NewestTells s) → x ≡ rides s rider) }
 {
+    if newest_tells {
+        return is_newest_open(conn, rider);
+    }
     let row = find_open_row(conn, rider)?;
     Ok(row.is_some())
 }

@@ -4,3 +4,5 @@ pub mod ChangeLemmas
 pub mod RunLemmas
 pub mod ReadLemmas
 pub mod QueryLemmas
+pub mod OtherLemmas
+pub mod NewestLemmas

@@ -8,6 +8,8 @@ use Rattle.bike_schema.specs.declared.fault.StatementFault.{StatementFault}
 use Rattle.bike_desk.specs.declared.fault.DeskFault.{DeskFault}
 use Rattle.bike_desk.specs.declared.fault.DeskFault.TheVariants.{NoMemory, StoreFailed, Stopped}
 use Rattle.bike_desk.specs.Desk.{DeskValue}
+use Rattle.bike_desk.specs.Newest.{knows_newest}
+use Rattle.bike_desk.specs.declared.newest.Newest.{Newest}
 use Rattle.bike_desk.specs.Queries.{Queries, TellsOf}
 use Rattle.bike_desk.proofs.KeepLemmas.{kept_ours, kept_stores, quiet, still, still_going}
 
@@ -46,12 +48,12 @@ module _ {S : Type 0} (g : Ghosts S) (desk : DeskValue S) {A : Type 0} (says : O
   }
 
 -- one read
-module _ {S : Type 0} (g : Ghosts S) (conn next : Held S) (stopped : Bool) {A : Type 0} (says : Operator → A → Type 0) (going : (stopped || conn.in_transaction) ≡ false) where
+module _ {S : Type 0} (g : Ghosts S) (conn next : Held S) (stopped : Bool) (newest : Newest) {A : Type 0} (says : Operator → A → Type 0) (going : (stopped || conn.in_transaction) ≡ false) where
   abbrev pub before : DeskValue S
-  before = record { conn = conn; is_stopped = stopped || conn.in_transaction }
+  before = record { conn = conn; is_stopped = stopped || conn.in_transaction; newest_tells = knows_newest newest }
 
   abbrev pub after : DeskValue S
-  after = record { conn = next; is_stopped = stopped || next.in_transaction }
+  after = record { conn = next; is_stopped = stopped || next.in_transaction; newest_tells = knows_newest newest }
 
   answered : (x : A) → Answers g conn next {E = StatementFault} (Ok x) (λ s m. says s) → Queries g before after (Ok x) says
   answered x reads = record {
@@ -61,6 +63,7 @@ module _ {S : Type 0} (g : Ghosts S) (conn next : Held S) (stopped : Bool) {A : 
       record {
         goes_on = still_going stopped conn.in_transaction next.in_transaction at.goes_on (reads.quiet.mode at.keeps.autocommit);
         keeps = still g conn next s at.keeps clean (reads.same clean (kept_ours (state g conn) s at.keeps)) reads.quiet;
+        newest = at.newest;
       },
     );
     goes_on = going_stays stopped conn.in_transaction next.in_transaction going reads.quiet.mode;

@@ -1,3 +1,4 @@
+pub mod Newest
 pub mod Desk
 pub mod Serving
 pub mod Runs

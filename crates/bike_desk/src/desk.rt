@@ -5,12 +5,14 @@ ghost use Rattle.sqlite.specs.State.{HasCleanDisk};
 ghost use Rattle.sqlite_trees.specs.View.{doubt};
 ghost use Rattle.bike_operator.specs.Operator.{Operator};
 ghost use Rattle.bike_operator.specs.Runs.{step};
+ghost use Rattle.bike_schema.specs.Makes.{OthersStay};
 ghost use Rattle.bike_schema.specs.Stands.{AllLeft};
 ghost use Rattle.bike_desk.specs.Desk.{desk_state, IsAt, TreesStandForEither};
 
 use crate::fault::DeskFault;
+use crate::newest::{Newest, know_newest};
 use crate::serve::serve;
-use bike_booking::MOST_ROWS;
+use bike_booking::MOST_ROW_CHANGES;
 use bike_commands::{Reply, Request};
 use bike_fixed::Moment;
 use bike_requests::command_text;
@@ -23,29 +25,32 @@ use std::marker::Model;
 pub struct Desk<S: Alter> {
     pub(crate) conn: Connection<S>,
     pub(crate) stopped: bool,
+    newest: Newest,
 }
 
 impl<S: Alter> Model for Desk<S> {
     ghost use Rattle.std.specs.Prelude.{◌||◌};
     ghost use Rattle.bike_desk.specs.Desk.{DeskValue, desk_code};
+    ghost use Rattle.bike_desk.specs.Newest.{knows_newest};
 
     ghost Value = { DeskValue S };
 
     ghost coded = { desk_code S.code };
 
     // An open transaction counts as a stop.
-    ghost view = { λ d. record { conn = d.conn; is_stopped = d.stopped || d.conn.in_transaction } };
+    ghost view = { λ d. record { conn = d.conn; is_stopped = d.stopped || d.conn.in_transaction; newest_tells = knows_newest d.newest } };
 }
 
 impl<S: Alter> Desk<S> {
     /// A desk over a connection, whatever its database holds. One that begins at an operator is made by an adoption,
     /// which audits the tables first.
     pub fn over(conn: Connection<S>) -> Desk<S>
-        ensures { result ≡ record { conn = conn; is_stopped = conn.in_transaction } }
+        ensures { result ≡ record { conn = conn; is_stopped = conn.in_transaction; newest_tells = false } }
     {
         Desk {
             conn,
             stopped: false,
+            newest: Newest::Unknown,
         }
     }
 
@@ -61,11 +66,11 @@ impl<S: Alter> Desk<S> {
         ensures same { result ≡ self.conn }
         ensures autocommit { self.is_stopped ≡ false → result.in_transaction ≡ false }
     {
-        let Desk { conn, stopped: _ } = self;
+        let Desk { conn, .. } = self;
         conn
     }
 
-    /// Serves one request that comes at the moment, in one transaction.
+    /// Serves one request that comes at the moment, in one transaction. Tables of other names stay as they are.
     ///
     /// `NoMemory` comes before anything changes and leaves everything as it was. `StoreFailed` comes where the
     /// engine fails, memory for it included, or where what is stored is no sound operator's; on the tables of one
@@ -80,6 +85,8 @@ impl<S: Alter> Desk<S> {
         ensures clean { doubt (desk_state S.Store self.old).is_clean ≤ doubt (desk_state S.Store self.new).is_clean }
         ensures ok { HasCleanDisk (desk_state S.Store self.new) → (s : Operator) → IsAt S.Store self.old s
             → IfOk result (λ reply. (reply ≡ (step s moment request.now).0) × IsAt S.Store self.new (step s moment request.now).1) }
+        ensures others { HasCleanDisk (desk_state S.Store self.new) → (s : Operator) → IsAt S.Store self.old s
+            → OnOk result (OthersStay (desk_state S.Store self.old).now (desk_state S.Store self.new).now) }
         ensures goes_on { OnOk result (self.new.is_stopped ≡ false) }
         ensures no_memory { result ≡ Err DeskFault.NoMemory → self.new ≡ self.old }
         ensures store_failed { HasCleanDisk (desk_state S.Store self.new) → (s : Operator) → IsAt S.Store self.old s
@@ -95,11 +102,24 @@ impl<S: Alter> Desk<S> {
         let Ok(text) = command_text(alloc, &request.command) else {
             return Err(DeskFault::NoMemory);
         };
-        let Ok(room) = Vec::with_capacity(alloc, MOST_ROWS) else {
+        let Ok(room) = Vec::with_capacity(alloc, MOST_ROW_CHANGES) else {
             return Err(DeskFault::NoMemory);
         };
+        let Ok(newest) = know_newest(&mut self.conn, self.newest, &request.command) else {
+            self.stopped = true;
+            return Err(DeskFault::StoreFailed);
+        };
+        self.newest = newest;
         let text = text.as_str();
-        match serve(alloc, &mut self.conn, moment, request, text, room) {
+        match serve(
+            alloc,
+            &mut self.conn,
+            moment,
+            request,
+            text,
+            room,
+            newest.tells(),
+        ) {
             Ok(reply) => Ok(reply),
             Err(_) => {
                 self.stopped = true;

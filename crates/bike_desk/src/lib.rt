@@ -7,6 +7,7 @@
 mod day;
 mod desk;
 mod fault;
+mod newest;
 mod queries;
 mod run;
 mod serve;

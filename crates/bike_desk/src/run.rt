@@ -1,9 +1,10 @@
 //! Serving a list of requests.
 
-ghost use Rattle.std.specs.Prelude.{◌≡◌, ◌≤◌, ◌<◌, ◌+◌, ◌++◌, IsNone, Some, [], ◌∷◌, length, vec_len, vec_capacity};
+ghost use Rattle.std.specs.Prelude.{◌≡◌, ◌≢◌, ◌≤◌, ◌<◌, ◌+◌, ◌++◌, IsNone, Some, [], ◌∷◌, length, vec_len, vec_capacity};
 ghost use Rattle.sqlite.specs.State.{HasCleanDisk};
 ghost use Rattle.sqlite_trees.specs.View.{doubt};
 ghost use Rattle.bike_operator.specs.Operator.{Operator};
+ghost use Rattle.bike_schema.specs.Makes.{OthersStay};
 ghost use Rattle.bike_schema.specs.Stands.{AllLeft};
 ghost use Rattle.bike_desk.specs.Desk.{desk_state, IsAt};
 ghost use Rattle.bike_desk.specs.Runs.{Ran, IsAfterFront, StopsBy};
@@ -36,7 +37,8 @@ fn note(replies: &mut Vec<Reply>, reply: Reply)
 
 impl<S: Alter> Desk<S> {
     /// Serves requests in order, each with the moment at which it comes, up to the first fault. Room for
-    /// the replies is taken first: where that is refused, `NoMemory` comes before the first reply.
+    /// the replies is taken first: where that is refused, `NoMemory` comes before the first reply. Tables of other names
+    /// stay as they are, but where the store failed nothing is said of them.
     ///
     /// A stopped desk answers every list `Stopped`, the empty one too, and stays as it is; no other desk
     /// answers that.
@@ -46,6 +48,8 @@ impl<S: Alter> Desk<S> {
             → Ran S.Store self.new s calls.now result.replies.items result.end }
         ensures front { HasCleanDisk (desk_state S.Store self.new) → (s : Operator) → IsAt S.Store self.old s
             → AllLeft (desk_state S.Store self.new) (IsAfterFront s calls.now (length result.replies.items)) }
+        ensures others { HasCleanDisk (desk_state S.Store self.new) → (s : Operator) → IsAt S.Store self.old s
+            → result.end ≢ Some DeskFault.StoreFailed → OthersStay (desk_state S.Store self.old).now (desk_state S.Store self.new).now }
         ensures stops { StopsBy self.old self.new result.end }
         ensures refused { result.end ≡ Some DeskFault.Stopped → result.replies.items ≡ [] }
         ensures whole { IsNone result.end → length result.replies.items ≡ length calls.now }

@@ -1,6 +1,6 @@
 //! Serving one request: from its kept answer, or by a decision on what it names.
 
-ghost use Rattle.std.specs.Prelude.{◌≡◌, ◌≤◌, ℕ, false, IfOk, OnOk, OnErr, None, [], string_bytes, if◌then◌else◌};
+ghost use Rattle.std.specs.Prelude.{◌≡◌, ◌≤◌, ℕ, false, IsTrue, IfOk, OnOk, OnErr, None, [], string_bytes, if◌then◌else◌};
 ghost use Rattle.std.specs.Str.{bytes_eq};
 ghost use Rattle.std.specs.FinMap as map;
 ghost use Rattle.sqlite.specs.State.{HasCleanDisk};
@@ -10,7 +10,9 @@ ghost use Rattle.bike_fields.specs.Caller.{caller_text};
 ghost use Rattle.bike_commands.specs.Commands.{text_of};
 ghost use Rattle.bike_operator.specs.Operator.{Operator};
 ghost use Rattle.bike_operator.specs.Runs.{step, after_acceptance, key_in};
+ghost use Rattle.bike_schema.specs.Makes.{OthersStay};
 ghost use Rattle.bike_schema.specs.Stands.{AllLeft, Keeps};
+ghost use Rattle.bike_accounts.specs.Newest.{NewestTells};
 ghost use Rattle.bike_desk.specs.Desk.{TreesStandForEither};
 ghost use Rattle.bike_desk.specs.Serving.{Accepts, IsReadFor};
 
@@ -69,6 +71,9 @@ fn store_accepted<'a, S: Alter>(
     ensures made { HasCleanDisk (state S.Store conn.new) → (s : Operator) → Keeps (state S.Store conn.old) s
         → Accepts s now request.now meta.entry.now view.now entry.now changes.now texts.now
         → OnOk result (Keeps (state S.Store conn.new) (after_acceptance s now request.now)) }
+    ensures others { HasCleanDisk (state S.Store conn.new) → (s : Operator) → Keeps (state S.Store conn.old) s
+        → Accepts s now request.now meta.entry.now view.now entry.now changes.now texts.now
+        → OnOk result (OthersStay (state S.Store conn.old).now (state S.Store conn.new).now) }
     ensures left { HasCleanDisk (state S.Store conn.new) → (s : Operator) → Keeps (state S.Store conn.old) s
         → Accepts s now request.now meta.entry.now view.now entry.now changes.now texts.now
         → AllLeft (state S.Store conn.new) (TreesStandForEither s (after_acceptance s now request.now)) }
@@ -109,6 +114,9 @@ fn serve_read<'a, S: Alter>(
     ensures ok { HasCleanDisk (state S.Store conn.new) → (s : Operator) (t : ℕ) → Keeps (state S.Store conn.old) s
         → IsReadFor s t now request.now meta.entry.now view.now
         → IfOk result (λ reply. (reply ≡ (step s t request.now).0) × Keeps (state S.Store conn.new) (step s t request.now).1) }
+    ensures others { HasCleanDisk (state S.Store conn.new) → (s : Operator) (t : ℕ) → Keeps (state S.Store conn.old) s
+        → IsReadFor s t now request.now meta.entry.now view.now
+        → OnOk result (OthersStay (state S.Store conn.old).now (state S.Store conn.new).now) }
     ensures failed { HasCleanDisk (state S.Store conn.new) → (s : Operator) (t : ℕ) → Keeps (state S.Store conn.old) s
         → IsReadFor s t now request.now meta.entry.now view.now
         → OnErr result (AllLeft (state S.Store conn.new) (TreesStandForEither s (step s t request.now).1)) }
@@ -150,6 +158,7 @@ fn serve_anew<'a, S: Alter>(
     caller: &'a str,
     text: &'a str,
     room: Room,
+    newest_tells: bool,
 ) -> Result<Reply, StatementFault>
     requires outside { conn.old.in_transaction ≡ false }
     requires caller { caller.now ≡ caller_text request.now.caller }
@@ -158,20 +167,24 @@ fn serve_anew<'a, S: Alter>(
     ensures ended { conn.new.in_transaction ≡ false }
     ensures clean { doubt (state S.Store conn.old).is_clean ≤ doubt (state S.Store conn.new).is_clean }
     ensures ok { HasCleanDisk (state S.Store conn.new) → (s : Operator) → Keeps (state S.Store conn.old) s
-        → map.get s.kept (key_in request.now) ≡ None
+        → (IsTrue newest_tells → NewestTells s) → map.get s.kept (key_in request.now) ≡ None
         → IfOk result (λ reply. (reply ≡ (step s moment request.now).0) × Keeps (state S.Store conn.new) (step s moment request.now).1) }
+    ensures others { HasCleanDisk (state S.Store conn.new) → (s : Operator) → Keeps (state S.Store conn.old) s
+        → (IsTrue newest_tells → NewestTells s) → map.get s.kept (key_in request.now) ≡ None
+        → OnOk result (OthersStay (state S.Store conn.old).now (state S.Store conn.new).now) }
     ensures failed { HasCleanDisk (state S.Store conn.new) → (s : Operator) → Keeps (state S.Store conn.old) s
-        → map.get s.kept (key_in request.now) ≡ None
+        → (IsTrue newest_tells → NewestTells s) → map.get s.kept (key_in request.now) ≡ None
         → OnErr result (AllLeft (state S.Store conn.new) (TreesStandForEither s (step s moment request.now).1)) }
 {
     let meta = find_meta(conn)?;
-    let view = find_view(alloc, conn, &request.command)?;
+    let view = find_view(alloc, conn, &request.command, newest_tells)?;
     let now = moment.later(&meta.now);
     let _ = moment.seconds();
     serve_read(conn, &meta, &view, now, request, caller, text, room)
 }
 
-/// Serves one request, of whose command `text` is the text. Its row changes are put together in the room.
+/// Serves one request, of whose command `text` is the text. Its row changes are put together in the room. `newest_tells`
+/// says that each open rental is its rider's newest.
 pub fn serve<S: Alter>(
     alloc: Global,
     conn: &mut Connection<S>,
@@ -179,6 +192,7 @@ pub fn serve<S: Alter>(
     request: &Request,
     text: &str,
     room: Room,
+    newest_tells: bool,
 ) -> Result<Reply, StatementFault>
     requires outside { conn.old.in_transaction ≡ false }
     requires text { text.now ≡ text_of request.now.command }
@@ -186,14 +200,28 @@ pub fn serve<S: Alter>(
     ensures ended { conn.new.in_transaction ≡ false }
     ensures clean { doubt (state S.Store conn.old).is_clean ≤ doubt (state S.Store conn.new).is_clean }
     ensures ok { HasCleanDisk (state S.Store conn.new) → (s : Operator) → Keeps (state S.Store conn.old) s
+        → (IsTrue newest_tells → NewestTells s)
         → IfOk result (λ reply. (reply ≡ (step s moment request.now).0) × Keeps (state S.Store conn.new) (step s moment request.now).1) }
+    ensures others { HasCleanDisk (state S.Store conn.new) → (s : Operator) → Keeps (state S.Store conn.old) s
+        → (IsTrue newest_tells → NewestTells s)
+        → OnOk result (OthersStay (state S.Store conn.old).now (state S.Store conn.new).now) }
     ensures failed { HasCleanDisk (state S.Store conn.new) → (s : Operator) → Keeps (state S.Store conn.old) s
+        → (IsTrue newest_tells → NewestTells s)
         → OnErr result (AllLeft (state S.Store conn.new) (TreesStandForEither s (step s moment request.now).1)) }
 {
     let caller = request.caller.text();
     let caller = caller.as_str();
     match find_kept(alloc, conn, caller, request.key.as_str())? {
         Some(kept) => Ok(kept_answer(&kept, text)),
-        None => serve_anew(alloc, conn, moment, request, caller, text, room),
+        None => serve_anew(
+            alloc,
+            conn,
+            moment,
+            request,
+            caller,
+            text,
+            room,
+            newest_tells,
+        ),
     }
 }

@@ -5,6 +5,7 @@ ghost use Rattle.sqlite.specs.State.{HasCleanDisk};
 ghost use Rattle.sqlite.specs.Held.{state};
 ghost use Rattle.sqlite_trees.specs.View.{doubt};
 ghost use Rattle.bike_operator.specs.Operator.{Operator};
+ghost use Rattle.bike_schema.specs.Makes.{OthersStay};
 ghost use Rattle.bike_schema.specs.Stands.{AllLeft, Keeps};
 ghost use Rattle.bike_desk.specs.Desk.{TreesStandForEither};
 ghost use Rattle.bike_desk.specs.Serving.{IsNextBy};
@@ -14,7 +15,7 @@ use bike_schema::StatementFault;
 use bike_writes::put;
 use sqlite::{Alter, Connection};
 
-/// Makes all changes in one transaction, or none. An error says nothing of whether they were made.
+/// Makes all changes in one transaction, or none. Tables of other names stay. An error says nothing of whether the changes were made.
 pub fn make_all<S: Alter>(
     conn: &mut Connection<S>,
     changes: &[RowChange<'_>],
@@ -25,6 +26,9 @@ pub fn make_all<S: Alter>(
     ensures made { HasCleanDisk (state S.Store conn.new) → (s next : Operator)
         → IsNextBy (state S.Store conn.old) changes.now s next
         → OnOk result (Keeps (state S.Store conn.new) next) }
+    ensures others { HasCleanDisk (state S.Store conn.new) → (s next : Operator)
+        → IsNextBy (state S.Store conn.old) changes.now s next
+        → OnOk result (OthersStay (state S.Store conn.old).now (state S.Store conn.new).now) }
     ensures left { HasCleanDisk (state S.Store conn.new) → (s next : Operator)
         → IsNextBy (state S.Store conn.old) changes.now s next
         → AllLeft (state S.Store conn.new) (TreesStandForEither s next) }

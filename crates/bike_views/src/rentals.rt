@@ -1,11 +1,12 @@
 //! What the commands on rentals name.
 
-ghost use Rattle.std.specs.Prelude.{◌≡◌, ℕ};
+ghost use Rattle.std.specs.Prelude.{◌≡◌, ℕ, IsTrue};
 ghost use Rattle.std.specs.FinMap as map;
 ghost use Rattle.bike_ledger.specs.Ledger.{refunded_of};
 ghost use Rattle.bike_commands.specs.declared.command.Command.TheVariants as command;
 ghost use Rattle.bike_operator.specs.View.{planned_rental, rental_at, rental_of, view_of};
 ghost use Rattle.bike_schema.specs.Answers.{Answers};
+ghost use Rattle.bike_accounts.specs.Newest.{NewestTells};
 ghost use Rattle.bike_views.specs.Open.{AnswersOpen};
 ghost use Rattle.bike_views.specs.Parts.{rental_bike_at, rental_bike, ridden_bike, start_view};
 
@@ -110,11 +111,13 @@ fn find_ridden_bike<S: Alter>(
 fn find_start_view<S: Alter>(
     conn: &mut Connection<S>,
     rider: RiderNumber,
+    newest_tells: bool,
 ) -> Result<StartView, StatementFault>
-    ensures { Answers S.Store conn.old conn.new result (λ s m start. start ≡ start_view s rider) }
+    ensures { Answers S.Store conn.old conn.new result
+        (λ s m start. (IsTrue newest_tells → NewestTells s) → start ≡ start_view s rider) }
 {
     let found = find_rider(conn, rider)?;
-    let is_riding = is_riding(conn, rider)?;
+    let is_riding = is_riding(conn, rider, newest_tells)?;
     let rentals = rental_count(conn)?;
     let room = find_room(conn)?;
     Ok(StartView {
@@ -132,11 +135,12 @@ pub(crate) fn view_to_start<S: Alter>(
     rider: RiderNumber,
     station: &Ident,
     dock: DockNumber,
+    newest_tells: bool,
 ) -> Result<View, StatementFault>
     ensures { Answers S.Store conn.old conn.new result
-        (λ s m view. view ≡ view_of s (command.Start rider station.now dock)) }
+        (λ s m view. (IsTrue newest_tells → NewestTells s) → view ≡ view_of s (command.Start rider station.now dock)) }
 {
-    let start = find_start_view(conn, rider)?;
+    let start = find_start_view(conn, rider, newest_tells)?;
     let view = find_dock_view(alloc, conn, station, dock.get())?;
     Ok(View {
         rider: start.rider,

@@ -1,8 +1,9 @@
 //! The view of the stored operator for a command.
 
-ghost use Rattle.std.specs.Prelude.{◌≡◌};
+ghost use Rattle.std.specs.Prelude.{◌≡◌, IsTrue};
 ghost use Rattle.bike_operator.specs.View.{view_of};
 ghost use Rattle.bike_schema.specs.Answers.{Answers};
+ghost use Rattle.bike_accounts.specs.Newest.{NewestTells};
 
 use crate::bikes::{view_to_add_bike, view_to_mark_bike, view_to_retire_bike};
 use crate::catalogue::{
@@ -23,7 +24,8 @@ use bike_schema::StatementFault;
 use sqlite::{Alter, Connection};
 use std::alloc::Global;
 
-/// What the command names of the stored operator, each there or absent, and what is counted for it.
+/// What the command names of the stored operator, each there or absent, and what is counted for it. Where the caller knows
+/// that each open rental is its rider's newest, a start reads the newest alone.
 ///
 /// `NoMemory` comes where the engine or the view wants memory that is refused, and `StoreFailed` where the engine fails
 /// otherwise, or a row holds what the product never writes. In each case the tables are as before the call, or as before
@@ -32,8 +34,10 @@ pub fn find_view<S: Alter>(
     alloc: Global,
     conn: &mut Connection<S>,
     command: &Command,
+    newest_tells: bool,
 ) -> Result<View, StatementFault>
-    ensures { Answers S.Store conn.old conn.new result (λ s m view. view ≡ view_of s command.now) }
+    ensures { Answers S.Store conn.old conn.new result
+        (λ s m view. (IsTrue newest_tells → NewestTells s) → view ≡ view_of s command.now) }
 {
     match command {
         Command::SetSystem(_) => view_to_set_system(conn),
@@ -54,7 +58,7 @@ pub fn find_view<S: Alter>(
             rider,
             station,
             dock,
-        } => view_to_start(alloc, conn, *rider, station, *dock),
+        } => view_to_start(alloc, conn, *rider, station, *dock, newest_tells),
         Command::End {
             bike,
             station,

@@ -1,8 +1,9 @@
-use Rattle.std.proofs.Common.{arith, refl}
+use Rattle.std.proofs.Common.{OnOk, arith, refl, subst}
 use Rattle.sqlite.specs.State.{HasCleanDisk}
 use Rattle.sqlite.specs.Held.{state}
 use Rattle.bike_operator.specs.Operator.{Operator}
 use Rattle.bike_operator.specs.Runs.{after_acceptance}
+use Rattle.bike_schema.specs.Makes.{OthersStay}
 use Rattle.bike_schema.specs.Stands.{Keeps}
 use Rattle.bike_desk.specs.Serving.{IsNextBy, Accepts}
 use Rattle.bike_desk.proofs.KeepLemmas.{kept_ours, kept_stores, still}
@@ -34,3 +35,10 @@ returns-clause-made g c clean s keeps it =
 pub returns-clause-left : goal.returns-clause-left
 returns-clause-left g c clean s keeps it =
     c.make_all.ensures.left clean s (after_acceptance s c.args.now c.args.request.now) (next_is g c (omega (arith, clean, c.make_all.ensures.clean)) s keeps it)
+
+pub returns-clause-others : goal.returns-clause-others
+returns-clause-others g c clean s keeps it =
+    let seen : HasCleanDisk (state g.S.Store c.find_numbers.new.conn) = omega (arith, clean, c.make_all.ensures.clean) in
+    let same = (c.in_ok-numbers.ensures.answers keeps.is_open).same seen (kept_ours (state g.S.Store c.args.conn.now) s keeps) in
+    subst (λ db. OnOk c.make_all.result (OthersStay db (state g.S.Store c.make_all.new.conn).now)) same.0.now_is
+    (c.make_all.ensures.others clean s (after_acceptance s c.args.now c.args.request.now) (next_is g c seen s keeps it))

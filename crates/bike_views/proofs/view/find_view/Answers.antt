@@ -1,4 +1,4 @@
-use Rattle.std.proofs.Common.{◌≡◌, false, Result, [], sym, ap, ◌∙◌}
+use Rattle.std.proofs.Common.{◌≡◌, Bool, false, IsTrue, Result, [], sym, ap, ◌∙◌}
 use Rattle.sqlite_trees.specs.declared.store.Store.{Ghosts}
 use Rattle.sqlite.specs.Held.{Held}
 use Rattle.bike_commands.specs.declared.command.Command.{Command}
@@ -6,12 +6,13 @@ use Rattle.bike_operator.specs.declared.view.View.{View}
 use Rattle.bike_operator.specs.View.{view_of}
 use Rattle.bike_schema.specs.Answers.{Answers}
 use Rattle.bike_schema.proofs.AnswerLemmas.{reads_weaker}
+use Rattle.bike_accounts.specs.Newest.{NewestTells}
 use Rattle.bike_views.proofs.view.find_view.Goals as goal
 
--- the view for a command is that for the command matched
-view_for : {S E : Type 0} {g : Ghosts S} {old new : Held S} {result : Result View E} {c d : Command} → Answers g old new result (λ s m view. view ≡ view_of s d) → c ≡ d
-    → Answers g old new result (λ s m view. view ≡ view_of s c)
-view_for it is = reads_weaker it (λ db view each s h. each s h ∙ ap (view_of s) (sym is))
+-- the view for a command is that for the command matched, whatever is known of newest rentals
+view_for : {S E : Type 0} {g : Ghosts S} {old new : Held S} {result : Result View E} {c d : Command} {told : Bool} → Answers g old new result (λ s m view. view ≡ view_of s d) → c ≡ d
+    → Answers g old new result (λ s m view. (IsTrue told → NewestTells s) → view ≡ view_of s c)
+view_for it is = reads_weaker it (λ db view each s h tells. each s h ∙ ap (view_of s) (sym is))
 
 pub returns-in-SetSystem : goal.returns-in-SetSystem
 returns-in-SetSystem g c = view_for (reads_weaker c.view_to_set_system.ensures (λ db x it s h. it s h c.in-SetSystem.field-0)) c.in-SetSystem.is
@@ -56,7 +57,7 @@ pub returns-in-TopUp : goal.returns-in-TopUp
 returns-in-TopUp g c = view_for (reads_weaker c.view_to_top_up.ensures (λ db x it s h. it s h 0)) c.in-TopUp.is
 
 pub returns-in-Start : goal.returns-in-Start
-returns-in-Start g c = view_for c.view_to_start.ensures c.in-Start.is
+returns-in-Start g c = reads_weaker c.view_to_start.ensures (λ db view each s h tells. each s h tells ∙ ap (view_of s) (sym c.in-Start.is))
 
 pub returns-in-End : goal.returns-in-End
 returns-in-End g c = view_for c.view_to_end.ensures c.in-End.is

@@ -1,17 +1,47 @@
-use Rattle.std.proofs.Common.{sym, ap, ◌∙◌, subst}
+use Rattle.std.proofs.Common.{IsTrue, sym, ap, ◌∙◌, subst, arith}
+use Rattle.sqlite.specs.State.{HasCleanDisk}
 use Rattle.sqlite.specs.Held.{state}
+use Rattle.bike_schema.specs.Makes.{OthersStay}
 use Rattle.bike_schema.specs.Stands.{Keeps}
+use Rattle.bike_accounts.specs.Newest.{NewestTells}
 use Rattle.bike_desk.specs.Desk.{DeskValue}
+use Rattle.bike_desk.specs.Newest.{knows_newest}
 use Rattle.bike_desk.proofs.KeepLemmas.{still_going}
+use Rattle.bike_desk.proofs.NewestLemmas.{step_tells}
 use Rattle.bike_desk.proofs.desk.Desk.apply.Goals as goal
 
 pub returns-in-Ok-serve-clause-ok : goal.returns-in-Ok-serve-clause-ok
 returns-in-Ok-serve-clause-ok g c clean s at =
     let was : Keeps (state g.S.Store c.self.inside.conn) s = subst (λ (d : DeskValue g.row.S.Denot). Keeps (state g.S.Store d.conn) s) (sym c.self.view_is) at.keeps in
-    let done = c.in-Ok-serve.ensures.ok clean s was in
-    (done.0, record { goes_on = still_going c.self.inside.stopped c.self.inside.conn.in_transaction c.serve.new.conn.in_transaction (ap (λ (d : DeskValue g.row.S.Denot). d.is_stopped) c.self.view_is ∙ at.goes_on) c.in-Ok-serve.ensures.ended; keeps = done.1 })
+    let known : IsTrue (knows_newest c.self.inside.newest) → NewestTells s = subst (λ (d : DeskValue g.row.S.Denot). IsTrue d.newest_tells → NewestTells s) (sym c.self.view_is) at.newest in
+    let after : HasCleanDisk (state g.S.Store c.serve.new.conn) = clean in
+    let seen : HasCleanDisk (state g.S.Store c.know_newest.new.conn) = omega (arith, after, c.serve.ensures.clean) in
+    let newest = c.in-Ok-know_newest.ensures.newest seen s was known in
+    let done = c.in-Ok-serve.ensures.ok clean s (c.in-Ok-know_newest.ensures.keeps seen s was) (λ told. newest (sym c.tells.ensures ∙ told)) in (
+      done.0,
+      record {
+        goes_on = still_going c.self.inside.stopped c.self.inside.conn.in_transaction c.serve.new.conn.in_transaction (ap (λ (d : DeskValue g.row.S.Denot). d.is_stopped) c.self.view_is ∙ at.goes_on) c.in-Ok-serve.ensures.ended;
+        keeps = done.1;
+        newest = λ told. step_tells s c.args.moment c.args.request.now (newest told);
+      },
+    )
 
 pub returns-clause-store_failed : goal.returns-clause-store_failed
 returns-clause-store_failed g c clean s at failed =
     let was : Keeps (state g.S.Store c.self.inside.conn) s = subst (λ (d : DeskValue g.row.S.Denot). Keeps (state g.S.Store d.conn) s) (sym c.self.view_is) at.keeps in
-    c.in-Err.ensures.failed clean s was
+    let known : IsTrue (knows_newest c.self.inside.newest) → NewestTells s = subst (λ (d : DeskValue g.row.S.Denot). IsTrue d.newest_tells → NewestTells s) (sym c.self.view_is) at.newest in
+    let after : HasCleanDisk (state g.S.Store c.serve.new.conn) = clean in
+    let seen : HasCleanDisk (state g.S.Store c.know_newest.new.conn) = omega (arith, after, c.serve.ensures.clean) in
+    let newest = c.in-Ok-know_newest.ensures.newest seen s was known in
+    c.in-Err.ensures.failed clean s (c.in-Ok-know_newest.ensures.keeps seen s was) (λ told. newest (sym c.tells.ensures ∙ told))
+
+pub returns-in-Ok-serve-clause-others : goal.returns-in-Ok-serve-clause-others
+returns-in-Ok-serve-clause-others g c clean s at =
+    let was : Keeps (state g.S.Store c.self.inside.conn) s = subst (λ (d : DeskValue g.row.S.Denot). Keeps (state g.S.Store d.conn) s) (sym c.self.view_is) at.keeps in
+    let known : IsTrue (knows_newest c.self.inside.newest) → NewestTells s = subst (λ (d : DeskValue g.row.S.Denot). IsTrue d.newest_tells → NewestTells s) (sym c.self.view_is) at.newest in
+    let after : HasCleanDisk (state g.S.Store c.serve.new.conn) = clean in
+    let seen : HasCleanDisk (state g.S.Store c.know_newest.new.conn) = omega (arith, after, c.serve.ensures.clean) in
+    let newest = c.in-Ok-know_newest.ensures.newest seen s was known in
+    let same = c.in-Ok-know_newest.ensures.same seen s was in
+    let stay = c.in-Ok-serve.ensures.others clean s (c.in-Ok-know_newest.ensures.keeps seen s was) (λ told. newest (sym c.tells.ensures ∙ told)) in
+    subst (λ (d : DeskValue g.row.S.Denot). OthersStay (state g.S.Store d.conn).now (state g.S.Store c.serve.new.conn).now) c.self.view_is (subst (λ db. OthersStay db (state g.S.Store c.serve.new.conn).now) same stay)

@@ -1,8 +1,10 @@
 use Rattle.std.proofs.Common.{length-append, ◌≡◌, ◌∷◌, [], ◌++◌, take, length, sym, ap, ◌∙◌, subst, arith, Some, Err}
 use Rattle.std.proofs.lemmas.List.{take_all}
 use Rattle.bike_operator.specs.Runs.{after, replies}
-use Rattle.bike_desk.specs.Desk.{IsAt}
+use Rattle.sqlite.specs.State.{HasCleanDisk}
+use Rattle.bike_desk.specs.Desk.{desk_state, IsAt}
 use Rattle.bike_desk.specs.Runs.{EndsAt}
+use Rattle.bike_desk.proofs.OtherLemmas.{others_then, others_after}
 use Rattle.bike_desk.proofs.RunLemmas.{after-next, replies-next, front_of, fault_ends}
 use Rattle.bike_desk.proofs.desk.Desk.run_list.Goals as goal
 
@@ -23,6 +25,9 @@ calls-preserved g c =
             c.note.ensures.items ∙ ap (λ told. told ++ c.in-Ok-apply.reply ∷ []) was.0 ∙ ap (λ r. replies s (take i xs) ++ r ∷ []) now.0 ∙ sym (replies-next s xs i item c.calls-test.true c.calls-item.is),
             subst (IsAt g.S.Store c.apply.new.self) (sym (after-next s xs i item c.calls-test.true c.calls-item.is)) now.1,
           );
+      others = λ clean s at.
+          let early : HasCleanDisk (desk_state g.S.Store c.calls.self) = omega (arith, clean, c.apply.ensures.clean) in
+          others_then _ _ _ (before.others early s at) (c.in-Ok-apply.ensures.others clean _ (before.so_far early s at).1);
       goes_on = c.in-Ok-apply.ensures.goes_on;
     }
 
@@ -60,3 +65,12 @@ returns-clause-ran g c clean s at =
 
 pub returns-clause-front : goal.returns-clause-front
 returns-clause-front g c clean s at = front_of g.S.Store c.calls.self s c.args.calls.now _ _ (returns-clause-ran g c clean s at)
+
+pub returns-in-Err-apply-clause-others : goal.returns-in-Err-apply-clause-others
+returns-in-Err-apply-clause-others g c clean s at other =
+    let before = c.calls.invariant in
+    let it = c.in-Err-apply.ensures in
+    others_after g.S.Store c.args.self.now c.calls.self c.apply.new.self c.in-Err-apply.fault (before.others (omega (arith, c.apply.ensures.clean)) s at) other (λ e. it.no_memory (ap Err e)) (λ e. (it.stays (it.stopped (ap Err e))).1)
+
+pub returns-clause-others : goal.returns-clause-others
+returns-clause-others g c clean s at other = c.calls.invariant.others clean s at

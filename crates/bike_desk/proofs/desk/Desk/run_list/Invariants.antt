@@ -3,6 +3,7 @@ use Rattle.sqlite_trees.specs.View.{doubt}
 use Rattle.sqlite.specs.State.{HasCleanDisk}
 use Rattle.bike_operator.specs.Operator.{Operator}
 use Rattle.bike_operator.specs.Runs.{after, replies}
+use Rattle.bike_schema.specs.Makes.{OthersStay}
 use Rattle.bike_desk.specs.Desk.{desk_state, IsAt}
 use Rattle.bike_desk.proofs.desk.Desk.run_list.Given as goal
 
@@ -15,5 +16,7 @@ invariant-calls g l = record {
   clean : doubt (desk_state g.S.Store l.fn.self).is_clean ≤ doubt (desk_state g.S.Store l.self).is_clean;
   so_far : HasCleanDisk (desk_state g.S.Store l.self) → (s : Operator) → IsAt g.S.Store l.fn.self s
       → (l.replies.items ≡ replies s (take l.moment-index l.calls)) × IsAt g.S.Store l.self (after s (take l.moment-index l.calls));
+  others : HasCleanDisk (desk_state g.S.Store l.self) → (s : Operator) → IsAt g.S.Store l.fn.self s
+      → OthersStay (desk_state g.S.Store l.fn.self).now (desk_state g.S.Store l.self).now;
   goes_on : l.self.is_stopped ≡ false;
 }

@@ -10,7 +10,7 @@ use Rattle.bike_desk.proofs.desk.Desk.status_after.Goals as goal
 pub returns : goal.returns
 returns g c =
     let going = ap (λ (d : DeskValue g.row.S.Denot). d.is_stopped) c.self.view_is ∙ sym c.stopped.ensures ∙ c.if-stopped.false in
-    let told = queries g.S.Store c.self.inside.conn c.find_status_after-read.new.conn c.self.inside.stopped
+    let told = queries g.S.Store c.self.inside.conn c.find_status_after-read.new.conn c.self.inside.stopped c.self.inside.newest
     (λ s x. IsNextStatus s c.args.type_ids.now (first_after (option_map (λ id. id.now) c.args.after) s.stations) x) going
     c.find_status_after-read.result c.answer.new.self c.answer.result c.find_status_after-read.ensures c.answer.ensures in
     record {

@@ -1,0 +1,128 @@
+//! The newest rental of a rider, and whether each open rental is its rider's newest.
+
+ghost use Rattle.std.specs.Prelude.{◌≡◌, ◌↔◌, IfOk, IsTrue, option_map};
+ghost use Rattle.bike_operator.specs.Counts.{is_open};
+ghost use Rattle.bike_book.specs.Rows.{rental_row};
+ghost use Rattle.bike_book.specs.Stored.{stored_rental};
+ghost use Rattle.bike_schema.specs.Answers.{Answers};
+ghost use Rattle.bike_accounts.specs.Newest.{NewestTells, newest_rental, newest_is_open, newest_number, open_after, ride_of};
+
+use crate::numbers::last_number;
+use bike_fields::{RentalNumber, RiderNumber};
+use bike_rows::lookup::first_row;
+use bike_schema::{StatementFault, number_at, optional_moment_at};
+use sqlite::{Alter, Connection, Row, params};
+
+/// An open rental: its number, and who rides.
+#[derive(Clone, Copy)]
+struct Ride {
+    /// The number of the rental.
+    number: RentalNumber,
+    /// Who rides.
+    rider: RiderNumber,
+}
+
+/// The row of the rider's newest rental.
+fn find_newest_row<S: Alter>(
+    conn: &mut Connection<S>,
+    rider: RiderNumber,
+) -> Result<Option<Row>, StatementFault>
+    ensures { Answers S.Store conn.old conn.new result
+        (λ s m row. row ≡ option_map (stored_rental s.entries) (newest_rental s rider)) }
+{
+    first_row(
+        conn,
+        "SELECT * FROM rentals WHERE rider = ?1 ORDER BY rental DESC LIMIT 1",
+        params![rider.get()],
+    )
+}
+
+/// Whether the rental that stands in a row of `rentals` is open.
+fn is_open_row(row: &Row) -> Result<bool, StatementFault>
+    ensures { IfOk result (λ x. (number : _) (r : _) (refunded : _) → row.now ≡ rental_row number r refunded → x ≡ is_open r) }
+{
+    let finish = optional_moment_at(row, 7)?;
+    Ok(finish.is_none())
+}
+
+/// Whether the rider has a rental, and his newest is open. Every fault is the database's.
+pub(crate) fn is_newest_open<S: Alter>(
+    conn: &mut Connection<S>,
+    rider: RiderNumber,
+) -> Result<bool, StatementFault>
+    ensures { Answers S.Store conn.old conn.new result (λ s m x. x ≡ newest_is_open s rider) }
+{
+    match find_newest_row(conn, rider)? {
+        Some(row) => is_open_row(&row),
+        None => Ok(false),
+    }
+}
+
+/// The number of the rider's newest rental, and 0 where he has none. Every fault is the database's.
+fn find_newest_number<S: Alter>(
+    conn: &mut Connection<S>,
+    rider: RiderNumber,
+) -> Result<u32, StatementFault>
+    ensures { Answers S.Store conn.old conn.new result (λ s m x. x ≡ newest_number s rider) }
+{
+    let row = find_newest_row(conn, rider)?;
+    last_number(&row)
+}
+
+/// The row of the first open rental of a greater number.
+fn find_open_row_after<S: Alter>(
+    conn: &mut Connection<S>,
+    number: u32,
+) -> Result<Option<Row>, StatementFault>
+    ensures { Answers S.Store conn.old conn.new result
+        (λ s m row. row ≡ option_map (stored_rental s.entries) (open_after s number)) }
+{
+    first_row(
+        conn,
+        "SELECT * FROM rentals WHERE rental > ?1 AND finish IS NULL ORDER BY rental LIMIT 1",
+        params![number],
+    )
+}
+
+/// The number and the rider that stand in a row of `rentals`.
+fn read_ride(row: &Row) -> Result<Ride, StatementFault>
+    ensures { IfOk result (λ x. (number : _) (r : _) (refunded : _) → row.now ≡ rental_row number r refunded → x ≡ ride_of (number, r)) }
+{
+    let number = number_at(row, 0)?;
+    let rider = number_at(row, 1)?;
+    Ok(Ride { number, rider })
+}
+
+/// The first open rental of a greater number. Every fault is the database's.
+fn find_open_after<S: Alter>(
+    conn: &mut Connection<S>,
+    number: u32,
+) -> Result<Option<Ride>, StatementFault>
+    ensures { Answers S.Store conn.old conn.new result
+        (λ s m x. x ≡ option_map ride_of (open_after s number)) }
+{
+    match find_open_row_after(conn, number)? {
+        Some(row) => Ok(Some(read_ride(&row)?)),
+        None => Ok(None),
+    }
+}
+
+/// Whether each open rental is its rider's newest, so that the newest alone tells if he is riding. It asks for the open
+/// rentals one after another, and so reads each rental once. Every fault is the database's.
+pub fn newest_tells<S: Alter>(conn: &mut Connection<S>) -> Result<bool, StatementFault>
+    ensures { Answers S.Store conn.old conn.new result (λ s m x. IsTrue x ↔ NewestTells s) }
+{
+    let mut next = find_open_after(conn, 0)?;
+    // Each step goes on to a greater number: there are no more than rentals.
+    'rentals: for _ in 0..usize::MAX {
+        let Some(ride) = next else {
+            return Ok(true);
+        };
+        let number = ride.number.get();
+        if find_newest_number(conn, ride.rider)? != number {
+            return Ok(false);
+        }
+        next = find_open_after(conn, number)?;
+    }
+    Err(StatementFault::StoreFailed)
+}

@@ -1,0 +1,70 @@
+//! What a desk knows of newest rentals, for which its first start asks.
+
+ghost use Rattle.std.specs.Prelude.{◌≡◌, ◌≤◌, false, IsTrue, IfOk, OnOk};
+ghost use Rattle.sqlite.specs.State.{HasCleanDisk};
+ghost use Rattle.sqlite.specs.Held.{state};
+ghost use Rattle.sqlite_trees.specs.View.{doubt};
+ghost use Rattle.bike_operator.specs.Operator.{Operator};
+ghost use Rattle.bike_schema.specs.Stands.{AllLeft, Keeps, TreesStandFor};
+ghost use Rattle.bike_accounts.specs.Newest.{NewestTells};
+ghost use Rattle.bike_desk.specs.Newest.{knows_newest};
+
+use bike_accounts::newest_tells;
+use bike_commands::Command;
+use bike_schema::StatementFault;
+use sqlite::{Alter, Connection};
+
+/// What is known of newest rentals.
+#[derive(Clone, Copy)]
+pub enum Newest {
+    /// Nothing was asked yet.
+    Unknown,
+    /// Each open rental is its rider's newest, and stays so with every request.
+    Tells,
+    /// Some open rental isn't.
+    Walks,
+}
+
+impl Newest {
+    /// Whether a start may read its rider's newest rental alone.
+    pub fn tells(self) -> bool
+        ensures { result ≡ knows_newest self }
+    {
+        match self {
+            Newest::Tells => true,
+            Newest::Unknown | Newest::Walks => false,
+        }
+    }
+}
+
+/// What is known of newest rentals when the command is served: the first start asks, and no other command does. Every
+/// fault is the database's.
+pub fn know_newest<S: Alter>(
+    conn: &mut Connection<S>,
+    known: Newest,
+    command: &Command,
+) -> Result<Newest, StatementFault>
+    requires { conn.old.in_transaction ≡ false }
+    ensures ended { conn.new.in_transaction ≡ false }
+    ensures clean { doubt (state S.Store conn.old).is_clean ≤ doubt (state S.Store conn.new).is_clean }
+    ensures keeps { HasCleanDisk (state S.Store conn.new) → (s : Operator) → Keeps (state S.Store conn.old) s
+        → IfOk result (λ newest. Keeps (state S.Store conn.new) s) }
+    ensures same { HasCleanDisk (state S.Store conn.new) → (s : Operator) → Keeps (state S.Store conn.old) s
+        → OnOk result ((state S.Store conn.new).now ≡ (state S.Store conn.old).now) }
+    ensures newest { HasCleanDisk (state S.Store conn.new) → (s : Operator) → Keeps (state S.Store conn.old) s
+        → (IsTrue (knows_newest known) → NewestTells s) → IfOk result (λ newest. IsTrue (knows_newest newest) → NewestTells s) }
+    ensures left { HasCleanDisk (state S.Store conn.new) → (s : Operator) → Keeps (state S.Store conn.old) s
+        → AllLeft (state S.Store conn.new) (TreesStandFor s) }
+{
+    let Newest::Unknown = known else {
+        return Ok(known);
+    };
+    let Command::Start { .. } = command else {
+        return Ok(known);
+    };
+    if newest_tells(conn)? {
+        Ok(Newest::Tells)
+    } else {
+        Ok(Newest::Walks)
+    }
+}

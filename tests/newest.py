@@ -1,0 +1,98 @@
+"""A rider who rides by a rental that is not the newest: no request makes such a city, and the rules of docs/FORMATS.md, section 11, allow its file.
+
+A desk asks the newest rental of a rider alone where every open rental is its rider's newest; in this file it may not. So what is refused, and
+what is allowed once the older rental is closed, is that of docs/OPERATOR.md, and not of a city in which the newest rental tells.
+"""
+
+from pathlib import Path
+
+from shared import SOUND, changed, rows_of
+
+CITY = """
+office set-system metro en Metro 24/7 feeds@example.org Etc/UTC EUR http://127.0.0.1:8080 30
+office add-plan basic Basic 100 false One_euro 0:0:0:-
+office add-type city City bicycle human 0 basic
+office add-station a1 Harbour 41.890169 12.492269 4
+office add-bike 7 city
+office add-bike 8 city
+office add-bike 9 city
+office add-truck 3 20
+office open-order 3 * a1 city 3
+office load 3 1 7
+office load 3 1 8
+office load 3 1 9
+office unload 3 1 7 to 1
+office unload 3 1 8 to 2
+office unload 3 1 9 to 3
+office add-rider 17
+office top-up 17 2500
+office add-rider 18
+office top-up 18 2500
+rider:17 start 17 a1 1
+rider:18 start 18 a1 2
+dock:a1 end 8 a1 2
+"""
+
+# Rental 2 becomes one of rider 17, who still rides by rental 1.
+OLDER_IS_OPEN = (
+    "UPDATE rentals SET rider = 17 WHERE rental = 2; UPDATE entries SET rider = 17 WHERE rental = 2; "
+    "UPDATE riders SET balance = 2400 WHERE rider = 17; UPDATE riders SET balance = 2500 WHERE rider = 18"
+)
+
+
+class City:
+    """Requests to a city in a file, each a second after the one before and under a key of its own."""
+
+    def __init__(self, program, name):
+        self.program, self.file, self.asked = program, Path(program.folder, name), 0
+
+    def ask(self, *lines):
+        """The answers to these requests, each a caller and a command, in one run of the program."""
+        given = []
+        for line in lines:
+            caller, command = line.split(" ", 1)
+            self.asked += 1
+            given.append(f"{1700000000 + self.asked}\t{caller}\tk{self.asked}\t{command.replace(' ', chr(9)).replace('_', ' ')}\n")
+        status, answers, said = self.program.run("lines", self.file.name, given="".join(given).encode())
+        assert (status, said) == (0, b""), (status, said)
+        return answers.decode().replace("\t", " ").splitlines()
+
+
+def odd_city(program):
+    """The city whose rider 17 rides by rental 1, beside the newer rental 2, which is closed."""
+    city = City(program, "city.db")
+    answers = city.ask(*CITY.strip().split("\n"))
+    assert answers[-3:] == ["rental 1 7", "rental 2 8", "fare 100 2400"], answers
+    changed(city.file, OLDER_IS_OPEN)
+    assert rows_of("SELECT rental, rider, finish IS NULL FROM rentals", city.file) == [(1, 17, 1), (2, 17, 0)]
+    assert program.run("check", city.file.name) == SOUND
+    return city
+
+
+def test_a_rider_of_an_older_rental_may_not_start(program):
+    city = odd_city(program)
+    before = rows_of("SELECT * FROM rentals", city.file)
+    # A start of somebody else comes first, so that the desk has asked before.
+    answers = city.ask("rider:18 start 18 a1 3", "rider:17 start 17 a1 2", "rider:17 start 17 a1 2", "dock:a1 end 9 a1 3")
+    assert answers == ["rental 3 9", "refused 20 rider_is_riding", "refused 20 rider_is_riding", "fare 100 2400"], answers
+    answers = city.ask("rider:17 start 17 a1 2")
+    assert answers == ["refused 20 rider_is_riding"], answers
+    assert rows_of("SELECT * FROM rentals WHERE rental < 3", city.file) == before
+
+
+def test_once_the_older_rental_is_closed_the_rider_starts(program):
+    city = odd_city(program)
+    answers = city.ask("rider:17 start 17 a1 2", "dock:a1 end 7 a1 1", "rider:17 start 17 a1 1", "rider:17 start 17 a1 2", "dock:a1 end 7 a1 1")
+    assert answers == ["refused 20 rider_is_riding", "fare 100 2300", "rental 3 7", "refused 20 rider_is_riding", "fare 100 2200"], answers
+    # Now the newest tells, and a start asks for it alone.
+    answers = city.ask("rider:17 start 17 a1 2", "rider:17 start 17 a1 1", "office recover 4", "rider:17 start 17 a1 1")
+    assert answers[:2] == ["rental 4 8", "refused 20 rider_is_riding"], answers
+    assert answers[3] == "rental 5 7", answers
+    assert program.run("check", city.file.name) == SOUND
+
+
+def test_a_rider_of_the_newest_rental_may_not_start(program):
+    city = City(program, "plain.db")
+    city.ask(*CITY.strip().split("\n"))
+    answers = city.ask("rider:17 start 17 a1 2", "rider:18 start 18 a1 2", "rider:18 start 18 a1 3", "dock:a1 end 7 a1 1", "rider:17 start 17 a1 1")
+    assert answers == ["refused 20 rider_is_riding", "rental 3 8", "refused 20 rider_is_riding", "fare 100 2400", "rental 4 7"], answers
