@@ -1,5 +1,6 @@
 -- From an empty database to a desk.
 use Rattle.std.proofs.Common.{◌≡◌, inl, inr, ℕ, ◌+◌, pos, true, false, IsTrue, List, [], ◌∷◌, Ok, Some, None, Result, codes, refl, sym, ap, ◌∙◌, subst, arith, Bool}
+use Rattle.std.proofs.lemmas.Bool.{both_ways}
 use Rattle.std.specs.List.{AllZip}
 use Rattle.std.specs.declared.cmp.Ordering.{Ordering}
 use Rattle.std.specs.FinMap as map
@@ -113,10 +114,11 @@ module _ {S : Type 0} (g : Ghosts S) (old last end : Held S)
 
 -- an adopted connection is at the empty operator
 pub fresh_at : {S : Type 0} (g : Ghosts S) → Settles g → (old end : Held S) → Shows (state g old) (state g end) (state g end).now (state g end).now false → IsFresh (state g old).now (state g end).now
-    → IsAt g (record { conn = end; is_stopped = end.in_transaction }) no_operator
+    → IsAt g (record { conn = end; is_stopped = end.in_transaction; newest_tells = false }) no_operator
 fresh_at g settles old end shown fresh = record {
   goes_on = shown.mode;
   keeps = settled_keeps g settles end no_operator shown.is_open shown.mode shown.committed_is (fresh_stands (state g old).now (state g end).now fresh) fresh.has;
+  newest = λ told. absurd (both_ways false refl told);
 }
 
 module _ {S : Type 0} (g : Ghosts S) (settles : Settles g) (old : Held S) (settled : IsTrue (state g old).is_open → (state g old).now ≡ (state g old).committed) where

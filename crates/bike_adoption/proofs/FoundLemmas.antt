@@ -1,4 +1,5 @@
 -- What comes of a database that was audited.
+use Rattle.std.proofs.lemmas.Bool.{both_ways}
 use Rattle.std.proofs.Common.{◌≡◌, ◌≤◌, inl, inr, false, IsTrue, List, [], ◌∷◌, pos, Ok, IfOk, IfErr, MatchResult, refl, sym, ap, ◌∙◌, subst, codes}
 use Rattle.sqlite_trees.specs.Tree.{Trees}
 use Rattle.sqlite_trees.specs.View.{doubt}
@@ -125,13 +126,14 @@ module _ {S : Type 0} (g : Ghosts S) (settles : Settles g) (old mid : Held S) (o
 
   module _ (same : IsUnchanged (state g old) (state g mid)) where
     -- a desk over tables that stand for an operator
-    pub stands_at : (s : Operator) → Stores (state g old).now s → IsAt g (record { conn = mid; is_stopped = mid.in_transaction }) s
+    pub stands_at : (s : Operator) → Stores (state g old).now s → IsAt g (record { conn = mid; is_stopped = mid.in_transaction; newest_tells = false }) s
     stands_at s stores =
         let opened = same.0.was_open in
         record {
           goes_on = same.0.mode ∙ outside;
           keeps = settled_keeps g settles mid s same.0.is_open (same.0.mode ∙ outside) (same.0.committed_is ∙ sym (settled opened) ∙ sym same.0.now_is)
               (subst (λ d. StandsFor d s) (sym same.0.now_is) (record { sound = (live opened).0; is = inr stores })) (subst HasTables (sym same.0.now_is) stores.has);
+          newest = λ told. absurd (both_ways false refl told);
         }
 
   module _ {E : Type 0} (found : Finding) (read : ReadsAny {E = E} g old mid (Ok found) IsAudited) where

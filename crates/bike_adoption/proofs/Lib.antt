@@ -1,2 +1,3 @@
 pub mod AdoptLemmas
 mod FoundLemmas
+mod ToldLemmas

@@ -1,5 +1,5 @@
 -- What an adoption that fails hands back.
-use Rattle.std.specs.Prelude.{◌≡◌, ◌≤◌, ℕ, false, List, codes, Result, Ok, Err, IfOk, IfErr, MatchResult, IsTrue}
+use Rattle.std.specs.Prelude.{◌≡◌, ◌≤◌, ◌⊎◌, ℕ, false, List, [], codes, Result, Ok, Err, IfOk, IfErr, MatchResult, IsTrue}
 use Rattle.sqlite_trees.specs.View.{doubt}
 use Rattle.sqlite_trees.specs.declared.store.Store.{Ghosts}
 use Rattle.sqlite_trees.specs.Tree.{Trees}
@@ -9,6 +9,9 @@ use Rattle.sqlite.specs.State.{HasCleanDisk, IsUnchanged}
 use Rattle.bike_operator.specs.Operator.{Operator, no_operator}
 use Rattle.bike_schema.specs.Makes.{OthersStay}
 use Rattle.bike_schema.specs.Creates.{IsFresh}
+use Rattle.bike_schema.specs.Tables.{HasNone}
+use Rattle.bike_recognition.specs.declared.table.TableName.{TableName as Table}
+use Rattle.bike_recognition.specs.declared.stands.TheConstants.{EVERY_TABLE}
 use Rattle.bike_schema.specs.Stands.{AllLeft, IsOf, TreesStandFor}
 use Rattle.bike_schema.specs.declared.fault.StatementFault.{StatementFault}
 use Rattle.bike_schema.specs.declared.fault.StatementFault.TheVariants as statement
@@ -16,6 +19,7 @@ use Rattle.bike_adoption.specs.declared.adoption.AdoptFault.{AdoptFault}
 use Rattle.bike_adoption.specs.declared.adoption.AdoptFault.TheVariants.{Foreign, Unsound, Older, Newer, NoMemory, StoreFailed}
 use Rattle.bike_desk.specs.Desk.{DeskValue, IsAt, desk_state}
 use Rattle.bike_audit.specs.Audit.{IsAudited}
+use Rattle.bike_audit.specs.Watching.{IsFront, IsFrontTo}
 use Rattle.bike_audit.specs.declared.finding.Finding.{Finding}
 use Rattle.bike_audit.specs.declared.finding.Finding.TheVariants as finding
 
@@ -40,7 +44,7 @@ module _ {S : Type 0} where
 
   -- what comes of a database that was found to be this; one that isn't empty is never found to be
   abbrev pub found_as : Held S → Finding → Result (DeskValue S) (AdoptFault S)
-  found_as c finding.Sound = Ok (record { conn = c; is_stopped = c.in_transaction })
+  found_as c finding.Sound = Ok (record { conn = c; is_stopped = c.in_transaction; newest_tells = false })
   found_as c finding.Foreign = Err (Foreign c)
   found_as c (finding.Unsound bad) = Err (Unsound c bad)
   found_as c (finding.Older version) = Err (Older c version)
@@ -84,6 +88,14 @@ module _ {S : Type 0} where
   IsWant (NoMemory c) = Unit {0}
   IsWant (StoreFailed c) = Unit {0}
   IsWant _ = ⊥
+
+  -- THE TABLES THAT AN ADOPTION TELLS ITS WATCH OF: those that its audit tells of; none where no audit begins
+  abbrev pub AreToldBy : Ghosts S → Held S → Result (DeskValue S) (AdoptFault S) → List Table → Type 0
+  AreToldBy g old (Ok d) told = (told ≡ EVERY_TABLE) ⊎ (HasNone (state g old).now.schema × (told ≡ []))
+  AreToldBy g old (Err (Unsound c bad)) told = IsFrontTo EVERY_TABLE bad.table told
+  AreToldBy g old (Err (NoMemory c)) told = IsFront EVERY_TABLE told
+  AreToldBy g old (Err (StoreFailed c)) told = IsFront EVERY_TABLE told
+  AreToldBy g old (Err _) told = told ≡ []
 
   -- WHAT AN ADOPTION OWES: a desk at the operator for whom the database stands, or a fault that hands the connection back
   pub record Adopts (g : Ghosts S) (old : Held S) (result : Result (DeskValue S) (AdoptFault S)) : Type 0 where

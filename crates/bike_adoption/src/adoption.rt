@@ -8,7 +8,8 @@ ghost use Rattle.bike_operator.specs.Operator.{Operator};
 ghost use Rattle.bike_schema.specs.Tables.{HasNone};
 ghost use Rattle.bike_schema.specs.Stands.{AllLeft, TreesStandFor};
 ghost use Rattle.bike_desk.specs.Desk.{desk_state};
-ghost use Rattle.bike_adoption.specs.Adoption.{handed, failed, found_as, Adopts, Begins, IsOfStatement};
+ghost use Rattle.bike_audit.specs.Watching.{WasTold};
+ghost use Rattle.bike_adoption.specs.Adoption.{handed, failed, found_as, Adopts, AreToldBy, Begins, IsOfStatement};
 
 use crate::tables::make_tables;
 use bike_audit::{BadRow, Finding, Unwatched, Watch, audit};
@@ -145,7 +146,8 @@ pub fn adopt_watched<S: Alter, P: Watch>(
     watch: &mut P,
 ) -> Result<Desk<S>, AdoptFault<S>>
     requires { conn.in_transaction ≡ false }
-    ensures { Adopts S.Store conn result }
+    ensures adopts { Adopts S.Store conn result }
+    ensures watched { WasTold (P.told watch.old) (P.told watch.new) (AreToldBy S.Store conn result) }
 {
     // These two tell the prover that nothing is pending and that the database obeys its schema.
     let _ = conn.is_autocommit();

@@ -1,1 +1,2 @@
 mod AuditLemmas
+pub mod ToldLemmas

@@ -4,6 +4,7 @@ ghost use Rattle.bike_rows.specs.Calls.{ReadsWhere};
 ghost use Rattle.bike_schema.specs.Tables.{HasTables};
 ghost use Rattle.bike_recognition.specs.Recognition.{ReadsAny};
 ghost use Rattle.bike_audit.specs.Audit.{IsAudited, IsByRules};
+ghost use Rattle.bike_audit.specs.Watching.{WasTold, AreToldOf};
 
 use crate::tables::{BadRow, first_bad_row};
 use crate::watch::Watch;
@@ -35,7 +36,8 @@ fn audit_tables<S: Alter, P: Watch>(
     conn: &mut Connection<S>,
     watch: &mut P,
 ) -> Result<Finding, StatementFault>
-    ensures { ReadsWhere S.Store HasTables conn.old conn.new result (λ db found. HasTables db × IsByRules db found) }
+    ensures found { ReadsWhere S.Store HasTables conn.old conn.new result (λ db found. HasTables db × IsByRules db found) }
+    ensures watched { WasTold (P.told watch.old) (P.told watch.new) (AreToldOf result) }
 {
     check_open(conn)?;
     // This tells the prover that the database obeys its schema.
@@ -53,7 +55,8 @@ pub fn audit<S: Alter, P: Watch>(
     conn: &mut Connection<S>,
     watch: &mut P,
 ) -> Result<Finding, StatementFault>
-    ensures { ReadsAny S.Store conn.old conn.new result IsAudited }
+    ensures audited { ReadsAny S.Store conn.old conn.new result IsAudited }
+    ensures watched { WasTold (P.told watch.old) (P.told watch.new) (AreToldOf result) }
 {
     match recognise(alloc, conn)? {
         Recognition::Empty => Ok(Finding::Empty),

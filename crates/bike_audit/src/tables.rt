@@ -5,6 +5,8 @@ ghost use Rattle.bike_rows.specs.Calls.{ReadsWhere};
 ghost use Rattle.bike_schema.specs.Tables.{IsOurs};
 ghost use Rattle.bike_recognition.specs.Names.{table_named};
 ghost use Rattle.bike_audit.specs.Audit.{IsFoundIn, IsVerdictOn, row_name};
+ghost use Rattle.bike_audit.specs.Watching.{WasTold, AreTold};
+ghost use Rattle.bike_recognition.specs.declared.stands.TheConstants.{EVERY_TABLE};
 
 use crate::rules::judge_table;
 use crate::watch::Watch;
@@ -28,8 +30,9 @@ fn first_bad_of<S: Alter, P: Watch>(
     tables: &[TableName],
     watch: &mut P,
 ) -> Result<Option<BadRow>, StatementFault>
-    ensures { ReadsWhere S.Store IsOurs conn.old conn.new result
+    ensures found { ReadsWhere S.Store IsOurs conn.old conn.new result
         (λ db bad. IsFoundIn (map table_named tables.now) db (option_map row_name bad)) }
+    ensures watched { WasTold (P.told watch.old) (P.told watch.new) (AreTold tables.now result) }
 {
     match tables {
         [] => {
@@ -53,7 +56,8 @@ pub fn first_bad_row<S: Alter, P: Watch>(
     conn: &mut Connection<S>,
     watch: &mut P,
 ) -> Result<Option<BadRow>, StatementFault>
-    ensures { ReadsWhere S.Store IsOurs conn.old conn.new result IsVerdictOn }
+    ensures verdict { ReadsWhere S.Store IsOurs conn.old conn.new result IsVerdictOn }
+    ensures watched { WasTold (P.told watch.old) (P.told watch.new) (AreTold EVERY_TABLE result) }
 {
     first_bad_of(alloc, conn, &EVERY_TABLE, watch)
 }

@@ -1,4 +1,4 @@
-use Rattle.std.proofs.Common.{rules, not, inl, refl, ap, ◌∙◌, subst, sym}
+use Rattle.std.proofs.Common.{[], rules, not, inl, refl, ap, ◌∙◌, subst, sym}
 use Rattle.std.proofs.lemmas.Result.{IfOk-weaker, IfErr-weaker}
 use Rattle.sqlite.specs.Held.{state}
 use Rattle.bike_operator.specs.Operator.{no_operator}
@@ -6,12 +6,14 @@ use Rattle.bike_schema.specs.Tables.{HasNone}
 use Rattle.bike_schema.specs.Stands.{AllLeft, TreesStandFor}
 use Rattle.sqlite.specs.State.{HasCleanDisk}
 use Rattle.bike_adoption.specs.Adoption.{handed, IsWant}
+use Rattle.bike_audit.proofs.ToldLemmas.{told_nothing}
+use Rattle.bike_adoption.proofs.ToldLemmas.{told_begun, told_found, told_failed}
 use Rattle.bike_adoption.proofs.AdoptLemmas.{nobody_at, handed_failed, want_of}
 use Rattle.bike_adoption.proofs.FoundLemmas.{stays_left, still_stands, found_clean, found_only, found_others, found_at, found_told, found_refused, handed_back}
 use Rattle.bike_adoption.proofs.adoption.adopt_watched.Goals as goal
 
-pub returns-then-has_none : goal.returns-then-has_none
-returns-then-has_none g c =
+pub returns-then-has_none-clause-adopts : goal.returns-then-has_none-clause-adopts
+returns-then-has_none-clause-adopts g c =
     let none : HasNone (state g.S.Store c.args.conn).now.schema = search rules in
     record {
       clean = search rules;
@@ -25,26 +27,26 @@ returns-then-has_none g c =
       stays = λ never. absurd (never no_operator (inl (none, refl)));
     }
 
-pub returns-in-Ok : goal.returns-in-Ok
-returns-in-Ok g c =
+pub returns-in-Ok-clause-adopts : goal.returns-in-Ok-clause-adopts
+returns-in-Ok-clause-adopts g c =
     let settled = c.is_autocommit.ensures.settled (c.is_autocommit.ensures.value ∙ ap not c.requires) in
     record {
-      clean = rw c.found.ensures (found_clean g.S.Store g.met.S.Store.settled c.args.conn c.audit.new.conn c.requires settled c.schema.ensures.live c.in-Ok.finding c.in-Ok.ensures);
-      only = rw c.found.ensures (found_only g.S.Store g.met.S.Store.settled c.args.conn c.audit.new.conn c.requires settled c.schema.ensures.live c.in-Ok.finding c.in-Ok.ensures);
-      others = rw c.found.ensures (found_others g.S.Store g.met.S.Store.settled c.args.conn c.audit.new.conn c.requires settled c.schema.ensures.live c.in-Ok.finding c.in-Ok.ensures);
-      found = λ s stands. rw c.found.ensures (found_at g.S.Store g.met.S.Store.settled c.args.conn c.audit.new.conn c.requires settled c.schema.ensures.live c.in-Ok.finding c.in-Ok.ensures s stands);
+      clean = rw c.found.ensures (found_clean g.S.Store g.met.S.Store.settled c.args.conn c.audit.new.conn c.requires settled c.schema.ensures.live c.in-Ok.finding c.in-Ok.ensures.audited);
+      only = rw c.found.ensures (found_only g.S.Store g.met.S.Store.settled c.args.conn c.audit.new.conn c.requires settled c.schema.ensures.live c.in-Ok.finding c.in-Ok.ensures.audited);
+      others = rw c.found.ensures (found_others g.S.Store g.met.S.Store.settled c.args.conn c.audit.new.conn c.requires settled c.schema.ensures.live c.in-Ok.finding c.in-Ok.ensures.audited);
+      found = λ s stands. rw c.found.ensures (found_at g.S.Store g.met.S.Store.settled c.args.conn c.audit.new.conn c.requires settled c.schema.ensures.live c.in-Ok.finding c.in-Ok.ensures.audited s stands);
       refused = λ s stands. let some : ¬ HasNone (state g.S.Store c.args.conn).now.schema = search rules in
-          rw c.found.ensures (found_refused g.S.Store g.met.S.Store.settled c.args.conn c.audit.new.conn c.requires settled c.schema.ensures.live c.in-Ok.finding c.in-Ok.ensures s stands some);
-      told = rw c.found.ensures (found_told g.S.Store g.met.S.Store.settled c.args.conn c.audit.new.conn c.requires settled c.schema.ensures.live c.in-Ok.finding c.in-Ok.ensures);
+          rw c.found.ensures (found_refused g.S.Store g.met.S.Store.settled c.args.conn c.audit.new.conn c.requires settled c.schema.ensures.live c.in-Ok.finding c.in-Ok.ensures.audited s stands some);
+      told = rw c.found.ensures (found_told g.S.Store g.met.S.Store.settled c.args.conn c.audit.new.conn c.requires settled c.schema.ensures.live c.in-Ok.finding c.in-Ok.ensures.audited);
       autocommit = search rules;
-      left = λ s stands live. rw c.found.ensures (handed_back g.S.Store g.met.S.Store.settled c.args.conn c.audit.new.conn c.requires settled c.schema.ensures.live c.in-Ok.finding c.in-Ok.ensures (λ h. HasCleanDisk (state g.S.Store h) → AllLeft (state g.S.Store h) (TreesStandFor s))
-          (still_stands g.S.Store g.met.S.Store.settled c.args.conn c.audit.new.conn c.requires settled c.schema.ensures.live c.in-Ok.ensures.quiet s stands live));
-      stays = λ never. rw c.found.ensures (handed_back g.S.Store g.met.S.Store.settled c.args.conn c.audit.new.conn c.requires settled c.schema.ensures.live c.in-Ok.finding c.in-Ok.ensures (λ h. HasCleanDisk (state g.S.Store h) → AllLeft (state g.S.Store h) (state g.S.Store c.args.conn).may_leave)
-          (stays_left g.S.Store g.met.S.Store.settled c.args.conn c.audit.new.conn c.requires settled c.schema.ensures.live c.in-Ok.ensures.quiet));
+      left = λ s stands live. rw c.found.ensures (handed_back g.S.Store g.met.S.Store.settled c.args.conn c.audit.new.conn c.requires settled c.schema.ensures.live c.in-Ok.finding c.in-Ok.ensures.audited (λ h. HasCleanDisk (state g.S.Store h) → AllLeft (state g.S.Store h) (TreesStandFor s))
+          (still_stands g.S.Store g.met.S.Store.settled c.args.conn c.audit.new.conn c.requires settled c.schema.ensures.live c.in-Ok.ensures.audited.quiet s stands live));
+      stays = λ never. rw c.found.ensures (handed_back g.S.Store g.met.S.Store.settled c.args.conn c.audit.new.conn c.requires settled c.schema.ensures.live c.in-Ok.finding c.in-Ok.ensures.audited (λ h. HasCleanDisk (state g.S.Store h) → AllLeft (state g.S.Store h) (state g.S.Store c.args.conn).may_leave)
+          (stays_left g.S.Store g.met.S.Store.settled c.args.conn c.audit.new.conn c.requires settled c.schema.ensures.live c.in-Ok.ensures.audited.quiet));
     }
 
-pub returns-in-Err : goal.returns-in-Err
-returns-in-Err g c =
+pub returns-in-Err-clause-adopts : goal.returns-in-Err-clause-adopts
+returns-in-Err-clause-adopts g c =
     let settled = c.is_autocommit.ensures.settled (c.is_autocommit.ensures.value ∙ ap not c.requires) in
     record {
       clean = search rules;
@@ -55,6 +57,21 @@ returns-in-Err g c =
       told = search rules;
       autocommit = search rules;
       left = λ s stands live. let back = handed_failed c.in-Err.fault c.audit.new.conn in
-          rw (c.failed.ensures, back) (still_stands g.S.Store g.met.S.Store.settled c.args.conn c.audit.new.conn c.requires settled c.schema.ensures.live c.in-Err.ensures.quiet s stands live);
+          rw (c.failed.ensures, back) (still_stands g.S.Store g.met.S.Store.settled c.args.conn c.audit.new.conn c.requires settled c.schema.ensures.live c.in-Err.ensures.audited.quiet s stands live);
       stays = search rules;
     }
+
+pub returns-then-has_none-clause-watched : goal.returns-then-has_none-clause-watched
+returns-then-has_none-clause-watched g c =
+    let none : HasNone (state g.S.Store c.args.conn).now.schema = search rules in
+    ([], told_nothing _, told_begun g.S.Store c.args.conn none c.begin.result c.begin.ensures.told)
+
+pub returns-in-Ok-clause-watched : goal.returns-in-Ok-clause-watched
+returns-in-Ok-clause-watched g c =
+    let watched = c.in-Ok.ensures.watched in
+    rw c.found.ensures (watched.0, watched.1, told_found g.S.Store c.args.conn c.audit.new.conn c.in-Ok.finding watched.0 watched.2)
+
+pub returns-in-Err-clause-watched : goal.returns-in-Err-clause-watched
+returns-in-Err-clause-watched g c =
+    let watched = c.in-Err.ensures.watched in
+    rw c.failed.ensures (watched.0, watched.1, told_failed g.S.Store c.args.conn c.in-Err.fault c.audit.new.conn watched.0 watched.2)
