@@ -358,6 +358,7 @@ CHANGES = [
     ("DELETE FROM more_names", None),
     ("DELETE FROM more_names WHERE language = 'de'", None),
     ("DROP INDEX more_names_by_language", None),
+    ("DROP INDEX more_names_by_thing", None),
     ("UPDATE kept SET command = 'add-name\tstation\tb2\tit\tPonte' WHERE req_key = 'k2'", None),
     ("UPDATE kept SET command = 'add-name\tsystem\tother\tit\tPonte' WHERE req_key = 'k2'", None),
     ("UPDATE kept SET command = 'add-name\tbike\tb2\tit\tPonte' WHERE req_key = 'k2'", "unsound kept office/k2"),

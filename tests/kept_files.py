@@ -131,7 +131,8 @@ STATIONS = (
 )
 MORE_NAMES = (
     "CREATE TABLE more_names (kind TEXT NOT NULL, id TEXT NOT NULL, language TEXT NOT NULL, name TEXT NOT NULL, PRIMARY KEY (kind, id, language)) STRICT;"
-    "CREATE INDEX more_names_by_language ON more_names (language); UPDATE meta SET version = 3"
+    "CREATE INDEX more_names_by_language ON more_names (language); CREATE INDEX more_names_by_thing ON more_names (kind, id, language, name);"
+    "UPDATE meta SET version = 3"
 )
 REGIONS = "CREATE TABLE regions (region_id TEXT PRIMARY KEY NOT NULL, name TEXT NOT NULL) STRICT;"
 RAISED = {

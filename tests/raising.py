@@ -459,13 +459,14 @@ def test_what_others_have_of_the_old_table(program):
 
 def test_names_that_others_have_taken(program):
     """Of a newer table: a table, or a foreign key to one, makes a file another program's; with a view or an index it can't be raised."""
-    index = "CREATE {} more_names_by_language {}"
+    indexes = ["CREATE {} more_names_by_language {}", "CREATE {} more_names_by_thing {}"]
     for version in OLD:
         new = NEW[version]
         foreign = [f"CREATE TABLE {it} (a)" for it in new] + [f"CREATE TABLE pointing (a REFERENCES {it})" for it in [*new, OLD[version], "bikes"]]
         foreign += [declared(it, list(tampered.BOUNDS[it])) for it in new] + [f"CREATE TABLE {it.upper()} (a)" for it in new]
         failed = [f"CREATE VIEW {it} AS SELECT 1" for it in new] + [f"CREATE INDEX {it} ON bikes (bike)" for it in new]
-        failed += [index.format("TABLE", "(a)"), index.format("VIEW", "AS SELECT 1"), index.format("INDEX", "ON bikes (bike)")]
+        for it in indexes:
+            failed += [it.format("TABLE", "(a)"), it.format("VIEW", "AS SELECT 1"), it.format("INDEX", "ON bikes (bike)")]
         for change, wanted in [*((it, FOREIGN) for it in foreign), *((it, STORE_FAILED) for it in failed)]:
             file = of_sql(program.folder, version)
             changed(file, change)

@@ -673,7 +673,7 @@ def test_tables_and_columns(program):
         foreign += [f'ALTER TABLE {name} DROP COLUMN "{last}"'] if name not in ("bikes",) else []
         foreign += [f"CREATE TABLE pointing_{name} (a INTEGER REFERENCES {name})"]
         sound += [f"CREATE INDEX more_{name} ON {name} ({columns[1]})"]
-    sound += ["DROP INDEX bikes_by_dock", "DROP INDEX rentals_by_rider", "DROP INDEX more_names_by_language", "CREATE TABLE notes (note TEXT)", "CREATE VIEW seen AS SELECT bike FROM bikes"]
+    sound += ["DROP INDEX bikes_by_dock", "DROP INDEX rentals_by_rider", "DROP INDEX more_names_by_language", "DROP INDEX more_names_by_thing", "CREATE TABLE notes (note TEXT)", "CREATE VIEW seen AS SELECT bike FROM bikes"]
     # The names of tables that other versions have are free here.
     sound += [f"CREATE TABLE {it} (note TEXT)" for it in ("stations", "stations_2")]
     sound += ["CREATE TABLE helmets (helmet INTEGER PRIMARY KEY, size TEXT UNIQUE)", "PRAGMA user_version = 7", "PRAGMA application_id = 77", "VACUUM"]

@@ -1,5 +1,5 @@
 -- What the texts that begin and end a transaction do, and what a write inside one does.
-use Rattle.std.proofs.Common.{◌≡◌, inl, inr, ℕ, List, [], Bool, true, false, Option, Some, None, Ok, Err, Result, OnOk, OnErr, IsTrue, if◌then◌else◌, codes, refl, sym, ap, subst, ◌∙◌}
+use Rattle.std.proofs.Common.{◌≡◌, inl, inr, ℕ, List, [], Bool, true, false, Option, Some, None, Ok, Err, Result, OnOk, OnErr, IsTrue, length, if◌then◌else◌, codes, refl, sym, ap, subst, ◌∙◌, arith}
 use Rattle.std.proofs.lemmas.Bool.{cases_Bool, both_ways}
 use Rattle.sqlite_value.specs.Order.{Row}
 use Rattle.sqlite_tied.specs.Compute.{everything}
@@ -9,6 +9,7 @@ use Rattle.sqlite_schema.specs.declared.command.Command.{Command}
 use Rattle.sqlite_schema.specs.declared.command.Command.TheVariants as command
 use Rattle.sqlite_schema.specs.declared.command.Returning.{Returning}
 use Rattle.sqlite_resolve.specs.declared.compiled.Compiled.{Compiled}
+use Rattle.sqlite_resolve.specs.declared.error.CompileError.{CompileError}
 use Rattle.sqlite.specs.declared.error.Error.{Error}
 use Rattle.sqlite.specs.declared.run.Mode.{Mode}
 use Rattle.sqlite.specs.Calls.{IsWrite}
@@ -17,7 +18,7 @@ use Rattle.sqlite.specs.Does.{Does, Tally}
 use Rattle.sqlite.specs.Effect.{Database}
 use Rattle.sqlite.specs.Given.{IsPlain}
 use Rattle.sqlite.specs.Listing.{understood}
-use Rattle.sqlite.specs.State.{State, HasCleanDisk, mode_of, Shows, Survives, Runs, RunsCommand, ExecutesIn, Executes, IsNotRun, CommitsBy, MayCommit, shows_rows, text_of, IsRolledBack}
+use Rattle.sqlite.specs.State.{State, mode_of, Shows, Survives, Runs, RunsCommand, ExecutesIn, Executes, IsNoStatement, IsNotRun, CommitsBy, MayCommit, shows_rows, text_of, IsRolledBack}
 use Rattle.sqlite.proofs.Callers.{command_of, runs_as}
 use Rattle.sqlite.proofs.StateLemmas.{survives_weaker}
 use Rattle.bike_rows.specs.Outcome.{IsLeft}
@@ -91,6 +92,49 @@ ended old new h = record {
 
 pub undo_done : (old new : State) (count : ℕ) → Executes (codes "ROLLBACK") [] old new (Ok count) → IsEnded old new
 undo_done old new count h = ended old new (runs_as (codes "ROLLBACK") [] old new old.now.schema refl command.Rollback (rolls_back old.now.schema) (rolls_back_plain old.now.schema) count h).1
+
+-- ---- a ROLLBACK that fails
+
+-- the text is one whole statement without parameters, and ends the transaction
+abbrev IsRollback : Result Compiled CompileError → Type 0
+IsRollback (Ok c) = (c.command ≡ command.Rollback) × (c.returning ≡ None) × (length c.names ≡ 0) × (c.formats ≡ []) × (c.tail ≡ 8)
+IsRollback (Err fault) = ⊥
+
+is_rollback : (s : Schema) → IsRollback (understood s (codes "ROLLBACK"))
+unfolding understood everything
+is_rollback s = (refl, refl, refl, refl, refl)
+
+-- what is understood of it
+rollback_as : (s : Schema) (c : Compiled) → understood s (codes "ROLLBACK") ≡ Ok c → IsRollback (Ok c)
+rollback_as s c is = subst IsRollback is (is_rollback s)
+
+always_understood : (s : State) (e : Error) → IsNoStatement s (codes "ROLLBACK") [] e → ⊥
+always_understood s e (inl none) = subst IsRollback none.1 (is_rollback s.now.schema)
+always_understood s e (inr (c, is, inl longer)) = longer.0 (let tail = (rollback_as s.now.schema c is).4 in omega (arith, tail))
+always_understood s e (inr (c, is, inr (inl params))) = params.0 (sym (rollback_as s.now.schema c is).2)
+always_understood s e (inr (c, is, inr (inr asks))) = asks.0 (rollback_as s.now.schema c is).3
+
+-- what fails of it: there was no transaction, or that is undone
+command_ended : (old new : State) (c : Compiled) (sql : List ℕ) (params : Row) (e : Error) → IsRollback (Ok c) → RunsCommand old new sql c params (Err e) → new.in_transaction ≡ false
+command_ended old new c sql params e is (inr fails) = fails.3.autocommit
+command_ended old new c sql params e is (inl (inl (inl (told, inl begin)), same)) = absurd (let never = sym is.0 ∙ begin.0 in cc)
+command_ended old new c sql params e is (inl (inl (inl (told, inr ends)), same)) = same.0.mode ∙ ends.1
+command_ended old new c sql params e is (inl (inl (inr (told, name, inl release, unnamed)), same)) = absurd (let never = sym is.0 ∙ release in cc)
+command_ended old new c sql params e is (inl (inl (inr (told, name, inr back, unnamed)), same)) = absurd (let never = sym is.0 ∙ back in cc)
+command_ended old new c sql params e is (inl (inr (inl write, does), same)) = absurd (subst IsWrite is.0 write)
+command_ended old new c sql params e is (inl (inr (inr shows, does), same)) = absurd (let never = rw is.1 at shows in cc)
+
+-- no transaction is open after it, whatever it answers
+pub rollback_ended : (old new : State) (e : Error) → Executes (codes "ROLLBACK") [] old new (Err e) → new.in_transaction ≡ false
+unfolding ExecutesIn IsNotRun
+rollback_ended old new e (inl (inl none)) = absurd (always_understood old e none.0)
+rollback_ended old new e (inl (inr fails)) = fails.3.autocommit
+rollback_ended old new e (inr (c, it, ran)) =
+    let is = rollback_as old.now.schema c it.is in
+    elim (cases_Bool (shows_rows false c)) [
+      | inl shows ↦ absurd (let never = rw (is.0, is.1) at shows in cc)
+      | inr runs ↦ command_ended old new c (codes "ROLLBACK") _ e is (rw runs at ran)
+    ]
 
 -- ---- what a crash may leave
 

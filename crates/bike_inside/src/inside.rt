@@ -49,9 +49,11 @@ pub fn commit<S: Alter>(conn: &mut Connection<S>) -> Result<(), Error>
     Ok(())
 }
 
-/// Undoes the connection's transaction, if it is in one. After an error it may be in it still; nothing is committed in either case.
+/// Undoes the connection's transaction, if it is in one. After an error nothing is undone but by the engine itself, and no transaction
+/// is open either; nothing is committed in any case.
 pub fn undo<S: Alter>(conn: &mut Connection<S>) -> Result<(), Error>
     ensures undone { HasCleanDisk (state S.Store conn.new) → OnOk result (IsEnded (state S.Store conn.old) (state S.Store conn.new)) }
+    ensures ended { HasCleanDisk (state S.Store conn.new) → conn.new.in_transaction ≡ false }
     ensures refused { HasCleanDisk (state S.Store conn.new) → OnErr result (IsLeft (state S.Store conn.old) (state S.Store conn.new)) }
     ensures survives { Survives (state S.Store conn.old) (state S.Store conn.new) (λ _. ⊥) }
 {

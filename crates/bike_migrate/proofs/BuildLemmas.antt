@@ -25,6 +25,10 @@ stay_both a b c first second keys layout was =
     let two = second keys layout one.stands in
     record { stands = two.stands; rows = two.rows ∙ one.rows }
 
+-- one index after another
+pub indexed_both : (a b c : Database) → Indexes a b → Indexes b c → Indexes a c
+indexed_both a b c first second = record { tables = second.tables ∙ first.tables; sound = second.sound; stays = stay_both a b c first.stays second.stays }
+
 -- a table that was made stands, empty, where all that stood stays
 record IsEmpty (db : Database) (t : TableName) : Type 0 where
   stands : Stands db (keys_of t) (layout_of t)

@@ -117,7 +117,7 @@ module _ (db : Database) where
 -- ---- what came of it, where it was raised
 
 module _ {S : Type 0} (g : Ghosts S) (old : Held S) where
-  module _ (mid : Held S) (e : Earlier) {E : Type 0} (read : ReadsAny {E = E} g old mid (Ok (found.Of e)) IsFoundAs) (new : Held S) {told : Result (Option BadRow) StatementFault} (it : RaisesInPlace g e mid new told) where
+  module _ (mid : Held S) (e : Earlier) {E : Type 0} (read : ReadsAny {E = E} g old mid (Ok (found.Of e)) IsFoundAs) (new : Held S) {told : Result (Option BadRow) StatementFault} (it : RaisesInPlace g e mid new told) (ended : HasCleanDisk (state g new) → new.in_transaction ≡ false) where
     early : HasCleanDisk (state g new) → HasCleanDisk (state g mid)
     early clean = omega (arith, clean, it.survives.clean)
 
@@ -153,11 +153,12 @@ module _ {S : Type 0} (g : Ghosts S) (old : Held S) where
 
     pub comes_failed : {result : Result Outcome StatementFault} → IsErr result → ComesTo g old new result
     comes_failed {result = Ok o} is = absurd (let never = is in cc)
-    comes_failed {result = Err f} is = record { comes = λ clean. tt; outside = tt; survives = comes_survives }
+    comes_failed {result = Err f} is = record { comes = λ clean. tt; outside = tt; ended = ended; survives = comes_survives }
 
     pub comes_raised : (bad : Option BadRow) → told ≡ Ok bad → ComesTo g old new (Ok (outcome_of (Some e) bad))
     comes_raised bad is = record {
       comes = λ clean. raised_outcome bad clean (subst (λ r. IfOk r (λ b. IsVerdictBefore (tables_raised e (state g mid).now) (option_map row_name b) × BecomesAt g e mid new b)) is (it.ends clean (was_there clean)));
       outside = subst (λ r. OnOk r (new.in_transaction ≡ false)) is it.outside;
+      ended = ended;
       survives = comes_survives;
     }

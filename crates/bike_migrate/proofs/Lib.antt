@@ -1,7 +1,4 @@
 mod InsideLemmas
-mod IndexLemmas
-mod MakeLemmas
-mod GrowthLemmas
 mod StepLemmas
 mod TextLemmas
 mod ReadLemmas

@@ -1,5 +1,5 @@
 -- What a raise owes, from what came of the database.
-use Rattle.std.proofs.Common.{◌≡◌, ◌≤◌, inl, inr, ℕ, Bool, true, false, if◌then◌else◌, Option, Some, None, Ok, Err, IsTrue, refl, sym, ap, subst, ◌∙◌}
+use Rattle.std.proofs.Common.{◌≡◌, ◌≤◌, ◌⊎◌, inl, inr, ℕ, Bool, true, false, if◌then◌else◌, Option, Some, None, Ok, Err, IsTrue, refl, sym, ap, subst, ◌∙◌}
 use Rattle.sqlite_trees.specs.View.{doubt}
 use Rattle.sqlite_trees.specs.declared.store.Store.{Ghosts}
 use Rattle.sqlite.specs.Effect.{Database}
@@ -81,15 +81,15 @@ module _ {S : Type 0} (g : Ghosts S) (settles : Settles g) (old : Held S) (settl
 
   -- ---- what a crash may leave
 
-  module _ (survives : Survives (state g old) (state g new) (MayCommitAny db)) where
-    all_left : (v : Option Earlier) (s : Operator) → TreesStandForAt v s db.trees → IsTrue (state g old).is_open → HasCleanDisk (state g new) → AllLeft (state g new) (TreesStandSince v s)
-    all_left v s stands opened clean trees h = elim (survives.crash clean trees h) [
-      | inl before ↦ inl (subst (TreesStandForAt v s) (sym (settles old.store trees opened before ∙ sym (ap (λ (d : Database). d.trees) (settled opened)))) stands)
+  module _ (survives : Survives (state g old) (state g new) (MayCommitAny db)) (ended : HasCleanDisk (state g new) → new.in_transaction ≡ false) where
+    all_crash : (v : Option Earlier) (s : Operator) → TreesStandForAt v s db.trees → HasCleanDisk (state g new) → AllLeft (state g new) (λ trees. (state g old).may_leave trees ⊎ TreesStandFor s trees)
+    all_crash v s stands clean trees h = elim (survives.crash clean trees h) [
+      | inl before ↦ inl before
       | inr may ↦ inr (raised may)
     ]
       where
         raised : MayCommitAny db trees → TreesStandFor s trees
-        raised (e, is, may) = by (found_there db (found.Of e) v s (stands_here db (live opened).0 v s stands) is)
+        raised (e, is, may) = by (found_there db (found.Of e) v s (stands_here db may.sound v s stands) is)
           where
             by : IsFoundOf db (found.Of e) s → TreesStandFor s trees
             by (Nothing none nobody is) = absurd cc
@@ -97,6 +97,12 @@ module _ {S : Type 0} (g : Ghosts S) (settles : Settles g) (old : Held S) (settl
             by (Before f stores is) =
                 let here : StoresAt e db s = subst (λ x. StoresAt x db s) (sym (same_of e f is)) stores in
                 stands_in may.db trees s (record { sound = may.raises.raised.sound; is = inr (stores_raised e db may.db may.raises.raised s here) }) may.trees_are
+
+    all_left : (v : Option Earlier) (s : Operator) → TreesStandForAt v s db.trees → IsTrue (state g old).is_open → HasCleanDisk (state g new) → AllLeft (state g new) (TreesStandSince v s)
+    all_left v s stands opened clean trees h = elim (all_crash v s stands clean trees h) [
+      | inl before ↦ inl (subst (TreesStandForAt v s) (sym (settles old.store trees opened before ∙ sym (ap (λ (d : Database). d.trees) (settled opened)))) stands)
+      | inr stands_then ↦ inr stands_then
+    ]
 
     all_stay : ((v : Option Earlier) (s : Operator) → ¬ StandsForAt v db s) → HasCleanDisk (state g new) → AllLeft (state g new) (state g old).may_leave
     all_stay never clean trees h = elim (survives.crash clean trees h) [
@@ -121,6 +127,8 @@ module _ {S : Type 0} (g : Ghosts S) (settles : Settles g) (old : Held S) (settl
       refused = λ v s stands. subst (λ h. HasCleanDisk (state g h) → IsWant e) (sym back) (refused v s stands);
       told = subst (λ h. HasCleanDisk (state g h) → IsToldOf g old e) (sym back) told;
       autocommit = outside;
+      ended = subst (λ h. HasCleanDisk (state g h) → h.in_transaction ≡ false) (sym back) ended;
+      crash = λ v s stands. subst (λ h. HasCleanDisk (state g h) → AllLeft (state g h) (λ trees. (state g old).may_leave trees ⊎ TreesStandFor s trees)) (sym back) (all_crash v s stands);
       left = λ v s stands opened. subst (λ h. HasCleanDisk (state g h) → AllLeft (state g h) (TreesStandSince v s)) (sym back) (all_left v s stands opened);
       stays = λ never. subst (λ h. HasCleanDisk (state g h) → AllLeft (state g h) (state g old).may_leave) (sym back) (all_stay never);
     }
@@ -145,15 +153,15 @@ module _ {S : Type 0} (g : Ghosts S) (settles : Settles g) (old : Held S) (settl
       by (Before e stores is) = earlier e is
 
   pub foreign_owes : ComesTo g old new (Ok outcome.Foreign) → IsRaise g old (Err (fault.Foreign new))
-  foreign_owes it = fault_owes it.survives (fault.Foreign new) refl it.outside it.comes
+  foreign_owes it = fault_owes it.survives it.ended (fault.Foreign new) refl it.outside it.comes
       (λ v s stands clean. let at = it.comes clean in absurd (not_found found.Foreign at.1 at.0 (λ is. cc) (λ is. cc) (λ e is. cc) v s stands))
 
   pub newer_owes : (version : ℕ) → ComesTo g old new (Ok (outcome.Newer version)) → IsRaise g old (Err (fault.Newer new version))
-  newer_owes version it = fault_owes it.survives (fault.Newer new version) refl it.outside it.comes
+  newer_owes version it = fault_owes it.survives it.ended (fault.Newer new version) refl it.outside it.comes
       (λ v s stands clean. let at = it.comes clean in absurd (not_found (found.Newer version) at.1 at.0 (λ is. cc) (λ is. cc) (λ e is. cc) v s stands))
 
   pub unsound_owes : (bad : UnsoundRow) → ComesTo g old new (Ok (outcome.Unsound bad)) → IsRaise g old (Err (fault.Unsound new bad))
-  unsound_owes bad it = fault_owes it.survives (fault.Unsound new bad) refl it.outside it.comes
+  unsound_owes bad it = fault_owes it.survives it.ended (fault.Unsound new bad) refl it.outside it.comes
       (λ v s stands clean. let at = it.comes clean in absurd (unsound_never db v s (stands_here db (live at.1.was_open).0 v s stands) bad at.0))
 
   -- ---- it is ready
@@ -222,6 +230,8 @@ module _ {S : Type 0} (g : Ghosts S) (settles : Settles g) (old : Held S) (settl
       refused = λ v s stands. tt;
       told = tt;
       autocommit = it.outside;
+      ended = tt;
+      crash = λ v s stands. tt;
       left = λ v s stands opened. tt;
       stays = λ never. tt;
     }

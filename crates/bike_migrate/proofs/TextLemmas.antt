@@ -1,5 +1,5 @@
 -- What the statements do to a database.
-use Rattle.std.proofs.Common.{◌≡◌, ℕ, true, false, List, [], ◌∷◌, map, codes, Some, Ok, refl, sym, ap, ap₂, subst, ◌∙◌, inl, inr}
+use Rattle.std.proofs.Common.{◌≡◌, ℕ, true, false, List, [], ◌∷◌, get_or, map, codes, Some, Ok, refl, sym, ap, ap₂, subst, ◌∙◌, inl, inr}
 use Rattle.std.specs.List.{list_all}
 use Rattle.std.proofs.lemmas.Bool.{and_parts}
 use Rattle.sqlite_value.specs.declared.value.Value.{Value}
@@ -48,7 +48,8 @@ use Rattle.bike_schema.specs.Layouts.{layout_of, name_of}
 use Rattle.bike_schema.specs.Makes.{Puts}
 use Rattle.bike_schema.specs.Tables.{IsOurs, tables_of, is_parent}
 use Rattle.bike_schema.proofs.KeyLemmas.{table_key}
-use Rattle.bike_schema.proofs.MakeFacts.{text_of, declared}
+use Rattle.bike_schema.specs.Creates.{index_texts}
+use Rattle.bike_schema.proofs.MakeFacts.{text_of, declared, index_only}
 use Rattle.bike_schema.proofs.MakeTexts.{understood_as}
 use Rattle.bike_schema.proofs.MakesLemmas.{adds_row, sets_columns}
 use Rattle.bike_earlier.specs.declared.earlier.Earlier.{Earlier}
@@ -56,9 +57,9 @@ use Rattle.bike_earlier.specs.declared.earlier.Earlier.TheVariants.{First, Secon
 use Rattle.bike_earlier.specs.Earlier.{stations_name, stations_layout}
 use Rattle.bike_migrate.specs.Raised.{MakesTable, DropsStations, version_write}
 use Rattle.bike_migrate.specs.Stations.{station_row, is_text, is_whole, IsStationRow, AsksRows}
-use Rattle.bike_migrate.proofs.MakeLemmas.{adds}
-use Rattle.bike_migrate.proofs.GrowthLemmas.{still_unnamed, made_stands, made_empty, all_stay}
-use Rattle.bike_migrate.proofs.IndexLemmas as index
+use Rattle.bike_schema.proofs.MakeLemmas.{adds}
+use Rattle.bike_schema.proofs.GrowthLemmas.{still_unnamed, made_stands, made_empty, all_stay}
+use Rattle.bike_rows.proofs.IndexLaw as index
 
 -- ---- texts that write
 
@@ -81,15 +82,21 @@ creates t old new unnamed count ran =
       stays = all_stay (layout_of t) old.now new.now it;
     }
 
-abbrev pub index_text : List ℕ
-index_text = codes "CREATE INDEX more_names_by_language ON more_names (language)"
+-- the statements that make the indexes of further names, by their languages and by what they name
+abbrev pub language_index : List ℕ
+language_index = get_or index_texts 3 []
 
-pub indexes_only : IsOnlyIndex (first index_text)
-unfolding everything
-indexes_only = (refl, refl)
+abbrev pub thing_index : List ℕ
+thing_index = get_or index_texts 4 []
 
-pub index_writes : (s : Schema) → IsWriteIn s index_text
-index_writes s c is = subst IsWrite (sym (index.understood_as index_text indexes_only s c is).makes.1) tt
+pub language_only : IsOnlyIndex (first language_index)
+language_only = index_only.1.1.1.0
+
+pub thing_only : IsOnlyIndex (first thing_index)
+thing_only = index_only.1.1.1.1.0
+
+pub index_writes : (text : List ℕ) → IsOnlyIndex (first text) → (s : Schema) → IsWriteIn s text
+index_writes text only s c is = subst IsWrite (sym (index.understood_as text only s c is).makes.1) tt
 
 -- ---- UPDATE of the version
 

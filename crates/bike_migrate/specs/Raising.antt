@@ -154,6 +154,7 @@ module _ {S : Type 0} (g : Ghosts S) where
   pub record ComesTo (old new : Held S) (result : Result Outcome StatementFault) : Type 0 where
     pub comes : HasCleanDisk (state g new) → IfOk result (IsOutcome old new)
     pub outside : OnOk result (new.in_transaction ≡ false)
+    pub ended : HasCleanDisk (state g new) → new.in_transaction ≡ false
     pub survives : Survives (state g old) (state g new) (MayCommitAny (state g old).now)
 
 module _ {S : Type 0} where
@@ -192,7 +193,7 @@ module _ {S : Type 0} where
   IsWant (StoreFailed c) = Unit {0}
   IsWant _ = ⊥
 
-  -- the connection comes back outside a transaction, but where the store failed
+  -- the connection comes back outside a transaction; where the store failed, the engine says so of a clean disk alone
   abbrev pub IsOutside : RaiseFault S → Type 0
   IsOutside (StoreFailed c) = Unit {0}
   IsOutside e = (handed e).in_transaction ≡ false
@@ -210,7 +211,10 @@ module _ {S : Type 0} where
         → IfErr result (λ e. HasCleanDisk (state g (handed e)) → IsWant e)
     pub told : IfErr result (λ e. HasCleanDisk (state g (handed e)) → IsToldOf g old e)
     pub autocommit : MatchResult result (λ c. c.in_transaction ≡ false) IsOutside
-    -- what a crash may leave after a fault
+    pub ended : IfErr result (λ e. HasCleanDisk (state g (handed e)) → (handed e).in_transaction ≡ false)
+    -- what a crash may leave after a fault; of a connection that was shut, too: what it might leave before, or tables that stand for the operator
+    pub crash : (v : Option Earlier) (s : Operator) → TreesStandForAt v s (state g old).now.trees
+        → IfErr result (λ e. HasCleanDisk (state g (handed e)) → AllLeft (state g (handed e)) (λ trees. (state g old).may_leave trees ⊎ TreesStandFor s trees))
     pub left : (v : Option Earlier) (s : Operator) → TreesStandForAt v s (state g old).now.trees → IsTrue (state g old).is_open
         → IfErr result (λ e. HasCleanDisk (state g (handed e)) → AllLeft (state g (handed e)) (TreesStandSince v s))
     pub stays : ((v : Option Earlier) (s : Operator) → ¬ StandsForAt v (state g old).now s)

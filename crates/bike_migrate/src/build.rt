@@ -15,11 +15,8 @@ ghost use Rattle.bike_migrate.specs.Raised.{AreUnnamed, MakesTable, MakesNewer, 
 use crate::copy::fill;
 use crate::inside::run;
 use bike_earlier::Earlier;
-use bike_schema::{StatementFault, TABLES};
+use bike_schema::{INDEXES, StatementFault, TABLES};
 use sqlite::{Alter, Connection, Row};
-
-/// The statement that makes the index of further names by their languages.
-const NAMES_INDEX: &str = "CREATE INDEX more_names_by_language ON more_names (language)";
 
 /// Makes the table of regions.
 fn create_regions<S: Alter>(conn: &mut Connection<S>) -> Result<(), StatementFault>
@@ -42,11 +39,26 @@ fn create_names<S: Alter>(conn: &mut Connection<S>) -> Result<(), StatementFault
     run(conn, TABLES[16], &[])
 }
 
-/// Makes the index of further names.
-fn create_index<S: Alter>(conn: &mut Connection<S>) -> Result<(), StatementFault>
+/// Makes the index of further names by their languages.
+fn index_by_language<S: Alter>(conn: &mut Connection<S>) -> Result<(), StatementFault>
     ensures { DoesInside S.Store (AreUnnamed []) conn.old conn.new result (λ old new _. Indexes old new) }
 {
-    run(conn, NAMES_INDEX, &[])
+    run(conn, INDEXES[3], &[])
+}
+
+/// Makes the index of further names by what they name.
+fn index_by_thing<S: Alter>(conn: &mut Connection<S>) -> Result<(), StatementFault>
+    ensures { DoesInside S.Store (AreUnnamed []) conn.old conn.new result (λ old new _. Indexes old new) }
+{
+    run(conn, INDEXES[4], &[])
+}
+
+/// Makes the indexes of further names.
+fn create_indexes<S: Alter>(conn: &mut Connection<S>) -> Result<(), StatementFault>
+    ensures { DoesInside S.Store (AreUnnamed []) conn.old conn.new result (λ old new _. Indexes old new) }
+{
+    index_by_language(conn)?;
+    index_by_thing(conn)
 }
 
 /// Makes the tables that both earlier versions lack.
@@ -55,7 +67,7 @@ fn make_newer<S: Alter>(conn: &mut Connection<S>) -> Result<(), StatementFault>
 {
     create_stations(conn)?;
     create_names(conn)?;
-    create_index(conn)
+    create_indexes(conn)
 }
 
 /// Makes the tables that the version lacks.

@@ -32,7 +32,7 @@ impl UnsoundRow {
     }
 }
 
-/// Why a connection wasn't raised. Each fault hands it back, and all but the last outside a transaction.
+/// Why a connection wasn't raised. Each fault hands it back outside a transaction, the last where the disk is clean.
 #[derive(Drop)]
 pub enum RaiseFault<S: Alter> {
     /// The database has some of the product's names, and isn't the product's. It is as it was.

@@ -122,7 +122,7 @@ fn attempt_whole<S: Alter, P: Watch>(
     end(conn, bad)
 }
 
-/// Raises the database of the version, or tells its first bad row and leaves it as it is.
+/// Raises the database of the version, or tells its first bad row and leaves it as it is. No transaction is open then, whatever it answers.
 fn raise_earlier<S: Alter, P: Watch>(
     alloc: Global,
     conn: &mut Connection<S>,
@@ -130,7 +130,8 @@ fn raise_earlier<S: Alter, P: Watch>(
     watch: &mut P,
 ) -> Result<Option<BadRow>, StatementFault>
     requires { conn.old.in_transaction ≡ false }
-    ensures { RaisesInPlace S.Store earlier conn.old conn.new result }
+    ensures in_place { RaisesInPlace S.Store earlier conn.old conn.new result }
+    ensures ended { HasCleanDisk (state S.Store conn.new) → conn.new.in_transaction ≡ false }
 {
     match attempt_whole(alloc, conn, earlier, watch) {
         Ok(bad) => Ok(bad),
@@ -179,7 +180,7 @@ fn outcome_of(earlier: Option<Earlier>, bad: Option<BadRow>) -> Outcome
     }
 }
 
-/// What comes of a database. After an error the transaction may be open still.
+/// What comes of a database. No transaction is open then.
 fn raise_any<S: Alter, P: Watch>(
     alloc: Global,
     conn: &mut Connection<S>,
@@ -204,7 +205,8 @@ fn raise_any<S: Alter, P: Watch>(
 /// operator at an earlier version stand for him at the newest then; where a row is no operator's the first such is told, and the database is
 /// as it was. A database of the newest version is audited, and handed back as it is; one with none of the product's tables is handed back
 /// as it is, too. Tables of other names stay. A fault tells what the database is, or that memory or the store failed, and hands the
-/// connection back. After a failed store it may be inside a transaction still, of which nothing is committed.
+/// connection back outside a transaction. After a failed store this is so where the disk is clean: where something else wrote the file
+/// the engine promises nothing, and nothing is committed by the connection.
 pub fn raise<S: Alter>(alloc: Global, conn: Connection<S>) -> Result<Connection<S>, RaiseFault<S>>
     requires { conn.in_transaction ≡ false }
     ensures { IsRaise S.Store conn result }

@@ -7,7 +7,7 @@ use Rattle.bike_migrate.proofs.VerdictLemmas.{judged}
 use Rattle.bike_migrate.proofs.judge.judge.Goals as goal
 
 pub returns-in_err-over : goal.returns-in_err-over
-returns-in_err-over g c = reads_refused c.in_ok-found.ensures (search rules)
+returns-in_err-over g c = reads_refused c.in_ok-found.ensures.verdict (search rules)
 
 pub returns : goal.returns
-returns g c = reads_as c.in_ok-found.ensures (λ db verdict copies. subst (IsVerdictBefore (tables_of db)) (sym c.first_of.ensures) (judged (tables_of db) (stored_in_order db) c.args.rows.now copies _ verdict _ c.in_ok-over.ensures))
+returns g c = reads_as c.in_ok-found.ensures.verdict (λ db verdict copies. subst (IsVerdictBefore (tables_of db)) (sym c.first_of.ensures) (judged (tables_of db) (stored_in_order db) c.args.rows.now copies _ verdict _ c.in_ok-over.ensures))

@@ -5,9 +5,9 @@ use Rattle.bike_migrate.proofs.raising.raise_any.Goals as goal
 pub returns-in_err-raise_earlier-in-Of : goal.returns-in_err-raise_earlier-in-Of
 returns-in_err-raise_earlier-in-Of g c =
     let read = rw c.in-Of.is at c.in_ok-find_version_of.ensures in
-    comes_failed g.S.Store c.args.conn.now c.find_version_of.new.conn c.in-Of.earlier read c.raise_earlier.new.conn c.in_err-raise_earlier-in-Of.ensures (search rules)
+    comes_failed g.S.Store c.args.conn.now c.find_version_of.new.conn c.in-Of.earlier read c.raise_earlier.new.conn c.in_err-raise_earlier-in-Of.ensures.in_place c.in_err-raise_earlier-in-Of.ensures.ended (search rules)
 
 pub returns-in_ok-raise_earlier-in-Of : goal.returns-in_ok-raise_earlier-in-Of
 returns-in_ok-raise_earlier-in-Of g c =
     let read = rw c.in-Of.is at c.in_ok-find_version_of.ensures in
-    rw c.outcome_of-in-Of.ensures (comes_raised g.S.Store c.args.conn.now c.find_version_of.new.conn c.in-Of.earlier read c.raise_earlier.new.conn c.in_ok-raise_earlier-in-Of.ensures _ refl)
+    rw c.outcome_of-in-Of.ensures (comes_raised g.S.Store c.args.conn.now c.find_version_of.new.conn c.in-Of.earlier read c.raise_earlier.new.conn c.in_ok-raise_earlier-in-Of.ensures.in_place c.in_ok-raise_earlier-in-Of.ensures.ended _ refl)

@@ -25,4 +25,4 @@ returns-in-Ok-Newer g c =
 pub returns-in-Err : goal.returns-in-Err
 returns-in-Err g c =
     let settled = c.is_autocommit.ensures.settled (c.is_autocommit.ensures.value ∙ ap not c.requires) in
-    rw c.failed.ensures (failed_owes g.S.Store g.met.S.Store.settled c.args.conn settled c.schema.ensures.live c.raise_any.new.conn c.in-Err.ensures.survives c.in-Err.fault)
+    rw c.failed.ensures (failed_owes g.S.Store g.met.S.Store.settled c.args.conn settled c.schema.ensures.live c.raise_any.new.conn c.in-Err.ensures.survives c.in-Err.ensures.ended c.in-Err.fault)
