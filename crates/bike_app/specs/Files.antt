@@ -12,18 +12,21 @@ use Rattle.bike_operator.specs.Operator.{Operator}
 use Rattle.bike_schema.specs.Stands.{TreesStandFor}
 use Rattle.bike_words.specs.declared.task.Task.{Task}
 use Rattle.bike_console.specs.declared.end.Fault.{Fault}
-use Rattle.bike_console.specs.Files.{IsOpeningFault}
+use Rattle.bike_console.specs.Files.{IsOpeningFault, IsUnopened}
 use Rattle.bike_app.specs.Words.{Does}
 
 -- the bytes hold a database that stands for the operator
 abbrev pub HoldsOperator : Image → Operator → Type 0
 HoldsOperator image s = (db : Trees) × HoldsDatabase image db × TreesStandFor s db
 
--- nothing was read, and nothing written
-pub record IsUntouched (input ahead old new : Option (List ℕ)) (end : Result ℕ Fault) : Type 0 where
+-- No connection to a file of these bytes was opened, for the reason that the end tells. Nothing was read, and nothing written.
+pub record IsUntouched {D : Type 0} {g : disk.Ghosts D} (image : Image) (conn : Option (Held (FileStore D g))) (input ahead old new : Option (List ℕ)) (end : Result ℕ Fault) : Type 0 where
   pub read : Keeps input ahead
   pub wrote : Keeps old new
-  pub fault : (told : Fault) × IsOpeningFault told × (end ≡ Err told)
+  pub fault : Fault
+  pub told : end ≡ Err fault
+  pub is : IsOpeningFault fault
+  pub why : IsUnopened g image fault
 
 -- WHAT THE PROGRAM DOES OVER A FILE: what its task does over a connection that was opened on what the bytes hold
 pub record DoesOverFile {E : Type 0} {e : disk.Ghosts E} (image : Image) (input ahead old new : Option (List ℕ))

@@ -1,16 +1,13 @@
 -- What each word of the program does with a database, and what it leaves.
-use Rattle.std.specs.Prelude.{◌≡◌, ◌⊎◌, ℕ, List, codes, Option, Result, Ok, Err}
-use Rattle.std.specs.Io.KnownBytes.{Appends}
+use Rattle.std.specs.Prelude.{◌⊎◌, ℕ, List, codes, Option, Result}
 use Rattle.sqlite_trees.specs.Tree.{Trees}
 use Rattle.sqlite.specs.Store.{Ghosts}
 use Rattle.sqlite.specs.Held.{Held, state}
 use Rattle.bike_operator.specs.Operator.{Operator}
 use Rattle.bike_schema.specs.Stands.{IsOf, Keeps, TreesStandFor}
-use Rattle.bike_stream.specs.Writing.{AppendsFront}
 use Rattle.bike_words.specs.declared.task.Task.{Task}
 use Rattle.bike_words.specs.declared.task.Task.TheVariants.{Init, Check, Raise, Lines, Feed, Day, Import, Serve}
 use Rattle.bike_console.specs.declared.end.Fault.{Fault}
-use Rattle.bike_console.specs.declared.end.Fault.TheVariants.{WriteFailed}
 use Rattle.bike_app.specs.Program.{StandsAfterSome, Refuses, Serves, FailsToBegin, ServesInMemory}
 use Rattle.bike_app.specs.Feeds.{TellsPublished, PublishesInMemory, moment_of}
 use Rattle.bike_app.specs.Days.{TellsReported, ReportsInMemory}

@@ -19,7 +19,8 @@ use sqlite::{Connection, FileFrom, FileStore, Start};
 use std::io::{Read, Write};
 
 /// Does what the words ask, but for `Serve`, over the database file at a path, as `run_words` does over the database that the file's
-/// bytes hold. Gives the connection back, none where the file couldn't be opened: then nothing was read, and nothing written.
+/// bytes hold. Gives the connection back, none where the file couldn't be opened: then nothing was read, nothing written, and the fault
+/// is that of the opening.
 pub fn run_file<F: Start, R: Read, W: Write, P: Watch>(
     rt: &HostRuntime,
     task: &Task<'_>,
@@ -40,7 +41,7 @@ pub fn run_file<F: Start, R: Read, W: Write, P: Watch>(
         (W.contents writer.old) (W.contents writer.new) task.now clock last result.1) }
     ensures kept { IfSome result.0 (λ last. HasCleanDisk (file_state last) → (s : Operator) → HoldsOperator (image_at F.Start) s
         → AllLeft (file_state last) (MayStand task.now s)) }
-    ensures unopened { IsNone result.0 → IsUntouched (R.remaining reader.old) (R.remaining reader.new)
+    ensures unopened { IsNone result.0 → IsUntouched (image_at F.Start) result.0 (R.remaining reader.old) (R.remaining reader.new)
         (W.contents writer.old) (W.contents writer.new) result.1 }
 {
     match open_file(rt, path, start) {

@@ -1,1 +1,2 @@
+mod OpenLemmas
 pub mod PieceLemmas

@@ -62,6 +62,10 @@ impl<W: Write> Progress<W> {
 
 /// An audit is told by its table, and that table's place among all.
 impl<W: Write> Watch for Progress<W> {
+    ghost use Rattle.std.specs.Prelude.{None};
+
+    ghost told = { λ _. None };
+
     fn reached(&mut self, table: TableName) {
         if !self.is_shown {
             return;

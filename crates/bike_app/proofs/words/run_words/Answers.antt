@@ -1,5 +1,4 @@
 use Rattle.std.proofs.Common.{None, inl, inr}
-use Rattle.bike_operator.specs.Operator.{Operator}
 use Rattle.bike_schema.specs.Stands.{TreesStandFor}
 use Rattle.bike_app.proofs.words.run_words.Goals as goal
 
