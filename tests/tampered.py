@@ -669,9 +669,9 @@ def test_tables_and_columns(program):
         columns = list(rows[0])
         foreign += [f"DROP TABLE {name}", f"ALTER TABLE {name} RENAME TO {name}_old", f"ALTER TABLE {name} ADD COLUMN more INTEGER"]
         foreign += [f'ALTER TABLE {name} RENAME COLUMN "{it}" TO other' for it in columns]
+        last = columns[-1]
         # sqlite3 drops no column that an index has.
-        last, freed = columns[-1], "DROP INDEX more_names_by_thing; " if name == "more_names" else ""
-        foreign += [f'{freed}ALTER TABLE {name} DROP COLUMN "{last}"'] if name not in ("bikes",) else []
+        foreign += [f'ALTER TABLE {name} DROP COLUMN "{last}"'] if name not in ("bikes", "more_names") else []
         foreign += [f"CREATE TABLE pointing_{name} (a INTEGER REFERENCES {name})"]
         sound += [f"CREATE INDEX more_{name} ON {name} ({columns[1]})"]
     sound += ["DROP INDEX bikes_by_dock", "DROP INDEX rentals_by_rider", "DROP INDEX more_names_by_language", "DROP INDEX more_names_by_thing", "CREATE TABLE notes (note TEXT)", "CREATE VIEW seen AS SELECT bike FROM bikes"]
