@@ -1,6 +1,7 @@
 mod Lookups
 mod Parts
 mod OfRows
+mod CountingLaw
 mod TruckLaw
 mod BikesLaw
 mod DockSteps

@@ -22,6 +22,7 @@ use Rattle.bike_judges.specs.Verdicts.{IsFirstFailing}
 use Rattle.bike_judges.proofs.StretchLaw.{HasOneKey, AreAccounts, AreItems, merged_verdict}
 use Rattle.bike_fleet_rules.specs.Loads.{loads, order_opened, order_begins, order_more, order_good, order_key}
 use Rattle.bike_fleet_rules.specs.declared.orders.OrderAccount.{OrderAccount}
+use Rattle.bike_fleet_rules.proofs.CountingLaw.{kept_where, commute_where}
 use Rattle.bike_fleet_rules.proofs.Parts.{AreWide, begins_with_one, own_part}
 use Rattle.bike_fleet_rules.proofs.Apart.{lines_apart}
 use Rattle.bike_fleet_rules.proofs.LoadLemmas.{loads_own, order_fold, order_loaded}
@@ -48,20 +49,14 @@ owner_is (v ∷ row) a e =
 others : (a : OrderAccount) (x : Row) → (value_cmp (column x 0) (owner a) ≡ Equal → ⊥) → order_more a x ≡ a
 others a x apart = ap (λ (b : Bool). cond b (record a { load = a.load + 1 }) a) (loads_own (is_for_order a.order) a.order x apart)
 
+abbrev one_more : OrderAccount → OrderAccount
+one_more a = record a { load = a.load + 1 }
+
 keeps : (a : OrderAccount) (x : Row) → owner (order_more a x) ≡ owner a
-keeps a x = go (loads (is_for_order a.order) a.order x) where
-  go : (b : Bool) → owner (cond b (record a { load = a.load + 1 }) a) ≡ owner a
-  go true = refl
-  go false = refl
+keeps a x = kept_where one_more owner (λ b. refl) (λ b. loads (is_for_order b.order) b.order x) a
 
 commutes : (a : OrderAccount) (x y : Row) → order_more (order_more a x) y ≡ order_more (order_more a y) x
-commutes a x y = go (loads (is_for_order a.order) a.order x) refl (loads (is_for_order a.order) a.order y) refl where
-  go : (b : Bool) → loads (is_for_order a.order) a.order x ≡ b → (c : Bool) → loads (is_for_order a.order) a.order y ≡ c
-      → order_more (cond b (record a { load = a.load + 1 }) a) y ≡ order_more (cond c (record a { load = a.load + 1 }) a) x
-  go true e true f = ap (λ (d : Bool). cond d (record a { load = a.load + 1 + 1 }) (record a { load = a.load + 1 })) (f ∙ sym e)
-  go true e false f = ap (λ (d : Bool). cond d (record a { load = a.load + 1 + 1 }) (record a { load = a.load + 1 })) f ∙ sym (ap (λ (d : Bool). cond d (record a { load = a.load + 1 }) a) e)
-  go false e true f = ap (λ (d : Bool). cond d (record a { load = a.load + 1 }) a) f ∙ sym (ap (λ (d : Bool). cond d (record a { load = a.load + 1 + 1 }) (record a { load = a.load + 1 })) e)
-  go false e false f = ap (λ (d : Bool). cond d (record a { load = a.load + 1 }) a) (f ∙ sym e)
+commutes a x y = commute_where one_more (λ b. loads (is_for_order b.order) b.order x) (λ b. loads (is_for_order b.order) b.order y) (λ b. refl) (λ b. refl) a
 
 accounts : AreAccounts order_begins order_more order_good order_key owner 0
 accounts = record {

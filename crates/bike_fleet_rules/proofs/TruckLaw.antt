@@ -25,6 +25,7 @@ use Rattle.bike_judges.specs.Verdicts.{IsTableVerdict}
 use Rattle.bike_judges.proofs.StretchLaw.{HasOneKey, AreAccounts, AreItems, merged_verdict}
 use Rattle.bike_fleet_rules.specs.Loads.{loads, truck_opened, truck_begins, truck_more, truck_good, truck_key}
 use Rattle.bike_fleet_rules.specs.declared.trucks.TruckAccount.{TruckAccount}
+use Rattle.bike_fleet_rules.proofs.CountingLaw.{kept_where, commute_where}
 use Rattle.bike_fleet_rules.proofs.Parts.{AreWide, begins_with_one, own_part}
 use Rattle.bike_fleet_rules.proofs.Apart.{lines_apart}
 use Rattle.bike_fleet_rules.proofs.OfRows.{both_true, first_true, second_true, demanded, demands_of, SaysGood, good_key, of_good_key, same_verdict}
@@ -52,20 +53,14 @@ owner_is (v ∷ row) a e =
 others : (a : TruckAccount) (x : Row) → (value_cmp (column x 0) (owner a) ≡ Equal → ⊥) → truck_more a x ≡ a
 others a x apart = ap (λ (b : Bool). cond b (record a { load = a.load + 1 }) a) (loads_own (is_on_truck a.truck) a.truck x apart)
 
+abbrev one_more : TruckAccount → TruckAccount
+one_more a = record a { load = a.load + 1 }
+
 keeps : (a : TruckAccount) (x : Row) → owner (truck_more a x) ≡ owner a
-keeps a x = go (loads (is_on_truck a.truck) a.truck x) where
-  go : (b : Bool) → owner (cond b (record a { load = a.load + 1 }) a) ≡ owner a
-  go true = refl
-  go false = refl
+keeps a x = kept_where one_more owner (λ b. refl) (λ b. loads (is_on_truck b.truck) b.truck x) a
 
 commutes : (a : TruckAccount) (x y : Row) → truck_more (truck_more a x) y ≡ truck_more (truck_more a y) x
-commutes a x y = go (loads (is_on_truck a.truck) a.truck x) refl (loads (is_on_truck a.truck) a.truck y) refl where
-  go : (b : Bool) → loads (is_on_truck a.truck) a.truck x ≡ b → (c : Bool) → loads (is_on_truck a.truck) a.truck y ≡ c
-      → truck_more (cond b (record a { load = a.load + 1 }) a) y ≡ truck_more (cond c (record a { load = a.load + 1 }) a) x
-  go true e true f = ap (λ (d : Bool). cond d (record a { load = a.load + 1 + 1 }) (record a { load = a.load + 1 })) (f ∙ sym e)
-  go true e false f = ap (λ (d : Bool). cond d (record a { load = a.load + 1 + 1 }) (record a { load = a.load + 1 })) f ∙ sym (ap (λ (d : Bool). cond d (record a { load = a.load + 1 }) a) e)
-  go false e true f = ap (λ (d : Bool). cond d (record a { load = a.load + 1 }) a) f ∙ sym (ap (λ (d : Bool). cond d (record a { load = a.load + 1 + 1 }) (record a { load = a.load + 1 })) e)
-  go false e false f = ap (λ (d : Bool). cond d (record a { load = a.load + 1 }) a) (f ∙ sym e)
+commutes a x y = commute_where one_more (λ b. loads (is_on_truck b.truck) b.truck x) (λ b. loads (is_on_truck b.truck) b.truck y) (λ b. refl) (λ b. refl) a
 
 accounts : AreAccounts truck_begins truck_more truck_good truck_key owner 6
 accounts = record {

@@ -1,7 +1,7 @@
 -- The queries that answer each row of a table with its partner in another.
 use Rattle.std.proofs.Common.{ℕ, List, [], ◌∷◌, ◌++◌, refl}
 use Rattle.bike_rows.proofs.SelectLaws.{rows_joined}
-use Rattle.bike_book.specs.Tables.{Plans, Segments, Types, Regions, Stations, Docks, Bikes, Trucks, Riders, Rentals, Entries}
+use Rattle.bike_book.specs.Tables.{Plans, Segments, Types, Regions, Stations, Docks, Bikes, Trucks, Rentals, Entries}
 use Rattle.bike_schema.proofs.KeyLemmas.{table_key}
 use Rattle.bike_judges.specs.Lines.{with_one}
 use Rattle.bike_judges.specs.declared.query.Query.TheVariants as query
@@ -22,24 +22,6 @@ docks_lines is db has = rows_joined (table_key Docks) (table_key Stations) (has 
 
 pub bike_trucks_lines : {text : List ℕ} → IsJoinOf Bikes Trucks (6 ∷ []) text → AsksLines text query.BikeTrucks
 bike_trucks_lines is db has = rows_joined (table_key Bikes) (table_key Trucks) (has Bikes) (has Trucks) (6 ∷ []) (columns_in 1 Bikes ++ columns_in 2 Trucks) (with_one 2) is refl (λ r. refl) (λ r. refl) (λ r s. refl)
-
-pub rental_ends_lines : {text : List ℕ} → IsJoinOf Rentals Stations (6 ∷ []) text → AsksLines text query.RentalEnds
-rental_ends_lines is db has = rows_joined (table_key Rentals) (table_key Stations) (has Rentals) (has Stations) (6 ∷ []) (columns_in 1 Rentals ++ columns_in 2 Stations) (with_one 12) is refl (λ r. refl) (λ r. refl) (λ r s. refl)
-
-pub rental_riders_lines : {text : List ℕ} → IsJoinOf Rentals Riders (1 ∷ []) text → AsksLines text query.RentalRiders
-rental_riders_lines is db has = rows_joined (table_key Rentals) (table_key Riders) (has Rentals) (has Riders) (1 ∷ []) (columns_in 1 Rentals ++ columns_in 2 Riders) (with_one 3) is refl (λ r. refl) (λ r. refl) (λ r s. refl)
-
-pub rental_bikes_lines : {text : List ℕ} → IsJoinOf Rentals Bikes (2 ∷ []) text → AsksLines text query.RentalBikes
-rental_bikes_lines is db has = rows_joined (table_key Rentals) (table_key Bikes) (has Rentals) (has Bikes) (2 ∷ []) (columns_in 1 Rentals ++ columns_in 2 Bikes) (with_one 8) is refl (λ r. refl) (λ r. refl) (λ r s. refl)
-
-pub rental_plans_lines : {text : List ℕ} → IsJoinOf Rentals Plans (3 ∷ []) text → AsksLines text query.RentalPlans
-rental_plans_lines is db has = rows_joined (table_key Rentals) (table_key Plans) (has Rentals) (has Plans) (3 ∷ []) (columns_in 1 Rentals ++ columns_in 2 Plans) (with_one 5) is refl (λ r. refl) (λ r. refl) (λ r s. refl)
-
-pub rental_stations_lines : {text : List ℕ} → IsJoinOf Rentals Stations (4 ∷ []) text → AsksLines text query.RentalStations
-rental_stations_lines is db has = rows_joined (table_key Rentals) (table_key Stations) (has Rentals) (has Stations) (4 ∷ []) (columns_in 1 Rentals ++ columns_in 2 Stations) (with_one 12) is refl (λ r. refl) (λ r. refl) (λ r s. refl)
-
-pub entry_riders_lines : {text : List ℕ} → IsJoinOf Entries Riders (2 ∷ []) text → AsksLines text query.EntryRiders
-entry_riders_lines is db has = rows_joined (table_key Entries) (table_key Riders) (has Entries) (has Riders) (2 ∷ []) (columns_in 1 Entries ++ columns_in 2 Riders) (with_one 3) is refl (λ r. refl) (λ r. refl) (λ r s. refl)
 
 pub entry_rentals_lines : {text : List ℕ} → IsJoinOf Entries Rentals (3 ∷ []) text → AsksLines text query.EntryRentals
 entry_rentals_lines is db has = rows_joined (table_key Entries) (table_key Rentals) (has Entries) (has Rentals) (3 ∷ []) (columns_in 1 Entries ++ columns_in 2 Rentals) (with_one 10) is refl (λ r. refl) (λ r. refl) (λ r s. refl)

@@ -24,7 +24,7 @@ pub trait RowTest: Drop {
         ensures { IfOk result (λ passes. passes ≡ test self.now row.now) };
 }
 
-/// Begins to read the rows of `kept`. The table's own order costs a tenth of what the order of its key does.
+/// Begins to read the rows of `kept` in the table's own order, which asks for no look-up of each row by its key.
 fn begin_kept<S: Alter>(conn: &mut Connection<S>) -> Result<Rows<'_, S>, Error>
     ensures* lends { sem 𝓛 (LendsWhere S.row S.Store IsOurs conn.entry result) }
     ensures begins { BeginsKept S.Store conn.entry result }

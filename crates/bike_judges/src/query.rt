@@ -35,16 +35,6 @@ pub enum Query {
     RiderRows,
     /// The rows of `rentals`.
     Rentals,
-    /// Rentals, each with its rider.
-    RentalRiders,
-    /// Rentals, each with its bicycle.
-    RentalBikes,
-    /// Rentals, each with its plan.
-    RentalPlans,
-    /// Rentals, each with the station at which it began.
-    RentalStations,
-    /// Rentals, each with the station at which it ended.
-    RentalEnds,
     /// Orders, each with its truck and its vehicle type.
     OrderNames,
     /// Orders, each with the stations at its ends.
@@ -53,8 +43,6 @@ pub enum Query {
     OrderBikes,
     /// The rows of `entries`.
     Entries,
-    /// Entries, each with its rider.
-    EntryRiders,
     /// Entries, each with its rental.
     EntryRentals,
     /// The rows of `kept`.

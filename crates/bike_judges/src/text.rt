@@ -51,21 +51,6 @@ pub(crate) fn text(query: Query) -> &'static str
              ORDER BY 1, 2, 3",
         Query::RiderRows => "SELECT * FROM riders ORDER BY rider",
         Query::Rentals => "SELECT * FROM rentals ORDER BY rental",
-        Query::RentalRiders => "SELECT rentals.*, riders.* FROM rentals \
-             LEFT JOIN riders ON riders.rider = rentals.rider \
-             ORDER BY rentals.rental",
-        Query::RentalBikes => "SELECT rentals.*, bikes.* FROM rentals \
-             LEFT JOIN bikes ON bikes.bike = rentals.bike \
-             ORDER BY rentals.rental",
-        Query::RentalPlans => "SELECT rentals.*, plans.* FROM rentals \
-             LEFT JOIN plans ON plans.plan_id = rentals.plan_id \
-             ORDER BY rentals.rental",
-        Query::RentalStations => "SELECT rentals.*, stations_3.* FROM rentals \
-             LEFT JOIN stations_3 ON stations_3.station_id = rentals.from_station \
-             ORDER BY rentals.rental",
-        Query::RentalEnds => "SELECT rentals.*, stations_3.* FROM rentals \
-             LEFT JOIN stations_3 ON stations_3.station_id = rentals.to_station \
-             ORDER BY rentals.rental",
         Query::OrderNames => "SELECT orders.*, trucks.*, types.* FROM orders \
              LEFT JOIN trucks ON trucks.truck = orders.truck \
              LEFT JOIN types ON types.type_id = orders.type_id \
@@ -78,9 +63,6 @@ pub(crate) fn text(query: Query) -> &'static str
              UNION ALL SELECT ord, 1, bike, bikes.* FROM bikes \
              ORDER BY 1, 2, 3",
         Query::Entries => "SELECT * FROM entries ORDER BY entry",
-        Query::EntryRiders => "SELECT entries.*, riders.* FROM entries \
-             LEFT JOIN riders ON riders.rider = entries.rider \
-             ORDER BY entries.entry",
         Query::EntryRentals => "SELECT entries.*, rentals.* FROM entries \
              LEFT JOIN rentals ON rentals.rental = entries.rental \
              ORDER BY entries.entry",

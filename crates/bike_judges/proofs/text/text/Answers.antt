@@ -2,7 +2,7 @@ use Rattle.std.proofs.Common.{refl}
 use Rattle.sqlite_tied.specs.Compute.{everything}
 use Rattle.bike_book.specs.Tables.{Meta, System, Plans, Regions, Riders, Rentals, Entries, Kept, MoreNames}
 use Rattle.bike_judges.proofs.RowTexts.{table_lines}
-use Rattle.bike_judges.proofs.JoinTexts.{segments_lines, types_lines, station_rows_lines, docks_lines, bike_trucks_lines, rental_riders_lines, rental_bikes_lines, rental_plans_lines, rental_stations_lines, rental_ends_lines, entry_riders_lines, entry_rentals_lines}
+use Rattle.bike_judges.proofs.JoinTexts.{segments_lines, types_lines, station_rows_lines, docks_lines, bike_trucks_lines, entry_rentals_lines}
 use Rattle.bike_judges.proofs.TwoJoinTexts.{bike_names_lines, bike_uses_lines, order_names_lines, count_names_lines, name_places_lines, name_offers_lines, order_ends_lines}
 use Rattle.bike_judges.proofs.UnionTexts.{bike_docks_lines, trucks_lines, order_bikes_lines}
 use Rattle.bike_judges.proofs.UnionOfThreeTexts.{stations_lines, counts_lines}
@@ -72,26 +72,6 @@ pub returns-in-Rentals : goal.returns-in-Rentals
 unfolding everything
 returns-in-Rentals c = rw c.in-Rentals.is (table_lines Rentals (λ tree. refl, refl))
 
-pub returns-in-RentalRiders : goal.returns-in-RentalRiders
-unfolding everything
-returns-in-RentalRiders c = rw c.in-RentalRiders.is (rental_riders_lines (λ tree more. refl, refl))
-
-pub returns-in-RentalBikes : goal.returns-in-RentalBikes
-unfolding everything
-returns-in-RentalBikes c = rw c.in-RentalBikes.is (rental_bikes_lines (λ tree more. refl, refl))
-
-pub returns-in-RentalPlans : goal.returns-in-RentalPlans
-unfolding everything
-returns-in-RentalPlans c = rw c.in-RentalPlans.is (rental_plans_lines (λ tree more. refl, refl))
-
-pub returns-in-RentalStations : goal.returns-in-RentalStations
-unfolding everything
-returns-in-RentalStations c = rw c.in-RentalStations.is (rental_stations_lines (λ tree more. refl, refl))
-
-pub returns-in-RentalEnds : goal.returns-in-RentalEnds
-unfolding everything
-returns-in-RentalEnds c = rw c.in-RentalEnds.is (rental_ends_lines (λ tree more. refl, refl))
-
 pub returns-in-OrderNames : goal.returns-in-OrderNames
 unfolding everything
 returns-in-OrderNames c = rw c.in-OrderNames.is (order_names_lines (λ tree more last. refl, refl))
@@ -107,10 +87,6 @@ returns-in-OrderBikes c = rw c.in-OrderBikes.is (order_bikes_lines (λ tree more
 pub returns-in-Entries : goal.returns-in-Entries
 unfolding everything
 returns-in-Entries c = rw c.in-Entries.is (table_lines Entries (λ tree. refl, refl))
-
-pub returns-in-EntryRiders : goal.returns-in-EntryRiders
-unfolding everything
-returns-in-EntryRiders c = rw c.in-EntryRiders.is (entry_riders_lines (λ tree more. refl, refl))
 
 pub returns-in-EntryRentals : goal.returns-in-EntryRentals
 unfolding everything
