@@ -1,24 +1,25 @@
 //! What the operator holds in byte order of identifiers, or of languages, one after another: what a feed lists.
 
 ghost use Rattle.std.specs.Prelude.{◌≡◌, ◌≢◌, Err, option_map};
-ghost use Rattle.bike_queries.specs.After.{IsNext, IsNextStation, first_after, next_language};
-ghost use Rattle.bike_queries.specs.StationCounts.{IsNextStatus};
+ghost use Rattle.bike_queries.specs.After.{IsNext, first_after, next_language};
+ghost use Rattle.bike_queries.specs.Pages.{AreNamedStations, AreStatuses, IsTold, page_after};
 ghost use Rattle.bike_desk.specs.Queries.{Queries};
 
 use crate::desk::Desk;
 use crate::fault::DeskFault;
 use bike_catalogue::{Plan, Region, VehicleType};
 use bike_fields::{Ident, Language};
-use bike_operator::MOST_TYPES;
 use bike_queries::{
-    StationInfo, StationStatus, find_language_after, find_plan_after, find_region_after,
-    find_station_after, find_status_after, find_type_after,
+    NamedStation, StationStatus, find_language_after, find_plan_after, find_region_after,
+    find_stations_after, find_statuses_after, find_type_after,
 };
 use sqlite::Alter;
 use std::alloc::Global;
+use std::collections::VecDeque;
 
 /// Each answers the first whose identifier comes after the given one in byte order, or the first of all, and None exactly where
-/// none is left: a caller who hands back the identifier that was answered walks over all. So it is of languages by themselves.
+/// none is left: a caller who hands back the identifier that was answered walks over all. So it is of languages by themselves. Of
+/// stations a page is answered, the first ones, which is empty exactly where none is left: a walk goes on after its last.
 /// Nothing that is kept changes. Faults come as those of the other queries do.
 impl<S: Alter> Desk<S> {
     /// The next vehicle type.
@@ -55,42 +56,41 @@ impl<S: Alter> Desk<S> {
         self.answer(read)
     }
 
-    /// The next station.
-    pub fn station_after(
+    /// The next stations with their further names, as many as a page holds. Where there are no names in further languages, and that
+    /// is told, none are asked for.
+    pub fn stations_after(
         &mut self,
         alloc: Global,
         after: Option<&Ident>,
-    ) -> Result<Option<StationInfo>, DeskFault>
-        ensures query { Queries S.Store self.old self.new result
-            (λ s x. IsNextStation (first_after (option_map (λ id. id.now) after.entry) s.stations) x) }
+        translated: bool,
+    ) -> Result<VecDeque<NamedStation>, DeskFault>
+        ensures query { Queries S.Store self.old self.new result (λ s page. IsTold translated s
+            → AreNamedStations s (page_after (option_map (λ id. id.now) after.entry) s.stations) page.items) }
         ensures takes_none { result ≢ Err DeskFault.NoMemory }
     {
         if self.stopped() {
             return Err(DeskFault::Stopped);
         }
-        let read = find_station_after(alloc, &mut self.conn, after);
+        let read = find_stations_after(alloc, &mut self.conn, after, translated);
         self.answer(read)
     }
 
-    /// The next station with its counts, as GBFS's `station_status` shows them, by the stored numbers. The counts are of the types
-    /// with these identifiers, which are to be those of all types, as `type_ids` answers them. Room for their list is taken
-    /// before the database is reached; where that is refused, `NoMemory` comes.
-    pub fn status_after(
+    /// The next stations with their counts, as GBFS's `station_status` shows them, by the stored numbers: as many as a page holds. The
+    /// counts are of the types with these identifiers, which are to be those of all types, as `type_ids` answers them.
+    pub fn statuses_after(
         &mut self,
         alloc: Global,
         after: Option<&Ident>,
         type_ids: &[Ident],
-    ) -> Result<Option<StationStatus>, DeskFault>
-        ensures query { Queries S.Store self.old self.new result
-            (λ s x. IsNextStatus s type_ids.now (first_after (option_map (λ id. id.now) after.entry) s.stations) x) }
+    ) -> Result<VecDeque<StationStatus>, DeskFault>
+        ensures query { Queries S.Store self.old self.new result (λ s page.
+            AreStatuses s type_ids.now (page_after (option_map (λ id. id.now) after.entry) s.stations) page.items) }
+        ensures takes_none { result ≢ Err DeskFault.NoMemory }
     {
         if self.stopped() {
             return Err(DeskFault::Stopped);
         }
-        let Ok(room) = Vec::with_capacity(alloc, MOST_TYPES as usize) else {
-            return Err(DeskFault::NoMemory);
-        };
-        let read = find_status_after(alloc, &mut self.conn, after, type_ids, room);
+        let read = find_statuses_after(alloc, &mut self.conn, after, type_ids);
         self.answer(read)
     }
 

@@ -4,5 +4,6 @@ pub mod WalkLemmas
 pub mod Lists
 pub mod NameLemmas
 pub mod TextLemmas
+pub mod PageLemmas
 pub mod StatusLemmas
 pub mod FeedLemmas

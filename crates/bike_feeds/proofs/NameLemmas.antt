@@ -19,7 +19,8 @@ use Rattle.bike_queries.specs.After.{next_language}
 use Rattle.bike_desk.specs.declared.fault.DeskFault.{DeskFault}
 use Rattle.bike_desk.specs.Desk.{DeskValue, desk_state, IsAt}
 use Rattle.bike_desk.specs.Queries.{Queries}
-use Rattle.bike_feeds.specs.Walking.{StaysAt, IsTold}
+use Rattle.bike_queries.specs.Pages.{IsTold}
+use Rattle.bike_feeds.specs.Walking.{StaysAt}
 use Rattle.bike_feeds.proofs.DeskLemmas.{earlier, going_only}
 use Rattle.bike_feeds.proofs.WalkLemmas.{Walk, Walks, Passes, goes_asked, walk_writes}
 
@@ -97,6 +98,11 @@ module _ {S : Type 0} (g : Ghosts S) where
 
   pub told_later : {translated : Bool} {d e f : DeskValue S} → Told translated d e → doubt (desk_state g e).is_clean ≤ doubt (desk_state g f).is_clean → Told translated d f
   told_later {e = e} {f = f} told le = record { are = λ clean s at. told.are (earlier g e f le clean) s at }
+
+  -- at one more
+  pub told_asked : {A : Type 0} {says : Operator → A → Type 0} {translated : Bool} {d e f : DeskValue S} {r : Result A DeskFault} → Told translated d e
+      → Queries g e f r says → HasCleanDisk (desk_state g f) → (s : Operator) → IsAt g d s → IsTold translated s
+  told_asked {e = e} {f = f} told query clean s at = told.are (earlier g e f query.clean clean) s at
 
   -- names were answered, as a value that holds them
   module _ {A : Type 0} (items : A → List MoreNameRow) (translated : Bool) where

@@ -182,14 +182,15 @@ module _ {S X : Type 0} (g : Ghosts S) (w : Walk X) where
 
   -- the first answer
   pub walk_begins : {A : Type 0} {says : Operator → A → Type 0} {d e f : DeskValue S} {p q : Place} {a b : OutputState} (answer : A) (next : Option X)
-      → Begun d e p q a b → Queries g e f (Ok answer) says → ((s : Operator) → says s answer → IsNext w.id (slice_get (w.held s) 0) next) → Walks next d f p q a b
+      → Begun d e p q a b → Queries g e f (Ok answer) says
+      → (HasCleanDisk (desk_state g f) → (s : Operator) → IsAt g d s → says s answer → IsNext w.id (slice_get (w.held s) 0) next) → Walks next d f p q a b
   walk_begins {e = e} {f = f} answer next h query means = record {
     stays = stays_then g h.stays (stays_asked g answer h.stays.goes_on query);
     inside = h.inside;
     round = h.round;
     at = λ clean s at.
         let before = earlier g e f query.clean clean in
-        record { front = []; rest = w.held s; split = refl; first = means s (query.ok clean s (h.stays.same before s at)).0; wrote = (h.at before s at).wrote };
+        record { front = []; rest = w.held s; split = refl; first = means clean s at (query.ok clean s (h.stays.same before s at)).0; wrote = (h.at before s at).wrote };
   }
 
   -- the row is written
@@ -218,7 +219,7 @@ module _ {S X : Type 0} (g : Ghosts S) (w : Walk X) where
   -- the next answer
   pub walk_goes : {A : Type 0} {says : Operator → A → Type 0} {d e f : DeskValue S} {p q : Place} {a b : OutputState} {x : X} (asked : List ℕ) (answer : A) (next : Option X)
       → Passes x d e p q a b → Queries g e f (Ok answer) says → asked ≡ w.id x
-      → ((s : Operator) → says s answer → IsNext w.id (find (λ e. is_lt (text_cmp asked e.0)) (w.held s)) next) → Walks next d f p q a b
+      → (HasCleanDisk (desk_state g f) → (s : Operator) → IsAt g d s → says s answer → IsNext w.id (find (λ e. is_lt (text_cmp asked e.0)) (w.held s)) next) → Walks next d f p q a b
   walk_goes {e = e} {f = f} {x = x} asked answer next h query for_it means = record {
     stays = stays_then g h.stays (stays_asked g answer h.stays.goes_on query);
     inside = h.inside;
@@ -232,7 +233,7 @@ module _ {S X : Type 0} (g : Ghosts S) (w : Walk X) where
           front = it.front ++ it.last ∷ [];
           rest = it.rest;
           split = it.split ∙ sym (append_assoc it.front (it.last ∷ []) it.rest);
-          first = subst (λ o. IsNext w.id o next) after (means s (query.ok clean s (h.stays.same before s at)).0);
+          first = subst (λ o. IsNext w.id o next) after (means clean s at (query.ok clean s (h.stays.same before s at)).0);
           wrote = it.wrote;
         };
   }

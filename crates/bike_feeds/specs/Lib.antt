@@ -1,5 +1,6 @@
 pub mod Publishing
 pub mod Walking
+pub mod Pages
 pub use Rattle.bike_desk.specs.Desk
 pub use Rattle.bike_desk.specs.Queries
 pub use Rattle.bike_desk.specs.Runs

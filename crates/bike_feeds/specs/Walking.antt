@@ -1,5 +1,5 @@
 -- What the functions owe of which a feed is made, and what holds between two questions to the desk.
-use Rattle.std.specs.Prelude.{◌≡◌, ◌≤◌, ◌+◌, ◌⊎◌, ℕ, List, [], length, Bool, false, IsTrue, Option, Some, Result, Err, OnOk, OnErr}
+use Rattle.std.specs.Prelude.{◌≡◌, ◌≤◌, ◌+◌, ◌⊎◌, ℕ, List, length, false, IsTrue, Option, Some, Result, Err, OnOk, OnErr}
 use Rattle.std.specs.Io.KnownBytes.{Appends}
 use Rattle.sqlite_trees.specs.View.{doubt}
 use Rattle.sqlite_trees.specs.declared.store.Store.{Ghosts}
@@ -13,7 +13,6 @@ use Rattle.bike_catalogue.specs.Rows.{SystemRow}
 use Rattle.bike_operator.specs.Operator.{Operator}
 use Rattle.bike_feed_texts.specs.declared.feed.Feed.{Feed}
 use Rattle.bike_feed_texts.specs.Elements.{CountsRow}
-use Rattle.bike_feed_texts.specs.Trees.{further_languages}
 use Rattle.bike_queries.specs.declared.counts.Counts.{Counts}
 use Rattle.bike_schema.specs.Stands.{AllLeft}
 use Rattle.bike_desk.specs.Desk.{DeskValue, desk_state, IsAt}
@@ -55,10 +54,6 @@ pub record WritesText {S : Type 0} (g : Ghosts S) (old new : DeskValue S) (befor
 -- the whole feed was written, and counted
 abbrev pub IsCounted : Operator → Feed → ℕ → Option (List ℕ) → Option (List ℕ) → ℕ → Type 0
 IsCounted s feed moment old new count = (x : SystemRow) × (s.system ≡ Some x) × Appends old new (feed_text s x feed moment) × (count ≡ length (feed_text s x feed moment))
-
--- whether there are names in further languages: where it is told that there are none, that is so
-abbrev pub IsTold : Bool → Operator → Type 0
-IsTold translated s = translated ≡ false → further_languages s ≡ []
 
 -- the counts that were read of a station, as its status shows them
 abbrev pub shown_counts : Counts → CountsRow

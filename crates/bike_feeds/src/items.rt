@@ -12,6 +12,7 @@ ghost use Rattle.bike_feeds.specs.Walking.{WritesItems, shown_counts};
 
 use crate::fault::FeedFault;
 use crate::names::{find_names, is_translated};
+use crate::pages::{next_station, next_status};
 use bike_catalogue::{NameKind, System};
 use bike_desk::Desk;
 use bike_feed_texts::{
@@ -19,10 +20,11 @@ use bike_feed_texts::{
     write_type,
 };
 use bike_json::{JsonState, Level, Output};
-use bike_queries::StationStatus;
+use bike_queries::{NamedStation, StationStatus};
 use bike_stream::WriteFault;
 use sqlite::Alter;
 use std::alloc::Global;
+use std::collections::VecDeque;
 
 /// Writes the vehicle types as items.
 pub(crate) fn write_types<S: Alter, W: Output>(
@@ -66,13 +68,12 @@ pub(crate) fn write_stations<S: Alter, W: Output>(
         (λ s. station_element s system.now) (λ s. values s.stations) }
 {
     let translated = is_translated(alloc, desk)?;
-    let mut next = desk.station_after(alloc, None)?;
+    let mut page = VecDeque::new(alloc);
+    let mut next = next_station(alloc, desk, &mut page, None, translated)?;
     'stations: while json.count() < u64::MAX {
-        let Some(info) = next else {
+        let Some(NamedStation { info, names }) = next else {
             return Ok(());
         };
-        let id = info.station.station_id();
-        let names = find_names(alloc, desk, translated, NameKind::Station, id)?;
         write_station(
             json,
             out,
@@ -81,7 +82,8 @@ pub(crate) fn write_stations<S: Alter, W: Output>(
             info.region.as_ref(),
             names.as_slice(),
         )?;
-        next = desk.station_after(alloc, Some(id))?;
+        let station = info.station.station_id();
+        next = next_station(alloc, desk, &mut page, Some(station), translated)?;
     }
     // No count is greater.
     Err(FeedFault::Write)
@@ -131,14 +133,15 @@ pub(crate) fn write_statuses<S: Alter, W: Output>(
         (λ s station. status_tree (report_of station) (counts_of s station)) (λ s. values s.stations) }
 {
     let type_ids = desk.type_ids(alloc)?;
-    let mut next = desk.status_after(alloc, None, type_ids.as_slice())?;
+    let mut page = VecDeque::new(alloc);
+    let mut next = next_status(alloc, desk, &mut page, None, type_ids.as_slice())?;
     'stations: while json.count() < u64::MAX {
         let Some(status) = next else {
             return Ok(());
         };
         write_report(json, out, &status)?;
         let station = status.info.station.station_id();
-        next = desk.status_after(alloc, Some(station), type_ids.as_slice())?;
+        next = next_status(alloc, desk, &mut page, Some(station), type_ids.as_slice())?;
     }
     // No count is greater.
     Err(FeedFault::Write)

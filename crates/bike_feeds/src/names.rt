@@ -2,8 +2,8 @@
 
 ghost use Rattle.std.specs.Prelude.{◌≡◌, false};
 ghost use Rattle.bike_operator.specs.Names.{further_names};
+ghost use Rattle.bike_queries.specs.Pages.{IsTold};
 ghost use Rattle.bike_desk.specs.Queries.{Queries};
-ghost use Rattle.bike_feeds.specs.Walking.{IsTold};
 
 use bike_catalogue::{MoreName, NameKind};
 use bike_desk::{Desk, DeskFault};

@@ -118,3 +118,18 @@ module _ {V : Type 0} (is_kind : List ℕ → Bool) (none : is_kind [] ≡ false
       first_passed row (is_behind start) (λ e. is_lt (text_cmp start e.0)) (entries m) (λ e has.
       ap (is_after start) (begins e) ∙ ap is_gt (value_cmp-Text e.0 start ∙ text_order.total.antisymm e.0 start) ∙ turned (text_cmp start e.0))
       ∙ ap (λ id. option_map row (first_after (Some id) m)) is ∙ ap (option_map row) (after_start after)
+
+-- ---- all rows after a text
+
+-- the rows of entries, whose first columns are their keys
+pub rows_behind : {V : Type 0} (row : List ℕ × V → Row) → ((e : List ℕ × V) → column (row e) 0 ≡ Text e.0) → (start : List ℕ) (es : List (List ℕ × V))
+    → filter (is_behind start) (map row es) ≡ map row (filter (λ e. is_lt (text_cmp start e.0)) es)
+rows_behind row begins start [] = refl
+rows_behind row begins start (e ∷ es) =
+    let same : is_behind start (row e) ≡ is_lt (text_cmp start e.0) = ap (is_after start) (begins e) ∙ ap is_gt (value_cmp-Text e.0 start ∙ text_order.total.antisymm e.0 start) ∙ turned (text_cmp start e.0) in
+    rw same (go (is_lt (text_cmp start e.0)) (rows_behind row begins start es))
+  where
+    go : (b : Bool) → filter (is_behind start) (map row es) ≡ map row (filter (λ x. is_lt (text_cmp start x.0)) es)
+        → cond b (row e ∷ filter (is_behind start) (map row es)) (filter (is_behind start) (map row es)) ≡ map row (cond b (e ∷ filter (λ x. is_lt (text_cmp start x.0)) es) (filter (λ x. is_lt (text_cmp start x.0)) es))
+    go true rest = ap (λ (rs : List Row). row e ∷ rs) rest
+    go false rest = rest

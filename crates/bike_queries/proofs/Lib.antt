@@ -11,3 +11,7 @@ mod LanguageLemmas
 mod SpanLaw
 mod SpanLemmas
 mod NextLemmas
+mod GroupLaw
+pub mod PageLaw
+mod PageTexts
+mod PageRows

@@ -18,7 +18,7 @@ use Rattle.bike_catalogue.specs.Rows.{PlanRow, TypeRow, StationRow, RegionRow, r
 use Rattle.bike_catalogue.specs.Vehicle.{form_text, propulsion_text}
 use Rattle.bike_operator.specs.Operator.{Operator, Station, text_cmp}
 use Rattle.bike_operator.specs.Sound.{IsSound}
-use Rattle.bike_book.specs.Tables.{Types, Regions, Stations, Plans}
+use Rattle.bike_book.specs.Tables.{Types, Regions, Plans}
 use Rattle.bike_book.specs.Rows.{type_row, region_row, station_row}
 use Rattle.bike_book.specs.Stored.{stored_plan}
 use Rattle.bike_book.proofs.Keys.{texts}
@@ -40,10 +40,6 @@ finds_type_after id = after_in Types 1 id (λ r. refl) (λ tree. refl, refl)
 pub finds_region_after : (id : List ℕ) → FindsIn (codes "SELECT * FROM regions WHERE region_id > ?1 ORDER BY region_id LIMIT 1") (Text id ∷ []) (λ t. slice_get (filter (is_behind id) t.regions) 0)
 unfolding everything
 finds_region_after id = after_in Regions 1 id (λ r. refl) (λ tree. refl, refl)
-
-pub finds_station_after : (id : List ℕ) → FindsIn (codes "SELECT * FROM stations_3 WHERE station_id > ?1 ORDER BY station_id LIMIT 1") (Text id ∷ []) (λ t. slice_get (filter (is_behind id) t.stations) 0)
-unfolding everything
-finds_station_after id = after_in Stations 1 id (λ r. refl) (λ tree. refl, refl)
 
 pub finds_plan_after : (id : List ℕ) → FindsIn (codes "SELECT * FROM plans WHERE plan_id > ?1 ORDER BY plan_id LIMIT 1") (Text id ∷ []) (λ t. slice_get (filter (is_behind id) t.plans) 0)
 unfolding everything

@@ -32,9 +32,6 @@ station_of x = record {
   region = x.region;
 }
 
-abbrev pub IsNextStation : Option (List ℕ × Station) → Option StationInfo → Type 0
-IsNextStation next x = IsNext (λ (s : Station). s.row.station_id) next (option_map station_of x)
-
 -- the row is that of the station, whatever its docks' numbers
 pub record HoldsStation (row : Row) (x : Station) : Type 0 where
   pub free : ℤ

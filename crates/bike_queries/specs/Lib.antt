@@ -1,4 +1,5 @@
 pub mod Infos
 pub mod StationCounts
 pub mod After
+pub mod Pages
 pub mod Spans

@@ -1,5 +1,5 @@
 -- The counts of a station, as GBFS's `station_status` has them.
-use Rattle.std.specs.Prelude.{◌≡◌, ◌+◌, ◌++◌, [], ◌∷◌, ℕ, List, Bool, false, map, find, unwrap_or, Option, Some, None, IfSome, option_map}
+use Rattle.std.specs.Prelude.{◌≡◌, ◌+◌, ◌++◌, [], ◌∷◌, ℕ, List, Bool, false, map, find, unwrap_or, Option, Some, None}
 use Rattle.std.specs.List.{sum_by}
 use Rattle.std.specs.Str.{bytes_eq}
 use Rattle.std.specs.FinMap as fin
@@ -16,8 +16,6 @@ use Rattle.bike_fleet.specs.Holds.{HoldsAny, HoldsCounts}
 use Rattle.bike_feed_texts.specs.declared.status.TypeCount.{TypeCount}
 use Rattle.bike_queries.specs.declared.counts.Counts.{Counts}
 use Rattle.bike_queries.specs.declared.counts.Tally.{Tally}
-use Rattle.bike_queries.specs.declared.status.StationStatus.{StationStatus}
-use Rattle.bike_queries.specs.After.{IsNextStation}
 
 -- a vehicle type, with its bicycles that are available at a station
 abbrev pub type_count : Operator → List ℕ → List ℕ → TypeCount
@@ -75,9 +73,3 @@ AreCountsFor s station (Some x) None = ⊥
 
 abbrev pub AreCountsAt : Operator → List ℕ → Option Counts → Type 0
 AreCountsAt s station = AreCountsFor s station (fin.get s.stations station)
-
--- The next station was answered, and its counts beside, where these are the identifiers of the types.
-abbrev pub IsNextStatus : Operator → List (List ℕ) → Option (List ℕ × Station) → Option StationStatus → Type 0
-IsNextStatus s type_ids next x =
-    IsNextStation next (option_map (λ y. y.info) x)
-    × IfSome x (λ y. type_ids ≡ fin.keys s.types → AreCountsAt s y.info.station.station_id (Some y.counts))

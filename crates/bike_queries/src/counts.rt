@@ -1,12 +1,14 @@
 //! The counts of a station, by the numbers that its tables keep.
 
-ghost use Rattle.std.specs.Prelude.{◌≡◌, [], ◌∷◌, IfOk, OnOk, find};
+ghost use Rattle.std.specs.Prelude.{◌≡◌, [], ◌∷◌, IfOk, OnOk, filter, find};
 ghost use Rattle.sqlite_value.specs.declared.value.Value.TheVariants.{Text};
 ghost use Rattle.bike_book.specs.Tables.{Counts as CountRows};
-ghost use Rattle.bike_book.specs.Found.{rows_by};
+ghost use Rattle.sqlite_value.specs.Order.{column};
+ghost use Rattle.bike_book.specs.Found.{rows_by, rows_of};
 ghost use Rattle.bike_schema.specs.Answers.{Answers};
 ghost use Rattle.bike_fleet.specs.Fleet.{type_counts_of};
 ghost use Rattle.bike_fleet.specs.Holds.{HoldsAny, HoldsCounts};
+ghost use Rattle.bike_queries.specs.Pages.{is_between};
 ghost use Rattle.bike_queries.specs.StationCounts.{Adds, AreCountRows, AreCountsAt, IsTally, counts_with, is_of};
 
 use crate::columns::{str_at, whole_at};
@@ -52,6 +54,22 @@ fn select_counts<S: Alter>(
     let rows = conn.query_all(
         "SELECT * FROM counts WHERE station_id = ?1 ORDER BY station_id, type_id",
         params![station.as_str()],
+    )?;
+    Ok(rows)
+}
+
+/// The rows of the counts of the stations whose identifiers come after the one and not after the other, station by station.
+pub(crate) fn select_counts_between<S: Alter>(
+    conn: &mut Connection<S>,
+    start: &str,
+    last: &str,
+) -> Result<Vec<Row>, StatementFault>
+    ensures { Answers S.Store conn.old conn.new result
+        (λ s m rows. rows.items ≡ filter (λ row. is_between start.now last.now (column row 0)) (rows_of s m CountRows)) }
+{
+    let rows = conn.query_all(
+        "SELECT * FROM counts WHERE station_id > ?1 AND station_id <= ?2 ORDER BY station_id, type_id",
+        params![start, last],
     )?;
     Ok(rows)
 }
@@ -137,7 +155,7 @@ impl Tally {
 
 /// A station's bicycles of the types with these identifiers, by the rows of its counts. The list of types is put together in
 /// the room.
-fn tally_rows(
+pub(crate) fn tally_rows(
     alloc: Global,
     type_ids: &[Ident],
     counts: &[Row],

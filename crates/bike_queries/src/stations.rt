@@ -1,21 +1,26 @@
-//! The stations in byte order of their identifiers, one after another.
+//! The stations with their further names in byte order of their identifiers, page by page.
 
-ghost use Rattle.std.specs.Prelude.{◌≡◌, IfOk, option_map};
-ghost use Rattle.bike_book.specs.Stored.{stored_station};
+ghost use Rattle.std.specs.Prelude.{◌≡◌, IfOk, filter, map, option_map};
+ghost use Rattle.std.specs.List.{AllZip};
+ghost use Rattle.bike_book.specs.Tables.{MoreNames};
+ghost use Rattle.bike_book.specs.Found.{rows_of};
 ghost use Rattle.bike_schema.specs.Answers.{Answers};
-ghost use Rattle.bike_queries.specs.After.{HoldsStation, IsNextStation, first_after, station_of};
+ghost use Rattle.bike_queries.specs.After.{HoldsStation, station_of};
+ghost use Rattle.bike_queries.specs.Pages.{AreNamedStations, ArePage, IsOwnedName, IsTold, ReadsNamed, is_station_name, owned_name, page_after};
 
 use crate::after::start_of;
 use crate::columns::micro_at;
-use bike_catalogue::Station;
+use crate::pages::{OwnerReader, last_text, read_page};
+use bike_accounts::language_at;
+use bike_catalogue::{MoreName, NameKind, Station};
 use bike_fields::Ident;
 use bike_fixed::Moment;
-use bike_rows::lookup::first_row;
 use bike_schema::{
     StatementFault, flag_at, ident_at, moment_at, name_at, number_at, optional_ident_at,
 };
 use sqlite::{Alter, Connection, Row, params};
 use std::alloc::Global;
+use std::collections::VecDeque;
 
 /// A station with its flags as they were set, when it last reported, and the region in which it stands.
 #[derive(Drop)]
@@ -34,19 +39,28 @@ pub struct StationInfo {
     pub region: Option<Ident>,
 }
 
-/// The row of the first station whose identifier comes after this one, or of the first of all.
-pub(crate) fn select_station<S: Alter>(
+/// A station with its names in further languages.
+#[derive(Drop)]
+pub struct NamedStation {
+    /// The station.
+    pub info: StationInfo,
+    /// Its further names, in byte order of their languages.
+    pub names: Vec<MoreName>,
+}
+
+/// The rows of the next stations whose identifiers come after this one, or of the first of all, a page of them.
+pub(crate) fn select_stations<S: Alter>(
     conn: &mut Connection<S>,
     after: Option<&Ident>,
-) -> Result<Option<Row>, StatementFault>
+) -> Result<Vec<Row>, StatementFault>
     ensures { Answers S.Store conn.old conn.new result
-        (λ s m row. row ≡ option_map (stored_station s) (first_after (option_map (λ id. id.now) after.entry) s.stations)) }
+        (λ s m rows. ArePage s (option_map (λ id. id.now) after.entry) rows.items) }
 {
-    first_row(
-        conn,
-        "SELECT * FROM stations_3 WHERE station_id > ?1 ORDER BY station_id LIMIT 1",
+    let rows = conn.query_all(
+        "SELECT * FROM stations_3 WHERE station_id > ?1 ORDER BY station_id LIMIT 32",
         params![start_of(after)],
-    )
+    )?;
+    Ok(rows)
 }
 
 /// The name, the place and the docks that stand in a row of `stations_3`.
@@ -81,18 +95,87 @@ pub(crate) fn read_info(alloc: Global, row: &Row) -> Result<StationInfo, Stateme
     })
 }
 
-/// The first station whose identifier comes after this one, or the first of all; `None` where there is none. `NoMemory` where
-/// its texts find no room; every other fault is the database's.
-pub fn find_station_after<S: Alter>(
+/// The rows of the stations' names in further languages, those of the identifiers after the one and not after the other, each with
+/// its identifier before it.
+fn select_names<S: Alter>(
+    conn: &mut Connection<S>,
+    start: &str,
+    last: &str,
+) -> Result<Vec<Row>, StatementFault>
+    ensures { Answers S.Store conn.old conn.new result
+        (λ s m rows. rows.items ≡ map owned_name (filter (is_station_name start.now last.now) (rows_of s m MoreNames))) }
+{
+    let rows = conn.query_all(
+        "SELECT id, language, name FROM more_names WHERE kind = ?1 AND id > ?2 AND id <= ?3 ORDER BY kind, id, language",
+        params![NameKind::Station.as_str(), start, last],
+    )?;
+    Ok(rows)
+}
+
+/// The further name that stands behind an identifier.
+fn read_name(alloc: Global, row: &Row) -> Result<MoreName, StatementFault>
+    ensures { IfOk result (IsOwnedName row.now) }
+{
+    let language = language_at(alloc, row, 1)?;
+    let name = name_at(alloc, row, 2)?;
+    Ok(MoreName::from_fields(language, name))
+}
+
+/// The further names that stand in these rows.
+fn read_names(alloc: Global, rows: &[Row]) -> Result<Vec<MoreName>, StatementFault>
+    ensures { IfOk result (λ x. AllZip IsOwnedName rows.now x.items) }
+{
+    let mut names = Vec::new(alloc);
+    for row in rows {
+        let name = read_name(alloc, row)?;
+        if names.push(name).is_err() {
+            return Err(StatementFault::NoMemory);
+        }
+    }
+    Ok(names)
+}
+
+/// Reads stations with their further names.
+#[derive(Drop)]
+struct NamedReader {}
+
+impl OwnerReader for NamedReader {
+    type Item = NamedStation;
+
+    ghost reads = { λ this station own x. ReadsNamed station own x };
+
+    fn read(
+        &self,
+        alloc: Global,
+        owner: &Row,
+        own: &[Row],
+    ) -> Result<NamedStation, StatementFault> {
+        let info = read_info(alloc, owner)?;
+        let names = read_names(alloc, own)?;
+        Ok(NamedStation { info, names })
+    }
+}
+
+/// The next stations whose identifiers come after this one, or the first of all, with their further names: as many as a page holds,
+/// by one statement, and by a second for the names where there are any. `NoMemory` where a text finds no room; every other fault
+/// is the database's.
+pub fn find_stations_after<S: Alter>(
     alloc: Global,
     conn: &mut Connection<S>,
     after: Option<&Ident>,
-) -> Result<Option<StationInfo>, StatementFault>
-    ensures { Answers S.Store conn.old conn.new result
-        (λ s m x. IsNextStation (first_after (option_map (λ id. id.now) after.entry) s.stations) x) }
+    translated: bool,
+) -> Result<VecDeque<NamedStation>, StatementFault>
+    ensures { Answers S.Store conn.old conn.new result (λ s m page. IsTold translated s
+        → AreNamedStations s (page_after (option_map (λ id. id.now) after.entry) s.stations) page.items) }
 {
-    match select_station(conn, after)? {
-        Some(row) => Ok(Some(read_info(alloc, &row)?)),
-        None => Ok(None),
+    let stations = select_stations(conn, after)?;
+    let stations = stations.as_slice();
+    let Some(last) = last_text(stations)? else {
+        return Ok(VecDeque::new(alloc));
+    };
+    if !translated {
+        return read_page(alloc, stations, &[], &NamedReader {});
     }
+    let names = select_names(conn, start_of(after), last)?;
+    read_page(alloc, stations, names.as_slice(), &NamedReader {})
 }

@@ -1,20 +1,21 @@
-//! The stations with their counts in byte order of their identifiers, one after another.
+//! The stations with their counts in byte order of their identifiers, page by page.
 
-ghost use Rattle.std.specs.Prelude.{◌≡◌, [], IfOk, option_map};
+ghost use Rattle.std.specs.Prelude.{IfOk, option_map};
 ghost use Rattle.bike_schema.specs.Answers.{Answers};
 ghost use Rattle.bike_fleet.specs.Holds.{HoldsDockNumbers};
-ghost use Rattle.bike_queries.specs.After.{first_after};
-ghost use Rattle.bike_queries.specs.StationCounts.{IsNextStatus};
+ghost use Rattle.bike_queries.specs.Pages.{AreStatuses, ReadsStatus, page_after};
 
+use crate::after::start_of;
 use crate::columns::whole_at;
-use crate::counts::{Counts, find_tally};
-use crate::stations::{StationInfo, read_info, select_station};
-use bike_feed_texts::TypeCount;
+use crate::counts::{Counts, select_counts_between, tally_rows};
+use crate::pages::{OwnerReader, last_text, read_page};
+use crate::stations::{StationInfo, read_info, select_stations};
 use bike_fields::Ident;
 use bike_fleet::DockNumbers;
 use bike_schema::StatementFault;
 use sqlite::{Alter, Connection, Row};
 use std::alloc::Global;
+use std::collections::VecDeque;
 
 /// A station with its counts: what GBFS's `station_status` shows of it.
 #[derive(Drop)]
@@ -34,29 +35,54 @@ fn read_docks(row: &Row) -> Result<DockNumbers, StatementFault>
     Ok(DockNumbers { free, broken })
 }
 
-/// The first station whose identifier comes after this one, or the first of all, with its counts, by two statements: its row,
-/// and a walk over its counts; `None` where there is none.
+/// Reads stations with their counts, of the types with these identifiers.
+#[derive(Drop)]
+struct StatusReader<'a> {
+    type_ids: &'a [Ident],
+}
+
+impl<'a> OwnerReader for StatusReader<'a> {
+    type Item = StationStatus;
+
+    ghost reads = { λ this station own x. ReadsStatus this.type_ids.now station own x };
+
+    fn read(
+        &self,
+        alloc: Global,
+        owner: &Row,
+        own: &[Row],
+    ) -> Result<StationStatus, StatementFault> {
+        let info = read_info(alloc, owner)?;
+        let docks = read_docks(owner)?;
+        let Ok(room) = Vec::with_capacity(alloc, self.type_ids.len()) else {
+            return Err(StatementFault::NoMemory);
+        };
+        let tally = tally_rows(alloc, self.type_ids, own, room)?;
+        let counts = tally.with_docks(docks);
+        Ok(StationStatus { info, counts })
+    }
+}
+
+/// The next stations whose identifiers come after this one, or the first of all, with their counts: as many as a page holds, by two
+/// statements, the rows of the stations and those of their counts.
 ///
-/// The counts are of the types with these identifiers, which are to be those of all types, as `find_type_ids` answers them. Their
-/// list is put together in the room, which best has a place for each of them. `NoMemory` where a text finds none; every
-/// other fault is the database's.
-pub fn find_status_after<S: Alter>(
+/// The counts are of the types with these identifiers, which are to be those of all types, as `find_type_ids` answers them.
+/// `NoMemory` where a text or a list finds no room; every other fault is the database's.
+pub fn find_statuses_after<S: Alter>(
     alloc: Global,
     conn: &mut Connection<S>,
     after: Option<&Ident>,
     type_ids: &[Ident],
-    room: Vec<TypeCount>,
-) -> Result<Option<StationStatus>, StatementFault>
-    requires { room.items ≡ [] }
-    ensures { Answers S.Store conn.old conn.new result
-        (λ s m x. IsNextStatus s type_ids.now (first_after (option_map (λ id. id.now) after.entry) s.stations) x) }
+) -> Result<VecDeque<StationStatus>, StatementFault>
+    ensures { Answers S.Store conn.old conn.new result (λ s m page.
+        AreStatuses s type_ids.now (page_after (option_map (λ id. id.now) after.entry) s.stations) page.items) }
 {
-    let Some(row) = select_station(conn, after)? else {
-        return Ok(None);
+    let stations = select_stations(conn, after)?;
+    let stations = stations.as_slice();
+    let Some(last) = last_text(stations)? else {
+        return Ok(VecDeque::new(alloc));
     };
-    let info = read_info(alloc, &row)?;
-    let docks = read_docks(&row)?;
-    let tally = find_tally(alloc, conn, info.station.station_id(), type_ids, room)?;
-    let counts = tally.with_docks(docks);
-    Ok(Some(StationStatus { info, counts }))
+    let counts = select_counts_between(conn, start_of(after), last)?;
+    let reader = StatusReader { type_ids };
+    read_page(alloc, stations, counts.as_slice(), &reader)
 }

@@ -22,7 +22,7 @@ languages-init g c =
     walk_begins g.S.Store (languages c.args.system.now) c.in_ok-next.next c.in_ok-next.next
     (begins_behind g.S.Store (languages c.args.system.now) c.args.system.now.language c.requires.going c.requires.place.0
     (languages_all c.args.system.now) (λ s. rw c.language.ensures at c.in_ok-write_language.ensures.wrote) c.in_ok-write_language.ensures.place)
-    c.in_ok-next.ensures.query (language_first c.args.system.now c.in_ok-next.next)
+    c.in_ok-next.ensures.query (λ clean s at. language_first c.args.system.now c.in_ok-next.next s)
 
 pub returns-in_default : goal.returns-in_default
 returns-in_default g c = walk_ends g.S.Store (languages c.args.system.now) tt (rw c.in_default.is at c.languages.invariant)
@@ -48,7 +48,7 @@ pub languages-preserved : goal.languages-preserved
 languages-preserved g c =
     walk_goes g.S.Store (languages c.args.system.now) c.in-Some.language c.in_ok-next-2.next c.in_ok-next-2.next
     (walk_writes g.S.Store (languages c.args.system.now) c.in-Some.language (rw c.in-Some.is at c.languages.invariant) (λ clean s at. c.in_ok-write_language-2.ensures.wrote) c.in_ok-write_language-2.ensures.place)
-    c.in_ok-next-2.ensures.query refl (language_next c.args.system.now c.in-Some.language c.in_ok-next-2.next)
+    c.in_ok-next-2.ensures.query refl (λ clean s at. language_next c.args.system.now c.in-Some.language c.in_ok-next-2.next s)
 
 pub returns : goal.returns
 returns g c = walk_cut g.S.Store (languages c.args.system.now) c.languages.invariant (omega (arith, c.languages-test.false, c.count.ensures))

@@ -23,7 +23,7 @@ pub plans-init : goal.plans-init
 plans-init g c = (
   walk_begins g.S.Store (plans c.args.system.now) c.in_ok-next.next c.in_ok-next.next
       (begins_asked g.S.Store (plans c.args.system.now) c.in_ok-translated.translated c.requires.going c.requires.place.0 (λ s. refl) c.in_ok-translated.ensures)
-      c.in_ok-next.ensures.query (λ s h. h),
+      c.in_ok-next.ensures.query (λ clean s at h. h),
   told_begins g.S.Store c.in_ok-translated.translated c.in_ok-translated.ensures c.in_ok-next.ensures.query,
 )
 
@@ -66,7 +66,7 @@ plans-preserved g c = (
       c.plans.invariant.1 (rw c.in-Some.is at c.plans.invariant.0) (rw c.plan_id-id.ensures at c.in_ok-names.ensures) c.in_ok-write_plan.ensures.place
       named.Description c.in_ok-descriptions.descriptions (plan_tree c.args.system.now c.in-Some.plan) (rw c.plan_id-id.ensures at c.in_ok-descriptions.ensures)
       c.as_slice.ensures.value c.as_slice-in-plans.ensures.value (λ s. refl) c.in_ok-write_plan.ensures.wrote)
-      c.in_ok-next-2.ensures.query c.plan_id-id.ensures (λ s h. h),
+      c.in_ok-next-2.ensures.query c.plan_id-id.ensures (λ clean s at h. h),
   told_later g.S.Store c.plans.invariant.1 (omega (arith, c.in_ok-names.ensures.clean, c.in_ok-descriptions.ensures.clean, c.in_ok-next-2.ensures.query.clean)),
 )
 

@@ -23,7 +23,7 @@ pub regions-init : goal.regions-init
 regions-init g c = (
   walk_begins g.S.Store (regions c.args.system.now) c.in_ok-next.next c.in_ok-next.next
       (begins_asked g.S.Store (regions c.args.system.now) c.in_ok-translated.translated c.requires.going c.requires.place.0 (λ s. refl) c.in_ok-translated.ensures)
-      c.in_ok-next.ensures.query (λ s h. h),
+      c.in_ok-next.ensures.query (λ clean s at h. h),
   told_begins g.S.Store c.in_ok-translated.translated c.in_ok-translated.ensures c.in_ok-next.ensures.query,
 )
 
@@ -57,7 +57,7 @@ regions-preserved g c = (
       (named_writes g.S.Store (λ names. names.items) c.in_ok-translated.translated (regions c.args.system.now) c.in-Some.region named.Region _ c.in_ok-names.names
       c.regions.invariant.1 (rw c.in-Some.is at c.regions.invariant.0) (rw c.region_id-id.ensures at c.in_ok-names.ensures) c.in_ok-write_region.ensures.place
       (region_tree c.args.system.now c.in-Some.region) c.as_slice.ensures.value (λ s. refl) c.in_ok-write_region.ensures.wrote)
-      c.in_ok-next-2.ensures.query c.region_id-id.ensures (λ s h. h),
+      c.in_ok-next-2.ensures.query c.region_id-id.ensures (λ clean s at h. h),
   told_later g.S.Store c.regions.invariant.1 (omega (arith, c.in_ok-names.ensures.clean, c.in_ok-next-2.ensures.query.clean)),
 )
 

@@ -1,11 +1,13 @@
-use Rattle.std.proofs.Common.{refl, arith}
-use Rattle.std.specs.Prelude.{option_map}
+use Rattle.std.proofs.Common.{refl, arith, ◌∙◌}
+use Rattle.std.specs.Prelude.{None, Some, option_map}
 use Rattle.bike_queries.specs.After.{station_of}
-use Rattle.bike_operator.specs.NameKind.TheVariants as named
-use Rattle.bike_feed_texts.specs.Elements.{station_tree}
+use Rattle.bike_queries.specs.Pages.{IsNamedStation}
+use Rattle.bike_feeds.proofs.DeskLemmas.{stays_asked}
 use Rattle.bike_feeds.proofs.Lists.{stations}
-use Rattle.bike_feeds.proofs.NameLemmas.{told_begins, told_later, named_writes}
-use Rattle.bike_feeds.proofs.WalkLemmas.{begins, begins_asked, walk_begins, walk_goes, walk_ends, walk_cut, asked_failed, write_failed, begun_under, ahead_under, behind_under}
+use Rattle.bike_feeds.proofs.NameLemmas.{told_begins, told_later, told_asked}
+use Rattle.bike_feeds.proofs.WalkLemmas.{begins, begins_asked, walk_begins, walk_goes, walk_ends, walk_cut, asked_failed, write_failed, begun_under, behind_under}
+use Rattle.bike_feeds.proofs.PageLemmas.{none_ahead, next_is, ahead_asked, still_ahead}
+use Rattle.bike_feeds.proofs.StatusLemmas.{station_writes}
 use Rattle.bike_feeds.proofs.items.write_stations.Goals as goal
 
 pub returns-in_err-translated : goal.returns-in_err-translated
@@ -19,59 +21,66 @@ returns-in_err-next g c =
     asked_failed g.S.Store (stations c.args.system.now) c.in_err-next.field-0.0 _ c.from_residual-in_err-next.ensures.1
     (begun_under g.S.Store (stations c.args.system.now)
     (begins_asked g.S.Store (stations c.args.system.now) c.in_ok-translated.translated c.requires.going c.requires.place.0 (λ s. refl) c.in_ok-translated.ensures))
-    c.in_err-next.ensures.query
+    c.in_err-next.ensures
 
 pub stations-init : goal.stations-init
 stations-init g c = (
-  walk_begins g.S.Store (stations c.args.system.now) c.in_ok-next.next (option_map station_of c.in_ok-next.next)
-      (begins_asked g.S.Store (stations c.args.system.now) c.in_ok-translated.translated c.requires.going c.requires.place.0 (λ s. refl) c.in_ok-translated.ensures)
-      c.in_ok-next.ensures.query (λ s h. h),
-  told_begins g.S.Store c.in_ok-translated.translated c.in_ok-translated.ensures c.in_ok-next.ensures.query,
+  walk_begins g.S.Store (stations c.args.system.now) c.in_ok-next.next (option_map (λ x. station_of x.info) c.in_ok-next.next)
+      (begins_asked g.S.Store (stations c.args.system.now) c.in_ok-translated.translated c.requires.going c.requires.place.0 (λ s. refl) c.in_ok-translated.ensures) c.in_ok-next.ensures
+      (λ clean s at says. next_is (IsNamedStation s) (λ x. station_of x.info) (λ e x is. is.0) s None _ _
+      (says ((told_begins g.S.Store c.in_ok-translated.translated c.in_ok-translated.ensures c.in_ok-next.ensures).are clean s at) (none_ahead (IsNamedStation s) s None _ c.new-page.ensures.items))),
+  told_begins g.S.Store c.in_ok-translated.translated c.in_ok-translated.ensures c.in_ok-next.ensures,
+  ahead_asked g.S.Store IsNamedStation c.in_ok-next.next None _ _
+      (stays_asked g.S.Store c.in_ok-translated.translated c.requires.going c.in_ok-translated.ensures) c.in_ok-next.ensures
+      (λ clean s at says. says ((told_begins g.S.Store c.in_ok-translated.translated c.in_ok-translated.ensures c.in_ok-next.ensures).are clean s at) (none_ahead (IsNamedStation s) s None _ c.new-page.ensures.items)),
 )
 
 pub returns-in_default : goal.returns-in_default
 returns-in_default g c = walk_ends g.S.Store (stations c.args.system.now) tt (rw c.in_default.is at c.stations.invariant.0)
 
-pub returns-in_err-names : goal.returns-in_err-names
-returns-in_err-names g c =
-    asked_failed g.S.Store (stations c.args.system.now) c.in_err-names.field-0.0 _ c.from_residual-in_err-names.ensures.1 (ahead_under g.S.Store (stations c.args.system.now) c.stations.invariant.0)
-    c.in_err-names.ensures
-
 pub returns-in_err-write_station : goal.returns-in_err-write_station
 returns-in_err-write_station g c =
     write_failed g.S.Store (stations c.args.system.now) _ c.from_residual-in_err-write_station.ensures.1 (behind_under g.S.Store (stations c.args.system.now)
-    (named_writes g.S.Store (λ names. names.items) c.in_ok-translated.translated (stations c.args.system.now) (station_of c.in-Some.info) named.Station _ c.in_ok-names.names
-    c.stations.invariant.1 (rw c.in-Some.is at c.stations.invariant.0) (rw c.station_id-id.ensures at c.in_ok-names.ensures) c.in_err-write_station.ensures.place
-    (station_tree c.args.system.now c.in-Some.info.station c.in-Some.info.region) c.as_slice.ensures.value (λ s. refl) (rw c.as_ref.ensures.value at c.in_err-write_station.ensures.wrote)))
+    (station_writes g.S.Store c.args.system.now c.in-Some.field-0 (rw c.in-Some.is at c.stations.invariant.0) (rw c.in-Some.is at c.stations.invariant.2) c.as_slice.ensures.value
+    (rw c.as_ref.ensures.value at c.in_err-write_station.ensures.wrote) c.in_err-write_station.ensures.place))
     c.in_err-write_station.ensures.outcome
 
 pub returns-in_err-next-2 : goal.returns-in_err-next-2
 returns-in_err-next-2 g c =
     asked_failed g.S.Store (stations c.args.system.now) c.in_err-next-2.field-0.0 _ c.from_residual-in_err-next-2.ensures.1 (behind_under g.S.Store (stations c.args.system.now)
-    (named_writes g.S.Store (λ names. names.items) c.in_ok-translated.translated (stations c.args.system.now) (station_of c.in-Some.info) named.Station _ c.in_ok-names.names
-    c.stations.invariant.1 (rw c.in-Some.is at c.stations.invariant.0) (rw c.station_id-id.ensures at c.in_ok-names.ensures) c.in_ok-write_station.ensures.place
-    (station_tree c.args.system.now c.in-Some.info.station c.in-Some.info.region) c.as_slice.ensures.value (λ s. refl) (rw c.as_ref.ensures.value at c.in_ok-write_station.ensures.wrote)))
-    c.in_err-next-2.ensures.query
+    (station_writes g.S.Store c.args.system.now c.in-Some.field-0 (rw c.in-Some.is at c.stations.invariant.0) (rw c.in-Some.is at c.stations.invariant.2) c.as_slice.ensures.value
+    (rw c.as_ref.ensures.value at c.in_ok-write_station.ensures.wrote) c.in_ok-write_station.ensures.place))
+    c.in_err-next-2.ensures
 
 -- the station that was written stood in a region, whose name is let go, or in none
 pub stations-preserved : goal.stations-preserved
 stations-preserved g c = (
-  walk_goes g.S.Store (stations c.args.system.now) c.station_id-id.result.now c.in_ok-next-2.next (option_map station_of c.in_ok-next-2.next)
-      (named_writes g.S.Store (λ names. names.items) c.in_ok-translated.translated (stations c.args.system.now) (station_of c.in-Some.info) named.Station _ c.in_ok-names.names
-      c.stations.invariant.1 (rw c.in-Some.is at c.stations.invariant.0) (rw c.station_id-id.ensures at c.in_ok-names.ensures) c.in_ok-write_station.ensures.place
-      (station_tree c.args.system.now c.in-Some.info.station c.in-Some.info.region) c.as_slice.ensures.value (λ s. refl) (rw c.as_ref.ensures.value at c.in_ok-write_station.ensures.wrote))
-      c.in_ok-next-2.ensures.query c.station_id-id.ensures (λ s h. h),
-  told_later g.S.Store c.stations.invariant.1 (omega (arith, c.in_ok-names.ensures.clean, c.in_ok-next-2.ensures.query.clean)),
+  walk_goes g.S.Store (stations c.args.system.now) c.station_id-station.result.now c.in_ok-next-2.next (option_map (λ x. station_of x.info) c.in_ok-next-2.next)
+      (station_writes g.S.Store c.args.system.now c.in-Some.field-0 (rw c.in-Some.is at c.stations.invariant.0) (rw c.in-Some.is at c.stations.invariant.2) c.as_slice.ensures.value
+      (rw c.as_ref.ensures.value at c.in_ok-write_station.ensures.wrote) c.in_ok-write_station.ensures.place)
+      c.in_ok-next-2.ensures c.station_id-station.ensures
+      (λ clean s at says. next_is (IsNamedStation s) (λ x. station_of x.info) (λ e x is. is.0) s (Some c.station_id-station.result.now) _ _
+      (says (told_asked g.S.Store c.stations.invariant.1 c.in_ok-next-2.ensures clean s at) (still_ahead g.S.Store IsNamedStation c.in-Some.field-0 _ c.station_id-station.result.now
+      (λ s e is. c.station_id-station.ensures ∙ is.0.1) (rw c.in-Some.is at c.stations.invariant.2) c.in_ok-next-2.ensures clean s at))),
+  told_later g.S.Store c.stations.invariant.1 c.in_ok-next-2.ensures.clean,
+  ahead_asked g.S.Store IsNamedStation c.in_ok-next-2.next (Some c.station_id-station.result.now) _ _ c.stations.invariant.0.stays c.in_ok-next-2.ensures
+      (λ clean s at says. says (told_asked g.S.Store c.stations.invariant.1 c.in_ok-next-2.ensures clean s at) (still_ahead g.S.Store IsNamedStation c.in-Some.field-0 _ c.station_id-station.result.now
+      (λ s e is. c.station_id-station.ensures ∙ is.0.1) (rw c.in-Some.is at c.stations.invariant.2) c.in_ok-next-2.ensures clean s at)),
 )
 
 pub stations-preserved-in_ok-next-2 : goal.stations-preserved-in_ok-next-2
 stations-preserved-in_ok-next-2 g c = (
-  walk_goes g.S.Store (stations c.args.system.now) c.station_id-id.result.now c.in_ok-next-2.next (option_map station_of c.in_ok-next-2.next)
-      (named_writes g.S.Store (λ names. names.items) c.in_ok-translated.translated (stations c.args.system.now) (station_of c.in-Some.info) named.Station _ c.in_ok-names.names
-      c.stations.invariant.1 (rw c.in-Some.is at c.stations.invariant.0) (rw c.station_id-id.ensures at c.in_ok-names.ensures) c.in_ok-write_station.ensures.place
-      (station_tree c.args.system.now c.in-Some.info.station c.in-Some.info.region) c.as_slice.ensures.value (λ s. refl) (rw c.as_ref.ensures.value at c.in_ok-write_station.ensures.wrote))
-      c.in_ok-next-2.ensures.query c.station_id-id.ensures (λ s h. h),
-  told_later g.S.Store c.stations.invariant.1 (omega (arith, c.in_ok-names.ensures.clean, c.in_ok-next-2.ensures.query.clean)),
+  walk_goes g.S.Store (stations c.args.system.now) c.station_id-station.result.now c.in_ok-next-2.next (option_map (λ x. station_of x.info) c.in_ok-next-2.next)
+      (station_writes g.S.Store c.args.system.now c.in-Some.field-0 (rw c.in-Some.is at c.stations.invariant.0) (rw c.in-Some.is at c.stations.invariant.2) c.as_slice.ensures.value
+      (rw c.as_ref.ensures.value at c.in_ok-write_station.ensures.wrote) c.in_ok-write_station.ensures.place)
+      c.in_ok-next-2.ensures c.station_id-station.ensures
+      (λ clean s at says. next_is (IsNamedStation s) (λ x. station_of x.info) (λ e x is. is.0) s (Some c.station_id-station.result.now) _ _
+      (says (told_asked g.S.Store c.stations.invariant.1 c.in_ok-next-2.ensures clean s at) (still_ahead g.S.Store IsNamedStation c.in-Some.field-0 _ c.station_id-station.result.now
+      (λ s e is. c.station_id-station.ensures ∙ is.0.1) (rw c.in-Some.is at c.stations.invariant.2) c.in_ok-next-2.ensures clean s at))),
+  told_later g.S.Store c.stations.invariant.1 c.in_ok-next-2.ensures.clean,
+  ahead_asked g.S.Store IsNamedStation c.in_ok-next-2.next (Some c.station_id-station.result.now) _ _ c.stations.invariant.0.stays c.in_ok-next-2.ensures
+      (λ clean s at says. says (told_asked g.S.Store c.stations.invariant.1 c.in_ok-next-2.ensures clean s at) (still_ahead g.S.Store IsNamedStation c.in-Some.field-0 _ c.station_id-station.result.now
+      (λ s e is. c.station_id-station.ensures ∙ is.0.1) (rw c.in-Some.is at c.stations.invariant.2) c.in_ok-next-2.ensures clean s at)),
 )
 
 pub returns : goal.returns

@@ -23,7 +23,7 @@ pub types-init : goal.types-init
 types-init g c = (
   walk_begins g.S.Store (types c.args.system.now) c.in_ok-next.next c.in_ok-next.next
       (begins_asked g.S.Store (types c.args.system.now) c.in_ok-translated.translated c.requires.going c.requires.place.0 (λ s. refl) c.in_ok-translated.ensures)
-      c.in_ok-next.ensures.query (λ s h. h),
+      c.in_ok-next.ensures.query (λ clean s at h. h),
   told_begins g.S.Store c.in_ok-translated.translated c.in_ok-translated.ensures c.in_ok-next.ensures.query,
 )
 
@@ -57,7 +57,7 @@ types-preserved g c = (
       (named_writes g.S.Store (λ names. names.items) c.in_ok-translated.translated (types c.args.system.now) c.in-Some.vehicle_type named.Type _ c.in_ok-names.names
       c.types.invariant.1 (rw c.in-Some.is at c.types.invariant.0) (rw c.type_id-id.ensures at c.in_ok-names.ensures) c.in_ok-write_type.ensures.place
       (type_tree c.args.system.now c.in-Some.vehicle_type) c.as_slice.ensures.value (λ s. refl) c.in_ok-write_type.ensures.wrote)
-      c.in_ok-next-2.ensures.query c.type_id-id.ensures (λ s h. h),
+      c.in_ok-next-2.ensures.query c.type_id-id.ensures (λ clean s at h. h),
   told_later g.S.Store c.types.invariant.1 (omega (arith, c.in_ok-names.ensures.clean, c.in_ok-next-2.ensures.query.clean)),
 )
 

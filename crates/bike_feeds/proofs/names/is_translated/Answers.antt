@@ -1,5 +1,5 @@
 use Rattle.std.proofs.Common.{sym, subst}
-use Rattle.bike_feeds.specs.Walking.{IsTold}
+use Rattle.bike_queries.specs.Pages.{IsTold}
 use Rattle.bike_feeds.proofs.NameLemmas.{answers_so, told_first}
 use Rattle.bike_feeds.proofs.names.is_translated.Goals as goal
 

@@ -1,0 +1,13 @@
+use Rattle.std.specs.Prelude.{option_map}
+use Rattle.bike_queries.specs.Pages.{IsStatusOf}
+use Rattle.bike_feeds.proofs.NameLemmas.{answers_so, unasked}
+use Rattle.bike_feeds.proofs.PageLemmas.{takes_next, takes_first}
+use Rattle.bike_feeds.proofs.pages.next_status.Goals as goal
+
+pub returns-in-Some : goal.returns-in-Some
+returns-in-Some g c = unasked g.S.Store _ c.requires (λ s ahead. takes_next (IsStatusOf s c.args.type_ids.now) s (option_map (λ id. id.now) c.args.after) _ c.in-Some.next _ (rw c.in-Some.is at c.pop_front.ensures.items) ahead)
+
+pub returns : goal.returns
+returns g c =
+    answers_so g.S.Store c.in_ok-more.more c.pop_front-2.result (λ s are ahead. takes_first (IsStatusOf s c.args.type_ids.now) s (option_map (λ id. id.now) c.args.after) _ c.pop_front-2.result _ c.pop_front-2.ensures.items c.pop_front-2.ensures.rest are)
+    c.in_ok-more.ensures.query

@@ -1,0 +1,118 @@
+-- A page of stations: the first ones of those that come next, each with the rows of other tables that are its own.
+use Rattle.std.specs.Prelude.{◌≡◌, ◌&&◌, ◌++◌, ℕ, List, [], ◌∷◌, Bool, false, not, map, take, filter, Option, Some, None}
+use Rattle.std.specs.List.{AllZip}
+use Rattle.std.specs.Ordering.{is_lt, is_gt, is_le, is_eq}
+use Rattle.std.specs.Str.{bytes_eq}
+use Rattle.std.specs.FinMap as fin
+use Rattle.std.specs.FinMap.{FinMap, entries}
+use Rattle.sqlite_rules.specs.Lists.{Has}
+use Rattle.sqlite_value.specs.declared.value.Value.{Value}
+use Rattle.sqlite_value.specs.declared.value.Value.TheVariants.{Text}
+use Rattle.sqlite_value.specs.Order.{Row, column, value_cmp}
+use Rattle.sqlite_sql.specs.Ops.{is_null}
+use Rattle.bike_catalogue.specs.Rows.{MoreNameRow}
+use Rattle.bike_operator.specs.NameKind.TheVariants as named
+use Rattle.bike_operator.specs.NameKinds.{kind_text}
+use Rattle.bike_operator.specs.Names.{further_names}
+use Rattle.bike_operator.specs.Operator.{Operator, Station, NameKey, text_cmp}
+use Rattle.bike_operator.specs.Sound.{IsSound}
+use Rattle.bike_book.specs.Stored.{stored_station, stored_name}
+use Rattle.bike_schema.specs.Columns.{text_in}
+use Rattle.bike_accounts.specs.ReadRows.{named_in}
+use Rattle.bike_feed_texts.specs.Trees.{further_languages}
+use Rattle.bike_queries.specs.declared.pages.TheConstants.{STATIONS_A_PAGE}
+use Rattle.bike_queries.specs.declared.stations.StationInfo.{StationInfo}
+use Rattle.bike_queries.specs.declared.stations.NamedStation.{NamedStation}
+use Rattle.bike_queries.specs.declared.status.StationStatus.{StationStatus}
+use Rattle.bike_queries.specs.After.{station_of}
+use Rattle.bike_queries.specs.StationCounts.{AreCountRows, AreCountsOf}
+
+-- ---- what comes next
+
+-- the entries whose identifiers come after this one, or all of them
+abbrev pub entries_after : {V : Type 0} → Option (List ℕ) → FinMap text_cmp V → List (List ℕ × V)
+entries_after None m = entries m
+entries_after (Some id) m = filter (λ e. is_lt (text_cmp id e.0)) (entries m)
+
+-- THE PAGE: the first of them, as many as it holds
+abbrev pub page_after : {V : Type 0} → Option (List ℕ) → FinMap text_cmp V → List (List ℕ × V)
+page_after after m = take STATIONS_A_PAGE (entries_after after m)
+
+-- the station of an entry, under its identifier
+abbrev pub IsStationOf : List ℕ × Station → StationInfo → Type 0
+IsStationOf e x = (station_of x ≡ e.1) × (x.station.station_id ≡ e.0)
+
+-- with its counts, where these are the identifiers of the types
+abbrev pub IsStatusOf : Operator → List (List ℕ) → List ℕ × Station → StationStatus → Type 0
+IsStatusOf s type_ids e x = IsStationOf e x.info × (type_ids ≡ fin.keys s.types → AreCountsOf s e.0 e.1 x.counts)
+
+abbrev pub AreStatuses : Operator → List (List ℕ) → List (List ℕ × Station) → List StationStatus → Type 0
+AreStatuses s type_ids = AllZip (IsStatusOf s type_ids)
+
+-- with its further names
+abbrev pub IsNamedStation : Operator → List ℕ × Station → NamedStation → Type 0
+IsNamedStation s e x = IsStationOf e x.info × (x.names.items ≡ further_names s named.Station e.0)
+
+abbrev pub AreNamedStations : Operator → List (List ℕ × Station) → List NamedStation → Type 0
+AreNamedStations s = AllZip (IsNamedStation s)
+
+-- whether there are names in further languages: where it is told that there are none, that is so
+abbrev pub IsTold : Bool → Operator → Type 0
+IsTold translated s = translated ≡ false → further_languages s ≡ []
+
+-- ---- the rows of a page
+
+-- one text twice
+abbrev pub is_same_text : Value → Value → Bool
+is_same_text (Text t) (Text u) = bytes_eq u t
+is_same_text _ _ = false
+
+-- the row begins with the text with which the owner's row begins
+abbrev pub is_own : Row → Row → Bool
+is_own owner row = is_same_text (column owner 0) (column row 0)
+
+abbrev pub own_rows : Row → List Row → List Row
+own_rows owner = filter (is_own owner)
+
+-- no two rows begin with one text
+abbrev pub AreApart : List Row → Type 0
+AreApart [] = Unit {0}
+AreApart (r ∷ rs) = ((q : Row) → Has rs q → (is_own r q ≡ false) × (is_own q r ≡ false)) × AreApart rs
+
+-- the value comes after the text, and not after the other one
+abbrev pub is_between : List ℕ → List ℕ → Value → Bool
+is_between start last v = is_gt (value_cmp v (Text start)) && (not (is_null v) && is_le (value_cmp v (Text last)))
+
+-- the rows are those of the page after this identifier
+abbrev pub ArePage : Operator → Option (List ℕ) → List Row → Type 0
+ArePage s after rows = rows ≡ map (stored_station s) (page_after after s.stations)
+
+-- the text with which the last row begins, if there is a row
+abbrev pub EndsWith : List Row → Option (List ℕ) → Type 0
+EndsWith rows None = rows ≡ []
+EndsWith rows (Some text) = (front : List Row) × (last : Row) × (rows ≡ front ++ last ∷ []) × (text_in (column last 0) ≡ Some text)
+
+-- ---- what is read of them
+
+-- of the row of a station and the rows of its counts
+abbrev pub ReadsStatus : List (List ℕ) → Row → List Row → StationStatus → Type 0
+ReadsStatus type_ids station own x = (s : Operator) (e : List ℕ × Station) → IsSound s → station ≡ stored_station s e → e.0 ≡ e.1.row.station_id
+    → IsStationOf e x.info × (AreCountRows s e.0 own → type_ids ≡ fin.keys s.types → AreCountsOf s e.0 e.1 x.counts)
+
+-- a further name, behind the identifier of what has it
+abbrev pub owned_name : Row → Row
+owned_name row = column row 1 ∷ column row 2 ∷ column row 3 ∷ []
+
+-- the row is of a further name, and this is it
+abbrev pub IsOwnedName : Row → MoreNameRow → Type 0
+IsOwnedName row x = (e : NameKey × List ℕ) → row ≡ owned_name (stored_name e) → x ≡ named_in e
+
+-- a station's name, whose identifier comes after the text and not after the other
+abbrev pub is_station_name : List ℕ → List ℕ → Row → Bool
+is_station_name start last row = is_eq (value_cmp (column row 0) (Text (kind_text named.Station))) && is_between start last (column row 1)
+
+-- of the row of a station and the rows of its names
+abbrev pub ReadsNamed : Row → List Row → NamedStation → Type 0
+ReadsNamed station own x =
+    ((s : Operator) (e : List ℕ × Station) → station ≡ stored_station s e → e.0 ≡ e.1.row.station_id → IsStationOf e x.info)
+    × AllZip IsOwnedName own x.names.items
