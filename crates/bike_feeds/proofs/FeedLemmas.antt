@@ -21,11 +21,23 @@ use Rattle.bike_desk.specs.Queries.{Queries}
 use Rattle.bike_feeds.specs.declared.fault.FeedFault.{FeedFault}
 use Rattle.bike_feeds.specs.declared.fault.FeedFault.TheVariants.{SystemMissing, Write}
 use Rattle.bike_feeds.specs.Publishing.{LeavesDesk, feed_text, IsPublished, IsBegun, IsTooLong, MayFailToWrite}
-use Rattle.bike_feeds.specs.Walking.{StaysAt, WritesText, IsCounted}
+use Rattle.bike_feeds.specs.Listings.{elements, listing_text}
+use Rattle.bike_feeds.specs.declared.listing.Listing.{Listing}
+use Rattle.bike_feeds.specs.Walking.{StaysAt, WritesItems, WritesText, IsCounted}
 use Rattle.bike_feeds.proofs.DeskLemmas.{same_fault, earlier, stays_still, stays_asked, leaves_ok, leaves_missing, leaves_then, leaves_same}
 use Rattle.bike_feeds.proofs.TextLemmas.{text_told, text_cut, text_passed}
 
 -- ---- one feed of a system
+
+-- the text of one list
+pub listed : {S A : Type 0} (g : Ghosts S) (x : SystemRow) (moment : ℕ) {list : Listing} (kind : Listing) (is : list ≡ kind) {d e : DeskValue S} {a b : OutputState} {count : ℕ} {result : Result A FeedFault}
+    → WritesText g d e a b count result (λ s. listing_text s x list moment) → WritesText g d e a b count result (λ s. listing_text s x kind moment)
+listed g x moment kind is {d} {e} {a} {b} {count} {result} w = subst (λ (l : Listing). WritesText g d e a b count result (λ s. listing_text s x l moment)) is w
+
+-- the elements of one list
+pub elements_as : {S A : Type 0} (g : Ghosts S) (x : SystemRow) {list : Listing} (kind : Listing) (is : list ≡ kind) {d e : DeskValue S} {p q : Place} {a b : OutputState} {result : Result A FeedFault}
+    → WritesItems g d e p q a b result (λ s. elements s x kind) → WritesItems g d e p q a b result (λ s. elements s x list)
+elements_as g x kind is {d} {e} {p} {q} {a} {b} {result} w = subst (λ (l : Listing). WritesItems g d e p q a b result (λ s. elements s x l)) (sym is) w
 
 value_wrote : {p t : Place} {a b : OutputState} {v : Tree} → p ≡ outset → WroteValue p t a b v → Wrote p t a b (text_of v)
 value_wrote {p} {t} {a} {b} {v} start w = Wrote_as (ap (λ (y : Place). comma (has_more y.top) ++ text_of v) start) w.are

@@ -5,7 +5,7 @@ use Rattle.std.specs.FinMap.{entries, keys}
 use Rattle.sqlite_trees.specs.View.{doubt}
 use Rattle.sqlite_trees.specs.declared.store.Store.{Ghosts}
 use Rattle.sqlite.specs.State.{HasCleanDisk}
-use Rattle.bike_catalogue.specs.Rows.{MoreNameRow, SystemRow, TypeRow}
+use Rattle.bike_catalogue.specs.Rows.{SystemRow, TypeRow}
 use Rattle.bike_json.specs.Outputs.{OutputState}
 use Rattle.bike_json.specs.State.{Place, IsAt as IsIn, after_value}
 use Rattle.bike_operator.specs.Operator.{Operator, Station}
@@ -74,12 +74,12 @@ module _ {S : Type 0} (g : Ghosts S) where
       subst (λ t. WroteValue q r b c (status_tree (report_of station) t)) same wrote) place
 
   -- a station is written with its names
-  pub station_writes : {d e : DeskValue S} {p q r : Place} {a b c : OutputState} {left : List NamedStation} {lent : List MoreNameRow} (system : SystemRow) (x : NamedStation)
-      → Walks g (stations system) (Some (station_of x.info)) d e p q a b → Ahead g IsNamedStation (Some x) left d e → lent ≡ x.names.items
-      → WroteValue q r b c (station_tree system x.info.station x.info.region lent) → IsIn r (after_value q.top) q.round
+  pub station_writes : {d e : DeskValue S} {p q r : Place} {a b c : OutputState} {left : List NamedStation} (system : SystemRow) (x : NamedStation)
+      → Walks g (stations system) (Some (station_of x.info)) d e p q a b → Ahead g IsNamedStation (Some x) left d e
+      → WroteValue q r b c (station_tree system x.info.station x.info.region x.names.items) → IsIn r (after_value q.top) q.round
       → Passes g (stations system) (station_of x.info) d e p r a c
-  station_writes {q = q} {r = r} {b = b} {c = c} system x w ahead lent wrote place =
+  station_writes {q = q} {r = r} {b = b} {c = c} system x w ahead wrote place =
       walk_writes g (stations system) (station_of x.info) w (λ clean s at.
       let it = ahead.are clean s at in
-      let names = lent ∙ it.1.1 ∙ ap (further_names s named.Station) (sym it.1.0.1) in
+      let names = it.1.1 ∙ ap (further_names s named.Station) (sym it.1.0.1) in
       subst (λ ns. WroteValue q r b c (station_tree system x.info.station x.info.region ns)) names wrote) place

@@ -6,14 +6,13 @@ use Rattle.sqlite.specs.State.{HasCleanDisk}
 use Rattle.bike_stream.specs.Writing.{AppendsFront}
 use Rattle.bike_catalogue.specs.Rows.{MoreNameRow, SystemRow}
 use Rattle.bike_json.specs.Outputs.{OutputState, IsSameOutput}
-use Rattle.bike_json.specs.Tree.{Tree, text_of, items_text}
-use Rattle.bike_json.specs.Rows.{items}
+use Rattle.bike_json.specs.Tree.{Items, text_of, items_text}
 use Rattle.bike_json.specs.State.{Place, Wrote, MayFail, outset}
 use Rattle.bike_json.proofs.Series.{Wrote_then, Wrote_as, Wrote_ok, Wrote_err, Wrote_front, fails_first}
 use Rattle.bike_json.proofs.Rows.{cut_short}
 use Rattle.bike_feed_texts.specs.Writing.{list_head_text, list_end_text, information_head_text, information_end_text}
 use Rattle.bike_feed_texts.specs.declared.feed.Feed.TheVariants.{SystemInformation}
-use Rattle.bike_feed_texts.specs.Trees.{feed_frame, listing, feed_tree}
+use Rattle.bike_feed_texts.specs.Trees.{feed_tree}
 use Rattle.bike_feed_texts.proofs.Frames.{list_text, information_text}
 use Rattle.bike_operator.specs.NameKind.TheVariants as named
 use Rattle.bike_operator.specs.Operator.{Operator}
@@ -24,7 +23,9 @@ use Rattle.bike_feeds.specs.declared.fault.FeedFault.{FeedFault}
 use Rattle.bike_feeds.specs.declared.fault.FeedFault.TheVariants.{Write}
 use Rattle.bike_feeds.specs.Publishing.{LeavesDesk}
 use Rattle.bike_feeds.specs.Walking.{WritesItems, WritesText, MayEnd}
-use Rattle.bike_feeds.proofs.WalkLemmas.{Walk}
+use Rattle.bike_feeds.specs.Listings.{list_name, elements, listing_text}
+use Rattle.bike_feeds.specs.declared.listing.Listing.{Listing}
+use Rattle.bike_feeds.proofs.WalkLemmas.{written}
 use Rattle.bike_feeds.proofs.Lists.{languages}
 use Rattle.bike_feeds.proofs.DeskLemmas.{same_fault, earlier, stays_still, left_well, leaves_ok, leaves_write, leaves_same}
 
@@ -71,50 +72,47 @@ module _ {S : Type 0} (g : Ghosts S) (text : Operator → List ℕ) where
   text_passed {A} {d} {e} {a} {b} {count} fault (Err told) is w = subst (λ (f : FeedFault). WritesText g d e a b count {A = A} (Err f) text) (sym is) w
 
 -- What stands before the items of a list and behind them, and the whole text.
-pub record Parts (X : Type 0) : Type 0 where
+pub record Parts : Type 0 where
   pub head : List ℕ
-  pub tree : Operator → X → Tree
-  pub rows : Operator → List X
+  pub them : Operator → Items
   pub tail : Operator → List ℕ
   pub text : Operator → List ℕ
-  pub is : (s : Operator) → text s ≡ head ++ (items_text false (items (tree s) (rows s)) ++ tail s)
+  pub is : (s : Operator) → text s ≡ head ++ (items_text false (them s) ++ tail s)
   pub some : (s : Operator) → 0 < length (tail s)
 
 -- a feed whose data are a list
-abbrev pub list_parts : {X : Type 0} → SystemRow → ℕ → List ℕ → Walk X → Parts X
-list_parts x moment name w = record {
-  head = list_head_text x moment name;
-  tree = w.tree;
-  rows = w.rows;
+abbrev pub list_parts : SystemRow → ℕ → Listing → Parts
+list_parts x moment list = record {
+  head = list_head_text x moment (list_name list);
+  them = λ s. elements s x list;
   tail = λ s. list_end_text;
-  text = λ s. text_of (feed_frame x moment (listing name (items (w.tree s) (w.rows s))));
-  is = λ s. list_text x moment name (items (w.tree s) (w.rows s));
+  text = λ s. listing_text s x list moment;
+  is = λ s. list_text x moment (list_name list) (elements s x list);
   some = λ s. omega arith;
 }
 
 -- the feed of the system
-abbrev pub information_parts : SystemRow → ℕ → Parts (List ℕ)
+abbrev pub information_parts : SystemRow → ℕ → Parts
 information_parts x moment = record {
   head = information_head_text x moment;
-  tree = (languages x).tree;
-  rows = (languages x).rows;
+  them = written (languages x);
   tail = λ s. information_end_text x (further_names s named.System x.system_id);
   text = λ s. text_of (feed_tree s x SystemInformation moment);
   is = λ s. information_text s x moment;
   some = λ s. omega arith;
 }
 
-module _ {S X : Type 0} (g : Ghosts S) (t : Parts X) where
+module _ {S : Type 0} (g : Ghosts S) (t : Parts) where
   abbrev items_of : Operator → List ℕ
-  items_of s = items_text false (items (t.tree s) (t.rows s))
+  items_of s = items_text false (t.them s)
 
   -- the head, all elements and the end
-  list_wrote : {A : Type 0} {d e : DeskValue S} {p q r v : Place} {a b c f : OutputState} (u : A) → Wrote p q a b t.head → WritesItems g d e q r b c (Ok u) t.tree t.rows
+  list_wrote : {A : Type 0} {d e : DeskValue S} {p q r v : Place} {a b c f : OutputState} (u : A) → Wrote p q a b t.head → WritesItems g d e q r b c (Ok u) t.them
       → (HasCleanDisk (desk_state g e) → (s : Operator) → IsAt g d s → Wrote r v c f (t.tail s)) → HasCleanDisk (desk_state g e) → (s : Operator) → IsAt g d s → Wrote p v a f (t.text s)
   list_wrote u head them end clean s at = Wrote_as (sym (t.is s)) (Wrote_then head (Wrote_then (them.all clean s at) (end clean s at)))
 
   pub list_done : {A B : Type 0} {d e : DeskValue S} {p q r v : Place} {a b c f : OutputState} (x : B) (u : A) → p ≡ outset → Wrote p q a b t.head
-      → WritesItems g d e q r b c (Ok u) t.tree t.rows → (HasCleanDisk (desk_state g e) → (s : Operator) → IsAt g d s → Wrote r v c f (t.tail s)) → d.is_stopped ≡ false
+      → WritesItems g d e q r b c (Ok u) t.them → (HasCleanDisk (desk_state g e) → (s : Operator) → IsAt g d s → Wrote r v c f (t.tail s)) → d.is_stopped ≡ false
       → true ≡ not v.failed → WritesText g d e a f v.count (Ok x) t.text
   list_done x u start head them end going well = text_told g t.text x u start them.desk (list_wrote u head them end) going well
 
@@ -134,13 +132,13 @@ module _ {S X : Type 0} (g : Ghosts S) (t : Parts X) where
   })
 
   pub end_cut : {A B : Type 0} {d e : DeskValue S} {p q r v : Place} {a b c f : OutputState} {count : ℕ} (result : Result B FeedFault) (u : A) → IsErrAnd result (λ told. told ≡ Write)
-      → p ≡ outset → Wrote p q a b t.head → WritesItems g d e q r b c (Ok u) t.tree t.rows
+      → p ≡ outset → Wrote p q a b t.head → WritesItems g d e q r b c (Ok u) t.them
       → (HasCleanDisk (desk_state g e) → (s : Operator) → IsAt g d s → Wrote r v c f (t.tail s)) → d.is_stopped ≡ false → false ≡ not v.failed → WritesText g d e a f count result t.text
   end_cut result u told start head them end going failed = text_passed g t.text Write result told (text_cut g t.text u start them.desk (list_wrote u head them end) going failed)
 
   -- a fault in the midst of the elements, or behind them
   pub list_failed : {A B : Type 0} {d e : DeskValue S} {p q r : Place} {a b c : OutputState} {count : ℕ} (fault : FeedFault) (result : Result B FeedFault) → IsErrAnd result (λ told. told ≡ fault)
-      → p ≡ outset → Wrote p q a b t.head → WritesItems g d e q r b c {A = A} (Err fault) t.tree t.rows → true ≡ not q.failed → WritesText g d e a c count result t.text
+      → p ≡ outset → Wrote p q a b t.head → WritesItems g d e q r b c {A = A} (Err fault) t.them → true ≡ not q.failed → WritesText g d e a c count result t.text
   list_failed {p = p} {q = q} {a = a} {b = b} {c = c} fault result told start head them well = text_passed g t.text fault result told (record {
     desk = leaves_same g fault them.desk;
     whole = λ clean s at. tt;
@@ -156,8 +154,8 @@ module _ {S X : Type 0} (g : Ghosts S) (t : Parts X) where
 
 -- the end of the feed of the system, with the names that were answered behind the languages
 module _ {S A B : Type 0} (g : Ghosts S) (x : SystemRow) (items : B → List MoreNameRow) {u : A} {d e f : DeskValue S} {p q v : Place} {a b c : OutputState}
-    {tree : Operator → List ℕ → Tree} {rows : Operator → List (List ℕ)} where
-  pub information_ends : {id : List ℕ} {lent : List MoreNameRow} (answer : B) → WritesItems g d e p q a b (Ok u) tree rows
+    {all : Operator → Items} where
+  pub information_ends : {id : List ℕ} {lent : List MoreNameRow} (answer : B) → WritesItems g d e p q a b (Ok u) all
       → Queries g e f (Ok answer) (λ s names. items names ≡ further_names s named.System id) → id ≡ x.system_id → lent ≡ items answer
       → Wrote q v b c (information_end_text x lent)
       → HasCleanDisk (desk_state g f) → (s : Operator) → IsAt g d s → Wrote q v b c (information_end_text x (further_names s named.System x.system_id))

@@ -10,7 +10,7 @@ use Rattle.sqlite_trees.specs.declared.store.Store.{Ghosts}
 use Rattle.sqlite.specs.State.{HasCleanDisk}
 use Rattle.bike_json.specs.Outputs.{OutputState}
 use Rattle.bike_json.specs.Rows.{items}
-use Rattle.bike_json.specs.Tree.{Tree, text, comma, text_of, items_text}
+use Rattle.bike_json.specs.Tree.{Tree, Items, text, comma, text_of, items_text}
 use Rattle.bike_json.specs.Escapes.{string_text}
 use Rattle.bike_json.specs.State.{Place, Writes, IsAt as IsIn, greatest_count, takes_array_end, has_more, after_value}
 use Rattle.bike_json.specs.declared.level.Level.{Level}
@@ -78,6 +78,10 @@ pub record Walk (X : Type 0) : Type 0 where
   pub rows : Operator → List X
   pub held : Operator → List (List ℕ × X)
   pub sorted : (s : Operator) → T (list.is_sorted text_cmp (held s))
+
+-- all that is written, as items
+abbrev pub written : {X : Type 0} → Walk X → Operator → Items
+written w = λ s. items (w.tree s) (w.rows s)
 
 -- a map's values
 abbrev pub map_walk : {X : Type 0} → (X → List ℕ) → (Operator → X → Tree) → (Operator → FinMap text_cmp X) → Walk X
@@ -242,13 +246,13 @@ module _ {S X : Type 0} (g : Ghosts S) (w : Walk X) where
 
   -- the fault that a function hands on
   items_told : {A : Type 0} {d e : DeskValue S} {p q : Place} {a b : OutputState} (fault : FeedFault) (result : Result A FeedFault) → IsErrAnd result (λ told. told ≡ fault)
-      → WritesItems g d e p q a b {A = A} (Err fault) w.tree w.rows → WritesItems g d e p q a b result w.tree w.rows
+      → WritesItems g d e p q a b {A = A} (Err fault) (written w) → WritesItems g d e p q a b result (written w)
   items_told fault (Ok x) is h = absurd is
-  items_told {A} {d} {e} {p} {q} {a} {b} fault (Err told) is h = subst (λ (f : FeedFault). WritesItems g d e p q a b {A = A} (Err f) w.tree w.rows) (sym is) h
+  items_told {A} {d} {e} {p} {q} {a} {b} fault (Err told) is h = subst (λ (f : FeedFault). WritesItems g d e p q a b {A = A} (Err f) (written w)) (sym is) h
 
   -- a question that failed
   pub asked_failed : {A B : Type 0} {says : Operator → A → Type 0} {d e f : DeskValue S} {p q : Place} {a b : OutputState} (fault : DeskFault) (result : Result B FeedFault)
-      → IsErrAnd result (λ told. told ≡ Desk fault) → Under d e p q a b → Queries g e f (Err fault) says → WritesItems g d f p q a b result w.tree w.rows
+      → IsErrAnd result (λ told. told ≡ Desk fault) → Under d e p q a b → Queries g e f (Err fault) says → WritesItems g d f p q a b result (written w)
   asked_failed {e = e} {f = f} fault result told h query = items_told (Desk fault) result told (record {
     desk = leaves_failed g fault h.stays query;
     all = λ clean s at. tt;
@@ -259,7 +263,7 @@ module _ {S X : Type 0} (g : Ghosts S) (w : Walk X) where
   })
 
   ends_cut : {A : Type 0} {d e : DeskValue S} {p q : Place} {a b : OutputState} → Under d e p q a b → (q.failed ≡ true) ⊎ (greatest_count ≤ q.count)
-      → WritesItems g d e p q a b {A = A} (Err Write) w.tree w.rows
+      → WritesItems g d e p q a b {A = A} (Err Write) (written w)
   ends_cut h why = record {
     desk = leaves_write g h.stays;
     all = λ clean s at. tt;
@@ -271,12 +275,12 @@ module _ {S X : Type 0} (g : Ghosts S) (w : Walk X) where
 
   -- a write that failed
   pub write_failed : {A : Type 0} {d e : DeskValue S} {p q : Place} {a b : OutputState} (result : Result A FeedFault) → IsErrAnd result (λ told. told ≡ Write)
-      → Under d e p q a b → false ≡ not q.failed → WritesItems g d e p q a b result w.tree w.rows
+      → Under d e p q a b → false ≡ not q.failed → WritesItems g d e p q a b result (written w)
   write_failed {q = q} result told h failed = items_told Write result told (ends_cut h (inl (has_failed q.failed failed)))
 
   -- the count reaches its greatest
   pub walk_cut : {A : Type 0} {d e : DeskValue S} {p q : Place} {a b : OutputState} {next : Option X} → Walks next d e p q a b → greatest_count ≤ q.count
-      → WritesItems g d e p q a b {A = A} (Err Write) w.tree w.rows
+      → WritesItems g d e p q a b {A = A} (Err Write) (written w)
   walk_cut h most = ends_cut (ahead_under h) (inr most)
 
   all_written : (s : Operator) {p q : Place} {a b : OutputState} (rest : List (List ℕ × X)) → IsNext w.id (slice_get rest 0) None
@@ -285,7 +289,7 @@ module _ {S X : Type 0} (g : Ghosts S) (w : Walk X) where
   all_written s (e ∷ rest) first wrote = absurd first
 
   -- all was read
-  pub walk_ends : {A : Type 0} {d e : DeskValue S} {p q : Place} {a b : OutputState} (x : A) → Walks None d e p q a b → WritesItems g d e p q a b (Ok x) w.tree w.rows
+  pub walk_ends : {A : Type 0} {d e : DeskValue S} {p q : Place} {a b : OutputState} (x : A) → Walks None d e p q a b → WritesItems g d e p q a b (Ok x) (written w)
   walk_ends x h = record {
     desk = leaves_ok g x h.stays;
     all = λ clean s at. let it = h.at clean s at in rows_end (w.tree s) it.wrote (all_written s it.rest it.first it.wrote);
@@ -295,10 +299,10 @@ module _ {S X : Type 0} (g : Ghosts S) (w : Walk X) where
     round = h.round;
   }
 
-module _ {S X A : Type 0} {g : Ghosts S} {tree : Operator → X → Tree} {rows : Operator → List X} {d e f : DeskValue S} {p q : Place} {a b : OutputState} (u : A)
-    (them : WritesItems g d e p q a b (Ok u) tree rows) (going : d.is_stopped ≡ false) where
+module _ {S A : Type 0} {g : Ghosts S} {all : Operator → Items} {d e f : DeskValue S} {p q : Place} {a b : OutputState} (u : A)
+    (them : WritesItems g d e p q a b (Ok u) all) (going : d.is_stopped ≡ false) where
   -- a question behind all rows
-  pub items_asked : {B : Type 0} {says : Operator → B → Type 0} (answer : B) → Queries g e f (Ok answer) says → WritesItems g d f p q a b (Ok u) tree rows
+  pub items_asked : {B : Type 0} {says : Operator → B → Type 0} (answer : B) → Queries g e f (Ok answer) says → WritesItems g d f p q a b (Ok u) all
   items_asked answer query =
       let stays = left_well g u going them.desk in
       record {
@@ -311,7 +315,7 @@ module _ {S X A : Type 0} {g : Ghosts S} {tree : Operator → X → Tree} {rows 
       }
 
   -- or one that failed
-  pub items_unasked : {B : Type 0} {says : Operator → B → Type 0} (fault : DeskFault) → Queries g e f (Err fault) says → WritesItems g d f p q a b {A = A} (Err (Desk fault)) tree rows
+  pub items_unasked : {B : Type 0} {says : Operator → B → Type 0} (fault : DeskFault) → Queries g e f (Err fault) says → WritesItems g d f p q a b {A = A} (Err (Desk fault)) all
   items_unasked fault query = record {
     desk = leaves_failed g fault (left_well g u going them.desk) query;
     all = λ clean s at. tt;

@@ -1,4 +1,5 @@
 pub mod Publishing
+pub mod Listings
 pub mod Walking
 pub mod Pages
 pub use Rattle.bike_desk.specs.Desk

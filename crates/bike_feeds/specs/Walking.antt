@@ -6,8 +6,8 @@ use Rattle.sqlite_trees.specs.declared.store.Store.{Ghosts}
 use Rattle.sqlite.specs.State.{HasCleanDisk}
 use Rattle.bike_stream.specs.Writing.{AppendsFront}
 use Rattle.bike_json.specs.Outputs.{OutputState}
-use Rattle.bike_json.specs.Tree.{Tree, items_text}
-use Rattle.bike_json.specs.Rows.{items, WroteFront}
+use Rattle.bike_json.specs.Tree.{Items, items_text}
+use Rattle.bike_json.specs.Rows.{WroteFront}
 use Rattle.bike_json.specs.State.{Place, Wrote, MayFail, greatest_count, takes_array_end}
 use Rattle.bike_catalogue.specs.Rows.{SystemRow}
 use Rattle.bike_operator.specs.Operator.{Operator}
@@ -33,13 +33,13 @@ abbrev pub MayEnd : OutputState → ℕ → List ℕ → Type 0
 MayEnd output count bytes = IsTrue output.may_refuse ⊎ (greatest_count ≤ count + length bytes)
 
 -- THE ELEMENTS OF A LIST were written as items, or at a fault a front of their text
-pub record WritesItems {S X : Type 0} (g : Ghosts S) (old new : DeskValue S) (from to : Place) (before after : OutputState) {A : Type 0} (result : Result A FeedFault)
-    (tree : Operator → X → Tree) (rows : Operator → List X) : Type 0 where
+pub record WritesItems {S : Type 0} (g : Ghosts S) (old new : DeskValue S) (from to : Place) (before after : OutputState) {A : Type 0} (result : Result A FeedFault)
+    (them : Operator → Items) : Type 0 where
   pub desk : LeavesDesk g old new result
-  pub all : HasCleanDisk (desk_state g new) → (s : Operator) → IsAt g old s → OnOk result (Wrote from to before after (items_text false (items (tree s) (rows s))))
-  pub front : HasCleanDisk (desk_state g new) → (s : Operator) → IsAt g old s → OnErr result (WroteFront from to before after (items_text false (items (tree s) (rows s))))
+  pub all : HasCleanDisk (desk_state g new) → (s : Operator) → IsAt g old s → OnOk result (Wrote from to before after (items_text false (them s)))
+  pub front : HasCleanDisk (desk_state g new) → (s : Operator) → IsAt g old s → OnErr result (WroteFront from to before after (items_text false (them s)))
   pub cause : HasCleanDisk (desk_state g new) → (s : Operator) → IsAt g old s → from.failed ≡ false → result ≡ Err Write
-      → MayEnd before from.count (items_text false (items (tree s) (rows s)))
+      → MayEnd before from.count (items_text false (them s))
   pub inside : IsTrue (takes_array_end to.top)
   pub round : to.round ≡ from.round
 

@@ -11,10 +11,8 @@ ghost use Rattle.bike_feeds.specs.Publishing.{feed_text, IsPublished, IsBegun, I
 ghost use Rattle.bike_feeds.specs.Walking.{IsCounted, WritesText};
 
 use crate::fault::FeedFault;
-use crate::list::{
-    write_pricing_plans, write_station_information, write_station_status, write_system_information,
-    write_system_regions, write_vehicle_types,
-};
+use crate::list::{write_listing, write_system_information};
+use crate::listing::Listing;
 use bike_catalogue::System;
 use bike_desk::Desk;
 use bike_feed_texts::{Feed, write_gbfs};
@@ -39,24 +37,21 @@ fn write_of_system<S: Alter, W: Output>(
     ensures { WritesText S.Store desk.old desk.new (W.contents out.old) (W.contents out.new) json.new.count result
         (λ s. feed_text s system.now feed moment) }
 {
-    match feed {
-        Feed::Gbfs => write_gbfs(json, out, system, moment)?,
+    let listing = match feed {
+        Feed::Gbfs => {
+            write_gbfs(json, out, system, moment)?;
+            return Ok(());
+        }
         Feed::SystemInformation => {
             return write_system_information(alloc, desk, system, moment, json, out);
         }
-        Feed::VehicleTypes => return write_vehicle_types(alloc, desk, system, moment, json, out),
-        Feed::StationInformation => {
-            return write_station_information(alloc, desk, system, moment, json, out);
-        }
-        Feed::StationStatus => return write_station_status(alloc, desk, system, moment, json, out),
-        Feed::SystemPricingPlans => {
-            return write_pricing_plans(alloc, desk, system, moment, json, out);
-        }
-        Feed::SystemRegions => {
-            return write_system_regions(alloc, desk, system, moment, json, out);
-        }
-    }
-    Ok(())
+        Feed::VehicleTypes => Listing::Types,
+        Feed::StationInformation => Listing::Stations,
+        Feed::StationStatus => Listing::Statuses,
+        Feed::SystemPricingPlans => Listing::Plans,
+        Feed::SystemRegions => Listing::Regions,
+    };
+    write_listing(alloc, desk, system, listing, moment, json, out)
 }
 
 /// Writes the feed of the system that the desk has, and counts what it writes.

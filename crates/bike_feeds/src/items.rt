@@ -1,16 +1,19 @@
 //! The elements of the feeds' lists, each read from the desk as it is written, with its further names.
 
 ghost use Rattle.std.specs.Prelude.{◌≡◌, ◌<◌, ◌∷◌, IsTrue, length, false, is_ok, not};
-ghost use Rattle.std.specs.FinMap.{values};
+ghost use Rattle.bike_json.specs.Rows.{items};
 ghost use Rattle.bike_json.specs.State.{IsAt as IsIn, takes_value, after_value};
 ghost use Rattle.bike_json.specs.Tree.{text};
-ghost use Rattle.bike_feed_texts.specs.Elements.{status_tree};
-ghost use Rattle.bike_feed_texts.specs.Trees.{report_of, counts_of, further_languages, type_element, station_element, plan_element, region_element};
+ghost use Rattle.bike_feed_texts.specs.Elements.{station_tree, status_tree};
+ghost use Rattle.bike_feed_texts.specs.Trees.{report_of, further_languages};
 ghost use Rattle.bike_feed_texts.specs.Writing.{WroteValue, in_list};
 ghost use Rattle.bike_queries.specs.After.{station_of};
+ghost use Rattle.bike_feeds.specs.Listings.{elements, statuses};
 ghost use Rattle.bike_feeds.specs.Walking.{WritesItems, shown_counts};
+ghost use Rattle.bike_feeds.specs.declared.listing.Listing.TheVariants.{Types, Stations, Plans, Regions};
 
 use crate::fault::FeedFault;
+use crate::listing::Listing;
 use crate::names::{find_names, is_translated};
 use crate::pages::{next_station, next_status};
 use bike_catalogue::{NameKind, System};
@@ -27,7 +30,7 @@ use std::alloc::Global;
 use std::collections::VecDeque;
 
 /// Writes the vehicle types as items.
-pub(crate) fn write_types<S: Alter, W: Output>(
+fn write_types<S: Alter, W: Output>(
     alloc: Global,
     desk: &mut Desk<S>,
     system: &System,
@@ -37,7 +40,7 @@ pub(crate) fn write_types<S: Alter, W: Output>(
     requires going { desk.old.is_stopped ≡ false }
     requires place { IsIn json.old Level.EmptyArray in_list }
     ensures { WritesItems S.Store desk.old desk.new json.old json.new (W.contents out.old) (W.contents out.new) result
-        (λ s. type_element s system.now) (λ s. values s.types) }
+        (λ s. elements s system.now Types) }
 {
     let translated = is_translated(alloc, desk)?;
     let mut next = desk.type_after(alloc, None)?;
@@ -54,8 +57,27 @@ pub(crate) fn write_types<S: Alter, W: Output>(
     Err(FeedFault::Write)
 }
 
+/// Writes a station with its further names.
+fn write_named<W: Output>(
+    json: &mut JsonState,
+    out: &mut W,
+    system: &System,
+    named: &NamedStation,
+) -> Result<(), WriteFault>
+    requires value { IsTrue (takes_value json.old.top) }
+    requires room { length json.old.round < 14 }
+    ensures wrote { WroteValue json.old json.new (W.contents out.old) (W.contents out.new)
+        (station_tree system.now named.now.info.station named.now.info.region named.now.names.items) }
+    ensures place { IsIn json.new (after_value json.old.top) json.old.round }
+    ensures outcome { is_ok result ≡ not json.new.failed }
+{
+    let NamedStation { info, names } = named;
+    let region = info.region.as_ref();
+    write_station(json, out, system, &info.station, region, names.as_slice())
+}
+
 /// Writes the stations as items.
-pub(crate) fn write_stations<S: Alter, W: Output>(
+fn write_stations<S: Alter, W: Output>(
     alloc: Global,
     desk: &mut Desk<S>,
     system: &System,
@@ -65,24 +87,17 @@ pub(crate) fn write_stations<S: Alter, W: Output>(
     requires going { desk.old.is_stopped ≡ false }
     requires place { IsIn json.old Level.EmptyArray in_list }
     ensures { WritesItems S.Store desk.old desk.new json.old json.new (W.contents out.old) (W.contents out.new) result
-        (λ s. station_element s system.now) (λ s. values s.stations) }
+        (λ s. elements s system.now Stations) }
 {
     let translated = is_translated(alloc, desk)?;
     let mut page = VecDeque::new(alloc);
     let mut next = next_station(alloc, desk, &mut page, None, translated)?;
     'stations: while json.count() < u64::MAX {
-        let Some(NamedStation { info, names }) = next else {
+        let Some(named) = next else {
             return Ok(());
         };
-        write_station(
-            json,
-            out,
-            system,
-            &info.station,
-            info.region.as_ref(),
-            names.as_slice(),
-        )?;
-        let station = info.station.station_id();
+        write_named(json, out, system, &named)?;
+        let station = named.info.station.station_id();
         next = next_station(alloc, desk, &mut page, Some(station), translated)?;
     }
     // No count is greater.
@@ -121,7 +136,7 @@ fn write_report<W: Output>(
 }
 
 /// Writes the stations' statuses as items. The types' identifiers are read once, before the first station.
-pub(crate) fn write_statuses<S: Alter, W: Output>(
+fn write_statuses<S: Alter, W: Output>(
     alloc: Global,
     desk: &mut Desk<S>,
     json: &mut JsonState,
@@ -130,7 +145,7 @@ pub(crate) fn write_statuses<S: Alter, W: Output>(
     requires going { desk.old.is_stopped ≡ false }
     requires place { IsIn json.old Level.EmptyArray in_list }
     ensures { WritesItems S.Store desk.old desk.new json.old json.new (W.contents out.old) (W.contents out.new) result
-        (λ s station. status_tree (report_of station) (counts_of s station)) (λ s. values s.stations) }
+        (λ s. statuses s) }
 {
     let type_ids = desk.type_ids(alloc)?;
     let mut page = VecDeque::new(alloc);
@@ -148,7 +163,7 @@ pub(crate) fn write_statuses<S: Alter, W: Output>(
 }
 
 /// Writes the pricing plans as items.
-pub(crate) fn write_plans<S: Alter, W: Output>(
+fn write_plans<S: Alter, W: Output>(
     alloc: Global,
     desk: &mut Desk<S>,
     system: &System,
@@ -158,7 +173,7 @@ pub(crate) fn write_plans<S: Alter, W: Output>(
     requires going { desk.old.is_stopped ≡ false }
     requires place { IsIn json.old Level.EmptyArray in_list }
     ensures { WritesItems S.Store desk.old desk.new json.old json.new (W.contents out.old) (W.contents out.new) result
-        (λ s. plan_element s system.now) (λ s. values s.plans) }
+        (λ s. elements s system.now Plans) }
 {
     let translated = is_translated(alloc, desk)?;
     let mut next = desk.plan_after(alloc, None)?;
@@ -184,7 +199,7 @@ pub(crate) fn write_plans<S: Alter, W: Output>(
 }
 
 /// Writes the regions as items.
-pub(crate) fn write_regions<S: Alter, W: Output>(
+fn write_regions<S: Alter, W: Output>(
     alloc: Global,
     desk: &mut Desk<S>,
     system: &System,
@@ -194,7 +209,7 @@ pub(crate) fn write_regions<S: Alter, W: Output>(
     requires going { desk.old.is_stopped ≡ false }
     requires place { IsIn json.old Level.EmptyArray in_list }
     ensures { WritesItems S.Store desk.old desk.new json.old json.new (W.contents out.old) (W.contents out.new) result
-        (λ s. region_element s system.now) (λ s. values s.regions) }
+        (λ s. elements s system.now Regions) }
 {
     let translated = is_translated(alloc, desk)?;
     let mut next = desk.region_after(alloc, None)?;
@@ -211,6 +226,29 @@ pub(crate) fn write_regions<S: Alter, W: Output>(
     Err(FeedFault::Write)
 }
 
+/// Writes the elements of the list as items.
+pub(crate) fn write_elements<S: Alter, W: Output>(
+    alloc: Global,
+    desk: &mut Desk<S>,
+    system: &System,
+    listing: Listing,
+    json: &mut JsonState,
+    out: &mut W,
+) -> Result<(), FeedFault>
+    requires going { desk.old.is_stopped ≡ false }
+    requires place { IsIn json.old Level.EmptyArray in_list }
+    ensures { WritesItems S.Store desk.old desk.new json.old json.new (W.contents out.old) (W.contents out.new) result
+        (λ s. elements s system.now listing) }
+{
+    match listing {
+        Listing::Types => write_types(alloc, desk, system, json, out),
+        Listing::Stations => write_stations(alloc, desk, system, json, out),
+        Listing::Statuses => write_statuses(alloc, desk, json, out),
+        Listing::Plans => write_plans(alloc, desk, system, json, out),
+        Listing::Regions => write_regions(alloc, desk, system, json, out),
+    }
+}
+
 /// Writes the languages as items: the system's, and then each further one.
 pub(crate) fn write_languages<S: Alter, W: Output>(
     alloc: Global,
@@ -222,7 +260,7 @@ pub(crate) fn write_languages<S: Alter, W: Output>(
     requires going { desk.old.is_stopped ≡ false }
     requires place { IsIn json.old Level.EmptyArray in_list }
     ensures { WritesItems S.Store desk.old desk.new json.old json.new (W.contents out.old) (W.contents out.new) result
-        (λ s. text) (λ s. system.now.language ∷ further_languages s) }
+        (λ s. items text (system.now.language ∷ further_languages s)) }
 {
     write_language(json, out, system.language())?;
     let mut next = desk.language_after(alloc, None)?;

@@ -2,13 +2,13 @@
 
 ghost use Rattle.std.specs.Prelude.{◌≡◌, false};
 ghost use Rattle.bike_json.specs.State.{outset};
+ghost use Rattle.bike_feeds.specs.Listings.{listing_text};
 ghost use Rattle.bike_feeds.specs.Publishing.{feed_text};
 ghost use Rattle.bike_feeds.specs.Walking.{WritesText};
 
 use crate::fault::FeedFault;
-use crate::items::{
-    write_languages, write_plans, write_regions, write_stations, write_statuses, write_types,
-};
+use crate::items::{write_elements, write_languages};
+use crate::listing::Listing;
 use bike_catalogue::{NameKind, System};
 use bike_desk::Desk;
 use bike_feed_texts::{Feed, close_information, close_list, open_information, open_list};
@@ -38,11 +38,12 @@ pub(crate) fn write_system_information<S: Alter, W: Output>(
     Ok(())
 }
 
-/// Writes the feed `vehicle_types`.
-pub(crate) fn write_vehicle_types<S: Alter, W: Output>(
+/// Writes the feed whose data are the list.
+pub(crate) fn write_listing<S: Alter, W: Output>(
     alloc: Global,
     desk: &mut Desk<S>,
     system: &System,
+    listing: Listing,
     moment: Moment,
     json: &mut JsonState,
     out: &mut W,
@@ -50,90 +51,10 @@ pub(crate) fn write_vehicle_types<S: Alter, W: Output>(
     requires going { desk.old.is_stopped ≡ false }
     requires start { json.old ≡ outset }
     ensures { WritesText S.Store desk.old desk.new (W.contents out.old) (W.contents out.new) json.new.count result
-        (λ s. feed_text s system.now Feed.VehicleTypes moment) }
+        (λ s. listing_text s system.now listing moment) }
 {
-    open_list(json, out, system, moment, "vehicle_types")?;
-    write_types(alloc, desk, system, json, out)?;
-    close_list(json, out)?;
-    Ok(())
-}
-
-/// Writes the feed `station_information`.
-pub(crate) fn write_station_information<S: Alter, W: Output>(
-    alloc: Global,
-    desk: &mut Desk<S>,
-    system: &System,
-    moment: Moment,
-    json: &mut JsonState,
-    out: &mut W,
-) -> Result<(), FeedFault>
-    requires going { desk.old.is_stopped ≡ false }
-    requires start { json.old ≡ outset }
-    ensures { WritesText S.Store desk.old desk.new (W.contents out.old) (W.contents out.new) json.new.count result
-        (λ s. feed_text s system.now Feed.StationInformation moment) }
-{
-    open_list(json, out, system, moment, "stations")?;
-    write_stations(alloc, desk, system, json, out)?;
-    close_list(json, out)?;
-    Ok(())
-}
-
-/// Writes the feed `station_status`.
-pub(crate) fn write_station_status<S: Alter, W: Output>(
-    alloc: Global,
-    desk: &mut Desk<S>,
-    system: &System,
-    moment: Moment,
-    json: &mut JsonState,
-    out: &mut W,
-) -> Result<(), FeedFault>
-    requires going { desk.old.is_stopped ≡ false }
-    requires start { json.old ≡ outset }
-    ensures { WritesText S.Store desk.old desk.new (W.contents out.old) (W.contents out.new) json.new.count result
-        (λ s. feed_text s system.now Feed.StationStatus moment) }
-{
-    open_list(json, out, system, moment, "stations")?;
-    write_statuses(alloc, desk, json, out)?;
-    close_list(json, out)?;
-    Ok(())
-}
-
-/// Writes the feed `system_pricing_plans`.
-pub(crate) fn write_pricing_plans<S: Alter, W: Output>(
-    alloc: Global,
-    desk: &mut Desk<S>,
-    system: &System,
-    moment: Moment,
-    json: &mut JsonState,
-    out: &mut W,
-) -> Result<(), FeedFault>
-    requires going { desk.old.is_stopped ≡ false }
-    requires start { json.old ≡ outset }
-    ensures { WritesText S.Store desk.old desk.new (W.contents out.old) (W.contents out.new) json.new.count result
-        (λ s. feed_text s system.now Feed.SystemPricingPlans moment) }
-{
-    open_list(json, out, system, moment, "plans")?;
-    write_plans(alloc, desk, system, json, out)?;
-    close_list(json, out)?;
-    Ok(())
-}
-
-/// Writes the feed `system_regions`.
-pub(crate) fn write_system_regions<S: Alter, W: Output>(
-    alloc: Global,
-    desk: &mut Desk<S>,
-    system: &System,
-    moment: Moment,
-    json: &mut JsonState,
-    out: &mut W,
-) -> Result<(), FeedFault>
-    requires going { desk.old.is_stopped ≡ false }
-    requires start { json.old ≡ outset }
-    ensures { WritesText S.Store desk.old desk.new (W.contents out.old) (W.contents out.new) json.new.count result
-        (λ s. feed_text s system.now Feed.SystemRegions moment) }
-{
-    open_list(json, out, system, moment, "regions")?;
-    write_regions(alloc, desk, system, json, out)?;
+    open_list(json, out, system, moment, listing.name())?;
+    write_elements(alloc, desk, system, listing, json, out)?;
     close_list(json, out)?;
     Ok(())
 }

@@ -38,48 +38,32 @@ stations-init g c = (
 pub returns-in_default : goal.returns-in_default
 returns-in_default g c = walk_ends g.S.Store (stations c.args.system.now) tt (rw c.in_default.is at c.stations.invariant.0)
 
-pub returns-in_err-write_station : goal.returns-in_err-write_station
-returns-in_err-write_station g c =
-    write_failed g.S.Store (stations c.args.system.now) _ c.from_residual-in_err-write_station.ensures.1 (behind_under g.S.Store (stations c.args.system.now)
-    (station_writes g.S.Store c.args.system.now c.in-Some.field-0 (rw c.in-Some.is at c.stations.invariant.0) (rw c.in-Some.is at c.stations.invariant.2) c.as_slice.ensures.value
-    (rw c.as_ref.ensures.value at c.in_err-write_station.ensures.wrote) c.in_err-write_station.ensures.place))
-    c.in_err-write_station.ensures.outcome
+pub returns-in_err-write_named : goal.returns-in_err-write_named
+returns-in_err-write_named g c =
+    write_failed g.S.Store (stations c.args.system.now) _ c.from_residual-in_err-write_named.ensures.1 (behind_under g.S.Store (stations c.args.system.now)
+    (station_writes g.S.Store c.args.system.now c.in-Some.named (rw c.in-Some.is at c.stations.invariant.0) (rw c.in-Some.is at c.stations.invariant.2)
+    c.in_err-write_named.ensures.wrote c.in_err-write_named.ensures.place))
+    c.in_err-write_named.ensures.outcome
 
 pub returns-in_err-next-2 : goal.returns-in_err-next-2
 returns-in_err-next-2 g c =
     asked_failed g.S.Store (stations c.args.system.now) c.in_err-next-2.field-0.0 _ c.from_residual-in_err-next-2.ensures.1 (behind_under g.S.Store (stations c.args.system.now)
-    (station_writes g.S.Store c.args.system.now c.in-Some.field-0 (rw c.in-Some.is at c.stations.invariant.0) (rw c.in-Some.is at c.stations.invariant.2) c.as_slice.ensures.value
-    (rw c.as_ref.ensures.value at c.in_ok-write_station.ensures.wrote) c.in_ok-write_station.ensures.place))
+    (station_writes g.S.Store c.args.system.now c.in-Some.named (rw c.in-Some.is at c.stations.invariant.0) (rw c.in-Some.is at c.stations.invariant.2)
+    c.in_ok-write_named.ensures.wrote c.in_ok-write_named.ensures.place))
     c.in_err-next-2.ensures
 
--- the station that was written stood in a region, whose name is let go, or in none
 pub stations-preserved : goal.stations-preserved
 stations-preserved g c = (
   walk_goes g.S.Store (stations c.args.system.now) c.station_id-station.result.now c.in_ok-next-2.next (option_map (λ x. station_of x.info) c.in_ok-next-2.next)
-      (station_writes g.S.Store c.args.system.now c.in-Some.field-0 (rw c.in-Some.is at c.stations.invariant.0) (rw c.in-Some.is at c.stations.invariant.2) c.as_slice.ensures.value
-      (rw c.as_ref.ensures.value at c.in_ok-write_station.ensures.wrote) c.in_ok-write_station.ensures.place)
+      (station_writes g.S.Store c.args.system.now c.in-Some.named (rw c.in-Some.is at c.stations.invariant.0) (rw c.in-Some.is at c.stations.invariant.2)
+      c.in_ok-write_named.ensures.wrote c.in_ok-write_named.ensures.place)
       c.in_ok-next-2.ensures c.station_id-station.ensures
       (λ clean s at says. next_is (IsNamedStation s) (λ x. station_of x.info) (λ e x is. is.0) s (Some c.station_id-station.result.now) _ _
-      (says (told_asked g.S.Store c.stations.invariant.1 c.in_ok-next-2.ensures clean s at) (still_ahead g.S.Store IsNamedStation c.in-Some.field-0 _ c.station_id-station.result.now
+      (says (told_asked g.S.Store c.stations.invariant.1 c.in_ok-next-2.ensures clean s at) (still_ahead g.S.Store IsNamedStation c.in-Some.named _ c.station_id-station.result.now
       (λ s e is. c.station_id-station.ensures ∙ is.0.1) (rw c.in-Some.is at c.stations.invariant.2) c.in_ok-next-2.ensures clean s at))),
   told_later g.S.Store c.stations.invariant.1 c.in_ok-next-2.ensures.clean,
   ahead_asked g.S.Store IsNamedStation c.in_ok-next-2.next (Some c.station_id-station.result.now) _ _ c.stations.invariant.0.stays c.in_ok-next-2.ensures
-      (λ clean s at says. says (told_asked g.S.Store c.stations.invariant.1 c.in_ok-next-2.ensures clean s at) (still_ahead g.S.Store IsNamedStation c.in-Some.field-0 _ c.station_id-station.result.now
-      (λ s e is. c.station_id-station.ensures ∙ is.0.1) (rw c.in-Some.is at c.stations.invariant.2) c.in_ok-next-2.ensures clean s at)),
-)
-
-pub stations-preserved-in_ok-next-2 : goal.stations-preserved-in_ok-next-2
-stations-preserved-in_ok-next-2 g c = (
-  walk_goes g.S.Store (stations c.args.system.now) c.station_id-station.result.now c.in_ok-next-2.next (option_map (λ x. station_of x.info) c.in_ok-next-2.next)
-      (station_writes g.S.Store c.args.system.now c.in-Some.field-0 (rw c.in-Some.is at c.stations.invariant.0) (rw c.in-Some.is at c.stations.invariant.2) c.as_slice.ensures.value
-      (rw c.as_ref.ensures.value at c.in_ok-write_station.ensures.wrote) c.in_ok-write_station.ensures.place)
-      c.in_ok-next-2.ensures c.station_id-station.ensures
-      (λ clean s at says. next_is (IsNamedStation s) (λ x. station_of x.info) (λ e x is. is.0) s (Some c.station_id-station.result.now) _ _
-      (says (told_asked g.S.Store c.stations.invariant.1 c.in_ok-next-2.ensures clean s at) (still_ahead g.S.Store IsNamedStation c.in-Some.field-0 _ c.station_id-station.result.now
-      (λ s e is. c.station_id-station.ensures ∙ is.0.1) (rw c.in-Some.is at c.stations.invariant.2) c.in_ok-next-2.ensures clean s at))),
-  told_later g.S.Store c.stations.invariant.1 c.in_ok-next-2.ensures.clean,
-  ahead_asked g.S.Store IsNamedStation c.in_ok-next-2.next (Some c.station_id-station.result.now) _ _ c.stations.invariant.0.stays c.in_ok-next-2.ensures
-      (λ clean s at says. says (told_asked g.S.Store c.stations.invariant.1 c.in_ok-next-2.ensures clean s at) (still_ahead g.S.Store IsNamedStation c.in-Some.field-0 _ c.station_id-station.result.now
+      (λ clean s at says. says (told_asked g.S.Store c.stations.invariant.1 c.in_ok-next-2.ensures clean s at) (still_ahead g.S.Store IsNamedStation c.in-Some.named _ c.station_id-station.result.now
       (λ s e is. c.station_id-station.ensures ∙ is.0.1) (rw c.in-Some.is at c.stations.invariant.2) c.in_ok-next-2.ensures clean s at)),
 )
 
