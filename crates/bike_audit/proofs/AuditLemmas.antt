@@ -20,6 +20,7 @@ use Rattle.bike_schema.specs.Layouts.{every_table}
 use Rattle.bike_schema.specs.Tables.{HasTables, IsOurs, tables_of}
 use Rattle.bike_schema.proofs.AnswerLemmas.{reads_weaker}
 use Rattle.bike_readings.specs.Rules.{IsGoodKey, IsVerdict}
+use Rattle.bike_readings.proofs.RulesLaws.{table_at, its_own}
 use Rattle.bike_recognition.specs.Names.{table_named}
 use Rattle.bike_recognition.specs.declared.table.TableName as code
 use Rattle.bike_recognition.specs.Recognition.{AnyDatabase, ReadsAny, told_by, meta_version, IsByTables, IsAsTold, IsRecognised}
@@ -38,30 +39,6 @@ use Rattle.bike_audit.specs.declared.finding.Finding.TheVariants as finding
 use Rattle.bike_audit.specs.declared.tables.BadRow.{BadRow}
 
 -- ---- the tables in their order
-
--- the table at a place
-table_at : ℕ → TableName
-table_at place = slice_index_or every_table place Meta
-
-its_own : (name : TableName) → table_at (table_place name) ≡ name
-unfolding table_at
-its_own Meta = refl
-its_own System = refl
-its_own Plans = refl
-its_own Segments = refl
-its_own Types = refl
-its_own Regions = refl
-its_own Stations = refl
-its_own Docks = refl
-its_own Bikes = refl
-its_own Trucks = refl
-its_own Riders = refl
-its_own Rentals = refl
-its_own Orders = refl
-its_own Entries = refl
-its_own Kept = refl
-its_own Counts = refl
-its_own MoreNames = refl
 
 last_place : (name : TableName) → table_place name < length every_table
 last_place Meta = omega arith

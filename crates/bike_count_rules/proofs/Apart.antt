@@ -20,33 +20,7 @@ use Rattle.bike_book.proofs.Keys.{value_cmp-number_value}
 use Rattle.bike_book.specs.Tables.{Tables, Docks, Bikes, Counts}
 use Rattle.bike_readings.specs.Rules.{AreInOrder}
 use Rattle.bike_judges.specs.Lines.{count_dock_line, count_bike_line, count_line}
-
-first_column : (row : Row) → 1 ≤ length row → take 1 row ≡ column row 0 ∷ []
-first_column [] wide = absurd (omega (arith, wide))
-first_column (x ∷ row) wide = refl
-
-pub first_columns : (row : Row) → 2 ≤ length row → take 2 row ≡ column row 0 ∷ column row 1 ∷ []
-first_columns [] wide = absurd (omega (arith, wide))
-first_columns (x ∷ []) wide = absurd (omega (arith, wide))
-first_columns (x ∷ y ∷ row) wide = refl
-
--- the lines of rows that rise, where two lines tie only if their rows do
-shown_apart : (show : Row → Row) (keys : ℕ) (rows : List Row) → Rises (by_key_total keys) rows → ((r s : Row) → Has rows r → Has rows s → by_key 5 (show r) (show s) ≡ Equal → by_key keys r s ≡ Equal)
-    → AreApartAll (by_key_total 5) (map show rows)
-unfolding IsDistinct
-shown_apart show keys [] up ties = tt
-shown_apart show keys (r ∷ rows) up ties = (
-  all_from (λ y. eq_by_cmp (by_key 5) (show r) y ≡ false) (map show rows) (λ y h.
-      let s = map_has show rows y h in
-      let low : by_key keys r s.0 ≡ Less = all_has (λ y. by_key keys r y ≡ Less) rows s.0 up.0 s.1 in
-      unequal (by_key 5 (show r) y) (λ tie. let same : by_key keys r s.0 ≡ Equal = ties r s.0 (inl refl) (inr s.1) (ap (by_key 5 (show r)) (sym s.2) ∙ tie) in cc)),
-  shown_apart show keys rows up.1 (λ a b h k. ties a b (inr h) (inr k)),
-)
-  where
-    unequal : (c : Ordering) → (c ≡ Equal → ⊥) → is_eq c ≡ false
-    unequal Less f = refl
-    unequal Equal f = absurd (f refl)
-    unequal Greater f = refl
+use Rattle.bike_judges.proofs.ApartLines.{shown_apart, one_tied, two_tied}
 
 -- what ties in five columns that tie
 module _ (o a k b n p c l d m : Value) (tie : row_cmp (o ∷ a ∷ k ∷ b ∷ n ∷ []) (p ∷ c ∷ l ∷ d ∷ m ∷ []) ≡ Equal) where
@@ -65,12 +39,6 @@ module _ (o a k b n p c l d m : Value) (tie : row_cmp (o ∷ a ∷ k ∷ b ∷ n
   fifth_ties : value_cmp n m ≡ Equal
   fifth_ties = (then_tied (value_cmp n m) _ (then_tied (value_cmp b d) _ (then_tied (value_cmp k l) _ (then_tied (value_cmp a c) _ (then_tied (value_cmp o p) _ tie).1).1).1).1).0
 
-one_tied : (r s : Row) → 1 ≤ length r → 1 ≤ length s → value_cmp (column r 0) (column s 0) ≡ Equal → by_key 1 r s ≡ Equal
-one_tied r s a b tie = ap₂ row_cmp (first_column r a) (first_column s b) ∙ ap (λ (c : Ordering). ordering_then c Equal) tie
-
-two_tied : (r s : Row) → 2 ≤ length r → 2 ≤ length s → value_cmp (column r 0) (column s 0) ≡ Equal → value_cmp (column r 1) (column s 1) ≡ Equal → by_key 2 r s ≡ Equal
-two_tied r s a b tie also = ap₂ row_cmp (first_columns r a) (first_columns s b) ∙ ap₂ (λ (c d : Ordering). ordering_then c (ordering_then d Equal)) tie also
-
 -- Each row has all columns.
 pub record AreWide (t : Tables) : Type 0 where
   pub stations : (r : Row) → Has t.stations r → length r ≡ 12
@@ -84,17 +52,17 @@ module _ (t : Tables) (up : AreInOrder t) (wide : AreWide t) where
   all_lines = (map count_dock_line t.docks ++ map count_bike_line t.bikes) ++ map count_line t.counts
 
   docks_apart : AreApartAll (by_key_total 5) (map count_dock_line t.docks)
-  docks_apart = shown_apart count_dock_line 2 t.docks (up Docks) (λ r s h k tie.
+  docks_apart = shown_apart count_dock_line 5 2 t.docks (up Docks) (λ r s h k tie.
       let a = wide.docks r h in let b = wide.docks s k in
       two_tied r s (omega (arith, a)) (omega (arith, b)) (first_ties _ _ _ _ _ _ _ _ _ _ tie) (third_ties _ _ _ _ _ _ _ _ _ _ tie))
 
   bikes_apart : AreApartAll (by_key_total 5) (map count_bike_line t.bikes)
-  bikes_apart = shown_apart count_bike_line 1 t.bikes (up Bikes) (λ r s h k tie.
+  bikes_apart = shown_apart count_bike_line 5 1 t.bikes (up Bikes) (λ r s h k tie.
       let a = wide.bikes r h in let b = wide.bikes s k in
       one_tied r s (omega (arith, a)) (omega (arith, b)) (fifth_ties _ _ _ _ _ _ _ _ _ _ tie))
 
   counts_apart : AreApartAll (by_key_total 5) (map count_line t.counts)
-  counts_apart = shown_apart count_line 2 t.counts (up Counts) (λ r s h k tie.
+  counts_apart = shown_apart count_line 5 2 t.counts (up Counts) (λ r s h k tie.
       let a = wide.counts r h in let b = wide.counts s k in
       two_tied r s (omega (arith, a)) (omega (arith, b)) (first_ties _ _ _ _ _ _ _ _ _ _ tie) (third_ties _ _ _ _ _ _ _ _ _ _ tie))
 

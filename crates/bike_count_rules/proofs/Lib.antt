@@ -1,4 +1,3 @@
-mod Folds
 pub mod Groups
 pub mod Pass
 pub mod Steps

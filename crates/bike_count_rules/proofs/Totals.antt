@@ -35,7 +35,7 @@ use Rattle.bike_readings.proofs.ReadLists.{IsStored}
 use Rattle.bike_judges.specs.Lines.{nulls, count_dock_line, count_bike_line, count_line}
 use Rattle.bike_count_rules.specs.declared.tally.Tally.{Tally}
 use Rattle.bike_count_rules.specs.Tallies.{count_tally, placed_tally, bike_tally, tally_in}
-use Rattle.bike_count_rules.proofs.Folds.{fold_order}
+use Rattle.bike_judges.proofs.FoldOrder.{fold_order}
 use Rattle.bike_count_rules.proofs.Groups.{adds, total, texts_tie, same_texts, texts_same}
 
 pub take_all : (n : ℕ) (row : Row) → length row ≡ n → take n row ≡ row

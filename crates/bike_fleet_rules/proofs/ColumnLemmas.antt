@@ -12,31 +12,13 @@ use Rattle.bike_operator.specs.declared.records.Bike.{Bike}
 use Rattle.bike_schema.specs.declared.fault.StatementFault.{StatementFault}
 use Rattle.bike_schema.specs.Columns.{read_or_failed, whole_in, text_in}
 use Rattle.bike_readings.proofs.ColumnLaws.{whole_column}
+use Rattle.bike_readings.proofs.ReadLemmas.{read_some}
 use Rattle.bike_readings.specs.ReadOff.{misplaced_bike, first_place_in}
 use Rattle.bike_judges.specs.Lines.{part}
 use Rattle.bike_fleet_rules.specs.Counted.{counted_in, counted_at, spelled_by, place_at}
 use Rattle.bike_fleet_rules.proofs.CountedRows.{counted_first}
 
 -- ---- single columns
-
-pub read_some : {X : Type 0} (x : X) (o : Option X) → ◌≡◌ {A = Result X StatementFault} (Ok x) (read_or_failed o) → Some x ≡ o
-read_some x None e = absurd cc
-read_some x (Some y) e = cc
-
-pub read_none : {X : Type 0} (fault : StatementFault) (o : Option X) → ◌≡◌ {A = Result X StatementFault} (Err fault) (read_or_failed o) → None ≡ o
-read_none fault None e = cc
-read_none fault (Some y) e = absurd cc
-
--- a column of bytes that are UTF-8 is a text, and one of other bytes is none
-pub text_there : (v : Value) (text : List ℕ) → Text text ≡ v → IsUtf8 text → text_in v ≡ Some text
-text_there v text is utf8 = let valid = is_utf8-from_IsUtf8 text utf8 in subst (λ w. text_in w ≡ Some text) is (rw valid refl)
-
-pub text_missing : (v : Value) (text : List ℕ) → Text text ≡ v → ¬ IsUtf8 text → text_in v ≡ None
-text_missing v text is other = subst (λ w. text_in w ≡ None) is (by (is_utf8 text) refl)
-  where
-    by : (b : Bool) → is_utf8 text ≡ b → ◌≡◌ {A = Option (List ℕ)} (cond b (Some text) None) None
-    by true valid = absurd (other (IsUtf8-from_is_utf8 text valid))
-    by false valid = refl
 
 -- a whole number that was read is its column
 pub whole_key : (number : ℤ) (v : Value) → ◌≡◌ {A = Result ℤ StatementFault} (Ok number) (read_or_failed (whole_in v)) → Int number ∷ [] ≡ v ∷ []

@@ -15,3 +15,4 @@ mod Apart
 mod CountedRows
 mod ColumnLemmas
 mod LoadLemmas
+mod LoadAccounts

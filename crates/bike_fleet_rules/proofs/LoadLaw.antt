@@ -22,51 +22,20 @@ use Rattle.bike_judges.specs.Verdicts.{IsFirstFailing}
 use Rattle.bike_judges.proofs.StretchLaw.{HasOneKey, AreAccounts, AreItems, merged_verdict}
 use Rattle.bike_fleet_rules.specs.Loads.{loads, order_opened, order_begins, order_more, order_good, order_key}
 use Rattle.bike_fleet_rules.specs.declared.orders.OrderAccount.{OrderAccount}
-use Rattle.bike_fleet_rules.proofs.CountingLaw.{kept_where, commute_where}
 use Rattle.bike_fleet_rules.proofs.Parts.{AreWide, begins_with_one, own_part}
 use Rattle.bike_fleet_rules.proofs.Apart.{lines_apart}
-use Rattle.bike_fleet_rules.proofs.LoadLemmas.{loads_own, order_fold, order_loaded}
+use Rattle.bike_fleet_rules.proofs.LoadAccounts.{load_accounts}
+use Rattle.bike_fleet_rules.proofs.LoadLemmas.{order_fold, order_loaded}
 
 abbrev owner : OrderAccount → Value
 owner a = number_value a.order
 
 -- ---- accounts
 
-opened_head : (o : Option (ℕ × Order)) → order_opened o ≡ Item → ⊥
-opened_head None e = absurd cc
-opened_head (Some x) e = absurd cc
-
-opened_owner : (o : Option (ℕ × Order)) (a : OrderAccount) (v : Value) → ((x : ℕ × Order) → o ≡ Some x → number_value x.0 ≡ v) → order_opened o ≡ Head a → owner a ≡ v
-opened_owner None a v its e = absurd cc
-opened_owner (Some x) a v its e = let same : x.0 ≡ a.order = cc in ap number_value (sym same) ∙ its x refl
-
-owner_is : (row : Row) (a : OrderAccount) → order_begins (head 0 row) ≡ Head a → owner a ≡ column row 0
-owner_is [] a e = absurd cc
-owner_is (v ∷ row) a e =
-    opened_owner (order_read (take 8 ((v ∷ row) ++ nulls 0))) a v
-    (λ x is. ap (λ (r : Row). column r 0) (sym (order_reading.sound (take 8 ((v ∷ row) ++ nulls 0)) x is).0)) e
-
-others : (a : OrderAccount) (x : Row) → (value_cmp (column x 0) (owner a) ≡ Equal → ⊥) → order_more a x ≡ a
-others a x apart = ap (λ (b : Bool). cond b (record a { load = a.load + 1 }) a) (loads_own (is_for_order a.order) a.order x apart)
-
-abbrev one_more : OrderAccount → OrderAccount
-one_more a = record a { load = a.load + 1 }
-
-keeps : (a : OrderAccount) (x : Row) → owner (order_more a x) ≡ owner a
-keeps a x = kept_where one_more owner (λ b. refl) (λ b. loads (is_for_order b.order) b.order x) a
-
-commutes : (a : OrderAccount) (x y : Row) → order_more (order_more a x) y ≡ order_more (order_more a y) x
-commutes a x y = commute_where one_more (λ b. loads (is_for_order b.order) b.order x) (λ b. loads (is_for_order b.order) b.order y) (λ b. refl) (λ b. refl) a
-
 accounts : AreAccounts order_begins order_more order_good order_key owner 0
-accounts = record {
-  heads = λ row e. opened_head (order_read (take 8 (row ++ nulls 0))) e;
-  owner_is = owner_is;
-  key_is = λ a. refl;
-  keeps = keeps;
-  others = others;
-  commutes = commutes;
-}
+accounts =
+    load_accounts (λ a. a.order) is_for_order (λ a. record a { load = a.load + 1 }) (λ a. refl) 7 0
+    order_read (λ row x is. ap (λ (r : Row). column r 0) (order_reading.sound row x is).0) order_opened (λ x. record { order = x.0; count = x.1.count; load = x.1.delivered }) refl (λ x. refl) (λ x. refl) order_good
 
 items : AreItems order_begins order_more order_good order_key owner order_bike_line
 items = record { item = λ row. refl; place = λ row. (0, refl) }

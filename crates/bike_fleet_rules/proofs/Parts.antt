@@ -15,9 +15,10 @@ use Rattle.bike_rows.proofs.OrderLemmas.{order_has}
 use Rattle.bike_rows.proofs.TreeLemmas.{by_key_total}
 use Rattle.bike_rows.proofs.ListLemmas.{map_has}
 use Rattle.bike_rows.proofs.FrameLemmas.{rows_of_is}
-use Rattle.bike_book.specs.Tables.{TableName, Tables, tables_by, keys_of, rows_in as table_rows, Meta, System, Plans, Segments, Types, Regions, Stations, Docks, Bikes, Trucks, Riders, Rentals, Orders, Entries, Kept, Counts, MoreNames}
+use Rattle.bike_book.specs.Tables.{TableName, Tables, tables_by, keys_of, rows_in as table_rows}
 use Rattle.bike_schema.specs.Layouts.{layout_of, name_of}
 use Rattle.bike_schema.specs.Tables.{tables_of, HasTables}
+use Rattle.bike_readings.proofs.RulesLaws.{rows_by}
 use Rattle.bike_judges.specs.Lines.{part, nulls, or_nulls, with_two}
 
 -- ---- parts
@@ -74,26 +75,6 @@ rows_wide db keys layout it row has =
     let there : Has (rows_in keys (table_of layout it.tree) db.trees) row = subst (λ (rows : List Row). Has rows row) (rows_of_is db keys layout it) has in
     let stored = map_has (columns_of (table_of layout it.tree)) (db.trees it.tree) row (order_has (by_key_total keys) (map (columns_of (table_of layout it.tree)) (db.trees it.tree)) row there) in
     ap length stored.2 ∙ columns_wide layout it.tree stored.0
-
--- a table is what the function gives of its name
-rows_by : (rows : TableName → List Row) (name : TableName) → table_rows (tables_by rows) name ≡ rows name
-rows_by rows Meta = refl
-rows_by rows System = refl
-rows_by rows Plans = refl
-rows_by rows Segments = refl
-rows_by rows Types = refl
-rows_by rows Regions = refl
-rows_by rows Stations = refl
-rows_by rows Docks = refl
-rows_by rows Bikes = refl
-rows_by rows Trucks = refl
-rows_by rows Riders = refl
-rows_by rows Rentals = refl
-rows_by rows Orders = refl
-rows_by rows Entries = refl
-rows_by rows Kept = refl
-rows_by rows Counts = refl
-rows_by rows MoreNames = refl
 
 -- the rows of each table are as wide as its layout
 abbrev pub AreWide : Tables → Type 0

@@ -25,52 +25,21 @@ use Rattle.bike_judges.specs.Verdicts.{IsTableVerdict}
 use Rattle.bike_judges.proofs.StretchLaw.{HasOneKey, AreAccounts, AreItems, merged_verdict}
 use Rattle.bike_fleet_rules.specs.Loads.{loads, truck_opened, truck_begins, truck_more, truck_good, truck_key}
 use Rattle.bike_fleet_rules.specs.declared.trucks.TruckAccount.{TruckAccount}
-use Rattle.bike_fleet_rules.proofs.CountingLaw.{kept_where, commute_where}
 use Rattle.bike_fleet_rules.proofs.Parts.{AreWide, begins_with_one, own_part}
 use Rattle.bike_fleet_rules.proofs.Apart.{lines_apart}
+use Rattle.bike_fleet_rules.proofs.LoadAccounts.{load_accounts}
 use Rattle.bike_fleet_rules.proofs.OfRows.{both_true, first_true, second_true, demanded, demands_of, SaysGood, good_key, of_good_key, same_verdict}
-use Rattle.bike_fleet_rules.proofs.LoadLemmas.{loads_own, truck_fold, truck_loaded}
+use Rattle.bike_fleet_rules.proofs.LoadLemmas.{truck_fold, truck_loaded}
 
 abbrev owner : TruckAccount → Value
 owner a = number_value a.truck
 
 -- ---- accounts
 
-opened_head : (o : Option (ℕ × Truck)) → truck_opened o ≡ Item → ⊥
-opened_head None e = absurd cc
-opened_head (Some x) e = absurd cc
-
-opened_owner : (o : Option (ℕ × Truck)) (a : TruckAccount) (v : Value) → ((x : ℕ × Truck) → o ≡ Some x → number_value x.0 ≡ v) → truck_opened o ≡ Head a → owner a ≡ v
-opened_owner None a v its e = absurd cc
-opened_owner (Some x) a v its e = let same : x.0 ≡ a.truck = cc in ap number_value (sym same) ∙ its x refl
-
-owner_is : (row : Row) (a : TruckAccount) → truck_begins (head 6 row) ≡ Head a → owner a ≡ column row 0
-owner_is [] a e = absurd cc
-owner_is (v ∷ row) a e =
-    opened_owner (truck_read (take 2 ((v ∷ row) ++ nulls 6))) a v
-    (λ x is. ap (λ (r : Row). column r 0) (sym (truck_reading.sound (take 2 ((v ∷ row) ++ nulls 6)) x is).0)) e
-
-others : (a : TruckAccount) (x : Row) → (value_cmp (column x 0) (owner a) ≡ Equal → ⊥) → truck_more a x ≡ a
-others a x apart = ap (λ (b : Bool). cond b (record a { load = a.load + 1 }) a) (loads_own (is_on_truck a.truck) a.truck x apart)
-
-abbrev one_more : TruckAccount → TruckAccount
-one_more a = record a { load = a.load + 1 }
-
-keeps : (a : TruckAccount) (x : Row) → owner (truck_more a x) ≡ owner a
-keeps a x = kept_where one_more owner (λ b. refl) (λ b. loads (is_on_truck b.truck) b.truck x) a
-
-commutes : (a : TruckAccount) (x y : Row) → truck_more (truck_more a x) y ≡ truck_more (truck_more a y) x
-commutes a x y = commute_where one_more (λ b. loads (is_on_truck b.truck) b.truck x) (λ b. loads (is_on_truck b.truck) b.truck y) (λ b. refl) (λ b. refl) a
-
 accounts : AreAccounts truck_begins truck_more truck_good truck_key owner 6
-accounts = record {
-  heads = λ row e. opened_head (truck_read (take 2 (row ++ nulls 6))) e;
-  owner_is = owner_is;
-  key_is = λ a. refl;
-  keeps = keeps;
-  others = others;
-  commutes = commutes;
-}
+accounts =
+    load_accounts (λ a. a.truck) is_on_truck (λ a. record a { load = a.load + 1 }) (λ a. refl) 1 6
+    truck_read (λ row x is. ap (λ (r : Row). column r 0) (truck_reading.sound row x is).0) truck_opened (λ x. record { truck = x.0; capacity = x.1.capacity; load = 0 }) refl (λ x. refl) (λ x. refl) truck_good
 
 items : AreItems truck_begins truck_more truck_good truck_key owner truck_bike_line
 items = record { item = λ row. refl; place = λ row. (0, refl) }

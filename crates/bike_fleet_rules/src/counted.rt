@@ -42,7 +42,7 @@ fn is_ident(text: &str) -> bool
 }
 
 /// The number in a column, where it lies from `LO` to `HI`.
-#[tactic(auto, using(crate::proofs::ColumnLemmas::read_some, crate::proofs::ColumnLemmas::read_none))]
+#[tactic(auto, using(bike_readings::proofs::ReadLemmas::read_some, bike_readings::proofs::ReadLemmas::read_none))]
 pub(crate) fn number_in<const LO: u32, const HI: u32>(
     line: &Row,
     at: usize,
@@ -81,7 +81,7 @@ pub(crate) fn is_of(line: &Row, owner: u32) -> bool
 }
 
 /// The state of a bicycle in a column.
-#[tactic(auto, using(crate::proofs::ColumnLemmas::read_some, crate::proofs::ColumnLemmas::read_none))]
+#[tactic(auto, using(bike_readings::proofs::ReadLemmas::read_some, bike_readings::proofs::ReadLemmas::read_none))]
 fn state_in(line: &Row, at: usize) -> Option<BikeState>
     ensures { result ≡ state_in (column line.now at) }
 {
@@ -128,7 +128,7 @@ fn ident_or_none(line: &Row, at: usize) -> Option<Option<&str>>
 }
 
 /// The number in a column, in the same way.
-#[tactic(auto, using(crate::proofs::ColumnLemmas::read_some, crate::proofs::ColumnLemmas::read_none))]
+#[tactic(auto, using(bike_readings::proofs::ReadLemmas::read_some, bike_readings::proofs::ReadLemmas::read_none))]
 fn number_or_none<const LO: u32, const HI: u32>(
     line: &Row,
     at: usize,

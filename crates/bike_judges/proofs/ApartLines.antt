@@ -30,7 +30,7 @@ pub first_column : (row : Row) → 1 ≤ length row → take 1 row ≡ column ro
 first_column [] wide = absurd (omega (arith, wide))
 first_column (x ∷ row) wide = refl
 
-first_columns : (row : Row) → 2 ≤ length row → take 2 row ≡ column row 0 ∷ column row 1 ∷ []
+pub first_columns : (row : Row) → 2 ≤ length row → take 2 row ≡ column row 0 ∷ column row 1 ∷ []
 first_columns [] wide = absurd (omega (arith, wide))
 first_columns (x ∷ []) wide = absurd (omega (arith, wide))
 first_columns (x ∷ y ∷ row) wide = refl
@@ -38,16 +38,16 @@ first_columns (x ∷ y ∷ row) wide = refl
 -- ---- one table
 
 -- the lines of rows that rise, where two lines tie only if their rows do
-shown_apart : (show : Row → Row) (keys : ℕ) (rows : List Row) → Rises (by_key_total keys) rows → ((r s : Row) → Has rows r → Has rows s → by_key 3 (show r) (show s) ≡ Equal → by_key keys r s ≡ Equal)
-    → AreApartAll (by_key_total 3) (map show rows)
+pub shown_apart : (show : Row → Row) (width keys : ℕ) (rows : List Row) → Rises (by_key_total keys) rows → ((r s : Row) → Has rows r → Has rows s → by_key width (show r) (show s) ≡ Equal → by_key keys r s ≡ Equal)
+    → AreApartAll (by_key_total width) (map show rows)
 unfolding IsDistinct
-shown_apart show keys [] up ties = tt
-shown_apart show keys (r ∷ rows) up ties = (
-  all_from (λ y. eq_by_cmp (by_key 3) (show r) y ≡ false) (map show rows) (λ y h.
+shown_apart show width keys [] up ties = tt
+shown_apart show width keys (r ∷ rows) up ties = (
+  all_from (λ y. eq_by_cmp (by_key width) (show r) y ≡ false) (map show rows) (λ y h.
       let s = map_has show rows y h in
       let low : by_key keys r s.0 ≡ Less = all_has (λ z. by_key keys r z ≡ Less) rows s.0 up.0 s.1 in
-      unequal (by_key 3 (show r) y) (λ tie. let same : by_key keys r s.0 ≡ Equal = ties r s.0 (inl refl) (inr s.1) (ap (by_key 3 (show r)) (sym s.2) ∙ tie) in cc)),
-  shown_apart show keys rows up.1 (λ a b h k. ties a b (inr h) (inr k)),
+      unequal (by_key width (show r) y) (λ tie. let same : by_key keys r s.0 ≡ Equal = ties r s.0 (inl refl) (inr s.1) (ap (by_key width (show r)) (sym s.2) ∙ tie) in cc)),
+  shown_apart show width keys rows up.1 (λ a b h k. ties a b (inr h) (inr k)),
 )
   where
     unequal : (c : Ordering) → (c ≡ Equal → ⊥) → is_eq c ≡ false
@@ -69,10 +69,10 @@ module _ (o p k l : Value) (m n : ℕ) (tie : row_cmp (o ∷ Int (pos m) ∷ k �
 abbrev tied : Ordering → Ordering → Ordering
 tied a b = ordering_then a (ordering_then b Equal)
 
-one_tied : (r s : Row) → 1 ≤ length r → 1 ≤ length s → value_cmp (column r 0) (column s 0) ≡ Equal → by_key 1 r s ≡ Equal
+pub one_tied : (r s : Row) → 1 ≤ length r → 1 ≤ length s → value_cmp (column r 0) (column s 0) ≡ Equal → by_key 1 r s ≡ Equal
 one_tied r s a b tie = ap₂ row_cmp (first_column r a) (first_column s b) ∙ ap (λ (c : Ordering). ordering_then c Equal) tie
 
-two_tied : (r s : Row) → 2 ≤ length r → 2 ≤ length s → value_cmp (column r 0) (column s 0) ≡ Equal → value_cmp (column r 1) (column s 1) ≡ Equal → by_key 2 r s ≡ Equal
+pub two_tied : (r s : Row) → 2 ≤ length r → 2 ≤ length s → value_cmp (column r 0) (column s 0) ≡ Equal → value_cmp (column r 1) (column s 1) ≡ Equal → by_key 2 r s ≡ Equal
 two_tied r s a b tie also = ap₂ row_cmp (first_columns r a) (first_columns s b) ∙ ap₂ (λ (c d : Ordering). tied c d) tie also
 
 -- ---- the tables
@@ -81,7 +81,7 @@ module _ (t : Tables) (up : AreInOrder t) (whole : AreWhole t) where
   -- heads, by their owner
   heads : (name : TableName) → keys_of name ≡ 1 → (spare : ℕ) → AreApartAll (by_key_total 3) (map (λ row. line (column row 0) (pos 0) (Int (pos 0)) spare row) (rows_in t name))
   heads name one spare =
-      shown_apart (λ row. line (column row 0) (pos 0) (Int (pos 0)) spare row) 1 (rows_in t name) (subst (λ (n : ℕ). Rises (by_key_total n) (rows_in t name)) one (up name))
+      shown_apart (λ row. line (column row 0) (pos 0) (Int (pos 0)) spare row) 3 1 (rows_in t name) (subst (λ (n : ℕ). Rises (by_key_total n) (rows_in t name)) one (up name))
       (λ r s h k tie. one_tied r s (wide r h) (wide s k) (owners _ _ _ _ _ _ tie))
     where
       wide : (row : Row) → Has (rows_in t name) row → 1 ≤ length row
@@ -90,7 +90,7 @@ module _ (t : Tables) (up : AreInOrder t) (whole : AreWhole t) where
   -- the rows of a table with one key, by that
   numbered : (name : TableName) → keys_of name ≡ 1 → (owner : Row → Value) (place spare : ℕ) → AreApartAll (by_key_total 3) (map (λ row. line (owner row) (pos place) (column row 0) spare row) (rows_in t name))
   numbered name one owner place spare =
-      shown_apart (λ row. line (owner row) (pos place) (column row 0) spare row) 1 (rows_in t name) (subst (λ (n : ℕ). Rises (by_key_total n) (rows_in t name)) one (up name))
+      shown_apart (λ row. line (owner row) (pos place) (column row 0) spare row) 3 1 (rows_in t name) (subst (λ (n : ℕ). Rises (by_key_total n) (rows_in t name)) one (up name))
       (λ r s h k tie. one_tied r s (wide r h) (wide s k) (own_keys _ _ _ _ _ _ tie))
     where
       wide : (row : Row) → Has (rows_in t name) row → 1 ≤ length row
@@ -98,7 +98,7 @@ module _ (t : Tables) (up : AreInOrder t) (whole : AreWhole t) where
 
   docks : AreApartAll (by_key_total 3) (map station_dock_line t.docks)
   docks =
-      shown_apart station_dock_line 2 t.docks (up Docks)
+      shown_apart station_dock_line 3 2 t.docks (up Docks)
       (λ r s h k tie. two_tied r s (whole Docks r h) (whole Docks s k) (owners _ _ _ _ _ _ tie) (own_keys _ _ _ _ _ _ tie))
 
   -- the lines of two tables, at two places

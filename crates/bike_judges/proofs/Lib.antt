@@ -9,7 +9,7 @@ mod UnionTexts
 mod UnionOfThreeTexts
 mod RowSteps
 mod StepLemmas
-mod FoldOrder
+pub mod FoldOrder
 mod AnyOrderLaws
 mod BeginLaws
 mod KeptText

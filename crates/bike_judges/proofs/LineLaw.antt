@@ -13,23 +13,9 @@ use Rattle.bike_rows.proofs.TreeLemmas.{by_key_total}
 use Rattle.bike_book.specs.Tables.{TableName, Tables, rows_in, keys_of}
 use Rattle.bike_readings.specs.Rules.{AreInOrder, row_under, rows_below}
 use Rattle.bike_readings.proofs.Places.{lesser, lesser_before, has_under, under_has}
+use Rattle.bike_readings.proofs.RowRules.{below_tied}
 use Rattle.bike_judges.specs.Passes.{first_failing, OfRow, Demands}
 use Rattle.bike_judges.specs.Verdicts.{IsFirstFailing}
-
--- keys that tie have the same rows below them
-pub below_tied : (keys : ℕ) (key other : Row) → row_cmp key other ≡ Equal → (rows : List Row) → lesser keys key rows ≡ lesser keys other rows
-below_tied keys key other tie [] = refl
-below_tied keys key other tie (r ∷ rows) =
-    let turned : row_cmp (take keys r) key ≡ row_cmp (take keys r) other =
-    row_cmp_total.antisymm (take keys r) key ∙ ap ordering_reverse (row_cmp_total.congr key other (take keys r) tie) ∙ sym (row_cmp_total.antisymm (take keys r) other) in
-    (λ i. length (cond (is_lt (turned i)) (r ∷ filter (λ row. is_lt (row_cmp (take keys row) key)) rows) (filter (λ row. is_lt (row_cmp (take keys row) key)) rows)))
-    ∙ go (is_lt (row_cmp (take keys r) other)) (below_tied keys key other tie rows)
-  where
-    go : (b : Bool) → lesser keys key rows ≡ lesser keys other rows
-        → length (cond b (r ∷ filter (λ row. is_lt (row_cmp (take keys row) key)) rows) (filter (λ row. is_lt (row_cmp (take keys row) key)) rows))
-        ≡ length (cond b (r ∷ filter (λ row. is_lt (row_cmp (take keys row) other)) rows) (filter (λ row. is_lt (row_cmp (take keys row) other)) rows))
-    go true rest = ap (λ (n : ℕ). suc n) rest
-    go false rest = rest
 
 rest_rises : (keys : ℕ) (before rest : List Row) → Rises (by_key_total keys) (before ++ rest) → Rises (by_key_total keys) rest
 rest_rises keys [] rest up = up

@@ -41,7 +41,7 @@ use Rattle.bike_judges.specs.Judging.{key_row}
 use Rattle.bike_judges.specs.Lines.{part}
 use Rattle.bike_judges.specs.Passes.{Demands}
 use Rattle.bike_judges.specs.Verdicts.{EarlierGood, IsFirstFailing, IsTableVerdict}
-use Rattle.bike_judges.proofs.LineLaw.{below_tied}
+use Rattle.bike_readings.proofs.RowRules.{below_tied}
 use Rattle.bike_ledger_rules.specs.Sums.{sum_at}
 use Rattle.bike_ledger_rules.specs.Entries.{entry_line, entry_test, with_fares, is_first, first_bad, IsRentalCount}
 use Rattle.bike_ledger_rules.specs.Known.{has_rider, is_listed}

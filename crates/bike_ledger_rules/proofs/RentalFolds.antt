@@ -22,7 +22,8 @@ use Rattle.bike_judges.specs.declared.key.BadKey.{BadKey}
 use Rattle.bike_judges.specs.Judging.{key_row}
 use Rattle.bike_judges.specs.Passes.{first_failing, OfRow, Demands}
 use Rattle.bike_judges.specs.Verdicts.{IsFirstFailing}
-use Rattle.bike_judges.proofs.LineLaw.{below_tied, rows_verdict}
+use Rattle.bike_readings.proofs.RowRules.{below_tied}
+use Rattle.bike_judges.proofs.LineLaw.{rows_verdict}
 use Rattle.bike_ledger_rules.specs.declared.known.Names.{Names}
 use Rattle.bike_ledger_rules.specs.declared.rental_entries.RentalEntries.{RentalEntries}
 use Rattle.bike_ledger_rules.specs.Lines.{FindsFailing, first_column}

@@ -6,7 +6,7 @@ pub mod LedgerRows
 pub mod SoundBounds
 pub mod TextUtf8
 pub mod KeptRows
-mod ReadLemmas
+pub mod ReadLemmas
 mod KeptLemmas
 pub mod ReadLists
 pub mod ByNumber

@@ -14,7 +14,7 @@ use Rattle.bike_readings.proofs.Places.{has_under, under_has, lesser}
 
 -- ---- keys that tie have the same rows below them
 
-below_tied : (keys : ℕ) (key other : Row) → row_cmp key other ≡ Equal → (rows : List Row) → lesser keys key rows ≡ lesser keys other rows
+pub below_tied : (keys : ℕ) (key other : Row) → row_cmp key other ≡ Equal → (rows : List Row) → lesser keys key rows ≡ lesser keys other rows
 below_tied keys key other tie [] = refl
 below_tied keys key other tie (r ∷ rows) =
     let turned : row_cmp (take keys r) key ≡ row_cmp (take keys r) other =

@@ -1,5 +1,5 @@
 -- The laws of the rules, from rows to tables and to the tables in a database.
-use Rattle.std.proofs.Common.{◌≡◌, ℕ, zero, suc, List, [], map, Option, Some, None, refl, sym, ap, ◌∙◌, subst}
+use Rattle.std.proofs.Common.{◌≡◌, ℕ, List, [], map, slice_index_or, Option, Some, None, refl, sym, ap, ◌∙◌, subst}
 use Rattle.std.specs.Prelude.{unwrap_or, option_map, option_and_then, slice_get}
 use Rattle.std.specs.Ordering.{nat_cmp, ordering_reverse}
 use Rattle.std.specs.declared.cmp.Ordering.{Ordering}
@@ -18,7 +18,7 @@ use Rattle.bike_operator.specs.Operator.{Operator}
 use Rattle.bike_book.specs.Tables.{TableName, Tables, rows_in as rows_in_tables, tables_by, keys_of, table_place, Meta, System, Plans, Segments, Types, Regions, Stations, Docks, Bikes, Trucks, Riders, Rentals, Orders, Entries, Kept, Counts, MoreNames}
 use Rattle.bike_book.specs.Stored.{tables_for}
 use Rattle.sqlite_trees.specs.Tree.{Trees}
-use Rattle.bike_schema.specs.Layouts.{name_of}
+use Rattle.bike_schema.specs.Layouts.{every_table, name_of}
 use Rattle.bike_schema.specs.Tables.{tables_of}
 use Rattle.bike_schema.specs.Stands.{Stores}
 use Rattle.bike_readings.specs.ReadOff.{operator_of, listed_of}
@@ -51,26 +51,10 @@ bad_are_of_none t bad verdict s m of = verdict.bad (of_are_good t s m of bad.0 b
 -- ---- one verdict
 
 -- the table at a place
-table_at : ℕ → TableName
-table_at zero = Meta
-table_at (suc zero) = System
-table_at (suc (suc zero)) = Plans
-table_at (suc (suc (suc zero))) = Segments
-table_at (suc (suc (suc (suc zero)))) = Types
-table_at (suc (suc (suc (suc (suc zero))))) = Regions
-table_at (suc (suc (suc (suc (suc (suc zero)))))) = Stations
-table_at (suc (suc (suc (suc (suc (suc (suc zero))))))) = Docks
-table_at (suc (suc (suc (suc (suc (suc (suc (suc zero)))))))) = Bikes
-table_at (suc (suc (suc (suc (suc (suc (suc (suc (suc zero))))))))) = Trucks
-table_at (suc (suc (suc (suc (suc (suc (suc (suc (suc (suc zero)))))))))) = Riders
-table_at (suc (suc (suc (suc (suc (suc (suc (suc (suc (suc (suc zero))))))))))) = Rentals
-table_at (suc (suc (suc (suc (suc (suc (suc (suc (suc (suc (suc (suc zero)))))))))))) = Orders
-table_at (suc (suc (suc (suc (suc (suc (suc (suc (suc (suc (suc (suc (suc zero))))))))))))) = Entries
-table_at (suc (suc (suc (suc (suc (suc (suc (suc (suc (suc (suc (suc (suc (suc zero)))))))))))))) = Kept
-table_at (suc (suc (suc (suc (suc (suc (suc (suc (suc (suc (suc (suc (suc (suc (suc zero))))))))))))))) = Counts
-table_at (suc (suc (suc (suc (suc (suc (suc (suc (suc (suc (suc (suc (suc (suc (suc (suc n)))))))))))))))) = MoreNames
+pub table_at : ℕ → TableName
+table_at place = slice_index_or every_table place Meta
 
-its_own : (name : TableName) → table_at (table_place name) ≡ name
+pub its_own : (name : TableName) → table_at (table_place name) ≡ name
 unfolding table_at
 its_own Meta = refl
 its_own System = refl
@@ -119,7 +103,7 @@ rows_rise keys trees None = tt
 rows_rise keys trees (Some table) = rises (by_key_total keys) (map (columns_of table) (trees table.tree))
 
 -- a table is what the function gives of its name
-rows_by : (rows : TableName → List Row) (name : TableName) → rows_in_tables (tables_by rows) name ≡ rows name
+pub rows_by : (rows : TableName → List Row) (name : TableName) → rows_in_tables (tables_by rows) name ≡ rows name
 rows_by rows Meta = refl
 rows_by rows System = refl
 rows_by rows Plans = refl

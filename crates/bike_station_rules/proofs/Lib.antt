@@ -2,7 +2,6 @@ pub mod Widths
 pub mod OfRows
 pub mod DockTest
 pub mod CountSteps
-mod TextLemmas
 pub mod DockedRows
 pub mod Bits
 pub mod Folds

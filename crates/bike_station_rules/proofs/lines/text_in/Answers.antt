@@ -1,6 +1,6 @@
 use Rattle.std.proofs.Common.{Some, ap, sym, ◌∙◌}
 use Rattle.sqlite_value.specs.Value.{owned}
-use Rattle.bike_station_rules.proofs.TextLemmas.{text_there, text_missing}
+use Rattle.bike_readings.proofs.ReadLemmas.{text_there, text_missing}
 use Rattle.bike_station_rules.proofs.lines.text_in.Goals as goal
 
 pub returns-in-Ok : goal.returns-in-Ok
