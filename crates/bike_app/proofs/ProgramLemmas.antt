@@ -1,7 +1,8 @@
 -- What the program serves, and what it leaves.
-use Rattle.std.proofs.Common.{◌≡◌, ℕ, List, [], ◌∷◌, ◌++◌, refl, sym, subst, ap, Option, None, Some, Result, Ok, Err, inl, inr}
+use Rattle.std.proofs.Common.{◌≡◌, ◌≤◌, IsTrue, arith, ℕ, List, [], ◌∷◌, ◌++◌, refl, sym, subst, ap, Option, None, Some, Result, Ok, Err, inl, inr}
 use Rattle.std.specs.Prelude.{MatchResult, IsErrAnd}
 use Rattle.std.specs.Io.KnownBytes.{Keeps}
+use Rattle.std.proofs.KnownBytes.{Keeps-refl}
 use Rattle.sqlite.specs.Store.{Ghosts}
 use Rattle.sqlite.specs.Steps.{over_memory, IsEmpty}
 use Rattle.sqlite.specs.State.{HasCleanDisk}
@@ -19,7 +20,7 @@ use Rattle.bike_desk.specs.declared.fault.DeskFault.{DeskFault}
 use Rattle.bike_desk.specs.declared.fault.DeskFault.TheVariants.{NoMemory, StoreFailed, Stopped}
 use Rattle.bike_adoption.specs.declared.adoption.AdoptFault.{AdoptFault}
 use Rattle.bike_adoption.specs.declared.adoption.AdoptFault.TheVariants as adopt
-use Rattle.bike_adoption.specs.Adoption.{IsWant}
+use Rattle.bike_adoption.specs.Adoption.{IsWant, handed, Adopts}
 use Rattle.bike_migrate.specs.Raising as raising
 use Rattle.bike_migrate.specs.declared.fault.RaiseFault.{RaiseFault}
 use Rattle.bike_migrate.specs.declared.fault.RaiseFault.TheVariants as raise
@@ -50,6 +51,36 @@ some_left g desk s (Some StoreFailed) r db h = elim (r.ends.3 db h) [
   | inr later ↦ (r.calls ++ r.ends.1 ∷ [], calls_push r.calls r.ends.1 r.good r.ends.2, later)
 ]
 some_left g desk s (Some Stopped) r db h = absurd r.ends
+
+-- ---- a connection that was taken into service
+
+module _ {S : Type 0} (g : Ghosts S) (new : DeskValue S) {last : Held S} (same : last ≡ new.conn) (clean : HasCleanDisk (state g last)) where
+  -- the store was clean when the desk ended, and when it began
+  pub ended_clean : HasCleanDisk (desk_state g new)
+  ended_clean = subst (λ (h : Held S). HasCleanDisk (state g h)) same clean
+
+  pub began_clean : (desk : DeskValue S) → doubt (desk_state g desk).is_clean ≤ doubt (desk_state g new).is_clean → HasCleanDisk (desk_state g desk)
+  began_clean desk le = let now = ended_clean in omega (arith, now, le)
+
+-- ---- or was handed back
+
+module _ {S : Type 0} (g : Ghosts S) {first last : Held S} (fault : AdoptFault S) (adopts : Adopts g first (Err fault)) (conn : last ≡ handed fault) (clean : HasCleanDisk (state g last)) where
+  still_clean : HasCleanDisk (state g (handed fault))
+  still_clean = subst (λ (h : Held S). HasCleanDisk (state g h)) conn clean
+
+  pub refuses : {input old : Option (List ℕ)} (told : Fault) → told ≡ adopt_fault fault → Refuses g input input old old first last (Err told)
+  refuses {input} {old} told is = record {
+    fault = fault;
+    told = ap Err is;
+    why = adopts.told still_clean;
+    want = λ s stands. adopts.refused s stands still_clean;
+    conn = conn;
+    read = Keeps-refl input;
+    written = Keeps-refl old;
+  }
+
+  pub refused_left : (s : Operator) → TreesStandFor s (state g first).now.trees → IsTrue (state g first).is_open → AllLeft (state g last) (TreesStandFor s)
+  refused_left s stands live = subst (λ (h : Held S). AllLeft (state g h) (TreesStandFor s)) (sym conn) (adopts.left s stands live still_clean)
 
 -- ---- a database in memory
 

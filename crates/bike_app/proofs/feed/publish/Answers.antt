@@ -1,12 +1,11 @@
-use Rattle.std.proofs.Common.{arith, inl, inr, ap, Err, rules}
-use Rattle.sqlite.specs.State.{HasCleanDisk}
-use Rattle.bike_desk.specs.Desk.{desk_state}
+use Rattle.std.proofs.Common.{inl, inr}
+use Rattle.bike_app.proofs.ProgramLemmas.{began_clean, ended_clean, refuses, refused_left}
 use Rattle.bike_app.proofs.feed.publish.Goals as goal
 
 pub returns-in-Ok-clause-told : goal.returns-in-Ok-clause-told
 returns-in-Ok-clause-told g c clean =
-    let now : HasCleanDisk (desk_state g.S.Store c.publish_at-end.new.desk) = rw c.close.ensures.same at clean in
-    let early : HasCleanDisk (desk_state g.S.Store c.in-Ok.desk) = omega (arith, now, c.publish_at-end.ensures.clean) in
+    let now = ended_clean g.S.Store c.publish_at-end.new.desk c.close.ensures.same clean in
+    let early = began_clean g.S.Store c.publish_at-end.new.desk c.close.ensures.same clean c.in-Ok.desk c.publish_at-end.ensures.clean in
     let it = c.in-Ok.ensures.only early in
     inr (record {
       desk = c.publish_at-end.new.desk;
@@ -18,23 +17,12 @@ returns-in-Ok-clause-told g c clean =
 
 pub returns-in-Ok-clause-kept : goal.returns-in-Ok-clause-kept
 returns-in-Ok-clause-kept g c clean s stands live =
-    let now : HasCleanDisk (desk_state g.S.Store c.publish_at-end.new.desk) = rw c.close.ensures.same at clean in
-    let early : HasCleanDisk (desk_state g.S.Store c.in-Ok.desk) = omega (arith, now, c.publish_at-end.ensures.clean) in
+    let now = ended_clean g.S.Store c.publish_at-end.new.desk c.close.ensures.same clean in
+    let early = began_clean g.S.Store c.publish_at-end.new.desk c.close.ensures.same clean c.in-Ok.desk c.publish_at-end.ensures.clean in
     rw c.close.ensures.same (c.publish_at-end.ensures.left now s (c.in-Ok.ensures.found s stands early))
 
 pub returns-in-Err-clause-told : goal.returns-in-Err-clause-told
-returns-in-Err-clause-told g c clean =
-    let now = rw c.taken_from-conn.ensures.conn at clean in
-    inl (record {
-      fault = c.in-Err.fault;
-      told = ap Err c.taken_from-conn.ensures.told;
-      why = c.in-Err.ensures.told now;
-      want = λ s stands. c.in-Err.ensures.refused s stands now;
-      conn = c.taken_from-conn.ensures.conn;
-      read = search rules;
-      written = search rules;
-    })
+returns-in-Err-clause-told g c clean = inl (refuses g.S.Store c.in-Err.fault c.in-Err.ensures c.taken_from-conn.ensures.conn clean _ c.taken_from-conn.ensures.told)
 
 pub returns-in-Err-clause-kept : goal.returns-in-Err-clause-kept
-returns-in-Err-clause-kept g c clean s stands live =
-    rw c.taken_from-conn.ensures.conn (λ db h. c.in-Err.ensures.left s stands live (rw c.taken_from-conn.ensures.conn at clean) db h)
+returns-in-Err-clause-kept g c clean s stands live = refused_left g.S.Store c.in-Err.fault c.in-Err.ensures c.taken_from-conn.ensures.conn clean s stands live
