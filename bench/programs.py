@@ -98,13 +98,13 @@ def in_memory(data=b""):
     return file
 
 
-def run(program, *words, given=b""):
-    """Runs a program to its end on an input, and returns what it took, with its output."""
+def run(program, *words, given=b"", statuses=(0,)):
+    """Runs a program to its end on an input, and returns what it took, with its output; any other status is a fault."""
     with in_memory(given) as source, in_memory() as target:
         used = Process([*program.words, *words], source, target).end()
         target.seek(0)
         used.output = target.read()
-    if used.status:
+    if used.status not in statuses:
         raise Failed(f"{program.name} {words[0]}: status {used.status}; it said {used.said.strip()[:200]}")
     return used
 

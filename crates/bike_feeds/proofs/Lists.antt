@@ -2,30 +2,25 @@
 use Rattle.std.proofs.Common.{◌≡◌, ℕ, List, [], ◌∷◌, map, find, Bool, true, false, cond, ◌&&◌, Option, Some, None, option_map, T, refl, sym, ap, ap₂, subst}
 use Rattle.std.specs.Prelude.{slice_get}
 use Rattle.std.specs.Ordering.{is_lt}
-use Rattle.std.specs.FinMap.{entries, entries_sorted}
+use Rattle.std.specs.FinMap.{FinMap, entries, entries_sorted}
 use Rattle.std.specs.FinMap.Entries as list
-use Rattle.bike_catalogue.specs.Rows.{PlanRow, TypeRow, RegionRow, SystemRow}
-use Rattle.bike_json.specs.Tree.{text}
+use Rattle.bike_catalogue.specs.Rows.{SystemRow}
+use Rattle.bike_json.specs.Tree.{Tree, text}
 use Rattle.bike_operator.specs.Operator.{Operator, Station, text_cmp}
 use Rattle.bike_feed_texts.specs.Elements.{status_tree}
-use Rattle.bike_feed_texts.specs.Trees.{report_of, counts_of, names_by_language, further_languages, type_element, station_element, plan_element, region_element}
+use Rattle.bike_feed_texts.specs.Trees.{report_of, counts_of, names_by_language, further_languages, station_element}
 use Rattle.bike_queries.specs.After.{IsNext, next_language}
 use Rattle.bike_feeds.proofs.WalkLemmas.{Walk, map_walk}
 
-abbrev pub types : SystemRow → Walk TypeRow
-types x = map_walk (λ t. t.type_id) (λ s. type_element s x) (λ s. s.types)
+-- what is listed by an identifier, as it says itself
+abbrev pub listed : {X : Type 0} → (X → List ℕ) → (Operator → SystemRow → X → Tree) → (Operator → FinMap text_cmp X) → SystemRow → Walk X
+listed key element held x = map_walk key (λ s. element s x) held
 
 abbrev pub stations : SystemRow → Walk Station
 stations x = map_walk (λ y. y.row.station_id) (λ s. station_element s x) (λ s. s.stations)
 
 abbrev pub statuses : Walk Station
 statuses = map_walk (λ y. y.row.station_id) (λ s y. status_tree (report_of y) (counts_of s y)) (λ s. s.stations)
-
-abbrev pub plans : SystemRow → Walk PlanRow
-plans x = map_walk (λ p. p.plan_id) (λ s. plan_element s x) (λ s. s.plans)
-
-abbrev pub regions : SystemRow → Walk RegionRow
-regions x = map_walk (λ r. r.region_id) (λ s. region_element s x) (λ s. s.regions)
 
 -- ---- the languages
 

@@ -1,28 +1,30 @@
 -- Further names, which are asked for only where there are any.
-use Rattle.std.proofs.Common.{◌≡◌, ◌≤◌, ℕ, List, [], ◌∷◌, map, Bool, false, Option, Some, None, option_map, Result, Ok, Err, refl, sym, ap, ap₂, ◌∙◌, subst, arith}
+use Rattle.std.proofs.Common.{◌≡◌, ◌≢◌, ◌≤◌, ℕ, List, [], ◌∷◌, map, Bool, false, Option, Some, None, option_map, Result, Ok, Err, refl, sym, ap, ◌∙◌, subst, arith}
 use Rattle.std.specs.Prelude.{is_some, slice_get, IfOk}
-use Rattle.std.specs.FinMap.{entries}
+use Rattle.std.specs.Result.{IsErrAnd}
+use Rattle.std.specs.FinMap.{FinMap, entries}
 use Rattle.sqlite_trees.specs.View.{doubt}
 use Rattle.sqlite_trees.specs.declared.store.Store.{Ghosts}
 use Rattle.sqlite.specs.State.{HasCleanDisk}
-use Rattle.bike_catalogue.specs.Rows.{MoreNameRow}
+use Rattle.bike_catalogue.specs.Rows.{MoreNameRow, SystemRow}
 use Rattle.bike_json.specs.Outputs.{OutputState}
 use Rattle.bike_json.specs.Tree.{Tree}
 use Rattle.bike_json.specs.State.{Place, IsAt as IsIn, after_value}
 use Rattle.bike_operator.specs.NameKind.{NameKind}
-use Rattle.bike_operator.specs.Operator.{Operator}
+use Rattle.bike_operator.specs.Operator.{Operator, text_cmp}
 use Rattle.bike_operator.specs.Names.{further_names}
 use Rattle.bike_feed_texts.specs.Trees.{names_by_language}
 use Rattle.bike_feed_texts.specs.Writing.{WroteValue}
 use Rattle.bike_feed_texts.proofs.Languages.{no_further_names}
 use Rattle.bike_queries.specs.After.{next_language}
 use Rattle.bike_desk.specs.declared.fault.DeskFault.{DeskFault}
+use Rattle.bike_desk.specs.declared.fault.DeskFault.TheVariants.{NoMemory}
 use Rattle.bike_desk.specs.Desk.{DeskValue, desk_state, IsAt}
 use Rattle.bike_desk.specs.Queries.{Queries}
 use Rattle.bike_queries.specs.Pages.{IsTold}
-use Rattle.bike_feeds.specs.Walking.{StaysAt}
 use Rattle.bike_feeds.proofs.DeskLemmas.{earlier, going_only}
-use Rattle.bike_feeds.proofs.WalkLemmas.{Walk, Walks, Passes, goes_asked, walk_writes}
+use Rattle.bike_feeds.proofs.Lists.{listed}
+use Rattle.bike_feeds.proofs.WalkLemmas.{Walks, Passes, goes_asked, walk_writes}
 
 -- ---- the two questions
 
@@ -33,6 +35,13 @@ no_first (e ∷ es) none = absurd (cc none)
 
 pub told_first : (s : Operator) (first : Option (List ℕ)) → first ≡ next_language None s → IsTold (is_some first) s
 told_first s first is none = no_first (entries (names_by_language s)) (sym (ap is_some is) ∙ none)
+
+-- the fault of one question as that of another
+told_of : {A B : Type 0} (fault other : DeskFault) {y : DeskFault} → other ≡ fault → ◌≡◌ {A = Result B DeskFault} (Err other) (Err y) → ◌≡◌ {A = Result A DeskFault} (Err fault) (Err y)
+told_of fault other told is = cc
+
+told_as : {A B : Type 0} (fault other : DeskFault) {y : DeskFault} → other ≡ fault → ◌≡◌ {A = Result A DeskFault} (Err fault) (Err y) → ◌≡◌ {A = Result B DeskFault} (Err other) (Err y)
+told_as fault other told is = cc
 
 module _ {S A : Type 0} (g : Ghosts S) {says : Operator → A → Type 0} {d e : DeskValue S} where
   -- an answer that follows from the one that came
@@ -65,6 +74,58 @@ tells_so g r means query = record {
   stopped = query.stopped;
   stays = query.stays;
 }
+
+module _ {S A C : Type 0} (g : Ghosts S) {says : Operator → A → Type 0} {so : Operator → C → Type 0} {d e : DeskValue S} where
+  -- a question that failed
+  pub fails_so : (fault : DeskFault) (result : Result C DeskFault) → IsErrAnd result (λ told. told ≡ fault) → Queries g d e {A = A} (Err fault) says → Queries g d e result so
+  fails_so fault (Ok x) told query = absurd told
+  fails_so fault (Err other) told query = record {
+    clean = query.clean;
+    ok = λ clean s at. tt;
+    goes_on = tt;
+    left = query.left;
+    no_memory = λ is. query.no_memory (told_of fault other told is);
+    stops = λ is. query.stops (told_of fault other told is);
+    stopped = λ is. query.stopped (told_of fault other told is);
+    stays = λ is_stopped. let it = query.stays is_stopped in (told_as fault other told it.0, it.1);
+  }
+
+module _ {S A B C : Type 0} (g : Ghosts S) {says : Operator → A → Type 0} {and : Operator → B → Type 0} {so : Operator → C → Type 0} {d e f : DeskValue S} where
+  -- one that failed behind one that was answered
+  pub fails_behind : (x : A) (fault : DeskFault) (result : Result C DeskFault) → IsErrAnd result (λ told. told ≡ fault) → d.is_stopped ≡ false
+      → Queries g d e (Ok x) says → Queries g e f {A = B} (Err fault) and → ◌≢◌ {A = Result B DeskFault} (Err fault) (Err NoMemory) → Queries g d f result so
+  fails_behind x fault (Ok y) told going first second takes_none = absurd told
+  fails_behind x fault (Err other) told going first second takes_none = record {
+    clean = omega (arith, first.clean, second.clean);
+    ok = λ clean s at. tt;
+    goes_on = tt;
+    left = λ clean s at db h.
+        let before = earlier g e f second.clean clean in
+        first.left before s at db (second.left clean s (first.ok before s at).1 db h);
+    no_memory = λ is. absurd (takes_none (told_of fault other told is));
+    stops = λ is. second.stops (told_of fault other told is);
+    stopped = λ is. absurd (going_only _ first.goes_on (second.stopped (told_of fault other told is)));
+    stays = λ is_stopped. absurd (going_only _ going is_stopped);
+  }
+
+  -- two that were answered
+  pub both_answered : (x : A) (y : B) (z : C) → d.is_stopped ≡ false → ((s : Operator) → says s x → and s y → so s z)
+      → Queries g d e (Ok x) says → Queries g e f (Ok y) and → Queries g d f (Ok z) so
+  both_answered x y z going means first second = record {
+    clean = omega (arith, first.clean, second.clean);
+    ok = λ clean s at.
+        let one = first.ok (earlier g e f second.clean clean) s at in
+        let two = second.ok clean s one.1 in
+        (means s one.0 two.0, two.1);
+    goes_on = second.goes_on;
+    left = λ clean s at db h.
+        let before = earlier g e f second.clean clean in
+        first.left before s at db (second.left clean s (first.ok before s at).1 db h);
+    no_memory = λ is. absurd cc;
+    stops = λ is. absurd cc;
+    stopped = λ is. absurd cc;
+    stays = λ is_stopped. absurd (going_only _ going is_stopped);
+  }
 
 -- nothing is asked
 pub unasked : {S A : Type 0} (g : Ghosts S) {says : Operator → A → Type 0} {d : DeskValue S} (x : A) → d.is_stopped ≡ false → ((s : Operator) → says s x)
@@ -104,33 +165,14 @@ module _ {S : Type 0} (g : Ghosts S) where
       → Queries g e f r says → HasCleanDisk (desk_state g f) → (s : Operator) → IsAt g d s → IsTold translated s
   told_asked {e = e} {f = f} told query clean s at = told.are (earlier g e f query.clean clean) s at
 
-  -- names were answered, as a value that holds them
-  module _ {A : Type 0} (items : A → List MoreNameRow) (translated : Bool) where
-    abbrev pub Names : NameKind → List ℕ → DeskValue S → DeskValue S → A → Type 0
-    Names kind id old new answer = Queries g old new (Ok answer) (λ s names. IsTold translated s → items names ≡ further_names s kind id)
-
-    names_known : (kind : NameKind) (id : List ℕ) {d e f : DeskValue S} (answer : A) → Told translated d e → StaysAt g d e → Names kind id e f answer
-        → HasCleanDisk (desk_state g f) → (s : Operator) → IsAt g d s → items answer ≡ further_names s kind id
-    names_known kind id {e = e} {f = f} answer told stays query clean s at =
+  -- its names were answered, and it is written with them
+  module _ {X N : Type 0} (tree : SystemRow → X → N → Tree) (element : Operator → SystemRow → X → Tree) (key : X → List ℕ) (held : Operator → FinMap text_cmp X) (x : SystemRow) where
+    pub named_writes : (translated : Bool) (it : X) (names : N) {d e f : DeskValue S} {p q r : Place} {a b c : OutputState} → Told translated d e
+        → Walks g (listed key element held x) (Some it) d e p q a b
+        → Queries g e f (Ok names) (λ s names. IsTold translated s → (y : SystemRow) → tree y it names ≡ element s y it)
+        → IsIn r (after_value q.top) q.round → WroteValue q r b c (tree x it names) → Passes g (listed key element held x) it d f p r a c
+    named_writes translated it names {e = e} {f = f} {q = q} {r = r} {b = b} {c = c} told walks query place wrote =
+        walk_writes g (listed key element held x) it (goes_asked g (listed key element held x) names walks query) (λ clean s at.
         let before = earlier g e f query.clean clean in
-        (query.ok clean s (stays.same before s at)).0 (told.are before s at)
-
-    module _ {X : Type 0} (w : Walk X) (x : X) (kind : NameKind) (id : List ℕ) {d e f : DeskValue S} {p q r : Place} {a b c : OutputState} (answer : A)
-        (told : Told translated d e) (walks : Walks g w (Some x) d e p q a b) (query : Names kind id e f answer) (place : IsIn r (after_value q.top) q.round) where
-      -- an element is written with them
-      pub named_writes : {lent : List MoreNameRow} (tree : List MoreNameRow → Tree) → lent ≡ items answer → ((s : Operator) → w.tree s x ≡ tree (further_names s kind id))
-          → WroteValue q r b c (tree lent) → Passes g w x d f p r a c
-      named_writes tree is same wrote =
-          walk_writes g w x (goes_asked g w answer walks query) (λ clean s at.
-          subst (λ (t : Tree). WroteValue q r b c t) (ap tree (is ∙ names_known kind id answer told walks.stays query clean s at) ∙ sym (same s)) wrote) place
-
-      -- and with others of the same identifier
-      pub twice_named_writes : {h : DeskValue S} (other : NameKind) (again : A) {lent more : List MoreNameRow} (tree : List MoreNameRow → List MoreNameRow → Tree)
-          → Names other id f h again → lent ≡ items answer → more ≡ items again → ((s : Operator) → w.tree s x ≡ tree (further_names s kind id) (further_names s other id))
-          → WroteValue q r b c (tree lent more) → Passes g w x d h p r a c
-      twice_named_writes {h = h} other again tree second is are same wrote =
-          let behind = goes_asked g w answer walks query in
-          walk_writes g w x (goes_asked g w again behind second) (λ clean s at.
-          let names = is ∙ names_known kind id answer told walks.stays query (earlier g f h second.clean clean) s at in
-          let others = are ∙ names_known other id again (told_later told query.clean) behind.stays second clean s at in
-          subst (λ (t : Tree). WroteValue q r b c t) (ap₂ tree names others ∙ sym (same s)) wrote) place
+        let same = (query.ok clean s (walks.stays.same before s at)).0 (told.are before s at) x in
+        subst (λ (t : Tree). WroteValue q r b c t) same wrote) place

@@ -1,5 +1,5 @@
 -- The stations of a page between the questions: what is left of it, and what the next one is.
-use Rattle.std.proofs.Common.{◌≡◌, ℕ, zero, suc, List, [], ◌∷◌, ◌++◌, length, take, drop, Option, Some, None, Result, Ok, option_map, option_to_list, refl, sym, ap, ◌∙◌, subst, arith}
+use Rattle.std.proofs.Common.{◌≡◌, ◌<◌, ℕ, zero, suc, List, [], ◌∷◌, ◌++◌, length, take, drop, Option, Some, None, Result, Ok, option_map, option_to_list, refl, sym, ap, ◌∙◌, subst, arith}
 use Rattle.std.specs.Prelude.{slice_get, IfSome}
 use Rattle.std.specs.List.{AllZip}
 use Rattle.sqlite_trees.specs.declared.store.Store.{Ghosts}
@@ -33,9 +33,11 @@ module _ {X : Type 0} (IsOf : List ℕ × Station → X → Type 0) where
   as_many (suc n) (e ∷ es) [] all = absurd all
   as_many (suc n) (e ∷ es) (x ∷ xs) all = (all.0, as_many n es xs all.1)
 
-  none_zipped : (n : ℕ) (es : List (List ℕ × Station)) → AllZip IsOf (take (suc n) es) [] → slice_get es 0 ≡ None
-  none_zipped n [] all = refl
-  none_zipped n (e ∷ es) all = absurd all
+  -- where the first ones are none, there are none
+  none_zipped : (n : ℕ) (es : List (List ℕ × Station)) → 0 < n → AllZip IsOf (take n es) [] → slice_get es 0 ≡ None
+  none_zipped zero es some all = absurd (omega (arith, some))
+  none_zipped (suc n) [] some all = refl
+  none_zipped (suc n) (e ∷ es) some all = absurd all
 
   -- nothing is left of a page
   pub none_ahead : (s : Operator) (after : Option (List ℕ)) (xs : List X) → xs ≡ [] → AreAhead IsOf s after xs
@@ -65,7 +67,7 @@ module _ {X : Type 0} (IsOf : List ℕ × Station → X → Type 0) where
       → AllZip IsOf (page_after after s.stations) xs → TakesNext IsOf s after o left
   takes_first s after xs (Some x) left is rest all = takes_next s after xs x left is (page_ahead s after xs all)
   takes_first s after xs None left is rest all =
-      first_is after s.stations ∙ none_zipped 31 (entries_after after s.stations) (subst (AllZip IsOf (page_after after s.stations)) (no_items xs (is ∙ rest)) all)
+      first_is after s.stations ∙ none_zipped STATIONS_A_PAGE (entries_after after s.stations) (omega arith) (subst (AllZip IsOf (page_after after s.stations)) (no_items xs (is ∙ rest)) all)
 
 -- the next one, as its station
 pub next_is : {X : Type 0} (IsOf : List ℕ × Station → X → Type 0) (station : X → Station) → ((e : List ℕ × Station) (x : X) → IsOf e x → (station x ≡ e.1) × ((station x).row.station_id ≡ e.0))

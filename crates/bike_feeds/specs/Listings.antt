@@ -10,6 +10,7 @@ use Rattle.bike_feed_texts.specs.Trees.{feed_frame, listing, report_of, counts_o
 use Rattle.bike_feeds.specs.declared.listing.Listing.{Listing}
 use Rattle.bike_feeds.specs.declared.listing.Listing.TheVariants.{Types, Stations, Statuses, Plans, Regions}
 
+-- the name of the list
 abbrev pub list_name : Listing → List ℕ
 list_name Types = codes "vehicle_types"
 list_name Stations = codes "stations"
@@ -17,6 +18,7 @@ list_name Statuses = codes "stations"
 list_name Plans = codes "plans"
 list_name Regions = codes "regions"
 
+-- the stations' statuses, each with the station's counts
 abbrev pub statuses : Operator → Items
 statuses s = items (λ station. status_tree (report_of station) (counts_of s station)) (values s.stations)
 

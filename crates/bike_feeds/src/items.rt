@@ -1,6 +1,7 @@
 //! The elements of the feeds' lists, each read from the desk as it is written, with its further names.
 
 ghost use Rattle.std.specs.Prelude.{◌≡◌, ◌<◌, ◌∷◌, IsTrue, length, false, is_ok, not};
+ghost use Rattle.std.specs.FinMap.{values};
 ghost use Rattle.bike_json.specs.Rows.{items};
 ghost use Rattle.bike_json.specs.State.{IsAt as IsIn, takes_value, after_value};
 ghost use Rattle.bike_json.specs.Tree.{text};
@@ -10,18 +11,16 @@ ghost use Rattle.bike_feed_texts.specs.Writing.{WroteValue, in_list};
 ghost use Rattle.bike_queries.specs.After.{station_of};
 ghost use Rattle.bike_feeds.specs.Listings.{elements, statuses};
 ghost use Rattle.bike_feeds.specs.Walking.{WritesItems, shown_counts};
-ghost use Rattle.bike_feeds.specs.declared.listing.Listing.TheVariants.{Types, Stations, Plans, Regions};
+ghost use Rattle.bike_feeds.specs.declared.listing.Listing.TheVariants.{Stations};
 
 use crate::fault::FeedFault;
+use crate::listed::Listed;
 use crate::listing::Listing;
-use crate::names::{find_names, is_translated};
+use crate::names::is_translated;
 use crate::pages::{next_station, next_status};
-use bike_catalogue::{NameKind, System};
+use bike_catalogue::{Plan, Region, System, VehicleType};
 use bike_desk::Desk;
-use bike_feed_texts::{
-    Counts, StationReport, write_language, write_plan, write_region, write_station, write_status,
-    write_type,
-};
+use bike_feed_texts::{Counts, StationReport, write_language, write_station, write_status};
 use bike_json::{JsonState, Level, Output};
 use bike_queries::{NamedStation, StationStatus};
 use bike_stream::WriteFault;
@@ -29,8 +28,8 @@ use sqlite::Alter;
 use std::alloc::Global;
 use std::collections::VecDeque;
 
-/// Writes the vehicle types as items.
-fn write_types<S: Alter, W: Output>(
+/// Writes what the feed lists as items, each read as it is written.
+fn write_listed<L: Listed, S: Alter, W: Output>(
     alloc: Global,
     desk: &mut Desk<S>,
     system: &System,
@@ -40,18 +39,18 @@ fn write_types<S: Alter, W: Output>(
     requires going { desk.old.is_stopped ≡ false }
     requires place { IsIn json.old Level.EmptyArray in_list }
     ensures { WritesItems S.Store desk.old desk.new json.old json.new (W.contents out.old) (W.contents out.new) result
-        (λ s. elements s system.now Types) }
+        (λ s. items (L.element s system.now) (values (L.held s))) }
 {
     let translated = is_translated(alloc, desk)?;
-    let mut next = desk.type_after(alloc, None)?;
-    'types: while json.count() < u64::MAX {
-        let Some(vehicle_type) = next else {
+    let mut next = L::next_after(alloc, desk, None)?;
+    'list: while json.count() < u64::MAX {
+        let Some(listed) = next else {
             return Ok(());
         };
-        let id = vehicle_type.type_id();
-        let names = find_names(alloc, desk, translated, NameKind::Type, id)?;
-        write_type(json, out, system, &vehicle_type, names.as_slice())?;
-        next = desk.type_after(alloc, Some(id))?;
+        let names = listed.further(alloc, desk, translated)?;
+        listed.write(json, out, system, &names)?;
+        let id = listed.identifier();
+        next = L::next_after(alloc, desk, Some(id))?;
     }
     // No count is greater.
     Err(FeedFault::Write)
@@ -162,70 +161,6 @@ fn write_statuses<S: Alter, W: Output>(
     Err(FeedFault::Write)
 }
 
-/// Writes the pricing plans as items.
-fn write_plans<S: Alter, W: Output>(
-    alloc: Global,
-    desk: &mut Desk<S>,
-    system: &System,
-    json: &mut JsonState,
-    out: &mut W,
-) -> Result<(), FeedFault>
-    requires going { desk.old.is_stopped ≡ false }
-    requires place { IsIn json.old Level.EmptyArray in_list }
-    ensures { WritesItems S.Store desk.old desk.new json.old json.new (W.contents out.old) (W.contents out.new) result
-        (λ s. elements s system.now Plans) }
-{
-    let translated = is_translated(alloc, desk)?;
-    let mut next = desk.plan_after(alloc, None)?;
-    'plans: while json.count() < u64::MAX {
-        let Some(plan) = next else {
-            return Ok(());
-        };
-        let id = plan.plan_id();
-        let names = find_names(alloc, desk, translated, NameKind::Plan, id)?;
-        let descriptions = find_names(alloc, desk, translated, NameKind::Description, id)?;
-        write_plan(
-            json,
-            out,
-            system,
-            &plan,
-            names.as_slice(),
-            descriptions.as_slice(),
-        )?;
-        next = desk.plan_after(alloc, Some(id))?;
-    }
-    // No count is greater.
-    Err(FeedFault::Write)
-}
-
-/// Writes the regions as items.
-fn write_regions<S: Alter, W: Output>(
-    alloc: Global,
-    desk: &mut Desk<S>,
-    system: &System,
-    json: &mut JsonState,
-    out: &mut W,
-) -> Result<(), FeedFault>
-    requires going { desk.old.is_stopped ≡ false }
-    requires place { IsIn json.old Level.EmptyArray in_list }
-    ensures { WritesItems S.Store desk.old desk.new json.old json.new (W.contents out.old) (W.contents out.new) result
-        (λ s. elements s system.now Regions) }
-{
-    let translated = is_translated(alloc, desk)?;
-    let mut next = desk.region_after(alloc, None)?;
-    'regions: while json.count() < u64::MAX {
-        let Some(region) = next else {
-            return Ok(());
-        };
-        let id = region.region_id();
-        let names = find_names(alloc, desk, translated, NameKind::Region, id)?;
-        write_region(json, out, system, &region, names.as_slice())?;
-        next = desk.region_after(alloc, Some(id))?;
-    }
-    // No count is greater.
-    Err(FeedFault::Write)
-}
-
 /// Writes the elements of the list as items.
 pub(crate) fn write_elements<S: Alter, W: Output>(
     alloc: Global,
@@ -241,11 +176,11 @@ pub(crate) fn write_elements<S: Alter, W: Output>(
         (λ s. elements s system.now listing) }
 {
     match listing {
-        Listing::Types => write_types(alloc, desk, system, json, out),
+        Listing::Types => write_listed::<VehicleType, S, W>(alloc, desk, system, json, out),
         Listing::Stations => write_stations(alloc, desk, system, json, out),
         Listing::Statuses => write_statuses(alloc, desk, json, out),
-        Listing::Plans => write_plans(alloc, desk, system, json, out),
-        Listing::Regions => write_regions(alloc, desk, system, json, out),
+        Listing::Plans => write_listed::<Plan, S, W>(alloc, desk, system, json, out),
+        Listing::Regions => write_listed::<Region, S, W>(alloc, desk, system, json, out),
     }
 }
 

@@ -9,6 +9,7 @@ mod fault;
 mod feed;
 mod items;
 mod list;
+mod listed;
 mod listing;
 mod names;
 mod pages;

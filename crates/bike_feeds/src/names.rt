@@ -1,6 +1,6 @@
 //! Names in further languages, asked for only where there are any.
 
-ghost use Rattle.std.specs.Prelude.{◌≡◌, false};
+ghost use Rattle.std.specs.Prelude.{◌≡◌, ◌≢◌, false, Err};
 ghost use Rattle.bike_operator.specs.Names.{further_names};
 ghost use Rattle.bike_queries.specs.Pages.{IsTold};
 ghost use Rattle.bike_desk.specs.Queries.{Queries};
@@ -28,7 +28,9 @@ pub(crate) fn find_names<S: Alter>(
     id: &Ident,
 ) -> Result<Vec<MoreName>, DeskFault>
     requires { desk.old.is_stopped ≡ false }
-    ensures { Queries S.Store desk.old desk.new result (λ s names. IsTold translated s → names.items ≡ further_names s kind id.now) }
+    ensures query { Queries S.Store desk.old desk.new result
+        (λ s names. IsTold translated s → names.items ≡ further_names s kind id.now) }
+    ensures takes_none { result ≢ Err DeskFault.NoMemory }
 {
     if !translated {
         return Ok(Vec::new(alloc));
