@@ -4,6 +4,6 @@ use Rattle.bike_schema.proofs.ReadLemmas.{text_read}
 use Rattle.bike_accounts.proofs.RowLemmas.{made_if}
 use Rattle.bike_accounts.proofs.names.language_at.Goals as goal
 
-pub returns : goal.returns
+pub returns-clause-read : goal.returns-clause-read
 unfolding language_of
-returns c = made_if _ c.ok_or.result _ _ c.ok_or.ensures.value c.in_ok-read.ensures (λ language stored. c.as_str.ensures.value ∙ text_read c.in_ok-text.ensures.ok stored)
+returns-clause-read c = made_if _ c.ok_or.result _ _ c.ok_or.ensures.value c.in_ok-read.ensures (λ language stored. c.as_str.ensures.value ∙ text_read c.in_ok-text.ensures.ok stored)
