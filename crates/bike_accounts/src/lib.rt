@@ -16,7 +16,7 @@ mod segments;
 pub use entries::entry_count;
 pub use kept::{KeptRow, find_kept};
 pub use meta::{MetaRow, find_meta};
-pub use names::{find_names, find_system_key, language_at};
+pub use names::{find_names, find_system_key};
 pub use newest::newest_tells;
 pub use plans::{are_plans_full, find_plan, has_plan, has_system};
 pub use rentals::{StoredRental, find_rental, is_riding, open_rental_count, rental_count};

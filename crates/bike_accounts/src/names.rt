@@ -1,18 +1,14 @@
 //! Names in further languages, and the system's own language.
 
-ghost use Rattle.std.specs.Prelude.{◌≡◌, ◌≤◌, [], ◌∷◌, IfOk, Err, None, length, map, option_map, option_and_then};
+ghost use Rattle.std.specs.Prelude.{◌≡◌, ◌≤◌, [], ◌∷◌, IfOk, length, map, option_map};
 ghost use Rattle.std.specs.List.{AllZip};
 ghost use Rattle.sqlite_value.specs.declared.value.Value.TheVariants.{Text};
-ghost use Rattle.sqlite_value.specs.Order.{column};
 ghost use Rattle.bike_operator.specs.declared.limits.TheConstants.{MOST_FURTHER_NAMES};
 ghost use Rattle.bike_operator.specs.NameKinds.{kind_text};
 ghost use Rattle.bike_operator.specs.Names.{further_names};
 ghost use Rattle.bike_book.specs.Tables.{MoreNames};
 ghost use Rattle.bike_book.specs.Rows.{system_row};
 ghost use Rattle.bike_book.specs.Found.{rows_by};
-ghost use Rattle.bike_fields.specs.Bytes.{language_of};
-ghost use Rattle.bike_schema.specs.Columns.{text_in};
-ghost use Rattle.bike_schema.specs.declared.fault.StatementFault.TheVariants.{StoreFailed};
 ghost use Rattle.bike_schema.specs.Answers.{Answers};
 ghost use Rattle.bike_accounts.specs.Accounts.{system_key};
 ghost use Rattle.bike_accounts.specs.ReadRows.{IsNamedBy, shown_name};
@@ -21,7 +17,7 @@ use crate::plans::find_system_row;
 use bike_catalogue::{MoreName, NameKind};
 use bike_fields::{Ident, Language};
 use bike_operator::MOST_FURTHER_NAMES;
-use bike_schema::{StatementFault, ident_at, name_at, text_at};
+use bike_schema::{StatementFault, ident_at, language_at, name_at};
 use sqlite::{Alter, Connection, Row, params};
 use std::alloc::Global;
 
@@ -39,15 +35,6 @@ fn find_name_rows<S: Alter>(
         params![kind.as_str(), id.as_str()],
     )?;
     Ok(rows)
-}
-
-/// The column as a language. `NoMemory` where it finds no room; any other column is `StoreFailed`, and no language is.
-pub fn language_at(alloc: Global, row: &Row, at: usize) -> Result<Language, StatementFault>
-    ensures read { IfOk result (λ x. (language : _) → column row.now at ≡ Text language → x ≡ language) }
-    ensures failed { result ≡ Err StoreFailed → option_and_then language_of (text_in (column row.now at)) ≡ None }
-{
-    let text = text_at(alloc, row, at)?;
-    Language::read(alloc, text.as_str())?.ok_or(StatementFault::StoreFailed)
 }
 
 /// The name that stands beside its language, whatever has it.

@@ -1,9 +1,9 @@
 -- The escapes of a text, run by run.
-use Rattle.std.proofs.Common.{◌≡◌, ℕ, ◌+◌, ◌-◌, ◌<◌, ◌≤◌, List, [], ◌∷◌, ◌++◌, length, get_or, take, drop, slice_range, sym, ap, ◌∙◌, arith, append-nil, length-drop, take-append-drop}
+use Rattle.std.proofs.Common.{◌≡◌, ℕ, ◌+◌, ◌-◌, ◌<◌, ◌≤◌, List, [], ◌∷◌, ◌++◌, length, get_or, take, drop, slice_range, sym, ap, ◌∙◌, arith, append-nil, append_assoc, length-drop, take-append-drop}
 use Rattle.std.proofs.lemmas.List.{take_more, take_rest, get_or-drop}
 use Rattle.std.proofs.lemmas.Grind.{flat_map-append}
 use Rattle.std.proofs.Math.Seq.{take-add}
-use Rattle.bike_json.specs.Escapes.{escaped_byte, json_escapes}
+use Rattle.bike_json.specs.Escapes.{escaped_byte, json_escapes, string_text}
 
 -- a run with one byte more
 run_more : (s : List ℕ) (start i : ℕ) → start ≤ i → i < length s → slice_range s start (i + 1) ≡ slice_range s start i ++ get_or s i 0 ∷ []
@@ -50,3 +50,11 @@ pub run_none : (s : List ℕ) (k : ℕ) → json_escapes (slice_range s k k) ≡
 run_none s k =
     let none : k - k ≡ 0 = omega arith in
     ap (λ n. json_escapes (take n (drop k s))) none ∙ ap (λ n. take n (drop k s)) (sym none)
+
+-- a string with what comes before and behind it, written in three parts
+pub string_in_parts : (before text tail : List ℕ) → ((before ++ 34 ∷ []) ++ json_escapes text) ++ 34 ∷ tail ≡ (before ++ string_text text) ++ tail
+unfolding string_text
+string_in_parts before text tail =
+    append_assoc (before ++ 34 ∷ []) (json_escapes text) (34 ∷ tail)
+    ∙ (append_assoc before (34 ∷ []) (json_escapes text ++ 34 ∷ tail)
+    ∙ (ap (λ l. before ++ 34 ∷ l) (sym (append_assoc (json_escapes text) (34 ∷ []) tail)) ∙ sym (append_assoc before (string_text text) tail)))

@@ -1,7 +1,26 @@
 //! The escapes of a JSON string (RFC 8259, section 7).
 
-ghost use Rattle.std.specs.Prelude.{◌≡◌, ◌<◌, ◌≤◌, ◌∷◌, [], take};
-ghost use Rattle.bike_json.specs.Escapes.{escaped_byte, hex_digit as hex_digit_of};
+ghost use Rattle.std.specs.Prelude.{◌≡◌, ◌<◌, ◌≤◌, ◌∷◌, [], take, true};
+ghost use Rattle.bike_json.specs.Escapes.{escaped_byte, json_escapes, hex_digit as hex_digit_of};
+
+/// Whether each of the bytes stands for itself.
+pub(crate) fn is_plain(bytes: &[u8]) -> bool
+    ensures { result ≡ true → json_escapes bytes.now ≡ bytes.now }
+{
+    for i in 0..bytes.len() {
+        if !stands_for_itself(bytes[i]) {
+            return false;
+        }
+    }
+    true
+}
+
+#[tactic(auto, unfolding(crate::specs::Escapes::escaped_byte))]
+fn stands_for_itself(byte: u8) -> bool
+    ensures { result ≡ true → escaped_byte byte ≡ byte ∷ [] }
+{
+    byte >= 32 && byte != b'"' && byte != b'\\'
+}
 
 /// Puts the escape of a byte at the front of `buf` and gives its length; 0 for a byte that stands for itself.
 #[tactic(auto, unfolding(crate::specs::Escapes::escaped_byte))]

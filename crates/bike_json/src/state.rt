@@ -7,7 +7,7 @@ ghost use Rattle.bike_json.specs.Escapes.{json_escapes, string_text};
 ghost use Rattle.bike_json.specs.Tree.{comma, flag_text};
 ghost use Rattle.bike_json.specs.State.{Wrote, IsAt, outset, takes_value, takes_name, takes_array_end, has_more, after_value};
 
-use crate::escape::escape;
+use crate::escape::{escape, is_plain};
 use crate::level::Level;
 use crate::output::Output;
 use bike_fixed::{Cents, Micro};
@@ -129,9 +129,9 @@ impl JsonState {
         ensures outcome { is_ok result ≡ not self.new.failed }
     {
         let before = self.count;
-        self.separate(out);
-        self.quoted(out, name);
-        self.emit(out, b":");
+        self.open_quote(out);
+        self.escaped(out, name.as_bytes());
+        self.emit(out, b"\":");
         self.top = Level::NamedObject;
         self.settle(before)
     }
@@ -145,8 +145,9 @@ impl JsonState {
         ensures outcome { is_ok result ≡ not self.new.failed }
     {
         let before = self.count;
-        self.separate(out);
-        self.quoted(out, text);
+        self.open_quote(out);
+        self.escaped(out, text.as_bytes());
+        self.emit(out, b"\"");
         self.end_value();
         self.settle(before)
     }
@@ -248,21 +249,35 @@ impl JsonState {
     {
         match self.top {
             Level::FilledArray | Level::FilledObject => self.emit(out, b","),
-            _ => self.emit(out, b""),
+            _ => {}
         }
     }
 
-    fn quoted<W: Output>(&mut self, out: &mut W, text: &str)
-        ensures wrote { Wrote self.old self.new (W.contents out.old) (W.contents out.new) (string_text text.now) }
+    /// The quotation mark that begins a string, behind the comma of a part that isn't the first.
+    fn open_quote<W: Output>(&mut self, out: &mut W)
+        ensures wrote { Wrote self.old self.new (W.contents out.old) (W.contents out.new) (comma (has_more self.old.top) ++ 34 ∷ []) }
         ensures place { IsAt self.new self.old.top self.old.round }
     {
-        self.emit(out, b"\"");
-        self.escaped(out, text.as_bytes());
-        self.emit(out, b"\"");
+        match self.top {
+            Level::FilledArray | Level::FilledObject => self.emit(out, b",\""),
+            _ => self.emit(out, b"\""),
+        }
     }
 
-    /// The bytes with their escapes; those that stand for themselves are written in as few runs as there are.
+    /// The bytes with their escapes.
     fn escaped<W: Output>(&mut self, out: &mut W, bytes: &[u8])
+        ensures wrote { Wrote self.old self.new (W.contents out.old) (W.contents out.new) (json_escapes bytes.now) }
+        ensures place { IsAt self.new self.old.top self.old.round }
+    {
+        if is_plain(bytes) {
+            self.emit(out, bytes);
+        } else {
+            self.escaped_runs(out, bytes);
+        }
+    }
+
+    /// The same; the bytes that stand for themselves are written in as few runs as there are.
+    fn escaped_runs<W: Output>(&mut self, out: &mut W, bytes: &[u8])
         ensures wrote { Wrote self.old self.new (W.contents out.old) (W.contents out.new) (json_escapes bytes.now) }
         ensures place { IsAt self.new self.old.top self.old.round }
     {

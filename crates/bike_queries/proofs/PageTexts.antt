@@ -40,11 +40,11 @@ between_tests place from to = op2 (Compare Gt Binary) (col 1 place) (col 0 from)
 between_test : (v : Value) (start last : List ℕ) → (is_true (binary (Compare Gt Binary) v (Text start)) && (is_true (binary (Compare Le Binary) v (Text last)) && true)) ≡ is_between start last v
 between_test v start last = ap₂ (λ (a b : Bool). a && b) (gt_test v start) (and_true _ ∙ le_test v last)
 
-pub lists_stations_after : (id : List ℕ) → ListsIn (codes "SELECT * FROM stations_3 WHERE station_id > ?1 ORDER BY station_id LIMIT 32") (Text id ∷ []) (λ t. take 32 (filter (is_behind id) t.stations))
+pub lists_stations_after : (id : List ℕ) → ListsIn (codes "SELECT * FROM stations_3 WHERE station_id > ?1 ORDER BY station_id LIMIT 64") (Text id ∷ []) (λ t. take 64 (filter (is_behind id) t.stations))
 unfolding everything
 lists_stations_after id = record {
-  lists = λ db has. subst (HasOneAnswer db _ (Text id ∷ [])) (ap (take 32) (map_same_list _))
-      (rows_passing (table_key Stations) (has Stations) (every_column (layout_of Stations)) (λ row. row) (shows_every Stations (Text id ∷ [])) (after_tests 1) (lit (Int (pos 32))) (is_behind id) (λ tree. refl, refl)
+  lists = λ db has. subst (HasOneAnswer db _ (Text id ∷ [])) (ap (take 64) (map_same_list _))
+      (rows_passing (table_key Stations) (has Stations) (every_column (layout_of Stations)) (λ row. row) (shows_every Stations (Text id ∷ [])) (after_tests 1) (lit (Int (pos 64))) (is_behind id) (λ tree. refl, refl)
       (λ r. and_true _ ∙ gt_test (column r 1) id));
 }
 

@@ -69,11 +69,11 @@ module _ (s : Operator) (sound : IsSound s) where
     in_page e has = page_has is_ident refl s.stations ident_so after start is e has
 
     -- the rows that are asked for are those of the page
-    pub page_rows : take 32 (filter (is_behind start) (map (stored_station s) (fin.entries s.stations))) ≡ map (stored_station s) (page_after after s.stations)
+    pub page_rows : take 64 (filter (is_behind start) (map (stored_station s) (fin.entries s.stations))) ≡ map (stored_station s) (page_after after s.stations)
     page_rows =
-        ap (take 32) (rows_behind (stored_station s) (λ e. refl) start (fin.entries s.stations))
-        ∙ take-map (stored_station s) 32 _
-        ∙ ap (λ (es : List (List ℕ × Station)). map (stored_station s) (take 32 es)) (entries_start is_ident refl s.stations ident_so after start is)
+        ap (take 64) (rows_behind (stored_station s) (λ e. refl) start (fin.entries s.stations))
+        ∙ take-map (stored_station s) 64 _
+        ∙ ap (λ (es : List (List ℕ × Station)). map (stored_station s) (take 64 es)) (entries_start is_ident refl s.stations ident_so after start is)
 
 -- ---- the whole page
 

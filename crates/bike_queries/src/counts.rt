@@ -11,12 +11,13 @@ ghost use Rattle.bike_fleet.specs.Holds.{HoldsAny, HoldsCounts};
 ghost use Rattle.bike_queries.specs.Pages.{is_between};
 ghost use Rattle.bike_queries.specs.StationCounts.{Adds, AreCountRows, AreCountsAt, IsTally, counts_with, is_of};
 
-use crate::columns::{str_at, whole_at};
+use crate::columns::whole_at;
 use crate::types::find_type_ids;
 use bike_feed_texts::TypeCount;
 use bike_fields::Ident;
 use bike_fleet::{DockNumbers, TypeCounts, find_dock_numbers};
 use bike_schema::StatementFault;
+use sqlite::types::ValueRef;
 use sqlite::{Alter, Connection, Row, params};
 use std::alloc::Global;
 
@@ -75,11 +76,13 @@ pub(crate) fn select_counts_between<S: Alter>(
 }
 
 /// Whether a row of `counts` is of the type.
-fn is_of(row: &Row, type_id: &Ident) -> Result<bool, StatementFault>
-    ensures { IfOk result (λ is. is ≡ is_of type_id.now row.now) }
+fn is_of(row: &Row, type_id: &Ident) -> bool
+    ensures { result ≡ is_of type_id.now row.now }
 {
-    let text = str_at(row, 1)?;
-    Ok(text == type_id.as_str())
+    match row.get_ref(1) {
+        Ok(ValueRef::Text(text)) => text == type_id.as_str().as_bytes(),
+        _ => false,
+    }
 }
 
 /// The counts in the row of the type, if one of these rows of `counts` is the type's.
@@ -87,7 +90,7 @@ fn counts_among(rows: &[Row], type_id: &Ident) -> Result<Option<TypeCounts>, Sta
     ensures { IfOk result (λ x. HoldsAny HoldsCounts (find (is_of type_id.now) rows.now) x) }
 {
     for row in rows {
-        if is_of(row, type_id)? {
+        if is_of(row, type_id) {
             let available = whole_at(row, 2)?;
             let disabled = whole_at(row, 3)?;
             return Ok(Some(TypeCounts {

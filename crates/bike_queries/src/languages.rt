@@ -5,10 +5,9 @@ ghost use Rattle.bike_schema.specs.Answers.{Answers};
 ghost use Rattle.bike_queries.specs.After.{language_row, next_language, start_after};
 
 use arrayvec::ArrayString;
-use bike_accounts::language_at;
 use bike_fields::{LONGEST_LANGUAGE, Language};
 use bike_rows::lookup::first_row;
-use bike_schema::StatementFault;
+use bike_schema::{StatementFault, language_at};
 use sqlite::{Alter, Connection, Row, params};
 use std::alloc::Global;
 

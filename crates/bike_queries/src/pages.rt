@@ -13,8 +13,8 @@ use std::alloc::Global;
 use std::collections::VecDeque;
 
 /// The most stations that one statement answers. A page is a bounded part of a walk, and no list of all stations: a statement costs
-/// the engine as much as some ten rows do, and the stations of a page share it.
-pub const STATIONS_A_PAGE: usize = 32;
+/// the engine as much as several rows do, and the stations of a page share it.
+pub const STATIONS_A_PAGE: usize = 64;
 
 /// Reads a row with the rows that are its own.
 pub(crate) trait OwnerReader: Drop {

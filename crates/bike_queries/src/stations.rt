@@ -11,12 +11,12 @@ ghost use Rattle.bike_queries.specs.Pages.{AreNamedStations, ArePage, IsOwnedNam
 use crate::after::start_of;
 use crate::columns::micro_at;
 use crate::pages::{OwnerReader, last_text, read_page};
-use bike_accounts::language_at;
 use bike_catalogue::{MoreName, NameKind, Station};
 use bike_fields::Ident;
 use bike_fixed::Moment;
 use bike_schema::{
-    StatementFault, flag_at, ident_at, moment_at, name_at, number_at, optional_ident_at,
+    StatementFault, flag_at, ident_at, language_at, moment_at, name_at, number_at,
+    optional_ident_at,
 };
 use sqlite::{Alter, Connection, Row, params};
 use std::alloc::Global;
@@ -57,7 +57,7 @@ pub(crate) fn select_stations<S: Alter>(
         (λ s m rows. ArePage s (option_map (λ id. id.now) after.entry) rows.items) }
 {
     let rows = conn.query_all(
-        "SELECT * FROM stations_3 WHERE station_id > ?1 ORDER BY station_id LIMIT 32",
+        "SELECT * FROM stations_3 WHERE station_id > ?1 ORDER BY station_id LIMIT 64",
         params![start_of(after)],
     )?;
     Ok(rows)

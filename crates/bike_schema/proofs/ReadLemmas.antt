@@ -5,12 +5,12 @@ use Rattle.std.specs.Str.{is_utf8}
 use Rattle.sqlite_value.specs.declared.value.Value.{Value}
 use Rattle.sqlite_value.specs.declared.value.Value.TheVariants.{Int, Text}
 use Rattle.sqlite.specs.Values.{or_null}
-use Rattle.bike_fields.specs.Bytes.{kept_if, is_ident, is_name, ident_of, name_of}
+use Rattle.bike_fields.specs.Bytes.{kept_if, is_ident, is_name, is_language, ident_of, name_of, language_of}
 use Rattle.bike_book.specs.Rows.{number_value, truth, state_number}
 use Rattle.bike_operator.specs.declared.records.BikeState.{BikeState}
 use Rattle.bike_operator.specs.declared.records.BikeState.TheVariants.{Fit, Disabled, Retired}
 use Rattle.bike_schema.specs.declared.fault.StatementFault.{StatementFault}
-use Rattle.bike_schema.specs.Columns.{number_in, moment_in, whole_in, flag_in, state_in, text_in, ident_in, name_in, or_none, read_or_failed}
+use Rattle.bike_schema.specs.Columns.{number_in, moment_in, whole_in, flag_in, state_in, text_in, ident_in, name_in, language_in, or_none, read_or_failed}
 
 -- the value, or a failure
 abbrev Told : {X : Type 0} → X → Option X → Type 0
@@ -69,6 +69,10 @@ ident_read told is = kept_text is_ident told is
 pub name_read : {x text : List ℕ} {v : Value} → name_in v ≡ Some x → v ≡ Text text → x ≡ text
 unfolding name_of
 name_read told is = kept_text is_name told is
+
+pub language_read : {x text : List ℕ} {v : Value} → language_in v ≡ Some x → v ≡ Text text → x ≡ text
+unfolding language_of
+language_read told is = kept_text is_language told is
 
 -- ---- columns that may be NULL
 

@@ -6,7 +6,7 @@ use Rattle.sqlite_value.specs.declared.value.Value.{Value}
 use Rattle.sqlite_value.specs.declared.value.Value.TheVariants.{Int, Text}
 use Rattle.sqlite_sql.specs.Ops.{is_null}
 use Rattle.bike_fixed.specs.Whole.{last_moment}
-use Rattle.bike_fields.specs.Bytes.{ident_of, name_of}
+use Rattle.bike_fields.specs.Bytes.{ident_of, name_of, language_of}
 use Rattle.bike_operator.specs.declared.records.BikeState.{BikeState}
 use Rattle.bike_operator.specs.declared.records.BikeState.TheVariants.{Fit, Disabled, Retired}
 use Rattle.bike_schema.specs.declared.fault.StatementFault.{StatementFault}
@@ -57,6 +57,9 @@ ident_in v = option_and_then ident_of (text_in v)
 
 abbrev pub name_in : Value → Option (List ℕ)
 name_in v = option_and_then name_of (text_in v)
+
+abbrev pub language_in : Value → Option (List ℕ)
+language_in v = option_and_then language_of (text_in v)
 
 -- what a column holds that may be NULL
 abbrev pub or_none : {X : Type 0} → (Value → Option X) → Value → Option (Option X)

@@ -5,10 +5,10 @@ ghost use Rattle.sqlite_value.specs.Order.{column};
 ghost use Rattle.sqlite_sql.specs.Ops.{is_null};
 ghost use Rattle.bike_schema.specs.declared.fault.StatementFault.TheVariants.{StoreFailed};
 ghost use Rattle.bike_schema.specs.Columns.{number_of, moment_of, flag_of, state_of, or_none, read_or_failed};
-ghost use Rattle.bike_schema.specs.Columns.{whole_in, number_in, moment_in, flag_in, state_in, text_in, ident_in, name_in};
+ghost use Rattle.bike_schema.specs.Columns.{whole_in, number_in, moment_in, flag_in, state_in, text_in, ident_in, name_in, language_in};
 
 use crate::fault::StatementFault;
-use bike_fields::{Ident, Name};
+use bike_fields::{Ident, Language, Name};
 use bike_fixed::{Cents, Moment, Within};
 use bike_operator::BikeState;
 use sqlite::Row;
@@ -169,6 +169,17 @@ pub fn name_at(alloc: Global, row: &Row, at: usize) -> Result<Name, StatementFau
         return Err(StatementFault::StoreFailed);
     };
     Name::read(alloc, text)?.ok_or(StatementFault::StoreFailed)
+}
+
+/// The column as a language.
+pub fn language_at(alloc: Global, row: &Row, at: usize) -> Result<Language, StatementFault>
+    ensures ok { IfOk result (λ language. language_in (column row.now at) ≡ Some language) }
+    ensures failed { result ≡ Err StoreFailed → language_in (column row.now at) ≡ None }
+{
+    let Some(text) = str_at(row, at) else {
+        return Err(StatementFault::StoreFailed);
+    };
+    Language::read(alloc, text)?.ok_or(StatementFault::StoreFailed)
 }
 
 /// The column as a number from `LO` to `HI`, or `None` where it is NULL.

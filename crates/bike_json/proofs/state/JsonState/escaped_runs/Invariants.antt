@@ -1,7 +1,7 @@
 use Rattle.std.proofs.Common.{◌≡◌, ◌≤◌, take, slice_range}
 use Rattle.bike_json.specs.Escapes.{json_escapes}
 use Rattle.bike_json.specs.State.{Wrote, IsAt}
-use Rattle.bike_json.proofs.state.JsonState.escaped.Given as goal
+use Rattle.bike_json.proofs.state.JsonState.escaped_runs.Given as goal
 
 abbrev pub invariant-loop-i : goal.invariant-loop-i
 invariant-loop-i g l =

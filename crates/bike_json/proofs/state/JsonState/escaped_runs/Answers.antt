@@ -1,8 +1,8 @@
 use Rattle.std.proofs.Common.{◌≡◌, ◌∙◌, ◌+◌, arith, length}
 use Rattle.bike_json.proofs.Series.{Wrote_then, Wrote_as}
 use Rattle.bike_json.proofs.Escaping.{run_goes_on, run_ends, run_last, run_none}
-use Rattle.bike_json.proofs.state.JsonState.escaped.Goals as goal
-use Rattle.bike_json.proofs.state.JsonState.escaped.Goals.{then-n-gt0, else-n-gt0}
+use Rattle.bike_json.proofs.state.JsonState.escaped_runs.Goals as goal
+use Rattle.bike_json.proofs.state.JsonState.escaped_runs.Goals.{then-n-gt0, else-n-gt0}
 
 pub loop-i-preserved : goal.loop-i-preserved
 loop-i-preserved g c =
