@@ -3,6 +3,7 @@
 import ctypes
 import fcntl
 import os
+import re
 import shlex
 import signal
 import subprocess
@@ -124,6 +125,31 @@ def from_first_byte(program, *words):
     if used.status:
         raise Failed(f"{program.name} {words[0]}: status {used.status}; it said {used.said.strip()[:200]}")
     return used
+
+
+def by_table(program, file):
+    """Checks a file on a terminal, where the program tells of each table when it comes to it: pairs of what was told and the processor
+    seconds from there to the next, the last to the end. None are told by a program that says nothing."""
+    reading, writing = os.openpty()
+    process = subprocess.Popen([*program.words, "check", file], stdin=subprocess.DEVNULL, stdout=subprocess.DEVNULL, stderr=writing)
+    os.close(writing)
+    clock = ~process.pid << 3 | 2  # its processor time, all threads, as clock_getcpuclockid makes the number
+    told, said = [("", 0.0)], b""
+    with os.fdopen(reading, "rb", buffering=0) as terminal:
+        while True:
+            try:
+                piece = terminal.read(4096)
+            except OSError:  # the other end is closed
+                break
+            at = time.clock_gettime(clock)
+            said += piece
+            told += [(name.decode(), at) for name in re.findall(rb"opening|checking \w+(?=,)", said)[len(told) - 1 :]]
+    _, status, used = os.wait4(process.pid, 0)
+    process.returncode = os.waitstatus_to_exitcode(status)
+    if process.returncode:
+        raise Failed(f"{program.name} check: status {process.returncode}")
+    told.append(("", used.ru_utime + used.ru_stime))
+    return [(name, after - at) for (name, at), (_, after) in zip(told, told[1:]) if name]
 
 
 class Lines:
