@@ -15,11 +15,12 @@ pub(crate) fn is_plain(bytes: &[u8]) -> bool
     true
 }
 
+/// Whether the byte stands for itself. Most bytes of a name are above the backslash, so that is asked first.
 #[tactic(auto, unfolding(crate::specs::Escapes::escaped_byte))]
 fn stands_for_itself(byte: u8) -> bool
     ensures { result ≡ true → escaped_byte byte ≡ byte ∷ [] }
 {
-    byte >= 32 && byte != b'"' && byte != b'\\'
+    byte > b'\\' || byte > b'"' && byte < b'\\' || byte == b' ' || byte == b'!'
 }
 
 /// Puts the escape of a byte at the front of `buf` and gives its length; 0 for a byte that stands for itself.

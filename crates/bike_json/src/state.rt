@@ -276,7 +276,9 @@ impl JsonState {
         }
     }
 
-    /// The same; the bytes that stand for themselves are written in as few runs as there are.
+    /// The same; the bytes that stand for themselves are written in as few runs as there are. Hardly a text has an escape, so this
+    /// is kept out of the way of those that have none.
+    #[inline(never)]
     fn escaped_runs<W: Output>(&mut self, out: &mut W, bytes: &[u8])
         ensures wrote { Wrote self.old self.new (W.contents out.old) (W.contents out.new) (json_escapes bytes.now) }
         ensures place { IsAt self.new self.old.top self.old.round }
