@@ -1,6 +1,7 @@
 pub mod TextLemmas
 pub mod RowLemmas
 pub mod SegmentLemmas
+pub mod WithinLaw
 pub mod NameLemmas
 pub mod NewestRows
 pub mod NewestLemmas

@@ -1,5 +1,5 @@
 -- The statements that look for newest rentals, and whose rows they find. WHERE tests ORDER BY the key DESC LIMIT 1 answers the row with the last key of those that pass.
-use Rattle.std.proofs.Common.{◌≡◌, ◌<◌, inl, inr, ℕ, ℤ, pos, List, [], ◌∷◌, codes, length, map, filter, find, take, slice_get, Bool, true, false, cond, ◌&&◌, ◌==◌, Option, Some, None, Ordering, Less, Equal, Greater, refl, sym, ap, ap₂, subst, ◌∙◌, arith}
+use Rattle.std.proofs.Common.{◌≡◌, ◌<◌, inl, inr, ℕ, suc, ℤ, pos, negsuc, List, [], ◌∷◌, codes, length, map, filter, find, take, slice_get, Bool, true, false, cond, ◌&&◌, ◌==◌, Option, Some, None, Ordering, Less, Equal, Greater, refl, sym, ap, ap₂, subst, ◌∙◌, arith}
 use Rattle.std.specs.Prelude.{fold, nat_lt, option_map}
 use Rattle.std.specs.Ordering.{nat_cmp, is_eq, is_lt, is_gt, MatchOrdering}
 use Rattle.std.specs.Cmp.{ranks, unsigned_tied}
@@ -18,7 +18,7 @@ use Rattle.sqlite_value.proofs.OrderLemmas.{value_cmp-Null, then-Equal}
 use Rattle.sqlite_trees.specs.Tree.{rowid, IsAscending}
 use Rattle.sqlite_trees.proofs.ListLemmas.{filter-map}
 use Rattle.sqlite_sql.specs.Ops.{binary, is_true, is_null}
-use Rattle.sqlite_sql.specs.Term.{Term, col, op2, eval, eval_all, holds}
+use Rattle.sqlite_sql.specs.Term.{Term, lit, col, op2, eval, eval_all, holds}
 use Rattle.sqlite_sql.specs.declared.ops.BinaryOp.TheVariants.{Compare}
 use Rattle.sqlite_sql.specs.declared.ops.CompareOp.TheVariants.{Gt}
 use Rattle.sqlite_sql.specs.Query.{Output, output_cmp}
@@ -40,7 +40,7 @@ use Rattle.bike_rows.proofs.AnswerLemmas.{passes, out, Answered, answered_page, 
 use Rattle.bike_rows.proofs.FrameLemmas.{rows_of_is}
 use Rattle.bike_rows.proofs.PageLaw.{map_same_list, tests_null}
 use Rattle.bike_rows.proofs.RangeLaw.{order_filter, filter_has_same}
-use Rattle.bike_rows.proofs.SelectLaws.{AreShown, places_of, every_column, first_passing}
+use Rattle.bike_rows.proofs.SelectLaws.{AreShown, places_of, every_column, rows_passing}
 use Rattle.bike_rows.proofs.SortLemmas.{ascends}
 use Rattle.bike_rows.proofs.TestLemmas.{tests_key, truth_of}
 use Rattle.bike_rows.proofs.TextLemmas.{IsSelect, select_means}
@@ -52,15 +52,16 @@ use Rattle.bike_operator.specs.Operator.{Operator}
 use Rattle.bike_operator.specs.Counts.{is_open}
 use Rattle.bike_book.specs.Tables.{Rentals}
 use Rattle.bike_book.specs.Rows.{number_value, rental_row}
-use Rattle.bike_book.specs.Stored.{with_numbers, stored_rental}
+use Rattle.bike_book.specs.Stored.{numbers_from, with_numbers, stored_rental}
 use Rattle.bike_book.proofs.FoundNumbers.{finish_null}
 use Rattle.bike_book.proofs.Keys.{value_cmp-number_value}
 use Rattle.bike_schema.specs.Layouts.{layout_of}
 use Rattle.bike_schema.proofs.AnswerLemmas.{FindsIn}
 use Rattle.bike_schema.proofs.KeyLemmas.{table_key}
-use Rattle.bike_book.specs.Found.{IsLast}
+use Rattle.bike_book.specs.Found.{IsLast, rows_open}
 use Rattle.bike_accounts.specs.declared.newest.Ride.{Ride}
 use Rattle.bike_accounts.specs.Newest.{newest_rental, open_in, number_in, open_after, ride_of}
+use Rattle.bike_accounts.proofs.SegmentLemmas.{ListsIn}
 
 -- ---- the row with the last key
 
@@ -187,13 +188,13 @@ decides_behind : (number : ℕ) (r : Row) → list_all (holds ((number_value num
 decides_behind number r = ap₂ (λ (a b : Bool). a && b) (over_test (column r 0) (pos number)) (tests_null (places_of (layout_of Rentals) (7 ∷ [])) (number_value number ∷ []) r)
 
 abbrev behind_text : List ℕ
-behind_text = codes "SELECT * FROM rentals WHERE rental > ?1 AND finish IS NULL ORDER BY rental LIMIT 1"
+behind_text = codes "SELECT * FROM rentals WHERE rental > ?1 AND finish IS NULL ORDER BY rental"
 
-pub finds_open_after : (number : ℕ) → FindsIn behind_text (number_value number ∷ []) (λ t. slice_get (filter (is_open_behind number) t.rentals) 0)
+pub lists_open_after : (number : ℕ) → ListsIn behind_text (number_value number ∷ []) (λ t. filter (is_open_behind number) t.rentals)
 unfolding everything
-finds_open_after number = record {
-  finds = λ db has. subst (λ rows. Finds db behind_text (number_value number ∷ []) (slice_get rows 0)) (map_same_list _)
-      (first_passing (table_key Rentals) (has Rentals) (every_column (layout_of Rentals)) (λ row. row) (λ r. refl) behind_tests (is_open_behind number) (λ tree. refl, refl) (decides_behind number));
+lists_open_after number = record {
+  lists = λ db has. subst (HasOneAnswer db behind_text (number_value number ∷ [])) (map_same_list _)
+      (rows_passing (table_key Rentals) (has Rentals) (every_column (layout_of Rentals)) (λ row. row) (λ r. refl) behind_tests (lit (Int (negsuc 0))) (is_open_behind number) (λ tree. refl, refl) (decides_behind number));
 }
 
 -- ---- the rentals whose rows they are
@@ -250,6 +251,16 @@ pub open_found : (s : Operator) (number : ℕ) → slice_get (filter (is_open_be
 open_found s number =
     first_passed (stored_rental s.entries) (is_open_behind number) (λ e. nat_lt number e.0 && is_open e.1)
     (λ e. ap₂ (λ (a b : Bool). a && b) (ap is_gt (value_cmp-number_value e.0 number) ∙ behind_is e.0 number) (finish_null s.entries e.0 e.1 e.1.closing)) (with_numbers s.rentals)
+
+-- the number of each is greater than 0
+pub all_open : (s : Operator) → filter (is_open_behind 0) (map (stored_rental s.entries) (with_numbers s.rentals)) ≡ rows_open (map (stored_rental s.entries) (with_numbers s.rentals))
+all_open s = go 0 s.rentals where
+  go : (n : ℕ) (rs : List Rental) → filter (is_open_behind 0) (map (stored_rental s.entries) (numbers_from (suc n) rs)) ≡ rows_open (map (stored_rental s.entries) (numbers_from (suc n) rs))
+  go n [] = refl
+  go n (r ∷ rs) =
+      let row : Row = stored_rental s.entries (suc n, r) in
+      ap₂ (λ (b : Bool) (rest : List Row). cond b (row ∷ rest) rest)
+      (ap (λ (b : Bool). b && list_all is_null (map (column row) (7 ∷ []))) (ap is_gt (value_cmp-number_value (suc n) 0) ∙ behind_is (suc n) 0 ∙ lt-ltb 0 (suc n) (omega arith))) (go (suc n) rs)
 
 -- ---- what is read of those rows
 

@@ -1,12 +1,11 @@
 -- What each statement finds.
 use Rattle.std.proofs.Common.{ℕ, List, [], ◌∷◌, codes, length, Some, slice_get, refl, subst}
-use Rattle.sqlite_value.specs.declared.value.Value.TheVariants.{Text}
+use Rattle.sqlite_value.specs.declared.value.Value.TheVariants.{Text, Blob}
 use Rattle.sqlite_sql.specs.Aggregate.{count}
 use Rattle.sqlite_tied.specs.Compute.{everything}
-use Rattle.bike_rows.specs.Queries.{null_tests}
 use Rattle.bike_rows.specs.View.{row_with, rows_where, last_of}
-use Rattle.bike_rows.proofs.PageLaw.{map_same_list, tests_null}
-use Rattle.bike_rows.proofs.SelectLaws.{every_column, places_of, last_row, first_with_null}
+use Rattle.bike_rows.proofs.PageLaw.{map_same_list}
+use Rattle.bike_rows.proofs.SelectLaws.{every_column, last_row, first_with_null}
 use Rattle.bike_rows.proofs.WalkLaw.{Finds}
 use Rattle.bike_book.specs.Tables.{Meta, System, Plans, Riders, Rentals, Entries, Kept}
 use Rattle.bike_book.specs.Rows.{number_value}
@@ -14,8 +13,11 @@ use Rattle.bike_book.specs.Found.{rows_open}
 use Rattle.bike_schema.specs.Layouts.{layout_of}
 use Rattle.bike_schema.specs.Tables.{tables_of}
 use Rattle.bike_schema.proofs.AnswerLemmas.{FindsIn, keyed_in}
-use Rattle.bike_schema.proofs.CountLemmas.{counted_passing, counted_in}
+use Rattle.bike_schema.proofs.CountLemmas.{counted_in}
 use Rattle.bike_schema.proofs.KeyLemmas.{table_key}
+use Rattle.bike_accounts.specs.Within.{rows_from}
+use Rattle.bike_accounts.proofs.SegmentLemmas.{ListsIn}
+use Rattle.bike_accounts.proofs.WithinLaw.{keyed_within, lists_within}
 
 -- ---- rows by their keys
 
@@ -26,10 +28,6 @@ finds_meta = keyed_in Meta (λ tree. refl, refl) refl
 pub finds_system : FindsIn (codes "SELECT * FROM system WHERE one = ?1") (number_value 1 ∷ []) (λ t. row_with 1 (number_value 1 ∷ []) t.system)
 unfolding everything
 finds_system = keyed_in System (λ tree. refl, refl) refl
-
-pub finds_plan : (plan : List ℕ) → FindsIn (codes "SELECT * FROM plans WHERE plan_id = ?1") (Text plan ∷ []) (λ t. row_with 1 (Text plan ∷ []) t.plans)
-unfolding everything
-finds_plan plan = keyed_in Plans (λ tree. refl, refl) refl
 
 pub finds_rider : (rider : ℕ) → FindsIn (codes "SELECT * FROM riders WHERE rider = ?1") (number_value rider ∷ []) (λ t. row_with 1 (number_value rider ∷ []) t.riders)
 unfolding everything
@@ -69,15 +67,20 @@ finds_open rider = record {
       (first_with_null (table_key Rentals) (has Rentals) (every_column (layout_of Rentals)) (λ row. row) (λ r. refl) 0 (1 ∷ []) (7 ∷ []) (λ tree. refl, refl) refl (λ r. refl) (λ r. refl));
 }
 
-pub counts_open : FindsIn (codes "SELECT count(*) FROM rentals WHERE finish IS NULL") [] (λ t. Some (count (length (rows_open t.rentals)) ∷ []))
+-- ---- plans between two
+
+abbrev plans_text : List ℕ
+plans_text = codes "SELECT * FROM plans WHERE plan_id >= ?1 AND plan_id <= ?2 ORDER BY plan_id"
+
+pub finds_plan : (plan : List ℕ) → FindsIn plans_text (Text plan ∷ Text plan ∷ []) (λ t. row_with 1 (Text plan ∷ []) t.plans)
 unfolding everything
-counts_open = record { finds = λ db has. counted_passing 1 (layout_of Rentals) db (has Rentals) _ [] (null_tests (places_of (layout_of Rentals) (7 ∷ []))) _ (λ tree. refl, refl) (λ r. tests_null (places_of (layout_of Rentals) (7 ∷ [])) [] r) }
+finds_plan plan = keyed_within Plans 1 (Text plan) refl (λ r. refl) (λ tree. refl, refl)
+
+pub lists_plans_from : (start : List ℕ) → ListsIn plans_text (Text start ∷ Blob [] ∷ []) (λ t. rows_from start t.plans)
+unfolding everything
+lists_plans_from start = lists_within Plans 1 (Text start) (Blob []) refl refl (λ r. refl) (λ tree. refl, refl)
 
 -- ---- counts
-
-pub counts_plans : FindsIn (codes "SELECT count(*) FROM plans") [] (λ t. Some (count (length t.plans) ∷ []))
-unfolding everything
-counts_plans = counted_in Plans (λ tree. refl, refl)
 
 pub counts_riders : FindsIn (codes "SELECT count(*) FROM riders") [] (λ t. Some (count (length t.riders) ∷ []))
 unfolding everything

@@ -1,3 +1,4 @@
 pub mod Accounts
 pub mod Newest
 pub mod ReadRows
+pub mod Within

@@ -1,17 +1,15 @@
 //! Names in further languages, and the system's own language.
 
-ghost use Rattle.std.specs.Prelude.{◌≡◌, ◌≤◌, [], ◌∷◌, IfOk, length, map, option_map};
+ghost use Rattle.std.specs.Prelude.{◌≡◌, ◌≤◌, IfOk, filter, length, map, option_map};
 ghost use Rattle.std.specs.List.{AllZip};
-ghost use Rattle.sqlite_value.specs.declared.value.Value.TheVariants.{Text};
 ghost use Rattle.bike_operator.specs.declared.limits.TheConstants.{MOST_FURTHER_NAMES};
-ghost use Rattle.bike_operator.specs.NameKinds.{kind_text};
 ghost use Rattle.bike_operator.specs.Names.{further_names};
 ghost use Rattle.bike_book.specs.Tables.{MoreNames};
 ghost use Rattle.bike_book.specs.Rows.{system_row};
-ghost use Rattle.bike_book.specs.Found.{rows_by};
+ghost use Rattle.bike_book.specs.Found.{rows_of};
 ghost use Rattle.bike_schema.specs.Answers.{Answers};
 ghost use Rattle.bike_accounts.specs.Accounts.{system_key};
-ghost use Rattle.bike_accounts.specs.ReadRows.{IsNamedBy, shown_name};
+ghost use Rattle.bike_accounts.specs.ReadRows.{IsOwnedName, is_name_within, owned_name};
 
 use crate::plans::find_system_row;
 use bike_catalogue::{MoreName, NameKind};
@@ -21,34 +19,36 @@ use bike_schema::{StatementFault, ident_at, language_at, name_at};
 use sqlite::{Alter, Connection, Row, params};
 use std::alloc::Global;
 
-/// The languages and the further names of what has this kind and identifier, in byte order of their languages.
-fn find_name_rows<S: Alter>(
+/// The rows of the further names of a kind, those of the identifiers from one up to another: each with its identifier before it, in
+/// byte order of identifiers and languages.
+pub fn select_names<S: Alter>(
     conn: &mut Connection<S>,
     kind: NameKind,
-    id: &Ident,
+    first: &str,
+    last: &str,
 ) -> Result<Vec<Row>, StatementFault>
     ensures { Answers S.Store conn.old conn.new result
-        (λ s m rows. rows.items ≡ map shown_name (rows_by s m MoreNames (0 ∷ 1 ∷ []) (Text (kind_text kind) ∷ Text id.now ∷ []))) }
+        (λ s m rows. rows.items ≡ map owned_name (filter (is_name_within kind first.now last.now) (rows_of s m MoreNames))) }
 {
     let rows = conn.query_all(
-        "SELECT language, name FROM more_names WHERE kind = ?1 AND id = ?2 ORDER BY kind, id, language",
-        params![kind.as_str(), id.as_str()],
+        "SELECT id, language, name FROM more_names WHERE kind = ?1 AND id >= ?2 AND id <= ?3 ORDER BY kind, id, language",
+        params![kind.as_str(), first, last],
     )?;
     Ok(rows)
 }
 
-/// The name that stands beside its language, whatever has it.
+/// The further name that stands behind an identifier.
 fn read_name(alloc: Global, row: &Row) -> Result<MoreName, StatementFault>
-    ensures { IfOk result (IsNamedBy row.now) }
+    ensures { IfOk result (IsOwnedName row.now) }
 {
-    let language = language_at(alloc, row, 0)?;
-    let name = name_at(alloc, row, 1)?;
+    let language = language_at(alloc, row, 1)?;
+    let name = name_at(alloc, row, 2)?;
     Ok(MoreName::from_fields(language, name))
 }
 
-/// The names that stand in these rows. `StoreFailed` where they are more than a thing may have.
-fn read_names(alloc: Global, rows: &[Row]) -> Result<Vec<MoreName>, StatementFault>
-    ensures read { IfOk result (λ x. AllZip IsNamedBy rows.now x.items) }
+/// The names that stand in these rows, which are one thing's. `StoreFailed` where they are more than a thing may have.
+pub fn read_names(alloc: Global, rows: &[Row]) -> Result<Vec<MoreName>, StatementFault>
+    ensures read { IfOk result (λ x. AllZip IsOwnedName rows.now x.items) }
     ensures few { IfOk result (λ x. length x.items ≤ MOST_FURTHER_NAMES) }
 {
     if rows.len() > MOST_FURTHER_NAMES as usize {
@@ -74,7 +74,7 @@ pub fn find_names<S: Alter>(
 ) -> Result<Vec<MoreName>, StatementFault>
     ensures { Answers S.Store conn.old conn.new result (λ s m x. x.items ≡ further_names s kind id.now) }
 {
-    let rows = find_name_rows(conn, kind, id)?;
+    let rows = select_names(conn, kind, id.as_str(), id.as_str())?;
     read_names(alloc, rows.as_slice())
 }
 

@@ -3,6 +3,8 @@
 ghost use Rattle.std.specs.Prelude.{◌≡◌, ◌↔◌, IfOk, IsTrue, option_map};
 ghost use Rattle.bike_operator.specs.Counts.{is_open};
 ghost use Rattle.bike_book.specs.Rows.{rental_row};
+ghost use Rattle.bike_book.specs.Tables.{Rentals};
+ghost use Rattle.bike_book.specs.Found.{rows_of, rows_open};
 ghost use Rattle.bike_book.specs.Stored.{stored_rental};
 ghost use Rattle.bike_schema.specs.Answers.{Answers};
 ghost use Rattle.bike_accounts.specs.Newest.{NewestTells, newest_rental, newest_is_open, newest_number, open_after, ride_of};
@@ -69,6 +71,10 @@ fn find_newest_number<S: Alter>(
     last_number(&row)
 }
 
+/// The open rentals of greater numbers than one, in the order of their numbers.
+const OPEN_AFTER: &str =
+    "SELECT * FROM rentals WHERE rental > ?1 AND finish IS NULL ORDER BY rental";
+
 /// The row of the first open rental of a greater number.
 fn find_open_row_after<S: Alter>(
     conn: &mut Connection<S>,
@@ -77,11 +83,15 @@ fn find_open_row_after<S: Alter>(
     ensures { Answers S.Store conn.old conn.new result
         (λ s m row. row ≡ option_map (stored_rental s.entries) (open_after s number)) }
 {
-    first_row(
-        conn,
-        "SELECT * FROM rentals WHERE rental > ?1 AND finish IS NULL ORDER BY rental LIMIT 1",
-        params![number],
-    )
+    first_row(conn, OPEN_AFTER, params![number])
+}
+
+/// The rows of all open rentals.
+pub(crate) fn select_open<S: Alter>(conn: &mut Connection<S>) -> Result<Vec<Row>, StatementFault>
+    ensures { Answers S.Store conn.old conn.new result (λ s m rows. rows.items ≡ rows_open (rows_of s m Rentals)) }
+{
+    let rows = conn.query_all(OPEN_AFTER, params![0_u32])?;
+    Ok(rows)
 }
 
 /// The number and the rider that stand in a row of `rentals`.

@@ -1,6 +1,6 @@
 //! Numbers that the database answers: counts of rows, and the number of a last row.
 
-ghost use Rattle.std.specs.Prelude.{◌≡◌, IfOk, nat_le};
+ghost use Rattle.std.specs.Prelude.{◌≡◌, IfOk, length, nat_le};
 ghost use Rattle.bike_book.specs.Found.{IsLast};
 ghost use Rattle.bike_accounts.specs.ReadRows.{IsCountOf};
 
@@ -15,11 +15,14 @@ pub(crate) fn reaches(row: &Row, most: u32) -> Result<bool, StatementFault>
     Ok(found >= u64::from(most))
 }
 
-/// The number that was counted.
-pub(crate) fn read_count(row: &Row) -> Result<u32, StatementFault>
-    ensures { IfOk result (λ x. (n : _) → IsCountOf n row.now → x ≡ n) }
+/// How many rows there are. `StoreFailed` where that is no `u32`.
+pub(crate) fn count_rows(rows: &[Row]) -> Result<u32, StatementFault>
+    ensures { IfOk result (λ x. x ≡ length rows.now) }
 {
-    Ok(row.get(0)?)
+    match u32::try_from(rows.len()) {
+        Ok(number) => Ok(number),
+        Err(_) => Err(StatementFault::StoreFailed),
+    }
 }
 
 /// The number with which the last row begins, and 0 where there is none.

@@ -1,18 +1,18 @@
 //! The system and the pricing plans.
 
-ghost use Rattle.std.specs.Prelude.{◌≡◌, [], ◌∷◌, IfOk, Some, is_some, length};
+ghost use Rattle.std.specs.Prelude.{◌≡◌, [], ◌∷◌, IfOk, is_some, slice_get};
 ghost use Rattle.std.specs.FinMap as map;
 ghost use Rattle.sqlite_value.specs.declared.value.Value.TheVariants.{Text};
-ghost use Rattle.sqlite_sql.specs.Aggregate.{count};
 ghost use Rattle.bike_operator.specs.declared.limits.TheConstants.{MOST_PLANS};
 ghost use Rattle.bike_operator.specs.View.{is_at_limit};
 ghost use Rattle.bike_book.specs.Tables.{System, Plans};
 ghost use Rattle.bike_book.specs.Rows.{number_value, plan_row};
-ghost use Rattle.bike_book.specs.Found.{row_under, row_count};
+ghost use Rattle.bike_book.specs.Found.{row_under, rows_of};
 ghost use Rattle.bike_schema.specs.Answers.{Answers};
+ghost use Rattle.bike_accounts.specs.Within.{rows_from};
 
-use crate::numbers::reaches;
 use crate::segments::find_segments;
+use crate::within::{END, are_at_least};
 use bike_catalogue::{Plan, Segment};
 use bike_fields::Ident;
 use bike_operator::MOST_PLANS;
@@ -31,6 +31,10 @@ pub(crate) fn find_system_row<S: Alter>(
     first_row(conn, "SELECT * FROM system WHERE one = ?1", params![1_i64])
 }
 
+/// The plans whose identifiers lie between two values, both among them, in byte order.
+const PLANS_WITHIN: &str =
+    "SELECT * FROM plans WHERE plan_id >= ?1 AND plan_id <= ?2 ORDER BY plan_id";
+
 /// The plan's row of `plans`.
 fn find_plan_row<S: Alter>(
     conn: &mut Connection<S>,
@@ -39,19 +43,26 @@ fn find_plan_row<S: Alter>(
     ensures { Answers S.Store conn.old conn.new result
         (λ s m row. row ≡ row_under s m Plans (Text plan.now ∷ [])) }
 {
-    first_row(
-        conn,
-        "SELECT * FROM plans WHERE plan_id = ?1",
-        params![plan.as_str()],
-    )
+    first_row(conn, PLANS_WITHIN, params![plan.as_str(), plan.as_str()])
 }
 
-/// The count of plans, as the database answers it.
-fn count_plans<S: Alter>(conn: &mut Connection<S>) -> Result<Option<Row>, StatementFault>
+/// The row of the first plan whose identifier isn't below a text.
+pub fn find_plan_row_from<S: Alter>(
+    conn: &mut Connection<S>,
+    start: &str,
+) -> Result<Option<Row>, StatementFault>
     ensures { Answers S.Store conn.old conn.new result
-        (λ s m row. row ≡ Some (count (row_count s m Plans) ∷ [])) }
+        (λ s m row. row ≡ slice_get (rows_from start.now (rows_of s m Plans)) 0) }
 {
-    first_row(conn, "SELECT count(*) FROM plans", &[])
+    first_row(conn, PLANS_WITHIN, params![start, END])
+}
+
+/// The rows of all plans, of which there are at most 256.
+fn select_plans<S: Alter>(conn: &mut Connection<S>) -> Result<Vec<Row>, StatementFault>
+    ensures { Answers S.Store conn.old conn.new result (λ s m rows. rows.items ≡ rows_of s m Plans) }
+{
+    let rows = conn.query_all(PLANS_WITHIN, params!["", END])?;
+    Ok(rows)
 }
 
 /// The plan that stands in a row of `plans`, with its segments.
@@ -88,10 +99,8 @@ pub fn has_plan<S: Alter>(conn: &mut Connection<S>, plan: &Ident) -> Result<bool
 pub fn are_plans_full<S: Alter>(conn: &mut Connection<S>) -> Result<bool, StatementFault>
     ensures { Answers S.Store conn.old conn.new result (λ s m x. x ≡ is_at_limit MOST_PLANS s.plans) }
 {
-    match count_plans(conn)? {
-        Some(row) => reaches(&row, MOST_PLANS),
-        None => Err(StatementFault::StoreFailed),
-    }
+    let rows = select_plans(conn)?;
+    Ok(are_at_least(rows.as_slice(), MOST_PLANS))
 }
 
 /// The plan, if it is there. `NoMemory` where it finds no room; every other fault is the database's.

@@ -1,18 +1,17 @@
 //! The rentals.
 
-ghost use Rattle.std.specs.Prelude.{◌≡◌, [], ◌∷◌, IfOk, IsTrue, Some, length};
-ghost use Rattle.sqlite_sql.specs.Aggregate.{count};
+ghost use Rattle.std.specs.Prelude.{◌≡◌, [], ◌∷◌, IfOk, IsTrue, length};
 ghost use Rattle.bike_operator.specs.Counts.{is_riding as rides, open_rentals};
 ghost use Rattle.bike_book.specs.Tables.{Rentals};
 ghost use Rattle.bike_book.specs.Rows.{number_value, rental_row};
-ghost use Rattle.bike_book.specs.Found.{row_under, open_row, last_row, rows_of, rows_open};
+ghost use Rattle.bike_book.specs.Found.{row_under, open_row, last_row};
 ghost use Rattle.bike_schema.specs.Answers.{Answers, IsReadOf};
 ghost use Rattle.bike_accounts.specs.Accounts.{stored_rental_at};
 ghost use Rattle.bike_accounts.specs.Newest.{NewestTells};
 ghost use Rattle.bike_accounts.specs.ReadRows.{HasClosing};
 
-use crate::newest::is_newest_open;
-use crate::numbers::{last_number, read_count};
+use crate::newest::{is_newest_open, select_open};
+use crate::numbers::{count_rows, last_number};
 use bike_fields::{RentalNumber, RiderNumber};
 use bike_operator::{Closing, Rental};
 use bike_rows::lookup::first_row;
@@ -68,18 +67,6 @@ fn find_last_rental<S: Alter>(conn: &mut Connection<S>) -> Result<Option<Row>, S
     first_row(
         conn,
         "SELECT * FROM rentals ORDER BY rental DESC LIMIT 1",
-        &[],
-    )
-}
-
-/// The count of open rentals, as the database answers it.
-fn count_open<S: Alter>(conn: &mut Connection<S>) -> Result<Option<Row>, StatementFault>
-    ensures { Answers S.Store conn.old conn.new result
-        (λ s m row. row ≡ Some (count (length (rows_open (rows_of s m Rentals))) ∷ [])) }
-{
-    first_row(
-        conn,
-        "SELECT count(*) FROM rentals WHERE finish IS NULL",
         &[],
     )
 }
@@ -165,12 +152,11 @@ pub fn rental_count<S: Alter>(conn: &mut Connection<S>) -> Result<u32, Statement
     last_number(&row)
 }
 
-/// How many rentals are open, by a count over all of them. Every fault is the database's.
+/// How many rentals are open, by their rows: no more than there are bicycles. `NoMemory` where these find no room; every other
+/// fault is the database's.
 pub fn open_rental_count<S: Alter>(conn: &mut Connection<S>) -> Result<u32, StatementFault>
     ensures { Answers S.Store conn.old conn.new result (λ s m x. x ≡ open_rentals s) }
 {
-    match count_open(conn)? {
-        Some(row) => read_count(&row),
-        None => Err(StatementFault::StoreFailed),
-    }
+    let rows = select_open(conn)?;
+    count_rows(rows.as_slice())
 }

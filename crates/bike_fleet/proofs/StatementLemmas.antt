@@ -1,6 +1,6 @@
 -- What each statement finds.
 use Rattle.std.proofs.Common.{ℕ, List, [], ◌∷◌, codes, length, Option, Some, slice_get, refl, subst}
-use Rattle.sqlite_value.specs.declared.value.Value.TheVariants.{Text}
+use Rattle.sqlite_value.specs.declared.value.Value.TheVariants.{Text, Blob}
 use Rattle.sqlite_value.specs.Order.{Row}
 use Rattle.sqlite_sql.specs.Aggregate.{count}
 use Rattle.sqlite_tied.specs.Compute.{everything}
@@ -15,6 +15,9 @@ use Rattle.bike_schema.specs.Layouts.{layout_of}
 use Rattle.bike_schema.proofs.AnswerLemmas.{FindsIn, keyed_in, in_table}
 use Rattle.bike_schema.proofs.CountLemmas.{counted_in}
 use Rattle.bike_schema.proofs.KeyLemmas.{table_key}
+use Rattle.bike_accounts.specs.Within.{rows_from, rows_within}
+use Rattle.bike_accounts.proofs.SegmentLemmas.{ListsIn}
+use Rattle.bike_accounts.proofs.WithinLaw.{keyed_within, lists_within}
 
 -- ---- by the key
 
@@ -30,25 +33,48 @@ pub finds_counts : (station type_id : List ℕ) → FindsIn (codes "SELECT * FRO
 unfolding everything
 finds_counts station type_id = keyed_in Counts (λ tree. refl, refl) refl
 
-pub finds_type : (type_id : List ℕ) → FindsIn (codes "SELECT * FROM types WHERE type_id = ?1") (Text type_id ∷ []) (λ t. row_with 1 (Text type_id ∷ []) t.types)
-unfolding everything
-finds_type type_id = keyed_in Types (λ tree. refl, refl) refl
-
-pub finds_region : (region : List ℕ) → FindsIn (codes "SELECT * FROM regions WHERE region_id = ?1") (Text region ∷ []) (λ t. row_with 1 (Text region ∷ []) t.regions)
-unfolding everything
-finds_region region = keyed_in Regions (λ tree. refl, refl) refl
-
 pub finds_bike : (bike : ℕ) → FindsIn (codes "SELECT * FROM bikes WHERE bike = ?1") (number_value bike ∷ []) (λ t. row_with 1 (number_value bike ∷ []) t.bikes)
 unfolding everything
 finds_bike bike = keyed_in Bikes (λ tree. refl, refl) refl
 
-pub finds_truck : (truck : ℕ) → FindsIn (codes "SELECT * FROM trucks WHERE truck = ?1") (number_value truck ∷ []) (λ t. row_with 1 (number_value truck ∷ []) t.trucks)
-unfolding everything
-finds_truck truck = keyed_in Trucks (λ tree. refl, refl) refl
-
 pub finds_order : (order : ℕ) → FindsIn (codes "SELECT * FROM orders WHERE ord = ?1") (number_value order ∷ []) (λ t. row_with 1 (number_value order ∷ []) t.orders)
 unfolding everything
 finds_order order = keyed_in Orders (λ tree. refl, refl) refl
+
+-- ---- between two keys
+
+abbrev types_text : List ℕ
+types_text = codes "SELECT * FROM types WHERE type_id >= ?1 AND type_id <= ?2 ORDER BY type_id"
+
+pub finds_type : (type_id : List ℕ) → FindsIn types_text (Text type_id ∷ Text type_id ∷ []) (λ t. row_with 1 (Text type_id ∷ []) t.types)
+unfolding everything
+finds_type type_id = keyed_within Types 1 (Text type_id) refl (λ r. refl) (λ tree. refl, refl)
+
+pub lists_types_from : (start : List ℕ) → ListsIn types_text (Text start ∷ Blob [] ∷ []) (λ t. rows_from start t.types)
+unfolding everything
+lists_types_from start = lists_within Types 1 (Text start) (Blob []) refl refl (λ r. refl) (λ tree. refl, refl)
+
+abbrev regions_text : List ℕ
+regions_text = codes "SELECT * FROM regions WHERE region_id >= ?1 AND region_id <= ?2 ORDER BY region_id"
+
+pub finds_region : (region : List ℕ) → FindsIn regions_text (Text region ∷ Text region ∷ []) (λ t. row_with 1 (Text region ∷ []) t.regions)
+unfolding everything
+finds_region region = keyed_within Regions 1 (Text region) refl (λ r. refl) (λ tree. refl, refl)
+
+pub lists_regions_from : (start : List ℕ) → ListsIn regions_text (Text start ∷ Blob [] ∷ []) (λ t. rows_from start t.regions)
+unfolding everything
+lists_regions_from start = lists_within Regions 1 (Text start) (Blob []) refl refl (λ r. refl) (λ tree. refl, refl)
+
+abbrev trucks_text : List ℕ
+trucks_text = codes "SELECT * FROM trucks WHERE truck >= ?1 AND truck <= ?2 ORDER BY truck"
+
+pub finds_truck : (truck : ℕ) → FindsIn trucks_text (number_value truck ∷ number_value truck ∷ []) (λ t. row_with 1 (number_value truck ∷ []) t.trucks)
+unfolding everything
+finds_truck truck = keyed_within Trucks 0 (number_value truck) refl (λ r. refl) (λ tree. refl, refl)
+
+pub lists_trucks : ListsIn trucks_text (number_value 0 ∷ Blob [] ∷ []) (λ t. rows_within (number_value 0) (Blob []) t.trucks)
+unfolding everything
+lists_trucks = lists_within Trucks 0 (number_value 0) (Blob []) refl refl (λ r. refl) (λ tree. refl, refl)
 
 -- ---- by other columns, and the last rows
 
@@ -91,18 +117,6 @@ pub counts_stations : FindsIn (codes "SELECT count(*) FROM stations_3") [] (λ t
 unfolding everything
 counts_stations = counted_in Stations (λ tree. refl, refl)
 
-pub counts_types : FindsIn (codes "SELECT count(*) FROM types") [] (λ t. count_row_of t.types)
-unfolding everything
-counts_types = counted_in Types (λ tree. refl, refl)
-
-pub counts_regions : FindsIn (codes "SELECT count(*) FROM regions") [] (λ t. count_row_of t.regions)
-unfolding everything
-counts_regions = counted_in Regions (λ tree. refl, refl)
-
 pub counts_bikes : FindsIn (codes "SELECT count(*) FROM bikes") [] (λ t. count_row_of t.bikes)
 unfolding everything
 counts_bikes = counted_in Bikes (λ tree. refl, refl)
-
-pub counts_trucks : FindsIn (codes "SELECT count(*) FROM trucks") [] (λ t. count_row_of t.trucks)
-unfolding everything
-counts_trucks = counted_in Trucks (λ tree. refl, refl)

@@ -1,21 +1,25 @@
 //! The statements on `regions`.
 
-ghost use Rattle.std.specs.Prelude.{◌≡◌, [], ◌∷◌, Some};
+ghost use Rattle.std.specs.Prelude.{◌≡◌, [], ◌∷◌, slice_get};
 ghost use Rattle.std.specs.FinMap.{contains_key};
 ghost use Rattle.sqlite.specs.declared.types.Value.TheVariants.{Text};
-ghost use Rattle.sqlite_sql.specs.Aggregate.{count};
 ghost use Rattle.bike_operator.specs.declared.limits.TheConstants.{MOST_REGIONS};
 ghost use Rattle.bike_operator.specs.View.{is_at_limit};
 ghost use Rattle.bike_book.specs.Tables.{Regions};
-ghost use Rattle.bike_book.specs.Found.{row_count, row_under};
+ghost use Rattle.bike_book.specs.Found.{row_under, rows_of};
 ghost use Rattle.bike_schema.specs.Answers.{Answers};
+ghost use Rattle.bike_accounts.specs.Within.{rows_from};
 
-use crate::columns::is_full;
+use bike_accounts::{END, are_at_least};
 use bike_fields::Ident;
 use bike_operator::MOST_REGIONS;
 use bike_rows::lookup::first_row;
 use bike_schema::StatementFault;
 use sqlite::{Alter, Connection, Row, params};
+
+/// The regions whose identifiers lie between two values, both among them, in byte order.
+const REGIONS_WITHIN: &str =
+    "SELECT * FROM regions WHERE region_id >= ?1 AND region_id <= ?2 ORDER BY region_id";
 
 /// The region's row.
 fn select_region<S: Alter>(
@@ -27,16 +31,28 @@ fn select_region<S: Alter>(
 {
     first_row(
         conn,
-        "SELECT * FROM regions WHERE region_id = ?1",
-        params![region.as_str()],
+        REGIONS_WITHIN,
+        params![region.as_str(), region.as_str()],
     )
 }
 
-/// How many regions there are, as the database answers it.
-fn count_regions<S: Alter>(conn: &mut Connection<S>) -> Result<Option<Row>, StatementFault>
-    ensures { Answers S.Store conn.old conn.new result (λ s m row. row ≡ Some (count (row_count s m Regions) ∷ [])) }
+/// The row of the first region whose identifier isn't below a text.
+pub fn find_region_row_from<S: Alter>(
+    conn: &mut Connection<S>,
+    start: &str,
+) -> Result<Option<Row>, StatementFault>
+    ensures { Answers S.Store conn.old conn.new result
+        (λ s m row. row ≡ slice_get (rows_from start.now (rows_of s m Regions)) 0) }
 {
-    first_row(conn, "SELECT count(*) FROM regions", &[])
+    first_row(conn, REGIONS_WITHIN, params![start, END])
+}
+
+/// The rows of all regions, of which there are at most 256.
+fn select_regions<S: Alter>(conn: &mut Connection<S>) -> Result<Vec<Row>, StatementFault>
+    ensures { Answers S.Store conn.old conn.new result (λ s m rows. rows.items ≡ rows_of s m Regions) }
+{
+    let rows = conn.query_all(REGIONS_WITHIN, params!["", END])?;
+    Ok(rows)
 }
 
 /// Whether there is a region with this identifier.
@@ -50,10 +66,10 @@ pub fn has_region<S: Alter>(
     Ok(row.is_some())
 }
 
-/// Whether there are as many regions as there may be, by a count over all of them.
+/// Whether there are as many regions as there may be, by the rows of all of them.
 pub fn are_regions_full<S: Alter>(conn: &mut Connection<S>) -> Result<bool, StatementFault>
     ensures { Answers S.Store conn.old conn.new result (λ s m x. x ≡ is_at_limit MOST_REGIONS s.regions) }
 {
-    let answer = count_regions(conn)?;
-    is_full(&answer, MOST_REGIONS)
+    let rows = select_regions(conn)?;
+    Ok(are_at_least(rows.as_slice(), MOST_REGIONS))
 }

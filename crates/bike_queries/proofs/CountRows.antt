@@ -1,5 +1,5 @@
 -- The counts of a station's types, found among the rows of its counts.
-use Rattle.std.proofs.Common.{◌≡◌, ◌+◌, ◌<◌, ◌≤◌, ℕ, suc, List, [], ◌∷◌, map, filter, find, drop, get_or, length, codes, Bool, true, false, cond, ◌&&◌, if◌then◌else◌, Option, Some, None, refl, sym, ap, ap₂, subst, ◌∙◌, drop-cons, arith}
+use Rattle.std.proofs.Common.{◌≡◌, ◌+◌, ◌<◌, ◌≤◌, ℕ, suc, List, [], ◌∷◌, map, filter, find, drop, get_or, length, Bool, true, false, cond, ◌&&◌, if◌then◌else◌, Option, Some, None, refl, sym, ap, ap₂, subst, ◌∙◌, drop-cons, arith}
 use Rattle.std.specs.Prelude.{option_map, unwrap_or}
 use Rattle.std.specs.FinMap as fin
 use Rattle.std.specs.Ordering.{is_eq}
@@ -11,9 +11,7 @@ use Rattle.sqlite_value.specs.declared.value.Value.{Value}
 use Rattle.sqlite_value.specs.declared.value.Value.TheVariants.{Null, Int, Real, Text, Blob}
 use Rattle.sqlite_value.specs.Order.{Row, value_cmp, row_cmp}
 use Rattle.sqlite_value.proofs.OrderLemmas.{value_cmp-Text}
-use Rattle.sqlite_tied.specs.Compute.{everything}
 use Rattle.bike_rows.specs.View.{row_with, rows_where}
-use Rattle.bike_rows.proofs.SelectLaws.{rows_with}
 use Rattle.bike_rows.proofs.TestLemmas.{then_eq}
 use Rattle.bike_operator.specs.Operator.{Operator, Key, key_of}
 use Rattle.bike_operator.specs.Counts.{available_of}
@@ -24,16 +22,11 @@ use Rattle.bike_book.specs.Stored.{stored_count}
 use Rattle.bike_book.specs.Found.{rows_by, WhereListed}
 use Rattle.bike_book.proofs.FoundKeys.{found_listed}
 use Rattle.bike_schema.specs.Columns.{text_in}
-use Rattle.bike_schema.proofs.KeyLemmas.{table_key}
 use Rattle.bike_fleet.specs.declared.counts.TypeCounts.{TypeCounts}
 use Rattle.bike_fleet.specs.Fleet.{no_counts, type_counts_of}
 use Rattle.bike_fleet.specs.Holds.{HoldsAny, HoldsCounts}
-use Rattle.bike_accounts.proofs.SegmentLemmas.{ListsIn}
+use Rattle.bike_accounts.proofs.WithinLaw.{and_true}
 use Rattle.bike_queries.specs.StationCounts.{is_of, AreCountRows}
-
-pub lists_counts : (station : List ℕ) → ListsIn (codes "SELECT * FROM counts WHERE station_id = ?1 ORDER BY station_id, type_id") (Text station ∷ []) (λ t. rows_where (0 ∷ []) (Text station ∷ []) t.counts)
-unfolding everything
-lists_counts station = record { lists = λ db has. rows_with (table_key Counts) (has Counts) 0 (0 ∷ []) (λ tree. refl, refl) refl (λ r. refl) }
 
 -- ---- a row of a type
 
@@ -58,10 +51,6 @@ module _ {A : Type 0} (row : A → Row) (p q both : Row → Bool) (same : (x : A
         → find q (cond a (row x ∷ filter p (map row xs)) (filter p (map row xs))) ≡ cond (a && q (row x)) (Some (row x)) (find both (map row xs))
     go true rest = ap (cond (q (row x)) (Some (row x))) rest
     go false rest = rest
-
-and_true : (b : Bool) → (b && true) ≡ b
-and_true true = refl
-and_true false = refl
 
 -- the two parts of a key are the station's and the type's
 key_is : (station type_id first second : List ℕ) → is_eq (row_cmp (Text first ∷ Text second ∷ []) (Text station ∷ Text type_id ∷ []))

@@ -1,12 +1,12 @@
 -- The languages of further names in byte order: the statement that answers the next of them.
-use Rattle.std.proofs.Common.{◌≡◌, ◌⊎◌, inl, inr, ℕ, List, [], ◌∷◌, codes, ◌++◌, map, filter, slice_get, Bool, true, false, ◌||◌, cond, T, Option, Some, None, Ordering, Less, Equal, Greater, refl, sym, ap, ap₂, ◌∙◌, arith}
-use Rattle.std.specs.Prelude.{option_map, unwrap_or, is_some}
+use Rattle.std.proofs.Common.{◌≡◌, ◌⊎◌, inl, inr, ℕ, List, [], ◌∷◌, codes, map, filter, slice_get, Bool, true, false, ◌||◌, T, Option, Some, None, Ordering, Less, Equal, refl, sym, ap, ap₂, ◌∙◌, arith}
+use Rattle.std.specs.Prelude.{option_map, is_some}
 use Rattle.std.specs.FinMap as fin
 use Rattle.std.specs.FinMap.Entries as entries
-use Rattle.std.specs.List.{list_all, list_any}
+use Rattle.std.specs.List.{list_any}
 use Rattle.std.specs.Cmp.{eq_by_cmp_equiv}
-use Rattle.std.specs.Ordering.{eq_by_cmp, is_gt, nat_cmp, ordering_then}
-use Rattle.std.proofs.lemmas.Bool.{and_parts, true≢false}
+use Rattle.std.specs.Ordering.{eq_by_cmp}
+use Rattle.std.proofs.lemmas.Bool.{true≢false}
 use Rattle.sqlite_tied.specs.Compute.{everything}
 use Rattle.sqlite_value.specs.declared.value.Value.{Value}
 use Rattle.sqlite_value.specs.declared.value.Value.TheVariants.{Null, Int, Real, Text, Blob}
@@ -15,8 +15,6 @@ use Rattle.sqlite_value.proofs.OrderLemmas.{value_cmp-Null, value_cmp-Text, valu
 use Rattle.sqlite_sql.specs.Query.{Query}
 use Rattle.sqlite_sql.specs.Term.{col}
 use Rattle.sqlite_rules.specs.Lists.{Has}
-use Rattle.bike_fields.specs.Bytes.{has_length, is_language, is_language_byte}
-use Rattle.bike_fields.specs.declared.text_lengths.TheConstants.{SHORTEST_LANGUAGE, LONGEST_LANGUAGE}
 use Rattle.bike_rows.specs.Keyed.{in_order}
 use Rattle.bike_rows.specs.Layout.{table_of}
 use Rattle.bike_rows.specs.Queries.{table_query, limit_query, only_one, by_columns}
@@ -29,33 +27,33 @@ use Rattle.bike_rows.proofs.SortLemmas.{order_map}
 use Rattle.bike_rows.proofs.TextLemmas.{IsSelect, select_means}
 use Rattle.bike_operator.specs.Operator.{Operator, NameKey, text_cmp}
 use Rattle.bike_operator.specs.Names.{part_at}
-use Rattle.bike_operator.specs.Sound.{IsNameAt, IsSound}
-use Rattle.bike_places.proofs.MapLemmas.{IsKeyOrder, text_order, texts_order, tied}
+use Rattle.bike_places.proofs.MapLemmas.{IsKeyOrder, text_order, tied}
 use Rattle.bike_book.specs.Tables.{TableName, MoreNames, keys_of, rows_in}
 use Rattle.bike_book.specs.Stored.{stored_name}
-use Rattle.bike_book.proofs.MapRows.{both, below_has, has_get}
+use Rattle.bike_book.proofs.MapRows.{both, below_has}
 use Rattle.bike_schema.specs.Layouts.{layout_of}
 use Rattle.bike_schema.proofs.AnswerLemmas.{FindsIn, in_table}
 use Rattle.bike_feed_texts.specs.Trees.{names_by_language}
 use Rattle.bike_queries.specs.After.{first_after, language_row, next_language, start_after}
-use Rattle.bike_queries.proofs.AfterLaw.{is_after, is_behind, gt_test, and_true, after_tests, row_after}
+use Rattle.bike_accounts.proofs.WithinLaw.{and_true, from_test}
+use Rattle.bike_queries.proofs.AfterLaw.{is_from, begins_from, from_tests, first_behind}
 use Rattle.bike_queries.proofs.LeastLaw.{least_answer}
 
--- ---- of values that come after a text no two tie
+-- ---- of values from a text on no two tie
 
-lower : (v : Value) (id : List ℕ) → value_cmp v (Text id) ≡ Less → is_after id v ≡ true → ⊥
-lower v id low after = true≢false (rw low at (sym after))
+lower : (v : Value) (id : List ℕ) → value_cmp v (Text id) ≡ Less → is_from id v ≡ true → ⊥
+lower v id low from = true≢false (rw low at (sym from))
 
--- neither NULL nor a number does
-is_bytes : (v : Value) (id : List ℕ) → is_after id v ≡ true → (bytes : List ℕ) × ((v ≡ Text bytes) ⊎ (v ≡ Blob bytes))
+-- neither NULL nor a number is one
+is_bytes : (v : Value) (id : List ℕ) → is_from id v ≡ true → (bytes : List ℕ) × ((v ≡ Text bytes) ⊎ (v ≡ Blob bytes))
 is_bytes Null id after = absurd (lower Null id (value_cmp-Null (Text id)) after)
 is_bytes (Int n) id after = absurd (lower (Int n) id (value_cmp-apart (Int n) (Text id) (λ same. omega arith)) after)
 is_bytes (Real x) id after = absurd (lower (Real x) id (value_cmp-apart (Real x) (Text id) (λ same. omega arith)) after)
 is_bytes (Text t) id after = (t, inl refl)
 is_bytes (Blob t) id after = (t, inr refl)
 
-same_after : (id : List ℕ) (v w : Value) → is_after id v ≡ true → is_after id w ≡ true → value_cmp v w ≡ Equal → v ≡ w
-same_after id v w after_v after_w tie = let a = is_bytes v id after_v in let b = is_bytes w id after_w in by a.0 b.0 a.1 b.1
+same_from : (id : List ℕ) (v w : Value) → is_from id v ≡ true → is_from id w ≡ true → value_cmp v w ≡ Equal → v ≡ w
+same_from id v w after_v after_w tie = let a = is_bytes v id after_v in let b = is_bytes w id after_w in by a.0 b.0 a.1 b.1
   where
     also : {x y : Value} → v ≡ x → w ≡ y → value_cmp x y ≡ Equal
     also a b = sym (ap₂ value_cmp a b) ∙ tie
@@ -72,28 +70,28 @@ same_after id v w after_v after_w tie = let a = is_bytes v id after_v in let b =
 abbrev only_column : ℕ → List Row → List Row
 only_column at = map (λ row. column row at ∷ [])
 
--- the first value of the column after a text
-abbrev value_after : ℕ → List ℕ → List Row → Option Row
-value_after at id rows = slice_get (in_order row_cmp (filter (is_behind id) (only_column at rows))) 0
+-- the first value of the column from a text on
+abbrev value_from : ℕ → List ℕ → List Row → Option Row
+value_from at id rows = slice_get (in_order row_cmp (filter (begins_from id) (only_column at rows))) 0
 
--- SELECT the column at a place FROM the table WHERE it > ?1 ORDER BY it LIMIT 1
+-- SELECT the column at a place FROM the table WHERE it >= ?1 ORDER BY it LIMIT 1
 abbrev value_query : ℕ → Query
-value_query place = limit_query only_one (table_query 0 (after_tests place) (by_columns (place ∷ [])) (col 1 place ∷ []))
+value_query place = limit_query only_one (table_query 0 (from_tests place) (by_columns (place ∷ [])) (col 1 place ∷ []))
 
 value_in : (t : TableName) {text : List ℕ} (at place : ℕ) (id : List ℕ) → ((r : Row) → column (columns_of (table_of (layout_of t) 0) r) at ≡ column r place) → IsSelect (value_query place) (layout_of t) text
-    → FindsIn text (Text id ∷ []) (λ tables. value_after at id (rows_in tables t))
+    → FindsIn text (Text id ∷ []) (λ tables. value_from at id (rows_in tables t))
 value_in t {text} at place id shown is =
-    in_table t (value_after at id) (λ db has.
+    in_table t (value_from at id) (λ db has.
     let it = select_means (value_query place) (layout_of t) text is db.schema (has t).at (has t).tree (has t).has in
     record {
       all = _;
-      one = least_answer (keys_of t) (layout_of t) db (has t) text (Text id ∷ []) place (after_tests place) it.0 it.1 at shown (is_after id) (λ r. and_true _ ∙ gt_test (column r place) id) (same_after id);
+      one = least_answer (keys_of t) (layout_of t) db (has t) text (Text id ∷ []) place (from_tests place) it.0 it.1 at shown (is_from id) (λ r. and_true _ ∙ from_test (column r place) (Text id) refl) (same_from id);
       first = first_taken _;
     })
 
-pub finds_language_after : (id : List ℕ) → FindsIn (codes "SELECT language FROM more_names WHERE language > ?1 ORDER BY language LIMIT 1") (Text id ∷ []) (λ t. value_after 2 id t.more_names)
+pub finds_language_from : (id : List ℕ) → FindsIn (codes "SELECT language FROM more_names WHERE language >= ?1 ORDER BY language LIMIT 1") (Text id ∷ []) (λ t. value_from 2 id t.more_names)
 unfolding everything
-finds_language_after id = value_in MoreNames 2 3 id (λ r. refl) (λ tree. refl, refl)
+finds_language_from id = value_in MoreNames 2 3 id (λ r. refl) (λ tree. refl, refl)
 
 -- ---- the keys of a list's map are those of the list in order
 
@@ -125,9 +123,6 @@ module _ {K : Type 0} {R : K → K → Ordering} (o : IsKeyOrder R) where
 
   is_key : {X : Type 0} (es : List (K × X)) (x : K) → list_any (eq_by_cmp R x) (map (λ e. e.0) es) ≡ fin.contains_key (fin.from_entries {R = R} es) x
   is_key es x = sym (entries.is_some-find R x es) ∙ ap is_some (sym (fin.get-from_entries o.total es x))
-
-  key_has : {X : Type 0} (es : List (K × X)) (e : K × X) → fin.get (fin.from_entries {R = R} es) e.0 ≡ Some e.1 → Has (map (λ e. e.0) es) e.0
-  key_has es e found = any_has (map (λ x. x.0) es) e.0 (is_key es e.0 ∙ ap is_some found)
 
   in_order_is : {X : Type 0} (es : List (K × X)) → in_order R (map (λ e. e.0) es) ≡ fin.keys (fin.from_entries {R = R} es)
   in_order_is {X} es =
@@ -165,60 +160,13 @@ in_order_rows s =
     ∙ ap (map language_row) (in_order_is text_order (by_language es))
     ∙ map_map (λ e. e.0) language_row (fin.entries (names_by_language s))
 
-of_key : (s : Operator) (key : NameKey) {name : List ℕ} → IsNameAt s key name → is_language (part_at key 2) ≡ true
-of_key s key it = ap (λ (k : NameKey). is_language (part_at k 2)) it.key_is ∙ it.good.language
-
--- each of them is one
-all_languages : (s : Operator) → IsSound s → (language : List ℕ) → Has (languages_in (fin.entries s.more_names)) language → is_language language ≡ true
-all_languages s sound language has =
-    let es = fin.entries s.more_names in
-    let x = map_has (λ e. e.0) (by_language es) language has in
-    let y = map_has (λ e. (part_at e.0 2, e.1)) es x.0 x.1 in
-    ap is_language (x.2 ∙ ap (λ e. e.0) y.2) ∙ of_key s y.0.0 (sound.names.names y.0.0 y.0.1 (has_get texts_order.total s.more_names y.0 y.1))
-
-are_languages : (s : Operator) → IsSound s → (e : List ℕ × List ℕ) → fin.get (names_by_language s) e.0 ≡ Some e.1 → is_language e.0 ≡ true
-are_languages s sound e found = all_languages s sound e.0 (key_has text_order (by_language (fin.entries s.more_names)) e found)
-
--- ---- the text after which a walk goes on
-
-above_zero : (b : ℕ) → is_language_byte b ≡ true → nat_cmp b 0 ≡ Greater
-above_zero b good = grind arith
-
--- with a byte 0 behind it a text stands before the same languages as without
-behind_zero : (x after : List ℕ) → list_all is_language_byte x ≡ true → is_gt (text_cmp x (after ++ 0 ∷ [])) ≡ is_gt (text_cmp x after)
-behind_zero [] [] good = refl
-behind_zero [] (c ∷ cs) good = refl
-behind_zero (b ∷ bs) [] good = ap (λ r. is_gt (ordering_then r (text_cmp bs []))) (above_zero b (and_parts (is_language_byte b) (list_all is_language_byte bs) good).0)
-behind_zero (b ∷ bs) (c ∷ cs) good = by (nat_cmp b c) (behind_zero bs cs (and_parts (is_language_byte b) (list_all is_language_byte bs) good).1)
-  where
-    by : (r : Ordering) → is_gt (text_cmp bs (cs ++ 0 ∷ [])) ≡ is_gt (text_cmp bs cs) → is_gt (ordering_then r (text_cmp bs (cs ++ 0 ∷ []))) ≡ is_gt (ordering_then r (text_cmp bs cs))
-    by Less rest = refl
-    by Equal rest = rest
-    by Greater rest = refl
-
-language_behind : (after language : List ℕ) → is_language language ≡ true → is_behind (after ++ 0 ∷ []) (language_row language) ≡ is_behind after (language_row language)
-language_behind after language good =
-    ap is_gt (value_cmp-Text language (after ++ 0 ∷ []))
-    ∙ behind_zero language after (and_parts (has_length SHORTEST_LANGUAGE LONGEST_LANGUAGE language) (list_all is_language_byte language) good).1
-    ∙ sym (ap is_gt (value_cmp-Text language after))
-
--- the same languages come after it as after the language
-starts_alike : (after : Option (List ℕ)) (languages : List (List ℕ)) → ((language : List ℕ) → Has languages language → is_language language ≡ true)
-    → filter (is_behind (start_after after)) (map language_row languages) ≡ filter (is_behind (unwrap_or after [])) (map language_row languages)
-starts_alike None languages good = refl
-starts_alike (Some after) [] good = refl
-starts_alike (Some after) (l ∷ ls) good =
-    ap₂ (λ (b : Bool) (rest : List Row). cond b (language_row l ∷ rest) rest) (language_behind after l (good l (inl refl))) (starts_alike (Some after) ls (λ k has. good k (inr has)))
-
--- the value after a text is the next language
-pub language_after : (s : Operator) → IsSound s → (after : Option (List ℕ)) (start : List ℕ) → start ≡ start_after after → value_after 2 start (map stored_name (fin.entries s.more_names)) ≡ option_map language_row (next_language after s)
-language_after s sound after start is =
+-- the first value from a start on is the next language
+pub language_after : (s : Operator) (after : Option (List ℕ)) (start : List ℕ) → start ≡ start_after after → value_from 2 start (map stored_name (fin.entries s.more_names)) ≡ option_map language_row (next_language after s)
+language_after s after start is =
     let ks = languages_in (fin.entries s.more_names) in
-    let before = unwrap_or after [] in
-    ap (λ rows. slice_get (in_order row_cmp (filter (is_behind start) rows)) 0) (in_rows (fin.entries s.more_names))
-    ∙ ap (λ rows. slice_get (in_order row_cmp rows) 0) (ap (λ text. filter (is_behind text) (map language_row ks)) is ∙ starts_alike after ks (all_languages s sound))
-    ∙ ap (λ rows. slice_get rows 0) (order_filter row_cmp_total (is_behind before) (map language_row ks) (rows_apart ks) ∙ ap (filter (is_behind before)) (in_order_rows s))
-    ∙ row_after is_language refl (names_by_language s) (are_languages s sound) (λ e. language_row e.0) (λ e. refl) after before refl
+    ap (λ rows. slice_get (in_order row_cmp (filter (begins_from start) rows)) 0) (in_rows (fin.entries s.more_names))
+    ∙ ap (λ rows. slice_get rows 0) (order_filter row_cmp_total (begins_from start) (map language_row ks) (rows_apart ks) ∙ ap (filter (begins_from start)) (in_order_rows s))
+    ∙ first_behind (λ e. language_row e.0) (λ e. refl) after start is (names_by_language s)
     ∙ of_entry (first_after after (names_by_language s))
   where
     of_entry : (o : Option (List ℕ × List ℕ)) → option_map (λ e. language_row e.0) o ≡ option_map language_row (option_map (λ e. e.0) o)

@@ -1,5 +1,5 @@
 -- What is read of the row of the next type, region, station or plan.
-use Rattle.std.proofs.Common.{◌≡◌, inl, inr, ℕ, ℤ, List, [], ◌∷◌, codes, filter, find, slice_get, Bool, true, false, cond, Option, Some, None, Result, Ok, IfOk, refl, sym, ap, subst, ◌∙◌}
+use Rattle.std.proofs.Common.{◌≡◌, inl, inr, ℕ, ℤ, List, [], ◌∷◌, find, slice_get, Bool, true, false, cond, Option, Some, None, Result, Ok, IfOk, refl, sym, ap, subst, ◌∙◌}
 use Rattle.std.specs.Prelude.{option_map}
 use Rattle.std.specs.Option.{ok_or}
 use Rattle.std.specs.Ordering.{is_lt}
@@ -9,7 +9,6 @@ use Rattle.std.proofs.lemmas.Option.{same_Some}
 use Rattle.sqlite_value.specs.declared.value.Value.{Value}
 use Rattle.sqlite_value.specs.declared.value.Value.TheVariants.{Int, Text}
 use Rattle.sqlite_value.specs.Order.{Row, column}
-use Rattle.sqlite_tied.specs.Compute.{everything}
 use Rattle.sqlite_rules.specs.Lists.{Has}
 use Rattle.bike_fields.specs.declared.numbers.TheConstants.{MOST_DOCKS}
 use Rattle.bike_catalogue.specs.declared.vehicle.Form.{Form}
@@ -18,32 +17,15 @@ use Rattle.bike_catalogue.specs.Rows.{PlanRow, TypeRow, StationRow, RegionRow, r
 use Rattle.bike_catalogue.specs.Vehicle.{form_text, propulsion_text}
 use Rattle.bike_operator.specs.Operator.{Operator, Station, text_cmp}
 use Rattle.bike_operator.specs.Sound.{IsSound}
-use Rattle.bike_book.specs.Tables.{Types, Regions, Plans}
 use Rattle.bike_book.specs.Rows.{type_row, region_row, station_row}
 use Rattle.bike_book.specs.Stored.{stored_plan}
 use Rattle.bike_book.proofs.Keys.{texts}
 use Rattle.bike_book.proofs.MapRows.{has_get}
 use Rattle.bike_schema.specs.declared.fault.StatementFault.{StatementFault}
 use Rattle.bike_schema.specs.Columns.{number_in, moment_in, flag_in, text_in, ident_in, name_in, or_none, read_or_failed}
-use Rattle.bike_schema.proofs.AnswerLemmas.{FindsIn}
 use Rattle.bike_schema.proofs.ReadLemmas.{number_read, moment_read, flag_read, text_read, ident_read, name_read, optional_ident_read}
 use Rattle.bike_queries.specs.After.{HoldsStation, IsNext, first_after, station_of}
 use Rattle.bike_queries.specs.declared.stations.StationInfo.{StationInfo}
-use Rattle.bike_queries.proofs.AfterLaw.{is_behind, after_in}
-
--- ---- the statements
-
-pub finds_type_after : (id : List ℕ) → FindsIn (codes "SELECT * FROM types WHERE type_id > ?1 ORDER BY type_id LIMIT 1") (Text id ∷ []) (λ t. slice_get (filter (is_behind id) t.types) 0)
-unfolding everything
-finds_type_after id = after_in Types 1 id (λ r. refl) (λ tree. refl, refl)
-
-pub finds_region_after : (id : List ℕ) → FindsIn (codes "SELECT * FROM regions WHERE region_id > ?1 ORDER BY region_id LIMIT 1") (Text id ∷ []) (λ t. slice_get (filter (is_behind id) t.regions) 0)
-unfolding everything
-finds_region_after id = after_in Regions 1 id (λ r. refl) (λ tree. refl, refl)
-
-pub finds_plan_after : (id : List ℕ) → FindsIn (codes "SELECT * FROM plans WHERE plan_id > ?1 ORDER BY plan_id LIMIT 1") (Text id ∷ []) (λ t. slice_get (filter (is_behind id) t.plans) 0)
-unfolding everything
-finds_plan_after id = after_in Plans 1 id (λ r. refl) (λ tree. refl, refl)
 
 -- ---- the next entry
 

@@ -1,6 +1,5 @@
 -- The entries of a page: each is the map's and comes after the page's beginning, they are apart, and none comes after the last.
-use Rattle.std.proofs.Common.{◌≡◌, inl, inr, ℕ, zero, suc, List, [], ◌∷◌, ◌++◌, map, take, filter, find, slice_get, Bool, ◌&&◌, true, false, cond, T, Option, Some, None, Ordering, Less, Equal, Greater, refl, sym, ap, subst, ◌∙◌}
-use Rattle.std.specs.Prelude.{unwrap_or}
+use Rattle.std.proofs.Common.{◌≡◌, inl, inr, ℕ, zero, suc, List, [], ◌∷◌, ◌++◌, map, take, filter, find, slice_get, Bool, ◌&&◌, true, false, not, cond, T, Option, Some, None, Ordering, Less, Equal, Greater, refl, sym, ap, subst, ◌∙◌}
 use Rattle.std.specs.List.{AllZip}
 use Rattle.std.specs.Ordering.{is_eq, is_lt, is_le, ordering_reverse}
 use Rattle.std.specs.Cmp.{tied_itself}
@@ -17,8 +16,9 @@ use Rattle.bike_operator.specs.Operator.{text_cmp}
 use Rattle.bike_places.proofs.MapLemmas.{text_order}
 use Rattle.bike_book.proofs.MapRows.{both, below_has}
 use Rattle.bike_queries.specs.declared.pages.TheConstants.{STATIONS_A_PAGE}
-use Rattle.bike_queries.specs.After.{first_after}
+use Rattle.bike_queries.specs.After.{first_after, start_after}
 use Rattle.bike_queries.specs.Pages.{entries_after, page_after, is_own, AreApart}
+use Rattle.bike_queries.proofs.AfterLaw.{comes_after, start_is}
 use Rattle.bike_queries.proofs.GroupLaw.{all_pass}
 
 has_take : {X : Type 0} (n : ℕ) (xs : List X) (x : X) → Has (take n xs) x → Has xs x
@@ -107,23 +107,16 @@ module _ {X : Type 0} where
 
   -- ---- where they stand
 
-  -- Where the keys are texts of a kind that the empty text isn't, those after the text from which the walk goes on are those after the identifier.
-  module _ (is_kind : List ℕ → Bool) (none : is_kind [] ≡ false) (m : FinMap text_cmp X) (named : (e : List ℕ × X) → Has (entries m) e → is_kind e.0 ≡ true) where
-    pub entries_start : (after : Option (List ℕ)) (start : List ℕ) → start ≡ unwrap_or after [] → filter (λ e. is_lt (text_cmp start e.0)) (entries m) ≡ entries_after after m
-    entries_start None start is =
-        ap (λ (id : List ℕ). filter (λ e. is_lt (text_cmp id e.0)) (entries m)) is
-        ∙ all_pass (λ e. is_lt (text_cmp [] e.0)) (entries m) (λ e has. less e.0 (named e has))
-      where
-        less : (id : List ℕ) → is_kind id ≡ true → is_lt (text_cmp [] id) ≡ true
-        less [] good = absurd cc
-        less (c ∷ cs) good = refl
-    entries_start (Some id) start is = ap (λ (id : List ℕ). filter (λ e. is_lt (text_cmp id e.0)) (entries m)) is
+  -- each of the page is the map's, and comes after what the page comes after
+  here_after : (after : Option (List ℕ)) (m : FinMap text_cmp X) (e : List ℕ × X) → Has (entries_after after m) e → Has (entries m) e × (comes_after after e.0 ≡ true)
+  here_after None m e has = (has, refl)
+  here_after (Some id) m e has = has_filter (λ x. is_lt (text_cmp id x.0)) (entries m) e has
 
-    pub page_has : (after : Option (List ℕ)) (start : List ℕ) → start ≡ unwrap_or after [] → (e : List ℕ × X) → Has (page_after after m) e
-        → Has (entries m) e × (is_lt (text_cmp start e.0) ≡ true)
-    page_has after start is e has =
-        has_filter (λ x. is_lt (text_cmp start x.0)) (entries m) e
-        (subst (λ (es : List (List ℕ × X)). Has es e) (sym (entries_start after start is)) (has_take STATIONS_A_PAGE (entries_after after m) e has))
+  pub page_has : (m : FinMap text_cmp X) (after : Option (List ℕ)) (start : List ℕ) → start ≡ start_after after → (e : List ℕ × X) → Has (page_after after m) e
+      → Has (entries m) e × (not (is_lt (text_cmp e.0 start)) ≡ true)
+  page_has m after start is e has =
+      let it = here_after after m e (has_take STATIONS_A_PAGE (entries_after after m) e has) in
+      (it.0, ap (λ (t : List ℕ). not (is_lt (text_cmp e.0 t))) is ∙ start_is after e.0 ∙ it.1)
 
   -- ---- apart
 

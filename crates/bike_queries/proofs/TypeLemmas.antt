@@ -1,20 +1,11 @@
 -- The identifiers in the rows of all vehicle types.
-use Rattle.std.proofs.Common.{◌≡◌, ◌+◌, ◌++◌, ◌≤◌, ◌<◌, ℕ, List, [], ◌∷◌, length, take, get_or, map, codes, Option, Some, refl, sym, ap, ap₂, ◌∙◌}
+use Rattle.std.proofs.Common.{◌≡◌, ◌+◌, ◌++◌, ◌≤◌, ◌<◌, ℕ, List, [], ◌∷◌, length, take, get_or, map, Option, Some, refl, sym, ap, ap₂, ◌∙◌}
 use Rattle.std.proofs.lemmas.List.{map_more, map_push, take_all}
 use Rattle.sqlite_value.specs.Order.{Row, column}
-use Rattle.sqlite_tied.specs.Compute.{everything}
-use Rattle.bike_rows.proofs.SelectLaws.{ordered_rows}
 use Rattle.bike_catalogue.specs.Rows.{TypeRow}
-use Rattle.bike_book.specs.Tables.{Types}
 use Rattle.bike_book.specs.Stored.{stored_type}
 use Rattle.bike_schema.specs.Columns.{ident_in}
-use Rattle.bike_schema.proofs.KeyLemmas.{table_key}
 use Rattle.bike_schema.proofs.ReadLemmas.{ident_read}
-use Rattle.bike_accounts.proofs.SegmentLemmas.{ListsIn}
-
-pub lists_types : ListsIn (codes "SELECT * FROM types ORDER BY type_id") [] (λ t. t.types)
-unfolding everything
-lists_types = record { lists = λ db has. ordered_rows (table_key Types) (has Types) (λ tree. refl, refl) }
 
 -- the identifier with which a row begins
 abbrev pub begins_with : Row → Option (List ℕ)

@@ -14,6 +14,11 @@ abbrev pub first_after : {V : Type 0} → Option (List ℕ) → FinMap text_cmp 
 first_after None m = slice_get (entries m) 0
 first_after (Some id) m = find (λ e. is_lt (text_cmp id e.0)) (entries m)
 
+-- the text from which a walk goes on: no text lies between one and the same with a byte 0 behind it
+abbrev pub start_after : Option (List ℕ) → List ℕ
+start_after None = []
+start_after (Some text) = text ++ 0 ∷ []
+
 -- the entry's value was answered, and that has the entry's identifier; or there is no entry
 abbrev pub IsNext : {V : Type 0} → (V → List ℕ) → Option (List ℕ × V) → Option V → Type 0
 IsNext id None None = Unit {0}
@@ -43,11 +48,6 @@ pub record HoldsStation (row : Row) (x : Station) : Type 0 where
 -- the first language of further names after this one, or the first of all
 abbrev pub next_language : Option (List ℕ) → Operator → Option (List ℕ)
 next_language after s = option_map (λ e. e.0) (first_after after (names_by_language s))
-
--- the text after which a walk over languages goes on: no language has a byte 0
-abbrev pub start_after : Option (List ℕ) → List ℕ
-start_after None = []
-start_after (Some language) = language ++ 0 ∷ []
 
 -- a language in a row of its own
 abbrev pub language_row : List ℕ → Row

@@ -1,24 +1,21 @@
 -- A page of stations: the first ones of those that come next, each with the rows of other tables that are its own.
-use Rattle.std.specs.Prelude.{◌≡◌, ◌&&◌, ◌++◌, ℕ, List, [], ◌∷◌, Bool, false, not, map, take, filter, Option, Some, None}
+use Rattle.std.specs.Prelude.{◌≡◌, ◌++◌, ℕ, List, [], ◌∷◌, Bool, false, map, take, filter, Option, Some, None}
 use Rattle.std.specs.List.{AllZip}
-use Rattle.std.specs.Ordering.{is_lt, is_gt, is_le, is_eq}
+use Rattle.std.specs.Ordering.{is_lt}
 use Rattle.std.specs.Str.{bytes_eq}
 use Rattle.std.specs.FinMap as fin
 use Rattle.std.specs.FinMap.{FinMap, entries}
 use Rattle.sqlite_rules.specs.Lists.{Has}
 use Rattle.sqlite_value.specs.declared.value.Value.{Value}
 use Rattle.sqlite_value.specs.declared.value.Value.TheVariants.{Text}
-use Rattle.sqlite_value.specs.Order.{Row, column, value_cmp}
-use Rattle.sqlite_sql.specs.Ops.{is_null}
-use Rattle.bike_catalogue.specs.Rows.{MoreNameRow}
+use Rattle.sqlite_value.specs.Order.{Row, column}
 use Rattle.bike_operator.specs.NameKind.TheVariants as named
-use Rattle.bike_operator.specs.NameKinds.{kind_text}
 use Rattle.bike_operator.specs.Names.{further_names}
-use Rattle.bike_operator.specs.Operator.{Operator, Station, NameKey, text_cmp}
+use Rattle.bike_operator.specs.Operator.{Operator, Station, text_cmp}
 use Rattle.bike_operator.specs.Sound.{IsSound}
-use Rattle.bike_book.specs.Stored.{stored_station, stored_name}
+use Rattle.bike_book.specs.Stored.{stored_station}
 use Rattle.bike_schema.specs.Columns.{text_in}
-use Rattle.bike_accounts.specs.ReadRows.{named_in}
+use Rattle.bike_accounts.specs.ReadRows.{IsOwnedName}
 use Rattle.bike_feed_texts.specs.Trees.{further_languages}
 use Rattle.bike_queries.specs.declared.pages.TheConstants.{STATIONS_A_PAGE}
 use Rattle.bike_queries.specs.declared.stations.StationInfo.{StationInfo}
@@ -79,10 +76,6 @@ abbrev pub AreApart : List Row → Type 0
 AreApart [] = Unit {0}
 AreApart (r ∷ rs) = ((q : Row) → Has rs q → (is_own r q ≡ false) × (is_own q r ≡ false)) × AreApart rs
 
--- the value comes after the text, and not after the other one
-abbrev pub is_between : List ℕ → List ℕ → Value → Bool
-is_between start last v = is_gt (value_cmp v (Text start)) && (not (is_null v) && is_le (value_cmp v (Text last)))
-
 -- the rows are those of the page after this identifier
 abbrev pub ArePage : Operator → Option (List ℕ) → List Row → Type 0
 ArePage s after rows = rows ≡ map (stored_station s) (page_after after s.stations)
@@ -98,18 +91,6 @@ EndsWith rows (Some text) = (front : List Row) × (last : Row) × (rows ≡ fron
 abbrev pub ReadsStatus : List (List ℕ) → Row → List Row → StationStatus → Type 0
 ReadsStatus type_ids station own x = (s : Operator) (e : List ℕ × Station) → IsSound s → station ≡ stored_station s e → e.0 ≡ e.1.row.station_id
     → IsStationOf e x.info × (AreCountRows s e.0 own → type_ids ≡ fin.keys s.types → AreCountsOf s e.0 e.1 x.counts)
-
--- a further name, behind the identifier of what has it
-abbrev pub owned_name : Row → Row
-owned_name row = column row 1 ∷ column row 2 ∷ column row 3 ∷ []
-
--- the row is of a further name, and this is it
-abbrev pub IsOwnedName : Row → MoreNameRow → Type 0
-IsOwnedName row x = (e : NameKey × List ℕ) → row ≡ owned_name (stored_name e) → x ≡ named_in e
-
--- a station's name, whose identifier comes after the text and not after the other
-abbrev pub is_station_name : List ℕ → List ℕ → Row → Bool
-is_station_name start last row = is_eq (value_cmp (column row 0) (Text (kind_text named.Station))) && is_between start last (column row 1)
 
 -- of the row of a station and the rows of its names
 abbrev pub ReadsNamed : Row → List Row → NamedStation → Type 0

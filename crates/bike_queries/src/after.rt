@@ -1,16 +1,23 @@
 //! Where a walk in byte order of identifiers goes on.
 
-ghost use Rattle.std.specs.Prelude.{◌≡◌, [], option_map, unwrap_or};
+ghost use Rattle.std.specs.Prelude.{◌≡◌, option_map};
+ghost use Rattle.bike_queries.specs.After.{start_after};
 
-use bike_fields::Ident;
+use arrayvec::ArrayString;
+use bike_fields::{Ident, LONGEST_IDENT};
 
-/// The text after which the walk goes on: the identifier, or at first the empty text, after which every identifier comes. So
-/// one statement serves both.
-pub(crate) fn start_of(after: Option<&Ident>) -> &str
-    ensures { result.now ≡ unwrap_or (option_map (λ id. id.now) after.entry) [] }
+/// Room for an identifier and the byte behind it.
+const START_LENGTH: usize = LONGEST_IDENT + 1;
+
+/// The text from which the walk goes on: the identifier with a byte 0 behind it, which is the first text after it, or at first the
+/// empty text. So one statement serves both.
+pub(crate) fn start_of(after: Option<&Ident>) -> ArrayString<START_LENGTH>
+    ensures { result.bytes ≡ start_after (option_map (λ id. id.now) after.entry) }
 {
-    match after {
-        Some(id) => id.as_str(),
-        None => "",
+    let mut start = ArrayString::new();
+    if let Some(id) = after {
+        start.push_str(id.as_str());
+        start.push('\0');
     }
+    start
 }

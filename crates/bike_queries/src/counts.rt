@@ -1,14 +1,13 @@
 //! The counts of a station, by the numbers that its tables keep.
 
-ghost use Rattle.std.specs.Prelude.{◌≡◌, [], ◌∷◌, IfOk, OnOk, filter, find};
+ghost use Rattle.std.specs.Prelude.{◌≡◌, [], IfOk, OnOk, find};
 ghost use Rattle.sqlite_value.specs.declared.value.Value.TheVariants.{Text};
 ghost use Rattle.bike_book.specs.Tables.{Counts as CountRows};
-ghost use Rattle.sqlite_value.specs.Order.{column};
-ghost use Rattle.bike_book.specs.Found.{rows_by, rows_of};
+ghost use Rattle.bike_book.specs.Found.{rows_of};
 ghost use Rattle.bike_schema.specs.Answers.{Answers};
+ghost use Rattle.bike_accounts.specs.Within.{rows_within};
 ghost use Rattle.bike_fleet.specs.Fleet.{type_counts_of};
 ghost use Rattle.bike_fleet.specs.Holds.{HoldsAny, HoldsCounts};
-ghost use Rattle.bike_queries.specs.Pages.{is_between};
 ghost use Rattle.bike_queries.specs.StationCounts.{Adds, AreCountRows, AreCountsAt, IsTally, counts_with, is_of};
 
 use crate::columns::whole_at;
@@ -44,33 +43,19 @@ pub(crate) struct Tally {
     by_type: Vec<TypeCount>,
 }
 
-/// The rows of the station's counts, at most one a vehicle type, in byte order of the types' identifiers.
-fn select_counts<S: Alter>(
+/// The rows of the counts of the stations whose identifiers lie between two texts, both among them: station by station, of each at most
+/// one a vehicle type, in byte order of the types' identifiers.
+pub(crate) fn select_counts<S: Alter>(
     conn: &mut Connection<S>,
-    station: &Ident,
-) -> Result<Vec<Row>, StatementFault>
-    ensures { Answers S.Store conn.old conn.new result
-        (λ s m rows. rows.items ≡ rows_by s m CountRows (0 ∷ []) (Text station.now ∷ [])) }
-{
-    let rows = conn.query_all(
-        "SELECT * FROM counts WHERE station_id = ?1 ORDER BY station_id, type_id",
-        params![station.as_str()],
-    )?;
-    Ok(rows)
-}
-
-/// The rows of the counts of the stations whose identifiers come after the one and not after the other, station by station.
-pub(crate) fn select_counts_between<S: Alter>(
-    conn: &mut Connection<S>,
-    start: &str,
+    first: &str,
     last: &str,
 ) -> Result<Vec<Row>, StatementFault>
     ensures { Answers S.Store conn.old conn.new result
-        (λ s m rows. rows.items ≡ filter (λ row. is_between start.now last.now (column row 0)) (rows_of s m CountRows)) }
+        (λ s m rows. rows.items ≡ rows_within (Text first.now) (Text last.now) (rows_of s m CountRows)) }
 {
     let rows = conn.query_all(
-        "SELECT * FROM counts WHERE station_id > ?1 AND station_id <= ?2 ORDER BY station_id, type_id",
-        params![start, last],
+        "SELECT * FROM counts WHERE station_id >= ?1 AND station_id <= ?2 ORDER BY station_id, type_id",
+        params![first, last],
     )?;
     Ok(rows)
 }
@@ -192,7 +177,7 @@ pub(crate) fn find_tally<S: Alter>(
     requires { room.items ≡ [] }
     ensures { Answers S.Store conn.old conn.new result (λ s m x. IsTally s station.now type_ids.now x) }
 {
-    let counts = select_counts(conn, station)?;
+    let counts = select_counts(conn, station.as_str(), station.as_str())?;
     tally_rows(alloc, type_ids, counts.as_slice(), room)
 }
 

@@ -14,9 +14,8 @@ use std::alloc::Global;
 /// Room for a language and the byte behind it.
 const START_LENGTH: usize = LONGEST_LANGUAGE + 1;
 
-/// The text after which the walk goes on: the language with a byte 0 behind it, or at first the empty text. The same languages come
-/// after it as after the language, since none has a byte 0. But no name in the language itself does, so that the engine, which
-/// seeks the first that isn't less, has none of these to pass.
+/// The text from which the walk goes on: the language with a byte 0 behind it, which is the first text after it, or at first the
+/// empty text. No name in the language itself comes then, so that the engine has none of these to pass.
 fn start_of(after: Option<&Language>) -> ArrayString<START_LENGTH>
     ensures { result.bytes ≡ start_after (option_map (λ l. l.now) after.entry) }
 {
@@ -39,7 +38,7 @@ fn select_language<S: Alter>(
     let start = start_of(after);
     first_row(
         conn,
-        "SELECT language FROM more_names WHERE language > ?1 ORDER BY language LIMIT 1",
+        "SELECT language FROM more_names WHERE language >= ?1 ORDER BY language LIMIT 1",
         params![start.as_str()],
     )
 }

@@ -6,12 +6,11 @@ ghost use Rattle.bike_schema.specs.Answers.{Answers};
 ghost use Rattle.bike_queries.specs.After.{IsNext, first_after};
 
 use crate::after::start_of;
-use bike_accounts::find_plan;
+use bike_accounts::{find_plan, find_plan_row_from};
 use bike_catalogue::Plan;
 use bike_fields::Ident;
-use bike_rows::lookup::first_row;
 use bike_schema::{StatementFault, ident_at};
-use sqlite::{Alter, Connection, Row, params};
+use sqlite::{Alter, Connection, Row};
 use std::alloc::Global;
 
 /// The row of the first pricing plan whose identifier comes after this one, or of the first of all.
@@ -22,11 +21,8 @@ fn select_plan<S: Alter>(
     ensures { Answers S.Store conn.old conn.new result
         (λ s m row. row ≡ option_map stored_plan (first_after (option_map (λ id. id.now) after.entry) s.plans)) }
 {
-    first_row(
-        conn,
-        "SELECT * FROM plans WHERE plan_id > ?1 ORDER BY plan_id LIMIT 1",
-        params![start_of(after)],
-    )
+    let start = start_of(after);
+    find_plan_row_from(conn, start.as_str())
 }
 
 /// The identifier of that plan.

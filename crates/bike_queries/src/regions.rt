@@ -9,9 +9,9 @@ ghost use Rattle.bike_queries.specs.After.{IsNext, first_after};
 use crate::after::start_of;
 use bike_catalogue::Region;
 use bike_fields::Ident;
-use bike_rows::lookup::first_row;
+use bike_fleet::find_region_row_from;
 use bike_schema::{StatementFault, ident_at, name_at};
-use sqlite::{Alter, Connection, Row, params};
+use sqlite::{Alter, Connection, Row};
 use std::alloc::Global;
 
 /// The row of the first region whose identifier comes after this one, or of the first of all.
@@ -22,11 +22,8 @@ fn select_region<S: Alter>(
     ensures { Answers S.Store conn.old conn.new result
         (λ s m row. row ≡ option_map stored_region (first_after (option_map (λ id. id.now) after.entry) s.regions)) }
 {
-    first_row(
-        conn,
-        "SELECT * FROM regions WHERE region_id > ?1 ORDER BY region_id LIMIT 1",
-        params![start_of(after)],
-    )
+    let start = start_of(after);
+    find_region_row_from(conn, start.as_str())
 }
 
 /// The region that stands in a row of `regions`.

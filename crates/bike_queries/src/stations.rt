@@ -1,22 +1,19 @@
 //! The stations with their further names in byte order of their identifiers, page by page.
 
-ghost use Rattle.std.specs.Prelude.{◌≡◌, IfOk, filter, map, option_map};
-ghost use Rattle.std.specs.List.{AllZip};
-ghost use Rattle.bike_book.specs.Tables.{MoreNames};
-ghost use Rattle.bike_book.specs.Found.{rows_of};
+ghost use Rattle.std.specs.Prelude.{◌≡◌, IfOk, option_map};
 ghost use Rattle.bike_schema.specs.Answers.{Answers};
 ghost use Rattle.bike_queries.specs.After.{HoldsStation, station_of};
-ghost use Rattle.bike_queries.specs.Pages.{AreNamedStations, ArePage, IsOwnedName, IsTold, ReadsNamed, is_station_name, owned_name, page_after};
+ghost use Rattle.bike_queries.specs.Pages.{AreNamedStations, ArePage, IsTold, ReadsNamed, page_after};
 
 use crate::after::start_of;
 use crate::columns::micro_at;
 use crate::pages::{OwnerReader, last_text, read_page};
+use bike_accounts::{read_names, select_names};
 use bike_catalogue::{MoreName, NameKind, Station};
 use bike_fields::Ident;
 use bike_fixed::Moment;
 use bike_schema::{
-    StatementFault, flag_at, ident_at, language_at, moment_at, name_at, number_at,
-    optional_ident_at,
+    StatementFault, flag_at, ident_at, moment_at, name_at, number_at, optional_ident_at,
 };
 use sqlite::{Alter, Connection, Row, params};
 use std::alloc::Global;
@@ -56,9 +53,10 @@ pub(crate) fn select_stations<S: Alter>(
     ensures { Answers S.Store conn.old conn.new result
         (λ s m rows. ArePage s (option_map (λ id. id.now) after.entry) rows.items) }
 {
+    let start = start_of(after);
     let rows = conn.query_all(
-        "SELECT * FROM stations_3 WHERE station_id > ?1 ORDER BY station_id LIMIT 64",
-        params![start_of(after)],
+        "SELECT * FROM stations_3 WHERE station_id >= ?1 ORDER BY station_id LIMIT 64",
+        params![start.as_str()],
     )?;
     Ok(rows)
 }
@@ -93,46 +91,6 @@ pub(crate) fn read_info(alloc: Global, row: &Row) -> Result<StationInfo, Stateme
         reported,
         region,
     })
-}
-
-/// The rows of the stations' names in further languages, those of the identifiers after the one and not after the other, each with
-/// its identifier before it.
-fn select_names<S: Alter>(
-    conn: &mut Connection<S>,
-    start: &str,
-    last: &str,
-) -> Result<Vec<Row>, StatementFault>
-    ensures { Answers S.Store conn.old conn.new result
-        (λ s m rows. rows.items ≡ map owned_name (filter (is_station_name start.now last.now) (rows_of s m MoreNames))) }
-{
-    let rows = conn.query_all(
-        "SELECT id, language, name FROM more_names WHERE kind = ?1 AND id > ?2 AND id <= ?3 ORDER BY kind, id, language",
-        params![NameKind::Station.as_str(), start, last],
-    )?;
-    Ok(rows)
-}
-
-/// The further name that stands behind an identifier.
-fn read_name(alloc: Global, row: &Row) -> Result<MoreName, StatementFault>
-    ensures { IfOk result (IsOwnedName row.now) }
-{
-    let language = language_at(alloc, row, 1)?;
-    let name = name_at(alloc, row, 2)?;
-    Ok(MoreName::from_fields(language, name))
-}
-
-/// The further names that stand in these rows.
-fn read_names(alloc: Global, rows: &[Row]) -> Result<Vec<MoreName>, StatementFault>
-    ensures { IfOk result (λ x. AllZip IsOwnedName rows.now x.items) }
-{
-    let mut names = Vec::new(alloc);
-    for row in rows {
-        let name = read_name(alloc, row)?;
-        if names.push(name).is_err() {
-            return Err(StatementFault::NoMemory);
-        }
-    }
-    Ok(names)
 }
 
 /// Reads stations with their further names.
@@ -176,6 +134,7 @@ pub fn find_stations_after<S: Alter>(
     if !translated {
         return read_page(alloc, stations, &[], &NamedReader {});
     }
-    let names = select_names(conn, start_of(after), last)?;
+    let start = start_of(after);
+    let names = select_names(conn, NameKind::Station, start.as_str(), last)?;
     read_page(alloc, stations, names.as_slice(), &NamedReader {})
 }

@@ -7,7 +7,7 @@ ghost use Rattle.bike_queries.specs.Pages.{AreStatuses, ReadsStatus, page_after}
 
 use crate::after::start_of;
 use crate::columns::whole_at;
-use crate::counts::{Counts, select_counts_between, tally_rows};
+use crate::counts::{Counts, select_counts, tally_rows};
 use crate::pages::{OwnerReader, last_text, read_page};
 use crate::stations::{StationInfo, read_info, select_stations};
 use bike_fields::Ident;
@@ -82,7 +82,8 @@ pub fn find_statuses_after<S: Alter>(
     let Some(last) = last_text(stations)? else {
         return Ok(VecDeque::new(alloc));
     };
-    let counts = select_counts_between(conn, start_of(after), last)?;
+    let start = start_of(after);
+    let counts = select_counts(conn, start.as_str(), last)?;
     let reader = StatusReader { type_ids };
     read_page(alloc, stations, counts.as_slice(), &reader)
 }

@@ -5,10 +5,8 @@ ghost use Rattle.std.specs.FinMap.{keys};
 ghost use Rattle.sqlite_value.specs.declared.value.Value.TheVariants.{Text};
 ghost use Rattle.sqlite_value.specs.Order.{column};
 ghost use Rattle.bike_catalogue.specs.Vehicle.{form_text, propulsion_text};
-ghost use Rattle.bike_book.specs.Tables.{Types};
 ghost use Rattle.bike_book.specs.Rows.{type_row};
 ghost use Rattle.bike_book.specs.Stored.{stored_type};
-ghost use Rattle.bike_book.specs.Found.{rows_of};
 ghost use Rattle.bike_schema.specs.Columns.{ident_in};
 ghost use Rattle.bike_schema.specs.Answers.{Answers, IsReadOf};
 ghost use Rattle.bike_queries.specs.After.{IsNext, first_after};
@@ -17,9 +15,9 @@ use crate::after::start_of;
 use crate::columns::str_at;
 use bike_catalogue::{Form, Propulsion, VehicleType};
 use bike_fields::Ident;
-use bike_rows::lookup::first_row;
+use bike_fleet::{find_type_row_from, select_types};
 use bike_schema::{StatementFault, ident_at, name_at, number_at};
-use sqlite::{Alter, Connection, Row, params};
+use sqlite::{Alter, Connection, Row};
 use std::alloc::Global;
 
 /// The row of the first vehicle type whose identifier comes after this one, or of the first of all.
@@ -30,11 +28,8 @@ fn select_type<S: Alter>(
     ensures { Answers S.Store conn.old conn.new result
         (λ s m row. row ≡ option_map stored_type (first_after (option_map (λ id. id.now) after.entry) s.types)) }
 {
-    first_row(
-        conn,
-        "SELECT * FROM types WHERE type_id > ?1 ORDER BY type_id LIMIT 1",
-        params![start_of(after)],
-    )
+    let start = start_of(after);
+    find_type_row_from(conn, start.as_str())
 }
 
 /// The form that the column names.
@@ -83,14 +78,6 @@ pub fn find_type_after<S: Alter>(
         Some(row) => Ok(Some(read_type(alloc, &row)?)),
         None => Ok(None),
     }
-}
-
-/// The rows of all vehicle types, of which there are at most 32, in byte order of their identifiers.
-fn select_types<S: Alter>(conn: &mut Connection<S>) -> Result<Vec<Row>, StatementFault>
-    ensures { Answers S.Store conn.old conn.new result (λ s m rows. rows.items ≡ rows_of s m Types) }
-{
-    let rows = conn.query_all("SELECT * FROM types ORDER BY type_id", &[])?;
-    Ok(rows)
 }
 
 /// The identifiers with which the rows begin.

@@ -1,11 +1,10 @@
-use Rattle.std.proofs.Common.{nat_le, sym, ap, ◌∙◌}
-use Rattle.std.proofs.lemmas.Result.{IfOk-weaker}
-use Rattle.bike_rows.proofs.ListLemmas.{same_some}
+use Rattle.std.proofs.Common.{length, nat_le, ap, ◌∙◌}
 use Rattle.bike_operator.specs.declared.limits.TheConstants.{MOST_PLANS}
 use Rattle.bike_book.proofs.FoundNumbers.{found_numbers}
 use Rattle.bike_schema.proofs.AnswerLemmas.{answers_then}
 use Rattle.bike_accounts.proofs.plans.are_plans_full.Goals as goal
 
-pub returns-in-Some : goal.returns-in-Some
-returns-in-Some g c =
-    answers_then _ _ c.in_ok-row.ensures (λ s m sound listing is. IfOk-weaker c.reaches.result _ _ (λ x reads. reads _ (same_some (sym c.in-Some.is ∙ is)) ∙ ap (nat_le MOST_PLANS) (found_numbers s m sound listing).plans) c.reaches.ensures)
+pub returns : goal.returns
+returns g c =
+    answers_then _ _ c.in_ok-rows.ensures (λ s m sound listing is.
+    c.are_at_least.ensures ∙ ap (nat_le MOST_PLANS) (ap length (c.as_slice.ensures.value ∙ is) ∙ (found_numbers s m sound listing).plans))

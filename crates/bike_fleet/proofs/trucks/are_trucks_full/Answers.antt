@@ -1,8 +1,10 @@
-use Rattle.std.proofs.Common.{nat_le, ap, ◌∙◌}
+use Rattle.std.proofs.Common.{length, nat_le, ap, ◌∙◌}
 use Rattle.bike_operator.specs.declared.limits.TheConstants.{MOST_TRUCKS}
 use Rattle.bike_book.proofs.FoundNumbers.{found_numbers}
-use Rattle.bike_schema.proofs.AnswerLemmas.{answers_made}
+use Rattle.bike_schema.proofs.AnswerLemmas.{answers_then}
 use Rattle.bike_fleet.proofs.trucks.are_trucks_full.Goals as goal
 
 pub returns : goal.returns
-returns g c = answers_made c.in_ok-answer.ensures c.is_full.ensures (λ db x is full s h. full _ (is s h) ∙ ap (nat_le MOST_TRUCKS) (found_numbers s h.listed h.sound h.listing).trucks)
+returns g c =
+    answers_then _ _ c.in_ok-rows.ensures (λ s m sound listing is.
+    c.are_at_least.ensures ∙ ap (nat_le MOST_TRUCKS) (ap length (c.as_slice.ensures.value ∙ is) ∙ (found_numbers s m sound listing).trucks))

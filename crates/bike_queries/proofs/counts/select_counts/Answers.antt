@@ -1,11 +1,12 @@
 use Rattle.std.proofs.Common.{rules}
 use Rattle.bike_rows.proofs.ParamLemmas.{bindings}
 use Rattle.bike_accounts.proofs.SegmentLemmas.{all_answer, all_refused}
-use Rattle.bike_queries.proofs.CountRows.{lists_counts}
+use Rattle.bike_queries.proofs.PageTexts.{lists_counts_within}
 use Rattle.bike_queries.proofs.counts.select_counts.Goals as goal
 
 pub returns : goal.returns
-returns g c = all_answer _ _ _ (lists_counts c.args.station.now) (search bindings) c.in_ok-rows.ensures.mode c.in_ok-rows.ensures.survives (λ rows. rows.items) c.in_ok-rows.ensures.ok
+returns g c = all_answer _ _ _ (lists_counts_within c.args.first.now c.args.last.now) (search bindings) c.in_ok-rows.ensures.mode c.in_ok-rows.ensures.survives (λ rows. rows.items) c.in_ok-rows.ensures.ok
 
 pub returns-in_err-rows : goal.returns-in_err-rows
-returns-in_err-rows g c = all_refused _ _ _ (lists_counts c.args.station.now) (search bindings) c.in_err-rows.ensures.mode c.in_err-rows.ensures.survives _ (search rules) c.in_err-rows.ensures.err
+returns-in_err-rows g c =
+    all_refused _ _ _ (lists_counts_within c.args.first.now c.args.last.now) (search bindings) c.in_err-rows.ensures.mode c.in_err-rows.ensures.survives _ (search rules) c.in_err-rows.ensures.err

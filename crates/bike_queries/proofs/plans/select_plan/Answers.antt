@@ -1,14 +1,8 @@
-use Rattle.std.proofs.Common.{refl, ap, ◌∙◌}
-use Rattle.bike_fields.specs.Bytes.{is_ident}
-use Rattle.bike_rows.proofs.ParamLemmas.{bindings}
+use Rattle.std.proofs.Common.{refl, ◌∙◌}
 use Rattle.bike_book.specs.Stored.{stored_plan}
-use Rattle.bike_schema.proofs.AnswerLemmas.{row_answers, reads_weaker}
+use Rattle.bike_schema.proofs.AnswerLemmas.{reads_weaker}
 use Rattle.bike_queries.proofs.AfterLaw.{row_after}
-use Rattle.bike_queries.proofs.NextLemmas.{finds_plan_after}
 use Rattle.bike_queries.proofs.plans.select_plan.Goals as goal
 
 pub returns : goal.returns
-returns g c =
-    let start = c.start_of.result.now in
-    reads_weaker (row_answers (finds_plan_after start) c.first_row.ensures (search bindings)) (λ db row is s h.
-    is s h ∙ row_after is_ident refl s.plans (λ e there. let at = h.sound.catalogue.plans e.0 e.1 there in ap is_ident at.id_is ∙ at.good.plan_id) stored_plan (λ e. refl) _ start c.start_of.ensures)
+returns g c = reads_weaker c.find_plan_row_from.ensures (λ db row is s h. is s h ∙ row_after stored_plan (λ e. refl) _ c.as_str.result.now (c.as_str.ensures.value ∙ c.start_of-start.ensures) s.plans)

@@ -1,7 +1,8 @@
-use Rattle.std.proofs.Common.{◌∙◌, [], refl}
-use Rattle.std.specs.Prelude.{option_map, unwrap_or}
+use Rattle.std.proofs.Common.{◌∙◌, refl}
+use Rattle.std.specs.Prelude.{option_map}
 use Rattle.std.proofs.lemmas.Result.{IfOk-weaker}
 use Rattle.bike_schema.proofs.AnswerLemmas.{answers_then, answers_both}
+use Rattle.bike_queries.specs.After.{start_after}
 use Rattle.bike_queries.specs.Pages.{IsNamedStation}
 use Rattle.bike_queries.proofs.StatusLemmas.{page_apart, nothing_read, named_read, unnamed_read}
 use Rattle.bike_queries.proofs.stations.find_stations_after.Goals as goal
@@ -19,7 +20,7 @@ returns-then-not-translated g c =
     answers_then _ _ c.in_ok-stations.ensures (λ s m sound listing found.
     let are = c.as_slice-stations.ensures.value ∙ found in
     IfOk-weaker c.read_page.result _ _ (λ page read told.
-    unnamed_read s m sound listing after (unwrap_or after []) refl stations c.in-Some.last.now are (rw c.in-Some.is at c.in_ok-last.ensures) page.items (told c.if-not-translated.true) read) (c.read_page.ensures (page_apart s after stations are)))
+    unnamed_read s m sound listing after (start_after after) refl stations c.in-Some.last.now are (rw c.in-Some.is at c.in_ok-last.ensures) page.items (told c.if-not-translated.true) read) (c.read_page.ensures (page_apart s after stations are)))
 
 pub returns : goal.returns
 returns g c =
@@ -28,5 +29,5 @@ returns g c =
     answers_then _ _ (answers_both _ _ c.in_ok-stations.ensures c.in_ok-names.ensures) (λ s m sound listing both.
     let are = c.as_slice-stations.ensures.value ∙ both.0 in
     IfOk-weaker c.read_page-2.result _ _ (λ page read told.
-    named_read s m sound listing after c.start_of.result.now c.start_of.ensures stations c.in-Some.last.now are (rw c.in-Some.is at c.in_ok-last.ensures)
+    named_read s m sound listing after c.as_str.result.now (c.as_str.ensures.value ∙ c.start_of-start.ensures) stations c.in-Some.last.now are (rw c.in-Some.is at c.in_ok-last.ensures)
     c.as_slice.result.now page.items (c.as_slice.ensures.value ∙ both.1) read) (c.read_page-2.ensures (page_apart s after stations are)))

@@ -19,5 +19,5 @@ returns g c =
     answers_then _ _ (answers_both _ _ c.in_ok-stations.ensures c.in_ok-counts.ensures) (λ s m sound listing both.
     let are = c.as_slice-stations.ensures.value ∙ both.0 in
     IfOk-weaker c.read_page.result _ _ (λ page read.
-    statuses_read s m sound listing after c.start_of.result.now c.start_of.ensures stations c.in-Some.last.now are (rw c.in-Some.is at c.in_ok-last.ensures)
+    statuses_read s m sound listing after c.as_str.result.now (c.as_str.ensures.value ∙ c.start_of-start.ensures) stations c.in-Some.last.now are (rw c.in-Some.is at c.in_ok-last.ensures)
     c.as_slice.result.now c.args.type_ids.now page.items (c.as_slice.ensures.value ∙ both.1) read) (c.read_page.ensures (page_apart s after stations are)))
