@@ -1,3 +1,4 @@
+pub mod CollectLaws
 pub mod TextLemmas
 pub mod RowLemmas
 pub mod SegmentLemmas

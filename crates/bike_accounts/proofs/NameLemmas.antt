@@ -15,6 +15,7 @@ use Rattle.bike_rows.specs.Queries.{key_test}
 use Rattle.bike_rows.proofs.SelectLaws.{rows_passing}
 use Rattle.bike_rows.proofs.TestLemmas.{eq_test}
 use Rattle.bike_catalogue.specs.Rows.{MoreNameRow, SystemRow}
+use Rattle.bike_fields.specs.Bytes.{kept_if, is_language, is_name, language_of, name_of}
 use Rattle.bike_operator.specs.NameKind.{NameKind}
 use Rattle.bike_operator.specs.NameKinds.{kind_text}
 use Rattle.bike_operator.specs.Operator.{NameKey}
@@ -83,3 +84,19 @@ key_found (Some r) reads is = ap Some (reads r cc)
 pub no_key : (o : Option SystemRow) → None ≡ option_map system_row o → None ≡ option_map system_key o
 no_key None is = refl
 no_key (Some r) is = absurd cc
+
+-- ---- a name of its row
+
+kept_is : (is_kind : Bool) (text x : List ℕ) → kept_if is_kind text ≡ Some x → x ≡ text
+kept_is true text x kept = cc
+kept_is false text x kept = absurd cc
+
+pub name_of_row : (id language name : List ℕ) (row : Row) (x : MoreNameRow) → row ≡ Text id ∷ Text language ∷ Text name ∷ [] → language_of language ≡ Some x.language → name_of name ≡ Some x.name → IsOwnedName row x
+unfolding language_of name_of
+name_of_row id language name row x is spoken called e stored =
+    let same = sym is ∙ stored in
+    let language_is : language ≡ part_at e.0 2 = cc in
+    let name_is : name ≡ e.1 = cc in
+    let read = kept_is (is_language language) language x.language spoken ∙ language_is in
+    let also = kept_is (is_name name) name x.name called ∙ name_is in
+    λ i. record { language = read i; name = also i }

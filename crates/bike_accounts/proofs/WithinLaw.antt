@@ -171,7 +171,7 @@ all_from row key begins (x ∷ xs) =
 
 -- ---- from the number 0 on
 
-not_below : (n : ℕ) → is_lt (nat_cmp n 0) ≡ false
+pub not_below : (n : ℕ) → is_lt (nat_cmp n 0) ≡ false
 not_below n = by (nat_cmp n 0) (ranks n 0) where
   by : (r : Ordering) → MatchOrdering r (n < 0) (n ≡ 0) (0 < n) → is_lt r ≡ false
   by Less h = absurd (omega (arith, h))

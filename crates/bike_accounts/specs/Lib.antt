@@ -1,4 +1,5 @@
 pub mod Accounts
+pub mod Collect
 pub mod Newest
 pub mod ReadRows
 pub mod Within

@@ -1,7 +1,11 @@
 //! The reads of the tables of riders, rentals, plans, further names, the ledger and kept requests. Each answers what the
 //! operator has whose tables stand in the database, and changes nothing.
+//!
+//! Some give rows, for a walk or a page that reads them (`select_names`, `find_plan_row_from`). `collect_rows` reads all rows of a walk
+//! where the engine has them, into what a `ReadRow` keeps of each.
 #![tactic(auto)]
 
+mod collect;
 mod entries;
 mod kept;
 mod meta;
@@ -14,10 +18,11 @@ mod riders;
 mod segments;
 mod within;
 
+pub use collect::{ReadRow, collect_rows, short_text_at};
 pub use entries::entry_count;
 pub use kept::{KeptRow, find_kept};
 pub use meta::{MetaRow, find_meta};
-pub use names::{find_names, find_system_key, read_names, select_names};
+pub use names::{NameRow, find_names, find_system_key, read_names, select_names};
 pub use newest::newest_tells;
 pub use plans::{are_plans_full, find_plan, find_plan_row_from, has_plan, has_system};
 pub use rentals::{StoredRental, find_rental, is_riding, open_rental_count, rental_count};

@@ -1,13 +1,12 @@
 -- The rows of a table that come after a text, in byte order: those from the text with a byte 0 behind it on.
-use Rattle.std.proofs.Common.{◌≡◌, ◌<◌, inl, inr, ℕ, List, [], ◌∷◌, ◌++◌, filter, find, slice_get, Bool, true, false, not, cond, Option, Some, None, Less, Equal, Greater, Ordering, refl, sym, ap, ◌∙◌, arith}
+use Rattle.std.proofs.Common.{◌≡◌, inl, inr, ℕ, List, [], ◌∷◌, ◌++◌, filter, find, slice_get, Bool, true, false, not, cond, Option, Some, None, Less, Equal, Greater, Ordering, refl, sym, ap, ◌∙◌}
 use Rattle.std.specs.Prelude.{map, option_map}
-use Rattle.std.specs.Cmp.{ranks, nat_cmp_total}
+use Rattle.std.specs.Cmp.{nat_cmp_total}
 use Rattle.std.specs.FinMap.{FinMap, entries}
-use Rattle.std.specs.Ordering.{nat_cmp, is_lt, ordering_reverse, ordering_then, MatchOrdering}
-use Rattle.sqlite_value.specs.declared.value.Value.{Value}
+use Rattle.std.specs.Ordering.{nat_cmp, is_lt, ordering_reverse, ordering_then}
 use Rattle.sqlite_value.specs.declared.value.Value.TheVariants.{Text, Blob}
 use Rattle.sqlite_value.specs.declared.keys.Collation.TheVariants.{Binary}
-use Rattle.sqlite_value.specs.Order.{Row, column, value_cmp}
+use Rattle.sqlite_value.specs.Order.{Row, column}
 use Rattle.sqlite_value.proofs.OrderLemmas.{value_cmp-Text}
 use Rattle.sqlite_sql.specs.Term.{Term, col, op2}
 use Rattle.sqlite_sql.specs.declared.ops.BinaryOp.TheVariants.{Compare}
@@ -15,31 +14,15 @@ use Rattle.sqlite_sql.specs.declared.ops.CompareOp.TheVariants.{Ge}
 use Rattle.sqlite_rules.specs.Lists.{Has}
 use Rattle.bike_operator.specs.Operator.{text_cmp}
 use Rattle.bike_accounts.specs.Within.{is_within, rows_from}
-use Rattle.bike_accounts.proofs.WithinLaw.{from_text, none_below}
-use Rattle.bike_queries.specs.After.{first_after, start_after}
+use Rattle.bike_accounts.proofs.WithinLaw.{from_text, none_below, not_below}
+use Rattle.bike_queries.specs.After.{begins_from, first_after, is_from, start_after}
 use Rattle.bike_queries.specs.Pages.{entries_after}
 
 -- ---- from a text on
 
--- the value isn't below the text
-abbrev pub is_from : List ℕ → Value → Bool
-is_from start v = not (is_lt (value_cmp v (Text start)))
-
--- the first column isn't
-abbrev pub begins_from : List ℕ → Row → Bool
-begins_from start row = is_from start (column row 0)
-
 -- the column at a place of the stored row >= the first parameter
 abbrev pub from_tests : ℕ → List Term
 from_tests place = op2 (Compare Ge Binary) (col 1 place) (col 0 0) ∷ []
-
--- no byte is below 0
-not_below : (b : ℕ) → is_lt (nat_cmp b 0) ≡ false
-not_below b = by (nat_cmp b 0) (ranks b 0) where
-  by : (r : Ordering) → MatchOrdering r (b < 0) (b ≡ 0) (0 < b) → is_lt r ≡ false
-  by Less h = absurd (omega (arith, h))
-  by Equal h = refl
-  by Greater h = refl
 
 -- the texts from one with a byte 0 behind it on are those after it
 next_from : (x after : List ℕ) → not (is_lt (text_cmp x (after ++ 0 ∷ []))) ≡ is_lt (text_cmp after x)

@@ -1,6 +1,5 @@
--- Rows that are read one after another, each with its own: what was taken of the others so far, and what is left.
-use Rattle.std.proofs.Common.{◌≡◌, ◌+◌, ◌<◌, ◌≤◌, inl, inr, ℕ, suc, List, [], ◌∷◌, ◌++◌, length, take, drop, get_or, filter, Bool, true, false, cond, refl, sym, ap, ap₂, subst, ◌∙◌, append_assoc, append-nil, drop-cons, take-append-drop, arith}
-use Rattle.std.proofs.lemmas.List.{take_more, take_all}
+-- Stations that are read one after another, each with its own rows: what was taken of the others so far, and what is left.
+use Rattle.std.proofs.Common.{◌≡◌, ◌<◌, inl, inr, ℕ, suc, List, [], ◌∷◌, ◌++◌, length, map, bytes_eq, filter, Bool, true, false, cond, refl, sym, ap, ap₂, subst, ◌∙◌, append_assoc, append-nil, arith}
 use Rattle.std.proofs.lemmas.List.Elements.{filter-append}
 use Rattle.std.specs.List.{AllZip, All}
 use Rattle.std.proofs.lemmas.Slice.Eq.{bytes_eq-Decides}
@@ -13,13 +12,13 @@ use Rattle.bike_queries.specs.Pages.{is_same_text, is_own, own_rows, AreApart}
 
 -- ---- one text
 
-same_text : (v w : Value) → is_same_text v w ≡ true → w ≡ v
-same_text (Text t) (Text u) same = ap Text ((bytes_eq-Decides u t).0 same)
-same_text v w same = absurd cc
+same_text : (id : List ℕ) (w : Value) → is_same_text (Text id) w ≡ true → w ≡ Text id
+same_text id (Text u) same = ap Text ((bytes_eq-Decides u id).0 same)
+same_text id w same = absurd cc
 
--- a row of one owner's is no other's
-others : (q owner row : Row) → is_own owner row ≡ true → is_own q owner ≡ false → is_own q row ≡ false
-others q owner row own apart = ap (is_same_text (column q 0)) (same_text (column owner 0) (column row 0) own) ∙ apart
+-- a row of one identifier's is no other's
+no_others : (q id : List ℕ) (row : Row) → is_own id row ≡ true → bytes_eq id q ≡ false → is_own q row ≡ false
+no_others q id row own apart = ap (is_same_text (Text q)) (same_text id (column row 0) own) ∙ apart
 
 -- ---- lists
 
@@ -40,81 +39,70 @@ zipped (x ∷ xs) (y ∷ ys) then all = (then x y (inl refl) all.0, zipped xs ys
 
 -- ---- owners apart
 
-module _ (owner : Row) where
+module _ {O : Type 0} (id : O → List ℕ) (owner : O) where
   -- from those before it, and from those behind
-  apart_front : (front rest : List Row) → AreApart (front ++ owner ∷ rest) → (q : Row) → Has front q → is_own q owner ≡ false
+  apart_front : (front rest : List O) → AreApart id (front ++ owner ∷ rest) → (q : O) → Has front q → bytes_eq (id owner) (id q) ≡ false
   apart_front [] rest apart q has = absurd has
-  apart_front (r ∷ front) rest apart q (inl same) = ap (λ (x : Row). is_own x owner) same ∙ (apart.0 owner (middle front)).0 where
-    middle : (front : List Row) → Has (front ++ owner ∷ rest) owner
+  apart_front (r ∷ front) rest apart q (inl same) = ap (λ (x : O). bytes_eq (id owner) (id x)) same ∙ (apart.0 owner (middle front)).1 where
+    middle : (front : List O) → Has (front ++ owner ∷ rest) owner
     middle [] = inl refl
     middle (x ∷ xs) = inr (middle xs)
   apart_front (r ∷ front) rest apart q (inr has) = apart_front front rest apart.1 q has
 
-  apart_rest : (front rest : List Row) → AreApart (front ++ owner ∷ rest) → (q : Row) → Has rest q → is_own q owner ≡ false
-  apart_rest [] rest apart q has = (apart.0 q has).1
+  apart_rest : (front rest : List O) → AreApart id (front ++ owner ∷ rest) → (q : O) → Has rest q → bytes_eq (id owner) (id q) ≡ false
+  apart_rest [] rest apart q has = (apart.0 q has).0
   apart_rest (r ∷ front) rest apart q has = apart_rest front rest apart.1 q has
 
 -- ---- the rows so far
 
-module _ {X : Type 0} (reads : Row → List Row → X → Type 0) where
+module _ {O X : Type 0} (id : O → List ℕ) (reads : O → List Row → X → Type 0) where
   -- each with its own among some rows
-  abbrev pub AreReadWith : List Row → List Row → List X → Type 0
-  AreReadWith rows owners items = AllZip (λ owner x. reads owner (own_rows owner rows) x) owners items
+  abbrev pub AreReadWith : List Row → List O → List X → Type 0
+  AreReadWith rows owners items = AllZip (λ owner x. reads owner (own_rows (id owner) rows) x) owners items
 
   -- Of the rows these were taken, and those are left. The owners so far were read with their own, and none of the others' was taken.
-  pub record HaveRead (owners rows rest : List Row) (i : ℕ) (items : List X) : Type 0 where
+  pub record HaveRead (rows rest : List Row) (owners others : List O) (items : List X) : Type 0 where
     pub taken : List Row
     pub split : rows ≡ taken ++ rest
-    pub done : AreReadWith taken (take i owners) items
-    pub ahead : (q : Row) → Has (drop i owners) q → own_rows q taken ≡ []
+    pub done : AreReadWith taken owners items
+    pub ahead : (q : O) → Has others q → own_rows (id q) taken ≡ []
 
-  pub none_read : (owners rows : List Row) → HaveRead owners rows rows 0 []
-  none_read owners rows = record { taken = []; split = refl; done = tt; ahead = λ q has. refl }
+  pub none_read : (rows : List Row) (others : List O) → HaveRead rows rows [] others []
+  none_read rows others = record { taken = []; split = refl; done = tt; ahead = λ q has. refl }
 
   -- one more, with its own
-  module _ (owners rows rest own later : List Row) (i : ℕ) (owner : Row) (items : List X) (item : X) (below : i < length owners) (is : owner ≡ get_or owners i owner)
-      (apart : AreApart owners) (parted : rest ≡ own ++ later) (its : (r : Row) → Has own r → is_own owner r ≡ true) (read : reads owner own item) (so : HaveRead owners rows rest i items) where
-    behind : drop i owners ≡ owner ∷ drop (i + 1) owners
-    behind = drop-cons owners i owner below ∙ ap₂ (λ (r : Row) (k : ℕ). r ∷ drop k owners) (sym is) (let next : suc i ≡ i + 1 = omega arith in next)
-
-    apart_here : AreApart (take i owners ++ owner ∷ drop (i + 1) owners)
-    apart_here = subst AreApart (sym (ap (λ (xs : List Row). take i owners ++ xs) (sym behind) ∙ take-append-drop i owners)) apart
-
+  module _ (rows rest own later : List Row) (owners ahead : List O) (owner : O) (items : List X) (item : X) (apart : AreApart id (owners ++ owner ∷ ahead)) (parted : rest ≡ own ++ later)
+      (its : (r : Row) → Has own r → is_own (id owner) r ≡ true) (read : reads owner own item) (so : HaveRead rows rest owners (owner ∷ ahead) items) where
     -- what is taken of the others' is as it was
-    same_own : (q : Row) → is_own q owner ≡ false → own_rows q (so.taken ++ own) ≡ own_rows q so.taken
+    same_own : (q : O) → bytes_eq (id owner) (id q) ≡ false → own_rows (id q) (so.taken ++ own) ≡ own_rows (id q) so.taken
     same_own q other =
-        filter-append (is_own q) so.taken own
-        ∙ ap (λ (xs : List Row). own_rows q so.taken ++ xs) (none_pass (is_own q) own (λ r has. others q owner r (its r has) other))
-        ∙ append-nil (own_rows q so.taken)
+        filter-append (is_own (id q)) so.taken own
+        ∙ ap (λ (xs : List Row). own_rows (id q) so.taken ++ xs) (none_pass (is_own (id q)) own (λ r has. no_others (id q) (id owner) r (its r has) other))
+        ∙ append-nil (own_rows (id q) so.taken)
 
-    all_own : own_rows owner (so.taken ++ own) ≡ own
+    all_own : own_rows (id owner) (so.taken ++ own) ≡ own
     all_own =
-        filter-append (is_own owner) so.taken own
-        ∙ ap₂ (λ (xs ys : List Row). xs ++ ys) (so.ahead owner (subst (λ (xs : List Row). Has xs owner) (sym behind) (inl refl))) (all_pass (is_own owner) own its)
+        filter-append (is_own (id owner)) so.taken own
+        ∙ ap₂ (λ (xs ys : List Row). xs ++ ys) (so.ahead owner (inl refl)) (all_pass (is_own (id owner)) own its)
 
-    pub next_read : HaveRead owners rows later (i + 1) (items ++ item ∷ [])
+    pub next_read : HaveRead rows later (owners ++ owner ∷ []) ahead (items ++ item ∷ [])
     next_read = record {
       taken = so.taken ++ own;
       split = so.split ∙ ap (λ (xs : List Row). so.taken ++ xs) parted ∙ sym (append_assoc so.taken own later);
-      done =
-          subst (λ (front : List Row). AreReadWith (so.taken ++ own) front (items ++ item ∷ [])) (ap (λ (r : Row). take i owners ++ r ∷ []) is ∙ sym (take_more owners i owner below))
-          (all_zipped_more (λ (r : Row) (x : X). reads r (own_rows r (so.taken ++ own)) x) (take i owners) items owner item
-          (zipped (take i owners) items (λ q x has was.
-          subst (λ (xs : List Row). reads q xs x) (sym (same_own q (apart_front owner (take i owners) (drop (i + 1) owners) apart_here q has))) was) so.done)
-          (subst (λ (xs : List Row). reads owner xs item) (sym all_own) read));
-      ahead = λ q has.
-          same_own q (apart_rest owner (take i owners) (drop (i + 1) owners) apart_here q has)
-          ∙ so.ahead q (subst (λ (xs : List Row). Has xs q) (sym behind) (inr has));
+      done = all_zipped_more (λ (o : O) (x : X). reads o (own_rows (id o) (so.taken ++ own)) x) owners items owner item
+          (zipped owners items (λ q x has was. subst (λ (xs : List Row). reads q xs x) (sym (same_own q (apart_front id owner owners ahead apart q has))) was) so.done)
+          (subst (λ (xs : List Row). reads owner xs item) (sym all_own) read);
+      ahead = λ q has. same_own q (apart_rest id owner owners ahead apart q has) ∙ so.ahead q (inr has);
     }
 
   -- all were read, and no row is left
-  pub all_read : (owners rows rest : List Row) (i : ℕ) (items : List X) → length owners ≤ i → rest ≡ [] → HaveRead owners rows rest i items → AreReadWith rows owners items
-  all_read owners rows rest i items end none so =
+  pub all_read : (rows rest : List Row) (owners : List O) (items : List X) → rest ≡ [] → HaveRead rows rest owners [] items → AreReadWith rows owners items
+  all_read rows rest owners items none so =
       let all : rows ≡ so.taken = so.split ∙ ap (λ (xs : List Row). so.taken ++ xs) none ∙ append-nil so.taken in
-      subst (λ (xs : List Row). AreReadWith xs owners items) (sym all) (subst (λ (xs : List Row). AreReadWith so.taken xs items) (take_all i owners end) so.done)
+      subst (λ (xs : List Row). AreReadWith xs owners items) (sym all) so.done
 
 -- what holds of all rows by their places
-pub of_each : {X : Type 0} (P : X → Type 0) (xs : List X) → All P xs → (x : X) → Has xs x → P x
-of_each P [] all x has = absurd has
-of_each P (y ∷ ys) all x (inl same) = subst P (sym same) (all 0 y (let some : 0 < suc (length ys) = omega arith in some))
-of_each P (y ∷ ys) all x (inr has) = of_each P ys (λ k d below. all (suc k) d (let next : suc k < suc (length ys) = omega (arith, below) in next)) x has
+pub of_mapped : {X : Type 0} (row_of : X → Row) (P : Row → Type 0) (xs : List X) → All (λ x. P (row_of x)) xs → (r : Row) → Has (map row_of xs) r → P r
+of_mapped row_of P [] all r has = absurd has
+of_mapped row_of P (x ∷ xs) all r (inl same) = subst P (sym same) (all 0 x (let some : 0 < suc (length xs) = omega arith in some))
+of_mapped row_of P (x ∷ xs) all r (inr has) = of_mapped row_of P xs (λ k d below. all (suc k) d (let next : suc k < suc (length xs) = omega (arith, below) in next)) r has

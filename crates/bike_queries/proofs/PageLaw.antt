@@ -5,9 +5,9 @@ use Rattle.std.specs.Ordering.{is_eq, is_lt, is_le, ordering_reverse}
 use Rattle.std.specs.Cmp.{tied_itself}
 use Rattle.std.specs.FinMap.{FinMap, entries, entries_sorted}
 use Rattle.std.specs.FinMap.Entries as order
+use Rattle.std.specs.Str.{bytes_eq}
 use Rattle.std.proofs.lemmas.Map.Text.{is_eq-slice_cmp}
-use Rattle.sqlite_value.specs.declared.value.Value.TheVariants.{Text}
-use Rattle.sqlite_value.specs.Order.{Row, column}
+use Rattle.sqlite_value.specs.Order.{Row}
 use Rattle.sqlite_rules.specs.Lists.{Has}
 use Rattle.bike_rows.proofs.ListLemmas.{has_filter}
 use Rattle.bike_rows.proofs.PageLaw.{filter_filter}
@@ -17,7 +17,7 @@ use Rattle.bike_places.proofs.MapLemmas.{text_order}
 use Rattle.bike_book.proofs.MapRows.{both, below_has}
 use Rattle.bike_queries.specs.declared.pages.TheConstants.{STATIONS_A_PAGE}
 use Rattle.bike_queries.specs.After.{first_after, start_after}
-use Rattle.bike_queries.specs.Pages.{entries_after, page_after, is_own, AreApart}
+use Rattle.bike_queries.specs.Pages.{entries_after, page_after, AreApart}
 use Rattle.bike_queries.proofs.AfterLaw.{comes_after, start_is}
 use Rattle.bike_queries.proofs.GroupLaw.{all_pass}
 
@@ -118,47 +118,61 @@ module _ {X : Type 0} where
       let it = here_after after m e (has_take STATIONS_A_PAGE (entries_after after m) e has) in
       (it.0, ap (λ (t : List ℕ). not (is_lt (text_cmp e.0 t))) is ∙ start_is after e.0 ∙ it.1)
 
-  -- ---- apart
+-- ---- what was read of each entry, under its identifier
 
-  module _ (row : List ℕ × X → Row) (begins : (e : List ℕ × X) → column (row e) 0 ≡ Text e.0) where
-    apart_by : (e x : List ℕ × X) → text_cmp e.0 x.0 ≡ Less → (is_own (row e) (row x) ≡ false) × (is_own (row x) (row e) ≡ false)
-    apart_by e x less = rw (begins e, begins x) (
-      sym (is_eq-slice_cmp x.0 e.0) ∙ ap is_eq (text_order.total.antisymm x.0 e.0 ∙ ap ordering_reverse less),
-      sym (is_eq-slice_cmp e.0 x.0) ∙ ap is_eq less,
+module _ {X O : Type 0} (R : List ℕ × X → O → Type 0) (id : O → List ℕ) (named : (e : List ℕ × X) (o : O) → R e o → id o ≡ e.0) where
+  -- they are apart
+  pub read_apart : (es : List (List ℕ × X)) (os : List O) → Rising es → AllZip R es os → AreApart id os
+  read_apart [] [] rises zipped = tt
+  read_apart [] (o ∷ os) rises zipped = absurd zipped
+  read_apart (e ∷ es) [] rises zipped = absurd zipped
+  read_apart (e ∷ es) (o ∷ os) rises zipped = (each es os rises.0 zipped.1, read_apart es os rises.1 zipped.1) where
+    apart_by : (f : List ℕ × X) (q : O) → text_cmp e.0 f.0 ≡ Less → R f q → (bytes_eq (id o) (id q) ≡ false) × (bytes_eq (id q) (id o) ≡ false)
+    apart_by f q less read = rw (named e o zipped.0, named f q read) (
+      sym (is_eq-slice_cmp e.0 f.0) ∙ ap is_eq less,
+      sym (is_eq-slice_cmp f.0 e.0) ∙ ap is_eq (text_order.total.antisymm f.0 e.0 ∙ ap ordering_reverse less),
     )
 
-    pub rows_apart : (es : List (List ℕ × X)) → Rising es → AreApart (map row es)
-    rows_apart [] rises = tt
-    rows_apart (e ∷ es) rises = (each es rises.0, rows_apart es rises.1) where
-      each : (xs : List (List ℕ × X)) → ((x : List ℕ × X) → Has xs x → text_cmp e.0 x.0 ≡ Less) → (q : Row) → Has (map row xs) q → (is_own (row e) q ≡ false) × (is_own q (row e) ≡ false)
-      each [] less q has = absurd has
-      each (x ∷ xs) less q (inl is) = subst (λ (r : Row). (is_own (row e) r ≡ false) × (is_own r (row e) ≡ false)) (sym is) (apart_by e x (less x (inl refl)))
-      each (x ∷ xs) less q (inr has) = each xs (λ y there. less y (inr there)) q has
+    each : (fs : List (List ℕ × X)) (qs : List O) → ((f : List ℕ × X) → Has fs f → text_cmp e.0 f.0 ≡ Less) → AllZip R fs qs → (q : O) → Has qs q → (bytes_eq (id o) (id q) ≡ false) × (bytes_eq (id q) (id o) ≡ false)
+    each [] [] less zips q has = absurd has
+    each [] (x ∷ qs) less zips q has = absurd zips
+    each (f ∷ fs) [] less zips q has = absurd has
+    each (f ∷ fs) (x ∷ qs) less zips q (inl is) = subst (λ (y : O). (bytes_eq (id o) (id y) ≡ false) × (bytes_eq (id y) (id o) ≡ false)) (sym is) (apart_by f x (less f (inl refl)) zips.0)
+    each (f ∷ fs) (x ∷ qs) less zips q (inr has) = each fs qs (λ y there. less y (inr there)) zips.1 q has
 
-    -- ---- the last
-
-    -- the entry of the last row, after which none of them comes
-    abbrev IsLastOf : List (List ℕ × X) → Row → List ℕ × X → Type 0
-    IsLastOf es last x = Has es x × (last ≡ row x) × ((e : List ℕ × X) → Has es e → is_le (text_cmp e.0 x.0) ≡ true)
-
-    pub last_entry : (es : List (List ℕ × X)) (front : List Row) (last : Row) → map row es ≡ front ++ last ∷ [] → Rising es → (x : List ℕ × X) × IsLastOf es last x
-    last_entry [] [] last is rises = absurd cc
-    last_entry [] (r ∷ front) last is rises = absurd cc
-    last_entry (e ∷ []) [] last is rises = (e, (inl refl, let same : last ≡ row e = cc in same, alone)) where
-      alone : (x : List ℕ × X) → Has (e ∷ []) x → is_le (text_cmp x.0 e.0) ≡ true
-      alone x (inl same) = ap (λ (y : List ℕ × X). is_le (text_cmp y.0 e.0)) same ∙ ap is_le (tied_itself text_order.total e.0)
-      alone x (inr has) = absurd has
-    last_entry (e ∷ f ∷ es) [] last is rises = absurd cc
-    last_entry (e ∷ es) (r ∷ front) last is rises =
-        let rest : map row es ≡ front ++ last ∷ [] = cc in
-        let it = last_entry es front last rest rises.1 in
-        (it.0, (inr it.1.0, it.1.1, each it.0 it.1.0 it.1.2))
+  -- none comes after the last
+  pub up_to_last : (es : List (List ℕ × X)) (os front : List O) (last : O) → os ≡ front ++ last ∷ [] → Rising es → AllZip R es os → (e : List ℕ × X) → Has es e → is_le (text_cmp e.0 (id last)) ≡ true
+  up_to_last es os front last is rises zipped = go es front rises (subst (AllZip R es) is zipped) where
+    go : (es : List (List ℕ × X)) (front : List O) → Rising es → AllZip R es (front ++ last ∷ []) → (e : List ℕ × X) → Has es e → is_le (text_cmp e.0 (id last)) ≡ true
+    go [] front rises zips e has = absurd has
+    go (f ∷ []) [] rises zips e (inl same) = ap (λ (y : List ℕ × X). is_le (text_cmp y.0 (id last))) same ∙ ap (λ (t : List ℕ). is_le (text_cmp f.0 t)) (named f last zips.0) ∙ ap is_le (tied_itself text_order.total f.0)
+    go (f ∷ []) [] rises zips e (inr has) = absurd has
+    go (f ∷ h ∷ es) [] rises zips e has = absurd zips.1
+    go (f ∷ []) (o ∷ front) rises zips e has = absurd (unended front zips.1)
       where
-        each : (x : List ℕ × X) → Has es x → ((y : List ℕ × X) → Has es y → is_le (text_cmp y.0 x.0) ≡ true) → (y : List ℕ × X) → Has (e ∷ es) y → is_le (text_cmp y.0 x.0) ≡ true
-        each x there others y (inl same) = ap (λ (z : List ℕ × X). is_le (text_cmp z.0 x.0)) same ∙ ap is_le (rises.0 x there)
-        each x there others y (inr has) = others y has
+        unended : (front : List O) → AllZip R [] (front ++ last ∷ []) → ⊥
+        unended [] none = none
+        unended (x ∷ front) none = none
+    go (f ∷ h ∷ es) (o ∷ front) rises zips e (inl same) =
+        ap (λ (y : List ℕ × X). is_le (text_cmp y.0 (id last))) same
+        ∙ before (text_cmp h.0 (id last)) refl (go (h ∷ es) front rises.1 zips.1 h (inl refl))
+      where
+        before : (r : Ordering) → text_cmp h.0 (id last) ≡ r → is_le r ≡ true → is_le (text_cmp f.0 (id last)) ≡ true
+        before Less is low = ap is_le (text_order.total.trans f.0 h.0 (id last) (rises.0 h (inl refl)) is)
+        before Equal is low = ap (λ (t : List ℕ). is_le (text_cmp f.0 t)) (sym (text_order.same h.0 (id last) is)) ∙ ap is_le (rises.0 h (inl refl))
+        before Greater is low = absurd cc
+    go (f ∷ h ∷ es) (o ∷ front) rises zips e (inr has) = go (h ∷ es) front rises.1 zips.1 e has
 
--- rows that were read one after another, of the entries of which they are
+-- what was read of what was read of each
+pub zipped_both : {A O X : Type 0} (R : A → O → Type 0) (S : O → X → Type 0) (T : A → X → Type 0) (es : List A) (os : List O) (xs : List X) → ((e : A) (o : O) (x : X) → Has es e → R e o → S o x → T e x) → AllZip R es os → AllZip S os xs → AllZip T es xs
+zipped_both R S T [] [] [] then one two = tt
+zipped_both R S T [] [] (x ∷ xs) then one two = absurd two
+zipped_both R S T [] (o ∷ os) xs then one two = absurd one
+zipped_both R S T (e ∷ es) [] xs then one two = absurd one
+zipped_both R S T (e ∷ es) (o ∷ os) [] then one two = absurd two
+zipped_both R S T (e ∷ es) (o ∷ os) (x ∷ xs) then one two = (then e o x (inl refl) one.0 two.0, zipped_both R S T es os xs (λ a b c has. then a b c (inr has)) one.1 two.1)
+
+-- what was read of their rows
 pub zipped_rows : {A X : Type 0} (R : Row → X → Type 0) (S : A → X → Type 0) (row : A → Row) (es : List A) (xs : List X) → ((e : A) (x : X) → Has es e → R (row e) x → S e x) → AllZip R (map row es) xs → AllZip S es xs
 zipped_rows R S row [] [] then all = tt
 zipped_rows R S row [] (x ∷ xs) then all = absurd all

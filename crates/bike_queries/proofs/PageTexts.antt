@@ -13,7 +13,8 @@ use Rattle.bike_schema.proofs.KeyLemmas.{table_key}
 use Rattle.bike_accounts.specs.Within.{rows_within}
 use Rattle.bike_accounts.proofs.SegmentLemmas.{ListsIn}
 use Rattle.bike_accounts.proofs.WithinLaw.{and_true, from_test, shows_every, lists_within}
-use Rattle.bike_queries.proofs.AfterLaw.{begins_from, from_tests}
+use Rattle.bike_queries.proofs.AfterLaw.{from_tests}
+use Rattle.bike_queries.specs.After.{begins_from}
 
 pub lists_stations_from : (start : List ℕ) → ListsIn (codes "SELECT * FROM stations_3 WHERE station_id >= ?1 ORDER BY station_id LIMIT 64") (Text start ∷ []) (λ t. take 64 (filter (begins_from start) t.stations))
 unfolding everything

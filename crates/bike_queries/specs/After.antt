@@ -1,9 +1,10 @@
 -- What stands next in byte order of identifiers, or of languages.
-use Rattle.std.specs.Prelude.{◌≡◌, ℕ, ℤ, List, [], ◌∷◌, ◌++◌, find, slice_get, Option, Some, None, option_map}
+use Rattle.std.specs.Prelude.{◌≡◌, ℕ, ℤ, Bool, not, List, [], ◌∷◌, ◌++◌, find, slice_get, Option, Some, None, option_map}
 use Rattle.std.specs.Ordering.{is_lt}
 use Rattle.std.specs.FinMap.{FinMap, entries}
 use Rattle.sqlite_value.specs.declared.value.Value.TheVariants.{Text}
-use Rattle.sqlite_value.specs.Order.{Row}
+use Rattle.sqlite_value.specs.declared.value.Value.{Value}
+use Rattle.sqlite_value.specs.Order.{Row, column, value_cmp}
 use Rattle.bike_operator.specs.Operator.{Operator, Station, text_cmp}
 use Rattle.bike_book.specs.Rows.{station_row}
 use Rattle.bike_feed_texts.specs.Trees.{names_by_language}
@@ -18,6 +19,14 @@ first_after (Some id) m = find (λ e. is_lt (text_cmp id e.0)) (entries m)
 abbrev pub start_after : Option (List ℕ) → List ℕ
 start_after None = []
 start_after (Some text) = text ++ 0 ∷ []
+
+-- the value isn't below the text
+abbrev pub is_from : List ℕ → Value → Bool
+is_from start v = not (is_lt (value_cmp v (Text start)))
+
+-- the first column isn't
+abbrev pub begins_from : List ℕ → Row → Bool
+begins_from start row = is_from start (column row 0)
 
 -- the entry's value was answered, and that has the entry's identifier; or there is no entry
 abbrev pub IsNext : {V : Type 0} → (V → List ℕ) → Option (List ℕ × V) → Option V → Type 0

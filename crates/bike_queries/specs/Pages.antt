@@ -1,5 +1,5 @@
 -- A page of stations: the first ones of those that come next, each with the rows of other tables that are its own.
-use Rattle.std.specs.Prelude.{◌≡◌, ◌++◌, ℕ, List, [], ◌∷◌, Bool, false, map, take, filter, Option, Some, None}
+use Rattle.std.specs.Prelude.{◌≡◌, ◌++◌, ℕ, List, [], ◌∷◌, Bool, false, take, filter, Option, Some, None}
 use Rattle.std.specs.List.{AllZip}
 use Rattle.std.specs.Ordering.{is_lt}
 use Rattle.std.specs.Str.{bytes_eq}
@@ -13,15 +13,16 @@ use Rattle.bike_operator.specs.NameKind.TheVariants as named
 use Rattle.bike_operator.specs.Names.{further_names}
 use Rattle.bike_operator.specs.Operator.{Operator, Station, text_cmp}
 use Rattle.bike_operator.specs.Sound.{IsSound}
-use Rattle.bike_book.specs.Stored.{stored_station}
-use Rattle.bike_schema.specs.Columns.{text_in}
+use Rattle.bike_fleet.specs.Fleet.{dock_numbers_of}
+use Rattle.bike_fleet.specs.Holds.{HoldsDockNumbers}
 use Rattle.bike_accounts.specs.ReadRows.{IsOwnedName}
 use Rattle.bike_feed_texts.specs.Trees.{further_languages}
 use Rattle.bike_queries.specs.declared.pages.TheConstants.{STATIONS_A_PAGE}
 use Rattle.bike_queries.specs.declared.stations.StationInfo.{StationInfo}
+use Rattle.bike_queries.specs.declared.stations.StoredStation.{StoredStation}
 use Rattle.bike_queries.specs.declared.stations.NamedStation.{NamedStation}
 use Rattle.bike_queries.specs.declared.status.StationStatus.{StationStatus}
-use Rattle.bike_queries.specs.After.{station_of}
+use Rattle.bike_queries.specs.After.{HoldsStation, station_of}
 use Rattle.bike_queries.specs.StationCounts.{AreCountRows, AreCountsOf}
 
 -- ---- what comes next
@@ -57,43 +58,56 @@ AreNamedStations s = AllZip (IsNamedStation s)
 abbrev pub IsTold : Bool → Operator → Type 0
 IsTold translated s = translated ≡ false → further_languages s ≡ []
 
--- ---- the rows of a page
+-- ---- the stations of a page
+
+-- its identifier
+abbrev pub id_of : StoredStation → List ℕ
+id_of x = x.info.station.station_id
+
+-- the station and the numbers of its docks that stand in the row
+abbrev pub ReadsStation : Row → StoredStation → Type 0
+ReadsStation row x = ((y : Station) → HoldsStation row y → station_of x.info ≡ y) × HoldsDockNumbers row x.docks
+
+-- the station of an entry, with the numbers of its docks
+abbrev pub IsStoredStation : Operator → List ℕ × Station → StoredStation → Type 0
+IsStoredStation s e x = IsStationOf e x.info × (x.docks ≡ dock_numbers_of s e.0 e.1)
+
+-- these are those of the page after this identifier
+abbrev pub ArePage : Operator → Option (List ℕ) → List StoredStation → Type 0
+ArePage s after = AllZip (IsStoredStation s) (page_after after s.stations)
+
+-- the identifier of the last, if there is one
+abbrev pub EndsWith : List StoredStation → Option (List ℕ) → Type 0
+EndsWith xs None = xs ≡ []
+EndsWith xs (Some id) = (front : List StoredStation) × (last : StoredStation) × (xs ≡ front ++ last ∷ []) × (id_of last ≡ id)
+
+-- ---- their own rows
 
 -- one text twice
 abbrev pub is_same_text : Value → Value → Bool
 is_same_text (Text t) (Text u) = bytes_eq u t
 is_same_text _ _ = false
 
--- the row begins with the text with which the owner's row begins
-abbrev pub is_own : Row → Row → Bool
-is_own owner row = is_same_text (column owner 0) (column row 0)
+-- the row begins with the identifier
+abbrev pub is_own : List ℕ → Row → Bool
+is_own id row = is_same_text (Text id) (column row 0)
 
-abbrev pub own_rows : Row → List Row → List Row
-own_rows owner = filter (is_own owner)
+abbrev pub own_rows : List ℕ → List Row → List Row
+own_rows id = filter (is_own id)
 
--- no two rows begin with one text
-abbrev pub AreApart : List Row → Type 0
-AreApart [] = Unit {0}
-AreApart (r ∷ rs) = ((q : Row) → Has rs q → (is_own r q ≡ false) × (is_own q r ≡ false)) × AreApart rs
+-- no two of these have one identifier
+abbrev pub AreApart : {X : Type 0} → (X → List ℕ) → List X → Type 0
+AreApart id [] = Unit {0}
+AreApart id (x ∷ xs) = ((y : _) → Has xs y → (bytes_eq (id x) (id y) ≡ false) × (bytes_eq (id y) (id x) ≡ false)) × AreApart id xs
 
--- the rows are those of the page after this identifier
-abbrev pub ArePage : Operator → Option (List ℕ) → List Row → Type 0
-ArePage s after rows = rows ≡ map (stored_station s) (page_after after s.stations)
+-- ---- what is read of a station and its own rows
 
--- the text with which the last row begins, if there is a row
-abbrev pub EndsWith : List Row → Option (List ℕ) → Type 0
-EndsWith rows None = rows ≡ []
-EndsWith rows (Some text) = (front : List Row) × (last : Row) × (rows ≡ front ++ last ∷ []) × (text_in (column last 0) ≡ Some text)
+-- its counts
+abbrev pub ReadsStatus : List (List ℕ) → StoredStation → List Row → StationStatus → Type 0
+ReadsStatus type_ids station own x =
+    (x.info ≡ station.info)
+    × ((s : Operator) (e : List ℕ × Station) → IsSound s → station.docks ≡ dock_numbers_of s e.0 e.1 → AreCountRows s e.0 own → type_ids ≡ fin.keys s.types → AreCountsOf s e.0 e.1 x.counts)
 
--- ---- what is read of them
-
--- of the row of a station and the rows of its counts
-abbrev pub ReadsStatus : List (List ℕ) → Row → List Row → StationStatus → Type 0
-ReadsStatus type_ids station own x = (s : Operator) (e : List ℕ × Station) → IsSound s → station ≡ stored_station s e → e.0 ≡ e.1.row.station_id
-    → IsStationOf e x.info × (AreCountRows s e.0 own → type_ids ≡ fin.keys s.types → AreCountsOf s e.0 e.1 x.counts)
-
--- of the row of a station and the rows of its names
-abbrev pub ReadsNamed : Row → List Row → NamedStation → Type 0
-ReadsNamed station own x =
-    ((s : Operator) (e : List ℕ × Station) → station ≡ stored_station s e → e.0 ≡ e.1.row.station_id → IsStationOf e x.info)
-    × AllZip IsOwnedName own x.names.items
+-- its further names
+abbrev pub ReadsNamed : StoredStation → List Row → NamedStation → Type 0
+ReadsNamed station own x = (x.info ≡ station.info) × AllZip IsOwnedName own x.names.items

@@ -1,24 +1,30 @@
 //! The counts of a station, by the numbers that its tables keep.
 
 ghost use Rattle.std.specs.Prelude.{◌≡◌, [], IfOk, OnOk, find};
+ghost use Rattle.std.specs.Borrow.{sem};
 ghost use Rattle.sqlite_value.specs.declared.value.Value.TheVariants.{Text};
+ghost use Rattle.bike_rows.specs.Calls.{LendsWhere, WalksWhere};
 ghost use Rattle.bike_book.specs.Tables.{Counts as CountRows};
 ghost use Rattle.bike_book.specs.Found.{rows_of};
 ghost use Rattle.bike_schema.specs.Answers.{Answers};
+ghost use Rattle.bike_schema.specs.Tables.{IsOurs, tables_of};
 ghost use Rattle.bike_accounts.specs.Within.{rows_within};
 ghost use Rattle.bike_fleet.specs.Fleet.{type_counts_of};
 ghost use Rattle.bike_fleet.specs.Holds.{HoldsAny, HoldsCounts};
 ghost use Rattle.bike_queries.specs.StationCounts.{Adds, AreCountRows, AreCountsAt, IsTally, counts_with, is_of};
 
 use crate::columns::whole_at;
+use crate::pages::OwnedRow;
 use crate::types::find_type_ids;
+use arrayvec::ArrayString;
+use bike_accounts::{ReadRow, collect_rows, short_text_at};
 use bike_feed_texts::TypeCount;
-use bike_fields::Ident;
+use bike_fields::{Ident, LONGEST_IDENT};
 use bike_fleet::{DockNumbers, TypeCounts, find_dock_numbers};
 use bike_schema::StatementFault;
-use sqlite::types::ValueRef;
-use sqlite::{Alter, Connection, Row, params};
+use sqlite::{Alter, Connection, Error, Row, Rows, params};
 use std::alloc::Global;
+use std::marker::Model;
 
 /// The counts of a station: the numbers that GBFS's `station_status` shows.
 #[derive(Drop)]
@@ -43,62 +49,127 @@ pub(crate) struct Tally {
     by_type: Vec<TypeCount>,
 }
 
+/// A row of `counts` as it is stored: how many bicycles of one type stand at one station.
+#[derive(Drop)]
+pub(crate) struct CountRow {
+    station_id: ArrayString<LONGEST_IDENT>,
+    type_id: ArrayString<LONGEST_IDENT>,
+    available: u32,
+    disabled: u32,
+}
+
+impl Model for CountRow {
+    ghost use Rattle.std.specs.Prelude.{List, [], ◌∷◌};
+    ghost use Rattle.std.specs.Coded.{coded_list};
+    ghost use Rattle.sqlite_value.specs.declared.value.Value.{Value as SqlValue};
+    ghost use Rattle.sqlite_value.specs.declared.value.Value.TheVariants.{Text};
+    ghost use Rattle.sqlite_value.specs.contracts.value.Value.{the_row};
+    ghost use Rattle.bike_book.specs.Rows.{number_value};
+
+    ghost Value = { List SqlValue };
+
+    ghost coded = { coded_list the_row.coded };
+
+    ghost view = { λ r. Text r.station_id.bytes ∷ Text r.type_id.bytes ∷ number_value r.available ∷ number_value r.disabled ∷ [] };
+}
+
+impl ReadRow for CountRow {
+    ghost reads = { λ row x. row ≡ x };
+
+    fn read(_alloc: Global, row: &Row) -> Result<CountRow, StatementFault> {
+        if row.column_count() != 4 {
+            return Err(StatementFault::StoreFailed);
+        }
+        let station_id = short_text_at(row, 0)?;
+        let type_id = short_text_at(row, 1)?;
+        let available = whole_at(row, 2)?;
+        let disabled = whole_at(row, 3)?;
+        Ok(CountRow {
+            station_id,
+            type_id,
+            available,
+            disabled,
+        })
+    }
+}
+
+impl OwnedRow for CountRow {
+    ghost as_row = { λ r. r };
+
+    fn owner(&self) -> &str {
+        self.station_id.as_str()
+    }
+}
+
+/// Begins to read the counts of the stations whose identifiers lie between two texts.
+fn begin_counts<'a, S: Alter>(
+    conn: &'a mut Connection<S>,
+    first: &str,
+    last: &str,
+) -> Result<Rows<'a, S>, Error>
+    ensures* lends { sem 𝓛 (LendsWhere S.row S.Store IsOurs conn.entry result) }
+    ensures walks { WalksWhere S.Store IsOurs conn.entry result (λ db. rows_within (Text first.now) (Text last.now) (tables_of db).counts) }
+{
+    conn.query(
+        "SELECT * FROM counts WHERE station_id >= ?1 AND station_id <= ?2 ORDER BY station_id, type_id",
+        params![first, last],
+    )
+}
+
 /// The rows of the counts of the stations whose identifiers lie between two texts, both among them: station by station, of each at most
 /// one a vehicle type, in byte order of the types' identifiers.
 pub(crate) fn select_counts<S: Alter>(
+    alloc: Global,
     conn: &mut Connection<S>,
     first: &str,
     last: &str,
-) -> Result<Vec<Row>, StatementFault>
+) -> Result<Vec<CountRow>, StatementFault>
     ensures { Answers S.Store conn.old conn.new result
         (λ s m rows. rows.items ≡ rows_within (Text first.now) (Text last.now) (rows_of s m CountRows)) }
 {
-    let rows = conn.query_all(
-        "SELECT * FROM counts WHERE station_id >= ?1 AND station_id <= ?2 ORDER BY station_id, type_id",
-        params![first, last],
-    )?;
-    Ok(rows)
+    let mut rows = begin_counts(conn, first, last)?;
+    collect_rows(alloc, &mut rows)
 }
 
 /// Whether a row of `counts` is of the type.
-fn is_of(row: &Row, type_id: &Ident) -> bool
+fn is_of(row: &CountRow, type_id: &Ident) -> bool
     ensures { result ≡ is_of type_id.now row.now }
 {
-    match row.get_ref(1) {
-        Ok(ValueRef::Text(text)) => text == type_id.as_str().as_bytes(),
-        _ => false,
+    row.type_id.as_str() == type_id.as_str()
+}
+
+/// The counts in a row of `counts`.
+fn counts_in(row: &CountRow) -> TypeCounts
+    ensures { HoldsCounts row.now result }
+{
+    TypeCounts {
+        available: row.available,
+        disabled: row.disabled,
     }
 }
 
 /// The counts in the row of the type, if one of these rows of `counts` is the type's.
-fn counts_among(rows: &[Row], type_id: &Ident) -> Result<Option<TypeCounts>, StatementFault>
-    ensures { IfOk result (λ x. HoldsAny HoldsCounts (find (is_of type_id.now) rows.now) x) }
+fn counts_among(rows: &[CountRow], type_id: &Ident) -> Option<TypeCounts>
+    ensures { HoldsAny HoldsCounts (find (is_of type_id.now) rows.now) result }
 {
     for row in rows {
         if is_of(row, type_id) {
-            let available = whole_at(row, 2)?;
-            let disabled = whole_at(row, 3)?;
-            return Ok(Some(TypeCounts {
-                available,
-                disabled,
-            }));
+            return Some(counts_in(row));
         }
     }
-    Ok(None)
+    None
 }
 
 /// A station's bicycles of one type, those that can be rented and those that can't, by the rows of its counts: 0 and 0
 /// where the type has no row.
-fn type_counts(rows: &[Row], type_id: &Ident) -> Result<TypeCounts, StatementFault>
-    ensures { IfOk result
-        (λ x. (s : _) (station : _) → AreCountRows s station rows.now → x ≡ type_counts_of s station type_id.now) }
+fn type_counts(rows: &[CountRow], type_id: &Ident) -> TypeCounts
+    ensures { (s : _) (station : _) → AreCountRows s station rows.now → result ≡ type_counts_of s station type_id.now }
 {
     let none = TypeCounts {
         available: 0,
         disabled: 0,
     };
-    let counts = counts_among(rows, type_id)?;
-    Ok(counts.unwrap_or(none))
+    counts_among(rows, type_id).unwrap_or(none)
 }
 
 impl Tally {
@@ -146,7 +217,7 @@ impl Tally {
 pub(crate) fn tally_rows(
     alloc: Global,
     type_ids: &[Ident],
-    counts: &[Row],
+    counts: &[CountRow],
     room: Vec<TypeCount>,
 ) -> Result<Tally, StatementFault>
     requires { room.items ≡ [] }
@@ -158,7 +229,7 @@ pub(crate) fn tally_rows(
         by_type: room,
     };
     for type_id in type_ids {
-        let counted = type_counts(counts, type_id)?;
+        let counted = type_counts(counts, type_id);
         let copy = type_id.try_clone(alloc)?;
         tally.add(copy, counted)?;
     }
@@ -177,7 +248,7 @@ pub(crate) fn find_tally<S: Alter>(
     requires { room.items ≡ [] }
     ensures { Answers S.Store conn.old conn.new result (λ s m x. IsTally s station.now type_ids.now x) }
 {
-    let counts = select_counts(conn, station.as_str(), station.as_str())?;
+    let counts = select_counts(alloc, conn, station.as_str(), station.as_str())?;
     tally_rows(alloc, type_ids, counts.as_slice(), room)
 }
 

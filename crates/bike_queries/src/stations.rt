@@ -1,21 +1,27 @@
 //! The stations with their further names in byte order of their identifiers, page by page.
 
-ghost use Rattle.std.specs.Prelude.{◌≡◌, IfOk, option_map};
+ghost use Rattle.std.specs.Prelude.{◌≡◌, IfOk, filter, option_map, take};
+ghost use Rattle.std.specs.Borrow.{sem};
+ghost use Rattle.bike_rows.specs.Calls.{LendsWhere, WalksWhere};
 ghost use Rattle.bike_schema.specs.Answers.{Answers};
-ghost use Rattle.bike_queries.specs.After.{HoldsStation, station_of};
-ghost use Rattle.bike_queries.specs.Pages.{AreNamedStations, ArePage, IsTold, ReadsNamed, page_after};
+ghost use Rattle.bike_schema.specs.Tables.{IsOurs, tables_of};
+ghost use Rattle.bike_fleet.specs.Holds.{HoldsDockNumbers};
+ghost use Rattle.bike_queries.specs.declared.pages.TheConstants.{STATIONS_A_PAGE};
+ghost use Rattle.bike_queries.specs.After.{HoldsStation, begins_from, station_of};
+ghost use Rattle.bike_queries.specs.Pages.{AreNamedStations, ArePage, IsTold, ReadsNamed, ReadsStation, id_of, page_after};
 
 use crate::after::start_of;
-use crate::columns::micro_at;
-use crate::pages::{OwnerReader, last_text, read_page};
-use bike_accounts::{read_names, select_names};
+use crate::columns::{micro_at, whole_at};
+use crate::pages::{OwnedRow, OwnerReader, last_id, read_page};
+use bike_accounts::{NameRow, ReadRow, collect_rows, read_names, select_names};
 use bike_catalogue::{MoreName, NameKind, Station};
 use bike_fields::Ident;
 use bike_fixed::Moment;
+use bike_fleet::DockNumbers;
 use bike_schema::{
     StatementFault, flag_at, ident_at, moment_at, name_at, number_at, optional_ident_at,
 };
-use sqlite::{Alter, Connection, Row, params};
+use sqlite::{Alter, Connection, Error, Row, Rows, params};
 use std::alloc::Global;
 use std::collections::VecDeque;
 
@@ -45,20 +51,58 @@ pub struct NamedStation {
     pub names: Vec<MoreName>,
 }
 
-/// The rows of the next stations whose identifiers come after this one, or of the first of all, a page of them.
+/// A station with the numbers of its docks, as they stand in its row.
+#[derive(Drop)]
+pub(crate) struct StoredStation {
+    pub(crate) info: StationInfo,
+    pub(crate) docks: DockNumbers,
+}
+
+impl StoredStation {
+    /// Its identifier.
+    pub(crate) fn id(&self) -> &str
+        ensures { result.now ≡ id_of self.now }
+    {
+        self.info.station.station_id().as_str()
+    }
+}
+
+impl ReadRow for StoredStation {
+    ghost reads = { λ row x. ReadsStation row x };
+
+    fn read(alloc: Global, row: &Row) -> Result<StoredStation, StatementFault> {
+        let info = read_info(alloc, row)?;
+        let docks = read_docks(row)?;
+        Ok(StoredStation { info, docks })
+    }
+}
+
+/// Begins to read the stations whose identifiers aren't below a text, as many as a page holds.
+fn begin_stations<'a, S: Alter>(
+    conn: &'a mut Connection<S>,
+    start: &str,
+) -> Result<Rows<'a, S>, Error>
+    ensures* lends { sem 𝓛 (LendsWhere S.row S.Store IsOurs conn.entry result) }
+    ensures walks { WalksWhere S.Store IsOurs conn.entry result (λ db. take STATIONS_A_PAGE (filter (begins_from start.now) (tables_of db).stations)) }
+{
+    conn.query(
+        "SELECT * FROM stations_3 WHERE station_id >= ?1 ORDER BY station_id LIMIT 64",
+        params![start],
+    )
+}
+
+/// The next stations whose identifiers come after this one, or the first of all, a page of them.
 pub(crate) fn select_stations<S: Alter>(
+    alloc: Global,
     conn: &mut Connection<S>,
     after: Option<&Ident>,
-) -> Result<Vec<Row>, StatementFault>
+) -> Result<Vec<StoredStation>, StatementFault>
     ensures { Answers S.Store conn.old conn.new result
-        (λ s m rows. ArePage s (option_map (λ id. id.now) after.entry) rows.items) }
+        (λ s m stations. ArePage s (option_map (λ id. id.now) after.entry) stations.items) }
 {
     let start = start_of(after);
-    let rows = conn.query_all(
-        "SELECT * FROM stations_3 WHERE station_id >= ?1 ORDER BY station_id LIMIT 64",
-        params![start.as_str()],
-    )?;
-    Ok(rows)
+    let mut rows = begin_stations(conn, start.as_str())?;
+    collect_rows(alloc, &mut rows)
 }
 
 /// The name, the place and the docks that stand in a row of `stations_3`.
@@ -73,8 +117,17 @@ fn read_station(alloc: Global, row: &Row) -> Result<Station, StatementFault>
     Station::from_fields(station_id, name, lat, lon, docks).ok_or(StatementFault::StoreFailed)
 }
 
+/// The numbers of its docks that stand in a row of `stations_3`.
+fn read_docks(row: &Row) -> Result<DockNumbers, StatementFault>
+    ensures { IfOk result (HoldsDockNumbers row.now) }
+{
+    let free = whole_at(row, 9)?;
+    let broken = whole_at(row, 10)?;
+    Ok(DockNumbers { free, broken })
+}
+
 /// The station that stands in a row of `stations_3`.
-pub(crate) fn read_info(alloc: Global, row: &Row) -> Result<StationInfo, StatementFault>
+fn read_info(alloc: Global, row: &Row) -> Result<StationInfo, StatementFault>
     ensures { IfOk result (λ x. (y : _) → HoldsStation row.now y → station_of x ≡ y) }
 {
     let station = read_station(alloc, row)?;
@@ -97,7 +150,17 @@ pub(crate) fn read_info(alloc: Global, row: &Row) -> Result<StationInfo, Stateme
 #[derive(Drop)]
 struct NamedReader {}
 
+impl OwnedRow for NameRow {
+    ghost as_row = { λ r. r };
+
+    fn owner(&self) -> &str {
+        self.id()
+    }
+}
+
 impl OwnerReader for NamedReader {
+    type Own = NameRow;
+
     type Item = NamedStation;
 
     ghost reads = { λ this station own x. ReadsNamed station own x };
@@ -105,11 +168,11 @@ impl OwnerReader for NamedReader {
     fn read(
         &self,
         alloc: Global,
-        owner: &Row,
-        own: &[Row],
+        owner: StoredStation,
+        own: &[NameRow],
     ) -> Result<NamedStation, StatementFault> {
-        let info = read_info(alloc, owner)?;
         let names = read_names(alloc, own)?;
+        let info = owner.info;
         Ok(NamedStation { info, names })
     }
 }
@@ -126,15 +189,14 @@ pub fn find_stations_after<S: Alter>(
     ensures { Answers S.Store conn.old conn.new result (λ s m page. IsTold translated s
         → AreNamedStations s (page_after (option_map (λ id. id.now) after.entry) s.stations) page.items) }
 {
-    let stations = select_stations(conn, after)?;
-    let stations = stations.as_slice();
-    let Some(last) = last_text(stations)? else {
+    let stations = select_stations(alloc, conn, after)?;
+    let Some(last) = last_id(stations.as_slice()) else {
         return Ok(VecDeque::new(alloc));
     };
     if !translated {
         return read_page(alloc, stations, &[], &NamedReader {});
     }
     let start = start_of(after);
-    let names = select_names(conn, NameKind::Station, start.as_str(), last)?;
+    let names = select_names(alloc, conn, NameKind::Station, start.as_str(), last)?;
     read_page(alloc, stations, names.as_slice(), &NamedReader {})
 }

@@ -2,18 +2,15 @@
 
 ghost use Rattle.std.specs.Prelude.{IfOk, option_map};
 ghost use Rattle.bike_schema.specs.Answers.{Answers};
-ghost use Rattle.bike_fleet.specs.Holds.{HoldsDockNumbers};
 ghost use Rattle.bike_queries.specs.Pages.{AreStatuses, ReadsStatus, page_after};
 
 use crate::after::start_of;
-use crate::columns::whole_at;
-use crate::counts::{Counts, select_counts, tally_rows};
-use crate::pages::{OwnerReader, last_text, read_page};
-use crate::stations::{StationInfo, read_info, select_stations};
+use crate::counts::{CountRow, Counts, select_counts, tally_rows};
+use crate::pages::{OwnerReader, last_id, read_page};
+use crate::stations::{StationInfo, StoredStation, select_stations};
 use bike_fields::Ident;
-use bike_fleet::DockNumbers;
 use bike_schema::StatementFault;
-use sqlite::{Alter, Connection, Row};
+use sqlite::{Alter, Connection};
 use std::alloc::Global;
 use std::collections::VecDeque;
 
@@ -26,15 +23,6 @@ pub struct StationStatus {
     pub counts: Counts,
 }
 
-/// The numbers of its docks that stand in a row of `stations_3`.
-fn read_docks(row: &Row) -> Result<DockNumbers, StatementFault>
-    ensures { IfOk result (λ x. HoldsDockNumbers row.now x) }
-{
-    let free = whole_at(row, 9)?;
-    let broken = whole_at(row, 10)?;
-    Ok(DockNumbers { free, broken })
-}
-
 /// Reads stations with their counts, of the types with these identifiers.
 #[derive(Drop)]
 struct StatusReader<'a> {
@@ -42,6 +30,8 @@ struct StatusReader<'a> {
 }
 
 impl<'a> OwnerReader for StatusReader<'a> {
+    type Own = CountRow;
+
     type Item = StationStatus;
 
     ghost reads = { λ this station own x. ReadsStatus this.type_ids.now station own x };
@@ -49,15 +39,14 @@ impl<'a> OwnerReader for StatusReader<'a> {
     fn read(
         &self,
         alloc: Global,
-        owner: &Row,
-        own: &[Row],
+        owner: StoredStation,
+        own: &[CountRow],
     ) -> Result<StationStatus, StatementFault> {
-        let info = read_info(alloc, owner)?;
-        let docks = read_docks(owner)?;
         let Ok(room) = Vec::with_capacity(alloc, self.type_ids.len()) else {
             return Err(StatementFault::NoMemory);
         };
         let tally = tally_rows(alloc, self.type_ids, own, room)?;
+        let StoredStation { info, docks } = owner;
         let counts = tally.with_docks(docks);
         Ok(StationStatus { info, counts })
     }
@@ -77,13 +66,12 @@ pub fn find_statuses_after<S: Alter>(
     ensures { Answers S.Store conn.old conn.new result (λ s m page.
         AreStatuses s type_ids.now (page_after (option_map (λ id. id.now) after.entry) s.stations) page.items) }
 {
-    let stations = select_stations(conn, after)?;
-    let stations = stations.as_slice();
-    let Some(last) = last_text(stations)? else {
+    let stations = select_stations(alloc, conn, after)?;
+    let Some(last) = last_id(stations.as_slice()) else {
         return Ok(VecDeque::new(alloc));
     };
     let start = start_of(after);
-    let counts = select_counts(conn, start.as_str(), last)?;
+    let counts = select_counts(alloc, conn, start.as_str(), last)?;
     let reader = StatusReader { type_ids };
     read_page(alloc, stations, counts.as_slice(), &reader)
 }

@@ -1,10 +1,12 @@
-use Rattle.std.proofs.Common.{ap, ◌∙◌}
-use Rattle.sqlite_value.specs.Order.{column}
-use Rattle.bike_schema.proofs.ReadLemmas.{language_read, name_read}
+use Rattle.std.proofs.Common.{sym, subst, ap, ◌∙◌, Some, ◌≡◌, rules}
+use Rattle.bike_fields.specs.Bytes.{language_of, name_of}
+use Rattle.bike_accounts.specs.ReadRows.{IsOwnedName}
+use Rattle.bike_accounts.proofs.NameLemmas.{name_of_row}
 use Rattle.bike_accounts.proofs.names.read_name.Goals as goal
 
 pub returns : goal.returns
-returns c = λ e is.
-    let language_is = language_read c.in_ok-language.ensures.ok (ap (λ r. column r 1) is) in
-    let name_is = name_read c.in_ok-name.ensures.ok (ap (λ r. column r 2) is) in
-    c.from_fields.ensures ∙ (λ i. record { language = language_is i; name = name_is i })
+returns c =
+    let row = c.row.inside in
+    let language : language_of row.language.bytes ≡ Some c.in_ok-language-2.language = ap language_of (sym c.as_str.ensures.value) ∙ sym c.in_ok-language.ensures ∙ search rules in
+    let name : name_of row.name.bytes ≡ Some c.in_ok-name-2.name = ap name_of (sym c.as_str-2.ensures.value) ∙ sym c.in_ok-name.ensures ∙ search rules in
+    subst (IsOwnedName c.args.row.now) (sym c.from_fields.ensures) (name_of_row row.id.bytes row.language.bytes row.name.bytes c.args.row.now _ (sym c.row.view_is) language name)

@@ -1,11 +1,14 @@
-use Rattle.std.proofs.Common.{rules}
-use Rattle.bike_rows.proofs.ParamLemmas.{bindings}
-use Rattle.bike_accounts.proofs.SegmentLemmas.{all_answer, all_refused}
-use Rattle.bike_accounts.proofs.NameLemmas.{lists_names}
+use Rattle.std.proofs.Common.{◌≡◌, rules, subst, map, filter}
+use Rattle.bike_book.specs.Tables.{Tables}
+use Rattle.bike_book.specs.Stored.{tables_for}
+use Rattle.bike_schema.specs.Answers.{Answers}
+use Rattle.bike_schema.specs.Tables.{tables_of}
+use Rattle.bike_accounts.specs.ReadRows.{is_name_within, owned_name}
+use Rattle.bike_accounts.proofs.CollectLaws.{begins, rows_answered}
 use Rattle.bike_accounts.proofs.names.select_names.Goals as goal
 
 pub returns : goal.returns
-returns g c = all_answer _ _ _ (lists_names c.args.kind c.args.first.now c.args.last.now) (search bindings) c.in_ok-rows.ensures.mode c.in_ok-rows.ensures.survives (λ rows. rows.items) c.in_ok-rows.ensures.ok
-
-pub returns-in_err-rows : goal.returns-in_err-rows
-returns-in_err-rows g c = all_refused _ _ _ (lists_names c.args.kind c.args.first.now c.args.last.now) (search bindings) c.in_err-rows.ensures.mode c.in_err-rows.ensures.survives _ (search rules) c.in_err-rows.ensures.err
+returns g c =
+    let among = λ (t : Tables). map owned_name (filter (is_name_within c.args.kind c.args.first.now c.args.last.now) t.more_names) in
+    subst (λ h. Answers g.S.Store c.args.conn.now h c.collect_rows.result (λ s m rows. rows.items ≡ among (tables_for s m))) (search rules)
+    (rows_answered (λ rows. rows.items) among (c.collect_rows.ensures.read c.args.conn.now (λ db. among (tables_of db)) (begins c.in_ok-rows.ensures.walks)))

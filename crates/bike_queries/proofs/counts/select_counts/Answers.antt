@@ -1,12 +1,15 @@
-use Rattle.std.proofs.Common.{rules}
-use Rattle.bike_rows.proofs.ParamLemmas.{bindings}
-use Rattle.bike_accounts.proofs.SegmentLemmas.{all_answer, all_refused}
-use Rattle.bike_queries.proofs.PageTexts.{lists_counts_within}
+use Rattle.std.proofs.Common.{◌≡◌, rules, subst}
+use Rattle.sqlite_value.specs.declared.value.Value.TheVariants.{Text}
+use Rattle.bike_book.specs.Tables.{Tables}
+use Rattle.bike_book.specs.Stored.{tables_for}
+use Rattle.bike_schema.specs.Answers.{Answers}
+use Rattle.bike_schema.specs.Tables.{tables_of}
+use Rattle.bike_accounts.specs.Within.{rows_within}
+use Rattle.bike_accounts.proofs.CollectLaws.{begins, rows_answered}
 use Rattle.bike_queries.proofs.counts.select_counts.Goals as goal
 
 pub returns : goal.returns
-returns g c = all_answer _ _ _ (lists_counts_within c.args.first.now c.args.last.now) (search bindings) c.in_ok-rows.ensures.mode c.in_ok-rows.ensures.survives (λ rows. rows.items) c.in_ok-rows.ensures.ok
-
-pub returns-in_err-rows : goal.returns-in_err-rows
-returns-in_err-rows g c =
-    all_refused _ _ _ (lists_counts_within c.args.first.now c.args.last.now) (search bindings) c.in_err-rows.ensures.mode c.in_err-rows.ensures.survives _ (search rules) c.in_err-rows.ensures.err
+returns g c =
+    let among = λ (t : Tables). rows_within (Text c.args.first.now) (Text c.args.last.now) t.counts in
+    subst (λ h. Answers g.S.Store c.args.conn.now h c.collect_rows.result (λ s m rows. rows.items ≡ among (tables_for s m))) (search rules)
+    (rows_answered (λ rows. rows.items) among (c.collect_rows.ensures.read c.args.conn.now (λ db. among (tables_of db)) (begins c.in_ok-rows.ensures.walks)))

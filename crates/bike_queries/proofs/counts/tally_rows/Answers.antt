@@ -8,8 +8,8 @@ loop-type_id-init c = λ s station are. none_counted s station c.args.type_ids.n
 pub loop-type_id-preserved : goal.loop-type_id-preserved
 loop-type_id-preserved c = λ s station are.
     next_counted s station c.args.type_ids.now c.loop-type_id.type_id-index c.type_id-item.result c.in_ok-copy.copy
-    c.loop-type_id.tally c.add.new.self c.in_ok-counted.counted c.loop-type_id-test.true c.type_id-item.is c.in_ok-copy.ensures
-    (c.in_ok-counted.ensures s station are) c.in_ok-add.ensures (c.loop-type_id.invariant s station are)
+    c.loop-type_id.tally c.add.new.self c.type_counts-counted.result c.loop-type_id-test.true c.type_id-item.is c.in_ok-copy.ensures
+    (c.type_counts-counted.ensures s station are) c.in_ok-add.ensures (c.loop-type_id.invariant s station are)
 
 pub returns : goal.returns
 returns c = λ s station are.

@@ -1,29 +1,51 @@
-use Rattle.std.proofs.Common.{rules, ◌≡◌, ◌∷◌, ◌++◌, [], length, true, sym, subst}
+use Rattle.std.proofs.Common.{rules, ◌≡◌, ◌∷◌, ◌++◌, [], length, map, true, sym, ap, subst, ◌∙◌, append_assoc, append-nil, arith}
 use Rattle.std.specs.Cmp.{unsigned_Decides}
 use Rattle.std.specs.List.{All}
-use Rattle.std.proofs.lemmas.List.{nil_from_length}
-use Rattle.bike_queries.specs.Pages.{is_own}
-use Rattle.bike_queries.proofs.GroupLaw.{none_read, next_read, all_read, of_each, HaveRead}
+use Rattle.std.specs.Vec.Iter.{into_iter_items}
+use Rattle.std.proofs.lemmas.List.{nil_from_length, map-append}
+use Rattle.bike_queries.specs.Pages.{AreApart, id_of, is_own}
+use Rattle.bike_queries.proofs.GroupLaw.{next_read, all_read, of_mapped, AreReadWith, HaveRead}
 use Rattle.bike_queries.proofs.pages.read_page.Goals as goal
 
-pub loop-owner-init : goal.loop-owner-init
-loop-owner-init g c = λ apart.
+pub loop-station-preserved : goal.loop-station-preserved
+loop-station-preserved g c =
+    let at = c.loop-station in
+    let station = c.in-Some.station in
+    let ahead = into_iter_items c.next.new.self in
+    let steps : into_iter_items at.station-iterator ≡ station ∷ ahead = c.in-Some.ensures.steps.0 in
     let reads = g.R.OwnerReader.reads c.args.reader.now in
-    subst (HaveRead reads c.args.owners.now c.args.rows.now c.args.rows.now 0) (sym c.new-page.ensures.items) (none_read reads c.args.owners.now c.args.rows.now)
-
-pub loop-owner-preserved : goal.loop-owner-preserved
-loop-owner-preserved g c = λ apart.
-    let reads = g.R.OwnerReader.reads c.args.reader.now in
-    let pushed : c.push_back.new.self.items ≡ c.loop-owner.page.items ++ c.in_ok-item.item ∷ [] = search rules in
+    let row_of = g.R.Own.OwnedRow.as_row in
+    let rows = map row_of c.args.rows.now in
+    let rest = map row_of at.rest.now in
     let own = c.split_at.result.0.now in
-    subst (HaveRead reads c.args.owners.now c.args.rows.now c.split_at.result.1.now _) (sym pushed)
-    (next_read reads c.args.owners.now c.args.rows.now c.loop-owner.rest.now own c.split_at.result.1.now c.loop-owner.owner-index c.owner-item.result
-    c.loop-owner.page.items c.in_ok-item.item c.loop-owner-test.true c.owner-item.is apart c.split_at.ensures.by_index.0
-    (of_each (λ r. is_own c.owner-item.result r ≡ true) own (subst (All (λ r. is_own c.owner-item.result r ≡ true)) (sym c.split_at.ensures.front) c.count_own-number.ensures.own))
-    c.in_ok-item.ensures (c.loop-owner.invariant apart))
+    let later = c.split_at.result.1.now in
+    let pushed : c.push_back.new.self.items ≡ at.page.items ++ c.in_ok-item.item ∷ [] = search rules in
+    let its = subst (λ id. All (λ r. is_own id (row_of r) ≡ true) own) c.id.ensures (subst (All (λ r. is_own c.id.result.now (row_of r) ≡ true)) (sym c.split_at.ensures.front) c.count_own-number.ensures.own) in
+    record {
+      all = append_assoc at.yielded (station ∷ []) ahead ∙ rw (← steps) at.invariant.all;
+      len =
+          let was = at.invariant.len in
+          let gone = c.in-Some.ensures.steps.1 in
+          let short = ap length steps in
+          omega arith;
+      read = λ apart.
+          let parts = ap (λ xs. at.yielded ++ xs) (sym steps) ∙ at.invariant.all in
+          subst (HaveRead id_of reads rows (map row_of later) (at.yielded ++ station ∷ []) ahead) (sym pushed)
+          (next_read id_of reads rows rest (map row_of own) (map row_of later) at.yielded ahead station at.page.items c.in_ok-item.item (subst (AreApart id_of) (sym parts) apart)
+          (ap (map row_of) c.split_at.ensures.by_index.0 ∙ map-append row_of own later) (of_mapped row_of (λ r. is_own (id_of station) r ≡ true) own its) c.in_ok-item.ensures
+          (subst (λ xs. HaveRead id_of reads rows rest at.yielded xs at.page.items) steps (at.invariant.read apart)));
+    }
 
 pub returns : goal.returns
 returns g c = λ apart.
-    let none : length c.loop-owner.rest.now ≡ 0 = (unsigned_Decides (length c.loop-owner.rest.now) 0).0 (sym c.if-not-is_empty.ensures) in
-    all_read (g.R.OwnerReader.reads c.args.reader.now) c.args.owners.now c.args.rows.now c.loop-owner.rest.now c.loop-owner.owner-index
-    c.loop-owner.page.items c.loop-owner-test.false (nil_from_length c.loop-owner.rest.now none) (c.loop-owner.invariant apart)
+    let at = c.loop-station in
+    let reads = g.R.OwnerReader.reads c.args.reader.now in
+    let row_of = g.R.Own.OwnedRow.as_row in
+    let rows = map row_of c.args.rows.now in
+    let gives = c.into_iter-station-iterator.ensures.into_iter_gives.0 in
+    let empty : into_iter_items at.station-iterator ≡ [] = nil_from_length _ (sym at.invariant.len ∙ c.in-None.ensures.steps.0) in
+    let all : at.yielded ≡ c.args.stations.items = sym (append-nil at.yielded) ∙ rw empty at at.invariant.all ∙ gives in
+    let none : length at.rest.now ≡ 0 = (unsigned_Decides (length at.rest.now) 0).0 (sym c.if-not-is_empty.ensures) in
+    subst (λ owners. AreReadWith id_of reads rows owners at.page.items) all
+    (all_read id_of reads rows (map row_of at.rest.now) at.yielded at.page.items (ap (map row_of) (nil_from_length at.rest.now none))
+    (subst (λ xs. HaveRead id_of reads rows (map row_of at.rest.now) at.yielded xs at.page.items) empty (at.invariant.read (subst (AreApart id_of) (sym gives) apart))))

@@ -1,33 +1,32 @@
-use Rattle.std.proofs.Common.{◌∙◌, refl}
+use Rattle.std.proofs.Common.{Some, map, sym, subst, ◌∙◌, refl}
+use Rattle.std.proofs.lemmas.List.{map-id}
 use Rattle.std.specs.Prelude.{option_map}
 use Rattle.std.proofs.lemmas.Result.{IfOk-weaker}
 use Rattle.bike_schema.proofs.AnswerLemmas.{answers_then, answers_both}
 use Rattle.bike_queries.specs.After.{start_after}
-use Rattle.bike_queries.specs.Pages.{IsNamedStation}
+use Rattle.bike_queries.specs.Pages.{EndsWith, IsNamedStation}
 use Rattle.bike_queries.proofs.StatusLemmas.{page_apart, nothing_read, named_read, unnamed_read}
 use Rattle.bike_queries.proofs.stations.find_stations_after.Goals as goal
 
 pub returns-in_default : goal.returns-in_default
 returns-in_default g c =
     answers_then _ _ c.in_ok-stations.ensures (λ s m sound listing are told.
-    nothing_read s (option_map (λ id. id.now) c.args.after) (IsNamedStation s) c.as_slice-stations.result.now _
-    (c.as_slice-stations.ensures.value ∙ are) (rw c.in_default.is at c.in_ok-last.ensures) c.new.ensures.items)
+    nothing_read s (option_map (λ id. id.now) c.args.after) (IsNamedStation s) c.in_ok-stations.stations.items _
+    are (sym c.as_slice.ensures.value ∙ c.in_default.ensures) c.new.ensures.items)
 
 pub returns-then-not-translated : goal.returns-then-not-translated
 returns-then-not-translated g c =
     let after = option_map (λ id. id.now) c.args.after in
-    let stations = c.as_slice-stations.result.now in
-    answers_then _ _ c.in_ok-stations.ensures (λ s m sound listing found.
-    let are = c.as_slice-stations.ensures.value ∙ found in
+    let stations = c.in_ok-stations.stations.items in
+    answers_then _ _ c.in_ok-stations.ensures (λ s m sound listing are.
     IfOk-weaker c.read_page.result _ _ (λ page read told.
-    unnamed_read s m sound listing after (start_after after) refl stations c.in-Some.last.now are (rw c.in-Some.is at c.in_ok-last.ensures) page.items (told c.if-not-translated.true) read) (c.read_page.ensures (page_apart s after stations are)))
+    unnamed_read s m sound listing after (start_after after) refl stations c.in-Some.last.now are (subst (λ xs. EndsWith xs (Some c.in-Some.last.now)) c.as_slice.ensures.value c.in-Some.ensures) page.items (told c.if-not-translated.true) read) (c.read_page.ensures (page_apart s after stations are)))
 
 pub returns : goal.returns
 returns g c =
     let after = option_map (λ id. id.now) c.args.after in
-    let stations = c.as_slice-stations.result.now in
+    let stations = c.in_ok-stations.stations.items in
     answers_then _ _ (answers_both _ _ c.in_ok-stations.ensures c.in_ok-names.ensures) (λ s m sound listing both.
-    let are = c.as_slice-stations.ensures.value ∙ both.0 in
     IfOk-weaker c.read_page-2.result _ _ (λ page read told.
-    named_read s m sound listing after c.as_str.result.now (c.as_str.ensures.value ∙ c.start_of-start.ensures) stations c.in-Some.last.now are (rw c.in-Some.is at c.in_ok-last.ensures)
-    c.as_slice.result.now page.items (c.as_slice.ensures.value ∙ both.1) read) (c.read_page-2.ensures (page_apart s after stations are)))
+    named_read s m sound listing after c.as_str.result.now (c.as_str.ensures.value ∙ c.start_of-start.ensures) stations c.in-Some.last.now both.0 (subst (λ xs. EndsWith xs (Some c.in-Some.last.now)) c.as_slice.ensures.value c.in-Some.ensures)
+    (map (λ row. row) c.as_slice-2.result.now) page.items (map-id c.as_slice-2.result.now ∙ c.as_slice-2.ensures.value ∙ both.1) read) (c.read_page-2.ensures (page_apart s after stations both.0)))

@@ -1,17 +1,21 @@
-use Rattle.std.proofs.Common.{rules, ◌∙◌}
-use Rattle.bike_rows.proofs.ParamLemmas.{bindings}
+use Rattle.std.proofs.Common.{rules, filter, take, subst, ap, ◌∙◌}
+use Rattle.std.specs.Prelude.{option_map}
+use Rattle.std.specs.List.{AllZip}
+use Rattle.bike_book.specs.Tables.{Tables}
+use Rattle.bike_schema.specs.Answers.{Answers}
+use Rattle.bike_schema.specs.Tables.{tables_of}
 use Rattle.bike_schema.proofs.AnswerLemmas.{reads_weaker}
-use Rattle.bike_accounts.proofs.SegmentLemmas.{all_answer, all_refused}
-use Rattle.bike_queries.proofs.PageTexts.{lists_stations_from}
-use Rattle.bike_queries.proofs.StatusLemmas.{page_rows}
+use Rattle.bike_accounts.proofs.CollectLaws.{begins}
+use Rattle.bike_queries.specs.After.{begins_from}
+use Rattle.bike_queries.specs.Pages.{ArePage, ReadsStation}
+use Rattle.bike_queries.proofs.StatusLemmas.{page_read}
 use Rattle.bike_queries.proofs.stations.select_stations.Goals as goal
 
 pub returns : goal.returns
 returns g c =
+    let after = option_map (λ id. id.now) c.args.after in
     let start = c.as_str.result.now in
-    reads_weaker (all_answer _ _ _ (lists_stations_from start) (search bindings) c.in_ok-rows.ensures.mode c.in_ok-rows.ensures.survives (λ rows. rows.items) c.in_ok-rows.ensures.ok)
-    (λ db rows is s h. is s h ∙ page_rows s _ start (c.as_str.ensures.value ∙ c.start_of-start.ensures))
-
-pub returns-in_err-rows : goal.returns-in_err-rows
-returns-in_err-rows g c =
-    all_refused _ _ _ (lists_stations_from c.as_str.result.now) (search bindings) c.in_err-rows.ensures.mode c.in_err-rows.ensures.survives _ (search rules) c.in_err-rows.ensures.err
+    let among = λ (t : Tables). take 64 (filter (begins_from start) t.stations) in
+    subst (λ h. Answers g.S.Store c.args.conn.now h c.collect_rows.result (λ s m stations. ArePage s after stations.items)) (search rules)
+    (reads_weaker (c.collect_rows.ensures.read c.args.conn.now (λ db. among (tables_of db)) (begins c.in_ok-rows.ensures.walks)) (λ db stations zipped s h.
+    page_read s h.sound after start (c.as_str.ensures.value ∙ c.start_of-start.ensures) stations.items (subst (λ rows. AllZip ReadsStation rows stations.items) (ap among h.tables) zipped)))

@@ -1,23 +1,23 @@
-use Rattle.std.proofs.Common.{◌∙◌}
+use Rattle.std.proofs.Common.{Some, map, sym, subst, ◌∙◌}
+use Rattle.std.proofs.lemmas.List.{map-id}
 use Rattle.std.specs.Prelude.{option_map}
 use Rattle.std.proofs.lemmas.Result.{IfOk-weaker}
 use Rattle.bike_schema.proofs.AnswerLemmas.{answers_then, answers_both}
-use Rattle.bike_queries.specs.Pages.{IsStatusOf}
+use Rattle.bike_queries.specs.Pages.{EndsWith, IsStatusOf}
 use Rattle.bike_queries.proofs.StatusLemmas.{page_apart, nothing_read, statuses_read}
 use Rattle.bike_queries.proofs.status.find_statuses_after.Goals as goal
 
 pub returns-in_default : goal.returns-in_default
 returns-in_default g c =
     answers_then _ _ c.in_ok-stations.ensures (λ s m sound listing are.
-    nothing_read s (option_map (λ id. id.now) c.args.after) (IsStatusOf s c.args.type_ids.now) c.as_slice-stations.result.now _
-    (c.as_slice-stations.ensures.value ∙ are) (rw c.in_default.is at c.in_ok-last.ensures) c.new.ensures.items)
+    nothing_read s (option_map (λ id. id.now) c.args.after) (IsStatusOf s c.args.type_ids.now) c.in_ok-stations.stations.items _
+    are (sym c.as_slice.ensures.value ∙ c.in_default.ensures) c.new.ensures.items)
 
 pub returns : goal.returns
 returns g c =
     let after = option_map (λ id. id.now) c.args.after in
-    let stations = c.as_slice-stations.result.now in
+    let stations = c.in_ok-stations.stations.items in
     answers_then _ _ (answers_both _ _ c.in_ok-stations.ensures c.in_ok-counts.ensures) (λ s m sound listing both.
-    let are = c.as_slice-stations.ensures.value ∙ both.0 in
     IfOk-weaker c.read_page.result _ _ (λ page read.
-    statuses_read s m sound listing after c.as_str.result.now (c.as_str.ensures.value ∙ c.start_of-start.ensures) stations c.in-Some.last.now are (rw c.in-Some.is at c.in_ok-last.ensures)
-    c.as_slice.result.now c.args.type_ids.now page.items (c.as_slice.ensures.value ∙ both.1) read) (c.read_page.ensures (page_apart s after stations are)))
+    statuses_read s m sound listing after c.as_str.result.now (c.as_str.ensures.value ∙ c.start_of-start.ensures) stations c.in-Some.last.now both.0 (subst (λ xs. EndsWith xs (Some c.in-Some.last.now)) c.as_slice.ensures.value c.in-Some.ensures)
+    (map (λ row. row) c.as_slice-2.result.now) c.args.type_ids.now page.items (map-id c.as_slice-2.result.now ∙ c.as_slice-2.ensures.value ∙ both.1) read) (c.read_page.ensures (page_apart s after stations both.0)))
