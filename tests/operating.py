@@ -214,7 +214,7 @@ def test_release(program):
     assert ran("sha256sum", "-c", "--quiet", "SHA256SUMS", cwd=made) == (0, "")
     listed = {it.split("  ./", 1)[1] for it in (made / "SHA256SUMS").read_text().splitlines()}
     assert listed == {str(it.relative_to(made)) for it in made.rglob("*") if it.is_file()} - {"SHA256SUMS"}
-    assert {"bikeshare", "README.md", "CHANGELOG.md", "RELEASE", "docs/OPERATING.md", "deploy/nginx.conf", "deploy/bikeshare@.service"} <= listed
+    assert {"bikeshare", "README.md", "LICENSE", "copyright", "CHANGELOG.md", "RELEASE", "docs/OPERATING.md", "deploy/nginx.conf", "deploy/bikeshare@.service"} <= listed
     assert re.fullmatch(r"version \S+\ncommit \w+\nchanged files \w+\n", (made / "RELEASE").read_text()), (made / "RELEASE").read_text()
     assert [it for it in sorted(listed) if os.access(made / it, os.X_OK) and (made / it).stat().st_mode & 0o111] == ["bikeshare", "deploy/backup"]
     assert ran(TOP / "tools/release", made, env={**os.environ, "BIKESHARE": program.file})[0] == 2, "a release was written over"

@@ -58,6 +58,7 @@ def wanted_files():
         f"{DOCUMENTS}/changelog.gz": None,
         f"{DOCUMENTS}/copyright": TOP / "tools/debian/copyright",
         f"{DOCUMENTS}/README.md": TOP / "README.md",
+        f"{DOCUMENTS}/LICENSE": TOP / "LICENSE",
         f"{DOCUMENTS}/CHANGELOG.md": TOP / "CHANGELOG.md",
         f"{DOCUMENTS}/examples/nginx.conf": DEPLOY / "nginx.conf",
     }
@@ -91,6 +92,21 @@ def has_good_paths(found):
     assert "\nprogram=${BIKESHARE:-/usr/bin/bikeshare}\n" in backup and "../" not in backup
     for name, (_, data) in found.items():
         assert data is None or name.startswith(f"{DOCUMENTS}/docs/") or b"/opt/bikeshare" not in data or name == f"{DOCUMENTS}/README.md", name
+
+
+def has_good_copyright(text):
+    """Holds Debian's copyright file to LICENSE, and to the libraries that crates.txt names: each is named, or the family of its name."""
+    holder = re.search(r"^Copyright \(c\) (.+)$", (TOP / "LICENSE").read_text(), re.M)[1]
+    licence = re.search(r"^Files: \*\nCopyright: (.+)\nLicense: Expat$", text, re.M)
+    assert licence and licence[1] == holder == "2026 the bikeshare authors", (licence, holder)
+    given = text.split("\nLicense: Expat\n Permission", 1)[1].split("\n\n", 1)[0].replace("\n .\n", "\n\n").split()
+    assert given == (TOP / "LICENSE").read_text().split("Permission", 1)[1].split(), given
+    lines = [it.split() for it in (TOP / "crates.txt").read_text().splitlines() if not it.startswith("#")]
+    libraries = {it for line in lines for it in line[1:] if not it.startswith("bike_")}
+    named = set(re.findall(r"\w+", text.split("\nLicense: Expat\n", 2)[1]))
+    assert len(libraries) > 20 and {re.sub("^sqlite_.*", "sqlite", it) for it in libraries} <= named, libraries - named
+    asked = re.findall(r"^License: (.+)$", text, re.M)
+    assert {one for it in asked for one in it.split(" and ")} == {it for it in asked if " and " not in it}, asked
 
 
 def has_good_control(control, found):
@@ -136,6 +152,7 @@ def test_package(program):
     found, control = files_of(packages[0], "--fsys-tarfile"), files_of(packages[0], "--ctrl-tarfile")
     has_good_files(program, found)
     has_good_paths(found)
+    has_good_copyright(found[f"{DOCUMENTS}/copyright"][1].decode())
     told = has_good_control(control, found)
     assert packages[0].name == f"bikeshare_{told['version']}_amd64.deb"
     assert (one / "release/RELEASE").read_bytes() == found[f"{DOCUMENTS}/RELEASE"][1]
