@@ -110,6 +110,46 @@ def test_a_copy_that_is_killed(program):
         assert top_ups(server, [1]) == [1]
 
 
+def test_the_newest_copies_are_kept(program):
+    """deploy/keep-copies makes a sound copy and then removes the oldest of this city, and where the copy fails it removes none."""
+    city(program)
+    kept = Path(program.folder, "kept")
+    kept.mkdir()
+    before = ["city-20200101-000000.db", "city-20211231-235959.db", "city-20990101-000000.db"]
+    others = ["city-2-20200101-000000.db", "town-20200101-000000.db", "city-notes.db", "city.db"]
+    for name in [*before, *others, "city.new"]:
+        (kept / name).write_text("other\n")
+
+    def keep(*words):
+        status, said = ran(DEPLOY / "keep-copies", *words, cwd=program.folder, env={**os.environ, "BIKESHARE": program.file})
+        return status, said, sorted(it.name for it in kept.iterdir() if it.name not in others)
+
+    for words in (["city.db", "kept"], ["city.db", "kept", "0"], ["city.db", "kept", "x"], ["city.db", "none", "3"], ["none.db", "kept", "1"]):
+        assert keep(*words)[::2] == (1, [*before, "city.new"]), words
+    with Server(program):
+        status, said, names = keep("city.db", "kept", "3")
+    made = sorted(set(names) - set(before))
+    assert status == 0 and len(made) == 1 and said.endswith(f"kept/{made[0]}\n"), (status, said, names)
+    assert re.fullmatch(r"city-20\d{6}-\d{6}\.db", made[0]) and names == [before[1], made[0], before[2]], names
+    is_sound(program, f"kept/{made[0]}")
+    # A look at a copy may leave a log beside it, which goes with it. The newest copy stays where all others are of a time to come.
+    (kept / f"{made[0]}-wal").touch()
+    for it in list(kept.glob("city-20*")):
+        it.rename(kept / it.name.replace("city-20", "city-21"))
+    status, said, names = keep("city.db", "kept", "1")
+    assert status == 0 and len(names) == 1 and said.endswith(f"kept/{names[0]}\n") and names[0].startswith("city-20"), (status, said, names)
+    assert {it.name for it in kept.iterdir()} == {*others, *names}
+
+
+def test_a_first_city(program):
+    """Each line of deploy/begin.txt is accepted, and is one that docs/OPERATING.md shows where it shows it."""
+    text = (DEPLOY / "begin.txt").read_text(encoding="utf-8")
+    program.answers(text.encode(), b"ok\n" * text.count("\n"))
+    shown = re.findall(r"^\d+⇥office⇥begin\d+⇥.*$", (TOP / "docs/OPERATING.md").read_text(encoding="utf-8"), re.M)
+    assert len(shown) == 2 and [it.replace("⇥", "\t") for it in shown] == text.splitlines()[:2], shown
+    assert {it.split("\t")[0] for it in text.splitlines()} == {"1767225600"} and 1767225600 < time.time()
+
+
 def test_sqlite3_beside_it(program):
     """While the program has the file, sqlite3 neither reads nor copies it, and after it was killed both do."""
     city(program)
@@ -216,7 +256,14 @@ def test_release(program):
     assert listed == {str(it.relative_to(made)) for it in made.rglob("*") if it.is_file()} - {"SHA256SUMS"}
     assert {"bikeshare", "README.md", "LICENSE", "copyright", "CHANGELOG.md", "RELEASE", "docs/OPERATING.md", "deploy/nginx.conf", "deploy/bikeshare@.service"} <= listed
     assert re.fullmatch(r"version \S+\ncommit \w+\nchanged files \w+\n", (made / "RELEASE").read_text()), (made / "RELEASE").read_text()
-    assert [it for it in sorted(listed) if os.access(made / it, os.X_OK) and (made / it).stat().st_mode & 0o111] == ["bikeshare", "deploy/backup"]
+    assert [it for it in sorted(listed) if os.access(made / it, os.X_OK) and (made / it).stat().st_mode & 0o111] == [
+        "bikeshare",
+        "deploy/backup",
+        "deploy/keep-copies",
+        "examples/city/run",
+        "examples/map/map.py",
+        "examples/map/show",
+    ]
     assert ran(TOP / "tools/release", made, env={**os.environ, "BIKESHARE": program.file})[0] == 2, "a release was written over"
     (made / "docs/tour.txt").write_text("other\n")
     assert ran("sha256sum", "-c", "--quiet", "SHA256SUMS", cwd=made)[0] == 1
@@ -248,12 +295,28 @@ def test_release_in_an_empty_root(program):
 def test_unit_files(program):
     """systemd knows each line of the unit files, and finds the programs that they name."""
     folder = Path(program.folder)
-    for name in ("bikeshare@.service", "bikeshare-gateway.service"):
-        text = (DEPLOY / name).read_text()
-        shown = text.replace("/opt/bikeshare/bikeshare", program.file).replace("/usr/sbin/nginx", "/bin/true")
-        (folder / name).write_text(shown)
-    status, said = ran("systemd-analyze", "verify", folder / "bikeshare@.service", folder / "bikeshare-gateway.service")
+    names = ("bikeshare@.service", "bikeshare-gateway.service", "bikeshare-backup@.service", "bikeshare-backup@.timer")
+    for name in names:
+        shown = (DEPLOY / name).read_text().replace("/opt/bikeshare/bikeshare", program.file).replace("/usr/sbin/nginx", "/bin/true")
+        (folder / name).write_text(shown.replace("/opt/bikeshare/deploy", str(DEPLOY)))
+    status, said = ran("systemd-analyze", "verify", *(folder / it for it in names))
     assert status == 0 and "Unknown" not in said, said
+
+
+def test_the_unit_starts_again_what_the_document_says(program):
+    """The statuses and signals after which the unit starts the program again are those of docs/OPERATING.md, section 3."""
+    unit = dict(re.findall(r"^(Restart\w*)=(.*)$", (DEPLOY / "bikeshare@.service").read_text(), re.M))
+    assert unit["Restart"] == "on-failure", unit
+    never, always = unit["RestartPreventExitStatus"].split(), unit["RestartForceExitStatus"].split()
+    # What on-failure takes for a clean end: status 0, and these signals.
+    clean = {"0", "SIGHUP", "SIGINT", "SIGTERM", "SIGPIPE"}
+    text = (TOP / "docs/OPERATING.md").read_text().split("## 3. How the program ends", 1)[1].split("\n## ", 1)[0]
+    rows = re.findall(r"^\| (\d|signal [A-Z, ]+) \| .* \| (yes|no) \|$", text, re.M)
+    ends = {(f"SIG{it}" if "signal" in end else it): again for end, again in rows for it in re.findall(r"\d|[A-Z]+", end)}
+    assert ends.keys() == {"0", "2", "3", "4", "5", "6", "SIGTERM", "SIGHUP", "SIGINT"}, ends
+    for end, again in ends.items():
+        assert (again == "yes") == (end not in never and (end in always or end not in clean)), (end, again)
+    assert "| another signal | (none) |" in text and re.search(r"^\| another signal .* \| yes \|$", text, re.M)
 
 
 # ---- the gateway
