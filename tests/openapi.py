@@ -245,9 +245,9 @@ def test_the_gateways_answers(program):
     text = (TOP / "deploy/nginx.conf").read_text(encoding="utf-8")
     told = re.findall(r"return (\d{3}) '(\{.*?\})';", text)
     bodies = dict(told)
-    assert {it for status, it in told if bodies[status] != it} == set() and len(bodies) == 8, told
+    assert {it for status, it in told if bodies[status] != it} == set() and len(bodies) == 9, told
     responses = TREE["components"]["responses"]
-    for name, status in {**GATEWAY, "BadRequest": 400, "MethodNotAllowed": 405, "TooLarge": 413, "Unavailable": 503}.items():
+    for name, status in {**GATEWAY, "BadRequest": 400, "NotFound": 404, "MethodNotAllowed": 405, "TooLarge": 413, "Unavailable": 503}.items():
         assert responses[name]["content"]["application/json"]["example"] == bodies[str(status)], name
     assert "429 1;" in text and loaded(responses["TooMany"])["headers"]["Retry-After"]["schema"]["enum"] == [1]
     assert "401 Bearer;" in text and loaded(responses["Unauthorized"])["headers"]["WWW-Authenticate"]["schema"]["enum"] == ["Bearer"]

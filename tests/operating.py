@@ -472,8 +472,9 @@ def test_gateway_feeds(program):
         for path, caller in (("/gbfs/3.0/gbfs.json", None), ("/riders/17", "rider:17")):
             status, head, body = gateway.ask("GET", path, caller)
             assert (status, head["Retry-After"], body) == (503, "5", {"result": "error", "name": "unavailable"})
-        assert gateway.told("POST", "/gbfs/3.0/gbfs.json", body="{}") == FORBIDDEN
-        assert gateway.told("GET", "/gbfs/3.0/vehicle_status.json") == gateway.told("GET", "/gbfs/3.0/gbfs.json%0a") == UNAUTHORIZED
+        assert gateway.told("POST", "/gbfs/3.0/gbfs.json", body="{}") == (405, "method_not_allowed")
+        assert gateway.told("GET", "/gbfs/3.0/vehicle_status.json") == gateway.told("GET", "/gbfs/3.0/gbfs.json%0a") == (404, "not_found")
+        assert gateway.told("GET", "/gbfs.json") == UNAUTHORIZED
 
 
 @needs("nginx")
@@ -589,7 +590,10 @@ def test_gateway_answers_preflights(program):
             status, head, body = gateway.ask("OPTIONS", f"/gbfs/3.0/{name}.json", **asked)
             found = [head[f"Access-Control-{it}"] for it in ("Allow-Origin", "Allow-Methods", "Allow-Headers", "Allow-Credentials")]
             assert (status, found, head["Allow"], body) == (204, ["*", "GET, HEAD", "*", None], "GET, HEAD, OPTIONS", None), (name, head.items())
-        for path in ("/", "/gbfs/3.0/", "/gbfs/3.0/vehicle_status.json", *(path for _, path in ROUTES)):
+        for path in ("/gbfs/3.0/", "/gbfs/3.0/vehicle_status.json"):
+            status, head, _ = gateway.ask("OPTIONS", path, **asked)
+            assert (status, readers(head)) == (404, UNKEPT), (path, status, head.items())
+        for path in ("/", "/gbfs.json", *(path for _, path in ROUTES)):
             for caller, wanted in (None, 401), ("office:anna", 403):
                 status, head, _ = gateway.ask("OPTIONS", path, caller, **asked)
                 assert (status, readers(head)) == (wanted, PRIVATE), (path, status, head.items())
@@ -603,7 +607,7 @@ def test_gateway_keeps_callers_answers_to_them(program):
     origin = {"Origin": "https://other.example", "Accept_Encoding": "gzip"}
     with Server(program) as server, Gateway(program, {"metro": server.port}) as gateway:
         statuses = set()
-        for method, path in [*ROUTES, ("GET", "/gbfs/3.0/vehicle_status.json"), ("GET", "/riders/17/"), ("POST", "/riders/1/start")]:
+        for method, path in [*ROUTES, ("GET", "/gbfs.json"), ("GET", "/riders/17/"), ("POST", "/riders/1/start")]:
             for caller in (None, *TOKENS):
                 body = "{" + " " * 16384 if caller == "office:anna" and path == "/docks/a1/end" else "{}" if method == "POST" else None
                 status, head, _ = gateway.ask(method, path, caller, body, **origin)
@@ -625,7 +629,7 @@ def test_gateway_errors_at_feeds(program):
 
     def error(wanted, name, pause=None, **how):
         """Holds that a feed is answered by this error."""
-        status, head, body = gateway.ask(path=FEED, **{"method": "GET", **how})
+        status, head, body = gateway.ask(**{"method": "GET", "path": FEED, **how})
         assert (status, body, readers(head)) == (wanted, {"result": "error", "name": name}, UNKEPT), (status, body, head.items())
         assert (head["Content-Type"], head["Retry-After"], head["ETag"]) == ("application/json", pause, None), head.items()
         assert pause is None or "Retry-After" in head["Access-Control-Expose-Headers"], head.items()
@@ -633,7 +637,11 @@ def test_gateway_errors_at_feeds(program):
     with Server(program) as server, Gateway(program, {"metro": server.port}) as gateway:
         error(404, "not_found")
         error(404, "not_found", If_None_Match="*", Accept_Encoding="gzip")
-        error(403, "forbidden", method="POST", body="{}")
+        error(405, "method_not_allowed", method="POST", body="{}")
+        for method in ("POST", "DELETE", "PUT"):
+            assert gateway.ask(method, FEED)[1]["Allow"] == "GET, HEAD, OPTIONS", method
+        for path in ("/gbfs/3.0/vehicle_status.json", "/gbfs/2.3/gbfs.json", "/gbfs/gbfs.json"):
+            error(404, "not_found", path=path)
         server.stop()
         error(503, "unavailable", "5")
         found = [gateway.ask("GET", FEED)[0] for _ in range(60)]
