@@ -31,7 +31,10 @@ def test_axes_of_pictures(program):
     assert len(pictures) == 4, pictures
     for picture in pictures:
         text = picture.read_text(encoding="utf-8")
-        for marks in r'y="([\d.]+)" text-anchor="end" [^>]*>([\d.,]+)<', r'<text x="([\d.]+)" y="330.0" text-anchor="middle" [^>]*>([\d.,]+)<':
+        for marks in (
+            r'y="([\d.]+)" text-anchor="end" [^>]*>([\d.,]+)<',
+            r'<text x="([\d.]+)" y="330.0" text-anchor="middle" [^>]*>([\d.,]+)<',
+        ):
             rows = [(float(at), float(value.replace(",", ""))) for at, value in re.findall(marks, text)]
             assert len(rows) > 2, (picture, rows)
             scale = float if min(value for _, value in rows) == 0 else math.log10

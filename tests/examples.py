@@ -138,7 +138,8 @@ def test_the_tour_and_its_map(program):
     page = Path(program.folder, "cy.html").read_text(encoding="utf-8")
     assert '<html lang="en">' in page and '<title lang="cy">Beiciau Abermarl</title>' in page, page[:400]
     cells = re.findall(r'<td lang="(\w+)">([^<]*)</td>', page)
-    assert {("cy" if it in stations else "en", html.escape(stations.get(it, name))) for it, name, _ in city()} <= set(cells), cells
+    wanted = {("cy" if it in stations else "en", html.escape(stations.get(it, name))) for it, name, _ in city()}
+    assert len(wanted) == 60 and wanted <= set(cells), cells
 
 
 def test_the_steps_of_the_document(program):
@@ -207,7 +208,8 @@ def test_the_map_of_a_plain_system(program):
     ]
     assert ">Vélos<" in text and ">2024-10-27 11:00:00 UTC<" in text and "Prices" not in text
     page = Path(program.folder, "plain.html").read_text(encoding="utf-8")
-    assert '<html lang="en">' in page and '<title lang="fr">Vélos</title>' in page and '<td lang="sv">Öst &amp; West</td>' in page, page
+    assert '<html lang="en">' in page and '<title lang="fr">Vélos</title>' in page, page
+    assert '<td lang="sv">Öst &amp; West</td>' in page, page
 
 
 def test_the_map_of_regions(program):
@@ -227,7 +229,8 @@ def test_the_map_of_regions(program):
     assert {station: told[-1] for station, told in stations_of(text)} == {"A <1>": "L’est", "b": "x-9"}, stations_of(text)
     assert text.count(">L’est</text>") == text.count(">x-9</text>") == 1 and "No stations" not in text and "East" not in text
     page = Path(program.folder, "regions.html").read_text(encoding="utf-8")
-    assert "<th>Station</th><th>Region</th>" in page and '<td lang="sv">Öst &amp; West</td><td lang="fr">L’est</td>' in page, page[-3000:]
+    assert "<th>Station</th><th>Region</th>" in page, page[-3000:]
+    assert '<td lang="sv">Öst &amp; West</td><td lang="fr">L’est</td>' in page, page[-3000:]
 
 
 def test_the_map_of_no_stations(program):

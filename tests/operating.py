@@ -111,7 +111,7 @@ def test_a_copy_that_is_killed(program):
 
 
 def test_the_newest_copies_are_kept(program):
-    """deploy/keep-copies makes a sound copy and then removes the oldest of this city, and where the copy fails it removes none."""
+    """deploy/keep-copies makes a sound copy and then removes the oldest of this city; where the copy fails it removes none."""
     city(program)
     kept = Path(program.folder, "kept")
     kept.mkdir()
@@ -121,23 +121,26 @@ def test_the_newest_copies_are_kept(program):
         (kept / name).write_text("other\n")
 
     def keep(*words):
-        status, said = ran(DEPLOY / "keep-copies", *words, cwd=program.folder, env={**os.environ, "BIKESHARE": program.file})
+        told = {**os.environ, "BIKESHARE": program.file}
+        status, said = ran(DEPLOY / "keep-copies", *words, cwd=program.folder, env=told)
         return status, said, sorted(it.name for it in kept.iterdir() if it.name not in others)
 
-    for words in (["city.db", "kept"], ["city.db", "kept", "0"], ["city.db", "kept", "x"], ["city.db", "none", "3"], ["none.db", "kept", "1"]):
-        assert keep(*words)[::2] == (1, [*before, "city.new"]), words
+    for words in ("city.db kept", "city.db kept 0", "city.db kept x", "city.db none 3", "none.db kept 1"):
+        assert keep(*words.split())[::2] == (1, [*before, "city.new"]), words
     with Server(program):
         status, said, names = keep("city.db", "kept", "3")
     made = sorted(set(names) - set(before))
     assert status == 0 and len(made) == 1 and said.endswith(f"kept/{made[0]}\n"), (status, said, names)
     assert re.fullmatch(r"city-20\d{6}-\d{6}\.db", made[0]) and names == [before[1], made[0], before[2]], names
     is_sound(program, f"kept/{made[0]}")
-    # A look at a copy may leave a log beside it, which goes with it. The newest copy stays where all others are of a time to come.
+    # A look at a copy may leave a log beside it, which goes with it. The newest copy stays where all others are of a
+    # time to come.
     (kept / f"{made[0]}-wal").touch()
     for it in list(kept.glob("city-20*")):
         it.rename(kept / it.name.replace("city-20", "city-21"))
     status, said, names = keep("city.db", "kept", "1")
-    assert status == 0 and len(names) == 1 and said.endswith(f"kept/{names[0]}\n") and names[0].startswith("city-20"), (status, said, names)
+    assert status == 0 and len(names) == 1 and said.endswith(f"kept/{names[0]}\n"), (status, said, names)
+    assert names[0].startswith("city-20"), names
     assert {it.name for it in kept.iterdir()} == {*others, *names}
 
 
@@ -254,7 +257,8 @@ def test_release(program):
     assert ran("sha256sum", "-c", "--quiet", "SHA256SUMS", cwd=made) == (0, "")
     listed = {it.split("  ./", 1)[1] for it in (made / "SHA256SUMS").read_text().splitlines()}
     assert listed == {str(it.relative_to(made)) for it in made.rglob("*") if it.is_file()} - {"SHA256SUMS"}
-    assert {"bikeshare", "README.md", "LICENSE", "copyright", "CHANGELOG.md", "RELEASE", "docs/OPERATING.md", "deploy/nginx.conf", "deploy/bikeshare@.service"} <= listed
+    assert {"bikeshare", "README.md", "LICENSE", "copyright", "CHANGELOG.md", "RELEASE"} <= listed
+    assert {"docs/OPERATING.md", "deploy/nginx.conf", "deploy/bikeshare@.service", "deploy/begin.txt"} <= listed
     assert re.fullmatch(r"version \S+\ncommit \w+\nchanged files \w+\n", (made / "RELEASE").read_text()), (made / "RELEASE").read_text()
     assert [it for it in sorted(listed) if os.access(made / it, os.X_OK) and (made / it).stat().st_mode & 0o111] == [
         "bikeshare",
@@ -297,14 +301,15 @@ def test_unit_files(program):
     folder = Path(program.folder)
     names = ("bikeshare@.service", "bikeshare-gateway.service", "bikeshare-backup@.service", "bikeshare-backup@.timer")
     for name in names:
-        shown = (DEPLOY / name).read_text().replace("/opt/bikeshare/bikeshare", program.file).replace("/usr/sbin/nginx", "/bin/true")
-        (folder / name).write_text(shown.replace("/opt/bikeshare/deploy", str(DEPLOY)))
+        text = (DEPLOY / name).read_text().replace("/opt/bikeshare/bikeshare", program.file)
+        shown = text.replace("/usr/sbin/nginx", "/bin/true").replace("/opt/bikeshare/deploy", str(DEPLOY))
+        (folder / name).write_text(shown)
     status, said = ran("systemd-analyze", "verify", *(folder / it for it in names))
     assert status == 0 and "Unknown" not in said, said
 
 
 def test_the_unit_starts_again_what_the_document_says(program):
-    """The statuses and signals after which the unit starts the program again are those of docs/OPERATING.md, section 3."""
+    """The unit starts the program again after the statuses and signals of which docs/OPERATING.md, section 3, says so."""
     unit = dict(re.findall(r"^(Restart\w*)=(.*)$", (DEPLOY / "bikeshare@.service").read_text(), re.M))
     assert unit["Restart"] == "on-failure", unit
     never, always = unit["RestartPreventExitStatus"].split(), unit["RestartForceExitStatus"].split()
@@ -312,7 +317,8 @@ def test_the_unit_starts_again_what_the_document_says(program):
     clean = {"0", "SIGHUP", "SIGINT", "SIGTERM", "SIGPIPE"}
     text = (TOP / "docs/OPERATING.md").read_text().split("## 3. How the program ends", 1)[1].split("\n## ", 1)[0]
     rows = re.findall(r"^\| (\d|signal [A-Z, ]+) \| .* \| (yes|no) \|$", text, re.M)
-    ends = {(f"SIG{it}" if "signal" in end else it): again for end, again in rows for it in re.findall(r"\d|[A-Z]+", end)}
+    each = [(it, again) for end, again in rows for it in re.findall(r"\d|[A-Z]+", end)]
+    ends = {(it if it.isdigit() else f"SIG{it}"): again for it, again in each}
     assert ends.keys() == {"0", "2", "3", "4", "5", "6", "SIGTERM", "SIGHUP", "SIGINT"}, ends
     for end, again in ends.items():
         assert (again == "yes") == (end not in never and (end in always or end not in clean)), (end, again)
@@ -473,7 +479,8 @@ def test_gateway_feeds(program):
             status, head, body = gateway.ask("GET", path, caller)
             assert (status, head["Retry-After"], body) == (503, "5", {"result": "error", "name": "unavailable"})
         assert gateway.told("POST", "/gbfs/3.0/gbfs.json", body="{}") == (405, "method_not_allowed")
-        assert gateway.told("GET", "/gbfs/3.0/vehicle_status.json") == gateway.told("GET", "/gbfs/3.0/gbfs.json%0a") == (404, "not_found")
+        for path in "/gbfs/3.0/vehicle_status.json", "/gbfs/3.0/gbfs.json%0a":
+            assert gateway.told("GET", path) == (404, "not_found"), path
         assert gateway.told("GET", "/gbfs.json") == UNAUTHORIZED
 
 

@@ -69,8 +69,8 @@ def wanted_files():
         f"{DOCUMENTS}/examples/nginx.conf": DEPLOY / "nginx.conf",
         f"{DOCUMENTS}/examples/begin.txt": DEPLOY / "begin.txt",
     }
-    folders = [it for name in ("docs", "examples") for it in (TOP / name).rglob("*") if it.is_file() and it.parent.name != "__pycache__"]
-    return wanted | {f"{DOCUMENTS}/{it.relative_to(TOP)}": it for it in folders}
+    found = [it for name in ("docs", "examples") for it in (TOP / name).rglob("*") if it.is_file()]
+    return wanted | {f"{DOCUMENTS}/{it.relative_to(TOP)}": it for it in found if it.parent.name != "__pycache__"}
 
 
 def linked(text):
@@ -79,7 +79,7 @@ def linked(text):
 
 
 def has_good_links(files):
-    """Holds that each link of the documents leads to a file or a folder beside them. The files are named from the documents' folder."""
+    """Holds that each link of the documents leads to a file or a folder of these, which are named from the documents' folder."""
     places = set(files) | {str(it) for name in files for it in Path(name).parents}
     found = 0
     for name in files:
@@ -104,19 +104,22 @@ def has_good_files(program, found):
     assert len({it.mtime for it, _ in found.values()}) == 1, "the times differ"
     for name, source in wanted.items():
         assert source is None or found[name][1] == linked(source.read_bytes()), name
-    has_good_links({name.removeprefix(f"{DOCUMENTS}/"): data for name, (_, data) in found.items() if data is not None and name.startswith(DOCUMENTS)})
+    documents = {name: data for name, (_, data) in found.items() if data is not None and name.startswith(DOCUMENTS)}
+    has_good_links({name.removeprefix(f"{DOCUMENTS}/"): data for name, data in documents.items()})
     assert found["usr/bin/bikeshare"][1] == Path(program.file).read_bytes()
 
 
 def has_good_paths(found):
     """Holds the unit files and the script for backups to those of deploy/, with the paths of the package."""
-    for name in ("bikeshare@.service", "bikeshare-gateway.service", "bikeshare-backup@.service", "bikeshare-backup@.timer"):
+    units = "bikeshare@.service", "bikeshare-gateway.service", "bikeshare-backup@.service", "bikeshare-backup@.timer"
+    for name in units:
         text = (DEPLOY / name).read_text()
         text = text.replace("/opt/bikeshare/bikeshare", "/usr/bin/bikeshare").replace("/opt/bikeshare/docs", "/usr/share/doc/bikeshare/docs")
         text = text.replace("/opt/bikeshare/deploy/", "/usr/share/bikeshare/")
         assert found[f"usr/lib/systemd/system/{name}"][1].decode() == text, name
         named = re.findall(r"^(?:ExecStart=|Documentation=file:)/(usr/\S+)", text, re.M)
-        assert len(named) == 1 + name.endswith(".service") and {it for it in named if it != "usr/sbin/nginx"} <= found.keys(), named
+        assert len(named) == 1 + name.endswith(".service"), named
+        assert {it for it in named if it != "usr/sbin/nginx"} <= found.keys(), named
     backup = found["usr/share/bikeshare/backup"][1].decode()
     assert "\nprogram=${BIKESHARE:-/usr/bin/bikeshare}\n" in backup and "../" not in backup
     for name, (_, data) in found.items():
@@ -124,7 +127,7 @@ def has_good_paths(found):
 
 
 def has_good_copyright(text):
-    """Holds Debian's copyright file to LICENSE, and to the libraries that crates.txt names: each is named, or the family of its name."""
+    """Holds Debian's copyright file to LICENSE, and to the libraries of crates.txt: each is named, or its family is."""
     holder = re.search(r"^Copyright \(c\) (.+)$", (TOP / "LICENSE").read_text(), re.M)[1]
     licence = re.search(r"^Files: \*\nCopyright: (.+)\nLicense: Expat$", text, re.M)
     assert licence and licence[1] == holder == "2026 the bikeshare authors", (licence, holder)

@@ -171,7 +171,8 @@ class System:
 
     def text(self, row, name, where):
         """Returns a localized text in the first of the system's languages that it has, else in its own first."""
-        texts = [Text(member(it, "text", TEXT, where), member(it, "language", TEXT, where)) for it in member(row, name, ROWS, where)]
+        rows = member(row, name, ROWS, where)
+        texts = [Text(member(it, "text", TEXT, where), member(it, "language", TEXT, where)) for it in rows]
         if not texts:
             raise NotGbfs(f"{where}: {name} has no text")
         return next((text for it in self.languages for text in texts if text.language == it), texts[0])

@@ -38,7 +38,7 @@ def escaped(text):
 
 
 def spoken(text):
-    """The attribute that names the language of a text out of the feeds. All other words are English, as the page says."""
+    """The attribute that names the language of a text out of the feeds. All other words are English."""
     language = getattr(text, "language", "")
     return f' lang="{escaped(language)}"' if language else ""
 
@@ -60,11 +60,12 @@ def number(value):
 
 def words(x, y, text, size=11, color=INK, more=""):
     """A text that begins at x and stands on y."""
-    return f'<text x="{number(x)}" y="{number(y)}" font-size="{size}" fill="{color}"{more}{spoken(text)}>{escaped(text)}</text>'
+    more += spoken(text)
+    return f'<text x="{number(x)}" y="{number(y)}" font-size="{size}" fill="{color}"{more}>{escaped(text)}</text>'
 
 
 def length(text, size):
-    """How long a text is at most, in the widest of the fonts that are named. Letters are narrow, wide, capital, or as most."""
+    """How long a text is at most, in the widest of the usual fonts. Letters are narrow, wide, capital, or as most."""
     narrow, wide = sum(it in " ijlrtf.,'\"()-" for it in text), sum(it in "mwMW" for it in text)
     capital = sum(it.isupper() for it in text)
     return size * (0.61 * len(text) - 0.24 * narrow + 0.34 * wide + 0.08 * capital)
@@ -153,20 +154,23 @@ class Picture:
         return "\n".join([*parts, *self.names(placed, taken), self.ruler()])
 
     def regions(self, taken):
-        """The name of each region, pale and large, near the middle of its stations: as near as it touches nothing that is taken. It stands
-        in the very middle where there is no such place."""
+        """The name of each region, pale and large, as near the middle of its stations as it touches nothing that is taken, and in
+        the very middle where there is no such place."""
         places = {}
         for station in self.system.stations:
             if station["region"]:
                 places.setdefault(station["region"], []).append(self.place(station))
-        around = sorted(((8 * right, 8 * down) for right in range(-15, 16) for down in range(-15, 16)), key=lambda it: math.hypot(*it))
+        around = [(8 * right, 8 * down) for right in range(-15, 16) for down in range(-15, 16)]
+        around.sort(key=lambda it: math.hypot(*it))
         more = ' font-weight="600" text-anchor="middle" pointer-events="none"'
         parts = []
         for name, found in sorted(places.items()):
             x, y = (sum(it) / len(it) for it in zip(*found))
             wide = 0.55 * length(name, 18)
-            spots = [(x + right, y + down, (x + right - wide, y + down - 14, x + right + wide, y + down + 5)) for right, down in around]
-            x, y, box = next((it for it in spots if self.is_free(it[2], taken)), (x, y, None))
+            spots = [(x + right, y + down) for right, down in around]
+            boxes = [(left - wide, base - 14, left + wide, base + 5) for left, base in spots]
+            free = ((*spot, box) for spot, box in zip(spots, boxes) if self.is_free(box, taken))
+            x, y, box = next(free, (x, y, None))
             taken += [box] if box else []
             parts.append(words(x, y, name, 18, PALE, more))
         return parts
@@ -293,7 +297,8 @@ def table(head, rows):
     def cells(row, tag):
         """A row of the table, in cells of this tag."""
         marks = [' class="number"' if isinstance(it, int) else "" for it in (rows[0] if rows else head)]
-        return "<tr>" + "".join(f"<{tag}{mark}{spoken(it)}>{escaped(str(it))}</{tag}>" for mark, it in zip(marks, row)) + "</tr>"
+        made = [f"<{tag}{mark}{spoken(it)}>{escaped(str(it))}</{tag}>" for mark, it in zip(marks, row)]
+        return f"<tr>{''.join(made)}</tr>"
 
     return "\n".join(["<table>", cells(head, "th"), *(cells(row, "td") for row in rows), "</table>"])
 
