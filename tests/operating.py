@@ -119,11 +119,14 @@ def test_the_newest_copies_are_kept(program):
     others = ["city-2-20200101-000000.db", "town-20200101-000000.db", "city-notes.db", "city.db"]
     for name in [*before, *others, "city.new"]:
         (kept / name).write_text("other\n")
+    for name in "city.new.unfinished", "city.failed":
+        (kept / name).mkdir()
+        (kept / name / name).touch()
 
     def keep(*words):
         told = {**os.environ, "BIKESHARE": program.file}
         status, said = ran(DEPLOY / "keep-copies", *words, cwd=program.folder, env=told)
-        return status, said, sorted(it.name for it in kept.iterdir() if it.name not in others)
+        return status, said, sorted(it.name for it in kept.iterdir() if it.is_file() and it.name not in others)
 
     for words in ("city.db kept", "city.db kept 0", "city.db kept x", "city.db none 3", "none.db kept 1"):
         assert keep(*words.split())[::2] == (1, [*before, "city.new"]), words
@@ -133,6 +136,8 @@ def test_the_newest_copies_are_kept(program):
     assert status == 0 and len(made) == 1 and said.endswith(f"kept/{made[0]}\n"), (status, said, names)
     assert re.fullmatch(r"city-20\d{6}-\d{6}\.db", made[0]) and names == [before[1], made[0], before[2]], names
     is_sound(program, f"kept/{made[0]}")
+    left = {it: [one.name for one in it.iterdir()] for it in kept.iterdir() if it.is_dir()}
+    assert left == {kept / "city.failed": ["city.new.unfinished"]}, left
     # A look at a copy may leave a log beside it, which goes with it. The newest copy stays where all others are of a
     # time to come.
     (kept / f"{made[0]}-wal").touch()
@@ -141,7 +146,7 @@ def test_the_newest_copies_are_kept(program):
     status, said, names = keep("city.db", "kept", "1")
     assert status == 0 and len(names) == 1 and said.endswith(f"kept/{names[0]}\n"), (status, said, names)
     assert names[0].startswith("city-20"), names
-    assert {it.name for it in kept.iterdir()} == {*others, *names}
+    assert {it.name for it in kept.iterdir()} == {*others, *names, "city.failed"}
 
 
 def test_a_first_city(program):
