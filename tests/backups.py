@@ -297,12 +297,13 @@ FAILURES = {
     "the call": lambda at: {"FAIL_AT": at, "FAIL_WITH": EIO},
     "all calls from then on": lambda at: {"FAIL_FROM": at, "FAIL_WITH": EIO},
     "no room from then on": lambda at: {"FAIL_FROM": at, "FAIL_WITH": ENOSPC},
-    "the call moves no byte": lambda at: {"SHORT_AT": at, "SHORT_BYTES": 0},
 }
+# A file that seems to end there, which cp takes for its end.
+ENDS_EARLY = {"no byte from the call on": lambda at: {"SHORT_FROM": at, "SHORT_BYTES": 0}}
 
 
 def disturbed(city, name, **faults):
-    """Copies a city with these faults in the programs of a name. Returns what is wrong, and how many calls there were."""
+    """Copies a city with these faults in programs of a name. Returns what is wrong, and how many calls there were."""
     count = city.folder / "count"
     count.unlink(missing_ok=True)
     told = environment(city.file, FAULT_FOLDER=city.folder, FAULT_IN=name, COUNT_IN=count, **faults)
@@ -311,7 +312,7 @@ def disturbed(city, name, **faults):
     return wrong and f"{name}: {wrong}", int.from_bytes(count.read_bytes() if count.exists() else b"", "little")
 
 
-def each_call(program, kind, names, stride):
+def each_call(program, kind, names, stride, failures=FAILURES):
     """Tries calls of the programs of these names, each way in which they fail. They are counted first."""
 
     def turn(name, faults):
@@ -323,7 +324,7 @@ def each_call(program, kind, names, stride):
             wrong, counts[name] = disturbed(among[0], name)
             assert not wrong and among[0].ends["failed"] == 0 < counts[name], (name, wrong, counts)
             among[0].cleared()
-        for first, (how, faults) in enumerate(FAILURES.items()):
+        for first, (how, faults) in enumerate(failures.items()):
             numbered = [(it, at) for it in names for at in range(1 + first % stride, counts[it] + 2, stride)]
             turns = [turn(it, faults(at)) for it, at in numbered]
             ends = tried(among, f"{how} of {', '.join(names)}", turns)
@@ -338,6 +339,11 @@ def test_calls_that_fail_under_load(program):
 @quickly
 def test_calls_that_fail_after_a_kill(program):
     each_call(program, Killed, PROGRAMS, STRIDE or 11)
+
+
+@quickly
+def test_copies_that_end_early(program):
+    each_call(program, Killed, ["cp"], STRIDE or 2, ENDS_EARLY)
 
 
 @quickly
@@ -413,17 +419,30 @@ def test_a_log_that_was_removed(program):
         assert not (here / "copy.db").exists() and top_ups(server, [1]) == [1]
         os.kill(server.child.pid, signal.SIGSTOP)
         (log,) = (it for it in Path(f"/proc/{server.child.pid}/fd").iterdir() if "city.db-wal" in os.readlink(it))
-        put({"": (here / "city.db").read_bytes(), "-wal": log.read_bytes()}, here, "copy.db")
-    assert keys_in(here / "copy.db") == [1]
+        put({"": (here / "city.db").read_bytes(), "-wal": log.read_bytes()}, here, "by_hand.db")
+    assert keys_in(here / "by_hand.db") == [1]
 
 
-def slow(program, name, seconds):
-    """A folder with a program of this name that does nothing for so long."""
-    folder = Path(program.folder, "slow")
-    folder.mkdir(exist_ok=True)
-    (folder / name).write_text(f"#!/bin/sh\nexec sleep {seconds}\n")
-    (folder / name).chmod(0o755)
-    return {"PATH": f"{folder}:{os.environ['PATH']}"}
+@contextlib.contextmanager
+def begun(program, file, copy):
+    """The script, begun on a file, whose cp waits until there is a file `go` beside it."""
+    folder = Path(tempfile.mkdtemp(dir=program.folder))
+    waits = f"while [ ! -e {folder}/go ]; do sleep 0.05; done"
+    (folder / "cp").write_text(f'#!/bin/sh\ntouch {folder}/begun\n{waits}\nexec {shutil.which("cp")} "$@"\n')
+    (folder / "cp").chmod(0o755)
+    env = {**os.environ, "BIKESHARE": program.file, "PATH": f"{folder}:{os.environ['PATH']}"}
+    words = [DEPLOY / "backup", file, copy]
+    script = subprocess.Popen(words, env=env, stderr=subprocess.PIPE, start_new_session=True)
+    try:
+        until = time.monotonic() + SECONDS
+        while not (folder / "begun").exists():
+            assert time.monotonic() < until and script.poll() is None, "it never came so far"
+            time.sleep(0.005)
+        yield script, folder / "go"
+    finally:
+        with contextlib.suppress(ProcessLookupError):
+            os.killpg(script.pid, signal.SIGKILL)
+        script.communicate()
 
 
 def goes_on(server, number):
@@ -445,21 +464,33 @@ ENDS += [(signal.SIGTERM, True), (signal.SIGHUP, True), (signal.SIGINT, True)]
 def test_a_script_that_is_ended(program):
     """Whatever signal ends it, alone or sent to all as by a terminal, the server goes on at once. There is no copy."""
     here = Path(program.folder)
-    env = {**os.environ, "BIKESHARE": program.file, **slow(program, "cp", 4 * SECONDS)}
     with Server(program, seconds=SECONDS / 8) as server:
         made_over(server)
         for number, (kind, to_all) in enumerate(ENDS, 1):
-            words = [DEPLOY / "backup", here / "city.db", here / f"copy{number}.db"]
-            script = subprocess.Popen(words, env=env, stderr=subprocess.DEVNULL, start_new_session=True)
-            try:
-                until = time.monotonic() + SECONDS
-                while not is_stopped(server.child):
-                    assert time.monotonic() < until and script.poll() is None, "the program wasn't stopped"
-                    time.sleep(0.005)
+            copy = here / f"copy{number}.db"
+            with begun(program, here / "city.db", copy) as (script, _):
+                assert is_stopped(server.child)
                 (os.killpg if to_all else os.kill)(script.pid, kind)
                 with told_with(f"{kind.name}, to all: {to_all}"):
                     assert goes_on(server, number), "the program stands still"
-            finally:
-                os.killpg(script.pid, signal.SIGKILL)
-                script.wait()
-            assert not (here / f"copy{number}.db").exists()
+            assert not copy.exists()
+
+
+def test_a_city_that_changes_while_it_is_copied(program):
+    """A server that somebody lets go on, and a writer that nobody sees."""
+    here = Path(program.folder)
+    with Server(program, seconds=SECONDS) as server:
+        made_over(server)
+        with begun(program, here / "city.db", here / "copy.db") as (script, go):
+            os.kill(server.child.pid, signal.SIGCONT)
+            assert top_ups(server, [1]) == [1]
+            go.touch()
+            said = script.communicate(timeout=SECONDS)[1]
+        assert script.returncode == 1 and b" went on while " in said, (script.returncode, said)
+    with begun(program, here / "city.db", here / "other.db") as (script, go):
+        with open(here / "city.db-wal", "ab") as log:
+            log.write(b"more")
+        go.touch()
+        said = script.communicate(timeout=SECONDS)[1]
+    assert script.returncode == 1 and b" was changed while it was copied" in said, (script.returncode, said)
+    assert not (here / "copy.db").exists() and not (here / "other.db").exists()
