@@ -42,17 +42,18 @@ def keys_in(path):
 
 
 class Sender(threading.Thread):
-    """Sends top-ups in turn until it is told to end. A request that has no answer is sent again, as a client does."""
+    """Sends top-ups in turn, so many seconds apart, until it is told to end. A request that has no answer is sent again, as a client does."""
 
-    def __init__(self, server):
+    def __init__(self, server, pause=0):
         super().__init__()
-        self.server, self.answered, self.over = server, 0, threading.Event()
+        self.server, self.answered, self.over, self.pause = server, 0, threading.Event(), pause
 
     def run(self):
         """Counts the requests that were answered, each under the key of its number."""
         while not self.over.is_set():
             with contextlib.suppress(ConnectionError):
                 self.answered += len(top_ups(self.server, [self.answered + 1]))
+            self.over.wait(self.pause)
 
     def __enter__(self):
         self.start()
