@@ -4,18 +4,14 @@ ghost use Rattle.std.specs.Prelude.{◌≡◌};
 ghost use Rattle.std.specs.List.{list_any};
 ghost use Rattle.sqlite_schema.specs.Names.{same_name};
 ghost use Rattle.bike_schema.specs.Layouts.{name_of};
-ghost use Rattle.bike_schema.specs.Tables.{other_names};
 ghost use Rattle.bike_recognition.specs.Names.{table_named};
-ghost use Rattle.bike_recognition.specs.Added.{is_over, is_of_key, is_added, has_added, is_product_name, has_added_unique};
+ghost use Rattle.bike_recognition.specs.Added.{is_over, is_of_key, is_added, has_added, is_product_name, is_hindered, has_added_unique};
 
 use crate::stands::EVERY_TABLE;
 use crate::table::TableName;
 use sqlite_items::Items;
 use sqlite_schema::names::same_name;
 use sqlite_schema::schema::{Index, Schema, Table};
-
-/// The names of the tables of stations that earlier versions have.
-const EARLIER_NAMES: [&str; 2] = ["stations", "stations_2"];
 
 /// Whether the index is over these columns, in their order.
 fn is_over(index: &Index, key: &Items<usize>) -> bool
@@ -69,27 +65,28 @@ fn is_named_in(tables: &[TableName], name: &[u8]) -> bool
         .any(|table| same_name(name, table.name().as_bytes()))
 }
 
-/// Whether the name is that of a table which earlier versions alone have.
-fn is_earlier_name(name: &[u8]) -> bool
-    ensures { result ≡ list_any (same_name name.now) other_names }
-{
-    EARLIER_NAMES
-        .iter()
-        .any(|other| same_name(name, other.as_bytes()))
-}
-
-/// Whether the name is that of a table of the product, at some version.
+/// Whether the name is that of a table of the newest version.
 fn is_product_name(name: &[u8]) -> bool
     ensures { result ≡ is_product_name name.now }
 {
-    is_named_in(&EVERY_TABLE, name) || is_earlier_name(name)
+    is_named_in(&EVERY_TABLE, name)
 }
 
-/// Whether somebody added a UNIQUE index to a table that has a name of the product's. On such an index a request can fail that
-/// breaks no rule. The indexes of the keys, which the engine makes with a table, are none.
+/// Whether the table is the product's, as its name tells, and somebody added a UNIQUE index to it.
+fn is_hindered(schema: &Schema, table: &Table) -> bool
+    ensures { result ≡ is_hindered schema.now table.now }
+{
+    is_product_name(table.name.as_slice()) && has_added(schema, table)
+}
+
+/// Whether somebody added a UNIQUE index to a table of the product's. On such an index a request can fail that breaks no rule. The
+/// indexes of the keys, which the engine makes with a table, are none.
 pub fn has_added_unique(schema: &Schema) -> bool
     ensures { result ≡ has_added_unique schema.now }
 {
-    schema.tables.as_slice().iter().any(|table| is_product_name(table.name.as_slice())
-        && has_added(schema, table))
+    schema
+        .tables
+        .as_slice()
+        .iter()
+        .any(|table| is_hindered(schema, table))
 }
