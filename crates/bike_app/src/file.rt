@@ -19,8 +19,8 @@ use sqlite::{Connection, FileFrom, FileStore, Start};
 use std::io::{Read, Write};
 
 /// Does what the words ask, but for `Serve`, over the database file at a path, as `run_words` does over the database that the file's
-/// bytes hold. Gives the connection back, none where the file couldn't be opened: then nothing was read, nothing written, and the fault
-/// is that of the opening.
+/// bytes hold. Gives the connection back, none where the file couldn't be opened, or somebody added a UNIQUE index to a table of the
+/// product's: then nothing was read, nothing written, and the fault is that of the opening.
 pub fn run_file<F: Start, R: Read, W: Write, P: Watch>(
     rt: &HostRuntime,
     task: &Task<'_>,
