@@ -1,7 +1,8 @@
-"""deploy/bikeshare-doctor beside the program: what it calls bad the program refuses, and what it lets through the program takes. It never
-writes, and it stands alone.
+"""deploy/bikeshare-doctor beside the program: what it calls bad the program refuses, and what it lets through the
+program takes. It never writes.
 
-What needs another user, a read-only file system or a full disk is tried where the test is root and may mount; a line says where it isn't.
+What needs another user, a read-only file system or a full disk is tried where the test is root and may mount. A line
+says where it isn't.
 """
 
 import contextlib
@@ -21,13 +22,15 @@ import time
 from pathlib import Path
 
 import formats
+from package import sections_of
 from shared import (
-    CITY, FEEDS, FOREIGN, HEADER, SOUND, STORE_FAILED, TOP, Program, Server, accepted, changed, has, loaded, needs, put, ran, removed, requests_of,
-    rows_of, taken,
+    CITY, FEEDS, FOREIGN, HEADER, SOUND, STORE_FAILED, TOP, Program, Server, accepted, changed, loaded, put, ran,
+    removed, requests_of, rows_of, taken,
 )
 
 SCRIPT = TOP / "deploy/bikeshare-doctor"
 PAGE = TOP / "deploy/bikeshare-doctor.1"
+COMPLETION = TOP / "deploy/bikeshare-doctor.bash"
 doctor = loaded(SCRIPT)
 NOW = 1_750_000_000
 NOBODY = 65534
@@ -36,8 +39,9 @@ BAD_FIELD, FOR_GOOD = "bad_field", "accepted for good"
 
 def told(*words, given=None, **how):
     """Runs the script with these words: its status, and the lines that it says."""
-    stdin = {"input": given} if given is not None else {"stdin": subprocess.DEVNULL}
-    done = subprocess.run([sys.executable, SCRIPT, *map(str, words)], capture_output=True, timeout=60, check=False, **stdin, **how)
+    how |= {"input": given} if given is not None else {"stdin": subprocess.DEVNULL}
+    script = [sys.executable, SCRIPT, *map(str, words)]
+    done = subprocess.run(script, capture_output=True, timeout=120, check=False, **how)
     assert not done.stderr or done.returncode == 2, done.stderr.decode()
     return done.returncode, (done.stdout or done.stderr).decode().splitlines()
 
@@ -58,21 +62,25 @@ def number_in(where):
 @functools.cache
 def samples():
     """Texts at the bounds of all kinds of fields, and beside them."""
-    words = [it.split("\t") for it in CITY]
-    numbers = [0, 1, 8, 9, 10, 59, 60, 61, 200, 201, 499, 500, 501, 86_400, 86_401, 100_000, 100_001, 999_999, 1_000_000, 1_000_001, 100_000_000]
-    numbers += [100_000_001, formats.LAST_MOMENT, formats.LAST_MOMENT + 1, 2**63, 10**20, 10**40]
-    texts = ["", " ", "-", "*", "a", "A", "a1", "-0", "-1", "+1", "01", "00", "1.0", "1,5", "１", "1 ", " 1", "0x1", "1e3", "true", "false", "True"]
-    texts += ["broken", "working", "disabled", "fit", "open", "blocked", "from", "to", "bicycle", "cargo_bicycle", "human", "electric_assist"]
-    texts += ["system", "station", "type", "plan", "description", "region", "EUR", "eur", "EURO", "en", "x" * 35, "x" * 36, "x" * 37, "x" * 64]
-    texts += ["x" * 65, "x" * 120, "x" * 121, "x" * 200, "x" * 201, "é" * 60, "é" * 61, "\0", "a\0b", "\x1f", "\x7f", "~", "\\", "\\\\", "\\t", "\\n"]
-    texts += ["\\r", "\\x", "\r", "a\n", "\\\\" * 120, "\\\\" * 121, "90", "-90", "90.000001", "180", "-180", "180.000001", "007", "0.000001", "1.0000000"]
-    texts += [".5", "1.", "1000", "-0.000001", "--1", "45.1234567", "30:25:5:-", "0:-60:0:30;20:50:10:60", "1:1:1:1", "1:1:1:0", "2:1:1:1", ";", "1:1:1"]
-    texts += ["0:-0:0:-", "0:-100000:0:-", "0:100001:0:-", "100001:0:0:-", "0:0:100000:100000", "0:0:0:-;" * 7 + "0:0:0:-", "0:0:0:-;" * 8 + "0:0:0:-", "de-CH"]
-    return [*dict.fromkeys([*map(str, numbers), *texts, *(field for row in words for field in row)])]
+    fields = [field for it in CITY for field in it.split("\t")]
+    numbers = [0, 1, 8, 9, 10, 59, 60, 61, 200, 201, 499, 500, 501, 86_400, 86_401, 100_000, 100_001, 999_999]
+    numbers += [1_000_000, 1_000_001, 100_000_000, 100_000_001, formats.LAST_MOMENT, formats.LAST_MOMENT + 1, 2**63]
+    numbers += [10**20, 10**40]
+    texts = ["", " ", "-", "*", "-0", "-1", "+1", "01", "00", "1.0", "1,5", "１", "1 ", " 1", "0x1", "1e3", "True"]
+    texts += "a A a1 true false broken working disabled fit open blocked from to bicycle cargo_bicycle human".split()
+    texts += "electric_assist system station type plan description region EUR eur EURO en de-CH ~".split()
+    texts += ["x" * length for length in (35, 36, 37, 64, 65, 120, 121, 200, 201)] + ["é" * 60, "é" * 61]
+    texts += ["\0", "a\0b", "\x1f", "\x7f", "\r", "a\n", "\\", "\\\\", "\\t", "\\n", "\\r", "\\x"]
+    texts += ["\\\\" * 120, "\\\\" * 121]
+    texts += "90 -90 90.000001 180 -180 180.000001 007 0.000001 1.0000000 .5 1. 1000 -0.000001 --1 45.1234567".split()
+    texts += "30:25:5:- 0:-60:0:30;20:50:10:60 1:1:1:1 1:1:1:0 2:1:1:1 ; 1:1:1 0:-0:0:- 0:-100000:0:-".split()
+    texts += "0:100001:0:- 100001:0:0:- 0:0:100000:100000".split()
+    texts += ["0:0:0:-;" * 7 + "0:0:0:-", "0:0:0:-;" * 8 + "0:0:0:-"]
+    return [*dict.fromkeys([*map(str, numbers), *texts, *fields])]
 
 
 def test_fields_have_the_bounds_of_the_documents(program):
-    """Of each field of each command, and of moments, callers and keys, the same texts are good as in tests/formats.py."""
+    """Of each field, and of moments, callers and keys, the same texts are good as in tests/formats.py."""
     assert {it.encode() for it in doctor.COMMANDS} == formats.COMMANDS.keys()
     for word, predicates in formats.COMMANDS.items():
         fields = doctor.fields_of(word.decode())
@@ -80,11 +88,12 @@ def test_fields_have_the_bounds_of_the_documents(program):
         for (name, kind), is_good in zip(fields, predicates):
             for text in samples():
                 assert (kind.fault(text) is None) == bool(is_good(text.encode())), (word, name, text, kind.fault(text))
-    callers = ["office", "office:", "rider:1", "rider:0", "rider:1000000", "crew:999999", "crew:", "dock:a1", "dock:A", "import:x", "rider", "x:1", ""]
+    callers = "office office: rider:1 rider:0 rider:1000000 crew:999999 crew: dock:a1 dock:A import:x rider x:1".split()
+    is_moment = formats.within(0, formats.LAST_MOMENT)
     for text in [*samples(), *callers, *(f"dock:{it}" for it in samples())]:
         assert (doctor.caller_fault(text) is None) == bool(formats.is_caller(text.encode())), text
         assert (doctor.KINDS["key"].fault(text) is None) == bool(formats.is_key(text.encode())), text
-        assert (doctor.KINDS["moment"].fault(text) is None) == bool(formats.within(0, formats.LAST_MOMENT)(text.encode())), text
+        assert (doctor.KINDS["moment"].fault(text) is None) == bool(is_moment(text.encode())), text
 
 
 def test_fields_have_the_names_of_the_documents(program):
@@ -99,6 +108,7 @@ def test_fields_have_the_names_of_the_documents(program):
 
 # ---- request lines
 
+ASKED = b"1700000000\toffice\tk\t"
 # A line that is answered bad_field, and where that is found.
 BAD_LINES = (
     (b"", ""),
@@ -106,38 +116,38 @@ BAD_LINES = (
     (b"# a comment", ""),
     (b"1700000000 office k add-rider 17", ""),
     (b"1700000000\toffice\tk", ""),
-    (b"1700000000\toffice\tk\tadd-rider\t17\r", ""),
+    (ASKED + b"add-rider\t17\r", ""),
     (b"\xef\xbb\xbf1700000000\toffice\tk\tadd-rider\t17", ", moment"),
-    (b"1700000000\toffice\tk\tadd-region\tnorth\tNor\xff", ""),
-    (b"1700000000\toffice\tk\tadd-region\tnorth\t" + b"\\n" * 2100, ""),
+    (ASKED + b"add-region\tnorth\tNor\xff", ""),
+    (ASKED + b"add-region\tnorth\t" + b"\\n" * 2100, ""),
     (b"17000000000000\toffice\tk\tadd-rider\t17", ", moment"),
     (b"01\toffice\tk\tadd-rider\t17", ", moment"),
     (b"1700000000\tstaff\tk\tadd-rider\t17", ", caller"),
     (b"1700000000\trider:0\tk\tadd-rider\t17", ", caller"),
     (b"1700000000\toffice\ta b\tadd-rider\t17", ", key"),
-    (b"1700000000\toffice\tk\tadd-staton\ta1\tHarbour\t41.8\t12.4\t2", ", command"),
-    (b"1700000000\toffice\tk\tadd-station\ta1\tHarbour\t41.8\t12.4", ", command"),
-    (b"1700000000\toffice\tk\tadd-station\tA1\tHarbour\t41.8\t12.4\t2", ", station"),
-    (b"1700000000\toffice\tk\tadd-station\ta1\t\t41.8\t12.4\t2", ", name"),
-    (b"1700000000\toffice\tk\tadd-station\ta1\tHar\\bour\t41.8\t12.4\t2", ", name"),
-    (b"1700000000\toffice\tk\tadd-station\ta1\tHarbour\t91\t12.4\t2", ", lat"),
-    (b"1700000000\toffice\tk\tadd-station\ta1\tHarbour\t41,8\t12.4\t2", ", lat"),
-    (b"1700000000\toffice\tk\tadd-station\ta1\tHarbour\t41.8901691\t12.4\t2", ", lat"),
-    (b"1700000000\toffice\tk\tadd-station\ta1\tHarbour\t41.8\t181\t2", ", lon"),
-    (b"1700000000\toffice\tk\tadd-station\ta1\tHarbour\t41.8\t12.4\t501", ", docks"),
-    (b"1700000000\toffice\tk\tadd-type\tcity\tCity\tbicycle\thuman\t5\tbasic", ", range"),
-    (b"1700000000\toffice\tk\tadd-type\tcity\tCity\tbicycle\telectric_assist\t0\tbasic", ", range"),
-    (b"1700000000\toffice\tk\tadd-type\tcity\tCity\ttandem\thuman\t0\tbasic", ", form"),
-    (b"1700000000\toffice\tk\tadd-plan\tday\tDay\t2.50\tfalse\tBy day\t-", ", price"),
-    (b"1700000000\toffice\tk\tadd-plan\tday\tDay\t250\tno\tBy day\t-", ", taxable"),
-    (b"1700000000\toffice\tk\tadd-plan\tday\tDay\t250\tfalse\tBy day\t30:25:5:30", ", segments"),
-    (b"1700000000\toffice\tk\tset-system\tmetro\ten\tMetro\t24/7\tx@example.org\tEtc/UTC\tEuro\thttps://x.example\t30", ", currency"),
-    (b"1700000000\toffice\tk\tset-system\tmetro\ten\tMetro\t24/7\tx@example.org\tEtc/UTC\tEUR\thttps://x.example\t86401", ", ttl"),
-    (b"1700000000\toffice\tk\tset-system\tmetro\ten\tMetro\tt\xc3\xa4glich\tx@example.org\tEtc/UTC\tEUR\thttps://x.example\t30", ", opening_hours"),
-    (b"1700000000\toffice\tk\tadd-name\tcolour\ta1\tde\tHafen", ", kind"),
-    (b"1700000000\toffice\tk\tadd-name\tsystem\tother\tde\tRad", ", id"),
-    (b"1700000000\toffice\tk\tunload\t3\t1\t7\tto\t501", ", n"),
-    (b"1700000000\toffice\tk\topen-order\t3\t*\ta1\tcity\t61", ", count"),
+    (ASKED + b"add-staton\ta1\tHarbour\t41.8\t12.4\t2", ", command"),
+    (ASKED + b"add-station\ta1\tHarbour\t41.8\t12.4", ", command"),
+    (ASKED + b"add-station\tA1\tHarbour\t41.8\t12.4\t2", ", station"),
+    (ASKED + b"add-station\ta1\t\t41.8\t12.4\t2", ", name"),
+    (ASKED + b"add-station\ta1\tHar\\bour\t41.8\t12.4\t2", ", name"),
+    (ASKED + b"add-station\ta1\tHarbour\t91\t12.4\t2", ", lat"),
+    (ASKED + b"add-station\ta1\tHarbour\t41,8\t12.4\t2", ", lat"),
+    (ASKED + b"add-station\ta1\tHarbour\t41.8901691\t12.4\t2", ", lat"),
+    (ASKED + b"add-station\ta1\tHarbour\t41.8\t181\t2", ", lon"),
+    (ASKED + b"add-station\ta1\tHarbour\t41.8\t12.4\t501", ", docks"),
+    (ASKED + b"add-type\tcity\tCity\tbicycle\thuman\t5\tbasic", ", range"),
+    (ASKED + b"add-type\tcity\tCity\tbicycle\telectric_assist\t0\tbasic", ", range"),
+    (ASKED + b"add-type\tcity\tCity\ttandem\thuman\t0\tbasic", ", form"),
+    (ASKED + b"add-plan\tday\tDay\t2.50\tfalse\tBy day\t-", ", price"),
+    (ASKED + b"add-plan\tday\tDay\t250\tno\tBy day\t-", ", taxable"),
+    (ASKED + b"add-plan\tday\tDay\t250\tfalse\tBy day\t30:25:5:30", ", segments"),
+    (ASKED + b"set-system\tmetro\ten\tMetro\t24/7\tx@example.org\tEtc/UTC\tEuro\thttps://x.example\t30", ", currency"),
+    (ASKED + b"set-system\tmetro\ten\tMetro\t24/7\tx@example.org\tEtc/UTC\tEUR\thttps://x.example\t86401", ", ttl"),
+    (ASKED + b"set-system\tm\ten\tM\tt\xc3\xa4glich\tx@x.example\tEtc/UTC\tEUR\thttps://x.de\t1", ", opening_hours"),
+    (ASKED + b"add-name\tcolour\ta1\tde\tHafen", ", kind"),
+    (ASKED + b"add-name\tsystem\tother\tde\tRad", ", id"),
+    (ASKED + b"unload\t3\t1\t7\tto\t501", ", n"),
+    (ASKED + b"open-order\t3\t*\ta1\tcity\t61", ", count"),
 )
 SYSTEM = b"1699999200\toffice\tf1\t" + CITY[0].encode()
 
@@ -152,7 +162,7 @@ def test_lines_that_are_answered_bad_field(program):
     data = b"".join(line + b"\n" for line in [SYSTEM, *(line for line, _ in BAD_LINES)])
     found = {place_of(it) for it in doctor.findings_of_lines(data, NOW)}
     for number, (line, field) in enumerate(BAD_LINES, 2):
-        assert (f"line {number}{field}", BAD_FIELD) in found, (line, field, [it for it in found if number_in(it[0]) == number])
+        assert (f"line {number}{field}", BAD_FIELD) in found, (line, field, found)
     status, answers, _ = program.run(given=data)
     assert (status, set(answers.splitlines()[1:])) == (0, {b"refused\t11\tbad_field"}), answers
     with_mark = b"\xef\xbb\xbf" + SYSTEM
@@ -161,8 +171,8 @@ def test_lines_that_are_answered_bad_field(program):
 
 
 def test_lines_and_their_answers(program):
-    """Of all lines beside these tests and of the example city, those are found that the wanted answers call bad_field, and no others but ones that
-    are refused for their key."""
+    """Of all lines beside these tests, and of the example city, those are found whose wanted answer is bad_field. No
+    others are, but ones that are refused for their key."""
     tried = 0
     for file in sorted((TOP / "tests/lines").glob("*.in")):
         tried += finds_the_refused(file.read_bytes(), file.with_suffix(".out").read_bytes(), file.name)
@@ -178,20 +188,22 @@ def finds_the_refused(given, answers, name):
     wanted = {number for number, it in enumerate(answers, 1) if it == b"refused\t11\tbad_field"}
     found = bad_lines(given)
     assert wanted <= found, (name, sorted(wanted - found))
-    assert all(answers[number - 1] == b"refused\t33\tkey_reused" for number in found - wanted), (name, sorted(found - wanted))
+    others = {answers[number - 1] for number in found - wanted}
+    assert others <= {b"refused\t33\tkey_reused"}, (name, sorted(found - wanted))
     return len(wanted)
 
 
 def test_lines_that_are_changed_anywhere(program):
     """Lines with a byte taken away, put in or changed: those are found that the program answers bad_field."""
     rnd = random.Random(1)
-    good = [it for it in requests_of([*CITY, "add-region\tnorth\tNor\\\\d", "add-name\tstation\ta1\tde\tHafen"]).split(b"\n") if it]
+    good = requests_of([*CITY, "add-region\tnorth\tNor\\\\d", "add-name\tstation\ta1\tde\tHafen"]).splitlines()
+    put_in = [it.encode() for it in ("", "\t", "0", "-", " ", "A", "\\", "9", ".", "\r", ":", ";")] + [b"\xc3"]
     lines = [SYSTEM]
     while len(lines) < 600:
         line = bytearray(rnd.choice(good))
         for _ in range(rnd.choice((1, 1, 2))):
             at = rnd.randrange(len(line))
-            line[at : at + rnd.choice((0, 1))] = rnd.choice((b"", b"\t", b"0", b"-", b" ", b"A", b"\\", b"9", b".", b"\xc3", b"\r", b":", b";"))
+            line[at : at + rnd.choice((0, 1))] = rnd.choice(put_in)
         lines.append(bytes(line))
     data = b"".join(it + b"\n" for it in lines)
     status, answers, _ = program.run(given=data)
@@ -204,33 +216,46 @@ def test_lines_that_are_changed_anywhere(program):
 def system_line(**changed_fields):
     """A set-system of which nothing is found, but for the fields that are changed."""
     fields = {
-        "system_id": "metro", "language": "en", "name": "Metro", "opening_hours": "24/7", "feed_contact_email": "feeds@example.org",
-        "timezone": "Europe/Rome", "currency": "EUR", "base_url": "https://bikes.example", "ttl": "30",
+        "system_id": "metro", "language": "en", "name": "Metro", "opening_hours": "24/7",
+        "feed_contact_email": "feeds@example.org", "timezone": "Europe/Rome", "currency": "EUR",
+        "base_url": "https://bikes.example", "ttl": "30",
     }
     return f"{NOW}\toffice\tk1\tset-system\t" + "\t".join({**fields, **changed_fields}.values())
 
 
 def station_lines(*places):
     """Stations at these places, as lines."""
-    return "".join(f"\n{NOW}\toffice\ts{at}\tadd-station\ts{at}\tStation\t{lat}\t{lon}\t5" for at, (lat, lon) in enumerate(places, 1))
+    commands = [f"add-station\ts{at}\tStation\t{lat}\t{lon}\t5" for at, (lat, lon) in enumerate(places, 1)]
+    return "\n" + requests_of(commands, at=NOW, key="s").decode()
 
 
 # A field of set-system with a value that can't be taken back, and a word of what is said.
 DOUBTFUL = (
-    ("base_url", "foo", "http"), ("base_url", "BASE_URL", "http"), ("base_url", "ftp://x.example", "http"), ("base_url", "https://x.example/", "ends in /"),
-    ("base_url", "https://x.example/gbfs/3.0", "put behind"), ("base_url", "https://x.example?a=1", "put behind"), ("base_url", "https://", "ends in /"),
-    ("base_url", "http://127.0.0.1:8080", "this machine"), ("base_url", "http://localhost", "this machine"), ("base_url", "http://[::1]:8080", "this machine"),
-    ("base_url", "https://:8080", "names no host"), ("language", "e-", "BCP 47"), ("language", "xx", "BCP 47"), ("language", "english", "BCP 47"),
-    ("language", "EN", "only in its case"), ("language", "de-ch", "only in its case"), ("language", "zh-hant", "only in its case"), ("name", " ", "spaces"),
-    ("name", "\\t", "spaces"), ("name", " Metro", "begins or ends"), ("opening_hours", "whenever", "opening_hours"), ("opening_hours", "-", "opening_hours"),
-    ("feed_contact_email", "not-an-email", "address"), ("feed_contact_email", "a@b", "address"), ("timezone", "Mars/Base", "time zone"),
-    ("timezone", "europe/rome", "Europe/Rome"), ("timezone", "CET-1CEST,M3.5.0,M10.5.0/3", "time zone"), ("currency", "ZZZ", "ISO 4217"),
+    ("base_url", "foo", "http"), ("base_url", "BASE_URL", "http"), ("base_url", "ftp://x.example", "http"),
+    ("base_url", "https://x.example/", "ends in /"),
+    ("base_url", "https://x.example/gbfs/3.0", "put behind"), ("base_url", "https://x.example?a=1", "put behind"),
+    ("base_url", "https://", "ends in /"),
+    ("base_url", "http://127.0.0.1:8080", "this machine"), ("base_url", "http://localhost", "this machine"),
+    ("base_url", "http://[::1]:8080", "this machine"),
+    ("base_url", "https://:8080", "names no host"), ("language", "e-", "BCP 47"), ("language", "xx", "BCP 47"),
+    ("language", "english", "BCP 47"),
+    ("language", "EN", "only in its case"), ("language", "de-ch", "only in its case"),
+    ("language", "zh-hant", "only in its case"), ("name", " ", "spaces"),
+    ("name", "\\t", "spaces"), ("name", " Metro", "begins or ends"), ("opening_hours", "whenever", "opening_hours"),
+    ("opening_hours", "-", "opening_hours"),
+    ("feed_contact_email", "not-an-email", "address"), ("feed_contact_email", "a@b", "address"),
+    ("timezone", "Mars/Base", "time zone"),
+    ("timezone", "europe/rome", "Europe/Rome"), ("timezone", "CET-1CEST,M3.5.0,M10.5.0/3", "time zone"),
+    ("currency", "ZZZ", "ISO 4217"),
 )
 # And ones of which nothing is found.
 FREE_OF_DOUBT = (
-    ("base_url", "http://bikes.example:8080"), ("base_url", "https://example.org/bikes"), ("language", "de-CH"), ("language", "zh-Hant"), ("language", "es-419"),
-    ("language", "de-CH-1996"), ("language", "haw"), ("name", "24"), ("opening_hours", "Mo-Fr 06:00-22:00; Sa,Su,PH 08:00-20:00"),
-    ("opening_hours", "sunrise-sunset"), ("opening_hours", 'Apr-Oct 06:00-24:00 "in summer"'), ("feed_contact_email", "o'neil+gbfs@mail.example.org"),
+    ("base_url", "http://bikes.example:8080"), ("base_url", "https://example.org/bikes"), ("language", "de-CH"),
+    ("language", "zh-Hant"), ("language", "es-419"),
+    ("language", "de-CH-1996"), ("language", "haw"), ("name", "24"),
+    ("opening_hours", "Mo-Fr 06:00-22:00; Sa,Su,PH 08:00-20:00"),
+    ("opening_hours", "sunrise-sunset"), ("opening_hours", 'Apr-Oct 06:00-24:00 "in summer"'),
+    ("feed_contact_email", "o'neil+gbfs@mail.example.org"),
     ("timezone", "Etc/UTC"), ("timezone", "America/Argentina/Buenos_Aires"), ("currency", "CHF"),
 )
 
@@ -239,19 +264,21 @@ def test_lines_that_cannot_be_taken_back(program):
     """Each is found with its field; so is no other; and the program accepts all of them."""
     for field, value, word in DOUBTFUL:
         found = doctor.findings_of_lines(system_line(**{field: value}).encode(), NOW)
-        assert [place_of(it) for it in found] == [(f"line 1, {field}", FOR_GOOD)] and word in found[0].text, (field, value, found)
+        assert [place_of(it) for it in found] == [(f"line 1, {field}", FOR_GOOD)], (field, value, found)
+        assert word in found[0].text, (field, value, found)
     for field, value in FREE_OF_DOUBT:
         found = doctor.findings_of_lines(system_line(**{field: value}).encode(), NOW)
         assert not found, (field, value, found)
     worst = {field: value for field, value, _ in reversed(DOUBTFUL)}
     lines = system_line(**worst) + f"\n{NOW}\toffice\tk2\tadd-name\tsystem\tmetro\tDE\t  "
     found = {place_of(it) for it in doctor.findings_of_lines(lines.encode(), NOW)}
-    assert found == {*((f"line 1, {it}", FOR_GOOD) for it in worst), ("line 2, language", FOR_GOOD), ("line 2, name", FOR_GOOD)}, found
+    wanted = [*(f"line 1, {it}" for it in worst), "line 2, language", "line 2, name"]
+    assert found == {(it, FOR_GOOD) for it in wanted}, found
     assert program.run(given=lines.encode()) == (0, b"ok\nok\n", b"")
 
 
 def test_moments_of_lines(program):
-    """A moment more than a day ahead of the clock, and one before the line above, are told; the program accepts both."""
+    """A moment more than a day ahead of the clock, or before the line above, is told. The program accepts both."""
 
     def found_at(*moments):
         data = "".join(f"{it}\toffice\tk{at}\tadd-rider\t{at}\n" for at, it in enumerate(moments, 1)).encode()
@@ -287,8 +314,9 @@ def test_places_of_lines(program):
 
 
 def test_keys_of_lines(program):
-    """A caller's key that is used again with another command is told, as the program refuses it; with an equal one it isn't."""
-    data = f"{NOW}\toffice\tk\tadd-rider\t1\n{NOW}\toffice\tk\tadd-rider\t1\n{NOW}\trider:1\tk\tadd-rider\t2\n{NOW}\toffice\tk\tadd-rider\t3\n".encode()
+    """A caller's key that comes again with another command is told, as the program refuses it. An equal one isn't."""
+    rows = (("office", 1), ("office", 1), ("rider:1", 2), ("office", 3))
+    data = "".join(f"{NOW}\t{caller}\tk\tadd-rider\t{rider}\n" for caller, rider in rows).encode()
     assert [place_of(it) for it in doctor.findings_of_lines(data, NOW)] == [("line 4, key", "key_reused")]
     assert program.run(given=data)[1] == b"ok\nok\nok\nrefused\t33\tkey_reused\n"
 
@@ -298,22 +326,36 @@ def test_keys_of_lines(program):
 ROW = "c1,Canal,45.0,9.1,10\n"
 # A table, the row of its first fault that ends an import, and the program's word for it.
 TABLES = (
-    (HEADER, None), (HEADER + ROW, None), ("\ufeff" + HEADER + ROW, None), (HEADER.replace("\n", "\r\n") + ROW, None), ("\n\n" + HEADER + "\n" + ROW, None),
-    (HEADER + 'q1,"He said ""ciao""",45,9.1,10\nq2,"two\nlines",-0.000001,-180,1\n"q3",a"b,90,180,500\n' + '"q4",Last,-90,"9.1","7"', None),
-    (HEADER + 'c1,Canal,45.0,9.1,"10', None), (HEADER + '"c1"x,Canal,45,9,1\n', None), (HEADER + "c1,Canal,45.0,9.1,10\rc2,Corso,45,9.1,10", None),
-    ("", "bad header"), ("\n", "bad header"), (ROW, "bad header"), (HEADER.replace(",", ";") + ROW.replace(",", ";"), "bad header"),
-    (HEADER.replace(",", "\t"), "bad header"), ("station_id, name,lat,lon,docks\n", "bad header"), ("Station_id,name,lat,lon,docks\n", "bad header"),
-    ("station_id,name,lat,lon\n", "bad header"), ("station_id,name,lat,lon,docks,\n", "bad header"), ("\ufeff\ufeff" + HEADER, "bad header"),
+    (HEADER, None), (HEADER + ROW, None), ("\ufeff" + HEADER + ROW, None), (HEADER.replace("\n", "\r\n") + ROW, None),
+    ("\n\n" + HEADER + "\n" + ROW, None),
+    (HEADER + 'q1,"He said ""ciao""",45,9.1,10\nq2,"two\nlines",-0.000001,-180,1\n', None),
+    (HEADER + '"q3",a"b,90,180,500\n"q4",Last,-90,"9.1","7"', None),
+    (HEADER + 'c1,Canal,45.0,9.1,"10', None), (HEADER + '"c1"x,Canal,45,9,1\n', None),
+    (HEADER + "c1,Canal,45.0,9.1,10\rc2,Corso,45,9.1,10", None),
+    ("", "bad header"), ("\n", "bad header"), (ROW, "bad header"),
+    (HEADER.replace(",", ";") + ROW.replace(",", ";"), "bad header"),
+    (HEADER.replace(",", "\t"), "bad header"), ("station_id, name,lat,lon,docks\n", "bad header"),
+    ("Station_id,name,lat,lon,docks\n", "bad header"),
+    ("station_id,name,lat,lon\n", "bad header"), ("station_id,name,lat,lon,docks,\n", "bad header"),
+    ("\ufeff\ufeff" + HEADER, "bad header"),
     (HEADER.encode("utf-16"), "bad header"), (b"\xff,name,lat,lon,docks\n", "bad header"),
-    (HEADER + ROW + "c2,Corso,45,9.1\n", "row 2 unreadable"), (HEADER + ROW + "c2,Corso, north,45,9.1,10\n", "row 2 unreadable"),
-    (HEADER + ROW + "c2;Corso;45;9,1;10\n", "row 2 unreadable"), (HEADER.encode() + b"c2,Cors\xf6,45,9.1,10\n", "row 1 unreadable"),
-    (HEADER + ROW + 'c2,"Corso,45,9.1,10\n' + "c3,Castle,45,9.3,8\n" * 5, "row 2 unreadable"), (HEADER + '""\n', "row 1 unreadable"),
-    (HEADER + ROW + "c2,Corso,45.1234567,9.1,10\n", "row 2 bad_field"), (HEADER + ROW + "c2,Corso,45,9.1,501\n", "row 2 bad_field"),
-    (HEADER + ROW + 'c2,Corso,"45,5",9.1,10\n', "row 2 bad_field"), (HEADER + ROW + "c2,Corso,91,9.1,10\n", "row 2 bad_field"),
-    (HEADER + ROW + "c2,Corso,45,9.1,x\n", "row 2 bad_field"), (HEADER + ROW + "c2,Corso,45,9.1,0\n", "row 2 bad_field"),
+    (HEADER + ROW + "c2,Corso,45,9.1\n", "row 2 unreadable"),
+    (HEADER + ROW + "c2,Corso, north,45,9.1,10\n", "row 2 unreadable"),
+    (HEADER + ROW + "c2;Corso;45;9,1;10\n", "row 2 unreadable"),
+    (HEADER.encode() + b"c2,Cors\xf6,45,9.1,10\n", "row 1 unreadable"),
+    (HEADER + ROW + 'c2,"Corso,45,9.1,10\n' + "c3,Castle,45,9.3,8\n" * 5, "row 2 unreadable"),
+    (HEADER + '""\n', "row 1 unreadable"),
+    (HEADER + ROW + "c2,Corso,45.1234567,9.1,10\n", "row 2 bad_field"),
+    (HEADER + ROW + "c2,Corso,45,9.1,501\n", "row 2 bad_field"),
+    (HEADER + ROW + 'c2,Corso,"45,5",9.1,10\n', "row 2 bad_field"),
+    (HEADER + ROW + "c2,Corso,91,9.1,10\n", "row 2 bad_field"),
+    (HEADER + ROW + "c2,Corso,45,9.1,x\n", "row 2 bad_field"),
+    (HEADER + ROW + "c2,Corso,45,9.1,0\n", "row 2 bad_field"),
     (HEADER + ROW + "C2,Corso,45,9.1,10\n", "row 2 bad_field"), (HEADER + ROW + "c2,,45,9.1,10\n", "row 2 bad_field"),
-    (HEADER + ROW + f"c2,{'é' * 61},45,9.1,10\n", "row 2 bad_field"), (HEADER + ROW + "c2,a\0b,45,9.1,10\n", "row 2 bad_field"),
-    (HEADER + ROW + ROW.replace("Canal", "Other"), "row 2 already_there"), (HEADER + ROW + "\n" + ROW, "row 2 already_there"),
+    (HEADER + ROW + f"c2,{'é' * 61},45,9.1,10\n", "row 2 bad_field"),
+    (HEADER + ROW + "c2,a\0b,45,9.1,10\n", "row 2 bad_field"),
+    (HEADER + ROW + ROW.replace("Canal", "Other"), "row 2 already_there"),
+    (HEADER + ROW + "\n" + ROW, "row 2 already_there"),
 )
 
 
@@ -326,28 +368,35 @@ def first_refusal(data):
 
 
 def test_tables_as_import_takes_them(program):
-    """The first row that ends an import is found, with the word that the program has for it; and what is let through is imported."""
-    for number, (table, wanted) in enumerate(TABLES):
+    """The first row that ends an import is found, with the program's word for it. What is let through is imported."""
+    for table, wanted in TABLES:
         data = table if isinstance(table, bytes) else table.encode()
         assert first_refusal(data) == wanted, (table[:90], wanted, doctor.findings_of_table(data))
         status, out, said = program.run("import", ":memory:", "x", "--at", "0", given=data)
-        assert (status, said.decode()) == ((1, f"{wanted}\n") if wanted else (0, "")), (number, table[:90], status, out, said)
+        ended = (1, f"{wanted}\n") if wanted else (0, "")
+        assert (status, said.decode()) == ended, (table[:90], status, out, said)
 
 
 def test_what_is_said_of_tables(program):
     """The hints: where, and a word of what to do."""
     for table, where, word in (
-        (HEADER.replace(",", ";"), "header", "semicolons"), (HEADER.encode("utf-16"), "header", "UTF-16"), ("\ufeff\ufeff" + HEADER, "header", "byte order mark"),
-        (ROW, "header", "the first row is a station"), (HEADER + "\n" + ROW + "c2,Corso,45.1234567,9.1,10\n", "row 2 (line 4), lat", "write 45.123456"),
-        (HEADER + "c2,Corso,95.5,9.1,10\n", "row 1 (line 2), lat", "exchanged"), (HEADER + "c2,Corso,45,9.1,600\n", "row 1 (line 2), docks", "1 to 500"),
-        (HEADER + "c2,Corso, 45,9.1,10\n", "row 1 (line 2), lat", "isn't written so"), (HEADER + ROW + ROW, "row 2 (line 3), station_id", "row 1 (line 2)"),
-        (HEADER + 'q1,"a\nb",45,9.1,10\nc2,"   ",45,9.1,10\n', "row 2 (line 4), name", "spaces"), (HEADER + "c1,Canal,0,0,10\n", "row 1 (line 2), lat and lon", "0, 0"),
-        (HEADER + ROW + "c2,a,45,9.2,1\nc3,b,45.1,9.1,1\nc4,c,9.1,45.0,1\n", "row 4 (line 5), lat and lon", "exchanged"),
+        (HEADER.replace(",", ";"), "header", "semicolons"), (HEADER.encode("utf-16"), "header", "UTF-16"),
+        ("\ufeff\ufeff" + HEADER, "header", "byte order mark"),
+        (ROW, "header", "the first row is a station"),
+        (HEADER + "\n" + ROW + "c2,Corso,45.1234567,9.1,10\n", "row 2 (line 4), lat", "write 45.123456"),
+        (HEADER + "c2,Corso,95.5,9.1,10\n", "row 1 (line 2), lat", "exchanged"),
+        (HEADER + "c2,Corso,45,9.1,600\n", "row 1 (line 2), docks", "1 to 500"),
+        (HEADER + "c2,Corso, 45,9.1,10\n", "row 1 (line 2), lat", "isn't written so"),
+        (HEADER + ROW + ROW, "row 2 (line 3), station_id", "row 1 (line 2)"),
+        (HEADER + 'q1,"a\nb",45,9.1,10\nc2,"   ",45,9.1,10\n', "row 2 (line 4), name", "spaces"),
+        (HEADER + "c1,Canal,0,0,10\n", "row 1 (line 2), lat and lon", "0, 0"),
+        (HEADER + ROW + "c2,a,45,9.2,1\nc3,b,45.1,9,1\nc4,c,9.1,45,1\n", "row 4 (line 5), lat and lon", "exchanged"),
     ):
         found = doctor.findings_of_table(table if isinstance(table, bytes) else table.encode())
         assert [it.where for it in found] == [where] and word in found[0].text, (table, found)
     many = HEADER + "".join(f"s{number},Station,45,9,1\n" for number in range(1, 5002))
-    assert [place_of(it) for it in doctor.findings_of_table(many.encode())] == [("row 5001 (line 5002)", "limit_reached")]
+    found = doctor.findings_of_table(many.encode())
+    assert [place_of(it) for it in found] == [("row 5001 (line 5002)", "limit_reached")], found
     assert not doctor.findings_of_table((TOP / "examples/city/stations.csv").read_bytes())
 
 
@@ -366,7 +415,8 @@ def folder_of(file):
     rows = {}
     for it in sorted(file.parent.iterdir()):
         found = it.lstat()
-        rows[it.name] = found.st_mode, found.st_size, found.st_mtime_ns, found.st_nlink, it.read_bytes() if it.is_file() else None
+        data = it.read_bytes() if it.is_file() else None
+        rows[it.name] = found.st_mode, found.st_size, found.st_mtime_ns, found.st_nlink, data
     return rows
 
 
@@ -401,14 +451,19 @@ def test_files_that_are_none(program):
     os.symlink("nowhere.db", folder / "link.db")
     os.link(city, folder / "second.db")
     for name, data in (
-        ("text.db", b"Dear all,\n"), ("zip.db", b"PK\3\4" + bytes(200)), ("lines.db", SYSTEM), ("table.db", HEADER.encode()), ("zeros.db", bytes(4096)),
-        ("random.db", random.Random(1).randbytes(5000)), ("two.db", b"SQ"), ("packed.db", b"\x1f\x8b" + bytes(90)), ("log.db", b"\x37\x7f\x06\x82" + bytes(90)),
+        ("text.db", b"Dear all,\n"), ("zip.db", b"PK\3\4" + bytes(200)), ("lines.db", SYSTEM),
+        ("table.db", HEADER.encode()), ("zeros.db", bytes(4096)),
+        ("random.db", random.Random(1).randbytes(5000)), ("two.db", b"SQ"), ("packed.db", b"\x1f\x8b" + bytes(90)),
+        ("log.db", b"\x37\x7f\x06\x82" + bytes(90)),
     ):
         (folder / name).write_bytes(data)
     for name, hint in (
-        ("none/city.db", "there is no folder"), ("city.db/x.db", "is no folder"), ("dir.db", "a folder"), ("pipe.db", "no regular file"),
-        ("link.db", "a link to"), ("second.db", "2 names"), ("x" * 248, "more than 247 bytes"), ("text.db", "a text"), ("zip.db", "ZIP"),
-        ("lines.db", "request lines"), ("table.db", "a table of stations"), ("zeros.db", "nothing but zeros"), ("random.db", "isn't known"),
+        ("none/city.db", "there is no folder"), ("city.db/x.db", "is no folder"), ("dir.db", "a folder"),
+        ("pipe.db", "no regular file"),
+        ("link.db", "a link to"), ("second.db", "2 names"), ("x" * 248, "more than 247 bytes"), ("text.db", "a text"),
+        ("zip.db", "ZIP"),
+        ("lines.db", "request lines"), ("table.db", "a table of stations"), ("zeros.db", "nothing but zeros"),
+        ("random.db", "isn't known"),
         ("two.db", "a text"), ("packed.db", "gzip"), ("log.db", "without -wal"),
     ):
         is_alike(program, folder / name, "store failed", hint)
@@ -419,25 +474,32 @@ def test_files_that_are_none(program):
     assert told(":memory:", cwd=folder)[0] == 1 and not program.run("check", "")[1]
 
 
+TRUCKS = "DROP TABLE trucks; CREATE TABLE trucks "
+REGIONS = "DROP TABLE regions; CREATE TABLE regions (region_id TEXT PRIMARY KEY NOT NULL, "
 # A change to the city's file by SQL, what `check` says of it, and a word of the hint.
 CHANGES = (
     ("", None, ""),
-    ("CREATE TABLE notes (a); CREATE VIEW riders_2 AS SELECT 1; CREATE INDEX i ON plans (name); CREATE TRIGGER t AFTER INSERT ON notes BEGIN SELECT 1; END", None, ""),
+    ("CREATE TABLE notes (a); CREATE VIEW riders_2 AS SELECT 1; CREATE INDEX i ON plans (name)", None, ""),
+    ("CREATE TABLE notes (a); CREATE TRIGGER t AFTER INSERT ON notes BEGIN SELECT 1; END", None, ""),
     ("DROP INDEX bikes_by_dock; CREATE INDEX i ON plans (name DESC, price)", None, ""),
-    ("DROP TABLE trucks; CREATE TABLE trucks (truck INTEGER, capacity INT NOT NULL, PRIMARY KEY (truck)) STRICT; INSERT INTO trucks VALUES (3, 20)", None, ""),
+    (TRUCKS + "(truck INTEGER, capacity INT NOT NULL, PRIMARY KEY (truck)) STRICT; INSERT INTO trucks VALUES (3, 9)",
+     None, ""),
     ("PRAGMA journal_mode = DELETE; PRAGMA page_size = 512; VACUUM", None, ""),
     ("DROP TABLE riders", "foreign", "there is no table riders"),
     ("ALTER TABLE riders RENAME TO r; ALTER TABLE r RENAME TO RIDERS", "foreign", "called RIDERS"),
-    ("ALTER TABLE riders ADD COLUMN card TEXT", "foreign", "the column card"),
+    ("ALTER TABLE riders ADD COLUMN card TEXT", "foreign", "the column card more"),
     ("ALTER TABLE riders RENAME COLUMN balance TO money", "foreign", "no column balance"),
-    ("DROP TABLE counts; CREATE TABLE counts AS SELECT 1 AS station_id", "foreign", "station_id of the table counts"),
-    ("DROP TABLE trucks; CREATE TABLE trucks (truck INTEGER PRIMARY KEY, capacity INTEGER NOT NULL)", "foreign", "isn't STRICT"),
-    ("DROP TABLE trucks; CREATE TABLE trucks (truck INTEGER PRIMARY KEY, capacity INTEGER) STRICT", "foreign", "column capacity"),
-    ("DROP TABLE trucks; CREATE TABLE trucks (capacity INTEGER NOT NULL, truck INTEGER PRIMARY KEY) STRICT", "foreign", "another order"),
-    ("DROP TABLE trucks; CREATE TABLE trucks (truck INTEGER PRIMARY KEY, capacity INTEGER NOT NULL CHECK (capacity > 0)) STRICT", "foreign", "CHECK"),
-    ("DROP TABLE regions; CREATE TABLE regions (region_id TEXT PRIMARY KEY NOT NULL, name TEXT NOT NULL COLLATE NOCASE) STRICT", "foreign", "COLLATE"),
-    ("DROP TABLE regions; CREATE TABLE regions (region_id TEXT PRIMARY KEY DESC NOT NULL, name TEXT NOT NULL) STRICT", "foreign", "the key"),
-    ("DROP TABLE regions; CREATE TABLE regions (region_id TEXT PRIMARY KEY NOT NULL, name TEXT NOT NULL UNIQUE) STRICT", "foreign", "UNIQUE"),
+    ("DROP TABLE counts; CREATE TABLE counts AS SELECT 1 AS station_id", "foreign", "column station_id"),
+    (TRUCKS + "(truck INTEGER PRIMARY KEY, capacity INTEGER NOT NULL)", "foreign", "isn't STRICT"),
+    (TRUCKS + "(truck INTEGER PRIMARY KEY, capacity INTEGER) STRICT", "foreign", "column capacity"),
+    (TRUCKS + "(capacity INTEGER NOT NULL, truck INTEGER PRIMARY KEY) STRICT", "foreign", "another order"),
+    (TRUCKS + "(truck INTEGER PRIMARY KEY, capacity INTEGER NOT NULL CHECK (capacity > 0)) STRICT", "foreign", "CHECK"),
+    (REGIONS + "name TEXT NOT NULL COLLATE NOCASE) STRICT", "foreign", "COLLATE"),
+    ("DROP TABLE docks; CREATE TABLE docks (station_id TEXT NOT NULL, dock INTEGER NOT NULL, broken INTEGER NOT NULL,"
+     " PRIMARY KEY (dock, station_id)) STRICT", "foreign", "column station_id"),
+    ("DROP TABLE plans; CREATE TABLE plans (plan_id TEXT PRIMARY KEY DESC NOT NULL, name TEXT NOT NULL,"
+     " price INTEGER NOT NULL, taxable INTEGER NOT NULL, description TEXT NOT NULL) STRICT", "foreign", "another key"),
+    (REGIONS + "name TEXT NOT NULL UNIQUE) STRICT", "foreign", "UNIQUE"),
     ("CREATE INDEX some ON riders (blocked) WHERE blocked = 1", "foreign", "the index some"),
     ("CREATE INDEX some ON riders (blocked + 1)", "foreign", "the index some"),
     ("CREATE TRIGGER mail AFTER INSERT ON riders BEGIN SELECT 1; END", "foreign", "the trigger mail"),
@@ -476,8 +538,10 @@ def test_bytes_that_were_changed(program):
     page = int.from_bytes(made[16:18], "big")
     broken = made[:page] + b"\xff" * page + made[2 * page :]
     for name, data, hint in (
-        ("cut", made[: 10 * page], "cut"), ("short", made[:60], "cut"), ("longer", made + bytes(page), "cut"), ("version", made[:18] + b"\3" + made[19:], "head"),
-        ("reserved", made[:20] + b"\x08" + made[21:], "8 bytes of each page"), ("page", made[:16] + b"\0\3" + made[18:], "head"), ("broken", broken, "damaged"),
+        ("cut", made[: 10 * page], "cut"), ("short", made[:60], "cut"), ("longer", made + bytes(page), "cut"),
+        ("version", made[:18] + b"\3" + made[19:], "head"),
+        ("reserved", made[:20] + b"\x08" + made[21:], "8 bytes of each page"),
+        ("page", made[:16] + b"\0\3" + made[18:], "head"), ("broken", broken, "damaged"),
     ):
         file = Path(program.folder, f"{name}.db")
         file.write_bytes(data)
@@ -491,7 +555,8 @@ def test_databases_of_other_programs(program):
     """Of a database with none of the tables check says `sound`, and the script that it holds no city."""
     for name, change, wanted in (
         ("notes", "CREATE TABLE notes (a)", "another program's"), ("none", "PRAGMA user_version = 1", "an empty city"),
-        ("orders", "CREATE TABLE orders (a)", "foreign"), ("early", "CREATE TABLE Stations (a)", "foreign"), ("view", "CREATE VIEW orders AS SELECT 1", "store failed"),
+        ("orders", "CREATE TABLE orders (a)", "foreign"), ("early", "CREATE TABLE Stations (a)", "foreign"),
+        ("view", "CREATE VIEW orders AS SELECT 1", "store failed"),
     ):
         file = Path(program.folder, f"{name}.db")
         changed(file, change)
@@ -516,7 +581,7 @@ def killed_city(program, name="killed.db"):
 
 
 def test_logs(program):
-    """A log is read with its FILE, in a copy. One that is damaged or another file's is told, which `check` doesn't say of the damaged one."""
+    """A log is read with its FILE, in a copy. One that is damaged, or another file's, is told; check passes it over."""
     whole = taken(killed_city(program))
     log = whole["-wal"]
     page = int.from_bytes(log[8:12], "big")
@@ -524,12 +589,12 @@ def test_logs(program):
     put(whole, file)
     is_alike(program, file, None)
     at = 32 + 5 * (24 + page) + 30
-    for name, data, wanted in (
-        ("frame", log[:at] + bytes([log[at] ^ 1]) + log[at + 1 :], "passed over"), ("head", log[:9] + b"\xff" + log[10:], "passed over"),
-        ("cut", log[: 32 + 3 * (24 + page)], None), ("none", log[:32], None), ("garbage", random.Random(2).randbytes(9000), "passed over"),
+    for data, wanted in (
+        (log[:at] + bytes([log[at] ^ 1]) + log[at + 1 :], "passed over"), (log[:9] + b"\xff" + log[10:], "passed over"),
+        (random.Random(2).randbytes(9000), "passed over"), (log[:32], "an empty city"),
     ):
         put({"": whole[""], "-wal": data}, file)
-        assert words_of(file) == ([wanted] if wanted else []) or (name in ("none", "cut") and words_of(file) == ["an empty city"]), (name, looked_at(file))
+        assert words_of(file) == [wanted], (data[:40], wanted, looked_at(file))
     other = Path(program.folder, "other.db")
     changed(other, "PRAGMA page_size = 4096; CREATE TABLE notes (a)")
     Path(f"{other}-wal").write_bytes(log)
@@ -557,8 +622,8 @@ def test_a_file_that_is_not_there(program):
     file = city.with_name("mtero.db")
     found = looked_at(file)
     assert [it.word for it in found] == ["store failed"] and "metro.db?" in found[0].text, found
-    for words in (("check", "mtero.db"), ("feed", "mtero.db", "gbfs"), ("day", "mtero.db", "entries", "2023-11-14", "UTC0"), ("raise", "mtero.db")):
-        assert program.run(*words) == STORE_FAILED, words
+    for word, *more in (("check",), ("feed", "gbfs"), ("day", "entries", "2023-11-14", "UTC0"), ("raise",)):
+        assert program.run(word, "mtero.db", *more) == STORE_FAILED, word
     assert not file.exists()
 
 
@@ -579,7 +644,8 @@ def test_a_city_ahead_of_the_clock(program):
     """A moment in the future isn't found by `check`, and is by the script."""
     accepted(program, ["add-rider\t17"], at=17_000_000_300)
     file = Path(program.folder, "city.db")
-    assert words_of(file) == ["ahead of the clock"] and "2508-09-16T06:18:20Z" in looked_at(file)[0].text, looked_at(file)
+    (found,) = looked_at(file)
+    assert found.word == "ahead of the clock" and "2508-09-16T06:18:20Z" in found.text, found
     assert program.run("check", "city.db") == SOUND
 
 
@@ -588,11 +654,12 @@ def test_who_has_the_file_open(program):
     file = city_file(program)
     with Server(program) as server:
         (found,) = looked_at(file)
-        assert found.word == "store failed" and f"process {server.child.pid}" in found.text and "serve" in found.text, found
+        assert found.word == "store failed" and f"process {server.child.pid} (" in found.text, found
         assert program.run("check", "city.db") == STORE_FAILED
     assert not looked_at(file)
-    holding = "import sqlite3, sys; base = sqlite3.connect(sys.argv[1]); base.execute('BEGIN IMMEDIATE'); print(1, flush=True); sys.stdin.read()"
-    with subprocess.Popen([sys.executable, "-c", holding, file], stdin=subprocess.PIPE, stdout=subprocess.PIPE) as other:
+    holding = "import sqlite3, sys; base = sqlite3.connect(sys.argv[1]); base.execute('BEGIN IMMEDIATE')"
+    holding = [sys.executable, "-c", f"{holding}; print(1, flush=True); sys.stdin.read()", file]
+    with subprocess.Popen(holding, stdin=subprocess.PIPE, stdout=subprocess.PIPE) as other:
         other.stdout.readline()
         (found,) = looked_at(file)
         assert found.word == "store failed" and f"process {other.pid}" in found.text, found
@@ -608,11 +675,12 @@ def test_the_port(program):
     city_file(program)
     with Server(program) as server:
         (found,) = doctor.findings_of_port(server.port)
-        assert (found.where, found.word) == (f"port {server.port}", "read failed") and f"process {server.child.pid}" in found.text, found
+        assert place_of(found) == (f"port {server.port}", "read failed"), found
+        assert f"process {server.child.pid} (" in found.text, found
         accepted(program, CITY, file="other.db", key="f")
         assert program.run("serve", "other.db", "--port", str(server.port)) == (6, b"", b"read failed\n")
         status, lines = told(Path(program.folder, "other.db"), "--port", server.port)
-        assert status == 1 and [it for it in lines if it.startswith(f"port {server.port}: read failed: ")] == lines, lines
+        assert status == 1 and [it.startswith(f"port {server.port}: read failed: ") for it in lines] == [True], lines
     assert not doctor.findings_of_port(server.port) and not doctor.findings_of_port(0)
     with socket.create_server(("", 0)) as everywhere:
         (found,) = doctor.findings_of_port(everywhere.getsockname()[1])
@@ -623,7 +691,7 @@ def test_the_port(program):
 
 
 def as_nobody(program):
-    """A copy of the program that any user may run, in a folder that any user may enter. None where the test isn't root."""
+    """A copy of the program that any user may run, in a folder that any may enter. None where the test isn't root."""
     if os.geteuid() != 0:
         print("doctor: not tried as another user, the test isn't root", flush=True)
         return None
@@ -635,7 +703,7 @@ def as_nobody(program):
 
 
 def test_a_user_without_rights(program):
-    """What nobody may not write is told, to nobody and to root whose folder is nobody's; and the program says `store failed`."""
+    """What nobody may not write is told to nobody, and to root in nobody's folder; the program says `store failed`."""
     nobody = as_nobody(program)
     if nobody is None:
         return
@@ -644,7 +712,9 @@ def test_a_user_without_rights(program):
     file = home / "city.db"
     accepted(program, CITY, file=file, key="f")
     removed(f"{file}-wal")
-    for folder_owner, file_owner, mode, hint in ((NOBODY, 0, 0o600, str(file)), (NOBODY, NOBODY, 0o400, str(file)), (0, NOBODY, 0o600, f"{home}, which")):
+    for folder_owner, file_owner, mode, hint in (
+        (NOBODY, 0, 0o600, str(file)), (NOBODY, NOBODY, 0o400, str(file)), (0, NOBODY, 0o600, f"{home}, which"),
+    ):
         os.chown(home, folder_owner, folder_owner)
         os.chown(file, file_owner, file_owner)
         os.chmod(file, mode)
@@ -652,13 +722,14 @@ def test_a_user_without_rights(program):
             status, said = ran("/usr/bin/python3", "-I", Path(program.folder, "script"), file, user=NOBODY)
             assert status == 1 and ": store failed: " in said and hint in said, (hint, status, said)
         if folder_owner == NOBODY:
-            assert [it.word for it in looked_at(file)] == ["store failed"] and hint in looked_at(file)[0].text, looked_at(file)
+            (found,) = looked_at(file)
+            assert found.word == "store failed" and hint in found.text, found
         assert nobody.run("lines", str(file), user=NOBODY, group=NOBODY, extra_groups=[]) == STORE_FAILED, hint
 
 
 def mounted(program, *commands):
-    """Runs commands of the shell where only they see what they mount, and returns what they said, or none where none may mount."""
-    if ran("unshare", "-m", "mount", "-t", "tmpfs", "none", "/mnt")[0] != 0 if shutil.which("unshare") else True:
+    """Runs commands of the shell where only they see what they mount: what they said, or none where none may mount."""
+    if not shutil.which("unshare") or ran("unshare", "-m", "mount", "-t", "tmpfs", "none", "/mnt")[0]:
         print("doctor: not tried, this user may not mount", flush=True)
         return None
     environment = {**os.environ, "BIKESHARE": program.file, "DOCTOR": f"{sys.executable} {SCRIPT}"}
@@ -668,10 +739,11 @@ def mounted(program, *commands):
 def test_a_disk_that_is_full_or_read_only(program):
     """Both are told, and the program says `store failed`."""
     city_file(program)
+    look, run = "$DOCTOR disk/city.db", '"$BIKESHARE" lines disk/city.db < /dev/null'
+    fill = "head -c 400k /dev/zero > disk/fill 2>/dev/null"
     said = mounted(
-        program, "mkdir disk", "mount -t tmpfs -o size=300k none disk", "cp city.db disk", "head -c 400k /dev/zero > disk/fill 2>/dev/null",
-        "$DOCTOR disk/city.db", '"$BIKESHARE" lines disk/city.db < /dev/null', "rm disk/fill", "mount -o remount,ro disk", "$DOCTOR disk/city.db",
-        '"$BIKESHARE" lines disk/city.db < /dev/null',
+        program, "mkdir disk", "mount -t tmpfs -o size=300k none disk", "cp city.db disk", fill, look, run,
+        "rm disk/fill", "mount -o remount,ro disk", look, run,
     )
     if said is None:
         return
@@ -684,20 +756,23 @@ def test_a_disk_that_is_full_or_read_only(program):
 
 
 def test_what_the_program_said(program):
-    """Each fault line of docs/OPERATOR.md has its sentence, and each table its rule; of a row that is told its columns are shown."""
+    """Each fault line of docs/OPERATOR.md has its sentence, and each table its rule. A row that is named is shown."""
     rows = (TOP / "docs/OPERATOR.md").read_text().split("## 12. Faults", 1)[1]
     lines = {it for row in re.findall(r"^\| \d \| (`.*?) \|", rows, re.M) for it in re.findall("`([^`]+)`", row)}
     assert len(lines) > 10, lines
     file = city_file(program)
     for line in lines:
-        said = line.replace("N NAME", "7 bad_field").replace("N unreadable", "7 unreadable").replace("TABLE KEY", "bikes 7").replace("older V", "older 2")
+        said = re.sub("N NAME", "7 bad_field", re.sub("TABLE KEY", "bikes 7", re.sub(r"\bV\b", "2", line)))
         (found,) = doctor.findings_of_said(str(file), said)
         assert found.word == said and "no such line" not in found.text, (line, found)
     assert doctor.RULES.keys() == set(doctor.TABLES)
     changed(file, "UPDATE bikes SET dock = 2 WHERE bike = 7; UPDATE segments SET rate = 200000")
-    for said, shown in (("unsound bikes 7", "bike=7, type_id='city', state=0, station_id='a1', dock=2"), ("unsound segments basic/1", "rate=200000")):
-        status, told_lines = told(file, *said.split())
-        assert status == 1 and len(told_lines) == 1 and shown in told_lines[0] and told_lines[0].startswith(f"{file}: {said}: "), told_lines
+    for said, row in (
+        ("unsound bikes 7", "bike=7, type_id='city', state=0, station_id='a1', dock=2"),
+        ("unsound segments basic/1", "rate=200000"),
+    ):
+        status, lines = told(file, *said.split())
+        assert (status, len(lines)) == (1, 1) and lines[0].startswith(f"{file}: {said}: ") and row in lines[0], lines
     assert "there is no row" in doctor.findings_of_said(str(file), "unsound bikes 8")[0].text
     assert told(file, "--port", "0", "unsound", "bikes", "7")[0] == 1 == told(file, "gone", "fishing")[0]
 
@@ -747,15 +822,17 @@ def free_port():
 
 
 def feeds_of_city(program):
-    """The feeds of the documents' city, with a region and a further name, that has reported just now; and what the script says of them."""
+    """The feeds of a city that has reported just now, and what the script says of them."""
     port, now = free_port(), int(time.time())
     system = CITY[0].replace("8080", str(port))
-    more = ["add-region\tnorth\tNorth", "set-region\ta1\tnorth", "add-name\tstation\ta1\tde\tHafen", "add-name\tplan\tbasic\tzh-Hant\t港"]
-    more += ["add-type\tcargo\tCargo\tcargo_bicycle\telectric_assist\t60000\tbasic", "add-station\tb2\tBridge\t41.9\t12.5\t500"]
+    more = ["add-region\tnorth\tNorth", "set-region\ta1\tnorth", "add-station\tb2\tBridge\t41.9\t12.5\t500"]
+    more += ["add-name\tstation\ta1\tde\tHafen", "add-name\tplan\tbasic\tzh-Hant\t港"]
+    more += ["add-type\tcargo\tCargo\tcargo_bicycle\telectric_assist\t60000\tbasic"]
     accepted(program, [system, *CITY[1:], *more], at=now, key="f")
     with program.started("serve", "city.db", "--port", str(port)) as server:
         assert server.stdout.readline() == f"listening 127.0.0.1:{port}\n".encode()
-        said = [told("feed", f"http://127.0.0.1:{port}{path}", *words) for path, *words in (("",), ("/gbfs/3.0/gbfs.json",), ("/", "--strict"))]
+        here = f"http://127.0.0.1:{port}"
+        said = [told("feed", here), told("feed", f"{here}/gbfs/3.0/gbfs.json"), told("feed", f"{here}/", "--strict")]
         feeds = {name: doctor.fetched(f"http://127.0.0.1:{port}/gbfs/3.0/{name}.json") for name in FEEDS}
     for it in feeds["gbfs"]["data"]["feeds"]:
         it["url"] = it["url"].replace(f"http://127.0.0.1:{port}", "HERE")
@@ -773,34 +850,55 @@ def set_at(feeds, path, value):
         feeds[last] = value
 
 
+def planted():
+    """Faults: where to set what in a healthy city's feeds, or to take it away; where it is found, and by which word."""
+    station, status = ("station_information", "data", "stations", 0), ("station_status", "data", "stations", 0)
+    kind, plan = ("vehicle_types", "data", "vehicle_types", 0), ("system_pricing_plans", "data", "plans", 0)
+    about, region = ("system_information", "data"), ("gbfs", "data", "feeds", 5)
+    old, future = "2024-03-31T12:00:00Z", "2508-09-16T06:18:20Z"
+    return (
+        (("station_status", "last_updated"), future, "station_status", "ahead of the clock"),
+        ((*status, "last_reported"), future, "station_status", "ahead of the clock"),
+        ((*status, "last_reported"), old, "station_status", "silent"), (("gbfs", "ttl"), -1, "gbfs, ttl", "GBFS"),
+        (("gbfs", "version"), "2.3", "gbfs, version", "GBFS"),
+        (("vehicle_types", "last_updated"), 1_700_000_000, "vehicle_types, last_updated", "GBFS"),
+        ((*station, "lat"), 91, "station_information, data.stations[0].lat", "GBFS"),
+        ((*station, "lon"), "12.5", "station_information, data.stations[0].lon", "GBFS"),
+        ((*station, "name"), "Harbour", "station_information, data.stations[0].name", "GBFS"),
+        ((*station, "name", 0, "language"), None, "station_information, data.stations[0].name[0]", "GBFS"),
+        ((*station, "capacity"), 2.5, "station_information, data.stations[0].capacity", "GBFS"),
+        ((*station, "rental_methods"), ["CASH"], "station_information, data.stations[0].rental_methods[0]", "GBFS"),
+        ((*status, "is_renting"), 1, "station_status, data.stations[0].is_renting", "GBFS"),
+        ((*status, "num_vehicles_available"), None, "station_status, data.stations[0]", "GBFS"),
+        ((*kind, "form_factor"), "scooter", "vehicle_types, data.vehicle_types[0].form_factor", "GBFS"),
+        ((*kind, "max_range_meters"), None, "vehicle_types, cargo", "GBFS"),
+        ((*kind, "default_pricing_plan_id"), None, "vehicle_types, cargo", "GBFS"),
+        ((*plan, "price"), "1.00", "system_pricing_plans, data.plans[0].price", "GBFS"),
+        ((*plan, "per_min_pricing", 0), {}, "system_pricing_plans, data.plans[0].per_min_pricing[0]", "GBFS"),
+        ((*about, "feed_contact_email"), "x", "system_information, data.feed_contact_email", "GBFS"),
+        ((*about, "timezone"), "Mars/Base", "system_information, data.timezone", "GBFS"),
+        ((*about, "opening_hours"), None, "system_information, data", "GBFS"),
+        ((*about, "terms_url"), "x", "system_information, data.terms_url", "GBFS"),
+        ((*status, "vehicle_types_available"), None, "station_status", "GBFS"),
+        ((*status, "vehicle_types_available", 0, "vehicle_type_id"), "tram", "station_status", "missing"),
+        ((*kind, "default_pricing_plan_id"), "gold", "vehicle_types", "missing"),
+        ((*station, "region_id"), "south", "station_information", "missing"),
+        ((*about, "languages"), ["en", "de"], "system_pricing_plans", "missing"),
+        (("system_regions", "data"), [], "system_regions, data", "GBFS"),
+        (("system_regions",), "{", "system_regions", "not read"),
+        ((*region, "url"), "HERE/nowhere.json", "system_regions", "not read"),
+        ((*region, "url"), "file:///etc/passwd", "system_regions", None),
+    )
+
+
 def test_feeds(program):
     """Of a healthy city's feeds nothing is said; of each fault that is planted in them one line, and no other."""
     feeds, said = feeds_of_city(program)
     assert said[:2] == [(0, []), (0, [])], said
     status, strict = said[2]
-    assert status == 1 and strict and all(": left out: " in it for it in strict) and any("license_id" in it for it in strict), strict
-    assert any("zh-Hant" in it for it in strict), strict
-    station, status = ("station_information", "data", "stations", 0), ("station_status", "data", "stations", 0)
-    kind, plan, about = ("vehicle_types", "data", "vehicle_types", 0), ("system_pricing_plans", "data", "plans", 0), ("system_information", "data")
-    old, future = "2024-03-31T12:00:00Z", "2508-09-16T06:18:20Z"
-    for path, value, where, word in (
-        (("station_status", "last_updated"), future, "station_status", "ahead of the clock"), ((*status, "last_reported"), future, "station_status", "ahead of the clock"),
-        ((*status, "last_reported"), old, "station_status", "silent"), (("gbfs", "ttl"), -1, "gbfs, ttl", "GBFS"), (("gbfs", "version"), "2.3", "gbfs, version", "GBFS"),
-        (("vehicle_types", "last_updated"), 1_700_000_000, "vehicle_types, last_updated", "GBFS"), ((*station, "lat"), 91, "station_information, data.stations[0].lat", "GBFS"),
-        ((*station, "lon"), "12.5", "station_information, data.stations[0].lon", "GBFS"), ((*station, "name"), "Harbour", "station_information, data.stations[0].name", "GBFS"),
-        ((*station, "name", 0, "language"), None, "station_information, data.stations[0].name[0]", "GBFS"), ((*station, "capacity"), 2.5, "station_information, data.stations[0].capacity", "GBFS"),
-        ((*station, "rental_methods"), ["CASH"], "station_information, data.stations[0].rental_methods[0]", "GBFS"), ((*status, "is_renting"), 1, "station_status, data.stations[0].is_renting", "GBFS"),
-        ((*status, "num_vehicles_available"), None, "station_status, data.stations[0]", "GBFS"), ((*kind, "form_factor"), "scooter", "vehicle_types, data.vehicle_types[0].form_factor", "GBFS"),
-        ((*kind, "max_range_meters"), None, "vehicle_types, cargo", "GBFS"), ((*kind, "default_pricing_plan_id"), None, "vehicle_types, cargo", "GBFS"),
-        ((*plan, "price"), "1.00", "system_pricing_plans, data.plans[0].price", "GBFS"), ((*plan, "per_min_pricing", 0, "interval"), None, "system_pricing_plans, data.plans[0].per_min_pricing[0]", "GBFS"),
-        ((*about, "feed_contact_email"), "x", "system_information, data.feed_contact_email", "GBFS"), ((*about, "timezone"), "Mars/Base", "system_information, data.timezone", "GBFS"),
-        ((*about, "opening_hours"), None, "system_information, data", "GBFS"), ((*about, "terms_url"), "x", "system_information, data.terms_url", "GBFS"),
-        ((*status, "vehicle_types_available"), None, "station_status", "GBFS"), ((*status, "vehicle_types_available", 0, "vehicle_type_id"), "tram", "station_status", "missing"),
-        ((*kind, "default_pricing_plan_id"), "gold", "vehicle_types", "missing"), ((*station, "region_id"), "south", "station_information", "missing"),
-        ((*about, "languages"), ["en", "de"], "system_pricing_plans", "missing"), (("system_regions", "data"), [], "system_regions, data", "GBFS"),
-        (("system_regions",), "{", "system_regions", "not read"), (("gbfs", "data", "feeds", 5, "url"), "HERE/nowhere.json", "system_regions", "not read"),
-        (("gbfs", "data", "feeds", 5, "url"), "file:///etc/passwd", "system_regions", None),
-    ):
+    assert status == 1 and all(": left out: " in it for it in strict), strict
+    assert any("license_id" in it for it in strict) and any("zh-Hant" in it for it in strict), strict
+    for path, value, where, word in planted():
         found = found_in(feeds, path, value)
         if word is None:
             assert ("system_regions", "not read") in found, (path, found)
@@ -808,9 +906,11 @@ def test_feeds(program):
             assert found == [(where, word)], (path, value, found)
     assert found_in(feeds, ("station_status", "data", "stations"), []) == [("station_information", "missing")]
     twice = [feeds["station_information"]["data"]["stations"][0]] * 2
-    assert found_in(feeds, ("station_information", "data", "stations"), twice) == [("station_information", "GBFS"), ("station_status", "missing")]
+    found = found_in(feeds, ("station_information", "data", "stations"), twice)
+    assert found == [("station_information", "GBFS"), ("station_status", "missing")], found
     assert found_in(feeds, ("gbfs",), None) == [("gbfs", "not read")]
-    assert ("gbfs", "GBFS") in found_in(feeds, ("gbfs", "data", "feeds", 3), {"name": "system_alerts", "url": "HERE/gbfs/3.0/system_regions.json"})
+    other = {"name": "system_alerts", "url": "HERE/gbfs/3.0/system_regions.json"}
+    assert ("gbfs", "GBFS") in found_in(feeds, ("gbfs", "data", "feeds", 3), other)
 
 
 def found_in(feeds, path, value):
@@ -819,6 +919,20 @@ def found_in(feeds, path, value):
     set_at(feeds, path, value)
     with served(feeds) as here:
         return [place_of(it) for it in doctor.findings_of_feeds(here, time.time())]
+
+
+def test_feeds_of_the_example_city(program):
+    """Of its feeds, with names in two languages, nothing is said where all stations have just reported."""
+    here, folder = f"http://127.0.0.1:{free_port()}", TOP / "examples/city"
+    files = {it: (folder / it).read_bytes() for it in ("setup.in", "stations.csv", "regions.in", "names.in")}
+    files["setup.in"] = files["setup.in"].replace(b"BASE_URL", here.encode())
+    for name, given in files.items():
+        words = ("import", "city.db", "city") if name == "stations.csv" else ("lines", "city.db")
+        status, _, said = program.run(*words, given=given)
+        assert (status, said) == (0, b""), (name, status, said)
+    with program.started("serve", "city.db", "--port", here.rpartition(":")[2]) as server:
+        assert server.stdout.readline().startswith(b"listening ")
+        assert told("feed", here) == (0, [])
 
 
 def test_shapes_have_the_members_of_the_documents(program):
@@ -840,19 +954,23 @@ def test_shapes_have_the_members_of_the_documents(program):
 
 
 def test_words(program):
-    """Wrong words have the status 2 and the usage; lines and tables are read from standard input; a good file has a line that says what isn't seen."""
-    for words in ((), ("--port", "1"), ("x.db", "--port", "65536"), ("x.db", "--port", "080"), ("lines", "x"), ("table", "--strict"), ("feed",), ("feed", "a", "b"), ("x.db", "--x")):
-        status, lines = told(*words)
+    """Wrong words have the status 2 and the usage. Lines and tables are read from standard input. Of a good file a line
+    says what isn't seen."""
+    wrong = ("", "--port 1", "x.db --port 65536", "x.db --port 080", "lines x", "table --strict", "feed", "feed a b")
+    for words in (*wrong, "x.db --x"):
+        status, lines = told(*words.split())
         assert status == 2 and lines[0].startswith("usage: bikeshare-doctor "), (words, status, lines)
     assert told("--help")[0] == 0 and told("feed", "--help")[0] == 0
-    assert told("lines", given=system_line().encode() + b"\n") == (0, []) and told("table", given=HEADER.encode()) == (0, [])
+    assert told("lines", given=system_line().encode() + b"\n") == (0, [])
+    assert told("table", given=HEADER.encode()) == (0, [])
     status, lines = told("lines", given=b"x\n")
-    assert (status, len(lines)) == (1, 1) and lines[0].startswith("line 1: bad_field: it has 1 of the four parts. "), lines
+    assert (status, len(lines)) == (1, 1) and lines[0].startswith("line 1: bad_field: it has 1 of the four"), lines
     assert told("table", given=b"x\n")[1][0].startswith("header: bad header: ")
     file = city_file(program)
     status, lines = told(file)
     assert (status, len(lines)) == (0, 1) and lines[0].startswith(f"{file}: nothing found."), lines
     assert told("feed", "ftp://x")[0] == 1
+    assert doctor.printable("a\nb\x1b[1m⇥é") == "a\\nb\\x1b[1m⇥é"
 
 
 def test_it_stands_alone(program):
@@ -862,3 +980,27 @@ def test_it_stands_alone(program):
     status, said = ran(sys.executable, "-I", "-S", copy, "nowhere.db", cwd=program.folder)
     assert status == 1 and said.startswith("nowhere.db: store failed: there is no such file."), (status, said)
     assert sorted(it.name for it in Path(program.folder).iterdir()) == ["doctor"]
+
+
+def test_the_manual_page_and_the_completion(program):
+    """The page's synopsis is the usage text, and its words are those that bash proposes."""
+    page = sections_of(PAGE.read_text())
+    usage = [it.removeprefix("usage:").strip() for it in told("--help")[1]]
+    wanted = [text for _, text in page["SYNOPSIS"]]
+    assert usage[: len(wanted)] == wanted and usage[len(wanted)] == "", (usage, wanted)
+    assert {head for head, _ in page["EXIT STATUS"] if head} == {"0", "1", "2"}
+    words = {it.split()[1] for it in wanted} - {"FILE"}
+    (Path(program.folder) / "city.db").touch()
+    assert set(completed(program.folder, "")) == words | {"city.db"} and completed(program.folder, "ta") == ["table"]
+    assert completed(program.folder, "feed", "x", "-") == ["--strict"] and completed(program.folder, "lines", "") == []
+    assert completed(program.folder, "city.db", "-") == ["--port"]
+    assert completed(program.folder, "city.db", "--port", "") == []
+
+
+def completed(folder, *words):
+    """What bash proposes in place of the last of these words."""
+    script = f'. "{COMPLETION}"; COMP_WORDS=("$@"); COMP_CWORD=$(($# - 1)); _bikeshare_doctor'
+    script += '; printf "%s\\n" "${COMPREPLY[@]}"'
+    status, said = ran("bash", "-c", script, "bash", "bikeshare-doctor", *words, cwd=folder)
+    assert status == 0, said
+    return [it for it in said.splitlines() if it]
