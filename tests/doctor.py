@@ -809,7 +809,7 @@ def served(feeds):
         here = f"http://127.0.0.1:{server.server_port}"
         texts = {name: it if isinstance(it, str) else json.dumps(it) for name, it in feeds.items()}
         server.texts = {f"/gbfs/3.0/{name}.json": it.replace("HERE", here) for name, it in texts.items()}
-        threading.Thread(target=server.serve_forever, daemon=True).start()
+        threading.Thread(target=server.serve_forever, args=(0.01,), daemon=True).start()
         try:
             yield here
         finally:
@@ -854,7 +854,7 @@ def planted():
     """Faults: where to set what in a healthy city's feeds, or to take it away; where it is found, and by which word."""
     station, status = ("station_information", "data", "stations", 0), ("station_status", "data", "stations", 0)
     kind, plan = ("vehicle_types", "data", "vehicle_types", 0), ("system_pricing_plans", "data", "plans", 0)
-    about, region = ("system_information", "data"), ("gbfs", "data", "feeds", 5)
+    segment, about, region = (*plan, "per_min_pricing", 0), ("system_information", "data"), ("gbfs", "data", "feeds", 5)
     old, future = "2024-03-31T12:00:00Z", "2508-09-16T06:18:20Z"
     return (
         (("station_status", "last_updated"), future, "station_status", "ahead of the clock"),
@@ -874,7 +874,7 @@ def planted():
         ((*kind, "max_range_meters"), None, "vehicle_types, cargo", "GBFS"),
         ((*kind, "default_pricing_plan_id"), None, "vehicle_types, cargo", "GBFS"),
         ((*plan, "price"), "1.00", "system_pricing_plans, data.plans[0].price", "GBFS"),
-        ((*plan, "per_min_pricing", 0), {}, "system_pricing_plans, data.plans[0].per_min_pricing[0]", "GBFS"),
+        ((*segment, "interval"), None, "system_pricing_plans, data.plans[0].per_min_pricing[0]", "GBFS"),
         ((*about, "feed_contact_email"), "x", "system_information, data.feed_contact_email", "GBFS"),
         ((*about, "timezone"), "Mars/Base", "system_information, data.timezone", "GBFS"),
         ((*about, "opening_hours"), None, "system_information, data", "GBFS"),
