@@ -47,16 +47,19 @@ def wanted_files():
     """The files that a package has, and where each comes from, if it is there as it is."""
     wanted = {
         "usr/bin/bikeshare": None,
+        "usr/bin/bikeshare-doctor": DEPLOY / "bikeshare-doctor",
         "usr/lib/systemd/system/bikeshare@.service": None,
         "usr/lib/systemd/system/bikeshare-gateway.service": None,
         "usr/lib/systemd/system/bikeshare-backup@.service": None,
         "usr/lib/systemd/system/bikeshare-backup@.timer": None,
         "usr/lib/systemd/system-preset/50-bikeshare.preset": TOP / "tools/debian/preset",
         "usr/share/bash-completion/completions/bikeshare": DEPLOY / "bikeshare.bash",
+        "usr/share/bash-completion/completions/bikeshare-doctor": DEPLOY / "bikeshare-doctor.bash",
         "usr/share/bikeshare/backup": None,
         "usr/share/bikeshare/keep-copies": DEPLOY / "keep-copies",
         "usr/share/lintian/overrides/bikeshare": TOP / "tools/debian/lintian-overrides",
         "usr/share/man/man1/bikeshare.1.gz": None,
+        "usr/share/man/man1/bikeshare-doctor.1.gz": None,
         f"{DOCUMENTS}/RELEASE": None,
         f"{DOCUMENTS}/changelog.gz": None,
         f"{DOCUMENTS}/copyright": TOP / "tools/debian/copyright",
@@ -95,7 +98,7 @@ def has_good_files(program, found):
     """Holds a package to its list of files, their owner, modes and times, and to the bytes of those that are there as they are."""
     wanted = wanted_files()
     assert {name for name, (_, data) in found.items() if data is not None} == wanted.keys(), sorted(found)
-    programs = {"usr/bin/bikeshare", "usr/share/bikeshare/backup", "usr/share/bikeshare/keep-copies"}
+    programs = {"usr/bin/bikeshare", "usr/bin/bikeshare-doctor", "usr/share/bikeshare/backup", "usr/share/bikeshare/keep-copies"}
     programs |= {name for name, it in wanted.items() if "/examples/" in name and it.stat().st_mode & 0o100}
     for name, (it, data) in found.items():
         assert (it.uid, it.gid, it.uname, it.gname) == (0, 0, "root", "root"), name
@@ -189,9 +192,11 @@ def test_package(program):
     assert packages[0].name == f"bikeshare_{told['version']}_amd64.deb"
     assert (one / "release/RELEASE").read_bytes() == found[f"{DOCUMENTS}/RELEASE"][1]
     has_good_changes(gzip.decompress(found[f"{DOCUMENTS}/changelog.gz"][1]).decode(), told["version"])
-    page = gzip.decompress(found["usr/share/man/man1/bikeshare.1.gz"][1])
-    assert page == (one / "release/deploy/bikeshare.1").read_bytes() and f'"{told["version"]}"'.encode() in page
-    assert b"@" not in re.sub(rb"bikeshare(\\-backup)?@CITY", b"", page), "a mark of the manual page wasn't replaced"
+    for name in ("bikeshare.1", "bikeshare-doctor.1"):
+        page = gzip.decompress(found[f"usr/share/man/man1/{name}.gz"][1])
+        assert page == (one / "release/deploy" / name).read_bytes() and f'"{told["version"]}"'.encode() in page, name
+        rest = re.sub(rb"bikeshare(\\-backup)?@CITY", b"", page)
+        assert b"@" not in rest, f"a mark of {name} wasn't replaced"
     # Another umask, another time zone, another language; and another package of that name, which isn't written over.
     status, said, again = released(program, two, umask=0o077, told={"TZ": "Asia/Tokyo", "LC_ALL": "C.UTF-8"})
     assert status == 0 and again[0].read_bytes() == packages[0].read_bytes(), (status, said, again)
@@ -258,9 +263,10 @@ def test_the_manual_page_tells_the_usage_text(program):
 
 @needs("groff")
 def test_the_manual_page_is_laid_out(program):
-    """groff finds nothing wrong in it."""
-    said = ran("groff", "-man", "-Tutf8", "-ww", "-z", DEPLOY / "bikeshare.1")
-    assert said == (0, ""), said
+    """groff finds nothing wrong in it, nor in that of the script beside."""
+    for name in ("bikeshare.1", "bikeshare-doctor.1"):
+        said = ran("groff", "-man", "-Tutf8", "-ww", "-z", DEPLOY / name)
+        assert said == (0, ""), (name, said)
 
 
 def completed(folder, *words):

@@ -1,0 +1,19 @@
+# Completion of bikeshare-doctor's words in bash.
+
+_bikeshare_doctor() {
+    local typed=${COMP_WORDS[COMP_CWORD]} word=${COMP_WORDS[1]} known=
+    COMPREPLY=()
+    if [[ $COMP_CWORD = 1 ]]; then
+        compopt -o filenames 2>/dev/null
+        mapfile -t COMPREPLY < <(compgen -W "lines table feed" -- "$typed"; compgen -f -- "$typed")
+        return
+    fi
+    case $word in
+    lines | table) return ;;
+    feed) known="--strict" ;;
+    # The value of --port is what is being typed.
+    *) [[ ${COMP_WORDS[COMP_CWORD - 1]} = --port ]] || known="--port" ;;
+    esac
+    [[ $typed != -* ]] || mapfile -t COMPREPLY < <(compgen -W "$known" -- "$typed")
+}
+complete -F _bikeshare_doctor bikeshare-doctor
