@@ -449,6 +449,7 @@ def test_files_that_are_none(program):
     (folder / "dir.db").mkdir()
     os.mkfifo(folder / "pipe.db")
     os.symlink("nowhere.db", folder / "link.db")
+    os.symlink("ring.db", folder / "ring.db")
     os.link(city, folder / "second.db")
     for name, data in (
         ("text.db", b"Dear all,\n"), ("zip.db", b"PK\3\4" + bytes(200)), ("lines.db", SYSTEM),
@@ -459,12 +460,10 @@ def test_files_that_are_none(program):
         (folder / name).write_bytes(data)
     for name, hint in (
         ("none/city.db", "there is no folder"), ("city.db/x.db", "is no folder"), ("dir.db", "a folder"),
-        ("pipe.db", "no regular file"),
-        ("link.db", "a link to"), ("second.db", "2 names"), ("x" * 248, "more than 247 bytes"), ("text.db", "a text"),
-        ("zip.db", "ZIP"),
+        ("pipe.db", "no regular file"), ("link.db", "a link to"), ("ring.db", "can't be looked at"),
+        ("second.db", "2 names"), ("x" * 248, "more than 247 bytes"), ("text.db", "a text"), ("zip.db", "ZIP"),
         ("lines.db", "request lines"), ("table.db", "a table of stations"), ("zeros.db", "nothing but zeros"),
-        ("random.db", "isn't known"),
-        ("two.db", "a text"), ("packed.db", "gzip"), ("log.db", "without -wal"),
+        ("random.db", "isn't known"), ("two.db", "a text"), ("packed.db", "gzip"), ("log.db", "without -wal"),
     ):
         is_alike(program, folder / name, "store failed", hint)
     (folder / "second.db").unlink()
@@ -725,6 +724,11 @@ def test_a_user_without_rights(program):
             (found,) = looked_at(file)
             assert found.word == "store failed" and hint in found.text, found
         assert nobody.run("lines", str(file), user=NOBODY, group=NOBODY, extra_groups=[]) == STORE_FAILED, hint
+    os.chmod(home, 0o700)
+    if os.access("/usr/bin/python3", os.X_OK):
+        status, said = ran("/usr/bin/python3", "-I", Path(program.folder, "script"), file, user=NOBODY)
+        assert status == 1 and f"can't go into {home}" in said, (status, said)
+    assert nobody.run("lines", str(file), user=NOBODY, group=NOBODY, extra_groups=[]) == STORE_FAILED
 
 
 def mounted(program, *commands):
