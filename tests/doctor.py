@@ -651,7 +651,7 @@ def test_a_city_ahead_of_the_clock(program):
 def test_who_has_the_file_open(program):
     """A program that serves it, and sqlite3, keep others away, and are named; then nothing is found again."""
     file = city_file(program)
-    with Server(program) as server:
+    with Server(program, seconds=60) as server:
         (found,) = looked_at(file)
         assert found.word == "store failed" and f"process {server.child.pid} (" in found.text, found
         assert program.run("check", "city.db") == STORE_FAILED
@@ -672,7 +672,7 @@ def test_who_has_the_file_open(program):
 def test_the_port(program):
     """A port that is taken, by which process, and one that only root may take."""
     city_file(program)
-    with Server(program) as server:
+    with Server(program, seconds=60) as server:
         (found,) = doctor.findings_of_port(server.port)
         assert place_of(found) == (f"port {server.port}", "read failed"), found
         assert f"process {server.child.pid} (" in found.text, found
@@ -743,17 +743,18 @@ def mounted(program, *commands):
 def test_a_disk_that_is_full_or_read_only(program):
     """Both are told, and the program says `store failed`."""
     city_file(program)
-    look, run = "$DOCTOR disk/city.db", '"$BIKESHARE" lines disk/city.db < /dev/null'
-    fill = "head -c 400k /dev/zero > disk/fill 2>/dev/null"
     said = mounted(
-        program, "mkdir disk", "mount -t tmpfs -o size=300k none disk", "cp city.db disk", fill, look, run,
-        "rm disk/fill", "mount -o remount,ro disk", look, run,
+        program, "mkdir full fixed", "mount -t tmpfs -o size=300k none full", "mount -t tmpfs -o size=16m none fixed",
+        "cp city.db full", "head -c 400k /dev/zero > full/fill 2>/dev/null",
+        "cp city.db fixed", "mount -o remount,ro fixed",
+        "$DOCTOR full/city.db", '"$BIKESHARE" lines full/city.db < /dev/null',
+        "$DOCTOR fixed/city.db", '"$BIKESHARE" lines fixed/city.db < /dev/null',
     )
     if said is None:
         return
     assert len(said) == 4 and said[1] == said[3] == "store failed", said
-    assert said[0].startswith("disk/city.db: store failed: the disk of ") and "full" in said[0], said
-    assert said[2].startswith("disk/city.db: store failed: ") and "read-only" in said[2], said
+    assert said[0].startswith("full/city.db: store failed: the disk of ") and "full, or nearly" in said[0], said
+    assert said[2].startswith("fixed/city.db: store failed: ") and "read-only" in said[2], said
 
 
 # ---- the program's lines
