@@ -377,6 +377,23 @@ def test_tables_as_import_takes_them(program):
         assert (status, said.decode()) == ended, (table[:90], status, out, said)
 
 
+def test_tables_that_are_changed_anywhere(program):
+    """Quotes, commas, line ends and other bytes put in or taken away: what is found first is what the import says. So
+    many tables are tried as BIKESHARE_TABLES says, or 25."""
+    rnd = random.Random(1)
+    put_in = [b'"', b'"', b",", b"\n", b"\r", b"\r\n", b'""', b" ", b";", b"\xc3", b"", b"", b"0", b"-"]
+    for _ in range(int(os.environ.get("BIKESHARE_TABLES", "25"))):
+        rows = b'c1,Canal,45,9,10\nc2,"Corso, north",45.5,9,1\r\n"c3","a ""b""",45,9.2,7\n'
+        table = bytearray(HEADER.encode() + rows)
+        begin = 0 if rnd.random() < 0.2 else len(HEADER)
+        for _ in range(rnd.choice((1, 1, 2, 3))):
+            at = rnd.randrange(begin, len(table))
+            table[at : at + rnd.choice((0, 1))] = rnd.choice(put_in)
+        status, _, said = program.run("import", ":memory:", "x", "--at", "0", given=bytes(table))
+        wanted = first_refusal(bytes(table))
+        assert (status, said.decode()) == ((1, f"{wanted}\n") if wanted else (0, "")), (bytes(table), wanted, said)
+
+
 def test_what_is_said_of_tables(program):
     """The hints: where, and a word of what to do."""
     for table, where, word in (
