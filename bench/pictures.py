@@ -8,8 +8,8 @@ COLOURS = ("#3d85c6", "#d9730d", "#5a9e3f", "#b5569f")
 
 
 def short(value):
-    """A number of an axis: 0.5, 20, 1,000."""
-    return f"{value:,.0f}" if value >= 1 or not value else f"{value:g}"
+    """A number of an axis: 0.5, 1.5, 20, 1,000."""
+    return f"{value:,.12g}"
 
 
 def steps(most):

@@ -7,7 +7,7 @@ the tables and of their keys, where a row out of its bounds counts as absent for
 import sqlite3
 from pathlib import Path
 
-from shared import HERE, READY, SOUND, STORE_FAILED, changed, held, rows_of
+from shared import FOREIGN, HERE, READY, SOUND, STORE_FAILED, changed, held, removed, rows_of, told_with
 
 NOW = 1700003000
 
@@ -383,6 +383,36 @@ CHANGES = [
     ("CREATE TABLE stations (station TEXT); CREATE TABLE stations_2 (station TEXT)", None),
     ("DROP TABLE meta; CREATE TABLE meta (one INTEGER PRIMARY KEY, app TEXT NOT NULL, version TEXT NOT NULL, now INTEGER NOT NULL, cash INTEGER NOT NULL, revenue INTEGER NOT NULL) STRICT; INSERT INTO meta VALUES (1, 'bikeshare', 'x', 0, 0, 0)", 'foreign'),
     ("CREATE TABLE notes (note TEXT); INSERT INTO notes VALUES ('x')", None),
+    # Of a partial index, or one over an expression, it isn't known what it refuses.
+    ("CREATE UNIQUE INDEX one_balance ON riders (balance) WHERE balance > 0", "foreign"),
+    ("CREATE INDEX by_balance ON riders (balance) WHERE balance > 0", "foreign"),
+    ("CREATE INDEX by_half ON riders (balance / 2)", "foreign"),
+    # What a key refuses already.
+    ("CREATE UNIQUE INDEX again ON kept (caller, req_key)", None),
+    ("CREATE UNIQUE INDEX again ON plans (plan_id ASC)", None),
+    ("CREATE UNIQUE INDEX again ON kept (req_key, caller)", "foreign"),
+    ("CREATE UNIQUE INDEX again ON kept (caller, req_key COLLATE NOCASE)", "foreign"),
+    ("CREATE UNIQUE INDEX again ON kept (caller, req_key DESC)", "foreign"),
+    ("CREATE INDEX by_balance ON riders (balance); CREATE INDEX by_name ON stations_3 (name COLLATE NOCASE)", None),
+    ("CREATE TABLE notes (note TEXT, size INTEGER UNIQUE); CREATE UNIQUE INDEX one_note ON notes (note)", None),
+    ("CREATE TABLE stations (name TEXT); CREATE UNIQUE INDEX one_name ON stations (name)", None),
+    # It is told before the version and the rows are looked at.
+    ("UPDATE meta SET version = 1; CREATE UNIQUE INDEX one_balance ON riders (balance)", "foreign"),
+    ("UPDATE meta SET version = 4; CREATE UNIQUE INDEX one_balance ON riders (balance)", "foreign"),
+    ("UPDATE riders SET balance = balance + 1; CREATE UNIQUE INDEX one_balance ON riders (balance)", "foreign"),
+    ("CREATE UNIQUE INDEX one_balance ON riders (balance); DROP INDEX one_balance", None),
+]
+
+# UNIQUE indexes that the rows of the small city allow, on each of its tables.
+ADDED = [
+    "meta (app)", "system (system_id)", "plans (price)", "segments (rate)", "types (name)", "regions (name)",
+    "stations_3 (name)", "docks (station_id)", "bikes (station_id, dock)", "bikes (rental)", "bikes (bike)",
+    "trucks (capacity)", "riders (balance)", "riders (rider)", "rentals (start)", "orders (to_end, quantity)",
+    "entries (amount)", "kept (req_key)", "counts (type_id, station_id)", "more_names (name)",
+]
+EACH_WORD = [
+    ["init"], ["check"], ["lines"], ["serve", "--port", "0", "--count", "1"], ["feed", "station_status"],
+    ["day", "entries", "2023-11-14", "UTC0"], ["import", "first"], ["raise"],
 ]
 
 
@@ -425,6 +455,35 @@ def test_each_change_of_a_small_city_is_found(program):
             wrong.append(f"{change}: {fault}")
         file.unlink()
     assert not wrong, "\n".join(wrong)
+
+
+def test_an_index_that_somebody_added(program):
+    """A UNIQUE one on a table of ours makes the file another program's, and a plain one changes nothing."""
+    city = made(program, "city.db").read_bytes()
+    for n, where in enumerate(ADDED):
+        for unique, wanted in ("UNIQUE", "foreign"), ("", None):
+            file = Path(program.folder, f"added{n}{unique}.db")
+            file.write_bytes(city)
+            changed(file, f"CREATE {unique} INDEX added ON {where}")
+            with told_with(where):
+                checked(program, file, wanted)
+            removed(file)
+
+
+def test_no_word_takes_a_file_with_such_an_index(program):
+    """A good request fails on it. No word reads one, and each leaves the file as it is."""
+    file = Path(program.folder, "city.db")
+    ended = program.run("lines", file.name, given=b"1700000000\toffice\tk1\tadd-rider\t17\n")
+    assert ended == (0, b"ok\n", b""), ended
+    changed(file, "CREATE UNIQUE INDEX one_blocked ON riders (blocked)")
+    before, rows = file.read_bytes(), held(file)
+    for word, *more in EACH_WORD:
+        ended = program.run(word, file.name, *more, given=b"1700000001\toffice\tk2\tadd-rider\t18\n")
+        assert ended == FOREIGN, (word, ended)
+        assert file.read_bytes() == before and held(file) == rows, word
+    changed(file, "DROP INDEX one_blocked")
+    ended = program.run("lines", file.name, given=b"1700000001\toffice\tk2\tadd-rider\t18\n")
+    assert ended == (0, b"ok\n", b""), ended
 
 
 def test_a_file_goes_on_where_it_was(program):

@@ -3,7 +3,7 @@
 import re
 import shlex
 
-from shared import FEEDS, TOP, Server, body_of, city, get, post, timeless
+from shared import FEEDS, TOP, Server, body_of, get, post, timeless
 
 SHOWN = re.compile(r"^curl (-s .*)\n(\{.*\})$", re.M)
 
@@ -16,8 +16,11 @@ def request_of(words):
 
 
 def test_the_requests_of_the_document(program):
-    city(program)
+    """Over the city of the file that the document names first."""
     text = (TOP / "docs/API.md").read_text(encoding="utf-8")
+    words = re.search(r"^bikeshare lines (\S+) < (docs/\S+)$", text, re.M)
+    status, out, said = program.run("lines", "city.db", given=(TOP / words[2]).read_bytes())
+    assert (status, said) == (0, b"") and b"refused" not in out, (status, out, said)
     shown = [(request_of(shlex.split(words)), body) for words, body in SHOWN.findall(text)]
     assert len(shown) == text.count("\ncurl ") > 20, len(shown)
     with Server(program, len(shown)) as server:

@@ -1,5 +1,6 @@
 """The examples that documents show: request lines with their answers beside them."""
 
+import math
 import re
 
 from shared import TOP
@@ -22,3 +23,20 @@ def test_readme(program):
 
 def test_formats(program):
     program.answers(*rows_of("docs/FORMATS.md"))
+
+
+def test_axes_of_pictures(program):
+    """Beside each line of a curve's picture stands its own number: evenly from 0 on, or by powers of ten."""
+    pictures = sorted((TOP / "docs/pictures").glob("growth-*.svg"))
+    assert len(pictures) == 4, pictures
+    for picture in pictures:
+        text = picture.read_text(encoding="utf-8")
+        for marks in (
+            r'y="([\d.]+)" text-anchor="end" [^>]*>([\d.,]+)<',
+            r'<text x="([\d.]+)" y="330.0" text-anchor="middle" [^>]*>([\d.,]+)<',
+        ):
+            rows = [(float(at), float(value.replace(",", ""))) for at, value in re.findall(marks, text)]
+            assert len(rows) > 2, (picture, rows)
+            scale = float if min(value for _, value in rows) == 0 else math.log10
+            each = [(scale(two) - scale(one)) / (to - at) for (at, one), (to, two) in zip(rows, rows[1:])]
+            assert max(each) - min(each) < 0.01 * abs(each[0]), (picture, rows)

@@ -80,7 +80,7 @@ def holds_the_regions(text):
     """Whether a picture has the name of each region of the tour once, and each station that stands in one tells it last."""
     feed = json.loads((TOP / "examples/city/feeds/system_regions.json").read_text(encoding="utf-8"))
     names = {it["region_id"]: it["name"][0]["text"] for it in feed["regions"]}
-    texts = [it.text for it in xml.fromstring(text).iter("{http://www.w3.org/2000/svg}text") if it.get("font-size") == "22"]
+    texts = [it.text for it in xml.fromstring(text).iter("{http://www.w3.org/2000/svg}text") if it.get("font-size") == "18"]
     assert sorted(texts) == sorted(names.values()) and len(texts) == 5, texts
     # What the request lines of the tour's step say last of each station.
     wanted = {}
@@ -135,7 +135,16 @@ def test_the_tour_and_its_map(program):
     found = {station: told[0] for station, told in stations_of(text)}
     assert len(stations) == 22 and found == {it: stations.get(it, name) for it, name, _ in city()}, found
     assert len(regions) == 5 and all(text.count(f">{name}</text>") == 1 for name in regions.values()) and ">Beiciau Abermarl<" in text
-    assert '<html lang="cy">' in Path(program.folder, "cy.html").read_text(encoding="utf-8")
+    page = Path(program.folder, "cy.html").read_text(encoding="utf-8")
+    assert '<html lang="en">' in page and '<title lang="cy">Beiciau Abermarl</title>' in page, page[:400]
+    cells = re.findall(r'<td lang="(\w+)">([^<]*)</td>', page)
+    wanted = {("cy" if it in stations else "en", html.escape(stations.get(it, name))) for it, name, _ in city()}
+    assert len(wanted) == 60 and wanted <= set(cells), cells
+
+
+def test_the_steps_of_the_document(program):
+    shown = re.findall(r"^ ?(\d+)  (\w+) +\.\.  ", (TOP / "examples/city/README.md").read_text(encoding="utf-8"), re.M)
+    assert shown == [(str(number), name) for number, name in enumerate(STEPS, 1)], shown
 
 
 def test_the_tour_wants_an_empty_folder_and_a_program(program):
@@ -198,11 +207,13 @@ def test_the_map_of_a_plain_system(program):
         ("b", ["Abei\ufffdlle", "0 bicycles available", "0 free docks", "0 disabled bicycles, 0 broken docks", "capacity 0", "not renting"]),
     ]
     assert ">Vélos<" in text and ">2024-10-27 11:00:00 UTC<" in text and "Prices" not in text
-    assert '<html lang="ar">' in Path(program.folder, "plain.html").read_text(encoding="utf-8")
+    page = Path(program.folder, "plain.html").read_text(encoding="utf-8")
+    assert '<html lang="en">' in page and '<title lang="fr">Vélos</title>' in page, page
+    assert '<td lang="sv">Öst &amp; West</td>' in page, page
 
 
 def test_the_map_of_regions(program):
-    """A region's name stands in the middle of its stations; one that has no name is told by its identifier, and one without stations isn't."""
+    """A region's name stands near the middle of its stations; one that has no name is told by its identifier, and one without stations isn't."""
     names = [*NAMES, "system_regions"]
     places = [dict(it, region_id=region) for it, region in zip(PLAIN["station_information"]["stations"], ("east <1>", "x-9"))]
     saved(program, {
@@ -218,7 +229,8 @@ def test_the_map_of_regions(program):
     assert {station: told[-1] for station, told in stations_of(text)} == {"A <1>": "L’est", "b": "x-9"}, stations_of(text)
     assert text.count(">L’est</text>") == text.count(">x-9</text>") == 1 and "No stations" not in text and "East" not in text
     page = Path(program.folder, "regions.html").read_text(encoding="utf-8")
-    assert "<th>Station</th><th>Region</th>" in page and "<td>Öst &amp; West</td><td>L’est</td>" in page, page[-3000:]
+    assert "<th>Station</th><th>Region</th>" in page, page[-3000:]
+    assert '<td lang="sv">Öst &amp; West</td><td lang="fr">L’est</td>' in page, page[-3000:]
 
 
 def test_the_map_of_no_stations(program):

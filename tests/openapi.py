@@ -10,7 +10,8 @@ import re
 import time
 
 import formats
-from shared import FEEDS, TOP, Server, accepted, answer, city, get, holds, post, put, request, taken, timeless
+from shared import CITY, FEEDS, TOP, Server, accepted, answer, city, get, holds, post, put, request, requests_of, taken
+from shared import timeless
 
 KEY = re.compile(r'("[^"\\]*"|[A-Za-z0-9_$./{}-]+):(?: (.+))?')
 PLAIN = re.compile(r"[A-Za-z0-9_][A-Za-z0-9_./-]*")
@@ -168,7 +169,8 @@ def test_every_reference_names_something(program):
         assert at(reference), reference
     for kind, those in API["components"].items():
         for name in those:
-            assert f"#/components/{kind}/{name}" in found or name == "MethodNotAllowed", (kind, name)
+            named = f"#/components/{kind}/{name}" in found or name == "MethodNotAllowed"
+            assert named or (kind == "securitySchemes" and any(name in it for it in API["security"])), (kind, name)
 
 
 def test_bounds_are_those_of_the_formats(program):
@@ -201,6 +203,15 @@ def test_examples_fit_their_schemas(program):
         assert misfit(content["example"], content["schema"]) is None, response
 
 
+def test_the_city_of_the_examples(program):
+    """docs/api-city.txt makes the city over which the examples are sent, with its keys."""
+    text = (TOP / "docs/api-city.txt").read_bytes()
+    assert text == requests_of(CITY, key="f")
+    status, out, said = program.run("lines", "api.db", given=text)
+    wanted = [*["ok"] * 6, "order\t1", *["ok"] * 5, "balance\t2500", ""]
+    assert (status, said, out.decode().split("\n")) == (0, b"", wanted), out
+
+
 def test_each_example_is_what_the_program_answers(program):
     city(program)
     made, count = taken(program.folder, "city.db"), 0
@@ -224,5 +235,32 @@ def test_shared_answers(program):
         "TooLarge": (413, request("POST", "/office", "Content-Length: 16385"), None),
     }
     shown = {name: it["content"]["application/json"]["example"] for name, it in TREE["components"]["responses"].items()}
-    assert sorted(shown) == sorted([*rows, "Unavailable"]), sorted(shown)
+    assert sorted(shown) == sorted([*rows, "Unavailable", *GATEWAY]), sorted(shown)
     holds(program, [(asked, answer(status, shown[name], allow)) for name, (status, asked, allow) in rows.items()])
+
+
+GATEWAY = {"Unauthorized": 401, "Forbidden": 403, "Misdirected": 421, "TooMany": 429}
+
+
+def test_the_gateways_answers(program):
+    """What the gateway alone answers is what deploy/nginx.conf says, at each operation that it may stand before."""
+    text = (TOP / "deploy/nginx.conf").read_text(encoding="utf-8")
+    told = re.findall(r"return (\d{3}) '(\{.*?\})';", text)
+    bodies = dict(told)
+    assert {it for status, it in told if bodies[status] != it} == set() and len(bodies) == 9, told
+    responses = TREE["components"]["responses"]
+    both = {"BadRequest": 400, "NotFound": 404, "MethodNotAllowed": 405, "TooLarge": 413, "Unavailable": 503}
+    for name, status in {**GATEWAY, **both}.items():
+        assert responses[name]["content"]["application/json"]["example"] == bodies[str(status)], name
+    heads = {name: loaded(it["headers"]) for name, it in responses.items() if "headers" in it}
+    assert "429 1;" in text and heads["TooMany"]["Retry-After"]["schema"]["enum"] == [1]
+    assert "401 Bearer;" in text and heads["Unauthorized"]["WWW-Authenticate"]["schema"]["enum"] == ["Bearer"]
+    assert API["security"] == [{}, {"gateway": []}]
+    assert API["components"]["securitySchemes"]["gateway"]["scheme"] == "bearer"
+    for path, method, operation in operations():
+        is_feed = path.startswith("/gbfs/")
+        assert json.loads(operation.get("security", "null")) == ([] if is_feed else None), path
+        for name, status in GATEWAY.items():
+            there = json.loads(operation["responses"].get(str(status), {}).get("$ref", "null"))
+            wanted = not is_feed or name in ("Misdirected", "TooMany")
+            assert there == (f"#/components/responses/{name}" if wanted else None), (path, method, name)

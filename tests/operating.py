@@ -42,17 +42,18 @@ def keys_in(path):
 
 
 class Sender(threading.Thread):
-    """Sends top-ups in turn until it is told to end. A request that has no answer is sent again, as a client does."""
+    """Sends top-ups in turn, so many seconds apart, until it is told to end. A request that has no answer is sent again, as a client does."""
 
-    def __init__(self, server):
+    def __init__(self, server, pause=0):
         super().__init__()
-        self.server, self.answered, self.over = server, 0, threading.Event()
+        self.server, self.answered, self.over, self.pause = server, 0, threading.Event(), pause
 
     def run(self):
         """Counts the requests that were answered, each under the key of its number."""
         while not self.over.is_set():
             with contextlib.suppress(ConnectionError):
                 self.answered += len(top_ups(self.server, [self.answered + 1]))
+            self.over.wait(self.pause)
 
     def __enter__(self):
         self.start()
@@ -108,6 +109,54 @@ def test_a_copy_that_is_killed(program):
         copying.kill()
         copying.wait()
         assert top_ups(server, [1]) == [1]
+
+
+def test_the_newest_copies_are_kept(program):
+    """deploy/keep-copies makes a sound copy and then removes the oldest of this city; where the copy fails it removes none."""
+    city(program)
+    kept = Path(program.folder, "kept")
+    kept.mkdir()
+    before = ["city-20200101-000000.db", "city-20211231-235959.db", "city-20990101-000000.db"]
+    others = ["city-2-20200101-000000.db", "town-20200101-000000.db", "city-notes.db", "city.db"]
+    for name in [*before, *others, "city.new"]:
+        (kept / name).write_text("other\n")
+    for name in "city.new.unfinished", "city.failed":
+        (kept / name).mkdir()
+        (kept / name / name).touch()
+
+    def keep(*words):
+        told = {**os.environ, "BIKESHARE": program.file}
+        status, said = ran(DEPLOY / "keep-copies", *words, cwd=program.folder, env=told)
+        return status, said, sorted(it.name for it in kept.iterdir() if it.is_file() and it.name not in others)
+
+    for words in ("city.db kept", "city.db kept 0", "city.db kept x", "city.db none 3", "none.db kept 1"):
+        assert keep(*words.split())[::2] == (1, [*before, "city.new"]), words
+    with Server(program):
+        status, said, names = keep("city.db", "kept", "3")
+    made = sorted(set(names) - set(before))
+    assert status == 0 and len(made) == 1 and said.endswith(f"kept/{made[0]}\n"), (status, said, names)
+    assert re.fullmatch(r"city-20\d{6}-\d{6}\.db", made[0]) and names == [before[1], made[0], before[2]], names
+    is_sound(program, f"kept/{made[0]}")
+    left = {it: [one.name for one in it.iterdir()] for it in kept.iterdir() if it.is_dir()}
+    assert left == {kept / "city.failed": ["city.new.unfinished"]}, left
+    # A look at a copy may leave a log beside it, which goes with it. The newest copy stays where all others are of a
+    # time to come.
+    (kept / f"{made[0]}-wal").touch()
+    for it in list(kept.glob("city-20*")):
+        it.rename(kept / it.name.replace("city-20", "city-21"))
+    status, said, names = keep("city.db", "kept", "1")
+    assert status == 0 and len(names) == 1 and said.endswith(f"kept/{names[0]}\n"), (status, said, names)
+    assert names[0].startswith("city-20"), names
+    assert {it.name for it in kept.iterdir()} == {*others, *names, "city.failed"}
+
+
+def test_a_first_city(program):
+    """Each line of deploy/begin.txt is accepted, and is one that docs/OPERATING.md shows where it shows it."""
+    text = (DEPLOY / "begin.txt").read_text(encoding="utf-8")
+    program.answers(text.encode(), b"ok\n" * text.count("\n"))
+    shown = re.findall(r"^\d+⇥office⇥begin\d+⇥.*$", (TOP / "docs/OPERATING.md").read_text(encoding="utf-8"), re.M)
+    assert len(shown) == 2 and [it.replace("⇥", "\t") for it in shown] == text.splitlines()[:2], shown
+    assert {it.split("\t")[0] for it in text.splitlines()} == {"1767225600"} and 1767225600 < time.time()
 
 
 def test_sqlite3_beside_it(program):
@@ -214,9 +263,17 @@ def test_release(program):
     assert ran("sha256sum", "-c", "--quiet", "SHA256SUMS", cwd=made) == (0, "")
     listed = {it.split("  ./", 1)[1] for it in (made / "SHA256SUMS").read_text().splitlines()}
     assert listed == {str(it.relative_to(made)) for it in made.rglob("*") if it.is_file()} - {"SHA256SUMS"}
-    assert {"bikeshare", "README.md", "CHANGELOG.md", "RELEASE", "docs/OPERATING.md", "deploy/nginx.conf", "deploy/bikeshare@.service"} <= listed
+    assert {"bikeshare", "README.md", "LICENSE", "copyright", "CHANGELOG.md", "RELEASE"} <= listed
+    assert {"docs/OPERATING.md", "deploy/nginx.conf", "deploy/bikeshare@.service", "deploy/begin.txt"} <= listed
     assert re.fullmatch(r"version \S+\ncommit \w+\nchanged files \w+\n", (made / "RELEASE").read_text()), (made / "RELEASE").read_text()
-    assert [it for it in sorted(listed) if os.access(made / it, os.X_OK) and (made / it).stat().st_mode & 0o111] == ["bikeshare", "deploy/backup"]
+    assert [it for it in sorted(listed) if os.access(made / it, os.X_OK) and (made / it).stat().st_mode & 0o111] == [
+        "bikeshare",
+        "deploy/backup",
+        "deploy/keep-copies",
+        "examples/city/run",
+        "examples/map/map.py",
+        "examples/map/show",
+    ]
     assert ran(TOP / "tools/release", made, env={**os.environ, "BIKESHARE": program.file})[0] == 2, "a release was written over"
     (made / "docs/tour.txt").write_text("other\n")
     assert ran("sha256sum", "-c", "--quiet", "SHA256SUMS", cwd=made)[0] == 1
@@ -248,12 +305,30 @@ def test_release_in_an_empty_root(program):
 def test_unit_files(program):
     """systemd knows each line of the unit files, and finds the programs that they name."""
     folder = Path(program.folder)
-    for name in ("bikeshare@.service", "bikeshare-gateway.service"):
-        text = (DEPLOY / name).read_text()
-        shown = text.replace("/opt/bikeshare/bikeshare", program.file).replace("/usr/sbin/nginx", "/bin/true")
+    names = ("bikeshare@.service", "bikeshare-gateway.service", "bikeshare-backup@.service", "bikeshare-backup@.timer")
+    for name in names:
+        text = (DEPLOY / name).read_text().replace("/opt/bikeshare/bikeshare", program.file)
+        shown = text.replace("/usr/sbin/nginx", "/bin/true").replace("/opt/bikeshare/deploy", str(DEPLOY))
         (folder / name).write_text(shown)
-    status, said = ran("systemd-analyze", "verify", folder / "bikeshare@.service", folder / "bikeshare-gateway.service")
+    status, said = ran("systemd-analyze", "verify", *(folder / it for it in names))
     assert status == 0 and "Unknown" not in said, said
+
+
+def test_the_unit_starts_again_what_the_document_says(program):
+    """The unit starts the program again after the statuses and signals of which docs/OPERATING.md, section 3, says so."""
+    unit = dict(re.findall(r"^(Restart\w*)=(.*)$", (DEPLOY / "bikeshare@.service").read_text(), re.M))
+    assert unit["Restart"] == "on-failure", unit
+    never, always = unit["RestartPreventExitStatus"].split(), unit["RestartForceExitStatus"].split()
+    # What on-failure takes for a clean end: status 0, and these signals.
+    clean = {"0", "SIGHUP", "SIGINT", "SIGTERM", "SIGPIPE"}
+    text = (TOP / "docs/OPERATING.md").read_text().split("## 3. How the program ends", 1)[1].split("\n## ", 1)[0]
+    rows = re.findall(r"^\| (\d|signal [A-Z, ]+) \| .* \| (yes|no) \|$", text, re.M)
+    each = [(it, again) for end, again in rows for it in re.findall(r"\d|[A-Z]+", end)]
+    ends = {(it if it.isdigit() else f"SIG{it}"): again for it, again in each}
+    assert ends.keys() == {"0", "2", "3", "4", "5", "6", "SIGTERM", "SIGHUP", "SIGINT"}, ends
+    for end, again in ends.items():
+        assert (again == "yes") == (end not in never and (end in always or end not in clean)), (end, again)
+    assert "| another signal | (none) |" in text and re.search(r"^\| another signal .* \| yes \|$", text, re.M)
 
 
 # ---- the gateway
@@ -409,8 +484,10 @@ def test_gateway_feeds(program):
         for path, caller in (("/gbfs/3.0/gbfs.json", None), ("/riders/17", "rider:17")):
             status, head, body = gateway.ask("GET", path, caller)
             assert (status, head["Retry-After"], body) == (503, "5", {"result": "error", "name": "unavailable"})
-        assert gateway.told("POST", "/gbfs/3.0/gbfs.json", body="{}") == FORBIDDEN
-        assert gateway.told("GET", "/gbfs/3.0/vehicle_status.json") == gateway.told("GET", "/gbfs/3.0/gbfs.json%0a") == UNAUTHORIZED
+        assert gateway.told("POST", "/gbfs/3.0/gbfs.json", body="{}") == (405, "method_not_allowed")
+        for path in "/gbfs/3.0/vehicle_status.json", "/gbfs/3.0/gbfs.json%0a":
+            assert gateway.told("GET", path) == (404, "not_found"), path
+        assert gateway.told("GET", "/gbfs.json") == UNAUTHORIZED
 
 
 @needs("nginx")
@@ -526,7 +603,10 @@ def test_gateway_answers_preflights(program):
             status, head, body = gateway.ask("OPTIONS", f"/gbfs/3.0/{name}.json", **asked)
             found = [head[f"Access-Control-{it}"] for it in ("Allow-Origin", "Allow-Methods", "Allow-Headers", "Allow-Credentials")]
             assert (status, found, head["Allow"], body) == (204, ["*", "GET, HEAD", "*", None], "GET, HEAD, OPTIONS", None), (name, head.items())
-        for path in ("/", "/gbfs/3.0/", "/gbfs/3.0/vehicle_status.json", *(path for _, path in ROUTES)):
+        for path in ("/gbfs/3.0/", "/gbfs/3.0/vehicle_status.json"):
+            status, head, _ = gateway.ask("OPTIONS", path, **asked)
+            assert (status, readers(head)) == (404, UNKEPT), (path, status, head.items())
+        for path in ("/", "/gbfs.json", *(path for _, path in ROUTES)):
             for caller, wanted in (None, 401), ("office:anna", 403):
                 status, head, _ = gateway.ask("OPTIONS", path, caller, **asked)
                 assert (status, readers(head)) == (wanted, PRIVATE), (path, status, head.items())
@@ -540,7 +620,7 @@ def test_gateway_keeps_callers_answers_to_them(program):
     origin = {"Origin": "https://other.example", "Accept_Encoding": "gzip"}
     with Server(program) as server, Gateway(program, {"metro": server.port}) as gateway:
         statuses = set()
-        for method, path in [*ROUTES, ("GET", "/gbfs/3.0/vehicle_status.json"), ("GET", "/riders/17/"), ("POST", "/riders/1/start")]:
+        for method, path in [*ROUTES, ("GET", "/gbfs.json"), ("GET", "/riders/17/"), ("POST", "/riders/1/start")]:
             for caller in (None, *TOKENS):
                 body = "{" + " " * 16384 if caller == "office:anna" and path == "/docks/a1/end" else "{}" if method == "POST" else None
                 status, head, _ = gateway.ask(method, path, caller, body, **origin)
@@ -562,7 +642,7 @@ def test_gateway_errors_at_feeds(program):
 
     def error(wanted, name, pause=None, **how):
         """Holds that a feed is answered by this error."""
-        status, head, body = gateway.ask(path=FEED, **{"method": "GET", **how})
+        status, head, body = gateway.ask(**{"method": "GET", "path": FEED, **how})
         assert (status, body, readers(head)) == (wanted, {"result": "error", "name": name}, UNKEPT), (status, body, head.items())
         assert (head["Content-Type"], head["Retry-After"], head["ETag"]) == ("application/json", pause, None), head.items()
         assert pause is None or "Retry-After" in head["Access-Control-Expose-Headers"], head.items()
@@ -570,7 +650,11 @@ def test_gateway_errors_at_feeds(program):
     with Server(program) as server, Gateway(program, {"metro": server.port}) as gateway:
         error(404, "not_found")
         error(404, "not_found", If_None_Match="*", Accept_Encoding="gzip")
-        error(403, "forbidden", method="POST", body="{}")
+        error(405, "method_not_allowed", method="POST", body="{}")
+        for method in ("POST", "DELETE", "PUT"):
+            assert gateway.ask(method, FEED)[1]["Allow"] == "GET, HEAD, OPTIONS", method
+        for path in ("/gbfs/3.0/vehicle_status.json", "/gbfs/2.3/gbfs.json", "/gbfs/gbfs.json"):
+            error(404, "not_found", path=path)
         server.stop()
         error(503, "unavailable", "5")
         found = [gateway.ask("GET", FEED)[0] for _ in range(60)]

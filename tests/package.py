@@ -50,10 +50,13 @@ def wanted_files():
         "usr/bin/bikeshare-doctor": DEPLOY / "bikeshare-doctor",
         "usr/lib/systemd/system/bikeshare@.service": None,
         "usr/lib/systemd/system/bikeshare-gateway.service": None,
+        "usr/lib/systemd/system/bikeshare-backup@.service": None,
+        "usr/lib/systemd/system/bikeshare-backup@.timer": None,
         "usr/lib/systemd/system-preset/50-bikeshare.preset": TOP / "tools/debian/preset",
         "usr/share/bash-completion/completions/bikeshare": DEPLOY / "bikeshare.bash",
         "usr/share/bash-completion/completions/bikeshare-doctor": DEPLOY / "bikeshare-doctor.bash",
         "usr/share/bikeshare/backup": None,
+        "usr/share/bikeshare/keep-copies": DEPLOY / "keep-copies",
         "usr/share/lintian/overrides/bikeshare": TOP / "tools/debian/lintian-overrides",
         "usr/share/man/man1/bikeshare.1.gz": None,
         "usr/share/man/man1/bikeshare-doctor.1.gz": None,
@@ -61,39 +64,84 @@ def wanted_files():
         f"{DOCUMENTS}/changelog.gz": None,
         f"{DOCUMENTS}/copyright": TOP / "tools/debian/copyright",
         f"{DOCUMENTS}/README.md": TOP / "README.md",
+        f"{DOCUMENTS}/LICENSE": TOP / "LICENSE",
         f"{DOCUMENTS}/CHANGELOG.md": TOP / "CHANGELOG.md",
+        f"{DOCUMENTS}/CONTRIBUTING.md": TOP / "CONTRIBUTING.md",
+        f"{DOCUMENTS}/bench/README.md": TOP / "bench/README.md",
+        f"{DOCUMENTS}/tests/files/README.md": TOP / "tests/files/README.md",
         f"{DOCUMENTS}/examples/nginx.conf": DEPLOY / "nginx.conf",
+        f"{DOCUMENTS}/examples/begin.txt": DEPLOY / "begin.txt",
     }
-    return wanted | {f"{DOCUMENTS}/{it.relative_to(TOP)}": it for it in (TOP / "docs").rglob("*") if it.is_file()}
+    found = [it for name in ("docs", "examples") for it in (TOP / name).rglob("*") if it.is_file()]
+    return wanted | {f"{DOCUMENTS}/{it.relative_to(TOP)}": it for it in found if it.parent.name != "__pycache__"}
+
+
+def linked(text):
+    """A document's text with the place that the gateway's configuration has in the package."""
+    return text.replace(b"](../deploy/", b"](../examples/").replace(b"](../../deploy/", b"](../")
+
+
+def has_good_links(files):
+    """Holds that each link of the documents leads to a file or a folder of these, which are named from the documents' folder."""
+    places = set(files) | {str(it) for name in files for it in Path(name).parents}
+    found = 0
+    for name in files:
+        if name.endswith(".md"):
+            for link in re.findall(rb"\]\(([^)#]+)", files[name]):
+                place = os.path.normpath(os.path.join(os.path.dirname(name), link.decode()))
+                assert place in places, f"{name} links to {link.decode()}"
+                found += 1
+    assert found > 50, found
 
 
 def has_good_files(program, found):
     """Holds a package to its list of files, their owner, modes and times, and to the bytes of those that are there as they are."""
     wanted = wanted_files()
     assert {name for name, (_, data) in found.items() if data is not None} == wanted.keys(), sorted(found)
-    programs = {"usr/bin/bikeshare", "usr/bin/bikeshare-doctor", "usr/share/bikeshare/backup"}
+    programs = {"usr/bin/bikeshare", "usr/bin/bikeshare-doctor", "usr/share/bikeshare/backup", "usr/share/bikeshare/keep-copies"}
+    programs |= {name for name, it in wanted.items() if "/examples/" in name and it.stat().st_mode & 0o100}
     for name, (it, data) in found.items():
         assert (it.uid, it.gid, it.uname, it.gname) == (0, 0, "root", "root"), name
         assert it.isdir() or it.isfile(), name
         assert it.mode == (0o755 if it.isdir() or name in programs else 0o644), (name, oct(it.mode))
     assert len({it.mtime for it, _ in found.values()}) == 1, "the times differ"
     for name, source in wanted.items():
-        assert source is None or found[name][1] == source.read_bytes(), name
+        assert source is None or found[name][1] == linked(source.read_bytes()), name
+    documents = {name: data for name, (_, data) in found.items() if data is not None and name.startswith(DOCUMENTS)}
+    has_good_links({name.removeprefix(f"{DOCUMENTS}/"): data for name, data in documents.items()})
     assert found["usr/bin/bikeshare"][1] == Path(program.file).read_bytes()
 
 
 def has_good_paths(found):
     """Holds the unit files and the script for backups to those of deploy/, with the paths of the package."""
-    for name in ("bikeshare@.service", "bikeshare-gateway.service"):
+    units = "bikeshare@.service", "bikeshare-gateway.service", "bikeshare-backup@.service", "bikeshare-backup@.timer"
+    for name in units:
         text = (DEPLOY / name).read_text()
         text = text.replace("/opt/bikeshare/bikeshare", "/usr/bin/bikeshare").replace("/opt/bikeshare/docs", "/usr/share/doc/bikeshare/docs")
+        text = text.replace("/opt/bikeshare/deploy/", "/usr/share/bikeshare/")
         assert found[f"usr/lib/systemd/system/{name}"][1].decode() == text, name
         named = re.findall(r"^(?:ExecStart=|Documentation=file:)/(usr/\S+)", text, re.M)
-        assert len(named) == 2 and {it for it in named if it != "usr/sbin/nginx"} <= found.keys(), named
+        assert len(named) == 1 + name.endswith(".service"), named
+        assert {it for it in named if it != "usr/sbin/nginx"} <= found.keys(), named
     backup = found["usr/share/bikeshare/backup"][1].decode()
     assert "\nprogram=${BIKESHARE:-/usr/bin/bikeshare}\n" in backup and "../" not in backup
     for name, (_, data) in found.items():
         assert data is None or name.startswith(f"{DOCUMENTS}/docs/") or b"/opt/bikeshare" not in data or name == f"{DOCUMENTS}/README.md", name
+
+
+def has_good_copyright(text):
+    """Holds Debian's copyright file to LICENSE, and to the libraries of crates.txt: each is named, or its family is."""
+    holder = re.search(r"^Copyright \(c\) (.+)$", (TOP / "LICENSE").read_text(), re.M)[1]
+    licence = re.search(r"^Files: \*\nCopyright: (.+)\nLicense: Expat$", text, re.M)
+    assert licence and licence[1] == holder == "2026 the bikeshare authors", (licence, holder)
+    given = text.split("\nLicense: Expat\n Permission", 1)[1].split("\n\n", 1)[0].replace("\n .\n", "\n\n").split()
+    assert given == (TOP / "LICENSE").read_text().split("Permission", 1)[1].split(), given
+    lines = [it.split() for it in (TOP / "crates.txt").read_text().splitlines() if not it.startswith("#")]
+    libraries = {it for line in lines for it in line[1:] if not it.startswith("bike_")}
+    named = set(re.findall(r"\w+", text.split("\nLicense: Expat\n", 2)[1]))
+    assert len(libraries) > 20 and {re.sub("^sqlite_.*", "sqlite", it) for it in libraries} <= named, libraries - named
+    asked = re.findall(r"^License: (.+)$", text, re.M)
+    assert {one for it in asked for one in it.split(" and ")} == {it for it in asked if " and " not in it}, asked
 
 
 def has_good_control(control, found):
@@ -139,6 +187,7 @@ def test_package(program):
     found, control = files_of(packages[0], "--fsys-tarfile"), files_of(packages[0], "--ctrl-tarfile")
     has_good_files(program, found)
     has_good_paths(found)
+    has_good_copyright(found[f"{DOCUMENTS}/copyright"][1].decode())
     told = has_good_control(control, found)
     assert packages[0].name == f"bikeshare_{told['version']}_amd64.deb"
     assert (one / "release/RELEASE").read_bytes() == found[f"{DOCUMENTS}/RELEASE"][1]
@@ -146,7 +195,8 @@ def test_package(program):
     for name in ("bikeshare.1", "bikeshare-doctor.1"):
         page = gzip.decompress(found[f"usr/share/man/man1/{name}.gz"][1])
         assert page == (one / "release/deploy" / name).read_bytes() and f'"{told["version"]}"'.encode() in page, name
-        assert b"@" not in page.replace(b"bikeshare@CITY", b""), f"a mark of {name} wasn't replaced"
+        rest = re.sub(rb"bikeshare(\\-backup)?@CITY", b"", page)
+        assert b"@" not in rest, f"a mark of {name} wasn't replaced"
     # Another umask, another time zone, another language; and another package of that name, which isn't written over.
     status, said, again = released(program, two, umask=0o077, told={"TZ": "Asia/Tokyo", "LC_ALL": "C.UTF-8"})
     assert status == 0 and again[0].read_bytes() == packages[0].read_bytes(), (status, said, again)

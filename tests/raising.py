@@ -452,9 +452,21 @@ def test_what_others_have_of_the_old_table(program):
     """An index of the table goes with it, and a view of it stays as a text."""
     for version in OLD:
         file = of_sql(program.folder, version)
-        changed(file, f"CREATE INDEX more ON {OLD[version]} (name); CREATE VIEW seen AS SELECT name FROM {OLD[version]}")
+        indexes = f"CREATE INDEX more ON {OLD[version]} (name); CREATE UNIQUE INDEX one ON {OLD[version]} (name)"
+        changed(file, f"{indexes}; CREATE VIEW seen AS SELECT name FROM {OLD[version]}")
         is_raised(program, file, version)
         assert "seen" in [it[1] for it in held(file).schema]
+
+
+def test_a_unique_index_that_somebody_added(program):
+    """On a table that stays: a good request could fail on it afterwards."""
+    for version in OLD:
+        for where in "riders (balance)", "bikes (station_id, dock)", "kept (req_key, caller)", "meta (app)":
+            file = of_sql(program.folder, version)
+            changed(file, f"CREATE UNIQUE INDEX one ON {where}")
+            with told_with(f"version {version}, {where}"):
+                stays(program, file, FOREIGN)
+            removed(file)
 
 
 def test_names_that_others_have_taken(program):

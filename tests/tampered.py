@@ -661,7 +661,8 @@ def test_rows_added_and_removed(program):
 
 
 def test_tables_and_columns(program):
-    """A table that is missing or has other columns is another program's. Other tables, and indexes of ours, are left alone."""
+    """A table that is missing or has other columns, or a UNIQUE index beside its key, is another program's. Other
+    tables, and plain indexes of ours, are left alone."""
     city, _ = made(program)
     tables = tables_of(city, program)
     foreign, sound = [], []
@@ -673,6 +674,9 @@ def test_tables_and_columns(program):
         # sqlite3 drops no column that an index has.
         foreign += [f'ALTER TABLE {name} DROP COLUMN "{last}"'] if name not in ("bikes", "more_names") else []
         foreign += [f"CREATE TABLE pointing_{name} (a INTEGER REFERENCES {name})"]
+        key, others = columns[: TABLES[name]], columns[TABLES[name] :]
+        named = [", ".join(f'"{it}"' for it in [*key, other]) for other in others]
+        foreign += [f"CREATE UNIQUE INDEX one_{name} ON {name} ({it})" for it in named]
         sound += [f"CREATE INDEX more_{name} ON {name} ({columns[1]})"]
     sound += ["DROP INDEX bikes_by_dock", "DROP INDEX rentals_by_rider", "DROP INDEX more_names_by_language", "DROP INDEX more_names_by_thing", "CREATE TABLE notes (note TEXT)", "CREATE VIEW seen AS SELECT bike FROM bikes"]
     # The names of tables that other versions have are free here.

@@ -130,6 +130,16 @@ def segment(row, unit, where):
     return f"from {unit} {start}: {rate} {each}{until}"
 
 
+class Text(str):
+    """A text that knows its language."""
+
+    def __new__(cls, text, language):
+        """The text, in this language."""
+        it = super().__new__(cls, text)
+        it.language = language
+        return it
+
+
 class System:
     """What the feeds say of a system: its name and languages, the moment of station_status, types, plans and stations."""
 
@@ -161,10 +171,11 @@ class System:
 
     def text(self, row, name, where):
         """Returns a localized text in the first of the system's languages that it has, else in its own first."""
-        texts = [(member(it, "language", TEXT, where), member(it, "text", TEXT, where)) for it in member(row, name, ROWS, where)]
+        rows = member(row, name, ROWS, where)
+        texts = [Text(member(it, "text", TEXT, where), member(it, "language", TEXT, where)) for it in rows]
         if not texts:
             raise NotGbfs(f"{where}: {name} has no text")
-        return next((text for it in self.languages for language, text in texts if language == it), texts[0][1])
+        return next((text for it in self.languages for text in texts if text.language == it), texts[0])
 
     def read_types(self):
         """Returns the name and the default plan of each vehicle type."""

@@ -37,6 +37,12 @@ def escaped(text):
     return html.escape(re.sub("[^\n -\x7e\xa0-\ud7ff\ue000-\ufffd\U00010000-\U0010ffff]", "\ufffd", text))
 
 
+def spoken(text):
+    """The attribute that names the language of a text out of the feeds. All other words are English."""
+    language = getattr(text, "language", "")
+    return f' lang="{escaped(language)}"' if language else ""
+
+
 def state_of(station):
     """What a station does not do, in words."""
     if not station["is_installed"]:
@@ -54,7 +60,15 @@ def number(value):
 
 def words(x, y, text, size=11, color=INK, more=""):
     """A text that begins at x and stands on y."""
+    more += spoken(text)
     return f'<text x="{number(x)}" y="{number(y)}" font-size="{size}" fill="{color}"{more}>{escaped(text)}</text>'
+
+
+def length(text, size):
+    """How long a text is at most, in the widest of the usual fonts. Letters are narrow, wide, capital, or as most."""
+    narrow, wide = sum(it in " ijlrtf.,'\"()-" for it in text), sum(it in "mwMW" for it in text)
+    capital = sum(it.isupper() for it in text)
+    return size * (0.61 * len(text) - 0.24 * narrow + 0.34 * wide + 0.08 * capital)
 
 
 def sector(x, y, radius, begin, end, color):
@@ -134,18 +148,32 @@ class Picture:
         box = f'x="{MARGIN}" y="{MARGIN}" width="{self.width}" height="{self.height}"'
         parts = [f'<rect {box} rx="6" fill="{GROUND}" stroke="{FAINT}" stroke-width="0.8"/>']
         placed = sorted(((it, *self.place(it), self.radius(it["capacity"])) for it in self.system.stations), key=lambda it: -it[3])
-        parts += self.regions()
+        taken = [(x - radius, y - radius, x + radius, y + radius) for _, x, y, radius in placed]
+        parts += self.regions(taken)
         parts += [drawn_station(it, self.system.types, x, y, radius) for it, x, y, radius in placed]
-        return "\n".join([*parts, *self.names(placed), self.ruler()])
+        return "\n".join([*parts, *self.names(placed, taken), self.ruler()])
 
-    def regions(self):
-        """The name of each region, pale and large, in the middle of its stations. What else is drawn stands over it."""
+    def regions(self, taken):
+        """The name of each region, pale and large, as near the middle of its stations as it touches nothing that is taken, and in
+        the very middle where there is no such place."""
         places = {}
         for station in self.system.stations:
             if station["region"]:
                 places.setdefault(station["region"], []).append(self.place(station))
+        around = [(8 * right, 8 * down) for right in range(-15, 16) for down in range(-15, 16)]
+        around.sort(key=lambda it: math.hypot(*it))
         more = ' font-weight="600" text-anchor="middle" pointer-events="none"'
-        return [words(*(sum(it) / len(it) for it in zip(*found)), name, 22, PALE, more) for name, found in sorted(places.items())]
+        parts = []
+        for name, found in sorted(places.items()):
+            x, y = (sum(it) / len(it) for it in zip(*found))
+            wide = 0.55 * length(name, 18)
+            spots = [(x + right, y + down) for right, down in around]
+            boxes = [(left - wide, base - 14, left + wide, base + 5) for left, base in spots]
+            free = ((*spot, box) for spot, box in zip(spots, boxes) if self.is_free(box, taken))
+            x, y, box = next(free, (x, y, None))
+            taken += [box] if box else []
+            parts.append(words(x, y, name, 18, PALE, more))
+        return parts
 
     def is_free(self, box, taken):
         """Whether a box (left, top, right, bottom) is on the map, above its scale, and touches none that is taken."""
@@ -154,12 +182,11 @@ class Picture:
         inside = ends[0] < left and ends[1] < top and right < ends[2] and bottom < ends[3]
         return inside and not any(left < it[2] and it[0] < right and top < it[3] and it[1] < bottom for it in taken)
 
-    def names(self, placed):
+    def names(self, placed, taken):
         """Names of the largest stations, each where it touches no circle and no other name."""
-        taken = [(x - radius, y - radius, x + radius, y + radius) for _, x, y, radius in placed]
         parts = []
         for station, x, y, radius in placed[:NAMED]:
-            wide, aside, low = 4.8 * len(station["name"]), 0.7 * radius + 3, 0.7 * radius
+            wide, aside, low = length(station["name"], 9), 0.7 * radius + 3, 0.7 * radius
             spots = [(radius + 3, 3, "start"), (-radius - 3, 3, "end"), (0, radius + 10, "middle"), (0, -radius - 4, "middle")]
             spots += [(aside, low + 8, "start"), (aside, -low - 1, "start"), (-aside, low + 8, "end"), (-aside, -low - 1, "end")]
             for left, base, anchor in ((x + right, y + down, it) for right, down, it in spots):
@@ -194,7 +221,7 @@ def panel(system, picture):
         ((0, 1, 0), True, f"{sum(bool(state_of(it)) for it in system.stations)} of {len(system.stations)} stations closed"),
     ]
     for shares, closed, text in rows:
-        parts += [disc(x + 7, y - 4, 7, shares, closed), words(x + 22, y, text, 12)]
+        parts += [disc(x + 7, y - 4, 7, shares, closed), words(x + 22, y, text, 11)]
         y += 22
     sizes, y = key_of_sizes(system, picture, x, y)
     kinds, y = types_of(system, x, y)
@@ -241,7 +268,7 @@ def prices_of(system, x, y):
         parts += [words(x, y, plan["name"], 11), words(x + PANEL, y, plan["price"], 11, INK, ' text-anchor="end"')]
         for line in [*plan["charges"], *([f"now for: {', '.join(plan['types'])}"] if plan["types"] else [])]:
             y += 13
-            parts.append(words(x, y, line, 9.5, SOFT))
+            parts.append(words(x, y, line, 9, SOFT))
     if len(system.plans) > 6:
         y += 20
         parts.append(words(x, y, f"and {len(system.plans) - 6} more", 11, SOFT))
@@ -270,7 +297,8 @@ def table(head, rows):
     def cells(row, tag):
         """A row of the table, in cells of this tag."""
         marks = [' class="number"' if isinstance(it, int) else "" for it in (rows[0] if rows else head)]
-        return "<tr>" + "".join(f"<{tag}{mark}>{escaped(str(it))}</{tag}>" for mark, it in zip(marks, row)) + "</tr>"
+        made = [f"<{tag}{mark}{spoken(it)}>{escaped(str(it))}</{tag}>" for mark, it in zip(marks, row)]
+        return f"<tr>{''.join(made)}</tr>"
 
     return "\n".join(["<table>", cells(head, "th"), *(cells(row, "td") for row in rows), "</table>"])
 
@@ -296,13 +324,12 @@ def html_of(system):
         counts = [it[f"num_{name}"] for name in COUNTED]
         region = [it["region"]] if has_regions else []
         stations.append((it["name"], *region, *counts, it["capacity"], state_of(it), told(it["reported"])))
-    language = escaped(system.languages[0]) if system.languages else "en"
     head = ("Station", *(["Region"] if has_regions else []), "Bicycles available", "Free docks")
     head += ("Disabled bicycles", "Broken docks", "Capacity", "Closed", "Last reported")
     return "\n".join([
-        f'<!DOCTYPE html>\n<html lang="{language}">\n<head>\n<meta charset="utf-8">',
+        '<!DOCTYPE html>\n<html lang="en">\n<head>\n<meta charset="utf-8">',
         '<meta name="viewport" content="width=device-width, initial-scale=1">',
-        f"<title>{escaped(system.name)}</title>\n<style>{STYLE}</style>\n</head>\n<body>",
+        f"<title{spoken(system.name)}>{escaped(system.name)}</title>\n<style>{STYLE}</style>\n</head>\n<body>",
         svg_of(system).rstrip(),
         "<h2>Prices</h2>", table(("Plan", "Price", "Charges", "Description", "Now for"), plans),
         "<h2>Stations</h2>", table(head, stations),

@@ -24,18 +24,28 @@
  *   CLOCK=S        the clock stands still at this second
  *   TOLD_TO=FILE   at the end FILE tells, a line each, how many calls and requests for memory were counted, and where the fault came
  *
+ * A script that runs many programs is disturbed in one of them:
+ *
+ *   FAULT_FOLDER=F calls on the folder F (an absolute path) and on all that stands below it are counted as well, and with them the calls
+ *                  by which other programs copy, list, measure, name, close and remove files
+ *   FAULT_IN=NAME  no call is counted in a program of another name
+ *   COUNT_IN=FILE  the count of calls stands in the first eight bytes of FILE, and goes on from one process to the next
+ *
  * All calls go to the kernel by syscall(2), and memory comes from the C library by its own names, so nothing is looked up.
  */
 #define _GNU_SOURCE
+#include <dirent.h>
 #include <errno.h>
 #include <fcntl.h>
 #include <limits.h>
+#include <linux/fs.h>
 #include <signal.h>
 #include <stdarg.h>
 #include <stdint.h>
 #include <stdio.h>
 #include <stdlib.h>
 #include <string.h>
+#include <sys/mman.h>
 #include <sys/socket.h>
 #include <sys/stat.h>
 #include <sys/syscall.h>
@@ -49,17 +59,17 @@ extern void *__libc_calloc(size_t, size_t);
 extern void *__libc_realloc(void *, size_t);
 extern void *__libc_memalign(size_t, size_t);
 
-enum kind { OTHER, BASE, LOG, JOURNAL, INDEX, FOLDER, END };
+enum kind { OTHER, BASE, LOG, JOURNAL, INDEX, FOLDER, END, BELOW };
 enum verdict { GO, FAIL, SHORT, PART, LOSE };
 enum { READS, CHANGES };
 enum { DESCRIPTORS = 1024, SECTOR = 512, SECTORS = 1 << 17 };
 
-static const char *const NAMES[] = {"other", "file", "log", "journal", "index", "folder", "ends"};
+static const char *const NAMES[] = {"other", "file", "log", "journal", "index", "folder", "ends", "folder's content"};
 static const char *const SUFFIXES[] = {NULL, "", "-wal", "-journal", "-shm"};
 
-static char paths[FOLDER + 1][PATH_MAX];
+static char paths[FOLDER + 1][PATH_MAX], below[PATH_MAX];
 static unsigned char kinds[DESCRIPTORS];
-static long calls, requests;
+static long own_calls, *counter = &own_calls, requests;
 static long stop_at, part_at, lose_at, fail_at, fail_from, short_at, short_from, refuse_at, refuse_from;
 static size_t short_bytes = 1;
 static int fail_with = EIO, only_changes, ends, no_flush, lose_at_end, only_ends, is_on;
@@ -76,7 +86,7 @@ static void tell(void)
     int length, file;
     if (!name)
         return;
-    length = snprintf(text, sizeof text, "calls %ld\nmemory %ld\nhit %s\n", calls, requests, hit[0] ? hit : "nothing");
+    length = snprintf(text, sizeof text, "calls %ld\nmemory %ld\nhit %s\n", *counter, requests, hit[0] ? hit : "nothing");
     file = syscall(SYS_openat, AT_FDCWD, name, O_WRONLY | O_CREAT | O_TRUNC | O_CLOEXEC, 0600);
     if (file < 0 || syscall(SYS_write, file, text, length) != length)
         _exit(99);
@@ -177,9 +187,10 @@ static void lose(void)
 static enum verdict turn(const char *name, enum kind kind, int changes)
 {
     enum verdict verdict = GO;
+    long calls;
     if (!is_on || kind == OTHER || (only_changes && changes != CHANGES) || (only_ends && kind != END))
         return GO;
-    calls += 1;
+    calls = *counter += 1;
     if (calls == part_at)
         verdict = PART;
     else if (calls == lose_at)
@@ -219,7 +230,8 @@ static enum kind kind_of(int file)
 static enum kind kind_at(const char *path)
 {
     char whole[2 * PATH_MAX], folder[PATH_MAX];
-    if (!paths[BASE][0] || !path)
+    size_t length = strlen(below);
+    if ((!paths[BASE][0] && !length) || !path)
         return OTHER;
     if (path[0] != '/' && getcwd(folder, sizeof folder)) {
         snprintf(whole, sizeof whole, "%s/%s", folder, path);
@@ -228,14 +240,33 @@ static enum kind kind_at(const char *path)
     for (int kind = BASE; kind <= FOLDER; kind++)
         if (!strcmp(path, paths[kind]))
             return kind;
-    return OTHER;
+    return length && !strncmp(path, below, length) && (path[length] == '/' || !path[length]) ? BELOW : OTHER;
+}
+
+/* The kind of the file at a path that begins at an open folder, where it isn't whole. */
+static enum kind kind_from(int folder, const char *path)
+{
+    char whole[2 * PATH_MAX], link[40];
+    long length;
+    if (folder == AT_FDCWD || !path || path[0] == '/')
+        return kind_at(path);
+    if (!path[0])
+        return kind_of(folder);
+    if (!below[0])
+        return OTHER;
+    snprintf(link, sizeof link, "/proc/self/fd/%d", folder);
+    length = syscall(SYS_readlinkat, AT_FDCWD, link, whole, PATH_MAX);
+    if (length < 0)
+        return OTHER;
+    snprintf(whole + length, PATH_MAX, "/%s", path);
+    return kind_at(whole);
 }
 
 /* ---- opening */
 
 static int opens(int folder, const char *path, int flags, int mode)
 {
-    enum kind kind = is_on && (folder == AT_FDCWD || path[0] == '/') ? kind_at(path) : OTHER;
+    enum kind kind = is_on ? kind_from(folder, path) : OTHER;
     int makes = kind != OTHER && kind != FOLDER && (flags & O_CREAT) && syscall(SYS_faccessat, AT_FDCWD, path, F_OK);
     int file;
     if (fails(makes ? "making" : "opening", kind, makes ? CHANGES : READS))
@@ -264,11 +295,19 @@ int openat(int folder, const char *path, int flags, ...) { MODE(flags, mode) ret
 int openat64(int folder, const char *path, int flags, ...) { MODE(flags, mode) return opens(folder, path, flags, mode); }
 int creat(const char *path, mode_t mode) { return opens(AT_FDCWD, path, O_WRONLY | O_CREAT | O_TRUNC, mode); }
 
+static int fails_below(const char *name, enum kind kind, int changes) { return below[0] && fails(name, kind, changes); }
+
+/* A file whose closing fails is closed. */
 int close(int file)
 {
+    int has_failed = fails_below("closing", kind_of(file), CHANGES);
     if (file >= 0 && file < DESCRIPTORS)
         kinds[file] = OTHER;
-    return syscall(SYS_close, file);
+    if (syscall(SYS_close, file))
+        return -1;
+    if (has_failed)
+        errno = fail_with;
+    return has_failed ? -1 : 0;
 }
 
 int fcntl(int file, int command, ...)
@@ -296,6 +335,25 @@ int statx(int folder, const char *restrict path, int flags, unsigned int mask, s
     return syscall(SYS_statx, folder, path, flags, mask, found);
 }
 
+static int measures(int folder, const char *path, struct stat *found, int flags)
+{
+    return fails_below("measuring", kind_from(folder, path), READS) ? -1 : syscall(SYS_newfstatat, folder, path, found, flags);
+}
+
+int stat(const char *restrict path, struct stat *restrict found) { return measures(AT_FDCWD, path, found, 0); }
+int lstat(const char *restrict path, struct stat *restrict found) { return measures(AT_FDCWD, path, found, AT_SYMLINK_NOFOLLOW); }
+int fstat(int file, struct stat *found) { return measures(file, "", found, AT_EMPTY_PATH); }
+
+ssize_t readlink(const char *restrict path, char *restrict link, size_t size)
+{
+    return fails_below("reading", kind_at(path), READS) ? -1 : syscall(SYS_readlinkat, AT_FDCWD, path, link, size);
+}
+
+int fstatat(int folder, const char *restrict path, struct stat *restrict found, int flags)
+{
+    return measures(folder, path, found, flags);
+}
+
 int fchmod(int file, mode_t mode) { return fails("setting the mode of", kind_of(file), CHANGES) ? -1 : syscall(SYS_fchmod, file, mode); }
 
 int fchown(int file, uid_t owner, gid_t group)
@@ -312,6 +370,72 @@ static int removes(const char *path)
 }
 
 int unlink(const char *path) { return removes(path); }
+
+int unlinkat(int folder, const char *path, int flags)
+{
+    return fails_below("removing", kind_from(folder, path), CHANGES) ? -1 : syscall(SYS_unlinkat, folder, path, flags);
+}
+
+int rmdir(const char *path) { return unlinkat(AT_FDCWD, path, AT_REMOVEDIR); }
+
+int mkdir(const char *path, mode_t mode)
+{
+    return fails_below("making", kind_at(path), CHANGES) ? -1 : syscall(SYS_mkdirat, AT_FDCWD, path, mode);
+}
+
+int renameat2(int from_folder, const char *from, int to_folder, const char *to, unsigned int flags)
+{
+    enum kind kind = kind_from(from_folder, from) ? kind_from(from_folder, from) : kind_from(to_folder, to);
+    return fails_below("renaming", kind, CHANGES) ? -1 : syscall(SYS_renameat2, from_folder, from, to_folder, to, flags);
+}
+
+int renameat(int from_folder, const char *from, int to_folder, const char *to)
+{
+    return renameat2(from_folder, from, to_folder, to, 0);
+}
+
+/* ---- other programs' ways to open, list and copy */
+
+int __open_2(const char *path, int flags) { return opens(AT_FDCWD, path, flags, 0); }
+
+FILE *fopen(const char *restrict path, const char *restrict how)
+{
+    int more = strchr(how, '+') != NULL, file;
+    int flags = how[0] == 'r' ? (more ? O_RDWR : O_RDONLY) : (more ? O_RDWR : O_WRONLY) | O_CREAT | (how[0] == 'a' ? O_APPEND : O_TRUNC);
+    file = opens(AT_FDCWD, path, flags | (strchr(how, 'e') ? O_CLOEXEC : 0), 0666);
+    return file < 0 ? NULL : fdopen(file, how);
+}
+
+FILE *fopen64(const char *restrict path, const char *restrict how) { return fopen(path, how); }
+
+DIR *opendir(const char *path)
+{
+    int file = opens(AT_FDCWD, path, O_RDONLY | O_DIRECTORY | O_CLOEXEC, 0);
+    return file < 0 ? NULL : fdopendir(file);
+}
+
+ssize_t copy_file_range(int from, off64_t *from_at, int to, off64_t *to_at, size_t count, unsigned int flags)
+{
+    enum kind kind = kind_of(to) ? kind_of(to) : kind_of(from);
+    enum verdict verdict = below[0] ? turn("copying", kind, CHANGES) : GO;
+    if (verdict == FAIL)
+        return -1;
+    if (verdict == SHORT && count > short_bytes)
+        count = short_bytes;
+    return syscall(SYS_copy_file_range, from, from_at, to, to_at, count, flags);
+}
+
+int ioctl(int file, unsigned long request, ...)
+{
+    va_list more;
+    void *rest;
+    va_start(more, request);
+    rest = va_arg(more, void *);
+    va_end(more);
+    if (request == FICLONE && fails_below("cloning", kind_of(file), CHANGES))
+        return -1;
+    return syscall(SYS_ioctl, file, request, rest);
+}
 
 int rename(const char *from, const char *to)
 {
@@ -393,8 +517,12 @@ ssize_t write(int file, const void *bytes, size_t count)
     enum kind kind = kind_of(file);
     enum verdict verdict;
     ssize_t put;
-    if (kind != OTHER)
-        return pwrite(file, bytes, count, lseek(file, 0, SEEK_CUR));
+    if (kind != OTHER) {
+        put = pwrite(file, bytes, count, lseek(file, 0, SEEK_CUR));
+        if (put > 0)
+            lseek(file, put, SEEK_CUR);
+        return put;
+    }
     verdict = file == 1 ? end_turn() : GO;
     if (verdict == FAIL)
         return -1;
@@ -511,7 +639,7 @@ static int refuses(void)
     if (requests != refuse_at && !(refuse_from && requests >= refuse_from))
         return 0;
     if (!hit[0])
-        snprintf(hit, sizeof hit, "request %ld for memory, after call %ld", requests, calls);
+        snprintf(hit, sizeof hit, "request %ld for memory, after call %ld", requests, *counter);
     errno = ENOMEM;
     return 1;
 }
@@ -536,10 +664,29 @@ static long number(const char *name, long otherwise)
     return text && text[0] ? atol(text) : otherwise;
 }
 
+/* The count that the processes of a script have in common. */
+static void count_in(const char *name)
+{
+    int file = syscall(SYS_openat, AT_FDCWD, name, O_RDWR | O_CREAT | O_CLOEXEC, 0600);
+    void *shared = MAP_FAILED;
+    if (file >= 0 && !syscall(SYS_ftruncate, file, sizeof *counter))
+        shared = mmap(NULL, sizeof *counter, PROT_READ | PROT_WRITE, MAP_SHARED, file, 0);
+    if (shared == MAP_FAILED)
+        _exit(99);
+    syscall(SYS_close, file);
+    counter = shared;
+}
+
 __attribute__((constructor)) static void begin(void)
 {
-    const char *file = getenv("FAULT_FILE");
+    const char *file = getenv("FAULT_FILE"), *folder = getenv("FAULT_FOLDER"), *program = getenv("FAULT_IN");
     char *slash;
+    if (folder && strlen(folder) < PATH_MAX)
+        strcpy(below, folder);
+    if (program && strcmp(program, program_invocation_short_name))
+        return;
+    if (getenv("COUNT_IN"))
+        count_in(getenv("COUNT_IN"));
     if (file && strlen(file) + 10 < PATH_MAX) {
         for (int kind = BASE; kind <= INDEX; kind++)
             snprintf(paths[kind], PATH_MAX, "%s%s", file, SUFFIXES[kind]);

@@ -48,7 +48,7 @@ pub enum Fault {
     StoreFailed,
     /// Memory was refused.
     OutOfMemory,
-    /// The database belongs to another program.
+    /// The database belongs to another program, or somebody added a UNIQUE index to a table of the product's.
     Foreign,
     /// The tables stand for no operator: this is the first row that is not an operator's.
     Unsound(UnsoundRow),

@@ -1,3 +1,4 @@
+pub mod Added
 pub mod Names
 pub mod Recognition
 pub mod Rowids

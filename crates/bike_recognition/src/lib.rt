@@ -6,6 +6,7 @@
 //! finds them to be numbers and apart: then every law of the tables holds of it.
 #![tactic(auto)]
 
+mod added;
 mod recognition;
 mod rowids;
 mod schema;
@@ -13,6 +14,7 @@ mod stands;
 mod table;
 mod version;
 
+pub use added::has_added_unique;
 pub use recognition::{Recognition, recognise};
 pub use rowids::are_apart;
 pub use schema::has_wanted;

@@ -7,7 +7,7 @@ use Rattle.bike_app.proofs.file.run_file.Goals as goal
 pub returns-in-Ok-clause-done : goal.returns-in-Ok-clause-done
 returns-in-Ok-clause-done g c clean =
     let early : HasCleanDisk (file_state c.in-Ok.conn) = omega (arith, clean, c.run_words-conn.ensures.clean) in
-    record { first = c.in-Ok.conn; opened = c.in-Ok.ensures.opened early; found = c.in-Ok.ensures.found early; does = c.run_words-conn.ensures.done clean }
+    record { first = c.in-Ok.conn; opened = c.in-Ok.ensures.opened early; found = c.in-Ok.ensures.found early; own = c.in-Ok.ensures.own; does = c.run_words-conn.ensures.done clean }
 
 pub returns-in-Ok-clause-kept : goal.returns-in-Ok-clause-kept
 returns-in-Ok-clause-kept g c clean s holds =

@@ -1,0 +1,508 @@
+"""Copies by deploy/backup: onto disks of every size between too small and large enough, and with calls that fail in
+each of the script's programs, of a city that is served and takes requests, and of one whose server was killed.
+
+After each copying:
+
+  - where the status is 0, COPY is there with nothing beside it, SQLite's integrity_check finds nothing in it, and its
+    tables are those of the city at a moment between the begin and the end of the copying;
+  - where it is another, one line says what failed, and COPY isn't there, or is no less than that;
+  - the city is what it was, and its server goes on.
+
+Disks are of memory, and are mounted where the test is root. Faults come from tests/stops/faults.c. A sample stands in
+the gate. By hand, all of it:
+
+    BIKESHARE_BACKUPS=1 BIKESHARE_JOBS=3 tests/run backups.
+
+BIKESHARE_BACKUPS is the stride for sizes and calls; BIKESHARE_JOBS is how many cities are copied at a time;
+BIKESHARE_STOPS_TOLD names a file to which tests add how many copies they tried and how they ended.
+"""
+
+import collections
+import contextlib
+import functools
+import os
+import re
+import shutil
+import signal
+import subprocess
+import tempfile
+import time
+from pathlib import Path
+
+from operating import DEPLOY, Sender, keys_in, top_ups
+from shared import CITY, EIO, ENOSPC, FAULTS, JOBS, Program, Server, at_once, copied, environment, is_sound, is_whole
+from shared import nothing_is, office, put, quickly, ran, taken, tell, told_with
+
+STRIDE = int(os.environ.get("BIKESHARE_BACKUPS", "0"))
+SECONDS = 120
+PAGE = 4096
+# How far apart the requests of a city under load are.
+PAUSE = 0.02
+
+
+# ---- cities that are copied
+
+
+def tables(*where):
+    """The rows of each table of a whole file."""
+    with copied(*where) as base:
+        is_whole(base)
+        names = [it for (it,) in base.execute("SELECT name FROM sqlite_schema WHERE type = 'table'")]
+        return {name: sorted(base.execute(f"SELECT * FROM {name}"), key=repr) for name in names}
+
+
+def number_of(key):
+    """The number of the top-up that has this key, and 0 where it is another request's."""
+    return int(key[1:]) if re.fullmatch(r"n\d+", key) else 0
+
+
+def rolled_back(city, count):
+    """The tables of a city as they were after so many top-ups of 1 hundredth each. Rider 17 had 25.00 before."""
+    ((one, app, version, begun, _, revenue),) = city["meta"]
+    # The first entry is that of the 25.00.
+    entries = [it for it in city["entries"] if it[0] <= count + 1]
+    now = max([it[5] for it in entries if it[0] > 1], default=begun)
+    riders = [(rider, blocked, 2500 + count) for rider, blocked, _ in city["riders"]]
+    kept = [it for it in city["kept"] if number_of(it[1]) <= count]
+    meta = [(one, app, version, now, 2500 + count, revenue)]
+    return city | {"entries": entries, "riders": riders, "kept": kept, "meta": meta}
+
+
+def finished(words, **how):
+    """Runs a script to its end. Where that takes too long it is killed with all that it runs."""
+    how = {"stdout": subprocess.PIPE, "stderr": subprocess.PIPE, "start_new_session": True, **how}
+    with subprocess.Popen(words, **how) as script:
+        try:
+            out, said = script.communicate(timeout=SECONDS)
+        except subprocess.TimeoutExpired:
+            os.killpg(script.pid, signal.SIGKILL)
+            raise
+    return subprocess.CompletedProcess(words, script.returncode, out, said)
+
+
+class Copies:
+    """A city in a folder of its own, and what became of its copies."""
+
+    def __init__(self, program, folder):
+        self.folder = Path(folder)
+        self.program = Program(program.file, str(self.folder))
+        self.file, self.copy = self.folder / "city.db", self.folder / "disk/copy.db"
+        (self.folder / "disk").mkdir()
+        self.ends, self.found = collections.Counter(), []
+
+    def backup(self, env):
+        """Copies it, and returns how that ended, and the copy's tables if it is there."""
+        words, env = [DEPLOY / "backup", self.file, self.copy], {"BIKESHARE": self.program.file, **env}
+        made = finished(words, env=env)
+        left = sorted(it.name for it in self.copy.parent.iterdir())
+        if made.returncode == 0:
+            assert left == [self.copy.name] and not made.stderr, (made, left)
+        else:
+            assert made.returncode == 1 and re.fullmatch(rb"backup: [^\n]+\n", made.stderr), made
+        self.ends["copied" if made.returncode == 0 else "failed"] += 1
+        return made, self.seen(taken(self.copy)) if self.copy.exists() else None
+
+    def seen(self, parts):
+        """The tables of a file and its log. They are looked at elsewhere, since a disk may be full."""
+        put(parts, self.folder, "seen.db")
+        return tables(self.folder, "seen.db")
+
+    def turn(self, **env):
+        """Returns what is wrong with a copying, or nothing."""
+        try:
+            self.tried({**os.environ, **{key: str(value) for key, value in env.items()}})
+        except FAULTS as fault:
+            return f"{env}: {fault}"
+        return None
+
+    def cleared(self):
+        """Removes what a copying left."""
+        for it in self.copy.parent.iterdir():
+            shutil.rmtree(it) if it.is_dir() else it.unlink()
+
+
+@functools.cache
+def killed(file):
+    """The file and the log of a city whose server was killed, and its tables."""
+    with tempfile.TemporaryDirectory() as folder:
+        with Server(Program(file, folder), seconds=SECONDS) as server:
+            made_over(server)
+            assert top_ups(server, range(1, 6)) == [1, 2, 3, 4, 5]
+        return taken(folder, "city.db"), tables(folder, "city.db")
+
+
+class Killed(Copies):
+    """A city whose server was killed, and which is all in its log."""
+
+    def __init__(self, program, folder):
+        super().__init__(program, folder)
+        self.parts, self.wanted = killed(program.file)
+        assert len(self.parts[""]) < PAGE < len(self.parts["-wal"])
+        put(self.parts, self.file)
+
+    def tried(self, env):
+        made, found = self.backup(env)
+        assert found in (None, self.wanted), "the copy is another city"
+        assert taken(self.file) == self.parts, "the city isn't what it was"
+        if b"doesn't take the copy" in made.stderr or b"wasn't brought into" in made.stderr:
+            left = Path(f"{self.copy}.unfinished")
+            parts = {"": (left / "city.db").read_bytes(), "-wal": (left / "city.db-log").read_bytes()}
+            assert self.seen(parts) == self.wanted, "the copy with the log that was kept is another city"
+
+    def are_right(self):
+        """Nothing is left to hold."""
+
+
+class Loaded(Copies):
+    """A city that is served and takes top-ups in turn."""
+
+    def __init__(self, program, folder):
+        super().__init__(program, folder)
+        self.stack = contextlib.ExitStack()
+        self.server = self.stack.enter_context(Server(self.program, seconds=SECONDS))
+        made_over(self.server)
+        self.sender = self.stack.enter_context(Sender(self.server, PAUSE))
+
+    def tried(self, env):
+        before = self.sender.answered
+        _, found = self.backup(env)
+        after = self.sender.answered + 1
+        if found:
+            self.found.append((before, after, found))
+        until = time.monotonic() + SECONDS
+        while self.sender.answered <= after:
+            assert time.monotonic() < until, "the server doesn't go on"
+            time.sleep(0.005)
+
+    def are_right(self):
+        """Holds the copies to the city's front that each has to be, and the city to what was answered."""
+        self.stack.close()
+        is_sound(self.program)
+        city, count = tables(self.file), self.sender.answered
+        assert len(keys_in(self.file)) - count in (0, 1), "the city lacks a request"
+        for before, after, found in self.found:
+            count = sum(number_of(it[1]) > 0 for it in found["kept"])
+            assert before <= count <= after, f"a copy holds {count} requests, and {before} to {after} were answered"
+            assert found == rolled_back(city, count), "a copy is another city"
+
+
+def made_over(server):
+    """Makes the city of docs/FORMATS.md over HTTP, so that it is all in the log."""
+    for number, it in enumerate(CITY, 1):
+        found = server.ask(office(f"f{number}", it))
+        assert found.startswith(b"HTTP/1.1 200 OK\r\n"), (it, found)
+
+
+@contextlib.contextmanager
+def cities(program, kind):
+    """Cities of a kind, so many as are copied at a time. In the end each has to be right."""
+    with contextlib.ExitStack() as stack:
+        made = []
+        for _ in range(JOBS):
+            made.append(kind(program, tempfile.mkdtemp(dir=program.folder)))
+            stack.callback(made[-1].are_right)
+        yield made
+
+
+def tried(among, name, turns):
+    """Tries turns over cities at once, each with its share. A turn is done with a city, and returns what is wrong."""
+
+    def share(number):
+        wrong = []
+        for turn in turns[number :: len(among)]:
+            wrong.append(turn(among[number]))
+            among[number].cleared()
+        return wrong
+
+    for city in among:
+        city.ends.clear()
+    wrong = [it for part in at_once(share, range(len(among))) for it in part if it]
+    ends = sum((city.ends for city in among), collections.Counter())
+    tell("backup", name, ends, len(turns))
+    nothing_is(wrong, name)
+    return ends
+
+
+# ---- disks
+
+
+@contextlib.contextmanager
+def disk(folder, length):
+    """A disk of memory of so many bytes in the place of a folder."""
+    status, said = ran("mount", "-t", "tmpfs", "-o", f"size={length},mode=0755", "tmpfs", folder)
+    assert status == 0, said
+    try:
+        yield
+    finally:
+        # What still uses it holds nobody up.
+        status, said = ran("umount", "-l", folder)
+        assert status == 0, said
+
+
+def can_mount(program, test):
+    """Whether disks of memory can be mounted; where they can't it is told that the test wasn't tried."""
+    folder = tempfile.mkdtemp(dir=program.folder)
+    with contextlib.suppress(AssertionError), disk(folder, PAGE):
+        return True
+    print(f"backups.{test}: not tried, a disk of memory can't be mounted", flush=True)
+    return False
+
+
+def hiding(program):
+    """A program that brings the log into the file as the program does, and never says that it failed."""
+    made = Path(program.folder, "hiding")
+    run = f'"{program.file}" "$@" 2>/dev/null'
+    lines = ["#!/bin/sh", run, "status=$?", '[ "$1" = lines ] && exit 0', "exit $status", ""]
+    made.write_text("\n".join(lines))
+    made.chmod(0o755)
+    return made
+
+
+def on_disk(length, **env):
+    """The turn of a copy onto a disk of so many bytes."""
+
+    def turn(city):
+        with disk(city.copy.parent, length):
+            wrong = city.turn(**env)
+            city.cleared()
+        return wrong and f"a disk of {length} bytes: {wrong}"
+
+    return turn
+
+
+def needed(parts):
+    """More bytes than the copying of a file with its log takes: both, the log once more, and its pages in the file."""
+    return len(parts[""]) + 3 * len(parts["-wal"]) + 64 * PAGE
+
+
+def test_disks_of_every_size(program):
+    """Of a city that is all in its log; by the program, and by one that tells no failure of the bringing in."""
+    if not can_mount(program, "test_disks_of_every_size"):
+        return
+    most = needed(killed(program.file)[0])
+    with cities(program, Killed) as among:
+        for name, env in ("as it is", {}), ("that hides failures", {"BIKESHARE": hiding(program)}):
+            turns = [on_disk(length, **env) for length in range(PAGE, most, PAGE * (STRIDE or 17))]
+            ends = tried(among, f"disks of every size, by a program {name}", turns)
+            assert min(ends["copied"], ends["failed"]) > 3, ends
+
+
+def test_disks_that_fill_under_load(program):
+    """A city that is served and grows, onto disks between too small and large enough for it as it is then."""
+    if not can_mount(program, "test_disks_that_fill_under_load"):
+        return
+
+    def part(share):
+        def turn(city):
+            return on_disk(max(PAGE, int(needed(taken(city.file)) * share / 40)))(city)
+
+        return turn
+
+    with cities(program, Loaded) as among:
+        ends = tried(among, "disks that fill under load", [part(it) for it in range(0, 41, STRIDE or 3)])
+    assert min(ends["copied"], ends["failed"]) > 1, ends
+
+
+# ---- calls that fail
+
+PROGRAMS = ["bash", "realpath", "stat", "ls", "find", "mkdir", "cp", "cksum", "sync", "rm", "mv", "rmdir"]
+FAILURES = {
+    "the call": lambda at: {"FAIL_AT": at, "FAIL_WITH": EIO},
+    "all calls from then on": lambda at: {"FAIL_FROM": at, "FAIL_WITH": EIO},
+    "no room from then on": lambda at: {"FAIL_FROM": at, "FAIL_WITH": ENOSPC},
+}
+# A file that seems to end there, which cp takes for its end.
+ENDS_EARLY = {"no byte from the call on": lambda at: {"SHORT_FROM": at, "SHORT_BYTES": 0}}
+
+
+def disturbed(city, name, **faults):
+    """Copies a city with these faults in programs of a name. Returns what is wrong, and how many calls there were."""
+    count = city.folder / "count"
+    count.unlink(missing_ok=True)
+    told = environment(city.file, FAULT_FOLDER=city.folder, FAULT_IN=name, COUNT_IN=count, **faults)
+    names = ("LD_PRELOAD", "FAULT_FOLDER", "FAULT_IN", "COUNT_IN", *faults)
+    wrong = city.turn(**{it: told[it] for it in names})
+    return wrong and f"{name}: {wrong}", int.from_bytes(count.read_bytes() if count.exists() else b"", "little")
+
+
+def each_call(program, kind, names, stride, failures=FAILURES):
+    """Tries calls of the programs of these names, each way in which they fail. They are counted first."""
+
+    def turn(name, faults):
+        return lambda city: disturbed(city, name, **faults)[0]
+
+    with cities(program, kind) as among:
+        counts = {}
+        for name in names:
+            wrong, counts[name] = disturbed(among[0], name)
+            assert not wrong and among[0].ends["failed"] == 0 < counts[name], (name, wrong, counts)
+            among[0].cleared()
+        for first, (how, faults) in enumerate(failures.items()):
+            numbered = [(it, at) for it in names for at in range(1 + first % stride, counts[it] + 2, stride)]
+            turns = [turn(it, faults(at)) for it, at in numbered]
+            ends = tried(among, f"{how} of {', '.join(names)}", turns)
+            assert ends["failed"], (how, ends)
+
+
+@quickly
+def test_calls_that_fail_under_load(program):
+    each_call(program, Loaded, PROGRAMS, STRIDE or 7)
+
+
+@quickly
+def test_calls_that_fail_after_a_kill(program):
+    each_call(program, Killed, PROGRAMS, STRIDE or 11)
+
+
+@quickly
+def test_copies_that_end_early(program):
+    each_call(program, Killed, ["cp"], STRIDE or 2, ENDS_EARLY)
+
+
+@quickly
+def test_calls_of_the_program_that_fail(program):
+    """Of what brings the log into the copy and checks it."""
+    each_call(program, Killed, [Path(program.file).name], STRIDE or 41)
+
+
+# ---- what is refused, and ends of the script
+
+
+def copying(program, *words, **env):
+    """Runs deploy/backup with these words, and returns its status and its line."""
+    env = {**os.environ, "BIKESHARE": program.file, **env}
+    made = finished([DEPLOY / "backup", *words], cwd=program.folder, env=env)
+    return made.returncode, made.stderr.decode()
+
+
+def test_what_is_no_city_and_what_is_there(program):
+    """Each has a line of the script's own, and nothing is made."""
+    here = Path(program.folder)
+    city = Killed(program, tempfile.mkdtemp(dir=here)).file
+    (here / "empty.db").write_bytes(b"")
+    (here / "there.db").write_bytes(b"")
+    (here / "left.db-wal").write_bytes(b"")
+    (here / "begun.db.unfinished").mkdir()
+    before = sorted(here.iterdir())
+    for words, line in (
+        ([city], "usage: backup FILE COPY"),
+        (["none.db", "copy.db"], "there is no none.db"),
+        (["empty.db", "copy.db"], f"{here.resolve()}/empty.db is empty"),
+        ([city, "none/copy.db"], "there is no folder none"),
+        ([city, "there.db"], "there is something at there.db already"),
+        ([city, "left.db"], "there is something at left.db-wal already"),
+        ([city, "begun.db"], "there is something at begun.db.unfinished already"),
+    ):
+        assert copying(program, *words) == (1, f"backup: {line}\n"), words
+    assert sorted(here.iterdir()) == before
+
+
+def test_a_program_that_does_nothing(program):
+    """One that says `sound` of all and brings no log into its file makes no copy."""
+    here = Path(program.folder)
+    city = Killed(program, tempfile.mkdtemp(dir=here))
+    (here / "nothing").write_text('#!/bin/sh\n[ "$1" = check ] && echo sound\nexit 0\n')
+    (here / "nothing").chmod(0o755)
+    status, said = copying(program, city.file, "copy.db", BIKESHARE=str(here / "nothing"))
+    left = "copy.db.unfinished"
+    line = f"{left}/city.db-wal wasn't brought into the copy (what was copied is in {left})"
+    assert (status, said) == (1, f"backup: {line}\n")
+    assert not (here / "copy.db").exists() and taken(here / left / "city.db") == city.parts
+
+
+def test_links(program):
+    """The log of a file that a link names stands beside the file."""
+    here = Path(program.folder)
+    city = Killed(program, tempfile.mkdtemp(dir=here))
+    (here / "link.db").symlink_to(city.file)
+    assert copying(program, "link.db", "copy.db") == (0, "")
+    assert tables(here, "copy.db") == city.wanted and taken(city.file) == city.parts
+
+
+def test_a_log_that_was_removed(program):
+    """A served city whose log lost its name isn't copied: the file alone is an older city. By hand both can be had."""
+    here = Path(program.folder)
+    with Server(program, seconds=SECONDS) as server:
+        made_over(server)
+        (here / "city.db-wal").unlink()
+        status, said = copying(program, "city.db", "copy.db")
+        line = rf"backup: process {server.child.pid} has \S+/city.db open, and not \S+/city.db-wal: .*\n"
+        assert status == 1 and re.fullmatch(line, said), said
+        assert not (here / "copy.db").exists() and top_ups(server, [1]) == [1]
+        os.kill(server.child.pid, signal.SIGSTOP)
+        (log,) = (it for it in Path(f"/proc/{server.child.pid}/fd").iterdir() if "city.db-wal" in os.readlink(it))
+        put({"": (here / "city.db").read_bytes(), "-wal": log.read_bytes()}, here, "by_hand.db")
+    assert keys_in(here / "by_hand.db") == [1]
+
+
+@contextlib.contextmanager
+def begun(program, file, copy):
+    """The script, begun on a file, whose cp waits until there is a file `go` beside it."""
+    folder = Path(tempfile.mkdtemp(dir=program.folder))
+    waits = f"while [ ! -e {folder}/go ]; do sleep 0.05; done"
+    (folder / "cp").write_text(f'#!/bin/sh\ntouch {folder}/begun\n{waits}\nexec {shutil.which("cp")} "$@"\n')
+    (folder / "cp").chmod(0o755)
+    env = {**os.environ, "BIKESHARE": program.file, "PATH": f"{folder}:{os.environ['PATH']}"}
+    words = [DEPLOY / "backup", file, copy]
+    script = subprocess.Popen(words, env=env, stderr=subprocess.PIPE, start_new_session=True)
+    try:
+        until = time.monotonic() + SECONDS
+        while not (folder / "begun").exists():
+            assert time.monotonic() < until and script.poll() is None, "it never came so far"
+            time.sleep(0.005)
+        yield script, folder / "go"
+    finally:
+        with contextlib.suppress(ProcessLookupError):
+            os.killpg(script.pid, signal.SIGKILL)
+        script.communicate()
+
+
+def goes_on(server, number):
+    """Whether a server answers a top-up."""
+    with contextlib.suppress(TimeoutError):
+        return top_ups(server, [number]) == [number]
+    return False
+
+
+def is_stopped(child):
+    """Whether a process stands still."""
+    return re.search(r"^State:\s*T", Path(f"/proc/{child.pid}/status").read_text(), re.M)
+
+
+ENDS = [(signal.SIGKILL, False), (signal.SIGTERM, False), (signal.SIGHUP, False)]
+ENDS += [(signal.SIGTERM, True), (signal.SIGHUP, True), (signal.SIGINT, True)]
+
+
+def test_a_script_that_is_ended(program):
+    """Whatever signal ends it, alone or sent to all as by a terminal, the server goes on at once. There is no copy."""
+    here = Path(program.folder)
+    with Server(program, seconds=SECONDS / 8) as server:
+        made_over(server)
+        for number, (kind, to_all) in enumerate(ENDS, 1):
+            copy = here / f"copy{number}.db"
+            with begun(program, here / "city.db", copy) as (script, _):
+                assert is_stopped(server.child)
+                (os.killpg if to_all else os.kill)(script.pid, kind)
+                with told_with(f"{kind.name}, to all: {to_all}"):
+                    assert goes_on(server, number), "the program stands still"
+            assert not copy.exists()
+
+
+def test_a_city_that_changes_while_it_is_copied(program):
+    """A server that somebody lets go on, and a writer that nobody sees."""
+    here = Path(program.folder)
+    with Server(program, seconds=SECONDS) as server:
+        made_over(server)
+        with begun(program, here / "city.db", here / "copy.db") as (script, go):
+            os.kill(server.child.pid, signal.SIGCONT)
+            assert top_ups(server, [1]) == [1]
+            go.touch()
+            said = script.communicate(timeout=SECONDS)[1]
+        assert script.returncode == 1 and b" went on while " in said, (script.returncode, said)
+    with begun(program, here / "city.db", here / "other.db") as (script, go):
+        with open(here / "city.db-wal", "ab") as log:
+            log.write(b"more")
+        go.touch()
+        said = script.communicate(timeout=SECONDS)[1]
+    assert script.returncode == 1 and b" was changed while it was copied" in said, (script.returncode, said)
+    assert not (here / "copy.db").exists() and not (here / "other.db").exists()
