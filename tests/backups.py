@@ -68,6 +68,18 @@ def rolled_back(city, count):
     return city | {"entries": entries, "riders": riders, "kept": kept, "meta": meta}
 
 
+def finished(words, **how):
+    """Runs a script to its end. Where that takes too long it is killed with all that it runs."""
+    how = {"stdout": subprocess.PIPE, "stderr": subprocess.PIPE, "start_new_session": True, **how}
+    with subprocess.Popen(words, **how) as script:
+        try:
+            out, said = script.communicate(timeout=SECONDS)
+        except subprocess.TimeoutExpired:
+            os.killpg(script.pid, signal.SIGKILL)
+            raise
+    return subprocess.CompletedProcess(words, script.returncode, out, said)
+
+
 class Copies:
     """A city in a folder of its own, and what became of its copies."""
 
@@ -81,7 +93,7 @@ class Copies:
     def backup(self, env):
         """Copies it, and returns how that ended, and the copy's tables if it is there."""
         words, env = [DEPLOY / "backup", self.file, self.copy], {"BIKESHARE": self.program.file, **env}
-        made = subprocess.run(words, env=env, capture_output=True, timeout=SECONDS, check=False)
+        made = finished(words, env=env)
         left = sorted(it.name for it in self.copy.parent.iterdir())
         if made.returncode == 0:
             assert left == [self.copy.name] and not made.stderr, (made, left)
@@ -222,7 +234,8 @@ def disk(folder, length):
     try:
         yield
     finally:
-        status, said = ran("umount", folder)
+        # What still uses it holds nobody up.
+        status, said = ran("umount", "-l", folder)
         assert status == 0, said
 
 
@@ -358,8 +371,7 @@ def test_calls_of_the_program_that_fail(program):
 def copying(program, *words, **env):
     """Runs deploy/backup with these words, and returns its status and its line."""
     env = {**os.environ, "BIKESHARE": program.file, **env}
-    how = {"cwd": program.folder, "env": env, "capture_output": True, "timeout": SECONDS, "check": False}
-    made = subprocess.run([DEPLOY / "backup", *words], **how)
+    made = finished([DEPLOY / "backup", *words], cwd=program.folder, env=env)
     return made.returncode, made.stderr.decode()
 
 

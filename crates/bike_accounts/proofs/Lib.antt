@@ -5,4 +5,5 @@ pub mod SegmentLemmas
 pub mod WithinLaw
 pub mod NameLemmas
 pub mod NewestRows
+pub mod OpenLemmas
 pub mod NewestLemmas

@@ -1,16 +1,15 @@
 -- What the newest rental of a rider tells, and how all open ones are tested.
 use Rattle.std.proofs.Common.{◌≡◌, ◌≤◌, ◌<◌, ◌+◌, ◌⊎◌, inl, inr, ℕ, zero, suc, List, [], ◌∷◌, Bool, true, false, cond, ◌&&◌, ◌||◌, ◌==◌, Option, Some, None, refl, sym, ap, subst, ◌∙◌, arith}
 use Rattle.std.specs.Prelude.{◌↔◌, IsTrue, fold, find, nat_lt, option_map}
-use Rattle.std.specs.List.{list_any}
 use Rattle.std.proofs.lemmas.Bool.{and_parts, ltb-true, ltb-false, lt-ltb, eqb-true, eq-eqb, true≢false}
 use Rattle.std.proofs.lemmas.Option.{same_Some}
 use Rattle.sqlite_rules.specs.Lists.{Has}
 use Rattle.bike_operator.specs.declared.records.Rental.{Rental}
 use Rattle.bike_operator.specs.Operator.{Operator, item_at, item_numbered}
-use Rattle.bike_operator.specs.Counts.{is_open, is_riding}
+use Rattle.bike_operator.specs.Counts.{is_open}
 use Rattle.bike_book.specs.Stored.{numbers_from, with_numbers}
 use Rattle.bike_accounts.specs.declared.newest.Ride.{Ride}
-use Rattle.bike_accounts.specs.Newest.{NewestTells, later_of, newest_rental, open_in, newest_is_open, number_in, newest_number, open_after, ride_of}
+use Rattle.bike_accounts.specs.Newest.{NewestTells, later_of, newest_rental, open_number_in, newest_open, open_number, number_in, newest_number, open_after, ride_of}
 
 -- ---- rentals with their numbers
 
@@ -90,56 +89,6 @@ module _ (rider : ℕ) where
   no_newest : (s : Operator) → newest_rental s rider ≡ None → NoneHis (with_numbers s.rentals)
   no_newest s is = (none_found 1 s.rentals None is).1
 
--- ---- whether he is riding
-
-any_none : (test : Rental → Bool) (xs : List Rental) → ((n : ℕ) (x : Rental) → item_at n xs ≡ Some x → test x ≡ false) → list_any test xs ≡ false
-any_none test [] none = refl
-any_none test (x ∷ xs) none = rw (none 0 x refl) (any_none test xs (λ n y is. none (suc n) y is))
-
-any_some : (test : Rental → Bool) (xs : List Rental) (n : ℕ) (x : Rental) → item_at n xs ≡ Some x → test x ≡ true → list_any test xs ≡ true
-any_some test [] n x is passes = absurd cc
-any_some test (y ∷ ys) zero x is passes = ap (λ (b : Bool). b || list_any test ys) (ap test (same_Some y x is) ∙ passes)
-any_some test (y ∷ ys) (suc n) x is passes = or_later (test y) (list_any test ys) (any_some test ys n x is passes) where
-  or_later : (a b : Bool) → b ≡ true → (a || b) ≡ true
-  or_later true b e = refl
-  or_later false b e = e
-
-fails : (b : Bool) → (b ≡ true → ⊥) → b ≡ false
-fails true never = absurd (never refl)
-fails false never = refl
-
-module _ (s : Operator) (rider : ℕ) where
-  abbrev rides : Rental → Bool
-  rides r = (r.rider == rider) && is_open r
-
-  idle : ((n : ℕ) (r : Rental) → item_numbered n s.rentals ≡ Some r → r.rider ≡ rider → is_open r ≡ true → ⊥) → is_riding s rider ≡ false
-  idle none = any_none rides s.rentals (λ n r at. fails (rides r) (λ holds. let both = and_parts (r.rider == rider) (is_open r) holds in none (suc n) r at (eqb-true r.rider rider both.0) both.1))
-
-  riding : (n : ℕ) (r : Rental) → item_numbered n s.rentals ≡ Some r → r.rider ≡ rider → is_open r ≡ true → is_riding s rider ≡ true
-  riding zero r at his ongoing = absurd cc
-  riding (suc n) r at his ongoing = any_some rides s.rentals n r at (ap (λ (b : Bool). b && is_open r) (eq-eqb r.rider rider his) ∙ ongoing)
-
-  -- where each open rental is its rider's newest, the newest decides
-  pub newest_decides : NewestTells s → newest_is_open s rider ≡ is_riding s rider
-  newest_decides tells = by (newest_rental s rider) refl
-    where
-      apart : (e : ℕ × Rental) → IsNewest rider (with_numbers s.rentals) e → is_open e.1 ≡ false → (n : ℕ) (r : Rental) → item_numbered n s.rentals ≡ Some r → r.rider ≡ rider → is_open r ≡ true → ⊥
-      apart e it shut n r at his ongoing =
-          let own = own_number s.rentals e it.has in
-          let below = tells n e.0 r e.1 at own ongoing (it.his ∙ sym his) in
-          let above = it.most (n, r) (has_own s.rentals n r at) his in
-          let number : n ≡ e.0 = omega (arith, below, above) in
-          let same : r ≡ e.1 = same_Some r e.1 (sym at ∙ ap (λ k. item_numbered k s.rentals) number ∙ own) in
-          true≢false (sym ongoing ∙ ap (λ (x : Rental). is_open x) same ∙ shut)
-
-      shown : (e : ℕ × Rental) → IsNewest rider (with_numbers s.rentals) e → (b : Bool) → is_open e.1 ≡ b → b ≡ is_riding s rider
-      shown e it true ongoing = sym (riding e.0 e.1 (own_number s.rentals e it.has) it.his ongoing)
-      shown e it false shut = sym (idle (apart e it shut))
-
-      by : (o : Option (ℕ × Rental)) → newest_rental s rider ≡ o → open_in o ≡ is_riding s rider
-      by None is = sym (idle (λ n r at his ongoing. no_newest rider s is (n, r) (has_own s.rentals n r at) his))
-      by (Some e) is = shown e (newest_is rider s e is) (is_open e.1) refl
-
 -- ---- open rentals one after another
 
 -- each open rental up to the number is its rider's newest
@@ -183,6 +132,48 @@ module _ (test : ℕ × Rental → Bool) where
       by true passes found has rest = absurd cc
       by false other later (inl same) rest = ap test same ∙ other
       by false other later (inr more) rest = rest later more
+
+-- ---- the open rental of a rider
+
+module _ (s : Operator) (rider : ℕ) where
+  abbrev rides : ℕ × Rental → Bool
+  rides e = (e.1.rider == rider) && is_open e.1
+
+  goes_on : (e : ℕ × Rental) → e.1.rider ≡ rider → is_open e.1 ≡ true → rides e ≡ true
+  goes_on e his ongoing = ap (λ (b : Bool). b && is_open e.1) (eq-eqb e.1.rider rider his) ∙ ongoing
+
+  module _ (newest : NewestTells s) where
+    -- where each open rental is its rider's newest, one of his that is open has the newest's number, and the newest is open
+    last_of_his : (e f : ℕ × Rental) → IsNewest rider (with_numbers s.rentals) e → Has (with_numbers s.rentals) f → rides f ≡ true → (f.0 ≡ e.0) × (is_open e.1 ≡ true)
+    last_of_his e f it has passes =
+        let both = and_parts (f.1.rider == rider) (is_open f.1) passes in
+        let his : f.1.rider ≡ rider = eqb-true f.1.rider rider both.0 in
+        let own = own_number s.rentals e it.has in
+        let below = newest f.0 e.0 f.1 e.1 (own_number s.rentals f has) own both.1 (it.his ∙ sym his) in
+        let above = it.most f has his in
+        let number : f.0 ≡ e.0 = omega (arith, below, above) in
+        let same : f.1 ≡ e.1 = same_Some f.1 e.1 (sym (own_number s.rentals f has) ∙ ap (λ k. item_numbered k s.rentals) number ∙ own) in
+        (number, sym (ap (λ (x : Rental). is_open x) same) ∙ both.1)
+
+    -- the newest rental decides whether he rides, and in which
+    pub newest_decides : newest_open s rider ≡ open_number s rider
+    newest_decides = by (newest_rental s rider) (find rides (with_numbers s.rentals)) refl refl
+      where
+        shut : (e : ℕ × Rental) → IsNewest rider (with_numbers s.rentals) e → find rides (with_numbers s.rentals) ≡ None → (b : Bool) → is_open e.1 ≡ b → cond b (Some e.0) None ≡ None
+        shut e it none true ongoing = absurd (true≢false (sym (goes_on e it.his ongoing) ∙ none_passes rides 1 s.rentals e none it.has))
+        shut e it none false ended = refl
+
+        by : (o p : Option (ℕ × Rental)) → newest_rental s rider ≡ o → find rides (with_numbers s.rentals) ≡ p → open_number_in o ≡ option_map (λ e. e.0) p
+        by None None last found = refl
+        by None (Some f) last found =
+            let it = first_found rides 1 s.rentals f found in
+            let both = and_parts (f.1.rider == rider) (is_open f.1) it.passes in
+            absurd (no_newest rider s last f it.has (eqb-true f.1.rider rider both.0))
+        by (Some e) None last found = shut e (newest_is rider s e last) found (is_open e.1) refl
+        by (Some e) (Some f) last found =
+            let it = first_found rides 1 s.rentals f found in
+            let same = last_of_his e f (newest_is rider s e last) it.has it.passes in
+            ap (λ (b : Bool). cond b (Some e.0) None) same.1 ∙ ap Some (sym same.0)
 
 module _ (s : Operator) (n : ℕ) where
   abbrev is_behind : ℕ × Rental → Bool

@@ -60,7 +60,7 @@ use Rattle.bike_schema.proofs.AnswerLemmas.{FindsIn}
 use Rattle.bike_schema.proofs.KeyLemmas.{table_key}
 use Rattle.bike_book.specs.Found.{IsLast, rows_open}
 use Rattle.bike_accounts.specs.declared.newest.Ride.{Ride}
-use Rattle.bike_accounts.specs.Newest.{newest_rental, open_in, number_in, open_after, ride_of}
+use Rattle.bike_accounts.specs.Newest.{newest_rental, number_if_open, open_number_in, number_in, open_after, ride_of}
 use Rattle.bike_accounts.proofs.SegmentLemmas.{ListsIn}
 
 -- ---- the row with the last key
@@ -268,11 +268,11 @@ pub newest_last : (es : List Entry) (o : Option (ℕ × Rental)) → IsLast (num
 newest_last es None = refl
 newest_last es (Some e) = refl
 
-pub open_told : (es : List Entry) (o : Option (ℕ × Rental)) {row : Row} {x : Bool} → Some row ≡ option_map (stored_rental es) o → ((number : ℕ) (r : Rental) (refunded : ℤ) → row ≡ rental_row number r refunded → x ≡ is_open r) → x ≡ open_in o
+pub open_told : (es : List Entry) (o : Option (ℕ × Rental)) {row : Row} {x : Option ℕ} → Some row ≡ option_map (stored_rental es) o → ((number : ℕ) (r : Rental) (refunded : ℤ) → row ≡ rental_row number r refunded → x ≡ number_if_open (number, r)) → x ≡ open_number_in o
 open_told es None is reads = absurd cc
 open_told es (Some e) is reads = reads e.0 e.1 (refunded_of e.0 es) (same_some is)
 
-pub none_told : (es : List Entry) (o : Option (ℕ × Rental)) → None ≡ option_map (stored_rental es) o → false ≡ open_in o
+pub none_told : (es : List Entry) (o : Option (ℕ × Rental)) → None ≡ option_map (stored_rental es) o → None ≡ open_number_in o
 none_told es None is = refl
 none_told es (Some e) is = absurd cc
 

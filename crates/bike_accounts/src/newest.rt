@@ -1,13 +1,12 @@
 //! The newest rental of a rider, and whether each open rental is its rider's newest.
 
 ghost use Rattle.std.specs.Prelude.{◌≡◌, ◌↔◌, IfOk, IsTrue, option_map};
-ghost use Rattle.bike_operator.specs.Counts.{is_open};
 ghost use Rattle.bike_book.specs.Rows.{rental_row};
 ghost use Rattle.bike_book.specs.Tables.{Rentals};
 ghost use Rattle.bike_book.specs.Found.{rows_of, rows_open};
 ghost use Rattle.bike_book.specs.Stored.{stored_rental};
 ghost use Rattle.bike_schema.specs.Answers.{Answers};
-ghost use Rattle.bike_accounts.specs.Newest.{NewestTells, newest_rental, newest_is_open, newest_number, open_after, ride_of};
+ghost use Rattle.bike_accounts.specs.Newest.{NewestTells, newest_rental, number_if_open, newest_open, newest_number, open_after, ride_of};
 
 use crate::numbers::last_number;
 use bike_fields::{RentalNumber, RiderNumber};
@@ -39,24 +38,28 @@ fn find_newest_row<S: Alter>(
     )
 }
 
-/// Whether the rental that stands in a row of `rentals` is open.
-fn is_open_row(row: &Row) -> Result<bool, StatementFault>
-    ensures { IfOk result (λ x. (number : _) (r : _) (refunded : _) → row.now ≡ rental_row number r refunded → x ≡ is_open r) }
+/// The number of the rental that stands in a row of `rentals`, where it is open.
+fn read_open_number(row: &Row) -> Result<Option<RentalNumber>, StatementFault>
+    ensures { IfOk result (λ x. (number : _) (r : _) (refunded : _) → row.now ≡ rental_row number r refunded → x ≡ number_if_open (number, r)) }
 {
     let finish = optional_moment_at(row, 7)?;
-    Ok(finish.is_none())
+    if finish.is_some() {
+        return Ok(None);
+    }
+    let number = number_at(row, 0)?;
+    Ok(Some(number))
 }
 
-/// Whether the rider has a rental, and his newest is open. Every fault is the database's.
-pub(crate) fn is_newest_open<S: Alter>(
+/// The number of the rider's newest rental, where there is one and it is open. Every fault is the database's.
+pub(crate) fn find_newest_open<S: Alter>(
     conn: &mut Connection<S>,
     rider: RiderNumber,
-) -> Result<bool, StatementFault>
-    ensures { Answers S.Store conn.old conn.new result (λ s m x. x ≡ newest_is_open s rider) }
+) -> Result<Option<RentalNumber>, StatementFault>
+    ensures { Answers S.Store conn.old conn.new result (λ s m x. x ≡ newest_open s rider) }
 {
     match find_newest_row(conn, rider)? {
-        Some(row) => is_open_row(&row),
-        None => Ok(false),
+        Some(row) => read_open_number(&row),
+        None => Ok(None),
     }
 }
 

@@ -7,10 +7,10 @@ ghost use Rattle.bike_book.specs.Rows.{number_value, rental_row};
 ghost use Rattle.bike_book.specs.Found.{row_under, open_row, last_row};
 ghost use Rattle.bike_schema.specs.Answers.{Answers, IsReadOf};
 ghost use Rattle.bike_accounts.specs.Accounts.{stored_rental_at};
-ghost use Rattle.bike_accounts.specs.Newest.{NewestTells};
+ghost use Rattle.bike_accounts.specs.Newest.{NewestTells, open_number, HoldsRental};
 ghost use Rattle.bike_accounts.specs.ReadRows.{HasClosing};
 
-use crate::newest::{is_newest_open, select_open};
+use crate::newest::{find_newest_open, select_open};
 use crate::numbers::{count_rows, last_number};
 use bike_fields::{RentalNumber, RiderNumber};
 use bike_operator::{Closing, Rental};
@@ -128,8 +128,36 @@ pub fn find_rental<S: Alter>(
     }
 }
 
-/// Whether the rider has an open rental. Where the caller knows that each open rental is its rider's newest, as
-/// `newest_tells` answers, the newest alone is read; else his rentals are walked. Every fault is the database's.
+/// The number of the rental in the row, where there is one.
+fn read_number(row: &Option<Row>) -> Result<Option<RentalNumber>, StatementFault>
+    ensures { IfOk result (λ rental. HoldsRental row.now rental) }
+{
+    match row {
+        Some(row) => {
+            let rental = number_at(row, 0)?;
+            Ok(Some(rental))
+        }
+        None => Ok(None),
+    }
+}
+
+/// The number of the rider's open rental, where there is one. Where the caller knows that each open rental is its rider's
+/// newest, as `newest_tells` answers, the newest alone is read; else his rentals are walked. Every fault is the database's.
+pub fn find_open_rental<S: Alter>(
+    conn: &mut Connection<S>,
+    rider: RiderNumber,
+    newest_tells: bool,
+) -> Result<Option<RentalNumber>, StatementFault>
+    ensures { Answers S.Store conn.old conn.new result (λ s m x. (IsTrue newest_tells → NewestTells s) → x ≡ open_number s rider) }
+{
+    if newest_tells {
+        return find_newest_open(conn, rider);
+    }
+    let row = find_open_row(conn, rider)?;
+    read_number(&row)
+}
+
+/// Whether the rider has an open rental, as `find_open_rental` finds it. Every fault is the database's.
 pub fn is_riding<S: Alter>(
     conn: &mut Connection<S>,
     rider: RiderNumber,
@@ -137,11 +165,8 @@ pub fn is_riding<S: Alter>(
 ) -> Result<bool, StatementFault>
     ensures { Answers S.Store conn.old conn.new result (λ s m x. (IsTrue newest_tells → NewestTells s) → x ≡ rides s rider) }
 {
-    if newest_tells {
-        return is_newest_open(conn, rider);
-    }
-    let row = find_open_row(conn, rider)?;
-    Ok(row.is_some())
+    let rental = find_open_rental(conn, rider, newest_tells)?;
+    Ok(rental.is_some())
 }
 
 /// How many rentals there are, as the last one's number says. Every fault is the database's.

@@ -1,3 +1,4 @@
 pub mod AdoptLemmas
 mod FoundLemmas
 mod ToldLemmas
+pub mod LookLemmas

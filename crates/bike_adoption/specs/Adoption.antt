@@ -17,6 +17,8 @@ use Rattle.bike_schema.specs.declared.fault.StatementFault.{StatementFault}
 use Rattle.bike_schema.specs.declared.fault.StatementFault.TheVariants as statement
 use Rattle.bike_adoption.specs.declared.adoption.AdoptFault.{AdoptFault}
 use Rattle.bike_adoption.specs.declared.adoption.AdoptFault.TheVariants.{Foreign, Unsound, Older, Newer, NoMemory, StoreFailed}
+use Rattle.bike_adoption.specs.declared.looking.Looked.{Looked}
+use Rattle.bike_adoption.specs.declared.looking.Looked.TheVariants as look
 use Rattle.bike_desk.specs.Desk.{DeskValue, IsAt, desk_state}
 use Rattle.bike_audit.specs.Audit.{IsAudited}
 use Rattle.bike_audit.specs.Watching.{IsFront, IsFrontTo}
@@ -114,3 +116,51 @@ module _ {S : Type 0} where
         → IfErr result (λ e. HasCleanDisk (state g (handed e)) → AllLeft (state g (handed e)) (TreesStandFor s))
     pub stays : ((s : Operator) → ¬ IsOf (state g old).now s)
         → IfErr result (λ e. HasCleanDisk (state g (handed e)) → AllLeft (state g (handed e)) (state g old).may_leave)
+
+  -- ---- a look, which changes nothing
+
+  -- the connection of a database that was looked at
+  abbrev pub looked_at : Looked S → Held S
+  looked_at (look.Sound c) = c
+  looked_at (look.Empty c) = c
+
+  -- a desk over the connection, as it begins
+  abbrev pub desk_over : Held S → DeskValue S
+  desk_over c = record { conn = c; is_stopped = c.in_transaction; newest_tells = false }
+
+  -- what comes of a database that was found to be this by a look; one that isn't empty is never found to be
+  abbrev pub looked_as : Held S → Finding → Result (Looked S) (AdoptFault S)
+  looked_as c finding.Sound = Ok (look.Sound c)
+  looked_as c finding.Foreign = Err (Foreign c)
+  looked_as c (finding.Unsound bad) = Err (Unsound c bad)
+  looked_as c (finding.Older version) = Err (Older c version)
+  looked_as c (finding.Newer version) = Err (Newer c version)
+  looked_as c finding.Empty = Err (StoreFailed c)
+
+  -- The database stands for an operator, or has none of the tables: it is as it was, and a desk over it is at its operator.
+  abbrev pub IsSeen : Ghosts S → Held S → Looked S → Type 0
+  IsSeen g old (look.Sound c) = IsUnchanged (state g old) (state g c) × ((s : Operator) × IsOf (state g old).now s × IsAt g (desk_over c) s)
+      × ((s : Operator) → TreesStandFor s (state g old).now.trees → IsAt g (desk_over c) s)
+  IsSeen g old (look.Empty c) = (c ≡ old) × HasNone (state g old).now.schema
+
+  -- what a crash may leave is what it could leave before
+  abbrev pub LeavesAll : Ghosts S → Held S → Held S → Type 0
+  LeavesAll g old c = HasCleanDisk (state g c) → AllLeft (state g c) (state g old).may_leave
+
+  -- so it stands for the operator for whom the tables stood
+  abbrev pub LeavesFor : Ghosts S → Operator → Held S → Type 0
+  LeavesFor g s c = HasCleanDisk (state g c) → AllLeft (state g c) (TreesStandFor s)
+
+  -- WHAT A LOOK OWES: the database as it was, which may be served, or a fault that hands it back as it was
+  pub record Looks (g : Ghosts S) (old : Held S) (result : Result (Looked S) (AdoptFault S)) : Type 0 where
+    pub clean : MatchResult result (λ l. doubt (state g old).is_clean ≤ doubt (state g (looked_at l)).is_clean)
+        (λ e. doubt (state g old).is_clean ≤ doubt (state g (handed e)).is_clean)
+    pub seen : IfOk result (λ l. HasCleanDisk (state g (looked_at l)) → IsSeen g old l)
+    -- tables that stand for an operator are refused for memory or storage alone
+    pub refused : (s : Operator) → TreesStandFor s (state g old).now.trees
+        → IfErr result (λ e. HasCleanDisk (state g (handed e)) → IsWant e)
+    pub told : IfErr result (λ e. HasCleanDisk (state g (handed e)) → IsToldOf g old e)
+    pub autocommit : MatchResult result (λ l. (looked_at l).in_transaction ≡ false) (λ e. (handed e).in_transaction ≡ false)
+    pub stays : MatchResult result (λ l. LeavesAll g old (looked_at l)) (λ e. LeavesAll g old (handed e))
+    pub left : (s : Operator) → TreesStandFor s (state g old).now.trees → IsTrue (state g old).is_open
+        → MatchResult result (λ l. LeavesFor g s (looked_at l)) (λ e. LeavesFor g s (handed e))

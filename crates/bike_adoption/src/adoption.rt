@@ -54,7 +54,7 @@ impl<S: Alter> AdoptFault<S> {
     }
 
     /// Why a statement on the connection failed.
-    fn failed(fault: StatementFault, conn: Connection<S>) -> AdoptFault<S>
+    pub(crate) fn failed(fault: StatementFault, conn: Connection<S>) -> AdoptFault<S>
         ensures { result ≡ failed fault conn }
     {
         match fault {

@@ -6,7 +6,9 @@
 #![tactic(auto)]
 
 mod adoption;
+mod looking;
 mod tables;
 
 pub use adoption::{AdoptFault, adopt, adopt_watched};
 pub use bike_audit::{BadRow, Unwatched, Watch};
+pub use looking::{Looked, look};

@@ -3,7 +3,6 @@ use Rattle.std.proofs.Common.{◌≡◌, ℕ, List, Option, Result, Ok, Err, ref
 use Rattle.sqlite_trees.specs.declared.store.Store.{Ghosts}
 use Rattle.sqlite.specs.State.{HasCleanDisk}
 use Rattle.bike_operator.specs.Operator.{Operator}
-use Rattle.bike_schema.specs.Stands.{AllLeft, TreesStandFor}
 use Rattle.bike_desk.specs.Desk.{DeskValue, desk_state, IsAt}
 use Rattle.bike_desk.specs.declared.fault.DeskFault.TheVariants.{NoMemory, StoreFailed, Stopped}
 use Rattle.bike_day_texts.specs.declared.table.DayTable.{DayTable}
@@ -26,6 +25,3 @@ module _ {S : Type 0} (g : Ghosts S) (old new : DeskValue S) (s : Operator) (cle
       → EndsByDay date zone a b result → WritesDay s table date zone a b result → ReportsAt table date zone g new s a b (table_end result)
   reported_at table date zone a b result leaves day wrote =
       record { told = record { result = result; told = refl; day = day; written = wrote }; at = desk_at result leaves }
-
-  pub table_left : (result : Result (Unit {0}) DayTableFault) → LeavesDesk g old new result → AllLeft (desk_state g new) (TreesStandFor s)
-  table_left result leaves db h = at.keeps.left db (leaves.left clean s at db h)

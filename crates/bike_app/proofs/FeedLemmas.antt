@@ -5,7 +5,6 @@ use Rattle.sqlite_trees.specs.declared.store.Store.{Ghosts}
 use Rattle.sqlite.specs.State.{HasCleanDisk}
 use Rattle.bike_operator.specs.Operator.{Operator}
 use Rattle.bike_feed_texts.specs.declared.feed.Feed.{Feed}
-use Rattle.bike_schema.specs.Stands.{AllLeft, TreesStandFor}
 use Rattle.bike_desk.specs.declared.fault.DeskFault.TheVariants.{NoMemory, StoreFailed, Stopped}
 use Rattle.bike_desk.specs.Desk.{DeskValue, desk_state, IsAt}
 use Rattle.bike_feeds.specs.declared.fault.FeedFault.{FeedFault}
@@ -28,6 +27,3 @@ module _ {S A : Type 0} (g : Ghosts S) (old new : DeskValue S) (s : Operator) (f
       record { told = record { fault = Desk StoreFailed; is = refl; missing = λ is. absurd cc; begun = front }; at = λ other. absurd (other refl) }
   published_at (Err (Desk Stopped)) leaves whole front =
       record { told = record { fault = Desk Stopped; is = refl; missing = λ is. absurd cc; begun = front }; at = λ other. absurd (other refl) }
-
-  pub still_left : (result : Result A FeedFault) → LeavesDesk g old new result → AllLeft (desk_state g new) (TreesStandFor s)
-  still_left result leaves db h = at.keeps.left db (leaves.left clean s at db h)

@@ -3,3 +3,5 @@ pub mod WordLemmas
 pub mod FeedLemmas
 pub mod DayLemmas
 pub mod ImportLemmas
+pub mod LookLemmas
+pub mod FileLemmas

@@ -20,7 +20,7 @@ use Rattle.bike_desk.specs.declared.fault.DeskFault.{DeskFault}
 use Rattle.bike_desk.specs.declared.fault.DeskFault.TheVariants.{NoMemory, StoreFailed, Stopped}
 use Rattle.bike_adoption.specs.declared.adoption.AdoptFault.{AdoptFault}
 use Rattle.bike_adoption.specs.declared.adoption.AdoptFault.TheVariants as adopt
-use Rattle.bike_adoption.specs.Adoption.{IsWant, handed, Adopts}
+use Rattle.bike_adoption.specs.Adoption.{IsWant, IsToldOf, handed, Adopts, Looks}
 use Rattle.bike_migrate.specs.Raising as raising
 use Rattle.bike_migrate.specs.declared.fault.RaiseFault.{RaiseFault}
 use Rattle.bike_migrate.specs.declared.fault.RaiseFault.TheVariants as raise
@@ -64,7 +64,20 @@ module _ {S : Type 0} (g : Ghosts S) (new : DeskValue S) {last : Held S} (same :
 
 -- ---- or was handed back
 
-module _ {S : Type 0} (g : Ghosts S) {first last : Held S} (fault : AdoptFault S) (adopts : Adopts g first (Err fault)) (conn : last ≡ handed fault) (clean : HasCleanDisk (state g last)) where
+-- what is owed of a fault that hands the connection back
+pub record HandsBack {S : Type 0} (g : Ghosts S) (first : Held S) (fault : AdoptFault S) : Type 0 where
+  pub refused : (s : Operator) → TreesStandFor s (state g first).now.trees → HasCleanDisk (state g (handed fault)) → IsWant fault
+  pub told : HasCleanDisk (state g (handed fault)) → IsToldOf g first fault
+  pub left : (s : Operator) → TreesStandFor s (state g first).now.trees → IsTrue (state g first).is_open → HasCleanDisk (state g (handed fault))
+      → AllLeft (state g (handed fault)) (TreesStandFor s)
+
+pub by_adoption : {S : Type 0} {g : Ghosts S} {first : Held S} {fault : AdoptFault S} → Adopts g first (Err fault) → HandsBack g first fault
+by_adoption it = record { refused = it.refused; told = it.told; left = it.left }
+
+pub by_look : {S : Type 0} {g : Ghosts S} {first : Held S} {fault : AdoptFault S} → Looks g first (Err fault) → HandsBack g first fault
+by_look it = record { refused = it.refused; told = it.told; left = it.left }
+
+module _ {S : Type 0} (g : Ghosts S) {first last : Held S} (fault : AdoptFault S) (adopts : HandsBack g first fault) (conn : last ≡ handed fault) (clean : HasCleanDisk (state g last)) where
   still_clean : HasCleanDisk (state g (handed fault))
   still_clean = subst (λ (h : Held S). HasCleanDisk (state g h)) conn clean
 
@@ -103,7 +116,7 @@ memory_has_none h empty = subst HasNone (sym empty.2) none_in
 pub memory_begins : (h : Held MemStore) → IsEmpty (state over_memory h) → TreesStandFor no_operator (state over_memory h).now.trees
 memory_begins h empty = ((state over_memory h).now.schema, record { sound = (empty.1 empty.0.is_open).0; is = inl (memory_has_none h empty, refl) })
 
-not_begun : (fault : AdoptFault MemStore) → IsWant fault → (input ahead old new : Option (List ℕ)) → Keeps input ahead → Keeps old new → FailsToBegin input ahead old new (Err (adopt_fault fault))
+pub not_begun : (fault : AdoptFault MemStore) → IsWant fault → (input ahead old new : Option (List ℕ)) → Keeps input ahead → Keeps old new → FailsToBegin input ahead old new (Err (adopt_fault fault))
 not_begun (adopt.Foreign c) want input ahead old new read written = absurd want
 not_begun (adopt.Unsound c bad) want input ahead old new read written = absurd want
 not_begun (adopt.Older c version) want input ahead old new read written = absurd want

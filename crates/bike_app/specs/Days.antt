@@ -3,6 +3,7 @@ use Rattle.std.specs.Prelude.{◌≡◌, ◌⊎◌, ℕ, List, Option, Result, O
 use Rattle.sqlite.specs.Store.{Ghosts}
 use Rattle.sqlite.specs.Held.{Held, state}
 use Rattle.bike_operator.specs.Operator.{Operator, no_operator}
+use Rattle.bike_schema.specs.Tables.{HasNone}
 use Rattle.bike_schema.specs.Stands.{IsOf, TreesStandFor}
 use Rattle.bike_desk.specs.Desk.{DeskValue, IsAt}
 use Rattle.bike_day_texts.specs.declared.table.DayTable.{DayTable}
@@ -32,7 +33,7 @@ module _ (table : DayTable) (date zone : List ℕ) where
       pub told : TellsTable s old new end
       pub at : (end ≡ Err StoreFailed → ⊥) → IsAt g desk s
 
-    -- The database stood for an operator, or had none of the tables, and over a desk at him his table was written.
+    -- The database stood for an operator, and over a desk at him his table was written.
     pub record Reports (first last : Held S) (old new : Option (List ℕ)) (end : Result ℕ Fault) : Type 0 where
       pub desk : DeskValue S
       pub conn : last ≡ desk.conn
@@ -40,11 +41,19 @@ module _ (table : DayTable) (date zone : List ℕ) where
       pub was : IsOf (state g first).now operator
       pub reported : (s : Operator) → TreesStandFor s (state g first).now.trees → ReportsAt desk s old new end
 
-    -- the connection couldn't be adopted, or the table is written; the input before and after, and what was written before and after
-    abbrev pub TellsReported : Option (List ℕ) → Option (List ℕ) → Option (List ℕ) → Option (List ℕ) → Held S → Held S → Result ℕ Fault
-        → Type 0
-    TellsReported input ahead old new first last end = Refuses g input ahead old new first last end ⊎ Reports first last old new end
-
   -- over a database in memory, of which no operator was asked anything
   abbrev pub ReportsInMemory : Option (List ℕ) → Option (List ℕ) → Option (List ℕ) → Option (List ℕ) → Result ℕ Fault → Type 0
   ReportsInMemory input ahead old new end = FailsToBegin input ahead old new end ⊎ TellsTable no_operator old new end
+
+  module _ {S : Type 0} (g : Ghosts S) where
+    -- The database had none of the tables, and is as it was: the empty operator's table was written, over a database in memory.
+    pub record ReportsNobodys (first last : Held S) (input ahead old new : Option (List ℕ)) (end : Result ℕ Fault) : Type 0 where
+      pub same : last ≡ first
+      pub none : HasNone (state g first).now.schema
+      pub told : ReportsInMemory input ahead old new end
+
+    -- the database isn't one that is served, or the table is written; the input before and after, and what was written before and after
+    abbrev pub TellsReported : Option (List ℕ) → Option (List ℕ) → Option (List ℕ) → Option (List ℕ) → Held S → Held S → Result ℕ Fault
+        → Type 0
+    TellsReported input ahead old new first last end =
+        Refuses g input ahead old new first last end ⊎ (Reports g first last old new end ⊎ ReportsNobodys first last input ahead old new end)

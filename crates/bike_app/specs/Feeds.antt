@@ -5,6 +5,7 @@ use Rattle.sqlite.specs.Store.{Ghosts}
 use Rattle.sqlite.specs.Held.{Held, state}
 use Rattle.bike_operator.specs.Operator.{Operator, no_operator}
 use Rattle.bike_feed_texts.specs.declared.feed.Feed.{Feed}
+use Rattle.bike_schema.specs.Tables.{HasNone}
 use Rattle.bike_schema.specs.Stands.{IsOf, TreesStandFor}
 use Rattle.bike_desk.specs.Desk.{DeskValue, IsAt}
 use Rattle.bike_feeds.specs.declared.fault.FeedFault.{FeedFault}
@@ -39,7 +40,7 @@ pub record PublishesAt {S : Type 0} (g : Ghosts S) (desk : DeskValue S) (s : Ope
   pub told : TellsFeed s f moment old new end
   pub at : (end ≡ Err StoreFailed → ⊥) → IsAt g desk s
 
--- The database stood for an operator, or had none of the tables, and over a desk at him his feed was written.
+-- The database stood for an operator, and over a desk at him his feed was written.
 pub record Publishes {S : Type 0} (g : Ghosts S) (first last : Held S) (f : Feed) (moment : Option ℕ)
     (old new : Option (List ℕ)) (end : Result ℕ Fault) : Type 0 where
   pub desk : DeskValue S
@@ -48,11 +49,18 @@ pub record Publishes {S : Type 0} (g : Ghosts S) (first last : Held S) (f : Feed
   pub was : IsOf (state g first).now operator
   pub published : (s : Operator) → TreesStandFor s (state g first).now.trees → PublishesAt g desk s f moment old new end
 
+-- The database had none of the tables, and is as it was: what the empty operator has was told.
+pub record PublishesNobodys {S : Type 0} (g : Ghosts S) (first last : Held S) (f : Feed) (moment : Option ℕ) (old new : Option (List ℕ)) (end : Result ℕ Fault) : Type 0 where
+  pub same : last ≡ first
+  pub none : HasNone (state g first).now.schema
+  pub told : TellsFeed no_operator f moment old new end
+
 -- the input before and after, and what was written before and after
 module _ {S : Type 0} (g : Ghosts S) (input ahead old new : Option (List ℕ)) where
-  -- the connection couldn't be adopted, or the feed is published
+  -- the database isn't one that is served, or the feed is published
   abbrev pub TellsPublished : Held S → Held S → Feed → Option ℕ → Result ℕ Fault → Type 0
-  TellsPublished first last f moment end = Refuses g input ahead old new first last end ⊎ Publishes g first last f moment old new end
+  TellsPublished first last f moment end =
+      Refuses g input ahead old new first last end ⊎ (Publishes g first last f moment old new end ⊎ PublishesNobodys g first last f moment old new end)
 
 -- the moment that is asked for, or the clock's where none is
 abbrev pub moment_of : Option ℕ → Option ℕ → Option ℕ

@@ -1,8 +1,9 @@
 -- What each word of the program does with a database, and what it leaves.
-use Rattle.std.specs.Prelude.{◌⊎◌, ℕ, List, codes, Option, Result}
+use Rattle.std.specs.Prelude.{◌≡◌, ◌⊎◌, ℕ, List, codes, Option, Result}
 use Rattle.sqlite_trees.specs.Tree.{Trees}
 use Rattle.sqlite.specs.Store.{Ghosts}
 use Rattle.sqlite.specs.Held.{Held, state}
+use Rattle.sqlite.specs.State.{IsUnchanged}
 use Rattle.bike_operator.specs.Operator.{Operator}
 use Rattle.bike_schema.specs.Stands.{IsOf, Keeps, TreesStandFor}
 use Rattle.bike_words.specs.declared.task.Task.{Task}
@@ -25,8 +26,18 @@ pub record TakenUp {S : Type 0} (g : Ghosts S) (first last : Held S) : Type 0 wh
   pub was : IsOf (state g first).now operator
   pub keeps : Keeps (state g last) operator
 
+-- The database stands for an operator, or has none of the tables, and is as it was.
+pub record LookedAt {S : Type 0} (g : Ghosts S) (first last : Held S) : Type 0 where
+  pub operator : Operator
+  pub was : IsOf (state g first).now operator
+  pub same : (last ≡ first) ⊎ IsUnchanged (state g first) (state g last)
+
 -- the input before and after, and what was written before and after
 module _ {S : Type 0} (g : Ghosts S) (input ahead old new : Option (List ℕ)) where
+  -- the database isn't one that is served, or it is, and a line tells that
+  abbrev pub TellsLookedAt : Held S → Held S → List ℕ → Result ℕ Fault → Type 0
+  TellsLookedAt first last line end = Refuses g input ahead old new first last end ⊎ (LookedAt g first last × WritesLine old new line end)
+
   -- the connection couldn't be adopted, or it was and a line tells that
   abbrev pub TellsTakenUp : Held S → Held S → List ℕ → Result ℕ Fault → Type 0
   TellsTakenUp first last line end = Refuses g input ahead old new first last end ⊎ (TakenUp g first last × WritesLine old new line end)
@@ -34,13 +45,20 @@ module _ {S : Type 0} (g : Ghosts S) (input ahead old new : Option (List ℕ)) w
   -- WHAT A TASK DOES over this connection, which becomes that one, where the clock gave this moment
   abbrev pub Does : Task → Option ℕ → Held S → Held S → Result ℕ Fault → Type 0
   Does Init clock first last end = TellsTakenUp first last (codes "ready\n") end
-  Does Check clock first last end = TellsTakenUp first last (codes "sound\n") end
+  Does Check clock first last end = TellsLookedAt first last (codes "sound\n") end
   Does Raise clock first last end = TellsRaised g input ahead old new first last end
   Does Lines clock first last end = Serves g input ahead old new first last end
   Does (Feed f at) clock first last end = TellsPublished g input ahead old new first last f (moment_of at clock) end
   Does (Day table date zone) clock first last end = TellsReported table date.now zone.now g input ahead old new first last end
   Does (Import name at) clock first last end = TellsImported g input ahead old new name.now first last (moment_of at clock) end
   Does (Serve port count) clock first last end = ⊥
+
+-- the words that only look
+abbrev pub Looks : Task → Type 0
+Looks Check = Unit {0}
+Looks (Feed f at) = Unit {0}
+Looks (Day table date zone) = Unit {0}
+Looks _ = ⊥
 
 -- what a crash may leave of a database that stood for the operator
 abbrev pub MayStand : Task → Operator → Trees → Type 0

@@ -7,9 +7,10 @@ ghost use Rattle.sqlite_trees.specs.View.{doubt};
 ghost use Rattle.bike_operator.specs.Operator.{Operator};
 ghost use Rattle.bike_schema.specs.Stands.{AllLeft, TreesStandFor};
 ghost use Rattle.bike_desk.specs.Desk.{desk_state, IsAt};
-ghost use Rattle.bike_app.specs.Days.{ReportsAt, TellsReported, table_end};
+ghost use Rattle.bike_adoption.specs.Adoption.{LeavesAll};
+ghost use Rattle.bike_app.specs.Days.{ReportsAt, ReportsInMemory, TellsReported, table_end};
 
-use bike_adoption::adopt;
+use bike_adoption::{Looked, Unwatched, adopt, look};
 use bike_console::Fault;
 use bike_days::{DayTable, DayTableFault, day_csv};
 use bike_desk::Desk;
@@ -40,15 +41,37 @@ fn report_at<S: Alter, W: Write>(
     ensures told { HasCleanDisk (desk_state S.Store desk.new) → (s : Operator) → IsAt S.Store desk.old s
         → ReportsAt table date.now zone.now S.Store desk.new s (W.contents writer.old) (W.contents writer.new) result }
     ensures left { HasCleanDisk (desk_state S.Store desk.new) → (s : Operator) → IsAt S.Store desk.old s
-        → AllLeft (desk_state S.Store desk.new) (TreesStandFor s) }
+        → AllLeft (desk_state S.Store desk.new) (desk_state S.Store desk.old).may_leave }
 {
     let written = day_csv(alloc, desk, date, zone, table, writer);
     told(written)
 }
 
-/// Takes the connection, which is outside a transaction, into service and writes a table of a day of it: the day of that date
-/// (`YYYY-MM-DD`) in that zone (POSIX's `TZ`). Nothing is read. Gives the connection back with the number 0, or with the fault at
-/// which that ended: `BadDate`, `BadZone` and `DayOutOfRange` come where there is no such day, and then nothing is written.
+/// Writes the table of a database that has none of the product's tables: that of the empty operator, over a database in memory which is
+/// made for it and let go at the end.
+fn report_nobodys<W: Write>(
+    alloc: Global,
+    table: DayTable,
+    date: &str,
+    zone: &str,
+    writer: &mut W,
+) -> Result<u64, Fault>
+    ensures { (input : _) → ReportsInMemory table date.now zone.now input input (W.contents writer.old) (W.contents writer.new) result }
+{
+    let conn = Connection::open_in_memory(alloc)?;
+    match adopt(alloc, conn) {
+        Ok(mut desk) => report_at(alloc, &mut desk, table, date, zone, writer),
+        Err(fault) => {
+            let (_, told) = Fault::taken_from(fault);
+            Err(told)
+        }
+    }
+}
+
+/// Looks at the database over a connection outside a transaction and writes a table of a day of it: the day of that date
+/// (`YYYY-MM-DD`) in that zone (POSIX's `TZ`). Nothing is read, and nothing of the database changes: what a crash may leave of it is what it
+/// could leave before. Gives the connection back with the number 0, or with the fault at which that ended: `BadDate`, `BadZone` and
+/// `DayOutOfRange` come where there is no such day, and then nothing is written.
 pub fn report_day<S: Alter, R: Read, W: Write>(
     alloc: Global,
     table: DayTable,
@@ -66,11 +89,17 @@ pub fn report_day<S: Alter, R: Read, W: Write>(
     ensures kept { HasCleanDisk (state S.Store result.0) → (s : Operator)
         → TreesStandFor s (state S.Store conn).now.trees → IsTrue (state S.Store conn).is_open
         → AllLeft (state S.Store result.0) (TreesStandFor s) }
+    ensures stays { LeavesAll S.Store conn result.0 }
 {
-    match adopt(alloc, conn) {
-        Ok(mut desk) => {
+    match look(alloc, conn, &mut Unwatched) {
+        Ok(Looked::Sound(conn)) => {
+            let mut desk = Desk::over(conn);
             let end = report_at(alloc, &mut desk, table, date, zone, writer);
             (desk.close(), end)
+        }
+        Ok(Looked::Empty(conn)) => {
+            let end = report_nobodys(alloc, table, date, zone, writer);
+            (conn, end)
         }
         Err(fault) => {
             let (conn, told) = Fault::taken_from(fault);

@@ -4,12 +4,14 @@ ghost use Rattle.std.specs.Prelude.{◌≡◌, ◌≤◌, false, IsTrue, Some};
 ghost use Rattle.sqlite.specs.State.{HasCleanDisk};
 ghost use Rattle.sqlite.specs.Held.{state};
 ghost use Rattle.sqlite_trees.specs.View.{doubt};
-ghost use Rattle.bike_operator.specs.Operator.{Operator};
+ghost use Rattle.bike_operator.specs.Operator.{Operator, no_operator};
+ghost use Rattle.bike_feed_texts.specs.declared.feed.Feed.{Feed};
 ghost use Rattle.bike_schema.specs.Stands.{AllLeft, TreesStandFor};
 ghost use Rattle.bike_desk.specs.Desk.{desk_state, IsAt};
-ghost use Rattle.bike_app.specs.Feeds.{PublishesAt, TellsPublished, feed_end, moment_of};
+ghost use Rattle.bike_adoption.specs.Adoption.{LeavesAll};
+ghost use Rattle.bike_app.specs.Feeds.{PublishesAt, TellsFeed, TellsPublished, feed_end, moment_of};
 
-use bike_adoption::adopt;
+use bike_adoption::{Looked, Unwatched, look};
 use bike_console::Fault;
 use bike_desk::Desk;
 use bike_feeds::{Feed, FeedFault, write_feed};
@@ -50,7 +52,7 @@ fn publish_for<S: Alter, W: Write>(
     ensures told { HasCleanDisk (desk_state S.Store desk.new) → (s : Operator) → IsAt S.Store desk.old s
         → PublishesAt S.Store desk.new s feed (Some moment) (W.contents writer.old) (W.contents writer.new) result }
     ensures left { HasCleanDisk (desk_state S.Store desk.new) → (s : Operator) → IsAt S.Store desk.old s
-        → AllLeft (desk_state S.Store desk.new) (TreesStandFor s) }
+        → AllLeft (desk_state S.Store desk.new) (desk_state S.Store desk.old).may_leave }
 {
     let published = write_feed(alloc, desk, feed, moment, writer);
     told(published)
@@ -68,7 +70,7 @@ fn publish_at<S: Alter, W: Write>(
     ensures told { HasCleanDisk (desk_state S.Store desk.new) → (s : Operator) → IsAt S.Store desk.old s
         → PublishesAt S.Store desk.new s feed moment (W.contents writer.old) (W.contents writer.new) result }
     ensures left { HasCleanDisk (desk_state S.Store desk.new) → (s : Operator) → IsAt S.Store desk.old s
-        → AllLeft (desk_state S.Store desk.new) (TreesStandFor s) }
+        → AllLeft (desk_state S.Store desk.new) (desk_state S.Store desk.old).may_leave }
 {
     match moment {
         Some(moment) => publish_for(alloc, desk, feed, moment, writer),
@@ -76,8 +78,20 @@ fn publish_at<S: Alter, W: Write>(
     }
 }
 
-/// Takes the connection, which is outside a transaction, into service and writes a feed of it. Nothing is read. Gives the
-/// connection back with the number 0, or with the fault at which that ended.
+/// What is told of a feed of a database that has none of the product's tables: no system is set. `ReadFailed` where the clock gave no
+/// moment.
+fn publish_nobodys(moment: Option<Moment>) -> Result<u64, Fault>
+    ensures { (feed : Feed) (written : _) → TellsFeed no_operator feed moment written written result }
+{
+    match moment {
+        Some(_) => Err(Fault::SystemMissing),
+        None => Err(Fault::ReadFailed),
+    }
+}
+
+/// Looks at the database over a connection outside a transaction and writes a feed of it. Nothing is read, and nothing of the database
+/// changes: what a crash may leave of it is what it could leave before. Gives the connection back with the number 0, or with the fault at
+/// which that ended: of a database with none of the product's tables `SystemMissing`.
 pub fn publish<S: Alter, R: Read, W: Write>(
     alloc: Global,
     feed: Feed,
@@ -94,12 +108,15 @@ pub fn publish<S: Alter, R: Read, W: Write>(
     ensures kept { HasCleanDisk (state S.Store result.0) → (s : Operator)
         → TreesStandFor s (state S.Store conn).now.trees → IsTrue (state S.Store conn).is_open
         → AllLeft (state S.Store result.0) (TreesStandFor s) }
+    ensures stays { LeavesAll S.Store conn result.0 }
 {
-    match adopt(alloc, conn) {
-        Ok(mut desk) => {
+    match look(alloc, conn, &mut Unwatched) {
+        Ok(Looked::Sound(conn)) => {
+            let mut desk = Desk::over(conn);
             let end = publish_at(alloc, &mut desk, feed, moment, writer);
             (desk.close(), end)
         }
+        Ok(Looked::Empty(conn)) => (conn, publish_nobodys(moment)),
         Err(fault) => {
             let (conn, told) = Fault::taken_from(fault);
             (conn, Err(told))

@@ -1,26 +1,27 @@
-//! The words over the database file at a path.
+//! The words over the database file at a path: how it is opened, what is done over it, and how it is closed.
 
-ghost use Rattle.std.specs.Prelude.{IfSome, IsNone};
+ghost use Rattle.std.specs.Prelude.{◌≡◌, true, IfSome, IsNone, IfOk};
 ghost use Rattle.sqlite.specs.State.{HasCleanDisk};
 ghost use Rattle.sqlite.specs.Files.{file_state};
 ghost use Rattle.sqlite_wal.specs.Files.{image_at};
 ghost use Rattle.bike_operator.specs.Operator.{Operator};
 ghost use Rattle.bike_schema.specs.Stands.{AllLeft};
+ghost use Rattle.bike_console.specs.Files.{HoldsOperator};
 ghost use Rattle.bike_words.specs.Program.{IsWithin};
 ghost use Rattle.bike_app.specs.Words.{MayStand, ServesSockets};
-ghost use Rattle.bike_app.specs.Files.{DoesOverFile, HoldsOperator, IsUntouched};
+ghost use Rattle.bike_app.specs.Files.{DoesOverFile, EndsOnFile, IsAlone, IsUntouched, settles};
 
 use crate::words::run_words;
 use bike_adoption::Watch;
-use bike_console::{Fault, open_file};
+use bike_console::{Fault, NewLog, Remains, open_file, prepare_file, settle};
 use bike_fixed::Moment;
 use bike_words::Task;
 use sqlite::{Connection, FileFrom, FileStore, Start};
 use std::io::{Read, Write};
 
 /// Does what the words ask, but for `Serve`, over the database file at a path, as `run_words` does over the database that the file's
-/// bytes hold. Gives the connection back, none where the file couldn't be opened, or somebody added a UNIQUE index to a table of the
-/// product's: then nothing was read, nothing written, and the fault is that of the opening.
+/// bytes hold. Gives the connection back, none where the file couldn't be opened: then nothing was read, nothing written, and the fault
+/// is that of the opening.
 pub fn run_file<F: Start, R: Read, W: Write, P: Watch>(
     rt: &HostRuntime,
     task: &Task<'_>,
@@ -50,5 +51,64 @@ pub fn run_file<F: Start, R: Read, W: Write, P: Watch>(
             (Some(conn), end)
         }
         Err(fault) => (None, Err(fault)),
+    }
+}
+
+/// Whether the words make the database file where there is none.
+fn may_make(task: &Task<'_>) -> bool {
+    match task {
+        Task::Init | Task::Lines | Task::Import { .. } | Task::Serve { .. } => true,
+        Task::Check | Task::Feed { .. } | Task::Day { .. } | Task::Raise => false,
+    }
+}
+
+/// Whether the log is brought into the file at the end of these words, so that the file is the whole database by itself.
+fn settles(task: &Task<'_>) -> bool
+    ensures { result ≡ settles task.now }
+{
+    match task {
+        Task::Init | Task::Raise | Task::Lines | Task::Import { .. } => true,
+        Task::Check | Task::Feed { .. } | Task::Day { .. } | Task::Serve { .. } => false,
+    }
+}
+
+/// Does what the words ask, but for `Serve`, over the database file at a path, as `run_file` does, from the path on to the closing.
+/// Words that only look, and `Raise`, make no file: where there is none that is `StoreFailed`. A log that may hold commits and has no
+/// file, or an empty one, is `StoreFailed` for all words, and stays. Words that may change the database bring the log into the file at
+/// their end, so that after a number the file is the whole database by itself; where that fails, they end with `StoreFailed`, and the
+/// file and its log are the database together. Words that only look leave no log where there was none. Gives back what is left of the
+/// connection, none where no file was opened, and how the words ended.
+pub fn run_on_file<F: Start, R: Read, W: Write, P: Watch>(
+    rt: &HostRuntime,
+    task: &Task<'_>,
+    clock: Option<Moment>,
+    path: &str,
+    start: F,
+    reader: &mut R,
+    writer: &mut W,
+    watch: &mut P,
+) -> (Option<Remains<FileFrom<F>>>, Result<u64, Fault>)
+    requires streams { ServesSockets task.now → ⊥ }
+    requires within { IsWithin task.now }
+    ensures done { EndsOnFile (image_at F.Start) (R.remaining reader.old) (R.remaining reader.new)
+        (W.contents writer.old) (W.contents writer.new) task.now clock result.0 result.1 }
+    ensures alone { IfOk result.1 (λ count. settles task.now ≡ true → IsAlone result.0) }
+{
+    if let Err(fault) = prepare_file(rt, path, may_make(task)) {
+        return (None, Err(fault));
+    }
+    let made = NewLog::beside(rt, path);
+    let (conn, end) = run_file(rt, task, clock, path, start, reader, writer, watch);
+    match conn {
+        None => (None, end),
+        Some(conn) => {
+            if settles(task) {
+                let (remains, end) = settle(conn, end);
+                return (Some(remains), end);
+            }
+            // Its connection still has the lock of the file.
+            made.remove(rt);
+            (Some(Remains::Open(conn)), end)
+        }
     }
 }

@@ -6,16 +6,17 @@ ghost use Rattle.sqlite.specs.Held.{state};
 ghost use Rattle.sqlite_trees.specs.View.{doubt};
 ghost use Rattle.bike_operator.specs.Operator.{Operator};
 ghost use Rattle.bike_schema.specs.Stands.{AllLeft, TreesStandFor};
+ghost use Rattle.bike_adoption.specs.Adoption.{LeavesAll};
 ghost use Rattle.bike_words.specs.Program.{IsWithin};
 ghost use Rattle.bike_app.specs.Raises.{WritesLine};
-ghost use Rattle.bike_app.specs.Words.{Does, DoesInMemory, MayStand, ServesSockets, TellsTakenUp};
+ghost use Rattle.bike_app.specs.Words.{Does, DoesInMemory, Looks, MayStand, ServesSockets, TellsLookedAt, TellsTakenUp};
 
 use crate::day::report_day;
 use crate::feed::{moment_of, publish};
 use crate::import::import_from;
 use crate::program::serve;
 use crate::raise::raise_up;
-use bike_adoption::{Unwatched, Watch, adopt_watched};
+use bike_adoption::{Looked, Unwatched, Watch, adopt_watched, look};
 use bike_console::Fault;
 use bike_fixed::Moment;
 use bike_stream::write_whole;
@@ -61,11 +62,41 @@ fn take_up<S: Alter, R: Read, W: Write, P: Watch>(
     }
 }
 
-/// Does what the words ask, but for `Serve`, over the connection, which is outside a transaction: `Init` and `Check` take it into service
-/// and tell that by the line `ready` or `sound`, `Raise` raises it to the newest version, as `raise_up` does, `Lines` serves the input, as `serve` does, `Feed` writes a feed, as `publish` does, `Day`
-/// a table, as `report_day`, and `Import` takes the input's stations in, as `import_from`; where a feed or an import is asked for at no
-/// moment, it is the clock's. Gives the connection back with the number of lines or rows served, or with the fault at which that ended.
-/// `watch` is told how far `Init`, `Check` and `Raise` are.
+/// Looks at the database, which stays as it is, and tells by this line that it may be served.
+fn look_over<S: Alter, R: Read, W: Write, P: Watch>(
+    alloc: Global,
+    line: &str,
+    conn: Connection<S>,
+    reader: &mut R,
+    writer: &mut W,
+    watch: &mut P,
+) -> (Connection<S>, Result<u64, Fault>)
+    requires { conn.in_transaction ≡ false }
+    ensures clean { doubt (state S.Store conn).is_clean ≤ doubt (state S.Store result.0).is_clean }
+    ensures told { HasCleanDisk (state S.Store result.0)
+        → TellsLookedAt S.Store (R.remaining reader.old) (R.remaining reader.new)
+        (W.contents writer.old) (W.contents writer.new) conn result.0 line.now result.1 }
+    ensures kept { HasCleanDisk (state S.Store result.0) → (s : Operator)
+        → TreesStandFor s (state S.Store conn).now.trees → IsTrue (state S.Store conn).is_open
+        → AllLeft (state S.Store result.0) (TreesStandFor s) }
+    ensures stays { LeavesAll S.Store conn result.0 }
+{
+    match look(alloc, conn, watch) {
+        Ok(Looked::Sound(conn)) => (conn, write_line(writer, line)),
+        Ok(Looked::Empty(conn)) => (conn, write_line(writer, line)),
+        Err(fault) => {
+            let (conn, told) = Fault::taken_from(fault);
+            (conn, Err(told))
+        }
+    }
+}
+
+/// Does what the words ask, but for `Serve`, over the connection, which is outside a transaction: `Init` takes it into service and tells that
+/// by the line `ready`, `Raise` raises it to the newest version, as `raise_up` does, `Lines` serves the input, as `serve` does, and
+/// `Import` takes the input's stations in, as `import_from`. `Check` looks at it and tells by the line `sound` that it may be served, `Feed`
+/// writes a feed, as `publish` does, and `Day` a table, as `report_day`: these three change nothing, and make no tables. Where a feed or
+/// an import is asked for at no moment, it is the clock's. Gives the connection back with the number of lines or rows served, or with
+/// the fault at which that ended. `watch` is told how far `Init`, `Check` and `Raise` are.
 pub fn run_words<S: Alter, R: Read, W: Write, P: Watch>(
     alloc: Global,
     task: &Task<'_>,
@@ -85,10 +116,11 @@ pub fn run_words<S: Alter, R: Read, W: Write, P: Watch>(
     ensures kept { HasCleanDisk (state S.Store result.0) → (s : Operator)
         → TreesStandFor s (state S.Store conn).now.trees → IsTrue (state S.Store conn).is_open
         → AllLeft (state S.Store result.0) (MayStand task.now s) }
+    ensures stays { Looks task.now → LeavesAll S.Store conn result.0 }
 {
     match task {
         Task::Init => take_up(alloc, "ready\n", conn, reader, writer, watch),
-        Task::Check => take_up(alloc, "sound\n", conn, reader, writer, watch),
+        Task::Check => look_over(alloc, "sound\n", conn, reader, writer, watch),
         Task::Raise => raise_up(alloc, conn, reader, writer, watch),
         Task::Lines => serve(alloc, conn, reader, writer),
         Task::Feed { feed, at } => {

@@ -1,32 +1,69 @@
--- What is told of a file: why it isn't open, as the engine's opening tells it, or that somebody added a UNIQUE index to a table of the product's.
-use Rattle.std.proofs.Common.{◌≡◌, inl, inr, true, Option, Some, None, IfSome, Result, Ok, Err, IfOk, IfErr, refl, sym, subst}
+-- Why a file isn't open, where its length was asked for before the engine opened it.
+use Rattle.std.proofs.Common.{◌≡◌, inl, inr, Bool, true, false, ◌==◌, cond, Result, Ok, Err, IfOk, IfErr, refl, sym, ap₂, subst, ◌∙◌}
 use Rattle.std.proofs.lemmas.Result.{IfOk-weaker}
 use Rattle.sqlite_disk.specs.declared.Disk as disk
 use Rattle.sqlite_disk.specs.declared.Files.{Files}
+use Rattle.sqlite_disk.specs.declared.tally.Tally.{Tally}
+use Rattle.sqlite_disk.specs.Disk.{MoreFaults}
 use Rattle.sqlite_wal.specs.Recovery.{Image}
+use Rattle.sqlite_wal.specs.Files.{outcomes}
+use Rattle.sqlite_wal.specs.Reads.{AreClean, OnlyReads, tally_of_files}
+use Rattle.sqlite_store.specs.Report.{named}
+use Rattle.sqlite.specs.State.{store_error}
 use Rattle.sqlite_store.specs.declared.store.FileStore.{FileStore}
 use Rattle.sqlite.specs.Held.{Held}
 use Rattle.sqlite.specs.State.{HasCleanDisk}
 use Rattle.sqlite.specs.Start.{FindsIn}
-use Rattle.sqlite.specs.Files.{image_of, file_state, IsOpened, IsCleanLeft, FailsToOpenFiles, LeavesFiles}
+use Rattle.sqlite.specs.Files.{faults_of, file_state, image_of, tally_left, IsCleanLeft, IsOpened, FailsToOpenFiles, LeavesFiles}
 use Rattle.sqlite.specs.declared.file.Leftover.{Leftover}
+use Rattle.sqlite.specs.declared.file.Leftover.TheVariants as left
 use Rattle.sqlite.specs.declared.error.Error.{Error}
+use Rattle.sqlite.specs.declared.error.Error.TheVariants.{SqliteFailure}
+use Rattle.sqlite.specs.declared.error.ErrorCode.TheVariants as code
+use Rattle.sqlite_trees.specs.declared.error.StoreError.TheVariants.{Io, Full, Corrupt}
 use Rattle.bike_recognition.specs.Added.{has_added_unique}
 use Rattle.bike_console.specs.declared.end.Fault.{Fault}
-use Rattle.bike_console.specs.declared.end.Fault.TheVariants.{Foreign}
+use Rattle.bike_console.specs.declared.end.Fault.TheVariants.{StoreFailed, Foreign}
 use Rattle.bike_console.specs.Ends.{open_fault}
-use Rattle.bike_console.specs.Files.{IsBarred, IsUnopened, TellsWhy}
+use Rattle.bike_console.specs.Files.{IsLoneLog, IsUnopened, TellsWhy}
 
--- what is left tells whether files were opened, which hold the bytes where nothing has happened to them
-pub unopened : {D : Type 0} {g : disk.Ghosts D} (image : Image) (told : Fault) (e : Error) → told ≡ open_fault e → (left : Option (Leftover D g)) (IsNewLog IsNewFile : Files D → Type 0)
-    → ((files : Files D) → IsNewLog files → IsNewFile files → image_of g files ≡ image) → (left ≡ None → IsBarred e)
-    → IfSome left (λ l. (files : Files D) × IsNewLog files × IsNewFile files × (IsCleanLeft l → FailsToOpenFiles files l e × LeavesFiles files l)) → IsUnopened g image told
-unopened image told e is None IsNewLog IsNewFile bytes barred cause = record { error = e; told_of = is; cause = inl (barred refl) }
-unopened image told e is (Some l) IsNewLog IsNewFile bytes barred cause = record {
-  error = e;
-  told_of = is;
-  cause = inr (record { files = cause.0; bytes = bytes cause.0 cause.1 cause.2; left = l; why = λ clean. (cause.3 clean).0; keeps = λ clean. (cause.3 clean).1 });
-}
+-- a fault of the disk is one of the store, whatever its name
+named_told : (old new : Tally) → StoreFailed ≡ open_fault (store_error (named old new))
+named_told old new = by (new.caught == old.caught) (new.refused == old.refused)
+  where
+    by : (same_caught same_refused : Bool) → StoreFailed ≡ open_fault (store_error (cond same_caught (cond same_refused Io Full) Corrupt))
+    by true true = refl
+    by true false = refl
+    by false refused = refl
+
+module _ {D : Type 0} {g : disk.Ghosts D} (image : Image) (files now : Files D) (bytes : image_of g files ≡ image) (log : OnlyReads g files.log now.log) (db : OnlyReads g files.db now.db) where
+  -- what was asked of the files changed nothing
+  pub bytes_now : image_of g now ≡ image
+  bytes_now = ap₂ (λ log db. record { log = log; db = db }) log.seen db.seen ∙ bytes
+
+  leaves_both : (left : Image) → outcomes g now.log now.db left → outcomes g files.log files.db left
+  leaves_both left may = (log.crash left.log may.0, db.crash left.db may.1)
+
+  pub found_alone : (AreClean g now.log now.db → IsLoneLog (image_of g files)) → IsUnopened g image StoreFailed
+  found_alone lone = record {
+    error = SqliteFailure code.CannotOpen;
+    told_of = refl;
+    cause = inr (inr (record { files = files; bytes = bytes; now = now; lone = λ clean. subst IsLoneLog bytes (lone clean); keeps = leaves_both }));
+  }
+
+  pub unread : (told : Fault) → told ≡ StoreFailed → MoreFaults (faults_of g files) (faults_of g now) → IsUnopened g image told
+  unread told is more =
+      let before = tally_of_files g (files.log, files.db) in
+      let after = tally_left {g = g} (left.Files now) in
+      record {
+        error = store_error (named before after);
+        told_of = is ∙ named_told before after;
+        cause = inr (inl (record { files = files; bytes = bytes; left = left.Files now; why = λ clean. inr (inr (inl (refl, more))); keeps = λ clean. leaves_both }));
+      }
+
+  -- the engine could not go on
+  pub unopened : (told : Fault) (e : Error) (rest : Leftover D g) → told ≡ open_fault e → (IsCleanLeft rest → FailsToOpenFiles now rest e) → (IsCleanLeft rest → LeavesFiles now rest) → IsUnopened g image told
+  unopened told e rest is why keeps = record { error = e; told_of = is; cause = inr (inl (record { files = now; bytes = bytes_now; left = rest; why = why; keeps = keeps })) }
 
 -- what is so of a connection is so of it where it wasn't refused
 pub of_same : {X E : Type 0} (P : X → Type 0) (conn : X) (result : Result X E) → IfOk result (λ it. it ≡ conn) → P conn → IfOk result P

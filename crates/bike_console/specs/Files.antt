@@ -1,21 +1,27 @@
 -- Why a file isn't open.
-use Rattle.std.specs.Prelude.{◌≡◌, ◌⊎◌, true, Result, Ok, Err}
+use Rattle.std.specs.Prelude.{◌≡◌, ◌⊎◌, ◌≤◌, true, length, Result, Ok, Err}
 use Rattle.sqlite_disk.specs.declared.Disk as disk
 use Rattle.sqlite_disk.specs.declared.Files.{Files}
 use Rattle.sqlite_wal.specs.Recovery.{Image}
+use Rattle.sqlite_wal.specs.Reads.{AreClean}
 use Rattle.sqlite_store.specs.declared.store.FileStore.{FileStore}
 use Rattle.sqlite.specs.Held.{Held}
 use Rattle.sqlite.specs.State.{HasCleanDisk}
 use Rattle.sqlite.specs.Start.{FindsIn}
-use Rattle.sqlite.specs.Files.{image_of, file_state, IsOpened, IsCleanLeft, FailsToOpenFiles, LeavesFiles}
+use Rattle.sqlite.specs.Files.{file_state, image_of, IsOpened, IsCleanLeft, FailsToOpenFiles, HoldsDatabase, LeavesFiles}
 use Rattle.sqlite.specs.declared.file.Leftover.{Leftover}
+use Rattle.sqlite.specs.declared.file.Leftover.TheVariants as left
 use Rattle.sqlite.specs.declared.error.Error.{Error}
 use Rattle.sqlite.specs.declared.error.Error.TheVariants.{SqliteFailure}
 use Rattle.sqlite.specs.declared.error.ErrorCode.TheVariants as code
+use Rattle.sqlite_trees.specs.Tree.{Trees}
+use Rattle.bike_operator.specs.Operator.{Operator}
+use Rattle.bike_schema.specs.Stands.{TreesStandFor}
 use Rattle.bike_recognition.specs.Added.{has_added_unique}
 use Rattle.bike_console.specs.declared.end.Fault.{Fault}
 use Rattle.bike_console.specs.declared.end.Fault.TheVariants.{OutOfMemory, StoreFailed, Foreign}
 use Rattle.bike_console.specs.Ends.{open_fault}
+use Rattle.bike_console.specs.declared.file.TheConstants.{LEAST_LOG}
 
 -- memory was refused, or the file can't be opened, or is no database, or has an index on which a good request could fail
 abbrev pub IsOpeningFault : Fault → Type 0
@@ -24,6 +30,14 @@ IsOpeningFault fault = (fault ≡ OutOfMemory) ⊎ ((fault ≡ StoreFailed) ⊎ 
 -- no file was opened: none can be at the path, another program holds it, or memory was refused
 abbrev pub IsBarred : Error → Type 0
 IsBarred e = (e ≡ SqliteFailure code.CannotOpen) ⊎ ((e ≡ SqliteFailure code.OutOfMemory) ⊎ (e ≡ SqliteFailure code.DatabaseBusy))
+
+-- that is told, and no file was opened
+abbrev pub TellsBarred : Fault → Type 0
+TellsBarred told = (e : Error) × (told ≡ open_fault e) × IsBarred e
+
+-- A LOG ALONE: the database file is empty, and its log is long enough to hold a commit.
+abbrev pub IsLoneLog : Image → Type 0
+IsLoneLog image = (length image.db ≡ 0) × (LEAST_LOG ≤ length image.log)
 
 module _ {D : Type 0} (g : disk.Ghosts D) (image : Image) where
   -- Files that hold these bytes were opened, and the engine could not go on. Where nothing else wrote to them, memory was refused, the disk failed
@@ -35,11 +49,19 @@ module _ {D : Type 0} (g : disk.Ghosts D) (image : Image) where
     pub why : IsCleanLeft left → FailsToOpenFiles files left e
     pub keeps : IsCleanLeft left → LeavesFiles files left
 
+  -- Files that hold these bytes were opened, and are a log alone. They were only read.
+  pub record FindsLogAlone : Type 0 where
+    pub files : Files D
+    pub bytes : image_of g files ≡ image
+    pub now : Files D
+    pub lone : AreClean g now.log now.db → IsLoneLog image
+    pub keeps : LeavesFiles {g = g} files (left.Files now)
+
   -- what is told of a file that isn't open, and why
   pub record IsUnopened (told : Fault) : Type 0 where
     pub error : Error
     pub told_of : told ≡ open_fault error
-    pub cause : IsBarred error ⊎ FailsOnFiles error
+    pub cause : IsBarred error ⊎ (FailsOnFiles error ⊎ FindsLogAlone)
 
   -- Files that hold these bytes were opened, and in what was found there somebody added a UNIQUE index to a table of the product's.
   pub record HasAdded (told : Fault) : Type 0 where
@@ -53,7 +75,16 @@ module _ {D : Type 0} (g : disk.Ghosts D) (image : Image) where
   abbrev pub IsRefused : Fault → Type 0
   IsRefused told = IsUnopened told ⊎ HasAdded told
 
+-- why no database of these bytes is open
+abbrev pub TellsUnopened : {D : Type 0} {g : disk.Ghosts D} → Image → Result (Held (FileStore D g)) Fault → Type 0
+TellsUnopened image (Ok conn) = Unit {0}
+TellsUnopened {g = g} image (Err told) = IsUnopened g image told
+
 -- why there is no connection to a file of these bytes
 abbrev pub TellsWhy : {D : Type 0} {g : disk.Ghosts D} → Image → Result (Held (FileStore D g)) Fault → Type 0
 TellsWhy image (Ok conn) = Unit {0}
 TellsWhy {g = g} image (Err told) = IsRefused g image told
+
+-- the bytes hold a database that stands for the operator
+abbrev pub HoldsOperator : Image → Operator → Type 0
+HoldsOperator image s = (db : Trees) × HoldsDatabase image db × TreesStandFor s db

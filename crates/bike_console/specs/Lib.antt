@@ -1,3 +1,4 @@
 pub mod Pieces
 pub mod Ends
 pub mod Files
+pub mod Closing

@@ -1,7 +1,7 @@
 //! A database file that isn't there yet.
 
 use std::fs::OpenOptions;
-use std::io::Write;
+use std::io::{ErrorKind, Write};
 use std::os::unix::fs::{MetadataExt, OpenOptionsExt};
 use std::{fs, io};
 
@@ -65,7 +65,13 @@ fn make_whole(rt: &HostRuntime, path: &str) -> io::Result<()> {
             return Ok(());
         }
     }
-    write_blank(rt, made.as_str())?;
+    if let Err(error) = write_blank(rt, made.as_str()) {
+        // A part of it may stand there, unless it is another process's.
+        if error.kind() != ErrorKind::AlreadyExists {
+            let _ = fs::remove_file(rt, made.as_str());
+        }
+        return Err(error);
+    }
     // A file that another process has made meanwhile stays.
     let linked = fs::hard_link(rt, made.as_str(), path);
     fs::remove_file(rt, made.as_str())?;
@@ -74,8 +80,6 @@ fn make_whole(rt: &HostRuntime, path: &str) -> io::Result<()> {
 
 /// Makes the database file at a path, empty, where there is none: its pages are of 2,048 bytes, which costs a request less than the
 /// 4,096 of a file that the engine makes. Where this fails nothing is told, since the engine then makes the file, or tells why it can't.
-pub fn make_file(rt: &HostRuntime, path: &str) {
-    if path != ":memory:" && !path.starts_with("file:") {
-        let _ = make_whole(rt, path);
-    }
+pub(crate) fn make_file(rt: &HostRuntime, path: &str) {
+    let _ = make_whole(rt, path);
 }

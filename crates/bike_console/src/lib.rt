@@ -5,13 +5,16 @@
 #![tactic(auto)]
 
 mod blank;
+mod closing;
 mod end;
 mod file;
 mod pieces;
+mod place;
 mod progress;
 
-pub use blank::make_file;
+pub use closing::{Remains, settle};
 pub use end::{Fault, exit_code};
-pub use file::open_file;
+pub use file::{LEAST_LOG, open_file};
 pub use pieces::{put, put_number};
+pub use place::{NewLog, prepare_file};
 pub use progress::{Counted, Progress};

@@ -3,11 +3,15 @@ use Rattle.std.proofs.Common.{◌≡◌, Bool, ◌||◌, true, false, IsTrue, Re
 use Rattle.sqlite_trees.specs.declared.store.Store.{Ghosts}
 use Rattle.sqlite.specs.Held.{Held, state}
 use Rattle.bike_operator.specs.Operator.{Operator}
+use Rattle.bike_book.specs.Stored.{Listed}
 use Rattle.bike_schema.specs.Answers.{Answers}
 use Rattle.bike_schema.specs.declared.fault.StatementFault.{StatementFault}
+use Rattle.bike_schema.proofs.AnswerLemmas.{reads_weaker}
+use Rattle.bike_accounts.specs.Newest.{NewestTells}
 use Rattle.bike_desk.specs.declared.fault.DeskFault.{DeskFault}
 use Rattle.bike_desk.specs.declared.fault.DeskFault.TheVariants.{NoMemory, StoreFailed, Stopped}
-use Rattle.bike_desk.specs.Desk.{DeskValue}
+use Rattle.sqlite.specs.State.{HasCleanDisk}
+use Rattle.bike_desk.specs.Desk.{DeskValue, desk_state}
 use Rattle.bike_desk.specs.Newest.{knows_newest}
 use Rattle.bike_desk.specs.declared.newest.Newest.{Newest}
 use Rattle.bike_desk.specs.Queries.{Queries, TellsOf}
@@ -55,17 +59,23 @@ module _ {S : Type 0} (g : Ghosts S) (conn next : Held S) (stopped : Bool) (newe
   abbrev pub after : DeskValue S
   after = record { conn = next; is_stopped = stopped || next.in_transaction; newest_tells = knows_newest newest }
 
-  answered : (x : A) → Answers g conn next {E = StatementFault} (Ok x) (λ s m. says s) → Queries g before after (Ok x) says
-  answered x reads = record {
+  -- what the desk becomes where it learns this of newest rentals
+  abbrev pub after_learning : Newest → DeskValue S
+  after_learning later = record { conn = next; is_stopped = stopped || next.in_transaction; newest_tells = knows_newest later }
+
+  learnt : (later : Newest) (x : A) → Answers g conn next {E = StatementFault} (Ok x) (λ s m y. (IsTrue (knows_newest newest) → NewestTells s) → (IsTrue (knows_newest later) → NewestTells s) × says s y)
+      → Queries g before (after_learning later) (Ok x) says
+  learnt later x reads = record {
     clean = reads.quiet.survives.clean;
-    ok = λ clean s at. (
-      reads.found clean (kept_ours (state g conn) s at.keeps) s (kept_stores (state g conn) s at.keeps),
-      record {
-        goes_on = still_going stopped conn.in_transaction next.in_transaction at.goes_on (reads.quiet.mode at.keeps.autocommit);
-        keeps = still g conn next s at.keeps clean (reads.same clean (kept_ours (state g conn) s at.keeps)) reads.quiet;
-        newest = at.newest;
-      },
-    );
+    ok = λ clean s at.
+        let told = reads.found clean (kept_ours (state g conn) s at.keeps) s (kept_stores (state g conn) s at.keeps) at.newest in (
+          told.1,
+          record {
+            goes_on = still_going stopped conn.in_transaction next.in_transaction at.goes_on (reads.quiet.mode at.keeps.autocommit);
+            keeps = still g conn next s at.keeps clean (reads.same clean (kept_ours (state g conn) s at.keeps)) reads.quiet;
+            newest = told.0;
+          },
+        );
     goes_on = going_stays stopped conn.in_transaction next.in_transaction going reads.quiet.mode;
     left = λ clean s at. quiet g conn next s at.keeps clean reads.quiet;
     no_memory = λ is. absurd cc;
@@ -74,8 +84,12 @@ module _ {S : Type 0} (g : Ghosts S) (conn next : Held S) (stopped : Bool) (newe
     stays = λ is_stopped. absurd (let e : true ≡ false = sym is_stopped ∙ going in cc);
   }
 
-  failed : (e : StatementFault) → Answers g conn next {A = A} (Err e) (λ s m. says s) → Queries g before (record after { is_stopped = true }) (Err StoreFailed) says
-  failed e reads = record {
+  pub learns : (later : Newest) (x : A) (old : DeskValue S) → before ≡ old → Answers g conn next {E = StatementFault} (Ok x) (λ s m y. (IsTrue (knows_newest newest) → NewestTells s) → (IsTrue (knows_newest later) → NewestTells s) × says s y)
+      → Queries g old (after_learning later) (Ok x) says
+  learns later x old is reads = subst (λ (d : DeskValue S). Queries g d (after_learning later) (Ok x) says) is (learnt later x reads)
+
+  pub failed : {X : Type 0} (tells : Operator → Listed → X → Type 0) (e : StatementFault) → Answers g conn next {A = X} (Err e) tells → Queries g before (record after { is_stopped = true }) (Err StoreFailed) says
+  failed tells e reads = record {
     clean = reads.quiet.survives.clean;
     ok = λ clean s at. tt;
     goes_on = tt;
@@ -86,7 +100,33 @@ module _ {S : Type 0} (g : Ghosts S) (conn next : Held S) (stopped : Bool) (newe
     stays = λ is_stopped. absurd (let e : true ≡ false = sym is_stopped ∙ going in cc);
   }
 
+  -- what was read is so where what is known of newest rentals is
+  pub queries_knowing : (read : Result A StatementFault) (new : DeskValue S) (result : Result A DeskFault) → Answers g conn next read (λ s m x. (IsTrue (knows_newest newest) → NewestTells s) → says s x) → TellsOf read after new result
+      → Queries g before new result says
+  queries_knowing (Ok x) new result reads tells =
+      subst (λ (d : DeskValue S). Queries g before d result says) (sym tells.1)
+      (subst (λ (r : Result A DeskFault). Queries g before after r says) (sym tells.0) (learnt newest x (reads_weaker reads (λ db y is s h known. (known, is s h known)))))
+  queries_knowing (Err e) new result reads tells =
+      subst (λ (d : DeskValue S). Queries g before d result says) (sym tells.1) (subst (λ (r : Result A DeskFault). Queries g before (record after { is_stopped = true }) r says) (sym tells.0) (failed _ e reads))
+
   pub queries : (read : Result A StatementFault) (new : DeskValue S) (result : Result A DeskFault) → Answers g conn next read (λ s m. says s) → TellsOf read after new result → Queries g before new result says
-  queries (Ok x) new result reads tells = subst (λ (d : DeskValue S). Queries g before d result says) (sym tells.1) (subst (λ (r : Result A DeskFault). Queries g before after r says) (sym tells.0) (answered x reads))
-  queries (Err e) new result reads tells =
-      subst (λ (d : DeskValue S). Queries g before d result says) (sym tells.1) (subst (λ (r : Result A DeskFault). Queries g before (record after { is_stopped = true }) r says) (sym tells.0) (failed e reads))
+  queries read new result reads tells = queries_knowing read new result (reads_weaker reads (λ db y is s h known. is s h)) tells
+
+-- one query after another that gave an answer, where the second takes no memory
+pub queries_then : {S : Type 0} (g : Ghosts S) (old mid new : DeskValue S) {A B : Type 0} {x : A} {result : Result B DeskFault} {says : Operator → A → Type 0} {told : Operator → B → Type 0}
+    → Queries g old mid (Ok x) says → Queries g mid new result told → (result ≡ Err NoMemory → ⊥) → Queries g old new result told
+queries_then g old mid new one two enough =
+    let going : mid.is_stopped ≡ false = one.goes_on in
+    record {
+      clean = omega (arith, one.clean, two.clean);
+      ok = λ clean s at. two.ok clean s (one.ok (mid_clean clean) s at).1;
+      goes_on = two.goes_on;
+      left = λ clean s at db h. one.left (mid_clean clean) s at db (two.left clean s (one.ok (mid_clean clean) s at).1 db h);
+      no_memory = λ is. absurd (enough is);
+      stops = two.stops;
+      stopped = λ is. absurd (let e : true ≡ false = sym (two.stopped is) ∙ going in cc);
+      stays = λ is_stopped. absurd (let e = (one.stays is_stopped).0 in cc);
+    }
+  where
+    mid_clean : HasCleanDisk (desk_state g new) → HasCleanDisk (desk_state g mid)
+    mid_clean clean = omega (arith, clean, two.clean)

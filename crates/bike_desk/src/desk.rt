@@ -25,7 +25,7 @@ use std::marker::Model;
 pub struct Desk<S: Alter> {
     pub(crate) conn: Connection<S>,
     pub(crate) stopped: bool,
-    newest: Newest,
+    pub(crate) newest: Newest,
 }
 
 impl<S: Alter> Model for Desk<S> {

@@ -1,4 +1,4 @@
-//! What a desk knows of newest rentals, for which its first start asks.
+//! What a desk knows of newest rentals, for which its first start, or first look at a rider, asks.
 
 ghost use Rattle.std.specs.Prelude.{◌≡◌, ◌≤◌, false, IsTrue, IfOk, OnOk};
 ghost use Rattle.sqlite.specs.State.{HasCleanDisk};
@@ -26,6 +26,13 @@ pub enum Newest {
 }
 
 impl Newest {
+    /// What is known where it was asked whether each open rental is its rider's newest.
+    pub fn found(tells: bool) -> Newest
+        ensures { knows_newest result ≡ tells }
+    {
+        if tells { Newest::Tells } else { Newest::Walks }
+    }
+
     /// Whether a start may read its rider's newest rental alone.
     pub fn tells(self) -> bool
         ensures { result ≡ knows_newest self }

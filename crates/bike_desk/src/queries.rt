@@ -1,6 +1,6 @@
 //! What a desk holds of a name, without a change of what is kept.
 
-ghost use Rattle.std.specs.Prelude.{◌≡◌, ◌≢◌, Err};
+ghost use Rattle.std.specs.Prelude.{◌≡◌, ◌≢◌, false, Err};
 ghost use Rattle.std.specs.FinMap as map;
 ghost use Rattle.bike_operator.specs.Names.{further_names};
 ghost use Rattle.bike_operator.specs.Operator.{item_numbered};
@@ -10,7 +10,8 @@ ghost use Rattle.bike_desk.specs.Queries.{Queries, TellsOf};
 
 use crate::desk::Desk;
 use crate::fault::DeskFault;
-use bike_accounts::find_names;
+use crate::newest::Newest;
+use bike_accounts::{find_names, newest_tells};
 use bike_catalogue::{MoreName, NameKind, System};
 use bike_fields::{BicycleNumber, Ident, OrderNumber, RentalNumber, RiderNumber};
 use bike_fixed::Cents;
@@ -41,6 +42,34 @@ impl<S: Alter> Desk<S> {
         }
     }
 
+    /// Asks whether each open rental is its rider's newest, and keeps the answer.
+    fn learn_newest(&mut self) -> Result<(), DeskFault>
+        requires { self.old.is_stopped ≡ false }
+        ensures query { Queries S.Store self.old self.new result (λ s x. Unit {0}) }
+        ensures takes_none { result ≢ Err DeskFault.NoMemory }
+    {
+        match newest_tells(&mut self.conn) {
+            Ok(tells) => {
+                self.newest = Newest::found(tells);
+                Ok(())
+            }
+            Err(_) => {
+                self.stopped = true;
+                Err(DeskFault::StoreFailed)
+            }
+        }
+    }
+
+    /// The rider, by what is known of newest rentals.
+    fn find_rider(&mut self, rider: RiderNumber) -> Result<Option<RiderInfo>, DeskFault>
+        requires { self.old.is_stopped ≡ false }
+        ensures query { Queries S.Store self.old self.new result (λ s x. x ≡ rider_info_at s rider) }
+        ensures takes_none { result ≢ Err DeskFault.NoMemory }
+    {
+        let read = find_rider_info(&mut self.conn, rider, self.newest.tells());
+        self.answer(read)
+    }
+
     /// The rider's balance, the sum of what the ledger books for the rider.
     pub fn balance(&mut self, rider: RiderNumber) -> Result<Option<Cents>, DeskFault>
         ensures query { Queries S.Store self.old self.new result (λ s x. x ≡ balance_at s rider) }
@@ -53,7 +82,8 @@ impl<S: Alter> Desk<S> {
         self.answer(read)
     }
 
-    /// The rider: whether blocked, the balance, and the number of the open rental.
+    /// The rider: whether blocked, the balance, and the number of the open rental. The first such query or start reads each rental
+    /// once; from then on the time doesn't grow with the rider's rentals, where each open rental is its rider's newest.
     pub fn rider(&mut self, rider: RiderNumber) -> Result<Option<RiderInfo>, DeskFault>
         ensures query { Queries S.Store self.old self.new result (λ s x. x ≡ rider_info_at s rider) }
         ensures takes_none { result ≢ Err DeskFault.NoMemory }
@@ -61,8 +91,13 @@ impl<S: Alter> Desk<S> {
         if self.stopped() {
             return Err(DeskFault::Stopped);
         }
-        let read = find_rider_info(&mut self.conn, rider);
-        self.answer(read)
+        match self.newest {
+            Newest::Unknown => {
+                self.learn_newest()?;
+                self.find_rider(rider)
+            }
+            Newest::Tells | Newest::Walks => self.find_rider(rider),
+        }
     }
 
     /// Where the bicycle is.

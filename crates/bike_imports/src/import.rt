@@ -30,8 +30,9 @@ pub const MOST_ROWS: u64 = 1_000_000;
 /// coordinates are in degrees, and its name stands without escapes. Answers how many rows were served, each accepted.
 ///
 /// The import ends at the first row that is unreadable or refused: `Unreadable` and `Row` name it, and the rows before
-/// it stay. A row with a bad field is refused as such before the desk is asked. One record is held at a time; where memory for
-/// that is refused the fault is `Desk(NoMemory)`. A stopped desk answers `Desk(Stopped)` before anything is read.
+/// it stay. A row with a bad field is refused as such before the desk is asked. One record is held at a time, of 64 KiB or little
+/// more: a longer one ends in `Read`. Where memory for a record is refused the fault is `Desk(NoMemory)`. A stopped desk answers
+/// `Desk(Stopped)` before anything is read.
 pub fn import_stations<S: Alter, R: Read>(
     alloc: Global,
     desk: &mut Desk<S>,
@@ -55,6 +56,7 @@ pub fn import_stations<S: Alter, R: Read>(
     let mut row = StringRecord::new(alloc);
     take_header(&mut table, &mut row)?;
     'rows: for count in 0..MOST_ROWS {
+        table.get_ref().begin_record();
         if !next_record(&mut table, &mut row, count + 1)? {
             return Ok(count);
         }

@@ -1,18 +1,25 @@
-//! An input that is read a bounded number of times.
+//! An input that is read a bounded number of times, and gives each record a bounded number of bytes.
 
 ghost use Rattle.std.specs.Prelude.{◌≡◌};
 
+use std::cell::Cell;
 use std::io;
 use std::io::Read;
 
 /// How many reads of its input an import makes at most.
 pub const MOST_READS: u32 = 1_000_000;
 
-/// A reader that fails once so many reads were made.
+/// How many bytes are read for one record at most, in whole reads; the five fields of a row take less than a hundredth of that. So
+/// a record that doesn't end takes no more memory.
+pub const MOST_RECORD: usize = 65_536;
+
+/// A reader that fails once so many reads were made, or so many bytes were read for one record.
 #[derive(Drop)]
 pub struct Input<R> {
     reader: R,
     reads: u32,
+    // The CSV reader lends its source, and only to be looked at.
+    room: Cell<usize>,
 }
 
 impl<R> Input<R> {
@@ -23,7 +30,13 @@ impl<R> Input<R> {
         Input {
             reader,
             reads: MOST_READS,
+            room: Cell::new(MOST_RECORD),
         }
+    }
+
+    /// Gives the next record its bytes.
+    pub fn begin_record(&self) {
+        self.room.set(MOST_RECORD);
     }
 }
 
@@ -31,10 +44,13 @@ impl<R: Read> Read for Input<R> {
     ghost remaining = { λ input. R.remaining input.reader };
 
     fn read(&mut self, buf: &mut [u8]) -> io::Result<usize> {
-        if self.reads == 0 {
+        let room = self.room.get();
+        if self.reads == 0 || room == 0 {
             return Err(io::Error::from(io::ErrorKind::TimedOut));
         }
         self.reads -= 1;
-        self.reader.read(buf)
+        let count = self.reader.read(buf)?;
+        self.room.set(room.saturating_sub(count));
+        Ok(count)
     }
 }

@@ -1,15 +1,13 @@
 -- What queries show of bicycles, riders and rentals.
 use Rattle.std.specs.Prelude.{◌≡◌, ℕ, ℤ, Option, Some, None, option_map}
 use Rattle.std.specs.FinMap as map
-use Rattle.sqlite_value.specs.Order.{Row, column}
 use Rattle.bike_ledger.specs.Ledger.{balance_of, refunded_of}
 use Rattle.bike_operator.specs.declared.records.Place.{Place}
 use Rattle.bike_operator.specs.declared.records.Rental.{Rental}
 use Rattle.bike_operator.specs.declared.records.Closing.{Closing}
 use Rattle.bike_operator.specs.Operator.{Operator, Rider, item_numbered}
-use Rattle.bike_book.specs.Rows.{number_value}
-use Rattle.bike_book.specs.Found.{open_rental}
 use Rattle.bike_accounts.specs.declared.rentals.StoredRental.{StoredRental}
+use Rattle.bike_accounts.specs.Newest.{open_number}
 use Rattle.bike_queries.specs.declared.riders.RiderInfo.{RiderInfo}
 use Rattle.bike_queries.specs.declared.rentals.ClosingInfo.{ClosingInfo}
 use Rattle.bike_queries.specs.declared.rentals.RentalInfo.{RentalInfo}
@@ -26,23 +24,12 @@ place_at s bike = option_map (λ b. b.place) (map.get s.bikes bike)
 abbrev pub balance_at : Operator → ℕ → Option ℤ
 balance_at s rider = option_map (λ _. balance_of rider s.entries) (map.get s.riders rider)
 
--- the number of the rider's open rental
-abbrev pub open_number : Operator → ℕ → Option ℕ
-open_number s rider = option_map (λ e. e.0) (open_rental s rider)
-
 -- a rider's balance is a sum over the entries
 abbrev pub rider_info : Operator → ℕ → Rider → RiderInfo
 rider_info s rider r = record { is_blocked = r.is_blocked; balance = balance_of rider s.entries; rental = open_number s rider }
 
 abbrev pub rider_info_at : Operator → ℕ → Option RiderInfo
 rider_info_at s rider = option_map (rider_info s rider) (map.get s.riders rider)
-
--- the row is that of the rental with this number, or neither is there
-abbrev pub HoldsRental : Option Row → Option ℕ → Type 0
-HoldsRental None None = Unit {0}
-HoldsRental (Some row) (Some rental) = column row 0 ≡ number_value rental
-HoldsRental None (Some rental) = ⊥
-HoldsRental (Some row) None = ⊥
 
 -- ---- rentals
 

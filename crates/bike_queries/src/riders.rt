@@ -1,16 +1,15 @@
 //! A rider, as queries show one.
 
-ghost use Rattle.std.specs.Prelude.{◌≡◌, IfOk};
-ghost use Rattle.bike_book.specs.Found.{open_row};
+ghost use Rattle.std.specs.Prelude.{◌≡◌, IsTrue};
 ghost use Rattle.bike_schema.specs.Answers.{Answers};
-ghost use Rattle.bike_queries.specs.Infos.{balance_at, rider_info_at, open_number, HoldsRental};
+ghost use Rattle.bike_accounts.specs.Newest.{NewestTells};
+ghost use Rattle.bike_queries.specs.Infos.{balance_at, rider_info_at};
 
-use bike_accounts::find_rider;
+use bike_accounts::{find_open_rental, find_rider};
 use bike_fields::{RentalNumber, RiderNumber};
 use bike_fixed::Cents;
-use bike_rows::lookup::first_row;
-use bike_schema::{StatementFault, number_at};
-use sqlite::{Alter, Connection, Row, params};
+use bike_schema::StatementFault;
+use sqlite::{Alter, Connection};
 
 /// What is shown of a rider.
 #[derive(Clone, Copy, Debug, PartialEq, Eq)]
@@ -21,44 +20,6 @@ pub struct RiderInfo {
     pub balance: Cents,
     /// The number of the rider's open rental; none where the rider doesn't ride.
     pub rental: Option<RentalNumber>,
-}
-
-/// The row of the rider's open rental.
-fn select_open<S: Alter>(
-    conn: &mut Connection<S>,
-    rider: RiderNumber,
-) -> Result<Option<Row>, StatementFault>
-    ensures { Answers S.Store conn.old conn.new result (λ s m row. row ≡ open_row s m rider) }
-{
-    first_row(
-        conn,
-        "SELECT * FROM rentals WHERE rider = ?1 AND finish IS NULL ORDER BY rental LIMIT 1",
-        params![rider.get()],
-    )
-}
-
-/// The number of the rental in the stored row, where there is one.
-fn rental_of(row: &Option<Row>) -> Result<Option<RentalNumber>, StatementFault>
-    ensures { IfOk result (λ rental. HoldsRental row.now rental) }
-{
-    match row {
-        Some(row) => {
-            let rental = number_at(row, 0)?;
-            Ok(Some(rental))
-        }
-        None => Ok(None),
-    }
-}
-
-/// The number of the rider's open rental.
-fn find_open_rental<S: Alter>(
-    conn: &mut Connection<S>,
-    rider: RiderNumber,
-) -> Result<Option<RentalNumber>, StatementFault>
-    ensures { Answers S.Store conn.old conn.new result (λ s m x. x ≡ open_number s rider) }
-{
-    let row = select_open(conn, rider)?;
-    rental_of(&row)
 }
 
 /// The balance of the rider of this number, if there is one. Every fault is the database's.
@@ -74,16 +35,18 @@ pub fn find_balance<S: Alter>(
     }
 }
 
-/// The rider of this number, if there is one. Every fault is the database's.
+/// The rider of this number, if there is one. The open rental is found as `find_open_rental` finds it: by the rider's newest
+/// alone where the caller knows that each open rental is its rider's newest. Every fault is the database's.
 pub fn find_rider_info<S: Alter>(
     conn: &mut Connection<S>,
     rider: RiderNumber,
+    newest_tells: bool,
 ) -> Result<Option<RiderInfo>, StatementFault>
-    ensures { Answers S.Store conn.old conn.new result (λ s m x. x ≡ rider_info_at s rider) }
+    ensures { Answers S.Store conn.old conn.new result (λ s m x. (IsTrue newest_tells → NewestTells s) → x ≡ rider_info_at s rider) }
 {
     match find_rider(conn, rider)? {
         Some(view) => {
-            let rental = find_open_rental(conn, rider)?;
+            let rental = find_open_rental(conn, rider, newest_tells)?;
             Ok(Some(RiderInfo {
                 is_blocked: view.is_blocked,
                 balance: Cents::new(view.balance),

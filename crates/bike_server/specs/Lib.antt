@@ -4,3 +4,4 @@ pub mod Arrivals
 pub mod Answering
 pub mod Serving
 pub mod Listening
+pub mod Files

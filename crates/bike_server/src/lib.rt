@@ -5,12 +5,14 @@
 #![tactic(auto)]
 
 mod arrivals;
+mod file;
 mod memory;
 mod server;
 mod sockets;
 mod timed;
 
 pub use arrivals::{AcceptFault, Arrival, Arrivals};
+pub use file::listen_on_file;
 pub use memory::{Parting, Played, Visit};
 pub use server::{listen, serve_count};
 pub use sockets::clock_moment;

@@ -144,6 +144,13 @@ fn bind(rt: &HostRuntime, port: u16) -> Result<TcpListener, Fault>
     }
 }
 
+/// Whether a connection finds the descriptors that it takes: its own, and one more for its other way.
+fn has_descriptors(listener: &TcpListener) -> bool {
+    let first = listener.try_clone();
+    let second = listener.try_clone();
+    first.is_ok() && second.is_ok()
+}
+
 /// Tells the port.
 fn tell_port<W: Write>(
     rt: &HostRuntime,
@@ -162,7 +169,8 @@ fn tell_port<W: Write>(
     }
 }
 
-/// Listens on this port of 127.0.0.1 and tells it, and serves so many connections, or without end.
+/// Listens on this port of 127.0.0.1 and tells it, and serves so many connections, or without end. `ReadFailed` where the process may
+/// not have the descriptors that a connection takes: each would end without an answer.
 fn listen_at<S: Alter, W: Write>(
     rt: &HostRuntime,
     desk: &mut Desk<S>,
@@ -177,6 +185,9 @@ fn listen_at<S: Alter, W: Write>(
     ensures faults { IfErr result IsOfServing }
 {
     let listener = bind(rt, port)?;
+    if !has_descriptors(&listener) {
+        return Err(Fault::ReadFailed);
+    }
     tell_port(rt, &listener, writer)?;
     let count = match count {
         Some(count) => u64::from(count),

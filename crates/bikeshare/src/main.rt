@@ -4,16 +4,14 @@
 ghost use Rattle.bike_words.specs.Program.{IsWithin};
 ghost use Rattle.bike_app.specs.Words.{ServesSockets};
 
-use bike_app::{
-    Counted, Fault, Progress, exit_code, make_file, open_file, run_file, run_words_in_memory,
-};
-use bike_server::{clock_moment, listen};
+use bike_app::{Counted, Fault, Progress, exit_code, run_on_file, run_words_in_memory};
+use bike_server::{clock_moment, listen, listen_on_file};
 use bike_words::{Task, Words, WordsFault, read_words, usage};
-use sqlite::{Connection, Start, Unknown};
+use sqlite::{Connection, Unknown};
 use std::alloc::{AllocError, Global};
+use std::env;
 use std::io::{BufWriter, ErrorKind, IsTerminal, Write};
 use std::process::ExitCode;
-use std::{env, fs};
 
 /// The status of words that aren't the program's.
 const WRONG_WORDS: u8 = 2;
@@ -36,19 +34,6 @@ fn lent(alloc: Global, texts: &[String]) -> Result<Vec<&str>, AllocError> {
     Ok(lent)
 }
 
-/// Whether the log is copied into the file at the end, so that the file alone is the whole database: after a task that may change
-/// it, where the file was taken into service and the store didn't fail.
-fn is_settled(task: &Task<'_>, end: &Result<u64, Fault>) -> bool {
-    match task {
-        Task::Init | Task::Raise | Task::Lines | Task::Import { .. } => {}
-        Task::Check | Task::Feed { .. } | Task::Day { .. } | Task::Serve { .. } => return false,
-    }
-    match end {
-        Ok(_) => true,
-        Err(fault) => matches!(fault.status(), 1 | 6),
-    }
-}
-
 /// Whether a person looks on while the task is done: it is long work, and standard error is a terminal.
 fn is_looked_on(rt: &HostRuntime, task: &Task<'_>) -> bool {
     match task {
@@ -59,65 +44,32 @@ fn is_looked_on(rt: &HostRuntime, task: &Task<'_>) -> bool {
     }
 }
 
-/// Whether there is no file of that name. The engine would make one, and what isn't there isn't raised.
-fn is_missing(rt: &HostRuntime, file: &str) -> bool {
-    match fs::symlink_metadata(rt, file) {
-        Ok(_) => false,
-        Err(error) => error.kind() == ErrorKind::NotFound && !file.starts_with("file:"),
-    }
-}
-
-/// Does a task over the file, whose bytes `F` stands for, with this output.
-fn run_on_file<F: Start, W: Write>(
-    rt: &HostRuntime,
-    words: &Words<'_>,
-    start: F,
-    out: &mut W,
-) -> Result<u64, Fault>
-    requires streams { ServesSockets words.now.task → ⊥ }
-    requires within { IsWithin words.now.task }
-{
-    let clock = clock_moment(rt);
-    let task = &words.task;
-    let is_shown = is_looked_on(rt, task);
-    let mut input = Counted::new(rt.stdin(), Progress::new(rt.stderr(), is_shown));
-    let mut progress = Progress::new(rt.stderr(), is_shown);
-    progress.opening();
-    let (conn, end) = run_file(
-        rt,
-        task,
-        clock,
-        words.file,
-        start,
-        &mut input,
-        out,
-        &mut progress,
-    );
-    progress.end();
-    if let Some(conn) = conn {
-        if is_settled(task, &end) {
-            // Where this fails the log stays, and is read at the next start.
-            let _ = conn.close();
-        }
-    }
-    end
-}
-
 /// Does a task over the database, with this output.
 fn run_on<W: Write>(rt: &HostRuntime, words: &Words<'_>, out: &mut W) -> Result<u64, Fault>
     requires streams { ServesSockets words.now.task → ⊥ }
     requires within { IsWithin words.now.task }
 {
+    let clock = clock_moment(rt);
+    let task = &words.task;
     if words.file == ":memory:" {
-        let clock = clock_moment(rt);
-        return run_words_in_memory(rt.alloc(), &words.task, clock, &mut rt.stdin(), out);
+        return run_words_in_memory(rt.alloc(), task, clock, &mut rt.stdin(), out);
     }
-    if !matches!(words.task, Task::Raise) {
-        make_file(rt, words.file);
-    } else if is_missing(rt, words.file) {
-        return Err(Fault::StoreFailed);
-    }
-    run_on_file(rt, words, Unknown, out)
+    let is_shown = is_looked_on(rt, task);
+    let mut input = Counted::new(rt.stdin(), Progress::new(rt.stderr(), is_shown));
+    let mut progress = Progress::new(rt.stderr(), is_shown);
+    progress.opening();
+    let (_, end) = run_on_file(
+        rt,
+        task,
+        clock,
+        words.file,
+        Unknown,
+        &mut input,
+        out,
+        &mut progress,
+    );
+    progress.end();
+    end
 }
 
 /// Writes what the buffer holds, and tells how the task ended. After a fault nothing more is written: a buffer that is let go would
@@ -153,9 +105,7 @@ fn answer(rt: &HostRuntime, file: &str, port: u16, count: Option<u32>) -> Result
         let (_, end) = listen(rt, port, count, conn, &mut rt.stdout());
         return end;
     }
-    make_file(rt, file);
-    let conn = open_file(rt, file, Unknown)?;
-    let (_, end) = listen(rt, port, count, conn, &mut rt.stdout());
+    let (_, end) = listen_on_file(rt, port, count, file, Unknown, &mut rt.stdout());
     end
 }
 

@@ -1,4 +1,4 @@
-use Rattle.bike_app.proofs.DayLemmas.{reported_at, table_left}
+use Rattle.bike_app.proofs.DayLemmas.{reported_at}
 use Rattle.bike_app.proofs.day.report_at.Goals as goal
 
 pub returns-clause-told : goal.returns-clause-told
@@ -8,4 +8,4 @@ returns-clause-told g c clean s at =
     written.ensures.day (written.ensures.wrote clean s at))
 
 pub returns-clause-left : goal.returns-clause-left
-returns-clause-left g c clean s at = table_left g.S.Store _ _ s clean at c.day_csv-written.result c.day_csv-written.ensures.desk
+returns-clause-left g c clean s at = c.day_csv-written.ensures.desk.left clean s at

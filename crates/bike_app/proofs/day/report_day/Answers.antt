@@ -1,28 +1,46 @@
 use Rattle.std.proofs.Common.{inl, inr}
-use Rattle.bike_app.proofs.ProgramLemmas.{began_clean, ended_clean, refuses, refused_left}
+use Rattle.bike_app.proofs.LookLemmas.{matched, seen_at, seen_operator, looked_kept, looked_stays}
+use Rattle.bike_app.proofs.ProgramLemmas.{ended_clean, by_look, refuses, refused_left}
 use Rattle.bike_app.proofs.day.report_day.Goals as goal
 
-pub returns-in-Ok-clause-told : goal.returns-in-Ok-clause-told
-returns-in-Ok-clause-told g c clean =
+pub returns-in-Ok-Sound-clause-told : goal.returns-in-Ok-Sound-clause-told
+returns-in-Ok-Sound-clause-told g c clean =
     let now = ended_clean g.S.Store c.report_at-end.new.desk c.close.ensures.same clean in
-    let early = began_clean g.S.Store c.report_at-end.new.desk c.close.ensures.same clean c.in-Ok.desk c.report_at-end.ensures.clean in
-    let it = c.in-Ok.ensures.only early in
-    inr (record {
+    let it = seen_operator g.S.Store (matched c.in-Ok-Sound.field-0-is c.in-Ok-Sound.ensures) c.over-desk.ensures c.report_at-end.new.desk c.close.ensures.same clean c.report_at-end.ensures.clean in
+    inr (inl (record {
       desk = c.report_at-end.new.desk;
       conn = c.close.ensures.same;
       operator = it.0;
       was = it.1;
-      reported = λ s stands. c.report_at-end.ensures.told now s (c.in-Ok.ensures.found s stands early);
-    })
+      reported = λ s stands. c.report_at-end.ensures.told now s (seen_at g.S.Store (matched c.in-Ok-Sound.field-0-is c.in-Ok-Sound.ensures) c.over-desk.ensures c.report_at-end.new.desk c.close.ensures.same clean c.report_at-end.ensures.clean s stands);
+    }))
 
-pub returns-in-Ok-clause-kept : goal.returns-in-Ok-clause-kept
-returns-in-Ok-clause-kept g c clean s stands live =
+pub returns-in-Ok-Sound-clause-kept : goal.returns-in-Ok-Sound-clause-kept
+returns-in-Ok-Sound-clause-kept g c clean s stands live =
     let now = ended_clean g.S.Store c.report_at-end.new.desk c.close.ensures.same clean in
-    let early = began_clean g.S.Store c.report_at-end.new.desk c.close.ensures.same clean c.in-Ok.desk c.report_at-end.ensures.clean in
-    rw c.close.ensures.same (c.report_at-end.ensures.left now s (c.in-Ok.ensures.found s stands early))
+    looked_kept g.S.Store (matched c.in-Ok-Sound.field-0-is c.in-Ok-Sound.ensures) c.over-desk.ensures c.report_at-end.new.desk c.close.ensures.same clean c.report_at-end.ensures.clean (λ o at. c.report_at-end.ensures.left now o at) s stands live
+
+pub returns-in-Ok-Sound-clause-stays : goal.returns-in-Ok-Sound-clause-stays
+returns-in-Ok-Sound-clause-stays g c clean =
+    let now = ended_clean g.S.Store c.report_at-end.new.desk c.close.ensures.same clean in
+    looked_stays g.S.Store (matched c.in-Ok-Sound.field-0-is c.in-Ok-Sound.ensures) c.over-desk.ensures c.report_at-end.new.desk c.close.ensures.same clean c.report_at-end.ensures.clean (λ o at. c.report_at-end.ensures.left now o at)
+
+pub returns-in-Ok-Empty-clause-told : goal.returns-in-Ok-Empty-clause-told
+returns-in-Ok-Empty-clause-told g c clean =
+    let it = (matched c.in-Ok-Empty.field-0-is c.in-Ok-Empty.ensures).seen clean in
+    inr (inr (record { same = it.0; none = it.1; told = c.report_nobodys-end.ensures _ }))
+
+pub returns-in-Ok-Empty-clause-kept : goal.returns-in-Ok-Empty-clause-kept
+returns-in-Ok-Empty-clause-kept g c clean s stands live = (matched c.in-Ok-Empty.field-0-is c.in-Ok-Empty.ensures).left s stands live clean
 
 pub returns-in-Err-clause-told : goal.returns-in-Err-clause-told
-returns-in-Err-clause-told g c clean = inl (refuses g.S.Store c.in-Err.fault c.in-Err.ensures c.taken_from-conn.ensures.conn clean _ c.taken_from-conn.ensures.told)
+returns-in-Err-clause-told g c clean = inl (refuses g.S.Store c.in-Err.fault (by_look c.in-Err.ensures) c.taken_from-conn.ensures.conn clean _ c.taken_from-conn.ensures.told)
 
 pub returns-in-Err-clause-kept : goal.returns-in-Err-clause-kept
-returns-in-Err-clause-kept g c clean s stands live = refused_left g.S.Store c.in-Err.fault c.in-Err.ensures c.taken_from-conn.ensures.conn clean s stands live
+returns-in-Err-clause-kept g c clean s stands live = refused_left g.S.Store c.in-Err.fault (by_look c.in-Err.ensures) c.taken_from-conn.ensures.conn clean s stands live
+
+pub returns-in-Err-clause-stays : goal.returns-in-Err-clause-stays
+returns-in-Err-clause-stays g c clean = rw c.taken_from-conn.ensures.conn (c.in-Err.ensures.stays (rw c.taken_from-conn.ensures.conn at clean))
+
+pub returns-in-Ok-Empty-clause-stays : goal.returns-in-Ok-Empty-clause-stays
+returns-in-Ok-Empty-clause-stays g c clean = (matched c.in-Ok-Empty.field-0-is c.in-Ok-Empty.ensures).stays clean

@@ -1,5 +1,4 @@
-use Rattle.std.proofs.Common.{None}
-use Rattle.bike_app.proofs.FeedLemmas.{published_at, still_left}
+use Rattle.bike_app.proofs.FeedLemmas.{published_at}
 use Rattle.bike_app.proofs.feed.publish_for.Goals as goal
 
 pub returns-clause-told : goal.returns-clause-told
@@ -8,4 +7,4 @@ returns-clause-told g c clean s at =
     rw c.told.ensures (published_at g.S.Store _ _ s c.args.feed c.args.moment _ _ clean at written.result written.ensures.desk (written.ensures.whole clean s at) (written.ensures.front clean s at))
 
 pub returns-clause-left : goal.returns-clause-left
-returns-clause-left g c clean s at = still_left g.S.Store _ _ s c.args.feed c.args.moment None None clean at c.write_feed-published.result c.write_feed-published.ensures.desk
+returns-clause-left g c clean s at = c.write_feed-published.ensures.desk.left clean s at

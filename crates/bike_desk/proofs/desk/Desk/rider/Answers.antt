@@ -1,12 +1,6 @@
-use Rattle.std.proofs.Common.{◌≡◌, sym, ap, ◌∙◌, subst}
-use Rattle.bike_queries.specs.Infos.{rider_info_at}
-use Rattle.bike_desk.specs.Desk.{DeskValue}
-use Rattle.bike_desk.specs.Queries.{Queries}
-use Rattle.bike_desk.proofs.QueryLemmas.{queries}
+use Rattle.bike_desk.proofs.QueryLemmas.{queries_then}
 use Rattle.bike_desk.proofs.desk.Desk.rider.Goals as goal
 
-pub returns-clause-query : goal.returns-clause-query
-returns-clause-query g c =
-    let going = ap (λ (d : DeskValue g.row.S.Denot). d.is_stopped) c.self.view_is ∙ sym c.stopped.ensures ∙ c.if-stopped.false in
-    let told = queries g.S.Store c.self.inside.conn c.find_rider_info-read.new.conn c.self.inside.stopped c.self.inside.newest (λ s x. x ≡ rider_info_at s c.args.rider) going c.find_rider_info-read.result c.answer.new.self c.answer.result c.find_rider_info-read.ensures c.answer.ensures in
-    subst (λ (d : DeskValue g.row.S.Denot). Queries g.S.Store d c.answer.new.self c.answer.result (λ s x. x ≡ rider_info_at s c.args.rider)) c.self.view_is told
+pub returns-in_ok-learn_newest-in-Unknown-clause-query : goal.returns-in_ok-learn_newest-in-Unknown-clause-query
+returns-in_ok-learn_newest-in-Unknown-clause-query g c =
+    queries_then g.S.Store c.args.self.now c.learn_newest.new.self c.find_rider.new.self c.in_ok-learn_newest-in-Unknown.ensures.query c.find_rider.ensures.query c.find_rider.ensures.takes_none

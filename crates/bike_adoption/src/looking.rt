@@ -1,0 +1,57 @@
+//! Looking at a database, which changes nothing.
+
+ghost use Rattle.std.specs.Prelude.{◌≡◌, false};
+ghost use Rattle.bike_adoption.specs.Adoption.{looked_as, Looks};
+
+use crate::adoption::AdoptFault;
+use bike_audit::{Finding, Watch, audit};
+use bike_schema::has_none;
+use sqlite::{Alter, Connection};
+use std::alloc::Global;
+
+/// A database that may be served, as it was before it was looked at.
+#[derive(Drop)]
+pub enum Looked<S: Alter> {
+    /// Its tables stand for an operator.
+    Sound(Connection<S>),
+    /// It has none of the product's tables.
+    Empty(Connection<S>),
+}
+
+/// What comes of a database that was found to be this.
+fn seen_as<S: Alter>(conn: Connection<S>, finding: Finding) -> Result<Looked<S>, AdoptFault<S>>
+    ensures { result ≡ looked_as conn finding }
+{
+    match finding {
+        Finding::Sound => Ok(Looked::Sound(conn)),
+        Finding::Foreign => Err(AdoptFault::Foreign(conn)),
+        Finding::Unsound(bad) => Err(AdoptFault::Unsound(conn, bad)),
+        Finding::Older(version) => Err(AdoptFault::Older(conn, version)),
+        Finding::Newer(version) => Err(AdoptFault::Newer(conn, version)),
+        // It had a table of the product's before.
+        Finding::Empty => Err(AdoptFault::StoreFailed(conn)),
+    }
+}
+
+/// Looks at a database over a connection outside a transaction, and changes nothing of it: what it is, and whether its tables stand for an
+/// operator, as `adopt` finds it. A database with none of the product's tables gets none. A fault tells what the database is, or that
+/// memory or the store failed, and hands the connection back. `watch` is told of each table before it is audited.
+pub fn look<S: Alter, P: Watch>(
+    alloc: Global,
+    mut conn: Connection<S>,
+    watch: &mut P,
+) -> Result<Looked<S>, AdoptFault<S>>
+    requires { conn.in_transaction ≡ false }
+    ensures { Looks S.Store conn result }
+{
+    // These two tell the prover that nothing is pending and that the database obeys its schema.
+    let _ = conn.is_autocommit();
+    let _ = conn.schema();
+    if has_none(&conn) {
+        return Ok(Looked::Empty(conn));
+    }
+    match audit(alloc, &mut conn, watch) {
+        Ok(finding) => seen_as(conn, finding),
+        Err(fault) => Err(AdoptFault::failed(fault, conn)),
+    }
+}

@@ -1,0 +1,45 @@
+-- What is so of a database that was looked at, after a desk over it was asked.
+use Rattle.std.proofs.Common.{◌≡◌, ◌≤◌, IsTrue, Ok, sym, subst}
+use Rattle.sqlite.specs.Store.{Ghosts}
+use Rattle.sqlite.specs.State.{HasCleanDisk}
+use Rattle.sqlite.specs.Held.{Held, state}
+use Rattle.sqlite_trees.specs.View.{doubt}
+use Rattle.bike_operator.specs.Operator.{Operator}
+use Rattle.bike_schema.specs.Stands.{AllLeft, IsOf, TreesStandFor}
+use Rattle.bike_desk.specs.Desk.{DeskValue, desk_state, IsAt}
+use Rattle.bike_adoption.specs.declared.looking.Looked.{Looked}
+use Rattle.bike_adoption.specs.declared.looking.Looked.TheVariants.{Sound}
+use Rattle.bike_adoption.specs.Adoption.{desk_over, IsSeen, Looks}
+use Rattle.bike_app.proofs.ProgramLemmas.{began_clean}
+
+-- what was found is what it was matched as
+pub matched : {S : Type 0} {g : Ghosts S} {first : Held S} {found as : Looked S} → found ≡ as → Looks g first (Ok found) → Looks g first (Ok as)
+matched {g = g} {first = first} is it = subst (λ l. Looks g first (Ok l)) is it
+
+module _ {S : Type 0} (g : Ghosts S) {first conn last : Held S} (looks : Looks g first (Ok (Sound conn))) {desk : DeskValue S} (over : desk ≡ desk_over conn) (new : DeskValue S)
+    (same : last ≡ new.conn) (clean : HasCleanDisk (state g last)) (falls : doubt (desk_state g desk).is_clean ≤ doubt (desk_state g new).is_clean) where
+  looked_clean : HasCleanDisk (state g conn)
+  looked_clean = subst (λ (d : DeskValue S). HasCleanDisk (desk_state g d)) over (began_clean g new same clean desk falls)
+
+  seen : IsSeen g first (Sound conn)
+  seen = looks.seen looked_clean
+
+  pub seen_at : (s : Operator) → TreesStandFor s (state g first).now.trees → IsAt g desk s
+  seen_at s stands = subst (λ (d : DeskValue S). IsAt g d s) (sym over) (seen.2 s stands)
+
+  pub seen_operator : (s : Operator) × IsOf (state g first).now s × IsAt g desk s
+  seen_operator = let it = seen.1 in (it.0, it.1, subst (λ (d : DeskValue S). IsAt g d it.0) (sym over) it.2)
+
+  module _ (leaves : (s : Operator) → IsAt g desk s → AllLeft (desk_state g new) (desk_state g desk).may_leave) where
+    -- a crash leaves no more than it could before the desk was asked
+    no_more : AllLeft (state g last) (state g conn).may_leave
+    no_more =
+        let it = seen_operator in
+        subst (λ (h : Held S). AllLeft (state g h) (state g conn).may_leave) (sym same)
+        (subst (λ (d : DeskValue S). AllLeft (desk_state g new) (desk_state g d).may_leave) over (leaves it.0 it.2))
+
+    pub looked_stays : AllLeft (state g last) (state g first).may_leave
+    looked_stays db h = looks.stays looked_clean db (no_more db h)
+
+    pub looked_kept : (s : Operator) → TreesStandFor s (state g first).now.trees → IsTrue (state g first).is_open → AllLeft (state g last) (TreesStandFor s)
+    looked_kept s stands live db h = looks.left s stands live looked_clean db (no_more db h)

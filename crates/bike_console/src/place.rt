@@ -1,0 +1,79 @@
+//! What stands at the path of a database file before it is opened.
+
+ghost use Rattle.std.specs.Prelude.{IfErr};
+ghost use Rattle.bike_console.specs.Files.{IsOpeningFault};
+
+use crate::blank::make_file;
+use crate::end::Fault;
+use crate::file::LEAST_LOG;
+use std::fs;
+use std::io::ErrorKind;
+
+/// Whether the path is that of a file: no database in memory, and no URI.
+pub(crate) fn is_plain(path: &str) -> bool {
+    path != ":memory:" && !path.starts_with("file:")
+}
+
+/// Whether there is nothing of that name, and no link either.
+fn is_missing(rt: &HostRuntime, path: &str) -> bool {
+    match fs::symlink_metadata(rt, path) {
+        Ok(_) => false,
+        Err(error) => error.kind() == ErrorKind::NotFound,
+    }
+}
+
+/// Whether a log that may hold commits stands beside a path at which there is no file.
+fn has_lone_log(rt: &HostRuntime, path: &str) -> Result<bool, Fault>
+    ensures { IfErr result IsOpeningFault }
+{
+    let log = format!(in rt.alloc(); "{path}-wal")?;
+    match fs::symlink_metadata(rt, log.as_str()) {
+        Ok(found) => Ok(found.len() >= LEAST_LOG as u64),
+        Err(_) => Ok(false),
+    }
+}
+
+/// Sees to a path before its database file is opened. Where there is none, it is made, if it may be; else that is `StoreFailed`, and
+/// nothing is made. So is a log that may hold commits and has no file: what it goes on from is gone, and a new file would take its
+/// place.
+pub fn prepare_file(rt: &HostRuntime, path: &str, may_make: bool) -> Result<(), Fault>
+    ensures { IfErr result IsOpeningFault }
+{
+    if !is_plain(path) || !is_missing(rt, path) {
+        return Ok(());
+    }
+    if !may_make || has_lone_log(rt, path)? {
+        return Err(Fault::StoreFailed);
+    }
+    make_file(rt, path);
+    Ok(())
+}
+
+/// The name of the log of a database file that has none yet.
+#[derive(Drop)]
+pub struct NewLog {
+    name: Option<String>,
+}
+
+impl NewLog {
+    /// The log that an opening of this path would make; none where there is one, or where its name can't be told.
+    pub fn beside(rt: &HostRuntime, path: &str) -> NewLog {
+        let name = match fs::canonicalize(rt, path) {
+            Ok(real) => format!(in rt.alloc(); "{}-wal", real.as_str()),
+            Err(_) => format!(in rt.alloc(); "{path}-wal"),
+        };
+        match name {
+            Ok(name) if is_missing(rt, name.as_str()) => NewLog { name: Some(name) },
+            _ => NewLog { name: None },
+        }
+    }
+
+    /// Takes that log away. It holds nothing as long as nothing was committed since; the caller holds the lock of the database file, so
+    /// that no other program has opened it.
+    pub fn remove(self, rt: &HostRuntime) {
+        if let Some(name) = self.name {
+            // Where this fails an empty log stays, which does no harm.
+            let _ = fs::remove_file(rt, name.as_str());
+        }
+    }
+}
