@@ -17,7 +17,7 @@ module _ {D : Type 0} {g : disk.Ghosts D} (image : Image) (input ahead old new :
     (does : HasCleanDisk (file_state conn) → DoesOverFile image input ahead old new task clock conn end) where
   -- a connection over which the task was done was closed, or its log stays
   pub closed_ends : (remains : Remains D g) (told : Result ℕ Fault) → Closes conn end remains told → EndsOnFile image input ahead old new task clock (Some remains) told
-  closed_ends (Open c) told it clean =
+  closed_ends (Open c) told it = λ clean.
       subst (λ (h : Held (FileStore D g)). DoesOverFile image input ahead old new task clock h told) (sym it.0)
       (subst (DoesOverFile image input ahead old new task clock conn) (sym it.1) (does (subst (λ (h : Held (FileStore D g)). HasCleanDisk (file_state h)) it.0 clean)))
   closed_ends (Settled files) told it =

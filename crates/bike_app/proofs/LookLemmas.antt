@@ -13,8 +13,8 @@ use Rattle.bike_adoption.specs.Adoption.{desk_over, IsSeen, Looks}
 use Rattle.bike_app.proofs.ProgramLemmas.{began_clean}
 
 -- what was found is what it was matched as
-pub matched : {S : Type 0} {g : Ghosts S} {first : Held S} {found as : Looked S} → found ≡ as → Looks g first (Ok found) → Looks g first (Ok as)
-matched {g = g} {first = first} is it = subst (λ l. Looks g first (Ok l)) is it
+pub matched : {S : Type 0} {g : Ghosts S} {first : Held S} {found is : Looked S} → found ≡ is → Looks g first (Ok found) → Looks g first (Ok is)
+matched {g = g} {first = first} same it = subst (λ l. Looks g first (Ok l)) same it
 
 module _ {S : Type 0} (g : Ghosts S) {first conn last : Held S} (looks : Looks g first (Ok (Sound conn))) {desk : DeskValue S} (over : desk ≡ desk_over conn) (new : DeskValue S)
     (same : last ≡ new.conn) (clean : HasCleanDisk (state g last)) (falls : doubt (desk_state g desk).is_clean ≤ doubt (desk_state g new).is_clean) where

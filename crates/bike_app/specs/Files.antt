@@ -58,13 +58,14 @@ pub record IsNotThere (input ahead old new : Option (List ℕ)) (end : Result �
   pub told : end ≡ Err fault
   pub is : IsOpeningFault fault
 
-module _ {D : Type 0} {g : disk.Ghosts D} (image : Image) (input ahead old new : Option (List ℕ)) (task : Task) (clock : Option ℕ) where
-  -- The task was done over a connection, and the database file holds by itself what that committed last: as it reads now, and after a crash.
-  pub record EndsSettled (files : Files D) (end : Result ℕ Fault) : Type 0 where
-    pub last : Held (FileStore D g)
-    pub does : HasCleanDisk (file_state last) → DoesOverFile image input ahead old new task clock last end
-    pub alone : AreClean g files.log files.db → IsCopied last files
+-- The task was done over a connection, and the database file holds by itself what that committed last: as it reads now, and after a crash.
+pub record EndsSettled {D : Type 0} (g : disk.Ghosts D) (image : Image) (input ahead old new : Option (List ℕ)) (task : Task) (clock : Option ℕ)
+    (files : Files D) (end : Result ℕ Fault) : Type 0 where
+  pub last : Held (FileStore D g)
+  pub does : HasCleanDisk (file_state last) → DoesOverFile image input ahead old new task clock last end
+  pub alone : AreClean g files.log files.db → IsCopied last files
 
+module _ {D : Type 0} {g : disk.Ghosts D} (image : Image) (input ahead old new : Option (List ℕ)) (task : Task) (clock : Option ℕ) where
   -- The task was done over a connection, and its log couldn't be brought into the file.
   pub record EndsUnsettled (store : FileStore D g) (end : Result ℕ Fault) : Type 0 where
     pub last : Held (FileStore D g)
@@ -75,9 +76,9 @@ module _ {D : Type 0} {g : disk.Ghosts D} (image : Image) (input ahead old new :
 
   -- HOW A WORD OVER A FILE ENDS: by what is left of its connection
   abbrev pub EndsOnFile : Option (Remains D g) → Result ℕ Fault → Type 0
-  EndsOnFile None end = IsNotThere input ahead old new end ⊎ IsUntouched image {D = D} {g = g} None input ahead old new end
+  EndsOnFile None end = IsNotThere input ahead old new end ⊎ IsUntouched {D = D} {g = g} image None input ahead old new end
   EndsOnFile (Some (remains.Open c)) end = HasCleanDisk (file_state c) → DoesOverFile image input ahead old new task clock c end
-  EndsOnFile (Some (remains.Settled files)) end = EndsSettled files end
+  EndsOnFile (Some (remains.Settled files)) end = EndsSettled g image input ahead old new task clock files end
   EndsOnFile (Some (remains.Unsettled store)) end = EndsUnsettled store end
 
 -- the database file is the whole database by itself

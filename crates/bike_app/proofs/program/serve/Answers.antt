@@ -1,5 +1,5 @@
 use Rattle.std.proofs.Common.{inl, inr, []}
-use Rattle.bike_app.proofs.ProgramLemmas.{began_clean, ended_clean, refuses, refused_left, end_told, some_left}
+use Rattle.bike_app.proofs.ProgramLemmas.{began_clean, by_adoption, ended_clean, refuses, refused_left, end_told, some_left}
 use Rattle.bike_app.proofs.program.serve.Goals as goal
 
 pub returns-in-Ok-clause-served : goal.returns-in-Ok-clause-served

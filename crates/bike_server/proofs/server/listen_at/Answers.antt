@@ -7,3 +7,6 @@ returns-in_err-listener-clause-kept g c clean s at = served g.S.Store c.args.des
 
 pub returns-in_err-tell_port-clause-kept : goal.returns-in_err-tell_port-clause-kept
 returns-in_err-tell_port-clause-kept g c clean s at = served g.S.Store c.args.desk.now s [] at
+
+pub returns-then-not-has_descriptors-clause-kept : goal.returns-then-not-has_descriptors-clause-kept
+returns-then-not-has_descriptors-clause-kept g c clean s at = served g.S.Store c.args.desk.now s [] at
