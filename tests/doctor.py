@@ -260,6 +260,11 @@ FREE_OF_DOUBT = (
 )
 
 
+def test_lines_of_the_example(program):
+    """Nothing is found in the lines that the package gives as an example of a city's first ones."""
+    assert not doctor.findings_of_lines((TOP / "deploy/begin.txt").read_bytes(), int(time.time()))
+
+
 def test_lines_that_cannot_be_taken_back(program):
     """Each is found with its field; so is no other; and the program accepts all of them."""
     for field, value, word in DOUBTFUL:
@@ -542,10 +547,13 @@ def test_tables_that_were_changed(program):
 
 
 def test_an_index_that_is_unique(program):
-    """A UNIQUE index beside the keys ends the program at a good request, so such a file is `foreign`."""
+    """A UNIQUE index beside the keys ends the program at a good request, so such a file is `foreign`, whatever its
+    version. One over the very columns of a key refuses nothing more."""
     file = city_file(program)
-    changed(file, "CREATE UNIQUE INDEX once ON riders (blocked)")
-    is_alike(program, file, "foreign", "the index once")
+    changed(file, "CREATE UNIQUE INDEX twice ON counts (station_id, type_id)")
+    is_alike(program, file, None)
+    changed(file, "CREATE UNIQUE INDEX once ON riders (blocked); UPDATE meta SET version = 2")
+    is_alike(program, file, "foreign", "the UNIQUE index once")
 
 
 def test_bytes_that_were_changed(program):
