@@ -12,7 +12,7 @@ returns-in-Ok-Sound-clause-told g c clean =
 pub returns-in-Ok-Empty-clause-told : goal.returns-in-Ok-Empty-clause-told
 returns-in-Ok-Empty-clause-told g c clean =
     let it = (matched c.in-Ok-Empty.field-0-is c.in-Ok-Empty.ensures).seen clean in
-    inr (record { operator = no_operator; was = inl (it.1, refl); same = inl it.0 }, c.write_line.ensures)
+    inr (record { operator = no_operator; was = inl (it.1, refl); same = inl it.0 }, c.write_line-in-Ok-Empty.ensures)
 
 pub returns-in-Ok-Sound-clause-kept : goal.returns-in-Ok-Sound-clause-kept
 returns-in-Ok-Sound-clause-kept g c clean s stands live = (matched c.in-Ok-Sound.field-0-is c.in-Ok-Sound.ensures).left s stands live clean

@@ -13,3 +13,6 @@ returns-in-Raise-clause-kept g c clean s stands live db h =
       | inr new ↦ new
     ] in
     rw c.in-Raise.is kept
+
+pub returns-in-Day-clause-done : goal.returns-in-Day-clause-done
+returns-in-Day-clause-done g c clean = rw c.in-Day.is (c.report_day.ensures.told clean)
