@@ -377,6 +377,23 @@ def test_tables_as_import_takes_them(program):
         assert (status, said.decode()) == ended, (table[:90], status, out, said)
 
 
+def test_tables_that_are_changed_anywhere(program):
+    """Quotes, commas, line ends and other bytes put in or taken away: what is found first is what the import says. So
+    many tables are tried as BIKESHARE_TABLES says, or 25."""
+    rnd = random.Random(1)
+    put_in = [b'"', b'"', b",", b"\n", b"\r", b"\r\n", b'""', b" ", b";", b"\xc3", b"", b"", b"0", b"-"]
+    for _ in range(int(os.environ.get("BIKESHARE_TABLES", "25"))):
+        rows = b'c1,Canal,45,9,10\nc2,"Corso, north",45.5,9,1\r\n"c3","a ""b""",45,9.2,7\n'
+        table = bytearray(HEADER.encode() + rows)
+        begin = 0 if rnd.random() < 0.2 else len(HEADER)
+        for _ in range(rnd.choice((1, 1, 2, 3))):
+            at = rnd.randrange(begin, len(table))
+            table[at : at + rnd.choice((0, 1))] = rnd.choice(put_in)
+        status, _, said = program.run("import", ":memory:", "x", "--at", "0", given=bytes(table))
+        wanted = first_refusal(bytes(table))
+        assert (status, said.decode()) == ((1, f"{wanted}\n") if wanted else (0, "")), (bytes(table), wanted, said)
+
+
 def test_what_is_said_of_tables(program):
     """The hints: where, and a word of what to do."""
     for table, where, word in (
@@ -449,6 +466,7 @@ def test_files_that_are_none(program):
     (folder / "dir.db").mkdir()
     os.mkfifo(folder / "pipe.db")
     os.symlink("nowhere.db", folder / "link.db")
+    os.symlink("ring.db", folder / "ring.db")
     os.link(city, folder / "second.db")
     for name, data in (
         ("text.db", b"Dear all,\n"), ("zip.db", b"PK\3\4" + bytes(200)), ("lines.db", SYSTEM),
@@ -459,12 +477,10 @@ def test_files_that_are_none(program):
         (folder / name).write_bytes(data)
     for name, hint in (
         ("none/city.db", "there is no folder"), ("city.db/x.db", "is no folder"), ("dir.db", "a folder"),
-        ("pipe.db", "no regular file"),
-        ("link.db", "a link to"), ("second.db", "2 names"), ("x" * 248, "more than 247 bytes"), ("text.db", "a text"),
-        ("zip.db", "ZIP"),
+        ("pipe.db", "no regular file"), ("link.db", "a link to"), ("ring.db", "can't be looked at"),
+        ("second.db", "2 names"), ("x" * 248, "more than 247 bytes"), ("text.db", "a text"), ("zip.db", "ZIP"),
         ("lines.db", "request lines"), ("table.db", "a table of stations"), ("zeros.db", "nothing but zeros"),
-        ("random.db", "isn't known"),
-        ("two.db", "a text"), ("packed.db", "gzip"), ("log.db", "without -wal"),
+        ("random.db", "isn't known"), ("two.db", "a text"), ("packed.db", "gzip"), ("log.db", "without -wal"),
     ):
         is_alike(program, folder / name, "store failed", hint)
     (folder / "second.db").unlink()
@@ -652,7 +668,7 @@ def test_a_city_ahead_of_the_clock(program):
 def test_who_has_the_file_open(program):
     """A program that serves it, and sqlite3, keep others away, and are named; then nothing is found again."""
     file = city_file(program)
-    with Server(program) as server:
+    with Server(program, seconds=60) as server:
         (found,) = looked_at(file)
         assert found.word == "store failed" and f"process {server.child.pid} (" in found.text, found
         assert program.run("check", "city.db") == STORE_FAILED
@@ -673,7 +689,7 @@ def test_who_has_the_file_open(program):
 def test_the_port(program):
     """A port that is taken, by which process, and one that only root may take."""
     city_file(program)
-    with Server(program) as server:
+    with Server(program, seconds=60) as server:
         (found,) = doctor.findings_of_port(server.port)
         assert place_of(found) == (f"port {server.port}", "read failed"), found
         assert f"process {server.child.pid} (" in found.text, found
@@ -725,6 +741,11 @@ def test_a_user_without_rights(program):
             (found,) = looked_at(file)
             assert found.word == "store failed" and hint in found.text, found
         assert nobody.run("lines", str(file), user=NOBODY, group=NOBODY, extra_groups=[]) == STORE_FAILED, hint
+    os.chmod(home, 0o700)
+    if os.access("/usr/bin/python3", os.X_OK):
+        status, said = ran("/usr/bin/python3", "-I", Path(program.folder, "script"), file, user=NOBODY)
+        assert status == 1 and f"can't go into {home}" in said, (status, said)
+    assert nobody.run("lines", str(file), user=NOBODY, group=NOBODY, extra_groups=[]) == STORE_FAILED
 
 
 def mounted(program, *commands):
@@ -739,17 +760,18 @@ def mounted(program, *commands):
 def test_a_disk_that_is_full_or_read_only(program):
     """Both are told, and the program says `store failed`."""
     city_file(program)
-    look, run = "$DOCTOR disk/city.db", '"$BIKESHARE" lines disk/city.db < /dev/null'
-    fill = "head -c 400k /dev/zero > disk/fill 2>/dev/null"
     said = mounted(
-        program, "mkdir disk", "mount -t tmpfs -o size=300k none disk", "cp city.db disk", fill, look, run,
-        "rm disk/fill", "mount -o remount,ro disk", look, run,
+        program, "mkdir full fixed", "mount -t tmpfs -o size=300k none full", "mount -t tmpfs -o size=16m none fixed",
+        "cp city.db full", "head -c 400k /dev/zero > full/fill 2>/dev/null",
+        "cp city.db fixed", "mount -o remount,ro fixed",
+        "$DOCTOR full/city.db", '"$BIKESHARE" lines full/city.db < /dev/null',
+        "$DOCTOR fixed/city.db", '"$BIKESHARE" lines fixed/city.db < /dev/null',
     )
     if said is None:
         return
     assert len(said) == 4 and said[1] == said[3] == "store failed", said
-    assert said[0].startswith("disk/city.db: store failed: the disk of ") and "full" in said[0], said
-    assert said[2].startswith("disk/city.db: store failed: ") and "read-only" in said[2], said
+    assert said[0].startswith("full/city.db: store failed: the disk of ") and "full, or nearly" in said[0], said
+    assert said[2].startswith("fixed/city.db: store failed: ") and "read-only" in said[2], said
 
 
 # ---- the program's lines

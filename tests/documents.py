@@ -40,3 +40,15 @@ def test_axes_of_pictures(program):
             scale = float if min(value for _, value in rows) == 0 else math.log10
             each = [(scale(two) - scale(one)) / (to - at) for (at, one), (to, two) in zip(rows, rows[1:])]
             assert max(each) - min(each) < 0.01 * abs(each[0]), (picture, rows)
+
+
+def test_wrong_bodies(program):
+    """docs/GATE.md lists the wrong bodies that the gate tries, and tells how many there are of each kind."""
+    text = (TOP / "docs/GATE.md").read_text(encoding="utf-8")
+    tried = {f"{it.parts[-3]}/{it.stem}" for it in TOP.glob("crates/*/must-fail/*.edit")}
+    listed = re.findall(r"^\| .* \| `(bike_\w+/\w+)` \|$", text, re.M)
+    assert sorted(tried) == sorted(listed), sorted(tried.symmetric_difference(listed))
+    assert len(tried) <= 30, len(tried)
+    kept = len(list(TOP.glob("review/*/*.edit")))
+    for wanted in f"{len(tried)} in all", f"{kept} in all":
+        assert wanted in text, wanted

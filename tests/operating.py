@@ -269,6 +269,7 @@ def test_release(program):
     assert [it for it in sorted(listed) if os.access(made / it, os.X_OK) and (made / it).stat().st_mode & 0o111] == [
         "bikeshare",
         "deploy/backup",
+        "deploy/bikeshare-doctor",
         "deploy/keep-copies",
         "examples/city/run",
         "examples/map/map.py",

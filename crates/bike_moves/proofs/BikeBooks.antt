@@ -36,7 +36,7 @@ module _ (s : Operator) (m : Listed) (listing : IsListing s m) (bike : ℕ) (f :
   marks = marks_same s next m listing refl
 
   -- in no dock: its own row alone
-  away : (b : Bike) (state : BikeState) (p : NewPlace) → fin.get s.bikes bike ≡ Some b → record b { state = state; place = place_of p } ≡ f b → IsAway b.place → IsAway (f b).place
+  pub away : (b : Bike) (state : BikeState) (p : NewPlace) → fin.get s.bikes bike ≡ Some b → record b { state = state; place = place_of p } ≡ f b → IsAway b.place → IsAway (f b).place
       → Books (row.SetBike bike state p ∷ []) s m next m
   away b state p found is from_away to_away =
       let moves = moves_by s bike b f found in
@@ -50,14 +50,14 @@ module _ (s : Operator) (m : Listed) (listing : IsListing s m) (bike : ℕ) (f :
 
   -- the counts of its type at one station
   module _ (station type_id : Bor (List ℕ)) (b : Bike) (type_is : type_id.now ≡ b.type_id) (others : SameBikesElsewhere s next station.now b.type_id) where
-    counts_at : (o : BikeTotals) → available_of next station.now b.type_id ≡ o.available → disabled_of next station.now b.type_id ≡ o.disabled
+    pub counts_at : (o : BikeTotals) → available_of next station.now b.type_id ≡ o.available → disabled_of next station.now b.type_id ≡ o.disabled
         → (t : Tables) → t.counts ≡ map (stored_count s) (fin.entries m.counts)
         → tables_after (write_of (count_change m station type_id o)) t ≡ record t { counts = map (stored_count next) (fin.entries (with_count station.now type_id.now m).counts) }
     counts_at o available disabled =
         count_written s next m listing station type_id o (subst (SameBikesElsewhere s next station.now) (sym type_is) others) (ap (available_of next station.now) type_is ∙ available)
         (ap (disabled_of next station.now) type_is ∙ disabled)
 
-    listing_at : fin.contains_key s.stations station.now ≡ true → fin.contains_key s.types b.type_id ≡ true → IsListing next (with_count station.now type_id.now m)
+    pub listing_at : fin.contains_key s.stations station.now ≡ true → fin.contains_key s.types b.type_id ≡ true → IsListing next (with_count station.now type_id.now m)
     listing_at has_station has_type =
         subst (λ (t : List ℕ). IsListing next (with_count station.now t m)) (sym type_is) (listing_counted_at s next m names marks listing station.now b.type_id has_station has_type others)
 

@@ -77,10 +77,10 @@ module _ {s n : Operator} {bike : ℕ} {b x : Bike} (h : BikeMoves s n bike b x)
   law : PutLaw s n bike x
   law = put_law s n bike x h.put
 
-  available_moves : (station kind : List ℕ) → IsMoved (available_of s station kind) (available_of n station kind) (available_share s station kind (Some b)) (available_share s station kind (Some x))
+  pub available_moves : (station kind : List ℕ) → IsMoved (available_of s station kind) (available_of n station kind) (available_share s station kind (Some b)) (available_share s station kind (Some x))
   available_moves station kind = ap (λ (o : Option Bike). available_of n station kind + available_share s station kind o) (sym h.found) ∙ law.available station kind
 
-  disabled_moves : (station kind : List ℕ) → IsMoved (disabled_of s station kind) (disabled_of n station kind) (disabled_share s station kind (Some b)) (disabled_share s station kind (Some x))
+  pub disabled_moves : (station kind : List ℕ) → IsMoved (disabled_of s station kind) (disabled_of n station kind) (disabled_share s station kind (Some b)) (disabled_share s station kind (Some x))
   disabled_moves station kind = ap (λ (o : Option Bike). disabled_of n station kind + disabled_share s station kind o) (sym h.found) ∙ law.disabled station kind
 
   left_moves : (station : List ℕ) (docks : ℕ) → docks_left n station docks +ℤ pos (occupied_share s station (Some x)) ≡ docks_left s station docks +ℤ pos (occupied_share s station (Some b))
@@ -116,10 +116,10 @@ pub record MovesAt (s n : Operator) (bike : ℕ) (b x : Bike) (at : List ℕ) (f
   pub to_is : IsMarkedAt s at to_broken x.place
 
 module _ {s n : Operator} {bike : ℕ} {b x : Bike} {at : List ℕ} {from_broken to_broken : Bool} (h : MovesAt s n bike b x at from_broken to_broken) where
-  before : ShareLaw s at from_broken b
+  pub before : ShareLaw s at from_broken b
   before = share_law s at from_broken b h.from_is
 
-  after : ShareLaw s at to_broken x
+  pub after : ShareLaw s at to_broken x
   after = share_law s at to_broken x h.to_is
 
   pub docks_elsewhere : (station : List ℕ) → station ≢ at → SameDocks s n station

@@ -9,7 +9,7 @@ use Rattle.bike_operator.specs.declared.records.Place.{Place}
 use Rattle.bike_operator.specs.declared.records.Place.TheVariants as place
 use Rattle.bike_operator.specs.declared.records.Bike.{Bike}
 use Rattle.bike_operator.specs.Operator.{Operator, Station, DockKey, texts_cmp}
-use Rattle.bike_operator.specs.Counts.{is_dock, is_broken, available_of, docks_broken}
+use Rattle.bike_operator.specs.Counts.{is_dock, is_broken, docked_at, available_of, docks_broken}
 use Rattle.bike_operator.specs.Steps.{dock_marked}
 use Rattle.bike_operator.specs.Sound.{HasDock, AreBikesSound}
 use Rattle.bike_places.proofs.CountLemmas.{found_by}
@@ -24,7 +24,7 @@ use Rattle.bike_moves.specs.Facts.{DockTotals, BikeTotals, IsMarkedEmpty, IsMark
 use Rattle.bike_moves.proofs.TotalsRows.{HasTotalsAt, totals_at, SameDocks, SameBikes, SameBikesElsewhere}
 
 -- a dock is broken or works
-broken_or_not : (b : Bool) → one (not b) + one b ≡ 1
+pub broken_or_not : (b : Bool) → one (not b) + one b ≡ 1
 broken_or_not true = refl
 broken_or_not false = refl
 
@@ -97,7 +97,7 @@ module _ {s : Operator} {at : List ℕ} {dock : ℕ} {mark : Bool} {d e : DockTo
 
 -- ---- a dock with a bicycle in it
 
-module _ {s : Operator} {at : List ℕ} {dock : ℕ} {mark : Bool} {bike : ℕ} {b : Bike} {d e : DockTotals} {n o : BikeTotals} (sound : AreBikesSound s) (h : IsMarkedHeld s at dock mark bike b d e n o) where
+module _ (s : Operator) (at : List ℕ) (dock : ℕ) (mark : Bool) (bike : ℕ) (b : Bike) (sound : AreBikesSound s) (held : docked_at s at dock ≡ Some (bike, b)) where
   abbrev held_next : Operator
   held_next = dock_marked at dock mark s
 
@@ -105,10 +105,10 @@ module _ {s : Operator} {at : List ℕ} {dock : ℕ} {mark : Bool} {bike : ℕ} 
   held_law = mark_law s held_next at dock mark (has_marked s at dock mark) sound
 
   a_bike : docked_bike s at dock ≡ Some b
-  a_bike = ap (option_map (λ (x : ℕ × Bike). x.1)) h.held
+  a_bike = ap (option_map (λ (x : ℕ × Bike). x.1)) held
 
   in_dock : b.place ≡ place.Dock at dock
-  in_dock = dock_is at dock b.place (found_by number_order (λ (y : Bike). is_dock at dock y.place) s.bikes (bike, b) h.held).1
+  in_dock = dock_is at dock b.place (found_by number_order (λ (y : Bike). is_dock at dock y.place) s.bikes (bike, b) held).1
 
   before : ShareLaw s at (is_broken s at dock) b
   before = share_law s at (is_broken s at dock) b (subst (IsMarkedAt s at (is_broken s at dock)) (sym in_dock) (refl, refl))
@@ -133,35 +133,42 @@ module _ {s : Operator} {at : List ℕ} {dock : ℕ} {mark : Bool} {bike : ℕ} 
   pub held_elsewhere : (station : List ℕ) → station ≢ at → SameDocks s held_next station
   held_elsewhere = docks_elsewhere held_law (Some b) a_bike (λ station apart. before.not_occupied station apart ∙ sym (after.not_occupied station apart))
 
-  pub held_here : (x : Station) → fin.get s.stations at ≡ Some x → HasTotalsAt held_next at x e
+  -- the counts of its type
+  pub available_held : IsMoved (available_of s at b.type_id) (available_of held_next at b.type_id) (dock_shares (is_broken s at dock) b.state).available (dock_shares mark b.state).available
+  available_held =
+      let moved = available_moves held_law (Some b) a_bike at b.type_id in
+      let p = before.available ∙ in_shares (λ z. z.available) (is_broken s at dock) in
+      let q = after.available ∙ in_shares (λ z. z.available) mark in
+      omega (arith, moved, p, q)
+
+  pub disabled_held : IsMoved (disabled_of s at b.type_id) (disabled_of held_next at b.type_id) (dock_shares (is_broken s at dock) b.state).disabled (dock_shares mark b.state).disabled
+  disabled_held =
+      let moved = disabled_moves held_law (Some b) a_bike at b.type_id in
+      let p = before.disabled ∙ in_shares (λ z. z.disabled) (is_broken s at dock) in
+      let q = after.disabled ∙ in_shares (λ z. z.disabled) mark in
+      omega (arith, moved, p, q)
+
+-- with the numbers before and after
+module _ {s : Operator} {at : List ℕ} {dock : ℕ} {mark : Bool} {bike : ℕ} {b : Bike} {d e : DockTotals} {n o : BikeTotals} (sound : AreBikesSound s) (h : IsMarkedHeld s at dock mark bike b d e n o) where
+  pub held_here : (x : Station) → fin.get s.stations at ≡ Some x → HasTotalsAt (dock_marked at dock mark s) at x e
   held_here x found =
       let had = totals_at s at d h.docks x found in
       let free = had.0 in
       let broken = had.1 in
-      let left = left_here held_law (Some b) a_bike h.has x found in
-      let marked = broken_here held_law (Some b) a_bike h.has x found in
-      let taken_before = before.occupied ∙ in_shares (λ z. z.occupied) (is_broken s at dock) in
-      let taken_after = after.occupied ∙ in_shares (λ z. z.occupied) mark in
+      let law = held_law s at dock mark bike b sound h.held in
+      let here = a_bike s at dock mark bike b sound h.held in
+      let left = left_here law (Some b) here h.has x found in
+      let marked = broken_here law (Some b) here h.has x found in
+      let taken_before = (before s at dock mark bike b sound h.held).occupied ∙ in_shares s at dock mark bike b sound h.held (λ z. z.occupied) (is_broken s at dock) in
+      let taken_after = (after s at dock mark bike b sound h.held).occupied ∙ in_shares s at dock mark bike b sound h.held (λ z. z.occupied) mark in
       let p = broken_or_not (is_broken s at dock) in
       let q = broken_or_not mark in
       let free_stays = h.free_stays in
       let by_broken = h.broken_moves in
       (omega (arith, ints, free, left, taken_before, taken_after, p, q, free_stays), omega (arith, broken, marked, by_broken))
 
-  pub held_available : available_of held_next at b.type_id ≡ o.available
-  held_available =
-      let moved = available_moves held_law (Some b) a_bike at b.type_id in
-      let p = before.available ∙ in_shares (λ z. z.available) (is_broken s at dock) in
-      let q = after.available ∙ in_shares (λ z. z.available) mark in
-      let had = h.bikes.available in
-      let by = h.bikes_move.available in
-      omega (arith, moved, p, q, had, by)
+  pub held_available : available_of (dock_marked at dock mark s) at b.type_id ≡ o.available
+  held_available = let moved = available_held s at dock mark bike b sound h.held in let had = h.bikes.available in let by = h.bikes_move.available in omega (arith, moved, had, by)
 
-  pub held_disabled : disabled_of held_next at b.type_id ≡ o.disabled
-  held_disabled =
-      let moved = disabled_moves held_law (Some b) a_bike at b.type_id in
-      let p = before.disabled ∙ in_shares (λ z. z.disabled) (is_broken s at dock) in
-      let q = after.disabled ∙ in_shares (λ z. z.disabled) mark in
-      let had = h.bikes.disabled in
-      let by = h.bikes_move.disabled in
-      omega (arith, moved, p, q, had, by)
+  pub held_disabled : disabled_of (dock_marked at dock mark s) at b.type_id ≡ o.disabled
+  held_disabled = let moved = disabled_held s at dock mark bike b sound h.held in let had = h.bikes.disabled in let by = h.bikes_move.disabled in omega (arith, moved, had, by)

@@ -15,7 +15,7 @@ use Rattle.bike_book.proofs.Keys.{texts}
 use Rattle.bike_moves.specs.Ends.{StoredDocksLaw, SoundEndsLaw}
 
 module _ (s : Operator) (sound : AreBikesSound s) where
-  left_is : (station : List ℕ) (x : Station) → fin.get s.stations station ≡ Some x → docks_left s station x.row.docks ≡ pos (docks_available s station x.row.docks)
+  pub left_is : (station : List ℕ) (x : Station) → fin.get s.stations station ≡ Some x → docks_left s station x.row.docks ≡ pos (docks_available s station x.row.docks)
   left_is station x found = let all = docks_law s sound station x.row.docks (record { row = x; found = found; docks_are = refl }) in omega (arith, ints, all)
 
   tables_same : (m : Listed) → tables_between s m ≡ tables_for s m

@@ -7,3 +7,5 @@ pub mod DockMarks
 pub mod MarkBooks
 pub mod After
 pub mod Ends
+pub mod PutBooks
+pub mod MarkedBooks

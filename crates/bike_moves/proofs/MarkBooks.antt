@@ -45,7 +45,7 @@ module _ (s : Operator) (m : Listed) (listing : IsListing s m) (sound : AreBikes
       let marked = has_marked s station.now dock mark in
       dock_written s next m listing station dock mark (λ other d apart. sym (marked_other s next station.now dock mark marked other d apart)) (marked_here s next station.now dock mark marked) (tables_between s m) refl
 
-  empty_books : (d e : DockTotals) → IsMarkedEmpty s station.now dock mark d e → Books (dock_change m station dock mark ∷ row.SetDocks station e.free e.broken ∷ []) s m next w
+  pub empty_books : (d e : DockTotals) → IsMarkedEmpty s station.now dock mark d e → Books (dock_change m station dock mark ∷ row.SetDocks station e.free e.broken ∷ []) s m next w
   empty_books d e h =
       let stations = stations_set s next station.now e (empty_elsewhere sound h) (empty_here sound h) in
       let counts = counts_same s next m listing (empty_bikes sound h) in
@@ -54,12 +54,12 @@ module _ (s : Operator) (m : Listed) (listing : IsListing s m) (sound : AreBikes
         listing = listing_kept s next w names marks (listing_dock s m station.now dock h.has listing) (empty_bikes sound h);
       }
 
-  held_books : (type_id : Bor (List ℕ)) (bike : ℕ) (b : Bike) (d e : DockTotals) (n o : BikeTotals) → type_id.now ≡ b.type_id → IsMarkedHeld s station.now dock mark bike b d e n o
+  pub held_books : (type_id : Bor (List ℕ)) (bike : ℕ) (b : Bike) (d e : DockTotals) (n o : BikeTotals) → type_id.now ≡ b.type_id → IsMarkedHeld s station.now dock mark bike b d e n o
       → Books (dock_change m station dock mark ∷ row.SetDocks station e.free e.broken ∷ count_change m station type_id o ∷ []) s m next (with_count station.now type_id.now w)
   held_books type_id bike b d e n o type_is h =
-      let others = subst (SameBikesElsewhere s next station.now) (sym type_is) (held_bikes sound h) in
+      let others = subst (SameBikesElsewhere s next station.now) (sym type_is) (held_bikes s station.now dock mark bike b sound h.held) in
       let has_type = subst (λ (t : List ℕ). fin.contains_key s.types t ≡ true) (sym type_is) h.bikes.type_is in
-      let stations = stations_set s next station.now e (held_elsewhere sound h) (held_here sound h) in
+      let stations = stations_set s next station.now e (held_elsewhere s station.now dock mark bike b sound h.held) (held_here sound h) in
       let counts = count_written s next m listing station type_id o others (ap (available_of next station.now) type_is ∙ held_available sound h) (ap (disabled_of next station.now) type_is ∙ held_disabled sound h) in
       record {
         leads = ap (tables_after_all (writes_of (row.SetDocks station e.free e.broken ∷ count_change m station type_id o ∷ []))) mark_written

@@ -5,6 +5,7 @@ ghost use Rattle.bike_moves.specs.AfterLaws.{Always, AfterReport, AfterPlace, Af
 ghost use Rattle.bike_moves.specs.AfterLaws.{AfterTurn, AfterTurnAway, AfterTurnAt, AfterMarkEmpty, AfterMarkHeld};
 ghost use Rattle.bike_moves.specs.Ends.{StoredDocksLaw, SoundEndsLaw};
 ghost use Rattle.bike_moves.specs.MoveLaws.{ReportLaw, PlaceAwayLaw, PlaceAtLaw, TurnAwayLaw, TurnAtLaw, MarkEmptyLaw, MarkHeldLaw};
+ghost use Rattle.bike_moves.specs.PutLaws.{AwayLaw, AtDockLaw, MarkedEmptyLaw, MarkedHeldLaw};
 
 /// The law of a station's report.
 pub fn books_report()
@@ -27,6 +28,20 @@ pub fn books_state()
 pub fn books_mark()
     ensures empty { Everywhere MarkEmptyLaw }
     ensures held { Everywhere MarkHeldLaw }
+{}
+
+/// The laws of a bicycle's record put, in another state or place or both: from no dock to no dock, and from, into or in
+/// a dock, whose station reports. The numbers to write follow from those stored.
+pub fn books_put()
+    ensures away { Everywhere AwayLaw }
+    ensures at_dock { Everywhere AtDockLaw }
+{}
+
+/// The laws of a dock marked as broken or as working, whose station reports: an empty one, and one with a bicycle in it.
+/// The numbers to write follow from those stored.
+pub fn books_marked()
+    ensures empty { Everywhere MarkedEmptyLaw }
+    ensures held { Everywhere MarkedHeldLaw }
 {}
 
 /// What stands after each of these changes, for the next change of the same request: the bicycle's record, and

@@ -7,4 +7,7 @@
 
 mod laws;
 
-pub use laws::{books_mark, books_place, books_report, books_request, books_state, stands_after};
+pub use laws::{
+    books_mark, books_marked, books_place, books_put, books_report, books_request, books_state,
+    stands_after,
+};
