@@ -1,12 +1,12 @@
 """The ends of the words that may change a city: what their log holds is brought into FILE.
 
-After status 0, 1 or 6 of `init`, `lines`, `import` and `raise` FILE alone, without its log, is the whole city. Where the log
-can't be brought into FILE that is `store failed`, status 3, whatever else the word had to say; then FILE with its log is the
-city, and the word, given the same again, ends as it does where nothing fails.
+After status 0, 1 or 6 of `init`, `lines`, `import` and `raise` FILE alone, without its log, is the whole city. Where
+the log can't be brought into FILE that is `store failed`, status 3, whatever else the word had to say. Then FILE with
+its log is the city, and the word, given the same again, ends as it does where nothing fails.
 
-Calls on the files fail in turn, alone or with all after them (tests/stops/faults.c), and the words run on disks of memory of
-every size between too small and large enough, where the test is root. A sample stands in the gate, with the last calls of
-each word. By hand, all of it:
+Calls on the files fail in turn, alone or with all after them (tests/stops/faults.c), and the words run on disks of
+memory of every size between too small and large enough, where the test is root. A sample stands in the gate, with the
+last calls of each word. By hand, all of it:
 
     BIKESHARE_CLOSING=1 BIKESHARE_JOBS=4 tests/run closing.
 
@@ -25,15 +25,17 @@ from pathlib import Path
 import adoption
 import raising
 from shared import DISTURBED, EIO, ENOSPC, FAULTS, HEADER, JOBS, READ_FAILED, READY, SOUND, STORE_FAILED, Program
-from shared import at_once, can_mount, counted, disk, environment, held, killed, nothing_is, put, quickly, removed, rows_of
-from shared import taken, tell
+from shared import at_once, can_mount, counted, disk, environment, held, killed, nothing_is, put, quickly, removed
+from shared import rows_of, taken, tell
 
 STRIDE = int(os.environ.get("BIKESHARE_CLOSING", "0"))
 PAGE = 4096
 # So many calls at the end of a word are always tried.
 LAST = 12
+UNCLOSED = "all was told, and the store failed"
 BEGUN = 20
 ASKED, TOLD = (text.splitlines(keepends=True) for text in (adoption.asked(), adoption.told()))
+FIRST, FIRST_ANSWERS = b"".join(ASKED[:BEGUN]), b"".join(TOLD[:BEGUN])
 MORE, ANSWERS = b"".join(ASKED[BEGUN:]), b"".join(TOLD[BEGUN:])
 IMPORT = ["import", "FILE", "spring", "--at", "1700009000"]
 TABLE = HEADER.encode() + b"c1,Canal,45.0,9.1,10\nc2,Corso,45.000001,9.2,12\nc3,Castle,45,9.3,8\n"
@@ -45,12 +47,13 @@ FAILURES = {
     "no room once": lambda at: {"FAIL_AT": at, "FAIL_WITH": ENOSPC},
     "no room from then on": lambda at: {"FAIL_FROM": at, "FAIL_WITH": ENOSPC},
 }
-# The words over a file and its log, their input, and how they end where nothing fails. The input is a folder where it is none.
+# The words over a file and its log, their input, which is a folder where there is none, and how they end where nothing
+# fails.
 Word = collections.namedtuple("Word", "words begins given wanted")
 WORDS = {
     "init": Word(["init", "FILE"], "nothing", b"", READY),
     "init of a killed city": Word(["init", "FILE"], "killed", b"", READY),
-    "lines of a new file": Word(["lines", "FILE"], "nothing", b"".join(ASKED[:BEGUN]), (0, b"".join(TOLD[:BEGUN]), b"")),
+    "lines of a new file": Word(["lines", "FILE"], "nothing", FIRST, (0, FIRST_ANSWERS, b"")),
     "lines of a killed city": Word(["lines", "FILE"], "killed", MORE, (0, ANSWERS, b"")),
     "no lines of a killed city": Word(["lines", "FILE"], "killed", b"", (0, b"", b"")),
     "lines that nobody takes": Word(["lines", "FILE"], "killed", MORE, WRITE_FAILED),
@@ -68,8 +71,8 @@ def begun(file, begins):
     """The parts of the file over which a word begins."""
     with tempfile.TemporaryDirectory() as folder:
         if begins == "killed":
-            found = killed(Program(file, folder), b"".join(ASKED[:BEGUN]))
-            assert found == b"".join(TOLD[:BEGUN]), found
+            found = killed(Program(file, folder), FIRST)
+            assert found == FIRST_ANSWERS, found
             return taken(folder, "city.db")
         return taken(raising.of_sql(folder, 1)) if begins == "older" else {}
 
@@ -89,7 +92,7 @@ def ran(word, program, name, env=None):
 
 
 def kept(*where):
-    """How many requests a file with its log keeps. Where no request was answered there may be no tables, or no whole first page."""
+    """How many requests a file with its log keeps. It may have no tables yet, or no whole first page."""
     try:
         return rows_of("SELECT count(*) FROM kept", *where)[0][0]
     except sqlite3.DatabaseError as fault:
@@ -129,10 +132,13 @@ class Turns:
             removed(self.program.folder, f"alone_{file}")
 
     def goes_on(self, file, out):
-        """FILE with its log has what was answered and at most one request more; the word, given the same again, ends as wanted."""
-        requests = (self.word.given or b"").count(b"\n") if self.word.words[0] == "lines" else 3
-        answered = (out or b"").count(b"\n") if self.word.words[0] == "lines" else 3 * (out == b"rows 3\n")
-        most = min(requests, answered + 1) if self.word.words[0] == "lines" else requests
+        """FILE with its log has what was answered and at most one request more; the word, given the same again, ends
+        as wanted."""
+        if self.word.words[0] == "lines":
+            answered = (out or b"").count(b"\n")
+            most = min((self.word.given or b"").count(b"\n"), answered + 1)
+        else:
+            answered, most = 3 * (out == b"rows 3\n"), 3
         if self.word.begins != "older":
             count = kept(self.program.folder, file) - self.begun
             assert answered <= count <= most, f"{answered} were answered, and the file with its log keeps {count}"
@@ -148,7 +154,7 @@ class Turns:
             return self.is_whole(file)
         assert (status, said) == (3, STORE_FAILED[2]), f"{ended}"
         assert out is None or self.word.wanted[1].startswith(out), f"it told {out}"
-        self.ends["all was told, and the store failed" if out == self.word.wanted[1] else "the store failed"] += 1
+        self.ends[UNCLOSED if out == self.word.wanted[1] else "the store failed"] += 1
         return self.goes_on(file, out)
 
     def turn(self, number, faults):
@@ -172,12 +178,12 @@ def test_calls_that_fail(program):
         last = range(max(1, turns.calls + 1 - LAST), turns.calls + 1)
         tried = []
         for first, faults in enumerate(FAILURES.values()):
-            at = set(range(1 + first, turns.calls + 1, STRIDE or 61)) | set(last if STRIDE else last[first::4])
+            at = {*range(1 + first, turns.calls + 1, STRIDE or 97), *last[0 if STRIDE else first :: 1 if STRIDE else 4]}
             tried += [faults(it) for it in sorted(at)]
         wrong += [it for it in at_once(lambda turn: turns.turn(*turn), enumerate(tried), JOBS) if it]
         tell("failure of a call", name, turns.ends, len(tried))
         # The closing itself failed in some of them.
-        if turns.word.wanted[1] and not turns.ends["all was told, and the store failed"]:
+        if turns.word.wanted[1] and not turns.ends[UNCLOSED]:
             wrong.append(f"{name}: no closing failed in {len(tried)} turns, {dict(turns.ends)}")
     nothing_is(wrong)
 
@@ -217,6 +223,6 @@ def test_disks_of_every_size(program):
         wrong += [it for it in (on_disk(turns, folder, size) for size in sizes) if it]
         tell("disk of memory", name, turns.ends, len(sizes))
         # Of some disks the log alone found room.
-        if not (turns.ends["done"] and turns.ends["all was told, and the store failed"]):
+        if not (turns.ends["done"] and turns.ends[UNCLOSED]):
             wrong.append(f"{name}: of {len(sizes)} disks {dict(turns.ends)}")
     nothing_is(wrong)

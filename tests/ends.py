@@ -231,7 +231,7 @@ def test_a_disk_without_room(program):
         file = f"full{limit}.db"
         status, out, said = program.run("lines", file, given=ASKED, timeout=SECONDS, preexec_fn=limited(limit), restore_signals=False)
         found = out.splitlines(keepends=True)
-        # Where all is answered, there may be no room for what the log holds.
+        # Where all is answered, FILE may have no room for what the log holds.
         right = (status, said) == (3, b"store failed\n") or ((status, said) == (0, b"") and found == answers)
         assert right and found == answers[: len(found)], (limit, status, out, said)
         ends.add(status)

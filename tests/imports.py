@@ -142,7 +142,8 @@ LONG, TOO_LONG = 60_000, 100_000
 
 
 def test_records_of_60000_bytes_and_100000(program):
-    """Up to some 64 KiB a record is judged by what it holds; a longer one is an input that can't be read, and the rows before it stand."""
+    """Up to some 64 KiB a record is judged by what it holds; a longer one is an input that can't be read, and the rows
+    before it stand."""
     good = HEADER + "c1,Canal,45,9.1,10\n"
     records = {
         "a name": ("c2,{},45,9.1,10\n", "x", "bad_field"),
@@ -172,7 +173,8 @@ def test_headers_of_60000_bytes_and_100000(program):
 
 
 def poured(program, front, piece, count):
-    """Pours a table into the program as long as it takes it, and returns its status, what it says, and the bytes of memory it had at most."""
+    """Pours a table into the program as long as it takes it, and returns its status, what it says, and the most bytes
+    of memory that it had."""
     with program.started("import", "city.db", "spring", "--at", AT, stdin=subprocess.PIPE) as child:
         with contextlib.suppress(BrokenPipeError):
             child.stdin.write(front)
@@ -189,7 +191,8 @@ def poured(program, front, piece, count):
 def test_records_without_end_take_little_memory(program):
     """100 MB of commas, and 300 MB between two quotes."""
     good = (HEADER + "c1,Canal,45,9.1,10\n").encode()
-    for front, piece, count in (good, b"," * 1_000_000, 100), (good + b'c2,"', b"x" * 1_000_000, 300), (b'"', b"\n" * 1_000_000, 300):
+    tables = (good, b",", 100), (good + b'c2,"', b"x", 300), (b'"', b"\n", 300)
+    for front, piece, count in ((front, piece * 1_000_000, count) for front, piece, count in tables):
         status, said, memory = poured(program, front, piece, count)
         assert (status, said) == (6, b"read failed\n"), (piece[:1], status, said)
         assert memory < 64_000_000, f"{memory} bytes of memory for records of {piece[:1]}"
@@ -199,7 +202,8 @@ def test_records_without_end_take_little_memory(program):
 
 def test_what_is_between_records_is_none(program):
     """Empty lines are no part of a record, however many there are."""
-    table = "\n" * TOO_LONG + HEADER + "\n" * TOO_LONG + "c1,Canal,45,9.1,10\n" + "\r\n" * TOO_LONG + "c2,Corso,45,9.1,10\n" + "\n" * TOO_LONG
+    empty = "\n" * TOO_LONG
+    table = empty + HEADER + empty + "c1,Canal,45,9.1,10\n" + "\r\n" * TOO_LONG + "c2,Corso,45,9.1,10\n" + empty
     assert load(program, table) == (0, "rows 2\n", "")
 
 

@@ -1,9 +1,10 @@
-"""A log whose FILE is missing, empty or damaged at its begin. It may be the only copy of the newest requests, or of the whole city: no word
-begins anew over it.
+"""A log whose FILE is missing, empty or damaged at its begin. It may be the only copy of the newest requests, or of the
+whole city: no word begins anew over it.
 
-A log of 568 bytes or more may hold a commit: its header, and a frame of the smallest page. Where its FILE is missing or has 0 bytes every word
-says `store failed`, makes no FILE and leaves the log; with FILE put back the city is whole. Where FILE's first page is damaged a word says
-`store failed` and changes nothing, or the log has that page, and then the city is what it was.
+A log of 568 bytes or more may hold a commit: its header, and a frame of the smallest page. Where its FILE is missing
+or has 0 bytes every word says `store failed`, makes no FILE and leaves the log; with FILE put back the city is whole.
+Where FILE's first page is damaged a word says `store failed` and changes nothing, or the log has that page, and then
+the city is what it was.
 """
 
 import functools
@@ -22,7 +23,8 @@ INPUT = b"1700009000\toffice\tnew\tadd-region\twest\tWest\n"
 
 @functools.cache
 def left(file, is_young):
-    """FILE and the log that a kill leaves of the city, and what they hold: of a young one the log holds all, of another the newest requests."""
+    """FILE and the log that a kill leaves of the city, and what they hold. Of a young one the log holds all, and of
+    another the newest requests."""
     with tempfile.TemporaryDirectory() as folder:
         program, begun = Program(file, folder), 0 if is_young else BEGUN
         if begun:
@@ -76,8 +78,8 @@ def test_the_least_log(program):
 def damages(main):
     """FILE with a first page that is damaged, each with its name."""
     page = int.from_bytes(main[16:18], "big")
-    noise = random.Random(1).randbytes(page)
-    for name, front in ("zeros", bytes(page)), ("noise", noise), ("no header", bytes(100)), ("no first bytes", bytes(16)):
+    zeros, noise = bytes(page), random.Random(1).randbytes(page)
+    for name, front in ("zeros", zeros), ("noise", noise), ("no header", zeros[:100]), ("no name", zeros[:16]):
         yield name, front + main[len(front) :]
     for size in 1, 15, 100, page // 2, page - 1:
         yield f"{size} bytes", main[:size]
@@ -89,9 +91,9 @@ def test_a_first_page_that_is_damaged(program):
     for is_young in True, False:
         parts, state = left(program.file, is_young)
         for number, (name, main) in enumerate(damages(parts[""])):
-            # Each damage is met by three of the words, so that each word meets some.
+            # Each damage is met by some of the words, and each word meets some.
             for word, *more in [["check"], *(EACH_WORD * 2)[2 * number % len(EACH_WORD) :][:2]]:
-                if word == "serve":
+                if word in ("serve", "check") and more:
                     continue
                 with told_with(f"{'young' if is_young else 'grown'}, {name}, {word}"):
                     put({"": main, "-wal": parts["-wal"]}, program.folder, "city.db")

@@ -1,5 +1,5 @@
-"""Words that only look. `check`, `feed` and `day` change nothing: no byte of FILE and not its journal mode, they make no table, and leave no log
-where there was none. They and `raise` make no FILE. A file that is refused gets no log beside it, whatever the word.
+"""Words that only look. `check`, `feed` and `day` change nothing: no byte of FILE and not its journal mode. They make no
+table, and leave no log where there was none. They and `raise` make no FILE. A file that is refused gets no log.
 """
 
 import contextlib
@@ -79,6 +79,18 @@ def test_databases_of_others(program):
 
 
 @quickly
+def test_files_of_a_byte_or_none(program):
+    """The engine writes its first page. There is no table in it, and no log."""
+    for data in b"", b"S":
+        for words, empty in LOOKS.values():
+            file = Path(program.folder, "city.db")
+            file.write_bytes(data)
+            assert asks(program, words, file.name) == empty, (data, words)
+            assert os.listdir(program.folder) == [file.name], (data, words, os.listdir(program.folder))
+            assert not held(file), (data, words)
+
+
+@quickly
 def test_a_city(program):
     """One that ended, without its log, and one whose server was killed."""
     file = adoption.made(program, "city.db")
@@ -102,10 +114,11 @@ def test_a_file_that_is_refused_gets_no_log(program):
     (here / "notes.txt").write_text("no database\n" * 100)
     (here / "noise.db").write_bytes(random.Random(1).randbytes(8192))
     changed(here / "other.db", "CREATE TABLE meta (one INTEGER PRIMARY KEY, app TEXT)")
-    changed(here / "index.db", "CREATE TABLE riders (rider INTEGER PRIMARY KEY, name TEXT); CREATE UNIQUE INDEX one ON riders (name)")
+    changed(here / "index.db", "CREATE TABLE riders (rider INTEGER); CREATE UNIQUE INDEX one ON riders (rider)")
     before = beside(program)
     assert sorted(before) == ["index.db", "noise.db", "notes.txt", "other.db"], sorted(before)
-    for file, wanted in ("notes.txt", STORE_FAILED), ("noise.db", STORE_FAILED), ("other.db", FOREIGN), ("index.db", FOREIGN):
+    files = {"notes.txt": STORE_FAILED, "noise.db": STORE_FAILED, "other.db": FOREIGN, "index.db": FOREIGN}
+    for file, wanted in files.items():
         for word, *more in adoption.EACH_WORD:
             with told_with(f"{file}, {word}"):
                 ended = program.run(word, file, *more, given=b"1700000000\toffice\tk1\tadd-rider\t17\n")

@@ -1,5 +1,5 @@
-"""What a rider's newest rental tells, and a rider who rides by one that is not the newest: no request makes such a city, and the rules of
-docs/FORMATS.md, section 11, allow its file.
+"""What a rider's newest rental tells, and a rider who rides by one that is not the newest: no request makes such a
+city, and the rules of docs/FORMATS.md, section 11, allow its file.
 
 A desk asks the newest rental of a rider alone where every open rental is its rider's newest; in this file it may not. So what is refused, and
 what is allowed once the older rental is closed, is that of docs/OPERATOR.md, and not of a city in which the newest rental tells.
@@ -133,7 +133,7 @@ def processor(child):
 
 
 def test_the_row_of_a_rider_of_many_rentals_costs_no_more(program):
-    """The rentals are read once after the opening, and each row then costs what that of a rider without rentals does."""
+    """They are read once after the opening, and each row then costs what that of a rider without rentals does."""
     shared.city(program, "add-rider\t18")
     changed(Path(program.folder, "city.db"), RIDES)
     assert program.run("check", "city.db") == SOUND
@@ -155,4 +155,4 @@ def test_the_row_of_a_rider_of_many_rentals_costs_no_more(program):
                 found = server.ask(post("/riders/17/start", '{"key":"s1","station":"a1","dock":1}'))
                 assert found == answer(200, f'{{"result":"ok","rental":{RODE + 1},"bike":7}}'), found
             many = cost(17, row(17, 500, RODE + 1 if begun else 0))
-            assert many < 3 * few, f"{times} rows of a rider of {RODE} rentals took {many} ns of processor, and {few} ns of one without"
+            assert many < 3 * few, f"{times} rows took {many} ns of a processor, and {few} of a rider without rentals"

@@ -16,8 +16,8 @@ import time
 from datetime import datetime, timezone
 
 from shared import BAD_FIELD, CITY, DONE, FEEDS, FOREIGN, MOMENT, READ_FAILED, READY, SECONDS, START, STARTED, STORE_FAILED, Server
-from shared import answer, ask, city, error, feed, get, get_feed, holds, is_sound, line_of, office, post, refused, request, reset, rest
-from shared import timeless
+from shared import answer, ask, city, error, feed, get, get_feed, holds, is_sound, line_of, office, post, refused
+from shared import request, reset, rest, timeless
 
 NOT_RIDING = answer(200, '{"rider":17,"state":"open","balance_cents":2500,"rental":0}')
 
@@ -967,7 +967,8 @@ def test_few_descriptors(program):
                     client.sendall(get("/riders/17"))
                     assert rest(client) == NOT_RIDING, count
             out, said = child.communicate(timeout=SECONDS)
-            ended = "serves" if (child.returncode, out, said) == (0, b"", b"") and listens else (child.returncode, line + out, said)
+            ended = (child.returncode, out if listens else line + out, said)
+            ended = "serves" if listens and ended == (0, b"", b"") else ended
             assert ended in ("serves", STORE_FAILED, READ_FAILED), (count, ended)
             ends.append(ended)
     assert READ_FAILED in ends and "serves" in ends, ends

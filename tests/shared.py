@@ -429,7 +429,7 @@ def put(parts, *where):
 
 
 def killed(program, given, file="city.db"):
-    """Has request lines answered and then kills the program, so that the log holds what wasn't brought into the file. Returns the answers."""
+    """Has lines answered and then kills the program, so that its log isn't brought into the file. Returns the answers."""
     with program.started("lines", file, stdin=subprocess.PIPE) as child:
         child.stdin.write(given)
         child.stdin.flush()

@@ -4,7 +4,7 @@ and it is refused every request for memory, each in its turn. tests/stops/faults
 It does that while it makes a file, serves lines (of a new file, of one that is there, and over the moment at which the log is copied into
 the file), imports stations, checks a file, writes a feed and the table of a day, and answers HTTP. After each fault, without faults:
 
-  - SQLite's own integrity_check finds nothing, and `check` says `sound`, or `store failed` where no file was made yet;
+  - SQLite's own integrity_check finds nothing, and `check` says `sound`, or `store failed` of a file that isn't made yet;
   - what was answered is a front of what a run that nobody disturbed answers;
   - the file holds, table by table and row by row, what it held in that run after the answered requests or one more, and the feed
     `station_status` is that one's;
@@ -28,7 +28,8 @@ import tempfile
 from pathlib import Path
 
 import shared
-from shared import DISTURBED, EINTR, EIO, ENOSPC, FAULTS, KILLED, NO_SYSTEM, ROOM, SOUND, STORE_FAILED, TOP, UNAVAILABLE, WANTS, Program
+from shared import DISTURBED, EINTR, EIO, ENOSPC, FAULTS, KILLED, NO_SYSTEM, ROOM, SOUND, STORE_FAILED, TOP, UNAVAILABLE
+from shared import WANTS, Program
 from shared import at_once, counted, environment, exchanged, get_feed, held, nothing_is, post, put, removed, taken, tell
 
 STRIDE = int(os.environ.get("BIKESHARE_STOPS", "0"))
@@ -318,7 +319,7 @@ class Turns:
         return opening.disturbed("opened.db").memory
 
     def holds(self, file, begins):
-        """What the file holds. One that is being made may hold nothing, or a part of a page that SQLite takes for no database."""
+        """What the file holds. One that is being made may hold a part of a page, which is no database to SQLite."""
         try:
             return held(self.folder, file)
         except sqlite3.DatabaseError as fault:
@@ -332,9 +333,11 @@ class Turns:
         found = self.holds(file, begins)
         ended = Lines(self.file, {}, ["check", "FILE"], [], []).plain(self.folder, file, [])
         assert ended == (SOUND if is_there else STORE_FAILED), f"check: {ended}"
-        assert self.holds(file, begins) == found and Path(self.folder, file).exists() == is_there, "check changed the file"
+        is_left = Path(self.folder, file).exists() == is_there
+        assert is_left and self.holds(file, begins) == found, "check changed the file"
         fits = [it for it in self.run.fronts(answered, one_more) if self.fronts[it] == found]
-        assert fits or (begins and not found), f"after {answered} answers the file holds neither what it held then nor after one more: {len(found)} lines of SQL"
+        why = f"after {answered} answers the file holds neither what it held then nor after one more"
+        assert fits or (begins and not found), f"{why}: {len(found)} lines of SQL"
         wanted = self.feeds[fits[0]] if fits else NO_SYSTEM if is_there else STORE_FAILED
         told = feed(self.file, self.folder, file)
         assert told == wanted, f"the feed: {told}, not {wanted}"
