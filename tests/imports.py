@@ -200,10 +200,10 @@ def test_records_without_end_take_little_memory(program):
     is_sound(program)
 
 
-def test_what_is_between_records_is_none(program):
-    """Empty lines are no part of a record, however many there are."""
-    empty = "\n" * TOO_LONG
-    table = empty + HEADER + empty + "c1,Canal,45,9.1,10\n" + "\r\n" * TOO_LONG + "c2,Corso,45,9.1,10\n" + empty
+def test_empty_lines_between_records(program):
+    """They are passed over, before each record anew."""
+    empty = "\n" * LONG
+    table = empty + HEADER + empty + "c1,Canal,45,9.1,10\n" + "\r\n" * (LONG // 2) + "c2,Corso,45,9.1,10\n" + empty
     assert load(program, table) == (0, "rows 2\n", "")
 
 

@@ -18,6 +18,7 @@ from shared import READY, SOUND, STORE_FAILED, Program, held, killed, put, quick
 LEAST_LOG = 32 + 24 + 512
 LINES, ANSWERS = asked().splitlines(keepends=True), told().splitlines(keepends=True)
 BEGUN = 30
+OTHER_WORDS = [it for it in EACH_WORD if it[0] not in ("check", "serve")]
 INPUT = b"1700009000\toffice\tnew\tadd-region\twest\tWest\n"
 
 
@@ -91,10 +92,8 @@ def test_a_first_page_that_is_damaged(program):
     for is_young in True, False:
         parts, state = left(program.file, is_young)
         for number, (name, main) in enumerate(damages(parts[""])):
-            # Each damage is met by some of the words, and each word meets some.
-            for word, *more in [["check"], *(EACH_WORD * 2)[2 * number % len(EACH_WORD) :][:2]]:
-                if word in ("serve", "check") and more:
-                    continue
+            # Each damage is met by `check`, and by another word in turn.
+            for word, *more in ["check"], OTHER_WORDS[number % len(OTHER_WORDS)]:
                 with told_with(f"{'young' if is_young else 'grown'}, {name}, {word}"):
                     put({"": main, "-wal": parts["-wal"]}, program.folder, "city.db")
                     before = beside(program)

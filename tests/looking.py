@@ -10,8 +10,8 @@ from pathlib import Path
 
 import adoption
 from days import ENTRIES, RENTALS
-from shared import FOREIGN, HEADER, NO_SYSTEM, READY, SOUND, STORE_FAILED, Server
-from shared import changed, held, put, quickly, removed, taken, told_with
+from shared import DONE, FOREIGN, HEADER, NO_SYSTEM, READY, SOUND, STORE_FAILED, Server
+from shared import changed, held, office, put, quickly, taken, told_with
 
 LOOKS = {
     "check": (["check", "FILE"], SOUND),
@@ -99,30 +99,51 @@ def test_a_city(program):
         before = beside(program)
         assert asks(program, words, file.name)[0] == 0, words
         assert beside(program) == before, (words, "something was changed")
-    with Server(program):
-        pass
-    rows = held(file)
+    with Server(program) as server:
+        assert server.ask(office("o1", "add-rider\t40")) == DONE
+    rows, before = held(file), {part: taken(file)[part] for part in ("", "-wal")}
     for words, _ in LOOKS.values():
-        before = {part: data for part, data in taken(file).items() if part == "" or len(data) >= 568}
         assert asks(program, words, file.name)[0] == 0, words
-        assert held(file) == rows and all(taken(file)[part] == data for part, data in before.items()), words
+        assert held(file) == rows and {part: taken(file)[part] for part in before} == before, words
+
+
+def gets_no_log(program, file, wanted, words):
+    """Each word refuses the file so, and nothing stands beside it."""
+    before = beside(program)
+    for word, *more in words:
+        with told_with(f"{file}, {word}"):
+            ended = program.run(word, file, *more, given=b"1700000000\toffice\tk1\tadd-rider\t17\n")
+            assert ended == wanted, ended
+            assert beside(program) == before, f"in the folder there are {sorted(beside(program))}"
 
 
 @quickly
-def test_a_file_that_is_refused_gets_no_log(program):
+def test_a_file_that_is_no_database_gets_no_log(program):
     here = Path(program.folder)
     (here / "notes.txt").write_text("no database\n" * 100)
     (here / "noise.db").write_bytes(random.Random(1).randbytes(8192))
-    changed(here / "other.db", "CREATE TABLE meta (one INTEGER PRIMARY KEY, app TEXT)")
-    changed(here / "index.db", "CREATE TABLE riders (rider INTEGER); CREATE UNIQUE INDEX one ON riders (rider)")
-    before = beside(program)
-    assert sorted(before) == ["index.db", "noise.db", "notes.txt", "other.db"], sorted(before)
-    files = {"notes.txt": STORE_FAILED, "noise.db": STORE_FAILED, "other.db": FOREIGN, "index.db": FOREIGN}
-    for file, wanted in files.items():
-        for word, *more in adoption.EACH_WORD:
-            with told_with(f"{file}, {word}"):
-                ended = program.run(word, file, *more, given=b"1700000000\toffice\tk1\tadd-rider\t17\n")
-                assert ended == wanted, ended
-                assert beside(program) == before, f"beside it stands {sorted(set(beside(program)) - set(before))}"
-        removed(here / file)
-        before = beside(program)
+    for file in "notes.txt", "noise.db":
+        gets_no_log(program, file, STORE_FAILED, adoption.EACH_WORD)
+
+
+def foreign(program):
+    """Another program's file by a table's columns, and one by an index that somebody added."""
+    files = {
+        "other.db": "CREATE TABLE meta (one INTEGER PRIMARY KEY, app TEXT)",
+        "index.db": "CREATE TABLE riders (rider INTEGER); CREATE UNIQUE INDEX one ON riders (rider)",
+    }
+    for file, sql in files.items():
+        changed(Path(program.folder, file), sql)
+    return list(files)
+
+
+@quickly
+def test_a_foreign_file_that_is_looked_at_gets_no_log(program):
+    for file in foreign(program):
+        gets_no_log(program, file, FOREIGN, [it for it in adoption.EACH_WORD if it[0] in ("check", "feed", "day")])
+
+
+@quickly
+def test_a_foreign_file_gets_no_log_from_other_words(program):
+    for file in foreign(program):
+        gets_no_log(program, file, FOREIGN, [it for it in adoption.EACH_WORD if it[0] not in ("check", "feed", "day")])
