@@ -1,5 +1,5 @@
-"""Words that only look. `check`, `feed` and `day` change nothing: no byte of FILE and not its journal mode. They make no
-table, and leave no log where there was none. They and `raise` make no FILE. A file that is refused gets no log.
+"""Words that only look. `check`, `feed` and `day` change nothing: no byte of FILE, and not its journal mode. They make
+no table, and leave no log where there was none. They and `raise` make no FILE. A file that is refused gets no log.
 """
 
 import contextlib
