@@ -30,8 +30,8 @@ import time
 from pathlib import Path
 
 from operating import DEPLOY, Sender, keys_in, top_ups
-from shared import CITY, EIO, ENOSPC, FAULTS, JOBS, Program, Server, at_once, copied, environment, is_sound, is_whole
-from shared import nothing_is, office, put, quickly, ran, taken, tell, told_with
+from shared import CITY, EIO, ENOSPC, FAULTS, JOBS, Program, Server, at_once, can_mount, copied, disk, environment
+from shared import is_sound, is_whole, nothing_is, office, put, quickly, taken, tell, told_with
 
 STRIDE = int(os.environ.get("BIKESHARE_BACKUPS", "0"))
 SECONDS = 120
@@ -226,28 +226,6 @@ def tried(among, name, turns):
 # ---- disks
 
 
-@contextlib.contextmanager
-def disk(folder, length):
-    """A disk of memory of so many bytes in the place of a folder."""
-    status, said = ran("mount", "-t", "tmpfs", "-o", f"size={length},mode=0755", "tmpfs", folder)
-    assert status == 0, said
-    try:
-        yield
-    finally:
-        # What still uses it holds nobody up.
-        status, said = ran("umount", "-l", folder)
-        assert status == 0, said
-
-
-def can_mount(program, test):
-    """Whether disks of memory can be mounted; where they can't it is told that the test wasn't tried."""
-    folder = tempfile.mkdtemp(dir=program.folder)
-    with contextlib.suppress(AssertionError), disk(folder, PAGE):
-        return True
-    print(f"backups.{test}: not tried, a disk of memory can't be mounted", flush=True)
-    return False
-
-
 def hiding(program):
     """A program that brings the log into the file as the program does, and never says that it failed."""
     made = Path(program.folder, "hiding")
@@ -277,7 +255,7 @@ def needed(parts):
 
 def test_disks_of_every_size(program):
     """Of a city that is all in its log; by the program, and by one that tells no failure of the bringing in."""
-    if not can_mount(program, "test_disks_of_every_size"):
+    if not can_mount(program, "backups.test_disks_of_every_size"):
         return
     most = needed(killed(program.file)[0])
     with cities(program, Killed) as among:
@@ -289,7 +267,7 @@ def test_disks_of_every_size(program):
 
 def test_disks_that_fill_under_load(program):
     """A city that is served and grows, onto disks between too small and large enough for it as it is then."""
-    if not can_mount(program, "test_disks_that_fill_under_load"):
+    if not can_mount(program, "backups.test_disks_that_fill_under_load"):
         return
 
     def part(share):

@@ -11,7 +11,7 @@ from datetime import date, datetime, timedelta, timezone
 from pathlib import Path
 
 import shared
-from shared import ask, is_sound
+from shared import ask, changed, is_sound
 
 ROME = "CET-1CEST,M3.5.0,M10.5.0/3"
 ENTRIES = "number,kind,rider,rental,amount,at\n"
@@ -71,6 +71,7 @@ def test_recovered_rental_ends_nowhere(program):
 
 
 def test_a_file_without_tables_has_an_empty_day(program):
+    changed(Path(program.folder, "city.db"), "CREATE TABLE notes (note TEXT)")
     assert table(program, "entries", "2024-03-31", "UTC0") == ENTRIES
     assert table(program, "rentals", "2024-03-31", "UTC0") == RENTALS
 

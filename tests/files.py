@@ -3,7 +3,7 @@
 import os
 from pathlib import Path
 
-from shared import TOP, at_once, copied, is_sound, is_whole
+from shared import HEADER, TOP, at_once, copied, is_sound, is_whole
 
 TOUR = TOP / "docs/tour.txt"
 
@@ -30,12 +30,12 @@ def serves(program):
 
 
 def test_new_file(program):
-    for word in ("init", "lines", "check"):
+    for word, *more in ["init"], ["lines"], ["import", "spring"]:
         name = f"{word}.db"
-        status, _, said = program.run(word, name)
-        assert (status, said) == ((0, b"") if word != "check" else (status, said)), (word, status, said)
+        status, _, said = program.run(word, name, *more, given=HEADER.encode() if more else b"")
+        assert (status, said) == (0, b""), (word, status, said)
         assert page_size(program, name) == 2048, word
-    assert names(program) == ["check.db", "init.db", "lines.db"], names(program)
+    assert names(program) == ["import.db", "init.db", "lines.db"], names(program)
     assert os.stat(Path(program.folder, "init.db")).st_nlink == 1
     assert serves(program).startswith(b"ok\n")
     assert page_size(program) == 2048

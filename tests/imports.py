@@ -1,5 +1,8 @@
 """Stations from CSV, as `import` reads them: the worked tables, what counts as the header and as a row, and what is left after a fault."""
 
+import contextlib
+import os
+import subprocess
 from pathlib import Path
 
 from shared import HEADER, data_of, is_sound, rows_of
@@ -112,8 +115,8 @@ def test_rows_that_are_unreadable(program):
             ("c 2,Corso,45,9.1,10\n", "bad_field"),
             (",Corso,45,9.1,10\n", "bad_field"),
             ("c2,,45,9.1,10\n", "bad_field"),
-            ("c2," + "x" * 1000000 + ",45,9.1,10\n", "bad_field"),
-            ("x" * 1000000 + "\n", "unreadable"),
+            ("c2," + "x" * 50_000 + ",45,9.1,10\n", "bad_field"),
+            ("x" * 50_000 + "\n", "unreadable"),
         )
     ):
         table = (HEADER + good).encode() + (row if isinstance(row, bytes) else row.encode()) + b"c9,Never,45,9.1,10\n"
@@ -134,8 +137,81 @@ def test_words_of_import(program):
     assert not (Path(program.folder) / "city.db").exists()
 
 
+# A record may be this long, and a longer one isn't judged.
+LONG, TOO_LONG = 60_000, 100_000
+
+
+def test_records_of_60000_bytes_and_100000(program):
+    """Up to some 64 KiB a record is judged by what it holds; a longer one is an input that can't be read, and the rows
+    before it stand."""
+    good = HEADER + "c1,Canal,45,9.1,10\n"
+    records = {
+        "a name": ("c2,{},45,9.1,10\n", "x", "bad_field"),
+        "one field": ("{}\n", "x", "unreadable"),
+        "commas": ("{}\n", ",", "unreadable"),
+        "a quoted name": ('c2,"{}",45,9.1,10\n', "x", "bad_field"),
+        "a name of quotes": ('c2,"{}",45,9.1,10\n', '""', "bad_field"),
+        "a name of lines": ('c2,"{}",45,9.1,10\n', "\n", "bad_field"),
+        "no end": ("c2,{}", "x", "unreadable"),
+        "no end of a quote": ('c2,"{}', "x", "unreadable"),
+    }
+    for name, (form, piece, word) in records.items():
+        length = len(form) - 2
+        found = load(program, good + form.format(piece * ((LONG - length) // len(piece))))
+        assert found == (1, "", f"row 2 {word}\n"), (name, found)
+        found = load(program, good + form.format(piece * (TOO_LONG // len(piece))) + "c3,Castle,45,9.3,8\n")
+        assert found == (6, "", "read failed\n"), (name, found)
+    assert [row[0] for row in stations(program)] == ["c1"]
+    is_sound(program)
+
+
+def test_headers_of_60000_bytes_and_100000(program):
+    """The header is a record."""
+    assert load(program, HEADER.strip() + "x" * (LONG - 40) + "\nc1,Canal,45,9.1,10\n") == (1, "", "bad header\n")
+    assert load(program, HEADER.strip() + "x" * TOO_LONG + "\nc1,Canal,45,9.1,10\n") == (6, "", "read failed\n")
+    assert stations(program) == []
+
+
+def poured(program, front, piece, count):
+    """Pours a table into the program as long as it takes it, and returns its status, what it says, and the most bytes
+    of memory that it had."""
+    with program.started("import", "city.db", "spring", "--at", AT, stdin=subprocess.PIPE) as child:
+        with contextlib.suppress(BrokenPipeError):
+            child.stdin.write(front)
+            for _ in range(count):
+                child.stdin.write(piece)
+        with contextlib.suppress(BrokenPipeError):
+            child.stdin.close()
+        said = child.stderr.read()
+        _, status, used = os.wait4(child.pid, 0)
+        child.returncode = os.waitstatus_to_exitcode(status)
+        return child.returncode, said, used.ru_maxrss * 1024
+
+
+def test_records_without_end_take_little_memory(program):
+    """100 MB of commas, and 300 MB between two quotes."""
+    good = (HEADER + "c1,Canal,45,9.1,10\n").encode()
+    tables = (good, b",", 100), (good + b'c2,"', b"x", 300), (b'"', b"\n", 300)
+    for front, piece, count in ((front, piece * 1_000_000, count) for front, piece, count in tables):
+        status, said, memory = poured(program, front, piece, count)
+        assert (status, said) == (6, b"read failed\n"), (piece[:1], status, said)
+        assert memory < 64_000_000, f"{memory} bytes of memory for records of {piece[:1]}"
+    assert [row[0] for row in stations(program)] == ["c1"]
+    is_sound(program)
+
+
+def test_empty_lines_between_records(program):
+    """They are passed over, before each record anew."""
+    empty = "\n" * LONG
+    table = empty + HEADER + empty + "c1,Canal,45,9.1,10\n" + "\r\n" * (LONG // 2) + "c2,Corso,45,9.1,10\n" + empty
+    assert load(program, table) == (0, "rows 2\n", "")
+
+
 def test_many_stations(program):
-    rows = [f"s{number},Station {number},45.{number:06},9.{number:06},{number % 500 + 1}\n" for number in range(1, 1001)]
+    """The table is longer than a record may be."""
+    name = "n" * 100
+    rows = [f"s{number},{name} {number},45.{number:06},9.{number:06},{number % 500 + 1}\n" for number in range(1, 1001)]
+    assert sum(map(len, rows)) > TOO_LONG
     assert load(program, HEADER + "".join(rows)) == (0, "rows 1000\n", "")
     assert len(stations(program)) == 1000
     is_sound(program)

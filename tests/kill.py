@@ -317,13 +317,14 @@ def stands(program, file, kind, fronts, least, told):
     """Holds the file to a front of the list with so many requests or one more, and returns how many it surely has."""
     try:
         found = held(file, kind.timeless) if file.exists() else {}
-        is_sound(program, file.name)
+        if file.exists():
+            is_sound(program, file.name)
     except (AssertionError, sqlite3.Error) as fault:
         raise AssertionError(f"{told}: after {least} answers: {fault}") from fault
     fits = [it for it in (least, least + 1) if it < len(fronts) and fronts[it] == found]
     assert fits or (least == 0 and not found), f"{told}: the file holds neither the first {least} requests nor one more: {found}"
-    after = held(file, kind.timeless)
-    assert after == (found or fronts[0]), f"{told}: check changed the city"
+    after = held(file, kind.timeless) if file.exists() else {}
+    assert after == found, f"{told}: check changed the city"
     return fits[0] if fits else 0
 
 

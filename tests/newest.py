@@ -1,4 +1,5 @@
-"""A rider who rides by a rental that is not the newest: no request makes such a city, and the rules of docs/FORMATS.md, section 11, allow its file.
+"""What a rider's newest rental tells, and a rider who rides by one that is not the newest: no request makes such a
+city, and the rules of docs/FORMATS.md, section 11, allow its file.
 
 A desk asks the newest rental of a rider alone where every open rental is its rider's newest; in this file it may not. So what is refused, and
 what is allowed once the older rental is closed, is that of docs/OPERATOR.md, and not of a city in which the newest rental tells.
@@ -6,7 +7,8 @@ what is allowed once the older rental is closed, is that of docs/OPERATOR.md, an
 
 from pathlib import Path
 
-from shared import SOUND, changed, rows_of
+import shared
+from shared import SOUND, Server, answer, changed, get, post, rows_of
 
 CITY = """
 office set-system metro en Metro 24/7 feeds@example.org Etc/UTC EUR http://127.0.0.1:8080 30
@@ -96,3 +98,61 @@ def test_a_rider_of_the_newest_rental_may_not_start(program):
     city.ask(*CITY.strip().split("\n"))
     answers = city.ask("rider:17 start 17 a1 2", "rider:18 start 18 a1 2", "rider:18 start 18 a1 3", "dock:a1 end 7 a1 1", "rider:17 start 17 a1 1")
     assert answers == ["refused 20 rider_is_riding", "rental 3 8", "refused 20 rider_is_riding", "fare 100 2400", "rental 4 7"], answers
+
+
+def row(rider, balance, rental):
+    """The answer of a rider's row."""
+    return answer(200, f'{{"rider":{rider},"state":"open","balance_cents":{balance},"rental":{rental}}}')
+
+
+def test_the_row_of_a_rider_of_an_older_rental(program):
+    """It tells the open rental, also when it is asked again."""
+    odd_city(program)
+    with Server(program, 4) as server:
+        for _ in range(2):
+            assert server.ask(get("/riders/17")) == row(17, 2400, 1)
+            assert server.ask(get("/riders/18")) == row(18, 2500, 0)
+
+
+# Closed rentals of rider 17 at 1 hundredth each. A sound file holds them as it holds those of requests.
+RODE = 2000
+RIDES = f"""
+WITH RECURSIVE counted (n) AS (SELECT 1 UNION ALL SELECT n + 1 FROM counted WHERE n < {RODE})
+INSERT INTO rentals (rental, rider, bike, plan_id, from_station, start, to_station, finish, fare, refunded)
+SELECT n, 17, 7, 'basic', 'a1', 1699999200, 'a1', 1699999200, 1, 0 FROM counted;
+INSERT INTO entries (entry, kind, rider, rental, amount, at)
+SELECT rental + (SELECT max(entry) FROM entries), 2, 17, rental, 1, 1699999200 FROM rentals;
+UPDATE riders SET balance = balance - {RODE} WHERE rider = 17;
+UPDATE meta SET revenue = revenue + {RODE}
+"""
+
+
+def processor(child):
+    """The nanoseconds of processor that a program took up to now."""
+    return int(Path(f"/proc/{child.pid}/schedstat").read_text().split()[0])
+
+
+def test_the_row_of_a_rider_of_many_rentals_costs_no_more(program):
+    """They are read once after the opening, and each row then costs what that of a rider without rentals does."""
+    shared.city(program, "add-rider\t18")
+    changed(Path(program.folder, "city.db"), RIDES)
+    assert program.run("check", "city.db") == SOUND
+    times = 20
+    with Server(program) as server:
+
+        def cost(rider, wanted):
+            """What so many rows cost."""
+            before = processor(server.child)
+            for _ in range(times):
+                found = server.ask(get(f"/riders/{rider}"))
+                assert found == wanted, found
+            return processor(server.child) - before
+
+        assert server.ask(get("/riders/17")) == row(17, 500, 0)
+        few = cost(18, row(18, 0, 0))
+        for begun in False, True:
+            if begun:
+                found = server.ask(post("/riders/17/start", '{"key":"s1","station":"a1","dock":1}'))
+                assert found == answer(200, f'{{"result":"ok","rental":{RODE + 1},"bike":7}}'), found
+            many = cost(17, row(17, 500, RODE + 1 if begun else 0))
+            assert many < 3 * few, f"{times} rows took {many} ns of a processor, and {few} of a rider without rentals"

@@ -7,6 +7,8 @@ Each wanted answer is written by hand from docs/FORMATS.md, sections 5 and 6.
 import contextlib
 import json
 import os
+import re
+import resource
 import select
 import socket
 import sqlite3
@@ -14,7 +16,8 @@ import time
 from datetime import datetime, timezone
 
 from shared import BAD_FIELD, CITY, DONE, FEEDS, FOREIGN, MOMENT, READ_FAILED, READY, SECONDS, START, STARTED, STORE_FAILED, Server
-from shared import answer, ask, city, error, feed, get, get_feed, holds, is_sound, office, post, refused, request, reset, rest, timeless
+from shared import answer, ask, city, error, feed, get, get_feed, holds, is_sound, line_of, office, post, refused
+from shared import request, reset, rest, timeless
 
 NOT_RIDING = answer(200, '{"rider":17,"state":"open","balance_cents":2500,"rental":0}')
 
@@ -943,6 +946,37 @@ def test_a_port_that_is_taken(program):
     with socket.create_server(("127.0.0.1", 0)) as taken:
         port = str(taken.getsockname()[1])
         assert ended(program, "city.db", "--port", port, "--count", "1") == READ_FAILED
+
+
+def limited(count):
+    """How to begin with so many descriptors."""
+    return lambda: resource.setrlimit(resource.RLIMIT_NOFILE, (count, count))
+
+
+def test_few_descriptors(program):
+    """Where a connection would find none it doesn't listen; where it listens it serves."""
+    city(program)
+    ends = []
+    for count in range(4, 13):
+        # With fewer the system could not load the program.
+        with program.started("serve", "city.db", "--port", "0", "--count", "2", preexec_fn=limited(count)) as child:
+            line = line_of(child)
+            listens = re.fullmatch(rb"listening 127\.0\.0\.1:([0-9]+)\n", line)
+            for _ in range(2 if listens else 0):
+                found = b""
+                with contextlib.suppress(ConnectionError):
+                    with socket.create_connection(("127.0.0.1", int(listens[1])), timeout=SECONDS) as client:
+                        client.sendall(get("/riders/17"))
+                        found = rest(client)
+                assert found == NOT_RIDING, (count, found)
+            out, said = child.communicate(timeout=SECONDS)
+            ended = (child.returncode, out if listens else line + out, said)
+            ended = "serves" if listens and ended == (0, b"", b"") else ended
+            assert ended in ("serves", STORE_FAILED, READ_FAILED), (count, ended)
+            ends.append(ended)
+    assert READ_FAILED in ends and "serves" in ends, ends
+    assert ends == sorted(ends, key=[STORE_FAILED, READ_FAILED, "serves"].index), ends
+    is_sound(program)
 
 
 def test_wrong_words(program):

@@ -36,6 +36,7 @@ LONGEST, SECONDS, DISTURBED = 120, 10, 60
 
 READY, SOUND, STORE_FAILED, FOREIGN = (0, b"ready\n", b""), (0, b"sound\n", b""), (3, b"", b"store failed\n"), (5, b"", b"foreign\n")
 WRITE_FAILED, READ_FAILED = (6, b"", b"write failed\n"), (6, b"", b"read failed\n")
+NO_SYSTEM = (1, b"", b"system missing\n")
 # What is said where a request for memory is refused, by the exit status.
 WANTS = {3: b"store failed\n", 4: b"out of memory\n"}
 
@@ -427,6 +428,17 @@ def put(parts, *where):
         Path(f"{Path(*where)}{part}").write_bytes(data)
 
 
+def killed(program, given, file="city.db"):
+    """Has lines answered and then kills the program, so that its log isn't brought into the file. Returns the answers."""
+    with program.started("lines", file, stdin=subprocess.PIPE) as child:
+        child.stdin.write(given)
+        child.stdin.flush()
+        answers = b"".join(line_of(child, DISTURBED) for _ in range(given.count(b"\n")))
+        child.kill()
+        child.communicate()
+    return answers
+
+
 @contextlib.contextmanager
 def copied(*where):
     """A copy of a file with its log, opened by SQLite, so that the file stays as it is."""
@@ -463,6 +475,31 @@ def changed(file, change=""):
         base.execute("PRAGMA synchronous = OFF")
         base.executescript(change)
         base.execute("PRAGMA wal_checkpoint(TRUNCATE)").fetchall()
+
+
+# ---- Disks
+
+
+@contextlib.contextmanager
+def disk(folder, length):
+    """A disk of memory of so many bytes in the place of a folder."""
+    status, said = ran("mount", "-t", "tmpfs", "-o", f"size={length},mode=0755", "tmpfs", folder)
+    assert status == 0, said
+    try:
+        yield
+    finally:
+        # What still uses it holds nobody up.
+        status, said = ran("umount", "-l", folder)
+        assert status == 0, said
+
+
+def can_mount(program, test):
+    """Whether disks of memory can be mounted; where they can't it is told that the test wasn't tried."""
+    folder = tempfile.mkdtemp(dir=program.folder)
+    with contextlib.suppress(AssertionError), disk(folder, 4096):
+        return True
+    print(f"{test}: not tried, a disk of memory can't be mounted", flush=True)
+    return False
 
 
 # ---- Faults from outside

@@ -4,7 +4,7 @@ and it is refused every request for memory, each in its turn. tests/stops/faults
 It does that while it makes a file, serves lines (of a new file, of one that is there, and over the moment at which the log is copied into
 the file), imports stations, checks a file, writes a feed and the table of a day, and answers HTTP. After each fault, without faults:
 
-  - SQLite's own integrity_check finds nothing, and `check` says `sound`;
+  - SQLite's own integrity_check finds nothing, and `check` says `sound`, or `store failed` of a file that isn't made yet;
   - what was answered is a front of what a run that nobody disturbed answers;
   - the file holds, table by table and row by row, what it held in that run after the answered requests or one more, and the feed
     `station_status` is that one's;
@@ -28,7 +28,8 @@ import tempfile
 from pathlib import Path
 
 import shared
-from shared import DISTURBED, EINTR, EIO, ENOSPC, FAULTS, KILLED, ROOM, SOUND, TOP, UNAVAILABLE, WANTS, Program
+from shared import DISTURBED, EINTR, EIO, ENOSPC, FAULTS, KILLED, NO_SYSTEM, ROOM, SOUND, STORE_FAILED, TOP, UNAVAILABLE
+from shared import WANTS, Program
 from shared import at_once, counted, environment, exchanged, get_feed, held, nothing_is, post, put, removed, taken, tell
 
 STRIDE = int(os.environ.get("BIKESHARE_STOPS", "0"))
@@ -317,23 +318,29 @@ class Turns:
         opening.run = Lines(self.run.file, self.run.parts, ["check", "FILE"], [], [b"sound\n"])
         return opening.disturbed("opened.db").memory
 
+    def holds(self, file, begins):
+        """What the file holds. One that is being made may hold a part of a page, which is no database to SQLite."""
+        try:
+            return held(self.folder, file)
+        except sqlite3.DatabaseError as fault:
+            assert begins and str(fault) == "file is not a database", f"SQLite: {fault}"
+            return []
+
     def stands(self, file, answered, one_more=True):
         """Holds what a fault left to a front of the requests. Where no request was answered there may be no tables yet."""
         begins = answered == 0 and self.run.is_new
-        try:
-            found = held(self.folder, file)
-        except sqlite3.DatabaseError as fault:
-            # A file whose first page is being made: SQLite doesn't take it for a database, and the program makes it anew.
-            assert begins and str(fault) == "file is not a database", f"SQLite: {fault}"
-            found = []
+        is_there = Path(self.folder, file).exists()
+        found = self.holds(file, begins)
         ended = Lines(self.file, {}, ["check", "FILE"], [], []).plain(self.folder, file, [])
-        assert ended == SOUND, f"check: {ended}"
-        after = held(self.folder, file)
-        assert after == found or (begins and not found), "check changed the file"
-        fits = [it for it in self.run.fronts(answered, one_more) if self.fronts[it] == after]
-        assert fits, f"after {answered} answers the file holds neither what it held then nor after one more: {len(after)} lines of SQL"
+        assert ended == (SOUND if is_there else STORE_FAILED), f"check: {ended}"
+        is_left = Path(self.folder, file).exists() == is_there
+        assert is_left and self.holds(file, begins) == found, "check changed the file"
+        fits = [it for it in self.run.fronts(answered, one_more) if self.fronts[it] == found]
+        why = f"after {answered} answers the file holds neither what it held then nor after one more"
+        assert fits or (begins and not found), f"{why}: {len(found)} lines of SQL"
+        wanted = self.feeds[fits[0]] if fits else NO_SYSTEM if is_there else STORE_FAILED
         told = feed(self.file, self.folder, file)
-        assert told == self.feeds[fits[0]], f"the feed: {told}, not {self.feeds[fits[0]]}"
+        assert told == wanted, f"the feed: {told}, not {wanted}"
         self.run.goes_on(self.folder, file, answered)
         assert held(self.folder, file) == self.fronts[-1], "sent again, the requests end elsewhere"
 
@@ -467,6 +474,8 @@ def test_a_second_stop_while_what_is_left_is_opened(program):
             faults = {"LOSE_AT": at, "LOSE_SEED": SEED + at} if at % 2 else {"STOP_AT": at}
             ran = first.disturbed("first.db", **faults)
             left = taken(first.folder, "first.db")
+            if "" not in left:
+                continue
             second = Turns(program, name, is_killed, ONLY_CHANGES=1, ENDS=1)
             second.run = Reopened(first.run, left, first.run.answered(ran.out))
             put(left, first.folder, "first.db")

@@ -1,0 +1,149 @@
+"""Words that only look. `check`, `feed` and `day` change nothing: no byte of FILE, and not its journal mode. They make
+no table, and leave no log where there was none. They and `raise` make no FILE. A file that is refused gets no log.
+"""
+
+import contextlib
+import os
+import random
+import sqlite3
+from pathlib import Path
+
+import adoption
+from days import ENTRIES, RENTALS
+from shared import DONE, FOREIGN, HEADER, NO_SYSTEM, READY, SOUND, STORE_FAILED, Server
+from shared import changed, held, office, put, quickly, taken, told_with
+
+LOOKS = {
+    "check": (["check", "FILE"], SOUND),
+    "feed": (["feed", "FILE", "gbfs", "--at", "1700000000"], NO_SYSTEM),
+    "entries": (["day", "FILE", "entries", "2024-01-01", "UTC0"], (0, ENTRIES.encode(), b"")),
+    "rentals": (["day", "FILE", "rentals", "2024-01-01", "CET-1"], (0, RENTALS.encode(), b"")),
+}
+OTHERS = "CREATE TABLE notes (note TEXT); INSERT INTO notes VALUES ('x'), ('y'); CREATE INDEX by_note ON notes (note)"
+
+
+def asks(program, words, file):
+    """Runs words over a file."""
+    return program.run(*[file if it == "FILE" else it for it in words])
+
+
+def beside(program):
+    """The bytes of all files in the folder."""
+    return {it.name: it.read_bytes() for it in Path(program.folder).iterdir()}
+
+
+def stays(program, file, wanted=None):
+    """Words that look end so over a file, or as over a database without our tables, and nothing changes."""
+    before = beside(program)
+    for name, (words, empty) in LOOKS.items():
+        ended = asks(program, words, file)
+        assert ended == (wanted or empty), (file, name, ended)
+        assert beside(program) == before, (file, name, "something was changed")
+
+
+def test_no_file_is_made(program):
+    """Not in a folder that isn't there either; the words that make FILE make it as ever."""
+    for file in "none.db", "none/none.db":
+        for words in [*(it for it, _ in LOOKS.values()), ["raise", "FILE"]]:
+            assert asks(program, words, file) == STORE_FAILED, (words, file)
+            assert not os.listdir(program.folder), (words, os.listdir(program.folder))
+    for file, words, given, wanted in (
+        ("init.db", ["init", "FILE"], b"", READY), ("lines.db", ["lines", "FILE"], b"", (0, b"", b"")),
+        ("import.db", ["import", "FILE", "spring"], HEADER.encode(), (0, b"rows 0\n", b"")),
+    ):
+        ended = program.run(*[file if it == "FILE" else it for it in words], given=given)
+        assert ended == wanted and Path(program.folder, file).exists(), (words, ended)
+    with Server(program, file="serve.db"):
+        assert Path(program.folder, "serve.db").exists()
+
+
+@quickly
+def test_databases_of_others(program):
+    """In either journal mode, and with rows that stand in their log alone."""
+    for mode in "delete", "wal":
+        file = Path(program.folder, f"{mode}.db")
+        with contextlib.closing(sqlite3.connect(file)) as base:
+            assert base.execute(f"PRAGMA journal_mode = {mode}").fetchone() == (mode,)
+            base.executescript(OTHERS)
+        assert file.read_bytes()[18] == {"delete": 1, "wal": 2}[mode] and list(taken(file)) == [""]
+        stays(program, file.name)
+    file = Path(program.folder, "wal.db")
+    with contextlib.closing(sqlite3.connect(file, isolation_level=None)) as base:
+        base.execute("INSERT INTO notes VALUES ('z')")
+        parts = {part: data for part, data in taken(file).items() if part in ("", "-wal")}
+    put(parts, file)
+    rows = held(file)
+    for name, (words, empty) in LOOKS.items():
+        assert asks(program, words, file.name) == empty, name
+        assert held(file) == rows and file.read_bytes() == parts[""], name
+
+
+@quickly
+def test_files_of_a_byte_or_none(program):
+    """The engine writes its first page. There is no table in it, and no log."""
+    for data in b"", b"S":
+        for words, empty in LOOKS.values():
+            file = Path(program.folder, "city.db")
+            file.write_bytes(data)
+            assert asks(program, words, file.name) == empty, (data, words)
+            assert os.listdir(program.folder) == [file.name], (data, words, os.listdir(program.folder))
+            assert not held(file), (data, words)
+
+
+@quickly
+def test_a_city(program):
+    """One that ended, without its log, and one whose server was killed."""
+    file = adoption.made(program, "city.db")
+    put({"": file.read_bytes()}, file)
+    for words, _ in LOOKS.values():
+        before = beside(program)
+        assert asks(program, words, file.name)[0] == 0, words
+        assert beside(program) == before, (words, "something was changed")
+    with Server(program) as server:
+        assert server.ask(office("o1", "add-rider\t40")) == DONE
+    rows, before = held(file), {part: taken(file)[part] for part in ("", "-wal")}
+    for words, _ in LOOKS.values():
+        assert asks(program, words, file.name)[0] == 0, words
+        assert held(file) == rows and {part: taken(file)[part] for part in before} == before, words
+
+
+def gets_no_log(program, file, wanted, words):
+    """Each word refuses the file so, and nothing stands beside it."""
+    before = beside(program)
+    for word, *more in words:
+        with told_with(f"{file}, {word}"):
+            ended = program.run(word, file, *more, given=b"1700000000\toffice\tk1\tadd-rider\t17\n")
+            assert ended == wanted, ended
+            assert beside(program) == before, f"in the folder there are {sorted(beside(program))}"
+
+
+@quickly
+def test_a_file_that_is_no_database_gets_no_log(program):
+    here = Path(program.folder)
+    (here / "notes.txt").write_text("no database\n" * 100)
+    (here / "noise.db").write_bytes(random.Random(1).randbytes(8192))
+    for file in "notes.txt", "noise.db":
+        gets_no_log(program, file, STORE_FAILED, adoption.EACH_WORD)
+
+
+def foreign(program):
+    """Another program's file by a table's columns, and one by an index that somebody added."""
+    files = {
+        "other.db": "CREATE TABLE meta (one INTEGER PRIMARY KEY, app TEXT)",
+        "index.db": "CREATE TABLE riders (rider INTEGER); CREATE UNIQUE INDEX one ON riders (rider)",
+    }
+    for file, sql in files.items():
+        changed(Path(program.folder, file), sql)
+    return list(files)
+
+
+@quickly
+def test_a_foreign_file_that_is_looked_at_gets_no_log(program):
+    for file in foreign(program):
+        gets_no_log(program, file, FOREIGN, [it for it in adoption.EACH_WORD if it[0] in ("check", "feed", "day")])
+
+
+@quickly
+def test_a_foreign_file_gets_no_log_from_other_words(program):
+    for file in foreign(program):
+        gets_no_log(program, file, FOREIGN, [it for it in adoption.EACH_WORD if it[0] not in ("check", "feed", "day")])
