@@ -219,7 +219,7 @@ def test_disks_of_every_size(program):
     wrong = []
     for name in ("lines of a new file", "lines of a killed city", "import"):
         turns = Turns(program, name)
-        sizes = range(16 * PAGE, most, (STRIDE or 3) * PAGE)
+        sizes = range(16 * PAGE, most, (STRIDE or 7) * PAGE)
         wrong += [it for it in (on_disk(turns, folder, size) for size in sizes) if it]
         tell("disk of memory", name, turns.ends, len(sizes))
         # Of some disks the log alone found room.
