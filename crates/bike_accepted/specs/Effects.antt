@@ -58,7 +58,7 @@ after_change now (change.AddRental rental rider bike plan from_station) s =
 after_change now (change.CloseRental rental to_station fare) s = rental_closed rental (text_in to_station) now fare s
 after_change now (change.AddOrder order truck from_end to_end type_id count) s =
     order_added (record { truck = truck; from_end = from_end.now; to_end = to_end.now; type_id = type_id.now; count = count; delivered = 0; is_open = true }) s
-after_change now (change.Deliver order was) s = order_changed order (λ o. record o { delivered = o.delivered + 1 }) s
+after_change now (change.Deliver order was delivered) s = order_changed order (λ o. record o { delivered = o.delivered + 1 }) s
 after_change now (change.CloseOrder order was) s = order_changed order (λ o. record o { is_open = false }) s
 
 -- ---- an acceptance

@@ -86,7 +86,7 @@ IsFound s (change.AddRider rider) = map.get s.riders rider ≡ None
 IsFound s (change.SetRider rider blocked) = map.contains_key s.riders rider ≡ true
 IsFound s (change.AddRental rental rider bike plan from_station) = rental ≡ length s.rentals + 1
 IsFound s (change.AddOrder order truck from_end to_end type_id count) = order ≡ length s.orders + 1
-IsFound s (change.Deliver order was) = item_numbered order s.orders ≡ Some was.now
+IsFound s (change.Deliver order was delivered) = (item_numbered order s.orders ≡ Some was.now) × (delivered ≡ was.now.delivered + 1)
 IsFound s (change.CloseOrder order was) = item_numbered order s.orders ≡ Some was.now
 IsFound s c = Unit {0}
 

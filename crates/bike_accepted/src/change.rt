@@ -85,10 +85,11 @@ pub enum Change<'a> {
         type_id: &'a Ident,
         count: u32,
     },
-    /// One more bicycle of an order is delivered.
+    /// One more bicycle of an order is delivered: so many are then.
     Deliver {
         order: u32,
         was: &'a Order,
+        delivered: u32,
     },
     /// An order is closed.
     CloseOrder {

@@ -1,0 +1,4 @@
+pub mod Sums
+pub mod Stored
+pub mod Writes
+pub mod Booking
