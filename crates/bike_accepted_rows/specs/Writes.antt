@@ -1,5 +1,5 @@
 -- What an accepted command writes, as a table.
-use Rattle.std.specs.Prelude.{◌≡◌, ◌+◌, ◌+ℤ◌, ◌++◌, ℕ, ℤ, List, [], ◌∷◌, Bool, true, false, Option, Some, None, if◌then◌else◌}
+use Rattle.std.specs.Prelude.{◌≡◌, ◌+ℤ◌, ◌++◌, ℕ, ℤ, List, [], ◌∷◌, Bool, false, Option, Some, None, if◌then◌else◌}
 use Rattle.std.specs.Borrow.{Bor}
 use Rattle.bike_ledger.specs.Ledger.{cash_in, revenue_in}
 use Rattle.bike_book.specs.declared.row_change.RowChange.{RowChange}
@@ -21,7 +21,6 @@ use Rattle.bike_accepted.specs.declared.accepted.Accepted.{Accepted}
 use Rattle.bike_accepted.specs.Effects.{bike_in}
 use Rattle.bike_accepted_rows.specs.Sums.{SumsValue}
 use Rattle.bike_accepted_rows.specs.Stored.{docks_in, counts_in}
-use Rattle.bike_accepted_rows.specs.declared.stored.StoredDock.{StoredDock}
 use Rattle.bike_accepted_rows.specs.declared.stored.StoredCounts.{StoredCounts}
 use Rattle.bike_accepted_rows.specs.declared.stored.Stored.{Stored}
 use Rattle.bike_accepted_rows.specs.declared.texts.KeptTexts.{KeptTexts}

@@ -2,11 +2,13 @@
 //! touches, and the law that they lead from the tables of the operator to those of the operator after the request.
 #![tactic(auto)]
 
+mod laws;
 mod rows;
 mod shares;
 mod stored;
 mod texts;
 
+pub use laws::books_accepted;
 pub use rows::{Rows, rows_of};
 pub use stored::{Stored, StoredCounts, StoredDock, Sums, Total};
 pub use texts::KeptTexts;
