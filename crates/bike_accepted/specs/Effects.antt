@@ -90,3 +90,7 @@ Decides s now c (Ok a) = (refusal_of s c ≡ None) × (a.reply ≡ reply_of s no
 -- what it owes to every operator whose view this is, at the moment
 abbrev pub DecidesAt : ℕ → View → Command → Result Accepted Refusal → Type 0
 DecidesAt now view c result = (s : Operator) → view ≡ view_of s c → Decides s now c result
+
+-- the same of a decision that no moment changes
+abbrev pub DecidesOn : View → Command → Result Accepted Refusal → Type 0
+DecidesOn view c result = (s : Operator) (now : ℕ) → view ≡ view_of s c → Decides s now c result

@@ -114,3 +114,7 @@ pub record AreFound (now : ℕ) (s : Operator) (a : Accepted) : Type 0 where
 -- so they are for every sound operator whose view this is
 abbrev pub FindsAt : ℕ → View → Command → Accepted → Type 0
 FindsAt now view c a = (s : Operator) → IsSound s → view ≡ view_of s c → AreFound now s a
+
+-- the same at every moment
+abbrev pub FindsOn : View → Command → Accepted → Type 0
+FindsOn view c a = (s : Operator) (now : ℕ) → IsSound s → view ≡ view_of s c → AreFound now s a

@@ -1,5 +1,8 @@
 //! What is answered and made of an accepted command.
 
+ghost use Rattle.std.specs.Prelude.{◌≡◌, Some, None};
+ghost use Rattle.bike_commands.specs.declared.reply.Reply.TheVariants.{Done};
+
 use crate::change::Change;
 use crate::moved::Moved;
 use bike_commands::{Refusal, Reply};
@@ -32,3 +35,29 @@ pub struct Accepted<'a> {
 
 /// A decision: what is accepted, or why it is refused.
 pub type Decision<'a> = Result<Accepted<'a>, Refusal>;
+
+impl<'a> Accepted<'a> {
+    /// What is answered as done, and puts or adds one record.
+    pub fn changed(change: Change<'a>) -> Accepted<'a>
+        ensures { result ≡ record { reply = Done; moved = None; change = Some change.entry; entry = None } }
+    {
+        Accepted {
+            reply: Reply::Done,
+            moved: None,
+            change: Some(change),
+            entry: None,
+        }
+    }
+
+    /// What is answered as done, and puts a bicycle or marks a dock.
+    pub fn moved(moved: Moved<'a>) -> Accepted<'a>
+        ensures { result ≡ record { reply = Done; moved = Some moved.entry; change = None; entry = None } }
+    {
+        Accepted {
+            reply: Reply::Done,
+            moved: Some(moved),
+            change: None,
+            entry: None,
+        }
+    }
+}

@@ -17,7 +17,7 @@ use bike_accepted::{Accepted, Booked, Change, DockAt, Moved};
 use bike_book::RowChange;
 use bike_catalogue::Segment;
 use bike_fields::Ident;
-use bike_fixed::Moment;
+use bike_fixed::{Cents, Moment};
 use bike_ledger::{cash_after, revenue_after};
 
 /// The row changes of one request: at most 3 of what is put or marked, a record and 8 segments of a plan, 3 of an entry
@@ -221,7 +221,7 @@ fn change_row<'a>(change: &Change<'a>, now: Moment) -> RowChange<'a>
             rental: *rental,
             to_station: *to_station,
             finish: now,
-            fare: *fare,
+            fare: Cents::new(*fare),
         },
         Change::AddOrder {
             order,

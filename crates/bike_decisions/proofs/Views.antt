@@ -1,5 +1,7 @@
 -- What a view shows of a dock, of a bicycle and of a balance.
 use Rattle.std.proofs.Common.{◌≡◌, ℕ, ℤ, pos, ◌+ℤ◌, List, [], ◌∷◌, ◌++◌, true, cond, eqb, Option, Some, None, is_some, refl, sym, ap, ◌∙◌, arith, inl, inr}
+use Rattle.std.specs.Prelude.{Result, Ok, Err, IfOk}
+use Rattle.std.specs.Option.{option_copied}
 use Rattle.std.specs.Borrow.{Bor}
 use Rattle.std.specs.FinMap as map
 use Rattle.std.proofs.lemmas.Bool.Decides.{eqb_tells}
@@ -7,7 +9,7 @@ use Rattle.std.proofs.lemmas.Int.{ints}
 use Rattle.std.proofs.lemmas.Option.{same_Some}
 use Rattle.bike_catalogue.specs.Rows.{PlanRow, TypeRow}
 use Rattle.bike_ledger.specs.Entries.{Entry}
-use Rattle.bike_ledger.specs.Ledger.{balance_of, credit, share}
+use Rattle.bike_ledger.specs.Ledger.{balance_of, refunded_of, credit, share}
 use Rattle.bike_ledger.proofs.SumLemmas.{total-append}
 use Rattle.bike_commands.specs.declared.command.Command.{Command}
 use Rattle.bike_commands.specs.declared.refusal.Refusal.{Refusal}
@@ -16,29 +18,27 @@ use Rattle.bike_operator.specs.declared.records.Place.TheVariants as place
 use Rattle.bike_operator.specs.declared.records.Bike.{Bike}
 use Rattle.bike_operator.specs.declared.records.Rental.{Rental}
 use Rattle.bike_operator.specs.declared.view.RentalView.{RentalView}
+use Rattle.bike_operator.specs.declared.view.RiderView.{RiderView}
 use Rattle.bike_operator.specs.declared.view.View.{View}
-use Rattle.bike_operator.specs.Operator.{Operator, item_numbered}
+use Rattle.bike_operator.specs.Operator.{Operator, Rider, item_numbered}
 use Rattle.bike_operator.specs.Counts.{is_dock, docked_at}
-use Rattle.bike_operator.specs.View.{view_of, typed_bike, docked_view, rental_view, rental_of, rental_in, planned_rental}
+use Rattle.bike_operator.specs.View.{view_of, rider_view, typed_bike, docked_view, rental_view, rental_of, rental_in, planned_rental}
 use Rattle.bike_operator.specs.Steps.{first, tests, refusal_of}
-use Rattle.bike_operator.specs.Changes.{place_of}
+use Rattle.bike_operator.specs.Changes.{place_of, text_in}
 use Rattle.bike_operator.specs.Sound.{AreBikesSound}
 use Rattle.bike_places.proofs.MapLemmas.{number_order}
 use Rattle.bike_places.proofs.CountLemmas.{found_by}
 use Rattle.bike_accepted.specs.declared.moved.Standing.{Standing}
+use Rattle.bike_accepted.specs.declared.accepted.Accepted.{Accepted}
 use Rattle.bike_accepted.specs.Effects.{bike_in}
+use Rattle.bike_accepted.specs.Found.{FindsAt, FindsOn}
+use Rattle.bike_decisions.specs.Moves.{IsShown}
 
 -- the first test that holds over the view is the operator's refusal
 pub refused_as : (s : Operator) (v : View) (c : Command) (o : Option Refusal) → v ≡ view_of s c → o ≡ first (tests v c) → refusal_of s c ≡ o
 refused_as s v c o e is = ap (λ (w : View). first (tests w c)) (sym e) ∙ sym is
 
 -- ---- the bicycle
-
--- a bicycle stands so
-pub record IsShown (b : Bike) (type_id : Bor (List ℕ)) (was : Standing) : Type 0 where
-  pub type_is : type_id.now ≡ b.type_id
-  pub state_is : was.state ≡ b.state
-  pub place_is : place_of was.place ≡ b.place
 
 pub shown_bike : (b : Bike) (type_id : Bor (List ℕ)) (was : Standing) → IsShown b type_id was → bike_in type_id was ≡ b
 shown_bike b type_id was h = λ i. record { type_id = h.type_is i; state = h.state_is i; place = h.place_is i }
@@ -87,3 +87,33 @@ place_balance s place.Depot row e = absurd cc
 pub bike_balance : (s : Operator) (o : Option Bike) (row : RentalView) → rental_of s o ≡ Some row → balance_of row.rental.rider s.entries ≡ row.balance
 bike_balance s None row e = absurd cc
 bike_balance s (Some b) row e = place_balance s b.place row e
+
+-- ---- refunds
+
+planned_refunds : (s : Operator) (number : ℕ) (r : Rental) (o : Option PlanRow) (row : RentalView) → planned_rental s number r o ≡ Some row → refunded_of row.number s.entries ≡ row.refunded
+planned_refunds s number r None row e = absurd cc
+planned_refunds s number r (Some plan) row e =
+    let same = same_Some _ row e in
+    sym (ap (λ (x : RentalView). refunded_of x.number s.entries) same) ∙ ap (λ (x : RentalView). x.refunded) same
+
+-- a view's refunds are a sum over the entries
+pub rental_refunds : (s : Operator) (number : ℕ) (o : Option Rental) (row : RentalView) → rental_view s number o ≡ Some row → refunded_of row.number s.entries ≡ row.refunded
+rental_refunds s number None row e = absurd cc
+rental_refunds s number (Some r) row e = planned_refunds s number r (map.get s.plans r.plan) row e
+
+-- ---- riders
+
+pub rider_balance : (s : Operator) (rider : ℕ) (o : Option Rider) (row : RiderView) → rider_view s rider o ≡ Some row → balance_of rider s.entries ≡ row.balance
+rider_balance s rider None row e = absurd cc
+rider_balance s rider (Some r) row e = ap (λ (x : RiderView). x.balance) (same_Some _ row e)
+
+-- ---- decisions that no moment changes
+
+pub finds_at : (v : View) (now : ℕ) (c : Command) (r : Result Accepted Refusal) → IfOk r (FindsOn v c) → IfOk r (FindsAt now v c)
+finds_at v now c (Ok a) found = λ s sound e. found s now sound e
+finds_at v now c (Err refusal) found = tt
+
+-- the region that is named, read through a reference
+pub region_named : (o : Option (Bor (List ℕ))) (region : Option (List ℕ)) → option_copied o ≡ region → region ≡ text_in o
+region_named None region e = sym e
+region_named (Some text) region e = sym e

@@ -1,15 +1,16 @@
 //! What a bicycle is good for and where it is.
 
 ghost use Rattle.std.specs.Prelude.{◌≡◌, ◌&&◌};
-ghost use Rattle.bike_operator.specs.Counts.{is_retired, is_depot};
-ghost use Rattle.bike_operator.specs.Steps.{is_at_end};
+ghost use Rattle.bike_operator.specs.Counts.{is_fit, is_retired, is_depot, is_on_truck, is_for_order};
+ghost use Rattle.bike_operator.specs.View.{end_at};
+ghost use Rattle.bike_operator.specs.Steps.{is_same_end, is_at_end, ends_apart};
 ghost use Rattle.bike_operator.specs.Changes.{place_of};
-ghost use Rattle.bike_decisions.specs.Moves.{put_from};
+ghost use Rattle.bike_decisions.specs.Moves.{put_from, IsHeldShown, IsPutAtEnd};
 
-use bike_accepted::{DockAt, Moved, Standing};
-use bike_fields::Ident;
-use bike_operator::{Bike, BikeState, NewPlace, Place};
-use bike_texts::OrderEnd;
+use bike_accepted::{DockAt, Held, Moved, Standing};
+use bike_fields::{Ident, OrderNumber, TruckNumber};
+use bike_operator::{Bike, BikeState, DockedBike, NewPlace, Order, Place, StationView};
+use bike_texts::{OrderEnd, Side, UnloadDock};
 
 /// Whether a bicycle stays in the depot for good.
 pub(crate) fn is_retired(state: BikeState) -> bool
@@ -22,7 +23,7 @@ pub(crate) fn is_retired(state: BikeState) -> bool
 }
 
 /// Whether the place is the depot.
-fn is_depot(place: &Place) -> bool
+pub(crate) fn is_depot(place: &Place) -> bool
     ensures { result ≡ is_depot place.now }
 {
     match place {
@@ -106,5 +107,117 @@ pub(crate) fn put_from<'a>(
             was,
             becomes,
         },
+    }
+}
+
+/// Whether a bicycle can be rented.
+pub(crate) fn is_fit(state: BikeState) -> bool
+    ensures { result ≡ is_fit state }
+{
+    match state {
+        BikeState::Fit => true,
+        BikeState::Disabled | BikeState::Retired => false,
+    }
+}
+
+/// Whether two ends are the depot, or the same station.
+pub(crate) fn is_same_end(one: &OrderEnd, other: &OrderEnd) -> bool
+    ensures { result ≡ is_same_end one.now other.now }
+{
+    match (one, other) {
+        (OrderEnd::Depot, OrderEnd::Depot) => true,
+        (OrderEnd::Station(one), OrderEnd::Station(other)) => one.as_str() == other.as_str(),
+        _ => false,
+    }
+}
+
+/// Whether a place is this truck, for this order.
+pub(crate) fn is_loaded(truck: TruckNumber, order: OrderNumber, place: &Place) -> bool
+    ensures { result ≡ (is_on_truck truck place.now && is_for_order order place.now) }
+{
+    match place {
+        Place::Truck {
+            truck: on,
+            order: loaded_for,
+        } => on.get() == truck.get() && loaded_for.get() == order.get(),
+        Place::Dock { .. } | Place::Rental { .. } | Place::Depot => false,
+    }
+}
+
+/// The end of an order at a side.
+pub(crate) fn end_at(side: Side, order: &Order) -> &OrderEnd
+    ensures { result.now ≡ end_at side order.now }
+{
+    match side {
+        Side::From => &order.from_end,
+        Side::To => &order.to_end,
+    }
+}
+
+/// Whether an end has no dock of this number: a station's are 1, 2, .., and the depot has 0 in place of one.
+pub(crate) fn ends_apart(end: &OrderEnd, station: &Option<StationView>, dock: UnloadDock) -> bool
+    ensures { result ≡ ends_apart end.now station.now dock }
+{
+    let dock = dock.get();
+    match (end, station) {
+        (OrderEnd::Depot, _) => dock > 0,
+        (OrderEnd::Station(_), None) => dock == 0,
+        (OrderEnd::Station(_), Some(row)) => dock == 0 || row.docks.get() < dock,
+    }
+}
+
+/// The bicycle in a dock, as a mark of the dock has it.
+pub(crate) fn held_in<'a>(docked: &'a Option<DockedBike>) -> Option<Held<'a>>
+    ensures { IsHeldShown docked.now result }
+{
+    match docked {
+        None => None,
+        Some(row) => Some(Held {
+            bike: row.bike.get(),
+            type_id: &row.type_id,
+            state: row.state,
+        }),
+    }
+}
+
+/// A bicycle put at an end of an order: in the depot, or in an empty dock that works.
+pub(crate) fn put_at_end<'a>(
+    bike: u32,
+    type_id: &'a Ident,
+    was: Standing<'a>,
+    end: &'a OrderEnd,
+    dock: UnloadDock,
+) -> Moved<'a>
+    ensures { IsPutAtEnd end.now bike type_id.entry was.entry dock result }
+{
+    let state = was.state;
+    match end {
+        OrderEnd::Depot => Moved::Away {
+            bike,
+            type_id,
+            was,
+            becomes: Standing {
+                state,
+                place: NewPlace::Depot,
+            },
+        },
+        OrderEnd::Station(station) => {
+            let dock = dock.get();
+            let at = DockAt {
+                station,
+                dock,
+                is_broken: false,
+            };
+            Moved::AtDock {
+                at,
+                bike,
+                type_id,
+                was,
+                becomes: Standing {
+                    state,
+                    place: NewPlace::Dock { station, dock },
+                },
+            }
+        }
     }
 }
