@@ -70,14 +70,11 @@ no_segments_added made rows other = subst (λ (ws : List RowWrite). AreAdded ws 
 
 -- ---- an entry
 
-two_added : (r0 r1 r2 : List RowChange) (c d : RowChange) → r1 ≡ r0 ++ c ∷ [] → r2 ≡ r1 ++ d ∷ [] → AreAdded (write_of c ∷ write_of d ∷ []) r0 r2
-two_added r0 r1 r2 c d one two = added_then (write_of c ∷ []) (write_of d ∷ []) r0 r1 r2 (added_rows r0 (c ∷ []) r1 one) (added_rows r1 (d ∷ []) r2 two)
-
-module _ (b : Booked) (e : Bor Entry) (rider : ℕ) (r0 r1 r2 r3 : List RowChange) (entry_is : e.now ≡ b.entry) (rider_is : rider ≡ b.entry.rider) (one : r1 ≡ r0 ++ row.AddEntry e ∷ [])
-    (two : r2 ≡ r1 ++ row.SetBalance rider b.balance ∷ []) where
+module _ (b : Booked) (e : Bor Entry) (rider : ℕ) (r0 r2 r3 : List RowChange) (entry_is : e.now ≡ b.entry) (rider_is : rider ≡ b.entry.rider)
+    (two : r2 ≡ r0 ++ row.AddEntry e ∷ row.SetBalance rider b.balance ∷ []) where
   plain : AreAdded (Add Entries (entry_row b.entry.number b.entry) ∷ write_of (row.SetBalance b.entry.rider b.balance) ∷ []) r0 r2
   plain =
-      subst₂ (λ (x : Entry) (r : ℕ). AreAdded (Add Entries (entry_row x.number x) ∷ write_of (row.SetBalance r b.balance) ∷ []) r0 r2) entry_is rider_is (two_added r0 r1 r2 (row.AddEntry e) (row.SetBalance rider b.balance) one two)
+      subst₂ (λ (x : Entry) (r : ℕ). AreAdded (Add Entries (entry_row x.number x) ∷ write_of (row.SetBalance r b.balance) ∷ []) r0 r2) entry_is rider_is (added_rows r0 (row.AddEntry e ∷ row.SetBalance rider b.balance ∷ []) r2 two)
 
   pub refund_added : (rental : ℕ) (refunded : ℤ) → b.refunded ≡ Some refunded → rental ≡ b.entry.rental → r3 ≡ r2 ++ row.SetRefunded rental refunded ∷ [] → AreAdded (entry_writes b) r0 r3
   refund_added rental refunded some rental_is three =

@@ -9,6 +9,6 @@ mod stored;
 mod texts;
 
 pub use laws::books_accepted;
-pub use rows::{Rows, rows_of};
+pub use rows::{MOST_ROW_CHANGES, push_rows};
 pub use stored::{Stored, StoredCounts, StoredDock, Sums, Total};
 pub use texts::KeptTexts;

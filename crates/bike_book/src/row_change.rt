@@ -182,13 +182,3 @@ pub enum RowChange<'a> {
         name: &'a Name,
     },
 }
-
-impl Default for RowChange<'_> {
-    /// What fills room in which no row change stands yet.
-    fn default() -> Self {
-        RowChange::AddTruck {
-            truck: 0,
-            capacity: 0,
-        }
-    }
-}

@@ -1,5 +1,5 @@
 -- Orders that are opened, bicycles that are loaded and unloaded: their decisions, and what was found for them.
-use Rattle.std.proofs.Common.{◌≡◌, ◌≤◌, ◌+◌, ◌==◌, ℕ, List, Bool, true, false, not, ◌&&◌, Option, Some, None, is_some, is_none, Ok, refl, sym, ap, ◌∙◌, subst, arith}
+use Rattle.std.proofs.Common.{◌≡◌, ◌≤◌, ◌+◌, ◌==◌, ℕ, List, true, false, not, ◌&&◌, Option, Some, None, is_some, is_none, Ok, refl, sym, ap, ◌∙◌, subst, arith}
 use Rattle.std.specs.Prelude.{IfSome}
 use Rattle.std.specs.Borrow.{Bor}
 use Rattle.std.specs.FinMap as map

@@ -9,14 +9,12 @@ use Rattle.std.specs.FinMap as map
 use Rattle.std.specs.FinMap.{FinMap}
 use Rattle.bike_ledger.specs.Entries.{Entry}
 use Rattle.bike_ledger.specs.declared.entry.EntryKind.TheVariants as kind
-use Rattle.bike_ledger.specs.Ledger.{balance_of, refunded_of, credit}
+use Rattle.bike_ledger.specs.Ledger.{balance_of, credit}
 use Rattle.bike_commands.specs.declared.command.Command.{Command}
 use Rattle.bike_commands.specs.declared.command.Command.TheVariants as command
-use Rattle.bike_commands.specs.declared.reply.Reply.{Reply}
 use Rattle.bike_commands.specs.declared.reply.Reply.TheVariants.{Balance, Started, Ended}
 use Rattle.bike_operator.specs.declared.change.NewPlace.TheVariants as new
 use Rattle.bike_operator.specs.declared.records.BikeState.TheVariants.{Disabled}
-use Rattle.bike_operator.specs.declared.records.Place.{Place}
 use Rattle.bike_operator.specs.declared.records.Place.TheVariants as place
 use Rattle.bike_operator.specs.declared.records.Bike.{Bike}
 use Rattle.bike_operator.specs.declared.records.Closing.{Closing}
@@ -28,7 +26,7 @@ use Rattle.bike_operator.specs.declared.view.View.{View}
 use Rattle.bike_operator.specs.Operator.{Operator, item_numbered}
 use Rattle.bike_operator.specs.Counts.{is_open, docked_at}
 use Rattle.bike_operator.specs.View.{view_of, docked_view, rental_of, rental_view, bike_of, rider_view}
-use Rattle.bike_operator.specs.Steps.{first, tests, refusal_of, fare_now, effect, reply_of, found_changed, key_changed, with_fare}
+use Rattle.bike_operator.specs.Steps.{first, tests, fare_now, effect, reply_of, found_changed, key_changed, with_fare}
 use Rattle.bike_operator.specs.Changes.{place_of}
 use Rattle.bike_operator.specs.Sound.{IsSound, IsOut, IsOpenOrClosed}
 use Rattle.bike_places.specs.Laws.{IsAway}
@@ -37,7 +35,6 @@ use Rattle.bike_places.proofs.TestLemmas.{NoneHolds, none_holds, none_of, same_s
 use Rattle.bike_accepted.specs.declared.moved.Standing.{Standing}
 use Rattle.bike_accepted.specs.declared.moved.Moved.{Moved}
 use Rattle.bike_accepted.specs.declared.moved.Moved.TheVariants as moved
-use Rattle.bike_accepted.specs.declared.change.Change.{Change}
 use Rattle.bike_accepted.specs.declared.change.Change.TheVariants as change
 use Rattle.bike_accepted.specs.declared.accepted.Booked.{Booked}
 use Rattle.bike_accepted.specs.declared.accepted.Accepted.{Accepted}

@@ -24,7 +24,7 @@ use Rattle.bike_operator.specs.Operator.{Operator, Rider, item_numbered}
 use Rattle.bike_operator.specs.Counts.{is_dock, docked_at}
 use Rattle.bike_operator.specs.View.{view_of, rider_view, typed_bike, docked_view, rental_view, rental_of, rental_in, planned_rental}
 use Rattle.bike_operator.specs.Steps.{first, tests, refusal_of}
-use Rattle.bike_operator.specs.Changes.{place_of, text_in}
+use Rattle.bike_operator.specs.Changes.{text_in}
 use Rattle.bike_operator.specs.Sound.{AreBikesSound}
 use Rattle.bike_places.proofs.MapLemmas.{number_order}
 use Rattle.bike_places.proofs.CountLemmas.{found_by}

@@ -6,7 +6,8 @@ use Rattle.bike_accepted_rows.proofs.rows.push_segments.Goals as goal
 pub loop-segment-preserved : goal.loop-segment-preserved
 loop-segment-preserved c = record {
   place = omega arith;
-  room = omega arith;
+  len = omega arith;
+  capacity = omega arith;
   added =
       let segments = c.args.segments.now in
       let index = c.loop-segment.segment-index in
@@ -16,6 +17,6 @@ loop-segment-preserved c = record {
       let place = c.loop-segment.invariant.place in
       let below = c.loop-segment-test.true in
       let at : c.loop-segment.seq ≡ length (take index segments) + 1 = simp length-take (omega (arith, place, below)) in
-      segment_more c.args.plan.now (take index segments) (take (index + 1) segments) item c.loop-segment.seq c.args.rows.now.items c.loop-segment.rows.items c.push.new.self.items _ c.loop-segment.invariant.added
-      c.push.ensures.items refl at next;
+      segment_more c.args.plan.now (take index segments) (take (index + 1) segments) item c.loop-segment.seq c.args.rows.now.items c.loop-segment.rows.items c.add.new.rows.items _ c.loop-segment.invariant.added
+      c.add.ensures.items refl at next;
 }

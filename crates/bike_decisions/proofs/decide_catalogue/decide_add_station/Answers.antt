@@ -1,6 +1,5 @@
-use Rattle.std.proofs.Common.{◌≡◌, Option, is_some, None, refl, sym, ap, ◌∙◌}
+use Rattle.std.proofs.Common.{◌≡◌, is_some, None, sym, ap, ◌∙◌}
 use Rattle.std.specs.FinMap as map
-use Rattle.bike_operator.specs.Operator.{Station}
 use Rattle.bike_operator.specs.declared.view.View.{View}
 use Rattle.bike_places.proofs.TestLemmas.{no_station}
 use Rattle.bike_decisions.proofs.Stations.{none_docked, none_broken}

@@ -1,4 +1,4 @@
-use Rattle.std.proofs.Common.{Some, refl}
+use Rattle.std.proofs.Common.{Some}
 use Rattle.bike_commands.specs.declared.command.Command.TheVariants as command
 use Rattle.bike_decisions.proofs.Views.{refused_as}
 use Rattle.bike_decisions.proofs.Rentals.{recover_decided, recover_found}

@@ -1,4 +1,4 @@
-use Rattle.std.proofs.Common.{Some, refl, ap, ◌∙◌}
+use Rattle.std.proofs.Common.{Some, ap, ◌∙◌}
 use Rattle.bike_commands.specs.declared.command.Command.TheVariants as command
 use Rattle.bike_decisions.proofs.Views.{refused_as}
 use Rattle.bike_decisions.proofs.Rentals.{refund_entry, refund_decided, refund_found}
