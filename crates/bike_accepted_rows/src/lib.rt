@@ -2,6 +2,7 @@
 //! touches, and the law that they lead from the tables of the operator to those of the operator after the request.
 #![tactic(auto)]
 
+mod change_row;
 mod laws;
 mod rows;
 mod shares;
