@@ -1,0 +1,96 @@
+-- What an accepted command makes of the operator, and what a decision owes.
+use Rattle.std.specs.Prelude.{◌≡◌, ℕ, ◌+◌, List, true, false, Option, Some, None, option_map, Result, Ok, Err}
+use Rattle.std.specs.FinMap as map
+use Rattle.std.specs.Borrow.{Bor}
+use Rattle.bike_ledger.specs.Entries.{Entry}
+use Rattle.bike_commands.specs.declared.command.Command.{Command}
+use Rattle.bike_commands.specs.declared.refusal.Refusal.{Refusal}
+use Rattle.bike_operator.specs.declared.records.BikeState.TheVariants.{Fit}
+use Rattle.bike_operator.specs.declared.records.Place.TheVariants as place
+use Rattle.bike_operator.specs.declared.records.Bike.{Bike}
+use Rattle.bike_operator.specs.declared.view.View.{View}
+use Rattle.bike_operator.specs.Operator.{Operator, name_key}
+use Rattle.bike_operator.specs.View.{view_of}
+use Rattle.bike_operator.specs.Steps.{refusal_of, effect, reply_of, key_changed, with_report, new_station, dock_marked, rental_added, rental_closed, order_added, order_changed}
+use Rattle.bike_operator.specs.Changes.{place_of, text_in, entry_added}
+use Rattle.bike_accepted.specs.declared.moved.Standing.{Standing}
+use Rattle.bike_accepted.specs.declared.moved.Moved.{Moved}
+use Rattle.bike_accepted.specs.declared.moved.Moved.TheVariants as moved
+use Rattle.bike_accepted.specs.declared.change.Change.{Change}
+use Rattle.bike_accepted.specs.declared.change.Change.TheVariants as change
+use Rattle.bike_accepted.specs.declared.accepted.Booked.{Booked}
+use Rattle.bike_accepted.specs.declared.accepted.Accepted.{Accepted}
+
+-- ---- what is put or marked at a dock
+
+-- a bicycle's record
+abbrev pub bike_in : Bor (List ℕ) → Standing → Bike
+bike_in type_id x = record { type_id = type_id.now; state = x.state; place = place_of x.place }
+
+-- the operator with this record of a bicycle
+abbrev pub bike_put : ℕ → Bike → Operator → Operator
+bike_put bike b s = record s { bikes = map.insert s.bikes bike b }
+
+abbrev pub after_moved : ℕ → Moved → Operator → Operator
+after_moved now (moved.Away bike type_id was becomes) s = bike_put bike (bike_in type_id becomes) s
+after_moved now (moved.AtDock at bike type_id was becomes) s = with_report at.station.now now (bike_put bike (bike_in type_id becomes) s)
+after_moved now (moved.Marked at held broken) s = with_report at.station.now now (dock_marked at.station.now at.dock broken s)
+
+-- ---- one other record
+
+abbrev pub after_change : ℕ → Change → Operator → Operator
+after_change now (change.SetSystem x) s = record s { system = Some x.now }
+after_change now (change.AddPlan p) s = record s { plans = map.insert s.plans p.now.plan_id p.now }
+after_change now (change.AddType t) s = record s { types = map.insert s.types t.now.type_id t.now }
+after_change now (change.SetPlan type_id plan) s = record s { types = key_changed s.types type_id.now (λ t. record t { plan_id = plan.now }) }
+after_change now (change.AddStation x) s = record s { stations = map.insert s.stations x.now.station_id (new_station x.now now) }
+after_change now (change.SetStation station installed renting returning) s =
+    record s { stations = key_changed s.stations station.now (λ x. record x { is_installed = installed; is_renting = renting; is_returning = returning; reported = now }) }
+after_change now (change.AddRegion r) s = record s { regions = map.insert s.regions r.now.region_id r.now }
+after_change now (change.SetRegion station region) s = record s { stations = key_changed s.stations station.now (λ x. record x { region = text_in region }) }
+after_change now (change.AddName kind id language name) s = record s { more_names = map.insert s.more_names (name_key kind id.now language.now) name.now }
+after_change now (change.AddBike bike type_id) s = record s { bikes = map.insert s.bikes bike (record { type_id = type_id.now; state = Fit; place = place.Depot }) }
+after_change now (change.AddTruck truck capacity) s = record s { trucks = map.insert s.trucks truck (record { capacity = capacity }) }
+after_change now (change.AddRider rider) s = record s { riders = map.insert s.riders rider (record { is_blocked = false }) }
+after_change now (change.SetRider rider blocked) s = record s { riders = map.insert s.riders rider (record { is_blocked = blocked }) }
+after_change now (change.AddRental rental rider bike plan from_station) s =
+    rental_added (record { rider = rider; bike = bike; plan = plan.now; from_station = from_station.now; start = now; closing = None }) s
+after_change now (change.CloseRental rental to_station fare) s = rental_closed rental (text_in to_station) now fare s
+after_change now (change.AddOrder order truck from_end to_end type_id count) s =
+    order_added (record { truck = truck; from_end = from_end.now; to_end = to_end.now; type_id = type_id.now; count = count; delivered = 0; is_open = true }) s
+after_change now (change.Deliver order was delivered) s = order_changed order (λ o. record o { delivered = o.delivered + 1 }) s
+after_change now (change.CloseOrder order was) s = order_changed order (λ o. record o { is_open = false }) s
+
+-- ---- an acceptance
+
+-- what is there of them, in this order
+abbrev pub where_moved : ℕ → Option Moved → Operator → Operator
+where_moved now None s = s
+where_moved now (Some m) s = after_moved now m s
+
+abbrev pub where_changed : ℕ → Option Change → Operator → Operator
+where_changed now None s = s
+where_changed now (Some c) s = after_change now c s
+
+abbrev pub entry_of : Option Booked → Option Entry
+entry_of = option_map (λ b. b.entry)
+
+-- before its entry
+abbrev pub changed_by : ℕ → Accepted → Operator → Operator
+changed_by now a s = where_changed now a.change (where_moved now a.moved s)
+
+abbrev pub effect_of : ℕ → Accepted → Operator → Operator
+effect_of now a s = entry_added (entry_of a.entry) (changed_by now a s)
+
+-- What a decision owes: the first refusal that holds, or the reply and what makes the effect.
+abbrev pub Decides : Operator → ℕ → Command → Result Accepted Refusal → Type 0
+Decides s now c (Err r) = refusal_of s c ≡ Some r
+Decides s now c (Ok a) = (refusal_of s c ≡ None) × (a.reply ≡ reply_of s now c) × (effect_of now a s ≡ effect s now c)
+
+-- what it owes to every operator whose view this is, at the moment
+abbrev pub DecidesAt : ℕ → View → Command → Result Accepted Refusal → Type 0
+DecidesAt now view c result = (s : Operator) → view ≡ view_of s c → Decides s now c result
+
+-- the same of a decision that no moment changes
+abbrev pub DecidesOn : View → Command → Result Accepted Refusal → Type 0
+DecidesOn view c result = (s : Operator) (now : ℕ) → view ≡ view_of s c → Decides s now c result

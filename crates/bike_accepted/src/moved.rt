@@ -1,0 +1,61 @@
+//! What is put or marked at a dock.
+
+use bike_fields::Ident;
+use bike_operator::{BikeState, NewPlace};
+
+/// What a bicycle is good for and where it is: what of its record changes.
+#[derive(Clone, Copy)]
+pub struct Standing<'a> {
+    /// What it is good for.
+    pub state: BikeState,
+    /// Where it is.
+    pub place: NewPlace<'a>,
+}
+
+/// A dock and its mark, as they were found.
+#[derive(Clone, Copy)]
+pub struct DockAt<'a> {
+    /// The station.
+    pub station: &'a Ident,
+    /// The dock's number.
+    pub dock: u32,
+    /// Whether the dock is broken.
+    pub is_broken: bool,
+}
+
+/// The bicycle in a dock that is marked.
+#[derive(Clone, Copy)]
+pub struct Held<'a> {
+    /// Its number.
+    pub bike: u32,
+    /// Its vehicle type.
+    pub type_id: &'a Ident,
+    /// What it is good for.
+    pub state: BikeState,
+}
+
+/// A bicycle's record that is put, or a dock that is marked. By the report rule the dock's station reports.
+#[derive(Clone, Copy)]
+pub enum Moved<'a> {
+    /// A bicycle is put from no dock to none.
+    Away {
+        bike: u32,
+        type_id: &'a Ident,
+        was: Standing<'a>,
+        becomes: Standing<'a>,
+    },
+    /// A bicycle is put from a dock, into it, or in another state in it.
+    AtDock {
+        at: DockAt<'a>,
+        bike: u32,
+        type_id: &'a Ident,
+        was: Standing<'a>,
+        becomes: Standing<'a>,
+    },
+    /// A dock is marked, with what is in it.
+    Marked {
+        at: DockAt<'a>,
+        held: Option<Held<'a>>,
+        is_broken: bool,
+    },
+}

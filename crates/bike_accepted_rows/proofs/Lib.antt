@@ -1,0 +1,5 @@
+pub mod Added
+pub mod Written
+pub mod MovedBooks
+pub mod ChangedBooks
+pub mod Accepted

@@ -1,0 +1,5 @@
+pub mod Sums
+pub mod Room
+pub mod Stored
+pub mod Writes
+pub mod Booking

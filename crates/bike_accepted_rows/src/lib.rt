@@ -1,0 +1,15 @@
+//! The row changes of an accepted command: a total function of what it makes and of what is stored of the dock that it
+//! touches, and the law that they lead from the tables of the operator to those of the operator after the request.
+#![tactic(auto)]
+
+mod change_row;
+mod laws;
+mod rows;
+mod shares;
+mod stored;
+mod texts;
+
+pub use laws::books_accepted;
+pub use rows::{MOST_ROW_CHANGES, push_rows};
+pub use stored::{Stored, StoredCounts, StoredDock, Sums, Total};
+pub use texts::KeptTexts;

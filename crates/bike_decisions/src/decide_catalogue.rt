@@ -1,0 +1,134 @@
+//! Decisions on the catalogue: the system, plans, vehicle types and stations.
+
+ghost use Rattle.std.specs.Prelude.{IfOk};
+ghost use Rattle.bike_commands.specs.declared.command.Command.TheVariants as command;
+ghost use Rattle.bike_accepted.specs.Effects.{DecidesOn};
+ghost use Rattle.bike_accepted.specs.Found.{FindsOn};
+
+use crate::places::held_in;
+use bike_accepted::{Accepted, Change, Decision, DockAt, Moved};
+use bike_catalogue::{Plan, Station, System, VehicleType};
+use bike_commands::Refusal;
+use bike_fields::{DockNumber, Ident};
+use bike_operator::View;
+
+/// Decides on setting the system: it is set once.
+pub(crate) fn decide_set_system<'a>(view: &View, system: &'a System) -> Decision<'a>
+    ensures decides { DecidesOn view.now (command.SetSystem system.now) result }
+    ensures found { IfOk result (FindsOn view.now (command.SetSystem system.now)) }
+{
+    if view.has_system {
+        return Err(Refusal::AlreadyThere);
+    }
+    Ok(Accepted::changed(Change::SetSystem(system)))
+}
+
+/// Decides on a new pricing plan.
+pub(crate) fn decide_add_plan<'a>(view: &View, plan: &'a Plan) -> Decision<'a>
+    ensures decides { DecidesOn view.now (command.AddPlan plan.now) result }
+    ensures found { IfOk result (FindsOn view.now (command.AddPlan plan.now)) }
+{
+    if view.has_plan {
+        return Err(Refusal::AlreadyThere);
+    }
+    if view.is_full {
+        return Err(Refusal::LimitReached);
+    }
+    Ok(Accepted::changed(Change::AddPlan(plan)))
+}
+
+/// Decides on a new vehicle type with its default plan.
+pub(crate) fn decide_add_type<'a>(view: &View, vehicle_type: &'a VehicleType) -> Decision<'a>
+    ensures decides { DecidesOn view.now (command.AddType vehicle_type.now) result }
+    ensures found { IfOk result (FindsOn view.now (command.AddType vehicle_type.now)) }
+{
+    if view.has_type {
+        return Err(Refusal::AlreadyThere);
+    }
+    if !view.has_plan {
+        return Err(Refusal::UnknownPlan);
+    }
+    if view.is_full {
+        return Err(Refusal::LimitReached);
+    }
+    Ok(Accepted::changed(Change::AddType(vehicle_type)))
+}
+
+/// Decides on another default plan of a vehicle type.
+pub(crate) fn decide_set_plan<'a>(view: &View, type_id: &'a Ident, plan: &'a Ident) -> Decision<'a>
+    ensures decides { DecidesOn view.now (command.SetPlan type_id.now plan.now) result }
+    ensures found { IfOk result (FindsOn view.now (command.SetPlan type_id.now plan.now)) }
+{
+    if !view.has_type {
+        return Err(Refusal::UnknownType);
+    }
+    if !view.has_plan {
+        return Err(Refusal::UnknownPlan);
+    }
+    Ok(Accepted::changed(Change::SetPlan { type_id, plan }))
+}
+
+/// Decides on a new station.
+pub(crate) fn decide_add_station<'a>(view: &View, station: &'a Station) -> Decision<'a>
+    ensures decides { DecidesOn view.now (command.AddStation station.now) result }
+    ensures found { IfOk result (FindsOn view.now (command.AddStation station.now)) }
+{
+    if view.station.is_some() {
+        return Err(Refusal::AlreadyThere);
+    }
+    if view.is_full {
+        return Err(Refusal::LimitReached);
+    }
+    Ok(Accepted::changed(Change::AddStation(station)))
+}
+
+/// Decides on the flags of a station.
+pub(crate) fn decide_set_station<'a>(
+    view: &View,
+    station: &'a Ident,
+    is_installed: bool,
+    is_renting: bool,
+    is_returning: bool,
+) -> Decision<'a>
+    ensures decides { DecidesOn view.now (command.SetStation station.now is_installed is_renting is_returning) result }
+    ensures found { IfOk result (FindsOn view.now (command.SetStation station.now is_installed is_renting is_returning)) }
+{
+    if view.station.is_none() {
+        return Err(Refusal::UnknownStation);
+    }
+    Ok(Accepted::changed(Change::SetStation {
+        station,
+        is_installed,
+        is_renting,
+        is_returning,
+    }))
+}
+
+/// Decides on a dock that is broken, or works again. By the no-change rule it may be so already.
+pub(crate) fn decide_mark_dock<'a>(
+    view: &'a View,
+    station: &'a Ident,
+    dock: DockNumber,
+    is_broken: bool,
+) -> Decision<'a>
+    ensures decides { DecidesOn view.now (command.MarkDock station.now dock is_broken) result }
+    ensures found { IfOk result (FindsOn view.now (command.MarkDock station.now dock is_broken)) }
+{
+    let Some(row) = &view.station else {
+        return Err(Refusal::UnknownStation);
+    };
+    if row.docks.get() < dock.get() {
+        return Err(Refusal::UnknownDock);
+    }
+    let at = DockAt {
+        station,
+        dock: dock.get(),
+        is_broken: view.is_dock_broken,
+    };
+    let held = held_in(&view.docked);
+    Ok(Accepted::moved(Moved::Marked {
+        at,
+        held,
+        is_broken,
+    }))
+}

@@ -1,0 +1,57 @@
+//! Decisions on names in further languages.
+
+ghost use Rattle.std.specs.Prelude.{◌≡◌, IfOk};
+ghost use Rattle.bike_commands.specs.declared.command.Command.TheVariants as command;
+ghost use Rattle.bike_operator.specs.Steps.{unknown_of};
+ghost use Rattle.bike_accepted.specs.Effects.{DecidesOn};
+ghost use Rattle.bike_accepted.specs.Found.{FindsOn};
+
+use bike_accepted::{Accepted, Change, Decision};
+use bike_catalogue::NameKind;
+use bike_commands::Refusal;
+use bike_fields::{Ident, Language, Name};
+use bike_operator::View;
+
+/// Why a name isn't taken where there is nothing of its kind.
+fn unknown_of(kind: NameKind) -> Refusal
+    ensures { result ≡ unknown_of kind }
+{
+    match kind {
+        NameKind::System => Refusal::BadField,
+        NameKind::Station => Refusal::UnknownStation,
+        NameKind::Type => Refusal::UnknownType,
+        NameKind::Plan | NameKind::Description => Refusal::UnknownPlan,
+        NameKind::Region => Refusal::UnknownRegion,
+    }
+}
+
+/// Decides on a name in a further language.
+pub(crate) fn decide_add_name<'a>(
+    view: &View,
+    kind: NameKind,
+    id: &'a Ident,
+    language: &'a Language,
+    name: &'a Name,
+) -> Decision<'a>
+    ensures decides { DecidesOn view.now (command.AddName kind id.now language.now name.now) result }
+    ensures found { IfOk result (FindsOn view.now (command.AddName kind id.now language.now name.now)) }
+{
+    if !view.has_system {
+        return Err(Refusal::SystemMissing);
+    }
+    if !view.has_named {
+        return Err(unknown_of(kind));
+    }
+    if view.has_language {
+        return Err(Refusal::AlreadyThere);
+    }
+    if view.is_full {
+        return Err(Refusal::LimitReached);
+    }
+    Ok(Accepted::changed(Change::AddName {
+        kind,
+        id,
+        language,
+        name,
+    }))
+}
