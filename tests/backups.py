@@ -413,6 +413,12 @@ def test_a_log_that_was_removed(program):
     assert keys_in(here / "by_hand.db") == [1]
 
 
+def heeds_signals():
+    """In a process: what was told to be ignored by nohup, as a gate may be, ends it as ever."""
+    for kind in signal.SIGHUP, signal.SIGINT, signal.SIGQUIT, signal.SIGTERM:
+        signal.signal(kind, signal.SIG_DFL)
+
+
 @contextlib.contextmanager
 def begun(program, file, copy):
     """The script, begun on a file, whose cp waits until there is a file `go` beside it."""
@@ -422,7 +428,7 @@ def begun(program, file, copy):
     (folder / "cp").chmod(0o755)
     env = {**os.environ, "BIKESHARE": program.file, "PATH": f"{folder}:{os.environ['PATH']}"}
     words = [DEPLOY / "backup", file, copy]
-    script = subprocess.Popen(words, env=env, stderr=subprocess.PIPE, start_new_session=True)
+    script = subprocess.Popen(words, env=env, stderr=subprocess.PIPE, start_new_session=True, preexec_fn=heeds_signals)
     try:
         until = time.monotonic() + SECONDS
         while not (folder / "begun").exists():

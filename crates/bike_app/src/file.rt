@@ -76,8 +76,8 @@ fn settles(task: &Task<'_>) -> bool
 /// Words that only look, and `Raise`, make no file: where there is none that is `StoreFailed`. A log that may hold commits and has no
 /// file, or an empty one, is `StoreFailed` for all words, and stays. Words that may change the database bring the log into the file at
 /// their end, so that after a number the file is the whole database by itself; where that fails, they end with `StoreFailed`, and the
-/// file and its log are the database together. Words that only look leave no log where there was none. Gives back what is left of the
-/// connection, none where no file was opened, and how the words ended.
+/// file and its log are the database together. Words that only look, and a file that is refused, leave no log where there was none. Gives
+/// back what is left of the connection, none where no file was opened, and how the words ended.
 pub fn run_on_file<F: Start, R: Read, W: Write, P: Watch>(
     rt: &HostRuntime,
     task: &Task<'_>,
@@ -104,6 +104,7 @@ pub fn run_on_file<F: Start, R: Read, W: Write, P: Watch>(
         Some(conn) => {
             if settles(task) {
                 let (remains, end) = settle(conn, end);
+                made.remove_where_open(rt, &remains);
                 return (Some(remains), end);
             }
             // Its connection still has the lock of the file.

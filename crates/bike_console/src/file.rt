@@ -92,7 +92,7 @@ fn open_database<F: Start>(
     let Some(seed) = draw_seed(rt) else {
         return Err(Fault::StoreFailed);
     };
-    let made = NewLog::beside(rt, path);
+    let made = NewLog::beside_database(rt, path);
     let mut files = open_pair(rt, path, start)?;
     match is_lone(&mut files) {
         Ok(false) => {}

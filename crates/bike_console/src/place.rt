@@ -4,8 +4,10 @@ ghost use Rattle.std.specs.Prelude.{IfErr};
 ghost use Rattle.bike_console.specs.Files.{IsOpeningFault};
 
 use crate::blank::make_file;
+use crate::closing::Remains;
 use crate::end::Fault;
 use crate::file::LEAST_LOG;
+use sqlite_disk::Disk;
 use std::fs;
 use std::io::ErrorKind;
 
@@ -39,12 +41,15 @@ fn has_lone_log(rt: &HostRuntime, path: &str) -> Result<bool, Fault>
 pub fn prepare_file(rt: &HostRuntime, path: &str, may_make: bool) -> Result<(), Fault>
     ensures { IfErr result IsOpeningFault }
 {
-    if !is_plain(path) || !is_missing(rt, path) {
+    if !is_plain(path) {
         return Ok(());
     }
-    if !may_make || has_lone_log(rt, path)? {
-        return Err(Fault::StoreFailed);
+    if is_missing(rt, path) {
+        if !may_make || has_lone_log(rt, path)? {
+            return Err(Fault::StoreFailed);
+        }
     }
+    // Of a file that is there this takes away only the second name that a stop left it.
     make_file(rt, path);
     Ok(())
 }
@@ -68,12 +73,34 @@ impl NewLog {
         }
     }
 
-    /// Takes that log away. It holds nothing as long as nothing was committed since; the caller holds the lock of the database file, so
-    /// that no other program has opened it.
+    /// The same, where something stands at the path already: a file whose making was stopped is known by its log.
+    pub(crate) fn beside_database(rt: &HostRuntime, path: &str) -> NewLog {
+        match fs::metadata(rt, path) {
+            Ok(found) if found.len() > 1 => NewLog::beside(rt, path),
+            _ => NewLog { name: None },
+        }
+    }
+
+    /// Takes that log away, unless it is so long that it may hold commits. The caller holds the lock of the database file, so that no
+    /// other program has opened it.
     pub fn remove(self, rt: &HostRuntime) {
-        if let Some(name) = self.name {
-            // Where this fails an empty log stays, which does no harm.
-            let _ = fs::remove_file(rt, name.as_str());
+        let Some(name) = self.name else {
+            return;
+        };
+        match fs::symlink_metadata(rt, name.as_str()) {
+            Ok(found) if found.len() < LEAST_LOG as u64 => {
+                // Where this fails an empty log stays, which does no harm.
+                let _ = fs::remove_file(rt, name.as_str());
+            }
+            _ => {}
+        }
+    }
+
+    /// Takes that log away, as `remove` does, where the connection is still open, and with it the lock of the database file.
+    pub fn remove_where_open<D: Disk>(self, rt: &HostRuntime, remains: &Remains<D>) {
+        match remains {
+            Remains::Open(_) => self.remove(rt),
+            Remains::Settled(_) | Remains::Unsettled(_) => {}
         }
     }
 }

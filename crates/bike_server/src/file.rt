@@ -11,13 +11,13 @@ ghost use Rattle.bike_server.specs.Files.{ListensOnFile, IsUnopened};
 ghost use Rattle.bike_server.specs.Serving.{StandsAfterRequests};
 
 use crate::server::listen;
-use bike_console::{Fault, open_file, prepare_file};
+use bike_console::{Fault, NewLog, open_file, prepare_file};
 use sqlite::{Connection, FileFrom, FileStore, Start};
 use std::io::Write;
 
 /// Listens over the database file at a path, as `listen` does over a connection to the database that the file's bytes hold; the file is
 /// made where there is none. Gives the connection back, none where the file couldn't be opened: then nothing was written or listened
-/// to, and the fault is that of the opening. Its log stays beside the file.
+/// to, and the fault is that of the opening. A log that may hold commits stays beside the file.
 pub fn listen_on_file<F: Start, W: Write>(
     rt: &HostRuntime,
     port: u16,
@@ -38,9 +38,12 @@ pub fn listen_on_file<F: Start, W: Write>(
     if let Err(fault) = prepare_file(rt, path, true) {
         return (None, Err(fault));
     }
+    let made = NewLog::beside(rt, path);
     match open_file(rt, path, start) {
         Ok(conn) => {
             let (conn, end) = listen(rt, port, count, conn, writer);
+            // Its connection still has the lock of the file.
+            made.remove(rt);
             (Some(conn), end)
         }
         Err(fault) => (None, Err(fault)),
