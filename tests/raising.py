@@ -45,6 +45,8 @@ SECONDS = 60
 
 NEWEST = 3
 DONE = (0, b"version 3\n", b"")
+# It was raised, and its log couldn't be brought into the file.
+UNSETTLED = (3, DONE[1], STORE_FAILED[2])
 WITHOUT_MEMORY = (4, b"", b"out of memory\n")
 MOST_DOCKS_BEFORE = 200
 
@@ -764,7 +766,7 @@ def is_an_end(how, ended):
     """Whether a raise may end so under such a fault."""
     if how in FAILURES:
         # A line that was not written is another fault, and comes when the file is raised.
-        return ended in (DONE, STORE_FAILED) or (ended[0] == 6 and ended[2] == b"write failed\n")
+        return ended in (DONE, UNSETTLED, STORE_FAILED) or (ended[0] == 6 and ended[2] == b"write failed\n")
     return ended[0] == KILLED and DONE[1].startswith(ended[1]) and not ended[2]
 
 
@@ -854,9 +856,9 @@ def test_refused_memory(program):
             put(raising.parts, there)
             ended = disturbed(mine, ["raise", there.name], **refusal)[:3]
             with told_with(f"{raising.name}, {refusal}: {ended}"):
-                assert ended in (DONE, STORE_FAILED, WITHOUT_MEMORY)
+                assert ended in (DONE, UNSETTLED, STORE_FAILED, WITHOUT_MEMORY)
                 found = held(there)
-                assert found in ([raising.after] if ended == DONE else [raising.before, raising.after])
+                assert found in ([raising.after] if ended in (DONE, UNSETTLED) else [raising.before, raising.after])
                 assert mine.run("raise", there.name) == DONE
                 assert held(there) == raising.after
 
