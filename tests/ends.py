@@ -15,7 +15,8 @@ import time
 from pathlib import Path
 
 import adoption
-from shared import READ_FAILED, SOUND, STORE_FAILED, WRITE_FAILED, Program, Server, changed, get, is_sound, removed, rows_of, told_with
+from shared import DONE, READ_FAILED, SOUND, STORE_FAILED, WRITE_FAILED, Program, Server
+from shared import changed, get, is_sound, office, removed, rows_of, told_with
 
 SECONDS = 30
 ASKED, TOLD = adoption.asked(), adoption.told()
@@ -241,6 +242,51 @@ def test_a_disk_without_room(program):
         assert program.run("lines", file, given=ASKED) == (0, TOLD, b""), limit
         is_sound(program, file)
     assert ends == {0, 3}, ends
+
+
+def test_a_limit_on_file_size_that_is_a_signal(program):
+    """Where nobody ignores SIGXFSZ it ends the program with no line, and the list goes on as after a kill."""
+    answers = TOLD.splitlines(keepends=True)
+    ends = set()
+    for limit in (100, 40_000, 300_000, 4_000_000):
+        file = f"signal{limit}.db"
+        limit_it = lambda limit=limit: resource.setrlimit(resource.RLIMIT_FSIZE, (limit, limit))
+        status, out, said = program.run("lines", file, given=ASKED, timeout=SECONDS, preexec_fn=limit_it)
+        assert (status, said) in ((-signal.SIGXFSZ, b""), (0, b"")), (limit, status, said)
+        found = out.splitlines(keepends=True)
+        assert found == answers[: len(found)] and (status or found == answers), (limit, out)
+        ends.add(status)
+        assert program.run("lines", file, given=ASKED) == (0, TOLD, b""), limit
+        is_sound(program, file)
+    assert ends == {0, -signal.SIGXFSZ}, ends
+
+
+def test_a_file_that_is_removed_while_it_serves(program):
+    """What is answered then is nowhere, as RELIABILITY says; the next word begins anew."""
+    goes_on(program)
+    with Server(program) as server:
+        for file in Path(program.folder).glob("city.db*"):
+            file.unlink()
+        assert server.ask(office("late", "add-rider\t9001")) == DONE
+    assert program.run("check", "city.db") == STORE_FAILED
+    goes_on(program)
+
+
+def test_a_name_that_is_too_long(program):
+    """The log's name has to fit too."""
+    each_word(program, "c" * 252, STORE_FAILED)
+
+
+def test_a_small_stack(program):
+    """One that can't grow ends the program by SIGSEGV with no line, and the list goes on as after a kill."""
+    ends = set()
+    for size in (65_536, 8_388_608):
+        limit = lambda size=size: resource.setrlimit(resource.RLIMIT_STACK, (size, size))
+        status, out, said = program.run("lines", f"stack{size}.db", given=ASKED, timeout=SECONDS, preexec_fn=limit)
+        assert (status, said) in ((-signal.SIGSEGV, b""), (0, b"")), (size, status, said)
+        ends.add(status)
+        assert program.run("lines", f"stack{size}.db", given=ASKED) == (0, TOLD, b""), size
+    assert ends == {0, -signal.SIGSEGV}, ends
 
 
 def test_few_files_may_be_open(program):

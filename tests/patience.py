@@ -5,7 +5,7 @@ import socket
 import threading
 import time
 
-from shared import START, Server, ask, at_once, city, error, get, get_feed, post, put, rest, taken
+from shared import DONE, START, Server, ask, at_once, city, error, get, get_feed, is_sound, office, post, put, rest, rows_of, taken
 
 PATIENCE = 10
 # What a busy machine may take for the rest, in seconds.
@@ -95,3 +95,27 @@ def test_slow_clients(program):
         took = found[name]
         assert not isinstance(took, AssertionError), f"{name}: {took}"
         assert PATIENCE * len(holders) - 1 < took < PATIENCE * len(holders) + SLACK, f"{name}: the next one waited {took:.1f} seconds"
+
+
+def riders(program):
+    """How many the city has."""
+    return rows_of("SELECT count(*) FROM riders", program.folder, "city.db")[0][0]
+
+
+def test_more_clients_than_may_wait(program):
+    """More at once than the listen queue holds: some wait long, and some may be given up. What was answered stands."""
+    city(program)
+    before = riders(program)
+    with Server(program) as server:
+
+        def asked(number):
+            try:
+                return server.ask(office(f"m{number}", f"add-rider\t{9000 + number}"))
+            except OSError:
+                return b""
+
+        told = at_once(asked, range(160), 160)
+    assert set(told) <= {DONE, b""}, set(told)
+    assert told.count(DONE) > 120, told.count(DONE)
+    assert before + told.count(DONE) <= riders(program) <= before + 160
+    is_sound(program)
