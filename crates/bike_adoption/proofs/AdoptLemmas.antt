@@ -1,6 +1,5 @@
 -- From an empty database to a desk.
 use Rattle.std.proofs.Common.{◌≡◌, inl, inr, ℕ, ◌+◌, pos, true, false, IsTrue, List, [], ◌∷◌, Ok, Some, None, Result, codes, refl, sym, ap, ◌∙◌, subst, arith, Bool}
-use Rattle.std.proofs.lemmas.Bool.{both_ways}
 use Rattle.std.specs.List.{AllZip}
 use Rattle.std.specs.declared.cmp.Ordering.{Ordering}
 use Rattle.std.specs.FinMap as map
@@ -33,8 +32,8 @@ use Rattle.bike_schema.specs.Creates.{IsFresh, Creates}
 use Rattle.bike_schema.specs.declared.fault.StatementFault.{StatementFault}
 use Rattle.bike_schema.specs.declared.fault.StatementFault.TheVariants.{NoMemory, StoreFailed}
 use Rattle.bike_adoption.specs.Adoption.{AreFresh, handed, failed, IsWant}
-use Rattle.bike_desk.specs.Desk.{DeskValue, IsAt}
-use Rattle.bike_desk.proofs.KeepLemmas.{Settles, no_meta, stands_in, settled_keeps}
+use Rattle.bike_desk.specs.Desk.{DeskValue, desk_over, IsAt}
+use Rattle.bike_desk.proofs.KeepLemmas.{Settles, no_meta, nothing_told, stands_in, settled_keeps}
 
 -- ---- trees list one set of tables
 
@@ -114,11 +113,11 @@ module _ {S : Type 0} (g : Ghosts S) (old last end : Held S)
 
 -- an adopted connection is at the empty operator
 pub fresh_at : {S : Type 0} (g : Ghosts S) → Settles g → (old end : Held S) → Shows (state g old) (state g end) (state g end).now (state g end).now false → IsFresh (state g old).now (state g end).now
-    → IsAt g (record { conn = end; is_stopped = end.in_transaction; newest_tells = false }) no_operator
+    → IsAt g (desk_over end) no_operator
 fresh_at g settles old end shown fresh = record {
   goes_on = shown.mode;
   keeps = settled_keeps g settles end no_operator shown.is_open shown.mode shown.committed_is (fresh_stands (state g old).now (state g end).now fresh) fresh.has;
-  newest = λ told. absurd (both_ways false refl told);
+  remembers = nothing_told no_operator;
 }
 
 module _ {S : Type 0} (g : Ghosts S) (settles : Settles g) (old : Held S) (settled : IsTrue (state g old).is_open → (state g old).now ≡ (state g old).committed) where

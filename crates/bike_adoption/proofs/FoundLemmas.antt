@@ -1,5 +1,4 @@
 -- What comes of a database that was audited.
-use Rattle.std.proofs.lemmas.Bool.{both_ways}
 use Rattle.std.proofs.Common.{◌≡◌, ◌≤◌, inl, inr, false, IsTrue, List, [], ◌∷◌, pos, Ok, IfOk, IfErr, MatchResult, refl, sym, ap, ◌∙◌, subst, codes}
 use Rattle.sqlite_trees.specs.Tree.{Trees}
 use Rattle.sqlite_trees.specs.View.{doubt}
@@ -35,9 +34,9 @@ use Rattle.bike_audit.specs.Audit.{IsAudited, row_name}
 use Rattle.bike_audit.specs.declared.finding.Finding.{Finding}
 use Rattle.bike_audit.specs.declared.finding.Finding.TheVariants as finding
 use Rattle.bike_adoption.specs.Adoption.{handed, found_as, IsToldOf, IsWant}
-use Rattle.bike_desk.specs.Desk.{desk_state, IsAt}
+use Rattle.bike_desk.specs.Desk.{desk_over, desk_state, IsAt}
 use Rattle.bike_adoption.proofs.AdoptLemmas.{same_tables, same_place, in_left}
-use Rattle.bike_desk.proofs.KeepLemmas.{Settles, no_meta, never_both, settled_keeps}
+use Rattle.bike_desk.proofs.KeepLemmas.{Settles, no_meta, never_both, nothing_told, settled_keeps}
 
 -- ---- tables by what trees list
 
@@ -126,14 +125,14 @@ module _ {S : Type 0} (g : Ghosts S) (settles : Settles g) (old mid : Held S) (o
 
   module _ (same : IsUnchanged (state g old) (state g mid)) where
     -- a desk over tables that stand for an operator
-    pub stands_at : (s : Operator) → Stores (state g old).now s → IsAt g (record { conn = mid; is_stopped = mid.in_transaction; newest_tells = false }) s
+    pub stands_at : (s : Operator) → Stores (state g old).now s → IsAt g (desk_over mid) s
     stands_at s stores =
         let opened = same.0.was_open in
         record {
           goes_on = same.0.mode ∙ outside;
           keeps = settled_keeps g settles mid s same.0.is_open (same.0.mode ∙ outside) (same.0.committed_is ∙ sym (settled opened) ∙ sym same.0.now_is)
               (subst (λ d. StandsFor d s) (sym same.0.now_is) (record { sound = (live opened).0; is = inr stores })) (subst HasTables (sym same.0.now_is) stores.has);
-          newest = λ told. absurd (both_ways false refl told);
+          remembers = nothing_told s;
         }
 
   module _ {E : Type 0} (found : Finding) (read : ReadsAny {E = E} g old mid (Ok found) IsAudited) where

@@ -19,7 +19,7 @@ use Rattle.bike_adoption.specs.declared.adoption.AdoptFault.{AdoptFault}
 use Rattle.bike_adoption.specs.declared.adoption.AdoptFault.TheVariants.{Foreign, Unsound, Older, Newer, NoMemory, StoreFailed}
 use Rattle.bike_adoption.specs.declared.looking.Looked.{Looked}
 use Rattle.bike_adoption.specs.declared.looking.Looked.TheVariants as look
-use Rattle.bike_desk.specs.Desk.{DeskValue, IsAt, desk_state}
+use Rattle.bike_desk.specs.Desk.{DeskValue, IsAt, desk_over, desk_state}
 use Rattle.bike_audit.specs.Audit.{IsAudited}
 use Rattle.bike_audit.specs.Watching.{IsFront, IsFrontTo}
 use Rattle.bike_audit.specs.declared.finding.Finding.{Finding}
@@ -46,7 +46,7 @@ module _ {S : Type 0} where
 
   -- what comes of a database that was found to be this; one that isn't empty is never found to be
   abbrev pub found_as : Held S → Finding → Result (DeskValue S) (AdoptFault S)
-  found_as c finding.Sound = Ok (record { conn = c; is_stopped = c.in_transaction; newest_tells = false })
+  found_as c finding.Sound = Ok (desk_over c)
   found_as c finding.Foreign = Err (Foreign c)
   found_as c (finding.Unsound bad) = Err (Unsound c bad)
   found_as c (finding.Older version) = Err (Older c version)
@@ -123,10 +123,6 @@ module _ {S : Type 0} where
   abbrev pub looked_at : Looked S → Held S
   looked_at (look.Sound c) = c
   looked_at (look.Empty c) = c
-
-  -- a desk over the connection, as it begins
-  abbrev pub desk_over : Held S → DeskValue S
-  desk_over c = record { conn = c; is_stopped = c.in_transaction; newest_tells = false }
 
   -- what comes of a database that was found to be this by a look; one that isn't empty is never found to be
   abbrev pub looked_as : Held S → Finding → Result (Looked S) (AdoptFault S)

@@ -6,10 +6,10 @@ use Rattle.sqlite.specs.Held.{Held, state}
 use Rattle.sqlite_trees.specs.View.{doubt}
 use Rattle.bike_operator.specs.Operator.{Operator}
 use Rattle.bike_schema.specs.Stands.{AllLeft, IsOf, TreesStandFor}
-use Rattle.bike_desk.specs.Desk.{DeskValue, desk_state, IsAt}
+use Rattle.bike_desk.specs.Desk.{DeskValue, desk_over, desk_state, IsAt}
 use Rattle.bike_adoption.specs.declared.looking.Looked.{Looked}
 use Rattle.bike_adoption.specs.declared.looking.Looked.TheVariants.{Sound}
-use Rattle.bike_adoption.specs.Adoption.{desk_over, IsSeen, Looks}
+use Rattle.bike_adoption.specs.Adoption.{IsSeen, Looks}
 use Rattle.bike_app.proofs.ProgramLemmas.{began_clean}
 
 -- what was found is what it was matched as

@@ -1,10 +1,5 @@
-pub mod BookingLemmas
-pub mod ClosingLemmas
-pub mod PlanLemmas
-pub mod MoveLemmas
-pub mod MarkLemmas
-pub mod ReportLemmas
-pub mod MayMoveLemmas
-pub mod TouchLemmas
-pub mod FitLemmas
-pub mod RequestLemmas
+pub mod Added
+pub mod Written
+pub mod MovedBooks
+pub mod ChangedBooks
+pub mod Accepted

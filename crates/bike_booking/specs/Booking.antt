@@ -1,32 +1,25 @@
--- The row changes by which an accepted request is booked.
-use Rattle.std.specs.Prelude.{◌≡◌, ℕ, List, Option, Ok}
+-- The law of an accepted request: its row changes lead to the tables of the operator after it.
+use Rattle.std.specs.Prelude.{◌≡◌, ℕ, List, Ok, IfSome}
 use Rattle.bike_fields.specs.Caller.{caller_text}
-use Rattle.bike_ledger.specs.Ledger.{cash_of, revenue_of}
+use Rattle.bike_ledger.specs.Ledger.{cash_of, revenue_of, IsBalance}
 use Rattle.bike_commands.specs.declared.request.Request.{Request}
 use Rattle.bike_commands.specs.Commands.{text_of}
 use Rattle.bike_commands.specs.Replies.{reply_text}
-use Rattle.bike_operator.specs.declared.change.Accepted.{Accepted}
-use Rattle.bike_operator.specs.declared.view.View.{View}
 use Rattle.bike_operator.specs.Operator.{Operator}
 use Rattle.bike_operator.specs.Steps.{reply_of}
-use Rattle.bike_operator.specs.View.{view_of}
-use Rattle.bike_operator.specs.Changes.{Decides}
 use Rattle.bike_operator.specs.Runs.{after_acceptance}
 use Rattle.bike_operator.specs.Sound.{IsSound}
-use Rattle.bike_operator.specs.Bounds.{IsBounded}
-use Rattle.bike_core.specs.Made.{AreMade, entry_made}
 use Rattle.bike_book.specs.declared.row_change.RowChange.{RowChange}
 use Rattle.bike_book.specs.Stored.{Listed, IsListing}
 use Rattle.bike_book.specs.Leads.{LeadsTo}
-use Rattle.bike_facts.specs.declared.stored.StoredNumbers.{StoredNumbers}
-use Rattle.bike_facts.specs.declared.touched.Touched.{Touched}
-use Rattle.bike_facts.specs.Touched.{IsTouched, AreOfTouched}
-use Rattle.bike_booking.specs.declared.stored.Sums.{Sums}
+use Rattle.bike_book.specs.Writes.{writes_of}
+use Rattle.bike_accepted.specs.declared.accepted.Accepted.{Accepted}
+use Rattle.bike_accepted.specs.Effects.{Decides}
+use Rattle.bike_accepted.specs.Found.{AreFound}
+use Rattle.bike_booking.specs.Stored.{IsStored}
+use Rattle.bike_booking.specs.Writes.{writes_of_accepted}
+use Rattle.bike_booking.specs.declared.stored.Stored.{Stored}
 use Rattle.bike_booking.specs.declared.texts.KeptTexts.{KeptTexts}
-
--- cash and revenue of the operator
-abbrev pub AreSums : Operator → Sums → Type 0
-AreSums s sums = (sums.cash ≡ cash_of s.entries) × (sums.revenue ≡ revenue_of s.entries)
 
 -- the texts are those of the request and of its reply
 pub record AreTexts (s : Operator) (now : ℕ) (q : Request) (texts : KeptTexts) : Type 0 where
@@ -35,14 +28,14 @@ pub record AreTexts (s : Operator) (now : ℕ) (q : Request) (texts : KeptTexts)
   pub command : texts.command.now ≡ text_of q.command
   pub reply : texts.reply.now ≡ reply_text (reply_of s now q.command)
 
--- What is known when a request is booked: the operator accepts it at the moment, and what was read is his.
-pub record IsAccepted (s : Operator) (m : Listed) (now : ℕ) (q : Request) (view : View) (touched : Option Touched) (numbers : StoredNumbers) (a : Accepted) : Type 0 where
+-- What is known of an acceptance: the operator decides so, the records before are his, and what is stored was read.
+pub record IsAccepted (s : Operator) (m : Listed) (now : ℕ) (q : Request) (a : Accepted) (n : Stored) (texts : KeptTexts) : Type 0 where
   pub sound : IsSound s
   pub listing : IsListing s m
-  pub view_is : view ≡ view_of s q.command
-  pub touches : IsTouched s q.command touched
-  pub stored : AreOfTouched s m q.command touched numbers
   pub decides : Decides s now q.command (Ok a)
+  pub found : AreFound now s a
+  pub stored : IsStored s m a n
+  pub texts_are : AreTexts s now q texts
   pub sound_after : IsSound (after_acceptance s now q)
 
 -- The row changes lead from the operator's tables to those of the operator that accepted the request.
@@ -50,11 +43,13 @@ pub record Books (changes : List RowChange) (s : Operator) (m : Listed) (now : �
   pub listed : Listed
   pub leads : LeadsTo changes s m (after_acceptance s now q) listed
 
--- What is known beside it, so that it can be booked: what was decided is what the command makes, and its numbers are bounded.
-pub record IsBookable (s : Operator) (m : Listed) (now : ℕ) (q : Request) (view : View) (touched : Option Touched) (numbers : StoredNumbers)
-    (a : Accepted) (sums : Sums) : Type 0 where
-  pub accepted : IsAccepted s m now q view touched numbers a
-  pub sums_are : AreSums s sums
-  pub made : AreMade view q.command a.changes
-  pub entry_is : a.entry ≡ entry_made now view q.command
-  pub bounded : IsBounded view now
+abbrev pub BooksAccepted : Type 0
+BooksAccepted =
+    (s : Operator) (m : Listed) (now : ℕ) (q : Request) (a : Accepted) (n : Stored) (texts : KeptTexts) (rows : List RowChange)
+    → IsAccepted s m now q a n texts → writes_of rows ≡ writes_of_accepted now n texts a → Books rows s m now q
+
+-- Where an entry is booked, it is added to the entries of a sound operator, which are fewer than there may be: his sums take one more.
+abbrev pub SumsTakeOneMore : Type 0
+SumsTakeOneMore =
+    (s : Operator) (now : ℕ) (q : Request) (a : Accepted) → IsSound s → Decides s now q.command (Ok a) → IsSound (after_acceptance s now q)
+    → IfSome a.entry (λ _. IsBalance (cash_of s.entries) × IsBalance (revenue_of s.entries))

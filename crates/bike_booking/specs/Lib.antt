@@ -1,9 +1,6 @@
-pub mod Moves
-pub mod Marks
-pub mod Stages
-pub mod Plans
-pub mod Closing
-pub mod Booking
-pub mod Reports
+pub mod Sums
+pub mod Figures
 pub mod Room
-pub mod Fits
+pub mod Stored
+pub mod Writes
+pub mod Booking

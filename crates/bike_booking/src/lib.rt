@@ -1,19 +1,17 @@
-//! The book of a request: the row changes by which what was decided is stored.
+//! The row changes of an accepted command: a total function of what it makes and of what is stored of the dock that it
+//! touches, and the law that they lead from the tables of the operator to those of the operator after the request.
 #![tactic(auto)]
 
-mod booking;
-mod closing;
-mod marks;
-mod moves;
-mod plans;
-mod report;
+mod change_row;
+mod figures;
+mod laws;
 mod rows;
-mod stage;
+mod shares;
 mod stored;
 mod texts;
 
-pub use bike_facts::{StoredNumbers, Touched, find_touched};
-pub use booking::{MOST_ROW_CHANGES, book_request};
-pub use stage::Stage;
-pub use stored::Sums;
+pub use figures::Figures;
+pub use laws::books_accepted;
+pub use rows::{MOST_ROW_CHANGES, push_rows};
+pub use stored::{Stored, StoredCounts, StoredDock, Sums, Total};
 pub use texts::KeptTexts;

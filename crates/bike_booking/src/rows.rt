@@ -1,247 +1,287 @@
-//! Changes that are one row each, as row changes.
+//! The row changes of an accepted command.
 
-ghost use Rattle.std.specs.Prelude.{◌≡◌, true, IfSome, IsSome};
-ghost use Rattle.bike_booking.specs.Stages.{IsRowBooked, BooksRead, ChangesRentals};
-ghost use Rattle.bike_booking.specs.Fits.{FitsCatalogue, FitsFleet, FitsOrder, FitsRecord, FitsRental};
+ghost use Rattle.std.specs.Prelude.{◌≡◌, ◌++◌, ◌≤◌, length, Some, None};
+ghost use Rattle.bike_book.specs.declared.row_change.RowChange.TheVariants as row;
+ghost use Rattle.bike_book.specs.ChangeLaws.{segment_writes};
+ghost use Rattle.bike_moves.specs.Put.{bikes_by};
+ghost use Rattle.bike_accepted.specs.declared.moved.Moved.TheVariants as moved;
 ghost use Rattle.bike_booking.specs.Room.{HasRoom, TakesRows};
+ghost use Rattle.bike_booking.specs.Stored.{counts_in};
+ghost use Rattle.bike_booking.specs.Writes.{count_row, dock_row, moved_rows, change_writes, entry_writes, close_rows, writes_of_accepted, AreAdded};
 
+use crate::change_row::change_row;
+use crate::shares::{BikeShares, moved_by, one};
+use crate::stored::{Stored, StoredCounts, Sums};
+use crate::texts::KeptTexts;
+use bike_accepted::{Accepted, Booked, Change, DockAt, Held, Moved, Standing};
 use bike_book::RowChange;
-use bike_commands::Command;
-use bike_facts::{has_rider, lacks_bike, lacks_station, next_order, next_rental, order_read};
-use bike_fixed::{Cents, Moment};
-use bike_operator::{Change, View};
+use bike_catalogue::Segment;
+use bike_fields::Ident;
+use bike_fixed::Moment;
 use std::alloc::Global;
 
-/// The row change of a change of the catalogue that is one row.
-fn catalogue_row<'a>(
-    command: &Command,
-    view: &View,
-    now: Moment,
-    change: &Change<'a>,
-) -> Option<RowChange<'a>>
-    ensures books { IfSome result (BooksRead command.now view.now now change.now) }
-    ensures total { FitsCatalogue command.now view.now change.now → IsSome result }
+/// A request makes at most this many row changes: 3 of what is put or marked, a record and 8 segments of a plan, 3 of an
+/// entry and 2 of the close. With room for them, no memory is asked for.
+pub const MOST_ROW_CHANGES: usize = 17;
+
+/// Adds row changes, for which there is room.
+fn add<'a>(rows: &mut Vec<RowChange<'a>, Global>, more: &[RowChange<'a>])
+    requires { HasRoom (length more.now) rows.old }
+    ensures items { rows.new.items ≡ rows.old.items ++ more.now }
+    ensures room { TakesRows (length more.now) rows.old rows.new }
 {
-    match change {
-        Change::SetSystem(system) => Some(RowChange::AddSystem(system)),
-        Change::AddType(vehicle_type) => Some(RowChange::AddType(vehicle_type)),
-        Change::SetPlan { type_id, plan } => Some(RowChange::SetDefaultPlan { type_id, plan }),
-        Change::AddRegion(region) => Some(RowChange::AddRegion(region)),
-        Change::AddStation(station) => {
-            if !lacks_station(command, view, station.station_id()) {
-                return None;
-            }
-            Some(RowChange::AddStation {
-                station,
-                reported: now,
-            })
-        }
-        Change::SetStation {
+    if !rows.extend_from_slice(more).is_ok() {
+        unreachable!()
+    }
+}
+
+/// The counts of a type at a station when a bicycle that added the one shares adds the others.
+fn count_row<'a>(
+    counts: &Option<StoredCounts>,
+    station: &'a Ident,
+    type_id: &'a Ident,
+    less: BikeShares,
+    more: BikeShares,
+) -> RowChange<'a>
+    ensures { result ≡ count_row counts.now station.entry type_id.entry (bikes_by (record { less = less; more = more }) (counts_in counts.now)) }
+{
+    match counts {
+        None => RowChange::AddCount {
             station,
-            is_installed,
-            is_renting,
-            is_returning,
-        } => {
-            Some(RowChange::SetFlags {
-                station,
-                is_installed: *is_installed,
-                is_renting: *is_renting,
-                is_returning: *is_returning,
-                reported: now,
-            })
-        }
-        Change::SetRegion { station, region } => {
-            Some(RowChange::SetRegion {
-                station,
-                region: *region,
-            })
-        }
-        Change::AddName {
-            kind,
-            id,
-            language,
-            name,
-        } => {
-            Some(RowChange::AddName {
-                kind: *kind,
-                id,
-                language,
-                name,
-            })
-        }
-        _ => None,
-    }
-}
-
-/// The row change of a bicycle, truck or rider added, or of a rider blocked or opened.
-fn fleet_row<'a>(
-    command: &Command,
-    view: &View,
-    now: Moment,
-    change: &Change<'a>,
-) -> Option<RowChange<'a>>
-    ensures books { IfSome result (BooksRead command.now view.now now change.now) }
-    ensures total { FitsFleet command.now view.now change.now → IsSome result }
-{
-    let _ = now;
-    match change {
-        Change::AddBike { bike, type_id } => {
-            let bike = *bike;
-            if !lacks_bike(command, view, bike) {
-                return None;
-            }
-            Some(RowChange::AddBike { bike, type_id })
-        }
-        Change::AddTruck { truck, capacity } => {
-            Some(RowChange::AddTruck {
-                truck: *truck,
-                capacity: *capacity,
-            })
-        }
-        Change::SetRider { rider, is_blocked } => {
-            let rider = *rider;
-            let is_blocked = *is_blocked;
-            match has_rider(command, view, rider) {
-                None => None,
-                Some(true) => Some(RowChange::SetBlocked { rider, is_blocked }),
-                Some(false) => Some(RowChange::AddRider { rider, is_blocked }),
-            }
-        }
-        _ => None,
-    }
-}
-
-/// Books a rental added or closed.
-pub(crate) fn book_rental<'a>(
-    command: &Command,
-    view: &View,
-    rows: &mut Vec<RowChange<'a>, Global>,
-    now: Moment,
-    change: &Change<'a>,
-) -> bool
-    ensures books { result ≡ true → IsRowBooked command.now view.now now change.now rows.old.items rows.new.items }
-    ensures rentals { result ≡ true → ChangesRentals now change.now }
-    ensures total { FitsRental command.now view.now change.now → HasRoom 1 rows.old → result ≡ true }
-    ensures room { TakesRows 1 rows.old rows.new }
-{
-    match change {
-        Change::AddRental {
-            rider,
-            bike,
-            plan,
-            from_station,
-        } => {
-            let Some(rental) = next_rental(command, view) else {
-                return false;
-            };
-            let row = RowChange::AddRental {
-                rental,
-                rider: *rider,
-                bike: *bike,
-                plan,
-                from_station,
-                start: now,
-            };
-            rows.push(row).is_ok()
-        }
-        Change::CloseRental {
-            rental,
-            to_station,
-            fare,
-        } => {
-            let row = RowChange::CloseRental {
-                rental: *rental,
-                to_station: *to_station,
-                finish: now,
-                fare: Cents::new(*fare),
-            };
-            rows.push(row).is_ok()
-        }
-        _ => false,
-    }
-}
-
-/// The row change of an order opened or closed.
-fn order_row<'a>(
-    command: &Command,
-    view: &View,
-    now: Moment,
-    change: &Change<'a>,
-) -> Option<RowChange<'a>>
-    ensures books { IfSome result (BooksRead command.now view.now now change.now) }
-    ensures total { FitsOrder command.now view.now change.now → IsSome result }
-{
-    let _ = now;
-    match change {
-        Change::AddOrder {
-            truck,
-            from_end,
-            to_end,
             type_id,
-            count,
-        } => {
-            let Some(order) = next_order(command, view) else {
-                return None;
-            };
-            Some(RowChange::AddOrder {
-                order,
-                truck: *truck,
-                from_end,
-                to_end,
-                type_id,
-                count: *count,
-            })
-        }
-        Change::CloseOrder { order } => {
-            let order = *order;
-            let Some(read) = order_read(command, view, order) else {
-                return None;
-            };
-            Some(RowChange::SetOrder {
-                order,
-                delivered: read.delivered,
-                is_open: false,
-            })
-        }
-        _ => None,
+            available: moved_by(0, less.available(), more.available()),
+            disabled: moved_by(0, less.disabled(), more.disabled()),
+        },
+        Some(stored) => RowChange::SetCount {
+            station,
+            type_id,
+            available: moved_by(stored.available.get(), less.available(), more.available()),
+            disabled: moved_by(stored.disabled.get(), less.disabled(), more.disabled()),
+        },
     }
 }
 
-/// The row change of a change of a record that is one row, but for rentals and what moves.
-fn record_row<'a>(
-    command: &Command,
-    view: &View,
-    now: Moment,
-    change: &Change<'a>,
-) -> Option<RowChange<'a>>
-    ensures books { IfSome result (BooksRead command.now view.now now change.now) }
-    ensures total { FitsRecord command.now view.now change.now → IsSome result }
+/// A bicycle's state and place.
+fn bike_row<'a>(bike: u32, becomes: &Standing<'a>) -> RowChange<'a>
+    ensures { result ≡ row.SetBike bike becomes.now.state becomes.now.place }
 {
-    match change {
-        Change::AddBike { .. } | Change::AddTruck { .. } | Change::SetRider { .. } => {
-            fleet_row(command, view, now, change)
-        }
-        Change::AddOrder { .. } | Change::CloseOrder { .. } => {
-            order_row(command, view, now, change)
-        }
-        _ => catalogue_row(command, view, now, change),
+    RowChange::SetBike {
+        bike,
+        state: becomes.state,
+        place: becomes.place,
     }
 }
 
-/// Books a change of a record that is one row, but for rentals and what moves.
-pub(crate) fn book_record<'a>(
-    command: &Command,
-    view: &View,
+/// The numbers of a station's docks, with its report.
+fn docks_row<'a>(at: &DockAt<'a>, free: u32, broken: u32, now: Moment) -> RowChange<'a>
+    ensures { result ≡ row.SetDocksReported at.now.station free broken now }
+{
+    RowChange::SetDocksReported {
+        station: at.station,
+        free,
+        broken,
+        reported: now,
+    }
+}
+
+/// The mark of a dock.
+fn dock_row<'a>(is_listed: bool, at: &DockAt<'a>, is_broken: bool) -> RowChange<'a>
+    ensures { result ≡ dock_row is_listed at.now is_broken }
+{
+    let station = at.station;
+    let dock = at.dock;
+    if is_listed {
+        RowChange::SetDock {
+            station,
+            dock,
+            is_broken,
+        }
+    } else {
+        RowChange::AddDock {
+            station,
+            dock,
+            is_broken,
+        }
+    }
+}
+
+/// Adds the row changes of an empty dock that is marked.
+fn push_mark<'a>(
     rows: &mut Vec<RowChange<'a>, Global>,
+    at: &DockAt<'a>,
+    is_broken: bool,
+    stored: &Stored,
     now: Moment,
-    change: &Change<'a>,
-) -> bool
-    ensures books { result ≡ true → IsRowBooked command.now view.now now change.now rows.old.items rows.new.items }
-    ensures total { FitsRecord command.now view.now change.now → HasRoom 1 rows.old → result ≡ true }
-    ensures room { TakesRows 1 rows.old rows.new }
+)
+    requires { HasRoom 3 rows.old }
+    ensures rows { rows.new.items ≡ rows.old.items ++ moved_rows now stored.now (moved.Marked at.now None is_broken) }
+    ensures room { TakesRows 3 rows.old rows.new }
 {
-    let Some(row) = record_row(command, view, now, change) else {
-        return false;
+    let dock = &stored.dock;
+    let was = one(at.is_broken);
+    let is = one(is_broken);
+    let free = moved_by(dock.free.get(), is, was);
+    let broken = moved_by(dock.broken.get(), was, is);
+    let mark = dock_row(dock.is_listed, at, is_broken);
+    add(rows, &[mark, docks_row(at, free, broken, now)]);
+}
+
+/// Adds the row changes of a dock that is marked with a bicycle in it.
+fn push_held_mark<'a>(
+    rows: &mut Vec<RowChange<'a>, Global>,
+    at: &DockAt<'a>,
+    held: &Held<'a>,
+    is_broken: bool,
+    stored: &Stored,
+    now: Moment,
+)
+    requires { HasRoom 3 rows.old }
+    ensures rows { rows.new.items ≡ rows.old.items ++ moved_rows now stored.now (moved.Marked at.now (Some held.now) is_broken) }
+    ensures room { TakesRows 3 rows.old rows.new }
+{
+    let dock = &stored.dock;
+    let less = BikeShares::in_dock(at.is_broken, held.state);
+    let more = BikeShares::in_dock(is_broken, held.state);
+    let broken = moved_by(dock.broken.get(), one(at.is_broken), one(is_broken));
+    let mark = dock_row(dock.is_listed, at, is_broken);
+    let docks = docks_row(at, dock.free.get(), broken, now);
+    let count = count_row(&stored.counts, at.station, held.type_id, less, more);
+    add(rows, &[mark, docks, count]);
+}
+
+/// Adds the row changes of what is put or marked.
+fn push_moved<'a>(
+    rows: &mut Vec<RowChange<'a>, Global>,
+    moved: &Moved<'a>,
+    stored: &Stored,
+    now: Moment,
+)
+    requires { HasRoom 3 rows.old }
+    ensures rows { rows.new.items ≡ rows.old.items ++ moved_rows now stored.now moved.now }
+    ensures room { TakesRows 3 rows.old rows.new }
+{
+    match moved {
+        Moved::Away { bike, becomes, .. } => add(rows, &[bike_row(*bike, becomes)]),
+        Moved::AtDock {
+            at,
+            bike,
+            type_id,
+            was,
+            becomes,
+        } => {
+            let dock = &stored.dock;
+            let less = BikeShares::of(at.is_broken, was);
+            let more = BikeShares::of(at.is_broken, becomes);
+            let free = moved_by(dock.free.get(), more.occupied(), less.occupied());
+            let docks = docks_row(at, free, dock.broken.get(), now);
+            let count = count_row(&stored.counts, at.station, type_id, less, more);
+            add(rows, &[bike_row(*bike, becomes), docks, count]);
+        }
+        Moved::Marked {
+            at,
+            held: None,
+            is_broken,
+        } => push_mark(rows, at, *is_broken, stored, now),
+        Moved::Marked {
+            at,
+            held: Some(held),
+            is_broken,
+        } => push_held_mark(rows, at, held, *is_broken, stored, now),
+    }
+}
+
+/// Adds the segments of a plan, a row each, from 1 on.
+fn push_segments<'a>(
+    rows: &mut Vec<RowChange<'a>, Global>,
+    plan: &'a Ident,
+    segments: &'a [Segment],
+)
+    requires few { length segments.now ≤ 8 }
+    requires room { HasRoom 8 rows.old }
+    ensures added { AreAdded (segment_writes plan.now 1 segments.now) rows.old.items rows.new.items }
+    ensures room { TakesRows 8 rows.old rows.new }
+{
+    let mut seq = 1u32;
+    for segment in segments {
+        add(rows, &[RowChange::AddSegment { plan, seq, segment }]);
+        seq += 1;
+    }
+}
+
+/// Adds the row changes of one record.
+fn push_change<'a>(rows: &mut Vec<RowChange<'a>, Global>, change: &Change<'a>, now: Moment)
+    requires { HasRoom 9 rows.old }
+    ensures added { AreAdded (change_writes now change.now) rows.old.items rows.new.items }
+    ensures room { TakesRows 9 rows.old rows.new }
+{
+    add(rows, &[change_row(change, now)]);
+    if let Change::AddPlan(plan) = change {
+        plan.bounds();
+        push_segments(rows, plan.plan_id(), plan.segments());
+    }
+}
+
+/// Adds the row changes of an entry.
+fn push_entry<'a>(rows: &mut Vec<RowChange<'a>, Global>, booked: &'a Booked)
+    requires { HasRoom 3 rows.old }
+    ensures added { AreAdded (entry_writes booked.now) rows.old.items rows.new.items }
+    ensures room { TakesRows 3 rows.old rows.new }
+{
+    let entry = &booked.entry;
+    let balance_row = RowChange::SetBalance {
+        rider: entry.rider().get(),
+        balance: booked.balance,
     };
-    rows.push(row).is_ok()
+    add(rows, &[RowChange::AddEntry(entry), balance_row]);
+    if let Some(refunded) = booked.refunded {
+        let rental = entry.rental().get();
+        add(rows, &[RowChange::SetRefunded { rental, refunded }]);
+    }
+}
+
+/// Adds the operator's moment and sums, and what is kept of the request.
+fn push_close<'a>(
+    rows: &mut Vec<RowChange<'a>, Global>,
+    sums: &Sums,
+    now: Moment,
+    texts: &KeptTexts<'a>,
+)
+    requires { HasRoom 2 rows.old }
+    ensures { rows.new.items ≡ rows.old.items ++ close_rows now sums.now texts.now }
+{
+    let meta_row = RowChange::SetMeta {
+        now,
+        cash: sums.cash,
+        revenue: sums.revenue,
+    };
+    let kept_row = RowChange::AddKept {
+        caller: texts.caller,
+        key: texts.key,
+        command: texts.command,
+        reply: texts.reply,
+    };
+    add(rows, &[meta_row, kept_row]);
+}
+
+/// Adds the row changes of an accepted command.
+pub fn push_rows<'a>(
+    rows: &mut Vec<RowChange<'a>, Global>,
+    accepted: &'a Accepted<'a>,
+    stored: &Stored,
+    now: Moment,
+    texts: &KeptTexts<'a>,
+)
+    requires { HasRoom MOST_ROW_CHANGES rows.old }
+    ensures { AreAdded (writes_of_accepted now stored.now texts.now accepted.now) rows.old.items rows.new.items }
+{
+    if let Some(moved) = &accepted.moved {
+        push_moved(rows, moved, stored, now);
+    }
+    if let Some(change) = &accepted.change {
+        push_change(rows, change, now);
+    }
+    if let Some(booked) = &accepted.entry {
+        push_entry(rows, booked);
+    }
+    push_close(rows, &stored.sums, now, texts);
 }

@@ -1,60 +1,198 @@
--- Decisions on orders over a view are those of the operator whose view it is.
-use Rattle.std.proofs.Common.{◌≡◌, ℕ, ◌+◌, List, [], ◌∷◌, Option, Some, None, Ok, refl, sym, ap, ◌∙◌}
+-- Orders that are opened, bicycles that are loaded and unloaded: their decisions, and what was found for them.
+use Rattle.std.proofs.Common.{◌≡◌, ◌≤◌, ◌+◌, ◌==◌, ℕ, List, true, false, not, ◌&&◌, Option, Some, None, is_some, is_none, Ok, refl, sym, ap, ◌∙◌, subst, arith}
+use Rattle.std.specs.Prelude.{IfSome}
 use Rattle.std.specs.Borrow.{Bor}
 use Rattle.std.specs.FinMap as map
+use Rattle.std.proofs.lemmas.Bool.Decides.{nat_tests}
 use Rattle.bike_texts.specs.declared.ends.OrderEnd.{OrderEnd}
 use Rattle.bike_texts.specs.declared.ends.OrderEnd.TheVariants as end
 use Rattle.bike_texts.specs.declared.ends.Side.{Side}
+use Rattle.bike_texts.specs.declared.ends.Side.TheVariants.{From, To}
+use Rattle.bike_commands.specs.declared.command.Command.{Command}
 use Rattle.bike_commands.specs.declared.command.Command.TheVariants as command
 use Rattle.bike_commands.specs.declared.reply.Reply.TheVariants.{Done, Ordered}
 use Rattle.bike_operator.specs.declared.change.NewPlace.TheVariants as new
-use Rattle.bike_operator.specs.declared.change.Change.{Change}
-use Rattle.bike_operator.specs.declared.change.Change.TheVariants as change
+use Rattle.bike_operator.specs.declared.records.Place.{Place}
+use Rattle.bike_operator.specs.declared.records.Place.TheVariants as place
 use Rattle.bike_operator.specs.declared.records.Bike.{Bike}
 use Rattle.bike_operator.specs.declared.records.Order.{Order}
-use Rattle.bike_operator.specs.declared.records.Place.TheVariants as place
 use Rattle.bike_operator.specs.declared.view.View.{View}
-use Rattle.bike_operator.specs.Operator.{Operator, item_numbered}
-use Rattle.bike_operator.specs.View.{view_of, end_at}
-use Rattle.bike_operator.specs.Steps.{first, tests, place_reported, bike_reported, bike_placed, with_delivery, placed_at_end}
-use Rattle.bike_operator.specs.Changes.{Decides, with_changes, present}
-use Rattle.bike_core.specs.Made.{IsPutAtEnd}
-use Rattle.bike_core.proofs.Decisions.{refused_as}
+use Rattle.bike_operator.specs.Operator.{Operator, Station, item_numbered}
+use Rattle.bike_operator.specs.Counts.{is_on_truck, is_for_order, is_broken, docked_at}
+use Rattle.bike_operator.specs.View.{view_of, station_view, truck_at, docked_view, end_view, side_view, end_at, has_end, is_in_broken_dock, is_broken_dock}
+use Rattle.bike_operator.specs.Steps.{first, tests, has_no_dock, ends_apart, with_delivery, placed_at_end, after_unload}
+use Rattle.bike_operator.specs.Changes.{place_of}
+use Rattle.bike_operator.specs.Sound.{HasDock, IsOrderAt, IsSound}
+use Rattle.bike_places.specs.Laws.{IsAway}
+use Rattle.bike_places.proofs.TestLemmas.{NoneHolds, none_holds, none_of, on_row, both_hold, neither, dock_of}
+use Rattle.bike_accepted.specs.declared.moved.Standing.{Standing}
+use Rattle.bike_accepted.specs.declared.moved.DockAt.{DockAt}
+use Rattle.bike_accepted.specs.declared.moved.Moved.{Moved}
+use Rattle.bike_accepted.specs.declared.moved.Moved.TheVariants as moved
+use Rattle.bike_accepted.specs.declared.change.Change.{Change}
+use Rattle.bike_accepted.specs.declared.change.Change.TheVariants as change
+use Rattle.bike_accepted.specs.declared.accepted.Accepted.{Accepted}
+use Rattle.bike_accepted.specs.Effects.{after_moved, where_changed, Decides}
+use Rattle.bike_accepted.specs.Found.{IsMovedFound, IsFound, AreFound}
+use Rattle.bike_core.specs.Moves.{IsShown, put_from, IsPutAtEnd}
+use Rattle.bike_core.proofs.Moves.{after_put, away_reach, put_found, no_dock}
+use Rattle.bike_core.proofs.Views.{refused_as, shown_bike, empty_dock}
 
-pub open_order_decided : (s : Operator) (v : View) (now truck count : ℕ) (from to : Bor OrderEnd) (type_id : Bor (List ℕ)) → v ≡ view_of s (command.OpenOrder truck from.now to.now type_id.now count) → None ≡ first (tests v (command.OpenOrder truck from.now to.now type_id.now count))
-    → Decides s now (command.OpenOrder truck from.now to.now type_id.now count) (Ok (record {
-      reply = Ordered (v.orders + 1);
-      entry = None;
-      changes = Some (change.AddOrder truck from to type_id count) ∷ None ∷ None ∷ None ∷ [];
-    }))
+known_station : (o : Option Station) → is_some o ≡ true → is_none (station_view o) ≡ false
+known_station None e = absurd cc
+known_station (Some x) e = refl
+
+end_known : (s : Operator) (side : Side) (order : ℕ) (x : Order) → IsOrderAt s order x → has_end s (end_at side x) ≡ true
+end_known s From order x h = h.from_is
+end_known s To order x h = h.to_is
+
+above_zero : (n : ℕ) → (n == 0) ≡ false → 1 ≤ n
+above_zero n f = grind (arith, nat_tests, f)
+
+-- ---- a bicycle that is loaded
+
+module _ (v : View) (now truck order bike : ℕ) where
+  abbrev load : Command
+  load = command.Load truck order bike
+
+  module _ (b : Bike) (type_id : Bor (List ℕ)) (was : Standing) (shown : IsShown b type_id was) (passes : None ≡ first (tests v load)) (bike_is : v.bike ≡ Some b) where
+    abbrev becomes : Standing
+    becomes = record { state = b.state; place = new.Truck truck order }
+
+    abbrev loaded : Accepted
+    loaded = record { reply = Done; moved = Some (put_from was.place bike type_id was becomes v.is_dock_broken); change = None; entry = None }
+
+    module _ (s : Operator) (e : v ≡ view_of s load) where
+      found : map.get s.bikes bike ≡ Some b
+      found = ap (λ (w : View). w.bike) (sym e) ∙ bike_is
+
+      pub load_decided : Decides s now load (Ok loaded)
+      load_decided =
+          let type_is = shown.type_is in
+          let place_is = shown.place_is in
+          (refused_as s v load None e passes, refl, after_put now s was.place bike type_id was becomes v.is_dock_broken ∙ rw (found, type_is, place_is) refl)
+
+      pub load_found : IsSound s → AreFound now s loaded
+      load_found sound =
+          let mark : is_broken_dock s b.place ≡ v.is_dock_broken = ap (is_in_broken_dock s) (sym found) ∙ ap (λ (w : View). w.is_dock_broken) (sym e) in
+          record { moved = put_found s bike b type_id was becomes v.is_dock_broken sound.bikes found shown mark (away_reach (place_of was.place) (place.Truck truck order) tt) was.place refl; change = tt; entry = tt }
+
+-- ---- an order that is opened
+
+pub open_order_decided : (s : Operator) (v : View) (now truck count : ℕ) (from to : Bor OrderEnd) (type_id : Bor (List ℕ)) → v ≡ view_of s (command.OpenOrder truck from.now to.now type_id.now count)
+    → None ≡ first (tests v (command.OpenOrder truck from.now to.now type_id.now count))
+    → Decides s now (command.OpenOrder truck from.now to.now type_id.now count) (Ok (record { reply = Ordered (v.orders + 1); moved = None; change = Some (change.AddOrder (v.orders + 1) truck from to type_id count); entry = None }))
 open_order_decided s v now truck count from to type_id e none =
     (refused_as s v (command.OpenOrder truck from.now to.now type_id.now count) None e none, ap (λ (w : View). Ordered (w.orders + 1)) e, refl)
 
-pub load_decided : (s : Operator) (v : View) (now truck order bike : ℕ) (row : Bike) (report : Option Change) → v ≡ view_of s (command.Load truck order bike) → None ≡ first (tests v (command.Load truck order bike)) → v.bike ≡ Some row
-    → ((t : Operator) → with_changes now (present (report ∷ None ∷ None ∷ [])) t ≡ place_reported row.place now t)
-    → Decides s now (command.Load truck order bike) (Ok (record {
-      reply = Done;
-      entry = None;
-      changes = Some (change.PlaceBike bike (new.Truck truck order)) ∷ report ∷ None ∷ None ∷ [];
-    }))
-load_decided s v now truck order bike row report e none known reports =
-    let found : map.get s.bikes bike ≡ Some row = ap (λ (w : View). w.bike) (sym e) ∙ known in
-    let moved = bike_placed bike (place.Truck truck order) s in
-    (refused_as s v (command.Load truck order bike) None e none, refl, reports moved ∙ sym (ap (λ (o : Option Bike). bike_reported o now moved) found))
+-- ---- a bicycle that is unloaded
 
-pub unload_decided : (s : Operator) (v : View) (now truck order bike : ℕ) (side : Side) (dock : ℕ) (row : Order) (changes : List (Option Change)) → v ≡ view_of s (command.Unload truck order bike side dock) → None ≡ first (tests v (command.Unload truck order bike side dock)) → v.order ≡ Some row
-    → with_changes now (present changes) s ≡ with_delivery order side (placed_at_end bike (end_at side row) dock now s)
-    → Decides s now (command.Unload truck order bike side dock) (Ok (record { reply = Done; entry = None; changes = changes }))
-unload_decided s v now truck order bike side dock row changes e none known makes =
-    let found : item_numbered order s.orders ≡ Some row = ap (λ (w : View). w.order) (sym e) ∙ known in
-    (refused_as s v (command.Unload truck order bike side dock) None e none, refl, rw found makes)
+-- one more is delivered at the end to which the order brings bicycles
+abbrev pub IsDelivery : Side → ℕ → Order → Option Change → Type 0
+IsDelivery From order o c = c ≡ None
+IsDelivery To order o c = (was : Bor Order) × (was.now ≡ o) × (c ≡ Some (change.Deliver order was (o.delivered + 1)))
 
--- the changes that put a bicycle at an end, which is the depot ..
-pub put_in_depot : (at : OrderEnd) (bike dock : ℕ) (rest : List (Option Change)) → at ≡ end.Depot
-    → (put report : Option Change) × IsPutAtEnd at bike dock put report × (Some (change.PlaceBike bike new.Depot) ∷ None ∷ rest ≡ put ∷ report ∷ rest)
-put_in_depot at bike dock rest is = (Some (change.PlaceBike bike new.Depot), None, rw is (refl, refl), refl)
+after_delivery : (side : Side) (now order : ℕ) (o : Order) (co : Option Change) (s : Operator) → IsDelivery side order o co → where_changed now co s ≡ with_delivery order side s
+after_delivery From now order o co s made = rw made refl
+after_delivery To now order o co s made = rw made.2 refl
 
--- .. or a station
-pub put_in_dock : (at : OrderEnd) (bike dock : ℕ) (x : Bor (List ℕ)) (rest : List (Option Change)) → at ≡ end.Station x.now
-    → (put report : Option Change) × IsPutAtEnd at bike dock put report × (Some (change.PlaceBike bike (new.Dock x dock)) ∷ Some (change.Report x) ∷ rest ≡ put ∷ report ∷ rest)
-put_in_dock at bike dock x rest is = (Some (change.PlaceBike bike (new.Dock x dock)), Some (change.Report x), rw is (x, refl, refl, refl), refl)
+-- put at an end
+after_end_put : (e : OrderEnd) (now bike dock : ℕ) (b : Bike) (type_id : Bor (List ℕ)) (was : Standing) (m : Moved) (s : Operator) → map.get s.bikes bike ≡ Some b → IsShown b type_id was → IsPutAtEnd e bike type_id was dock m
+    → after_moved now m s ≡ placed_at_end bike e dock now s
+after_end_put end.Depot now bike dock b type_id was m s found shown made = let type_is = shown.type_is in let state_is = shown.state_is in rw (made, found, type_is, state_is) refl
+after_end_put (end.Station station) now bike dock b type_id was m s found shown made =
+    let type_is = shown.type_is in
+    let state_is = shown.state_is in
+    let put = made.2 in
+    let same = made.1 in
+    rw (put, found, type_is, state_is, same) refl
+
+-- the bicycle is on a truck
+on_truck_away : (truck : ℕ) (p : Place) → is_on_truck truck p ≡ true → IsAway p
+on_truck_away truck (place.Dock station dock) h = absurd cc
+on_truck_away truck (place.Rental rental) h = tt
+on_truck_away truck (place.Truck on order) h = tt
+on_truck_away truck place.Depot h = tt
+
+-- what the tests of an end say: the depot has none, and a station's dock is there, works and is empty
+abbrev pub TakesAt : Operator → OrderEnd → ℕ → Type 0
+TakesAt s end.Depot dock = Unit {0}
+TakesAt s (end.Station station) dock = HasDock s station dock × (is_broken s station dock ≡ false) × (docked_at s station dock ≡ None)
+
+end_found : (e : OrderEnd) (bike dock : ℕ) (b : Bike) (type_id : Bor (List ℕ)) (was : Standing) (m : Moved) (s : Operator) → map.get s.bikes bike ≡ Some b → IsShown b type_id was → IsAway b.place → TakesAt s e dock
+    → IsPutAtEnd e bike type_id was dock m → IsMovedFound s m
+end_found end.Depot bike dock b type_id was m s found shown away takes made =
+    let from = subst IsAway (sym shown.place_is) away in
+    subst (IsMovedFound s) (sym made) (record { found = found ∙ ap (λ (x : Bike). Some x) (sym (shown_bike b type_id was shown)); from_away = from; to_away = tt })
+end_found (end.Station station) bike dock b type_id was m s found shown away takes made =
+    let x = made.0 in
+    let at : DockAt = record { station = x; dock = dock; is_broken = false } in
+    let here = subst (λ (id : List ℕ). HasDock s id dock × (is_broken s id dock ≡ false) × (docked_at s id dock ≡ None)) (sym made.1) takes in
+    let from = subst IsAway (sym shown.place_is) away in
+    subst (IsMovedFound s) (sym made.2) (record {
+      found = found ∙ ap (λ (y : Bike). Some y) (sym (shown_bike b type_id was shown));
+      dock = record { has = here.0; mark = here.1 };
+      from_is = no_dock at (place_of was.place) from;
+      to_is = (refl, refl);
+      free = λ is_away. (here.2, refl);
+    })
+
+module _ (v : View) (now truck order bike : ℕ) (side : Side) (dock : ℕ) where
+  abbrev unload : Command
+  unload = command.Unload truck order bike side dock
+
+  module _ (b : Bike) (o : Order) (type_id : Bor (List ℕ)) (was : Standing) (m : Moved) (co : Option Change) (shown : IsShown b type_id was) (passes : None ≡ first (tests v unload)) (bike_is : v.bike ≡ Some b)
+      (order_is : v.order ≡ Some o) (put : IsPutAtEnd (end_at side o) bike type_id was dock m) (delivery : IsDelivery side order o co) where
+    abbrev unloaded : Accepted
+    unloaded = record { reply = Done; moved = Some m; change = co; entry = None }
+
+    module _ (s : Operator) (e : v ≡ view_of s unload) where
+      bike_there : map.get s.bikes bike ≡ Some b
+      bike_there = ap (λ (w : View). w.bike) (sym e) ∙ bike_is
+
+      order_there : item_numbered order s.orders ≡ Some o
+      order_there = ap (λ (w : View). w.order) (sym e) ∙ order_is
+
+      pub unload_decided : Decides s now unload (Ok unloaded)
+      unload_decided =
+          let placed = after_end_put (end_at side o) now bike dock b type_id was m s bike_there shown put in (
+            refused_as s v unload None e passes,
+            refl,
+            after_delivery side now order o co (after_moved now m s) delivery ∙ ap (with_delivery order side) placed
+                ∙ sym (ap (λ (z : Option Order). after_unload order bike side dock now z s) order_there),
+          )
+
+      -- what is known of the end, by its tests
+      takes : IsSound s → (at : OrderEnd) → end_at side o ≡ at → has_end s at ≡ true → NoneHolds (tests (record (end_view s at dock) { truck = truck_at s truck; order = Some o; bike = map.get s.bikes bike }) unload) → TakesAt s at dock
+      takes sound end.Depot is known tested = tt
+      takes sound (end.Station station) is known tested =
+          let apart = neither (dock == 0) (has_no_dock dock (station_view (map.get s.stations station)))
+          (subst (λ (z : OrderEnd). ends_apart z (station_view (map.get s.stations station)) dock ≡ false) is tested.1.1.1.1.1.1.0) in (
+            dock_of s station dock (map.get s.stations station) refl (known_station (map.get s.stations station) known) apart.1 (above_zero dock apart.0),
+            tested.1.1.1.1.1.1.1.0,
+            empty_dock s station dock sound.bikes (none_of (docked_view s (docked_at s station dock)) tested.1.1.1.1.1.1.1.1.0),
+          )
+
+      pub unload_found : IsSound s → AreFound now s unloaded
+      unload_found sound =
+          let refused = refused_as s v unload None e passes in
+          let tested = none_holds (tests (record (end_view s (end_at side o) dock) { truck = truck_at s truck; order = Some o; bike = map.get s.bikes bike }) unload)
+          (subst (λ (z : Option Order). first (tests (record (side_view s z side dock) { truck = truck_at s truck; order = z; bike = map.get s.bikes bike }) unload) ≡ None) order_there refused) in
+          let on = both_hold (is_on_truck truck b.place) (is_for_order order b.place)
+          (on_row (λ (x : Bike). not (is_on_truck truck x.place && is_for_order order x.place)) (map.get s.bikes bike) b bike_there tested.1.1.1.1.1.0) in
+          let at = takes sound (end_at side o) refl (end_known s side order o (sound.orders.orders order o order_there)) tested in
+          record {
+            moved = end_found (end_at side o) bike dock b type_id was m s bike_there shown (on_truck_away truck b.place on.0) at put;
+            change = delivered side delivery;
+            entry = tt;
+          }
+        where
+          orders_left : (n : Moved) → item_numbered order (after_moved now n s).orders ≡ item_numbered order s.orders
+          orders_left (moved.Away k t w z) = refl
+          orders_left (moved.AtDock at k t w z) = refl
+          orders_left (moved.Marked at held broken) = refl
+
+          delivered : (d : Side) → IsDelivery d order o co → IfSome co (IsFound (after_moved now m s))
+          delivered From made = subst (λ (z : Option Change). IfSome z (IsFound (after_moved now m s))) (sym made) tt
+          delivered To made = subst (λ (z : Option Change). IfSome z (IsFound (after_moved now m s))) (sym made.2)
+              (orders_left m ∙ order_there ∙ ap (λ (x : Order). Some x) (sym made.1), ap (λ (x : Order). x.delivered + 1) (sym made.1))

@@ -1,19 +1,19 @@
-//! Next numbers, entries, and balances after them.
+//! Entries with the numbers after them.
 
-ghost use Rattle.std.specs.Prelude.{◌≡◌, ◌<◌, ◌≤◌, ◌≤ℤ◌, ◌+◌, ◌+ℤ◌, ◌-ℤ◌, pos, int_lt, MatchOption};
-ghost use Rattle.bike_fares.specs.Pricing.{greatest_fare};
-ghost use Rattle.bike_ledger.specs.Ledger.{IsAmount, IsBalance, credit};
+ghost use Rattle.std.specs.Prelude.{◌≡◌, ◌<◌, ◌≤◌, ◌≤ℤ◌, ◌+◌, ◌+ℤ◌, ◌-ℤ◌, pos, int_lt, None, MatchOption};
+ghost use Rattle.bike_ledger.specs.Ledger.{IsBalance, credit};
 ghost use Rattle.bike_ledger.specs.declared.entry.EntryKind.TheVariants as kind;
 ghost use Rattle.bike_commands.specs.declared.reply.Reply.TheVariants.{Balance, Ended};
-ghost use Rattle.bike_operator.specs.declared.change.Change.TheVariants as change;
+ghost use Rattle.bike_accepted.specs.declared.change.Change.TheVariants as change;
 ghost use Rattle.bike_operator.specs.Steps.{fare_now};
 
+use bike_accepted::{Booked, Change};
 use bike_commands::Reply;
 use bike_fares::fare;
 use bike_fields::{GREATEST_SERIAL, Ident, Payment};
 use bike_fixed::{Cents, Moment, Within};
 use bike_ledger::{Entry, EntryNumber, balance_after, refundable};
-use bike_operator::{Change, Closing, MOST_ENTRIES, RentalView};
+use bike_operator::{Closing, MOST_ENTRIES, RentalView};
 use bike_texts::Fare;
 
 /// The number after so many numbered ones, by the numbering rule.
@@ -37,54 +37,64 @@ pub(crate) fn next_entry(entries: u32) -> Option<EntryNumber>
     None
 }
 
-/// The entry that books the fare of a rental which ends now, by the closing rule.
-pub(crate) fn fare_entry(entries: u32, row: &RentalView, now: Moment) -> Entry
-    requires few { entries < MOST_ENTRIES }
-    requires began { row.now.rental.start ≤ now }
-    ensures entry { result ≡ record { number = entries + 1; kind = kind.Fare; rider = row.now.rental.rider; rental = row.now.number; amount = fare_now row.now now; at = now } }
-    ensures amount { IsAmount result.amount }
+/// An entry that is booked, with its rider's balance after it, and for a refund what is refunded then.
+pub(crate) fn booked(balance: &i64, entry: Entry, refunded: Option<Cents>) -> Booked
+    requires { IsBalance balance.now }
+    ensures entry { result.entry ≡ entry }
+    ensures balance { result.balance ≡ balance.now +ℤ credit entry.kind entry.amount }
+    ensures refunded { result.refunded ≡ refunded }
 {
-    let amount = fare(&row.plan, row.rental.start, now);
-    Entry::fare(
-        next_number(entries),
-        row.rental.rider,
-        row.number,
-        amount,
-        now,
-    )
+    Booked {
+        balance: Cents::new(balance_after(*balance, &entry)),
+        entry,
+        refunded,
+    }
 }
 
-/// The rental closed at a station or recovered, at the fare of its entry.
+/// The fare of a rental that ends now, booked by the closing rule.
+pub(crate) fn fare_booked(entries: u32, row: &RentalView, now: Moment) -> Booked
+    requires few { entries < MOST_ENTRIES }
+    requires began { row.now.rental.start ≤ now }
+    requires balance { IsBalance row.now.balance }
+    ensures entry { result.entry ≡ record { number = entries + 1; kind = kind.Fare; rider = row.now.rental.rider; rental = row.now.number; amount = fare_now row.now now; at = now } }
+    ensures balance { result.balance ≡ row.now.balance +ℤ credit kind.Fare (fare_now row.now now) }
+    ensures refunded { result.refunded ≡ None }
+{
+    let number = next_number(entries);
+    let amount = fare(&row.plan, row.rental.start, now);
+    let entry = Entry::fare(number, row.rental.rider, row.number, amount, now);
+    booked(&row.balance, entry, None)
+}
+
+/// The rental closed at a station or recovered, at the fare that is booked.
 pub(crate) fn closing<'a>(
     row: &RentalView,
     to_station: Option<&'a Ident>,
-    entry: &Entry,
+    booked: &Booked,
 ) -> Change<'a>
-    ensures { result ≡ change.CloseRental row.now.number to_station.entry entry.now.amount }
+    ensures { result ≡ change.CloseRental row.now.number to_station.entry booked.now.entry.amount }
 {
     Change::CloseRental {
         rental: row.number.get(),
         to_station,
-        fare: entry.amount().hundredths(),
+        fare: booked.entry.amount().hundredths(),
     }
 }
 
-/// The reply that tells the balance after one more entry.
-pub(crate) fn balance_reply(balance: &i64, entry: &Entry) -> Reply
-    requires { IsBalance balance.now }
-    ensures { result ≡ Balance (balance.now +ℤ credit entry.now.kind entry.now.amount) }
+/// The reply that tells the balance after an entry.
+pub(crate) fn balance_reply(booked: &Booked) -> Reply
+    ensures { result ≡ Balance booked.now.balance }
 {
-    Reply::Balance(balance_after(*balance, entry))
+    Reply::Balance(booked.balance.hundredths())
 }
 
-/// The reply that tells a fare and the balance after its entry.
-pub(crate) fn ended_reply(balance: &i64, entry: &Entry) -> Reply
-    requires { IsBalance balance.now }
-    ensures { result ≡ Ended entry.now.amount (balance.now +ℤ credit entry.now.kind entry.now.amount) }
+/// The reply that tells a fare and the balance after it.
+pub(crate) fn ended_reply(booked: &Booked) -> Reply
+    ensures { result ≡ Ended booked.now.entry.amount booked.now.balance }
 {
     Reply::Ended {
-        fare: Fare::of(entry.amount().hundredths()),
-        balance: balance_after(*balance, entry),
+        fare: Fare::of(booked.entry.amount().hundredths()),
+        balance: booked.balance.hundredths(),
     }
 }
 
@@ -96,4 +106,16 @@ pub(crate) fn is_too_much(closing: &Closing, refunded: &i64, amount: Payment) ->
 {
     let left = refundable(Cents::new(closing.fare), Cents::new(*refunded));
     left.hundredths() < i64::from(amount.get())
+}
+
+/// The sum of both, which is at most so much.
+pub(crate) fn sum_within(refunded: &i64, amount: Payment, most: &i64) -> i64
+    requires low { pos 0 ≤ℤ refunded.now }
+    requires high { refunded.now ≤ℤ most.now }
+    requires within { pos amount ≤ℤ (most.now -ℤ refunded.now) }
+    ensures { result ≡ refunded.now +ℤ pos amount }
+{
+    let left = *most - *refunded;
+    let amount = i64::from(amount.get());
+    *most - (left - amount)
 }

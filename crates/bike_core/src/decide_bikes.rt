@@ -1,14 +1,15 @@
 //! Decisions on bicycles, apart from rentals and orders.
 
-ghost use Rattle.std.specs.Prelude.{◌≡◌, IfOk, None};
+ghost use Rattle.std.specs.Prelude.{IfOk};
 ghost use Rattle.bike_commands.specs.declared.command.Command.TheVariants as command;
-ghost use Rattle.bike_operator.specs.Changes.{DecidesOn};
-ghost use Rattle.bike_core.specs.Made.{AreMade};
+ghost use Rattle.bike_accepted.specs.Effects.{DecidesOn};
+ghost use Rattle.bike_accepted.specs.Found.{FindsOn};
 
-use crate::places::{is_depot, is_retired, report_of};
-use bike_commands::{Refusal, Reply};
+use crate::places::{is_depot, is_retired, put_from, standing_of};
+use bike_accepted::{Accepted, Change, Decision, Moved, Standing};
+use bike_commands::Refusal;
 use bike_fields::{BicycleNumber, Ident};
-use bike_operator::{Accepted, Bike, BikeState, Change, Decision, View};
+use bike_operator::{BikeState, View};
 
 /// Decides on a new bicycle.
 pub(crate) fn decide_add_bike<'a>(
@@ -17,8 +18,7 @@ pub(crate) fn decide_add_bike<'a>(
     type_id: &'a Ident,
 ) -> Decision<'a>
     ensures decides { DecidesOn view.now (command.AddBike bike type_id.now) result }
-    ensures made { IfOk result (λ a. AreMade view.now (command.AddBike bike type_id.now) a.changes) }
-    ensures entry { IfOk result (λ a. a.entry ≡ None) }
+    ensures found { IfOk result (FindsOn view.now (command.AddBike bike type_id.now)) }
 {
     if view.bike.is_some() {
         return Err(Refusal::AlreadyThere);
@@ -29,7 +29,7 @@ pub(crate) fn decide_add_bike<'a>(
     if view.is_full {
         return Err(Refusal::LimitReached);
     }
-    Ok(Accepted::done(Change::AddBike {
+    Ok(Accepted::changed(Change::AddBike {
         bike: bike.get(),
         type_id,
     }))
@@ -42,8 +42,7 @@ pub(crate) fn decide_mark_bike<'a>(
     is_disabled: bool,
 ) -> Decision<'a>
     ensures decides { DecidesOn view.now (command.MarkBike bike is_disabled) result }
-    ensures made { IfOk result (λ a. AreMade view.now (command.MarkBike bike is_disabled) a.changes) }
-    ensures entry { IfOk result (λ a. a.entry ≡ None) }
+    ensures found { IfOk result (FindsOn view.now (command.MarkBike bike is_disabled)) }
 {
     let Some(row) = &view.bike else {
         return Err(Refusal::UnknownBike);
@@ -56,34 +55,38 @@ pub(crate) fn decide_mark_bike<'a>(
     } else {
         BikeState::Fit
     };
-    let mark = Change::SetState {
-        bike: bike.get(),
+    let was = standing_of(row);
+    let becomes = Standing {
         state,
+        place: was.place,
     };
-    Ok(Accepted {
-        reply: Reply::Done,
-        entry: None,
-        changes: [Some(mark), report_of(&row.place), None, None],
-    })
+    let moved = put_from(bike.get(), &row.type_id, was, becomes, view.is_dock_broken);
+    Ok(Accepted::moved(moved))
 }
 
 /// Decides on retiring a bicycle, which has to be in the depot.
-pub(crate) fn decide_retire_bike<'a>(view: &View, bike: BicycleNumber) -> Decision<'a>
+pub(crate) fn decide_retire_bike<'a>(view: &'a View, bike: BicycleNumber) -> Decision<'a>
     ensures decides { DecidesOn view.now (command.RetireBike bike) result }
-    ensures made { IfOk result (λ a. AreMade view.now (command.RetireBike bike) a.changes) }
-    ensures entry { IfOk result (λ a. a.entry ≡ None) }
+    ensures found { IfOk result (FindsOn view.now (command.RetireBike bike)) }
 {
-    let Some(Bike { state, place, .. }) = &view.bike else {
+    let Some(row) = &view.bike else {
         return Err(Refusal::UnknownBike);
     };
-    if is_retired(*state) {
+    if is_retired(row.state) {
         return Err(Refusal::BikeRetired);
     }
-    if !is_depot(place) {
+    if !is_depot(&row.place) {
         return Err(Refusal::NotInDepot);
     }
-    Ok(Accepted::done(Change::SetState {
-        bike: bike.get(),
+    let was = standing_of(row);
+    let becomes = Standing {
         state: BikeState::Retired,
+        place: was.place,
+    };
+    Ok(Accepted::moved(Moved::Away {
+        bike: bike.get(),
+        type_id: &row.type_id,
+        was,
+        becomes,
     }))
 }

@@ -1,32 +1,32 @@
 //! Decisions on the catalogue: the system, plans, vehicle types and stations.
 
-ghost use Rattle.std.specs.Prelude.{◌≡◌, IfOk, None};
+ghost use Rattle.std.specs.Prelude.{IfOk};
 ghost use Rattle.bike_commands.specs.declared.command.Command.TheVariants as command;
-ghost use Rattle.bike_operator.specs.Changes.{DecidesOn};
-ghost use Rattle.bike_core.specs.Made.{AreMade};
+ghost use Rattle.bike_accepted.specs.Effects.{DecidesOn};
+ghost use Rattle.bike_accepted.specs.Found.{FindsOn};
 
+use crate::places::held_in;
+use bike_accepted::{Accepted, Change, Decision, DockAt, Moved};
 use bike_catalogue::{Plan, Station, System, VehicleType};
-use bike_commands::{Refusal, Reply};
+use bike_commands::Refusal;
 use bike_fields::{DockNumber, Ident};
-use bike_operator::{Accepted, Change, Decision, View};
+use bike_operator::View;
 
 /// Decides on setting the system: it is set once.
 pub(crate) fn decide_set_system<'a>(view: &View, system: &'a System) -> Decision<'a>
     ensures decides { DecidesOn view.now (command.SetSystem system.now) result }
-    ensures made { IfOk result (λ a. AreMade view.now (command.SetSystem system.now) a.changes) }
-    ensures entry { IfOk result (λ a. a.entry ≡ None) }
+    ensures found { IfOk result (FindsOn view.now (command.SetSystem system.now)) }
 {
     if view.has_system {
         return Err(Refusal::AlreadyThere);
     }
-    Ok(Accepted::done(Change::SetSystem(system)))
+    Ok(Accepted::changed(Change::SetSystem(system)))
 }
 
 /// Decides on a new pricing plan.
 pub(crate) fn decide_add_plan<'a>(view: &View, plan: &'a Plan) -> Decision<'a>
     ensures decides { DecidesOn view.now (command.AddPlan plan.now) result }
-    ensures made { IfOk result (λ a. AreMade view.now (command.AddPlan plan.now) a.changes) }
-    ensures entry { IfOk result (λ a. a.entry ≡ None) }
+    ensures found { IfOk result (FindsOn view.now (command.AddPlan plan.now)) }
 {
     if view.has_plan {
         return Err(Refusal::AlreadyThere);
@@ -34,14 +34,13 @@ pub(crate) fn decide_add_plan<'a>(view: &View, plan: &'a Plan) -> Decision<'a>
     if view.is_full {
         return Err(Refusal::LimitReached);
     }
-    Ok(Accepted::done(Change::AddPlan(plan)))
+    Ok(Accepted::changed(Change::AddPlan(plan)))
 }
 
 /// Decides on a new vehicle type with its default plan.
 pub(crate) fn decide_add_type<'a>(view: &View, vehicle_type: &'a VehicleType) -> Decision<'a>
     ensures decides { DecidesOn view.now (command.AddType vehicle_type.now) result }
-    ensures made { IfOk result (λ a. AreMade view.now (command.AddType vehicle_type.now) a.changes) }
-    ensures entry { IfOk result (λ a. a.entry ≡ None) }
+    ensures found { IfOk result (FindsOn view.now (command.AddType vehicle_type.now)) }
 {
     if view.has_type {
         return Err(Refusal::AlreadyThere);
@@ -52,14 +51,13 @@ pub(crate) fn decide_add_type<'a>(view: &View, vehicle_type: &'a VehicleType) ->
     if view.is_full {
         return Err(Refusal::LimitReached);
     }
-    Ok(Accepted::done(Change::AddType(vehicle_type)))
+    Ok(Accepted::changed(Change::AddType(vehicle_type)))
 }
 
 /// Decides on another default plan of a vehicle type.
 pub(crate) fn decide_set_plan<'a>(view: &View, type_id: &'a Ident, plan: &'a Ident) -> Decision<'a>
     ensures decides { DecidesOn view.now (command.SetPlan type_id.now plan.now) result }
-    ensures made { IfOk result (λ a. AreMade view.now (command.SetPlan type_id.now plan.now) a.changes) }
-    ensures entry { IfOk result (λ a. a.entry ≡ None) }
+    ensures found { IfOk result (FindsOn view.now (command.SetPlan type_id.now plan.now)) }
 {
     if !view.has_type {
         return Err(Refusal::UnknownType);
@@ -67,14 +65,13 @@ pub(crate) fn decide_set_plan<'a>(view: &View, type_id: &'a Ident, plan: &'a Ide
     if !view.has_plan {
         return Err(Refusal::UnknownPlan);
     }
-    Ok(Accepted::done(Change::SetPlan { type_id, plan }))
+    Ok(Accepted::changed(Change::SetPlan { type_id, plan }))
 }
 
 /// Decides on a new station.
 pub(crate) fn decide_add_station<'a>(view: &View, station: &'a Station) -> Decision<'a>
     ensures decides { DecidesOn view.now (command.AddStation station.now) result }
-    ensures made { IfOk result (λ a. AreMade view.now (command.AddStation station.now) a.changes) }
-    ensures entry { IfOk result (λ a. a.entry ≡ None) }
+    ensures found { IfOk result (FindsOn view.now (command.AddStation station.now)) }
 {
     if view.station.is_some() {
         return Err(Refusal::AlreadyThere);
@@ -82,7 +79,7 @@ pub(crate) fn decide_add_station<'a>(view: &View, station: &'a Station) -> Decis
     if view.is_full {
         return Err(Refusal::LimitReached);
     }
-    Ok(Accepted::done(Change::AddStation(station)))
+    Ok(Accepted::changed(Change::AddStation(station)))
 }
 
 /// Decides on the flags of a station.
@@ -94,13 +91,12 @@ pub(crate) fn decide_set_station<'a>(
     is_returning: bool,
 ) -> Decision<'a>
     ensures decides { DecidesOn view.now (command.SetStation station.now is_installed is_renting is_returning) result }
-    ensures made { IfOk result (λ a. AreMade view.now (command.SetStation station.now is_installed is_renting is_returning) a.changes) }
-    ensures entry { IfOk result (λ a. a.entry ≡ None) }
+    ensures found { IfOk result (FindsOn view.now (command.SetStation station.now is_installed is_renting is_returning)) }
 {
     if view.station.is_none() {
         return Err(Refusal::UnknownStation);
     }
-    Ok(Accepted::done(Change::SetStation {
+    Ok(Accepted::changed(Change::SetStation {
         station,
         is_installed,
         is_renting,
@@ -110,14 +106,13 @@ pub(crate) fn decide_set_station<'a>(
 
 /// Decides on a dock that is broken, or works again. By the no-change rule it may be so already.
 pub(crate) fn decide_mark_dock<'a>(
-    view: &View,
+    view: &'a View,
     station: &'a Ident,
     dock: DockNumber,
     is_broken: bool,
 ) -> Decision<'a>
     ensures decides { DecidesOn view.now (command.MarkDock station.now dock is_broken) result }
-    ensures made { IfOk result (λ a. AreMade view.now (command.MarkDock station.now dock is_broken) a.changes) }
-    ensures entry { IfOk result (λ a. a.entry ≡ None) }
+    ensures found { IfOk result (FindsOn view.now (command.MarkDock station.now dock is_broken)) }
 {
     let Some(row) = &view.station else {
         return Err(Refusal::UnknownStation);
@@ -125,20 +120,15 @@ pub(crate) fn decide_mark_dock<'a>(
     if row.docks.get() < dock.get() {
         return Err(Refusal::UnknownDock);
     }
-    let mark = if is_broken {
-        Change::BreakDock {
-            station,
-            dock: dock.get(),
-        }
-    } else {
-        Change::MendDock {
-            station,
-            dock: dock.get(),
-        }
+    let at = DockAt {
+        station,
+        dock: dock.get(),
+        is_broken: view.is_dock_broken,
     };
-    Ok(Accepted {
-        reply: Reply::Done,
-        entry: None,
-        changes: [Some(mark), Some(Change::Report { station }), None, None],
-    })
+    let held = held_in(&view.docked);
+    Ok(Accepted::moved(Moved::Marked {
+        at,
+        held,
+        is_broken,
+    }))
 }

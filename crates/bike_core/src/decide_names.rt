@@ -1,15 +1,16 @@
 //! Decisions on names in further languages.
 
-ghost use Rattle.std.specs.Prelude.{◌≡◌, IfOk, None};
+ghost use Rattle.std.specs.Prelude.{◌≡◌, IfOk};
 ghost use Rattle.bike_commands.specs.declared.command.Command.TheVariants as command;
 ghost use Rattle.bike_operator.specs.Steps.{unknown_of};
-ghost use Rattle.bike_operator.specs.Changes.{DecidesOn};
-ghost use Rattle.bike_core.specs.Made.{AreMade};
+ghost use Rattle.bike_accepted.specs.Effects.{DecidesOn};
+ghost use Rattle.bike_accepted.specs.Found.{FindsOn};
 
+use bike_accepted::{Accepted, Change, Decision};
 use bike_catalogue::NameKind;
 use bike_commands::Refusal;
 use bike_fields::{Ident, Language, Name};
-use bike_operator::{Accepted, Change, Decision, View};
+use bike_operator::View;
 
 /// Why a name isn't taken where there is nothing of its kind.
 fn unknown_of(kind: NameKind) -> Refusal
@@ -33,8 +34,7 @@ pub(crate) fn decide_add_name<'a>(
     name: &'a Name,
 ) -> Decision<'a>
     ensures decides { DecidesOn view.now (command.AddName kind id.now language.now name.now) result }
-    ensures made { IfOk result (λ a. AreMade view.now (command.AddName kind id.now language.now name.now) a.changes) }
-    ensures entry { IfOk result (λ a. a.entry ≡ None) }
+    ensures found { IfOk result (FindsOn view.now (command.AddName kind id.now language.now name.now)) }
 {
     if !view.has_system {
         return Err(Refusal::SystemMissing);
@@ -48,7 +48,7 @@ pub(crate) fn decide_add_name<'a>(
     if view.is_full {
         return Err(Refusal::LimitReached);
     }
-    Ok(Accepted::done(Change::AddName {
+    Ok(Accepted::changed(Change::AddName {
         kind,
         id,
         language,

@@ -1,20 +1,21 @@
 //! Decisions on trucks and their orders.
 
-ghost use Rattle.std.specs.Prelude.{◌≡◌, ◌≤◌, ◌+◌, ℕ, List, [], ◌∷◌, Option, Some, None, IfOk, IfSome};
-ghost use Rattle.bike_texts.specs.declared.ends.OrderEnd.{OrderEnd};
+ghost use Rattle.std.specs.Prelude.{◌≡◌, ◌≤◌, ◌+◌, ℕ, List, Some, IfOk, IfSome};
 ghost use Rattle.bike_commands.specs.declared.command.Command.TheVariants as command;
-ghost use Rattle.bike_operator.specs.declared.change.Change.{Change};
-ghost use Rattle.bike_operator.specs.Operator.{Operator};
-ghost use Rattle.bike_operator.specs.Steps.{first, tests, with_delivery, placed_at_end};
-ghost use Rattle.bike_operator.specs.Changes.{DecidesOn, refusal_in, with_changes, present};
-ghost use Rattle.bike_operator.specs.Bounds.{IsBounded};
-ghost use Rattle.bike_core.specs.Made.{AreMade, IsPutAtEnd, delivery_made};
+ghost use Rattle.bike_operator.specs.Steps.{first, tests};
+ghost use Rattle.bike_operator.specs.Changes.{refusal_in};
+ghost use Rattle.bike_accepted.specs.Effects.{DecidesOn};
+ghost use Rattle.bike_accepted.specs.Found.{FindsOn};
 
 use crate::booking::next_number;
-use crate::places::{end_at, ends_apart, is_at_end, is_loaded, is_retired, is_same_end, report_of};
+use crate::places::{
+    end_at, ends_apart, is_at_end, is_loaded, is_retired, is_same_end, put_at_end, put_from,
+    standing_of,
+};
+use bike_accepted::{Accepted, Change, Decision, Standing};
 use bike_commands::{Refusal, Reply};
 use bike_fields::{BicycleNumber, Ident, OrderNumber, OrderQuantity, TruckCapacity, TruckNumber};
-use bike_operator::{Accepted, Bike, Change, Decision, MOST_ORDERS, NewPlace, Order, View};
+use bike_operator::{Bike, MOST_ORDERS, NewPlace, Order, View};
 use bike_texts::{OrderEnd, Side, UnloadDock};
 
 /// Decides on a new truck.
@@ -24,8 +25,7 @@ pub(crate) fn decide_add_truck<'a>(
     capacity: TruckCapacity,
 ) -> Decision<'a>
     ensures decides { DecidesOn view.now (command.AddTruck truck capacity) result }
-    ensures made { IfOk result (λ a. AreMade view.now (command.AddTruck truck capacity) a.changes) }
-    ensures entry { IfOk result (λ a. a.entry ≡ None) }
+    ensures found { IfOk result (FindsOn view.now (command.AddTruck truck capacity)) }
 {
     if view.truck.is_some() {
         return Err(Refusal::AlreadyThere);
@@ -33,7 +33,7 @@ pub(crate) fn decide_add_truck<'a>(
     if view.is_full {
         return Err(Refusal::LimitReached);
     }
-    Ok(Accepted::done(Change::AddTruck {
+    Ok(Accepted::changed(Change::AddTruck {
         truck: truck.get(),
         capacity: capacity.get(),
     }))
@@ -80,14 +80,14 @@ pub(crate) fn decide_open_order<'a>(
     count: OrderQuantity,
 ) -> Decision<'a>
     ensures decides { DecidesOn view.now (command.OpenOrder truck from_end.now to_end.now type_id.now count) result }
-    ensures made { IfOk result (λ a. AreMade view.now (command.OpenOrder truck from_end.now to_end.now type_id.now count) a.changes) }
-    ensures entry { IfOk result (λ a. a.entry ≡ None) }
+    ensures found { IfOk result (FindsOn view.now (command.OpenOrder truck from_end.now to_end.now type_id.now count)) }
 {
     let order = match check_open_order(view, from_end, to_end, count) {
         Ok(order) => order,
         Err(refusal) => return Err(refusal),
     };
     let opened = Change::AddOrder {
+        order: order.get(),
         truck: truck.get(),
         from_end,
         to_end,
@@ -96,8 +96,9 @@ pub(crate) fn decide_open_order<'a>(
     };
     Ok(Accepted {
         reply: Reply::Ordered { order },
+        moved: None,
+        change: Some(opened),
         entry: None,
-        changes: [Some(opened), None, None, None],
     })
 }
 
@@ -150,28 +151,33 @@ pub(crate) fn decide_load<'a>(
 ) -> Decision<'a>
     requires { IfSome view.now.order (λ o. o.delivered + view.now.on_truck ≤ o.count) }
     ensures decides { DecidesOn view.now (command.Load truck order bike) result }
-    ensures made { IfOk result (λ a. AreMade view.now (command.Load truck order bike) a.changes) }
-    ensures entry { IfOk result (λ a. a.entry ≡ None) }
+    ensures found { IfOk result (FindsOn view.now (command.Load truck order bike)) }
 {
     let row = match check_load(view, truck) {
         Ok(row) => row,
         Err(refusal) => return Err(refusal),
     };
-    let moved = Change::PlaceBike {
-        bike: bike.get(),
-        place: NewPlace::Truck {
-            truck: truck.get(),
-            order: order.get(),
-        },
+    let place = NewPlace::Truck {
+        truck: truck.get(),
+        order: order.get(),
     };
-    Ok(Accepted {
-        reply: Reply::Done,
-        entry: None,
-        changes: [Some(moved), report_of(&row.place), None, None],
-    })
+    let becomes = Standing {
+        state: row.state,
+        place,
+    };
+    let was = standing_of(row);
+    let moved = put_from(bike.get(), &row.type_id, was, becomes, view.is_dock_broken);
+    Ok(Accepted::moved(moved))
 }
 
-/// The order for which a bicycle is unloaded, or the first refusal of unloading it. By the crew rule the station's flags are not
+/// A bicycle that is unloaded, and its order.
+#[derive(Clone, Copy)]
+struct Unloading<'a> {
+    bike: &'a Bike,
+    order: &'a Order,
+}
+
+/// The bicycle that is unloaded and its order, or the first refusal of unloading it. By the crew rule the station's flags are not
 /// asked for.
 fn check_unload(
     view: &View,
@@ -179,9 +185,10 @@ fn check_unload(
     order: OrderNumber,
     side: Side,
     dock: UnloadDock,
-) -> Result<&Order, Refusal>
+) -> Result<Unloading<'_>, Refusal>
     ensures tests { (bike : ℕ) → refusal_in result ≡ first (tests view.now (command.Unload truck order bike side dock)) }
-    ensures order { IfOk result (λ o. view.now.order ≡ Some o.now) }
+    ensures order { IfOk result (λ u. view.now.order ≡ Some u.order.now) }
+    ensures bike { IfOk result (λ u. view.now.bike ≡ Some u.bike.now) }
 {
     if view.truck.is_none() {
         return Err(Refusal::UnknownTruck);
@@ -210,42 +217,16 @@ fn check_unload(
     if view.docked.is_some() {
         return Err(Refusal::DockFull);
     }
-    Ok(row)
+    Ok(Unloading { bike, order: row })
 }
 
-/// The changes that put a bicycle at an end of its order: at the end to which the order brings bicycles it is delivered.
-fn unload_changes<'a>(
-    order: OrderNumber,
-    bike: BicycleNumber,
-    side: Side,
-    end: &'a OrderEnd,
-    dock: UnloadDock,
-) -> [Option<Change<'a>>; 4]
-    ensures makes { (s : Operator) (now : ℕ) → with_changes now (present result) s ≡ with_delivery order side (placed_at_end bike end.now dock now s) }
-    ensures made { (put report : Option Change) × IsPutAtEnd end.now bike dock put report × (result ≡ put ∷ report ∷ delivery_made side order ∷ None ∷ []) }
+/// How many of an order are delivered with one more. By the order's own bound there is a number for it.
+fn delivered_with(order: &Order) -> u32
+    requires { order.now.delivered ≤ order.now.count }
+    ensures { result ≡ order.now.delivered + 1 }
 {
-    let bike = bike.get();
-    let delivery = match side {
-        Side::From => None,
-        Side::To => Some(Change::Deliver { order: order.get() }),
-    };
-    match end {
-        OrderEnd::Depot => {
-            let put = Change::PlaceBike {
-                bike,
-                place: NewPlace::Depot,
-            };
-            [Some(put), None, delivery, None]
-        }
-        OrderEnd::Station(station) => {
-            let place = NewPlace::Dock {
-                station,
-                dock: dock.get(),
-            };
-            let put = Change::PlaceBike { bike, place };
-            [Some(put), Some(Change::Report { station }), delivery, None]
-        }
-    }
+    prove!(order.delivered <= order.count.get());
+    order.delivered + 1
 }
 
 /// Decides on unloading a bicycle at an end of its order.
@@ -257,27 +238,38 @@ pub(crate) fn decide_unload<'a>(
     side: Side,
     dock: UnloadDock,
 ) -> Decision<'a>
+    requires { IfSome view.now.order (λ o. o.delivered + view.now.on_truck ≤ o.count) }
     ensures decides { DecidesOn view.now (command.Unload truck order bike side dock) result }
-    ensures made { IfOk result (λ a. AreMade view.now (command.Unload truck order bike side dock) a.changes) }
-    ensures entry { IfOk result (λ a. a.entry ≡ None) }
+    ensures found { IfOk result (FindsOn view.now (command.Unload truck order bike side dock)) }
 {
-    let row = match check_unload(view, truck, order, side, dock) {
-        Ok(row) => row,
+    let unloading = match check_unload(view, truck, order, side, dock) {
+        Ok(unloading) => unloading,
         Err(refusal) => return Err(refusal),
     };
+    let row = unloading.order;
+    let delivery = match side {
+        Side::From => None,
+        Side::To => Some(Change::Deliver {
+            order: order.get(),
+            was: row,
+            delivered: delivered_with(row),
+        }),
+    };
+    let was = standing_of(unloading.bike);
     let end = end_at(side, row);
+    let moved = put_at_end(bike.get(), &unloading.bike.type_id, was, end, dock);
     Ok(Accepted {
         reply: Reply::Done,
+        moved: Some(moved),
+        change: delivery,
         entry: None,
-        changes: unload_changes(order, bike, side, end, dock),
     })
 }
 
 /// Decides on closing an order, which has no bicycle on its truck.
-pub(crate) fn decide_close_order<'a>(view: &View, order: OrderNumber) -> Decision<'a>
+pub(crate) fn decide_close_order<'a>(view: &'a View, order: OrderNumber) -> Decision<'a>
     ensures decides { DecidesOn view.now (command.CloseOrder order) result }
-    ensures made { IfOk result (λ a. AreMade view.now (command.CloseOrder order) a.changes) }
-    ensures entry { IfOk result (λ a. a.entry ≡ None) }
+    ensures found { IfOk result (FindsOn view.now (command.CloseOrder order)) }
 {
     let Some(row) = &view.order else {
         return Err(Refusal::UnknownOrder);
@@ -288,5 +280,8 @@ pub(crate) fn decide_close_order<'a>(view: &View, order: OrderNumber) -> Decisio
     if view.on_truck > 0 {
         return Err(Refusal::BikesOnTruck);
     }
-    Ok(Accepted::done(Change::CloseOrder { order: order.get() }))
+    Ok(Accepted::changed(Change::CloseOrder {
+        order: order.get(),
+        was: row,
+    }))
 }

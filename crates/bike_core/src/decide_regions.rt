@@ -1,20 +1,21 @@
 //! Decisions on regions, and on the one in which a station stands.
 
-ghost use Rattle.std.specs.Prelude.{◌≡◌, IfOk, None};
+ghost use Rattle.std.specs.Prelude.{IfOk};
 ghost use Rattle.bike_commands.specs.declared.command.Command.TheVariants as command;
-ghost use Rattle.bike_operator.specs.Changes.{DecidesOn, text_in};
-ghost use Rattle.bike_core.specs.Made.{AreMade};
+ghost use Rattle.bike_operator.specs.Changes.{text_in};
+ghost use Rattle.bike_accepted.specs.Effects.{DecidesOn};
+ghost use Rattle.bike_accepted.specs.Found.{FindsOn};
 
+use bike_accepted::{Accepted, Change, Decision};
 use bike_catalogue::Region;
 use bike_commands::Refusal;
 use bike_fields::Ident;
-use bike_operator::{Accepted, Change, Decision, View};
+use bike_operator::View;
 
 /// Decides on a new region.
 pub(crate) fn decide_add_region<'a>(view: &View, region: &'a Region) -> Decision<'a>
     ensures decides { DecidesOn view.now (command.AddRegion region.now) result }
-    ensures made { IfOk result (λ a. AreMade view.now (command.AddRegion region.now) a.changes) }
-    ensures entry { IfOk result (λ a. a.entry ≡ None) }
+    ensures found { IfOk result (FindsOn view.now (command.AddRegion region.now)) }
 {
     if view.has_region {
         return Err(Refusal::AlreadyThere);
@@ -22,7 +23,7 @@ pub(crate) fn decide_add_region<'a>(view: &View, region: &'a Region) -> Decision
     if view.is_full {
         return Err(Refusal::LimitReached);
     }
-    Ok(Accepted::done(Change::AddRegion(region)))
+    Ok(Accepted::changed(Change::AddRegion(region)))
 }
 
 /// Decides on the region of a station, which may be none.
@@ -32,8 +33,7 @@ pub(crate) fn decide_set_region<'a>(
     region: Option<&'a Ident>,
 ) -> Decision<'a>
     ensures decides { DecidesOn view.now (command.SetRegion station.now (text_in region.entry)) result }
-    ensures made { IfOk result (λ a. AreMade view.now (command.SetRegion station.now (text_in region.entry)) a.changes) }
-    ensures entry { IfOk result (λ a. a.entry ≡ None) }
+    ensures found { IfOk result (FindsOn view.now (command.SetRegion station.now (text_in region.entry))) }
 {
     if view.station.is_none() {
         return Err(Refusal::UnknownStation);
@@ -41,5 +41,5 @@ pub(crate) fn decide_set_region<'a>(
     if !view.has_region {
         return Err(Refusal::UnknownRegion);
     }
-    Ok(Accepted::done(Change::SetRegion { station, region }))
+    Ok(Accepted::changed(Change::SetRegion { station, region }))
 }

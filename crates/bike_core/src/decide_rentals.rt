@@ -1,24 +1,26 @@
 //! Decisions on rentals.
 
-ghost use Rattle.std.specs.Prelude.{◌≡◌, ℕ, List, Some, None, IfOk, IfSome, IsSome, true, false};
+ghost use Rattle.std.specs.Prelude.{◌≡◌, ◌+ℤ◌, ℕ, List, pos, Some, IfOk, IfSome, IsSome, true, false};
 ghost use Rattle.bike_commands.specs.declared.command.Command.TheVariants as command;
 ghost use Rattle.bike_operator.specs.Steps.{first, tests};
-ghost use Rattle.bike_operator.specs.Changes.{DecidesAt, refusal_in};
+ghost use Rattle.bike_operator.specs.Changes.{refusal_in};
 ghost use Rattle.bike_operator.specs.Counts.{is_open};
 ghost use Rattle.bike_operator.specs.Bounds.{IsRefundable, IsBounded};
-ghost use Rattle.bike_core.specs.Made.{AreMade, entry_made};
+ghost use Rattle.bike_accepted.specs.Effects.{DecidesAt};
+ghost use Rattle.bike_accepted.specs.Found.{FindsAt};
+ghost use Rattle.bike_core.specs.Moves.{IsRecovered};
 
 use crate::booking::{
-    balance_reply, closing, ended_reply, fare_entry, is_too_much, next_entry, next_number,
+    balance_reply, booked, closing, ended_reply, fare_booked, is_too_much, next_entry, next_number,
+    sum_within,
 };
-use crate::places::is_fit;
+use crate::places::{is_fit, standing_of};
+use bike_accepted::{Accepted, Change, Decision, DockAt, Moved, Standing};
 use bike_commands::{Refusal, Reply};
 use bike_fields::{BicycleNumber, DockNumber, Ident, Payment, RentalNumber, RiderNumber};
-use bike_fixed::Moment;
+use bike_fixed::{Cents, Moment};
 use bike_ledger::Entry;
-use bike_operator::{
-    Accepted, BikeState, Change, Decision, DockedBike, NewPlace, RentalView, View,
-};
+use bike_operator::{Bike, BikeState, DockedBike, NewPlace, RentalView, View};
 
 /// The bicycle that a rental takes from its dock, or the first refusal of a start.
 fn check_start(view: &View, dock: DockNumber) -> Result<&DockedBike, Refusal>
@@ -72,8 +74,7 @@ pub(crate) fn decide_start<'a>(
 ) -> Decision<'a>
     requires { IsBounded view.now now }
     ensures decides { DecidesAt now view.now (command.Start rider station.now dock) result }
-    ensures made { IfOk result (λ a. AreMade view.now (command.Start rider station.now dock) a.changes) }
-    ensures entry { IfOk result (λ a. a.entry ≡ None) }
+    ensures found { IfOk result (FindsAt now view.now (command.Start rider station.now dock)) }
 {
     let docked = match check_start(view, dock) {
         Ok(docked) => docked,
@@ -81,39 +82,61 @@ pub(crate) fn decide_start<'a>(
     };
     let rental = next_number(view.rentals);
     let bike = docked.bike;
+    let dock = dock.get();
+    let at = DockAt {
+        station,
+        dock,
+        is_broken: false,
+    };
+    let was = Standing {
+        state: docked.state,
+        place: NewPlace::Dock { station, dock },
+    };
+    let becomes = Standing {
+        state: docked.state,
+        place: NewPlace::Rental {
+            rental: rental.get(),
+        },
+    };
+    let moved = Moved::AtDock {
+        at,
+        bike: bike.get(),
+        type_id: &docked.type_id,
+        was,
+        becomes,
+    };
     let opened = Change::AddRental {
+        rental: rental.get(),
         rider: rider.get(),
         bike: bike.get(),
         plan: &docked.plan,
         from_station: station,
     };
-    let moved = Change::PlaceBike {
-        bike: bike.get(),
-        place: NewPlace::Rental {
-            rental: rental.get(),
-        },
-    };
     Ok(Accepted {
         reply: Reply::Started { rental, bike },
+        moved: Some(moved),
+        change: Some(opened),
         entry: None,
-        changes: [
-            Some(opened),
-            Some(moved),
-            Some(Change::Report { station }),
-            None,
-        ],
     })
 }
 
+/// A rental that ends, and its bicycle.
+#[derive(Clone, Copy)]
+struct Ending<'a> {
+    bike: &'a Bike,
+    rental: &'a RentalView,
+}
+
 /// The rental that ends with its bicycle in a dock, or the first refusal of its end.
-fn check_end(view: &View, dock: DockNumber) -> Result<&RentalView, Refusal>
+fn check_end(view: &View, dock: DockNumber) -> Result<Ending<'_>, Refusal>
     ensures tests { (bike : ℕ) (station : List ℕ) → refusal_in result ≡ first (tests view.now (command.End bike station dock)) }
-    ensures station { IfOk result (λ r. IsSome view.now.station) }
-    ensures rental { IfOk result (λ r. view.now.rental ≡ Some r.now) }
+    ensures bike { IfOk result (λ e. view.now.bike ≡ Some e.bike.now) }
+    ensures rental { IfOk result (λ e. view.now.rental ≡ Some e.rental.now) }
+    ensures station { IfOk result (λ e. IsSome view.now.station) }
 {
-    if view.bike.is_none() {
+    let Some(bike) = &view.bike else {
         return Err(Refusal::UnknownBike);
-    }
+    };
     let Some(rental) = &view.rental else {
         return Err(Refusal::NotRented);
     };
@@ -132,12 +155,12 @@ fn check_end(view: &View, dock: DockNumber) -> Result<&RentalView, Refusal>
     if view.docked.is_some() {
         return Err(Refusal::DockFull);
     }
-    Ok(rental)
+    Ok(Ending { bike, rental })
 }
 
 /// Decides on the end of a bicycle's rental, at a dock.
 pub(crate) fn decide_end<'a>(
-    view: &View,
+    view: &'a View,
     now: Moment,
     bike: BicycleNumber,
     station: &'a Ident,
@@ -145,31 +168,36 @@ pub(crate) fn decide_end<'a>(
 ) -> Decision<'a>
     requires { IsBounded view.now now }
     ensures decides { DecidesAt now view.now (command.End bike station.now dock) result }
-    ensures made { IfOk result (λ a. AreMade view.now (command.End bike station.now dock) a.changes) }
-    ensures entry { IfOk result (λ a. a.entry ≡ entry_made now view.now (command.End bike station.now dock)) }
+    ensures found { IfOk result (FindsAt now view.now (command.End bike station.now dock)) }
 {
-    let row = match check_end(view, dock) {
-        Ok(row) => row,
+    let ending = match check_end(view, dock) {
+        Ok(ending) => ending,
         Err(refusal) => return Err(refusal),
     };
-    let entry = fare_entry(view.entries, row, now);
-    let closed = closing(row, Some(station), &entry);
-    let moved = Change::PlaceBike {
+    let booked = fare_booked(view.entries, ending.rental, now);
+    let was = standing_of(ending.bike);
+    let dock = dock.get();
+    let becomes = Standing {
+        state: was.state,
+        place: NewPlace::Dock { station, dock },
+    };
+    let at = DockAt {
+        station,
+        dock,
+        is_broken: false,
+    };
+    let moved = Moved::AtDock {
+        at,
         bike: bike.get(),
-        place: NewPlace::Dock {
-            station,
-            dock: dock.get(),
-        },
+        type_id: &ending.bike.type_id,
+        was,
+        becomes,
     };
     Ok(Accepted {
-        reply: ended_reply(&row.balance, &entry),
-        entry: Some(entry),
-        changes: [
-            Some(closed),
-            Some(moved),
-            Some(Change::Report { station }),
-            None,
-        ],
+        reply: ended_reply(&booked),
+        moved: Some(moved),
+        change: Some(closing(ending.rental, Some(station), &booked)),
+        entry: Some(booked),
     })
 }
 
@@ -188,42 +216,58 @@ fn check_recover(view: &View) -> Result<&RentalView, Refusal>
     Ok(row)
 }
 
+/// A recovered bicycle, which is disabled in the depot.
+fn recovered<'a>(number: BicycleNumber, bike: &'a Option<Bike>) -> Option<Moved<'a>>
+    ensures { IsRecovered number bike.now result }
+{
+    match bike {
+        None => None,
+        Some(row) => Some(Moved::Away {
+            bike: number.get(),
+            type_id: &row.type_id,
+            was: standing_of(row),
+            becomes: Standing {
+                state: BikeState::Disabled,
+                place: NewPlace::Depot,
+            },
+        }),
+    }
+}
+
 /// Decides on closing a rental whose bicycle was brought to the depot.
-pub(crate) fn decide_recover<'a>(view: &View, now: Moment, rental: RentalNumber) -> Decision<'a>
+pub(crate) fn decide_recover<'a>(view: &'a View, now: Moment, rental: RentalNumber) -> Decision<'a>
     requires { IsBounded view.now now }
     ensures decides { DecidesAt now view.now (command.Recover rental) result }
-    ensures made { IfOk result (λ a. AreMade view.now (command.Recover rental) a.changes) }
-    ensures entry { IfOk result (λ a. a.entry ≡ entry_made now view.now (command.Recover rental)) }
+    ensures found { IfOk result (FindsAt now view.now (command.Recover rental)) }
 {
     let row = match check_recover(view) {
         Ok(row) => row,
         Err(refusal) => return Err(refusal),
     };
-    let entry = fare_entry(view.entries, row, now);
-    let bike = row.rental.bike.get();
-    let closed = closing(row, None, &entry);
-    let moved = Change::PlaceBike {
-        bike,
-        place: NewPlace::Depot,
-    };
-    let disabled = Change::SetState {
-        bike,
-        state: BikeState::Disabled,
-    };
+    let booked = fare_booked(view.entries, row, now);
     Ok(Accepted {
-        reply: ended_reply(&row.balance, &entry),
-        entry: Some(entry),
-        changes: [Some(closed), Some(moved), Some(disabled), None],
+        reply: ended_reply(&booked),
+        moved: recovered(row.rental.bike, &view.bike),
+        change: Some(closing(row, None, &booked)),
+        entry: Some(booked),
     })
 }
 
-/// The rental of a refund, or the first refusal of it.
-fn check_refund(view: &View, amount: Payment) -> Result<&RentalView, Refusal>
+/// A refund, and what of its rental is refunded with it.
+#[derive(Clone, Copy)]
+struct Refunding<'a> {
+    rental: &'a RentalView,
+    refunded: Cents,
+}
+
+/// The refund, or the first refusal of it.
+fn check_refund(view: &View, amount: Payment) -> Result<Refunding<'_>, Refusal>
     requires { IfSome view.now.rental (λ r. IfSome r.rental.closing (λ c. IsRefundable view.now.entries r c.fare)) }
     ensures tests { (rental : ℕ) → refusal_in result ≡ first (tests view.now (command.Refund rental amount)) }
-    ensures rental { IfOk result (λ r. view.now.rental ≡ Some r.now) }
-    ensures is_closed { IfOk result (λ r. IsSome r.now.rental.closing) }
+    ensures rental { IfOk result (λ r. view.now.rental ≡ Some r.rental.now) }
+    ensures is_closed { IfOk result (λ r. IsSome r.rental.now.rental.closing) }
     ensures room { IfOk result (λ r. view.now.is_ledger_full ≡ false) }
+    ensures refunded { IfOk result (λ r. r.refunded ≡ r.rental.now.refunded +ℤ pos amount) }
 {
     let Some(row) = &view.rental else {
         return Err(Refusal::UnknownRental);
@@ -237,7 +281,10 @@ fn check_refund(view: &View, amount: Payment) -> Result<&RentalView, Refusal>
     if view.is_ledger_full {
         return Err(Refusal::LimitReached);
     }
-    Ok(row)
+    Ok(Refunding {
+        rental: row,
+        refunded: Cents::new(sum_within(&row.refunded, amount, &closing.fare)),
+    })
 }
 
 /// Decides on a refund to the rider of a closed rental.
@@ -249,20 +296,22 @@ pub(crate) fn decide_refund<'a>(
 ) -> Decision<'a>
     requires { IsBounded view.now now }
     ensures decides { DecidesAt now view.now (command.Refund rental amount) result }
-    ensures made { IfOk result (λ a. AreMade view.now (command.Refund rental amount) a.changes) }
-    ensures entry { IfOk result (λ a. a.entry ≡ entry_made now view.now (command.Refund rental amount)) }
+    ensures found { IfOk result (FindsAt now view.now (command.Refund rental amount)) }
 {
-    let row = match check_refund(view, amount) {
-        Ok(row) => row,
+    let refunding = match check_refund(view, amount) {
+        Ok(refunding) => refunding,
         Err(refusal) => return Err(refusal),
     };
+    let row = refunding.rental;
     let Some(number) = next_entry(view.entries) else {
         return Err(Refusal::LimitReached);
     };
     let entry = Entry::refund(number, row.rental.rider, row.number, amount, now);
+    let booked = booked(&row.balance, entry, Some(refunding.refunded));
     Ok(Accepted {
-        reply: balance_reply(&row.balance, &entry),
-        entry: Some(entry),
-        changes: [None, None, None, None],
+        reply: balance_reply(&booked),
+        moved: None,
+        change: None,
+        entry: Some(booked),
     })
 }

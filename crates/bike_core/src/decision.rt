@@ -1,9 +1,9 @@
 //! The decision on a command: refused, or what is answered and changed.
 
-ghost use Rattle.std.specs.Prelude.{◌≡◌, IfOk};
-ghost use Rattle.bike_operator.specs.Changes.{DecidesAt};
+ghost use Rattle.std.specs.Prelude.{IfOk};
+ghost use Rattle.bike_accepted.specs.Effects.{DecidesAt};
+ghost use Rattle.bike_accepted.specs.Found.{FindsAt};
 ghost use Rattle.bike_operator.specs.Bounds.{IsBounded};
-ghost use Rattle.bike_core.specs.Made.{AreMade, entry_made};
 
 use crate::decide_bikes::{decide_add_bike, decide_mark_bike, decide_retire_bike};
 use crate::decide_catalogue::{
@@ -17,9 +17,10 @@ use crate::decide_orders::{
 use crate::decide_regions::{decide_add_region, decide_set_region};
 use crate::decide_rentals::{decide_end, decide_recover, decide_refund, decide_start};
 use crate::decide_riders::{decide_add_rider, decide_set_rider, decide_top_up};
+use bike_accepted::Decision;
 use bike_commands::Command;
 use bike_fixed::Moment;
-use bike_operator::{Decision, View};
+use bike_operator::View;
 
 /// Decides on a command, without memory: by the first-refusal rule the first refusal that holds, or else the reply and the
 /// changes that make its effect. The view is the operator's for the command, and `now` is by the now rule the greater of the
@@ -27,8 +28,7 @@ use bike_operator::{Decision, View};
 pub fn decide<'a>(view: &'a View, now: Moment, command: &'a Command) -> Decision<'a>
     requires { IsBounded view.now now }
     ensures decides { DecidesAt now view.now command.now result }
-    ensures made { IfOk result (λ a. AreMade view.now command.now a.changes) }
-    ensures entry { IfOk result (λ a. a.entry ≡ entry_made now view.now command.now) }
+    ensures found { IfOk result (FindsAt now view.now command.now) }
 {
     match command {
         Command::SetSystem(system) => decide_set_system(view, system),

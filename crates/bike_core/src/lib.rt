@@ -1,10 +1,10 @@
-//! Decisions on the commands of a bike share's operator.
+//! Decisions on the commands of a bike share's operator, each with what was found for it.
 //!
-//! `decide` answers, on the view of an operator, exactly the first refusal that holds, or else the reply
-//! and the changes that make the effect. It takes no memory.
+//! `decide` answers, on the view of an operator, exactly the first refusal that holds, or else the reply and what makes the
+//! effect. It takes no memory.
 //!
 //! What a caller names stands here too: commands, requests, replies and refusals, a command's text and its readers, the
-//! view of an operator and the changes of a decision.
+//! view of an operator and what an accepted command makes.
 #![tactic(auto)]
 
 mod booking;
@@ -19,8 +19,9 @@ mod decide_riders;
 mod decision;
 mod places;
 
+pub use bike_accepted::{Accepted, Change, Decision, Moved};
 pub use bike_commands::{Command, Refusal, Reply, Request};
-pub use bike_operator::{Accepted, Change, Decision, View};
+pub use bike_operator::View;
 pub use bike_requests::{command_text, read_command, read_line};
 pub use bounds::is_bounded;
 pub use decision::decide;

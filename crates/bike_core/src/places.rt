@@ -1,26 +1,16 @@
-//! What a bicycle is good for and where it is, as tests.
+//! What a bicycle is good for and where it is.
 
-ghost use Rattle.std.specs.Prelude.{◌≡◌, ◌&&◌, ℕ, None, ◌∷◌, []};
-ghost use Rattle.bike_operator.specs.Operator.{Operator};
+ghost use Rattle.std.specs.Prelude.{◌≡◌, ◌&&◌};
 ghost use Rattle.bike_operator.specs.Counts.{is_fit, is_retired, is_depot, is_on_truck, is_for_order};
 ghost use Rattle.bike_operator.specs.View.{end_at};
-ghost use Rattle.bike_operator.specs.Steps.{place_reported, is_same_end, is_at_end, ends_apart};
-ghost use Rattle.bike_operator.specs.Changes.{with_changes, present};
-ghost use Rattle.bike_core.specs.Made.{IsReportAt};
+ghost use Rattle.bike_operator.specs.Steps.{is_same_end, is_at_end, ends_apart};
+ghost use Rattle.bike_operator.specs.Changes.{place_of};
+ghost use Rattle.bike_core.specs.Moves.{put_from, IsHeldShown, IsPutAtEnd};
 
-use bike_fields::{OrderNumber, TruckNumber};
-use bike_operator::{BikeState, Change, Order, Place, StationView};
+use bike_accepted::{DockAt, Held, Moved, Standing};
+use bike_fields::{Ident, OrderNumber, TruckNumber};
+use bike_operator::{Bike, BikeState, DockedBike, NewPlace, Order, Place, StationView};
 use bike_texts::{OrderEnd, Side, UnloadDock};
-
-/// Whether a bicycle can be rented.
-pub(crate) fn is_fit(state: BikeState) -> bool
-    ensures { result ≡ is_fit state }
-{
-    match state {
-        BikeState::Fit => true,
-        BikeState::Disabled | BikeState::Retired => false,
-    }
-}
 
 /// Whether a bicycle stays in the depot for good.
 pub(crate) fn is_retired(state: BikeState) -> bool
@@ -42,14 +32,91 @@ pub(crate) fn is_depot(place: &Place) -> bool
     }
 }
 
-/// The report, by the report rule, of the station at which a place is.
-pub(crate) fn report_of<'a>(place: &'a Place) -> Option<Change<'a>>
-    ensures report { IsReportAt place.now result }
-    ensures reports { (s : Operator) (now : ℕ) → with_changes now (present (result ∷ None ∷ None ∷ [])) s ≡ place_reported place.now now s }
+/// Whether a place lies at an end: in a dock of the station, or in the depot.
+pub(crate) fn is_at_end(end: &OrderEnd, place: &Place) -> bool
+    ensures { result ≡ is_at_end end.now place.now }
+{
+    match end {
+        OrderEnd::Depot => is_depot(place),
+        OrderEnd::Station(end) => match place {
+            Place::Dock { station, .. } => station.as_str() == end.as_str(),
+            Place::Rental { .. } | Place::Truck { .. } | Place::Depot => false,
+        },
+    }
+}
+
+/// Where a bicycle is, as a change tells it.
+fn place_in<'a>(place: &'a Place) -> NewPlace<'a>
+    ensures { place_of result ≡ place.now }
 {
     match place {
-        Place::Dock { station, .. } => Some(Change::Report { station }),
-        Place::Rental { .. } | Place::Truck { .. } | Place::Depot => None,
+        Place::Dock { station, dock } => NewPlace::Dock {
+            station,
+            dock: dock.get(),
+        },
+        Place::Rental { rental } => NewPlace::Rental {
+            rental: rental.get(),
+        },
+        Place::Truck { truck, order } => NewPlace::Truck {
+            truck: truck.get(),
+            order: order.get(),
+        },
+        Place::Depot => NewPlace::Depot,
+    }
+}
+
+/// How a bicycle stands.
+pub(crate) fn standing_of<'a>(bike: &'a Bike) -> Standing<'a>
+    ensures state { result.state ≡ bike.now.state }
+    ensures place { place_of result.place ≡ bike.now.place }
+{
+    Standing {
+        state: bike.state,
+        place: place_in(&bike.place),
+    }
+}
+
+/// A bicycle put from where it stands, in no dock but that. A dock in which it stands has this mark.
+pub(crate) fn put_from<'a>(
+    bike: u32,
+    type_id: &'a Ident,
+    was: Standing<'a>,
+    becomes: Standing<'a>,
+    is_broken: bool,
+) -> Moved<'a>
+    ensures { result ≡ put_from was.entry.place bike type_id.entry was.entry becomes.entry is_broken }
+{
+    match was.place {
+        NewPlace::Dock { station, dock } => {
+            let at = DockAt {
+                station,
+                dock,
+                is_broken,
+            };
+            Moved::AtDock {
+                at,
+                bike,
+                type_id,
+                was,
+                becomes,
+            }
+        }
+        NewPlace::Rental { .. } | NewPlace::Truck { .. } | NewPlace::Depot => Moved::Away {
+            bike,
+            type_id,
+            was,
+            becomes,
+        },
+    }
+}
+
+/// Whether a bicycle can be rented.
+pub(crate) fn is_fit(state: BikeState) -> bool
+    ensures { result ≡ is_fit state }
+{
+    match state {
+        BikeState::Fit => true,
+        BikeState::Disabled | BikeState::Retired => false,
     }
 }
 
@@ -61,19 +128,6 @@ pub(crate) fn is_same_end(one: &OrderEnd, other: &OrderEnd) -> bool
         (OrderEnd::Depot, OrderEnd::Depot) => true,
         (OrderEnd::Station(one), OrderEnd::Station(other)) => one.as_str() == other.as_str(),
         _ => false,
-    }
-}
-
-/// Whether a place lies at an end: in a dock of the station, or in the depot.
-pub(crate) fn is_at_end(end: &OrderEnd, place: &Place) -> bool
-    ensures { result ≡ is_at_end end.now place.now }
-{
-    match end {
-        OrderEnd::Depot => is_depot(place),
-        OrderEnd::Station(end) => match place {
-            Place::Dock { station, .. } => station.as_str() == end.as_str(),
-            Place::Rental { .. } | Place::Truck { .. } | Place::Depot => false,
-        },
     }
 }
 
@@ -109,5 +163,61 @@ pub(crate) fn ends_apart(end: &OrderEnd, station: &Option<StationView>, dock: Un
         (OrderEnd::Depot, _) => dock > 0,
         (OrderEnd::Station(_), None) => dock == 0,
         (OrderEnd::Station(_), Some(row)) => dock == 0 || row.docks.get() < dock,
+    }
+}
+
+/// The bicycle in a dock, as a mark of the dock has it.
+pub(crate) fn held_in<'a>(docked: &'a Option<DockedBike>) -> Option<Held<'a>>
+    ensures { IsHeldShown docked.now result }
+{
+    match docked {
+        None => None,
+        Some(row) => Some(Held {
+            bike: row.bike.get(),
+            type_id: &row.type_id,
+            state: row.state,
+        }),
+    }
+}
+
+/// A bicycle put at an end of an order: in the depot, or in an empty dock that works.
+pub(crate) fn put_at_end<'a>(
+    bike: u32,
+    type_id: &'a Ident,
+    was: Standing<'a>,
+    end: &'a OrderEnd,
+    dock: UnloadDock,
+) -> Moved<'a>
+    ensures { IsPutAtEnd end.now bike type_id.entry was.entry dock result }
+{
+    let state = was.state;
+    match end {
+        OrderEnd::Depot => Moved::Away {
+            bike,
+            type_id,
+            was,
+            becomes: Standing {
+                state,
+                place: NewPlace::Depot,
+            },
+        },
+        OrderEnd::Station(station) => {
+            let dock = dock.get();
+            let at = DockAt {
+                station,
+                dock,
+                is_broken: false,
+            };
+            Moved::AtDock {
+                at,
+                bike,
+                type_id,
+                was,
+                becomes: Standing {
+                    state,
+                    place: NewPlace::Dock { station, dock },
+                },
+            }
+        }
     }
 }

@@ -1,7 +1,7 @@
 -- What stays kept over calls, and what a transaction leaves.
 use Rattle.std.proofs.Common.{Bool, ◌||◌, not, ◌≡◌, inl, inr, ℕ, ◌≤◌, true, false, IsTrue, List, take, length, codes, Result, Ok, Err, refl, sym, ap, ◌∙◌, subst, arith, Option, Some, None}
 use Rattle.std.specs.Prelude.{OnErr, is_none}
-use Rattle.std.proofs.lemmas.Bool.{and_parts}
+use Rattle.std.proofs.lemmas.Bool.{and_parts, both_ways}
 use Rattle.std.proofs.lemmas.List.{take_all}
 use Rattle.sqlite_trees.specs.Tree.{Trees}
 use Rattle.sqlite_trees.specs.declared.store.Store.{Ghosts}
@@ -20,7 +20,7 @@ use Rattle.bike_book.specs.Writes.{writes_of, tables_after_all}
 use Rattle.bike_schema.specs.Tables.{is_parent, is_unused, HasTables, HasNone, IsOurs}
 use Rattle.bike_schema.specs.Makes.{Makes, Puts}
 use Rattle.bike_schema.specs.Stands.{Stores, IsOf, StandsFor, TreesStandFor, AllLeft, Keeps}
-use Rattle.bike_desk.specs.Desk.{TreesStandForEither}
+use Rattle.bike_desk.specs.Desk.{nothing_remembered, IsRemembered, TreesStandForEither}
 use Rattle.bike_desk.specs.Serving.{IsNextBy}
 
 -- an open store recovers what it committed last
@@ -128,6 +128,10 @@ module _ {S : Type 0} (g : Ghosts S) (old end : Held S) (changes : List RowChang
     | inl before ↦ inl (it.keeps.left db before)
     | inr made ↦ inr (stands_in made.0 db next (next_stands made.0 made.1) made.2)
   ]
+
+-- of nothing that is remembered anything is so
+pub nothing_told : (s : Operator) → IsRemembered s nothing_remembered
+nothing_told s = record { newest = λ told. absurd (both_ways false refl told); figures = tt }
 
 -- a stop is the flag or an open transaction
 pub still_going : (stopped before after : Bool) → (stopped || before) ≡ false → after ≡ false → (stopped || after) ≡ false

@@ -1,5 +1,5 @@
 -- What a query owes, from what its one read tells.
-use Rattle.std.proofs.Common.{◌≡◌, Bool, ◌||◌, true, false, IsTrue, Result, Ok, Err, refl, sym, subst, ◌∙◌, arith}
+use Rattle.std.proofs.Common.{◌≡◌, Bool, ◌||◌, true, false, IsTrue, Option, Result, Ok, Err, refl, sym, subst, ◌∙◌, arith}
 use Rattle.sqlite_trees.specs.declared.store.Store.{Ghosts}
 use Rattle.sqlite.specs.Held.{Held, state}
 use Rattle.bike_operator.specs.Operator.{Operator}
@@ -8,6 +8,7 @@ use Rattle.bike_schema.specs.Answers.{Answers}
 use Rattle.bike_schema.specs.declared.fault.StatementFault.{StatementFault}
 use Rattle.bike_schema.proofs.AnswerLemmas.{reads_weaker}
 use Rattle.bike_accounts.specs.Newest.{NewestTells}
+use Rattle.bike_booking.specs.declared.figures.Figures.{Figures}
 use Rattle.bike_desk.specs.declared.fault.DeskFault.{DeskFault}
 use Rattle.bike_desk.specs.declared.fault.DeskFault.TheVariants.{NoMemory, StoreFailed, Stopped}
 use Rattle.sqlite.specs.State.{HasCleanDisk}
@@ -52,28 +53,28 @@ module _ {S : Type 0} (g : Ghosts S) (desk : DeskValue S) {A : Type 0} (says : O
   }
 
 -- one read
-module _ {S : Type 0} (g : Ghosts S) (conn next : Held S) (stopped : Bool) (newest : Newest) {A : Type 0} (says : Operator → A → Type 0) (going : (stopped || conn.in_transaction) ≡ false) where
+module _ {S : Type 0} (g : Ghosts S) (conn next : Held S) (stopped : Bool) (newest : Newest) (figures : Option Figures) {A : Type 0} (says : Operator → A → Type 0) (going : (stopped || conn.in_transaction) ≡ false) where
   abbrev pub before : DeskValue S
-  before = record { conn = conn; is_stopped = stopped || conn.in_transaction; newest_tells = knows_newest newest }
+  before = record { conn = conn; is_stopped = stopped || conn.in_transaction; remembered = record { newest_tells = knows_newest newest; figures = figures } }
 
   abbrev pub after : DeskValue S
-  after = record { conn = next; is_stopped = stopped || next.in_transaction; newest_tells = knows_newest newest }
+  after = record { conn = next; is_stopped = stopped || next.in_transaction; remembered = record { newest_tells = knows_newest newest; figures = figures } }
 
   -- what the desk becomes where it learns this of newest rentals
   abbrev pub after_learning : Newest → DeskValue S
-  after_learning later = record { conn = next; is_stopped = stopped || next.in_transaction; newest_tells = knows_newest later }
+  after_learning later = record { conn = next; is_stopped = stopped || next.in_transaction; remembered = record { newest_tells = knows_newest later; figures = figures } }
 
   learnt : (later : Newest) (x : A) → Answers g conn next {E = StatementFault} (Ok x) (λ s m y. (IsTrue (knows_newest newest) → NewestTells s) → (IsTrue (knows_newest later) → NewestTells s) × says s y)
       → Queries g before (after_learning later) (Ok x) says
   learnt later x reads = record {
     clean = reads.quiet.survives.clean;
     ok = λ clean s at.
-        let told = reads.found clean (kept_ours (state g conn) s at.keeps) s (kept_stores (state g conn) s at.keeps) at.newest in (
+        let told = reads.found clean (kept_ours (state g conn) s at.keeps) s (kept_stores (state g conn) s at.keeps) at.remembers.newest in (
           told.1,
           record {
             goes_on = still_going stopped conn.in_transaction next.in_transaction at.goes_on (reads.quiet.mode at.keeps.autocommit);
             keeps = still g conn next s at.keeps clean (reads.same clean (kept_ours (state g conn) s at.keeps)) reads.quiet;
-            newest = told.0;
+            remembers = record { newest = told.0; figures = at.remembers.figures };
           },
         );
     goes_on = going_stays stopped conn.in_transaction next.in_transaction going reads.quiet.mode;

@@ -1,6 +1,6 @@
 -- One step, as serving takes it.
 use Rattle.std.proofs.Common.{◌≡◌, ℕ, ◌≤◌, List, cond, Option, Some, None, Ok, Err, sym, ap, ap₂, ◌∙◌, subst}
-use Rattle.std.specs.Prelude.{max, string_bytes}
+use Rattle.std.specs.Prelude.{IfSome, max, string_bytes}
 use Rattle.std.specs.Str.{bytes_eq}
 use Rattle.std.specs.FinMap as map
 use Rattle.sqlite.specs.State.{State}
@@ -12,14 +12,10 @@ use Rattle.bike_commands.specs.declared.refusal.Refusal.{Refusal}
 use Rattle.bike_commands.specs.declared.refusal.Refusal.TheVariants as refusal
 use Rattle.bike_commands.specs.Commands.{text_of}
 use Rattle.bike_commands.specs.Requests.{IsRequest}
-use Rattle.bike_ledger.specs.Entries.{Entry}
-use Rattle.bike_operator.specs.declared.change.Accepted.{Accepted}
-use Rattle.bike_operator.specs.declared.change.Change.{Change}
 use Rattle.bike_operator.specs.declared.view.View.{View}
 use Rattle.bike_operator.specs.Operator.{Operator, Kept}
 use Rattle.bike_operator.specs.Sound.{IsSound}
 use Rattle.bike_operator.specs.Steps.{refusal_of, reply_of}
-use Rattle.bike_operator.specs.Changes.{Decides}
 use Rattle.bike_operator.specs.Runs.{step, outcome_with_kept, outcome, after_acceptance, key_in}
 use Rattle.bike_laws.proofs.OrderLemmas.{step_sound}
 use Rattle.bike_book.specs.declared.row_change.RowChange.{RowChange}
@@ -27,13 +23,18 @@ use Rattle.bike_book.specs.Stored.{Listed, IsListing}
 use Rattle.bike_schema.specs.Tables.{tables_of}
 use Rattle.bike_schema.specs.Stands.{Stores, Keeps}
 use Rattle.bike_accounts.specs.declared.kept.KeptRow.{KeptRow}
-use Rattle.bike_accounts.specs.declared.meta.MetaRow.{MetaRow}
-use Rattle.bike_accounts.specs.Accounts.{KeepsSame, meta_of}
-use Rattle.bike_facts.specs.declared.stored.StoredNumbers.{StoredNumbers}
-use Rattle.bike_facts.specs.declared.touched.Touched.{Touched}
+use Rattle.bike_accounts.specs.Accounts.{KeepsSame}
+use Rattle.bike_accepted.specs.declared.accepted.Accepted.{Accepted}
+use Rattle.bike_accepted.specs.Effects.{Decides}
+use Rattle.bike_accepted.specs.Found.{AreFound}
+use Rattle.bike_booking.specs.declared.stored.Stored.{Stored}
+use Rattle.bike_booking.specs.declared.stored.Sums.{Sums}
 use Rattle.bike_booking.specs.declared.texts.KeptTexts.{KeptTexts}
-use Rattle.bike_booking.specs.Booking.{AreSums, IsAccepted, AreTexts, Books}
-use Rattle.bike_facts.specs.Touched.{IsTouched, AreOfTouched}
+use Rattle.bike_booking.specs.Stored.{IsMovedStored}
+use Rattle.bike_booking.specs.declared.figures.Figures.{Figures}
+use Rattle.bike_booking.specs.Figures.{figures_of, figures_after, FiguresFollow}
+use Rattle.bike_booking.specs.Sums.{sums_after}
+use Rattle.bike_booking.specs.Booking.{IsAccepted, AreTexts, Books}
 use Rattle.bike_desk.specs.Serving.{IsNextBy, IsReadFor, Accepts}
 
 module _ (s : Operator) (t : ℕ) (q : Request) where
@@ -62,30 +63,37 @@ module _ (s : Operator) (t : ℕ) (q : Request) where
     pub accepted_sound : t ≤ last_moment → IsRequest q → IsSound s → refusal_of s q.command ≡ None → IsSound (after_acceptance s now q)
     accepted_sound moment good order free = subst (λ (p : Reply × Operator). IsSound p.1) (step_accepted free) (step_sound s t q moment good order)
 
--- the sums that were read are those of the entries
-pub sums_are : (s : Operator) (meta : MetaRow) → meta ≡ meta_of s → AreSums s (record { cash = meta.cash; revenue = meta.revenue })
-sums_are s meta is = (ap (λ (m : MetaRow). m.cash) is, ap (λ (m : MetaRow). m.revenue) is)
-
 -- what is booked leads on, from the same rows after a read
 pub booked_next : (old new : State) (s : Operator) (now : ℕ) (q : Request) (h : Stores old.now s) (rows : List RowChange) → new.now ≡ old.now → Keeps new s → IsSound (after_acceptance s now q) → Books rows s h.listed now q → IsNextBy new rows s (after_acceptance s now q)
 booked_next old new s now q h rows same keeps sound books =
     let again : Stores new.now s = record { has = keeps.tables; sound = h.sound; listed = h.listed; listing = h.listing; tables = ap tables_of same ∙ h.tables } in
     record { keeps = keeps; stores = again; listed = books.listed; leads = books.leads; sound = sound }
 
-pub accepts_reads : (s : Operator) (m : Listed) (now : ℕ) (q : Request) (meta : MetaRow) (view : View) (entry : Option Entry) (changes : List (Option Change)) (texts : KeptTexts) (touched : Option Touched) (n : StoredNumbers)
-    → IsSound s → IsListing s m → (it : Accepts s now q meta view entry changes texts) → IsTouched s q.command touched → AreOfTouched s m q.command touched n
-    → IsAccepted s m now q view touched n (record { reply = it.reply; entry = entry; changes = changes })
-accepts_reads s m now q meta view entry changes texts touched n sound listing it touches stored =
-    record { sound = sound; listing = listing; view_is = it.view_is; touches = touches; stored = stored; decides = it.decides; sound_after = it.sound_after }
+-- an acceptance of which is known what is stored
+pub accepts_stored : (s : Operator) (m : Listed) (now : ℕ) (q : Request) (a : Accepted) (sums : Sums) (texts : KeptTexts) (n : Stored)
+    → IsSound s → IsListing s m → Accepts s now q a sums texts → IfSome a.moved (IsMovedStored s m n) → n.sums ≡ sums → IsAccepted s m now q a n texts
+accepts_stored s m now q a sums texts n sound listing it moved is = record {
+  sound = sound;
+  listing = listing;
+  decides = it.decides;
+  found = it.found;
+  stored = record { moved = moved; sums = is ∙ it.sums_are };
+  texts_are = it.texts_are;
+  sound_after = it.sound_after;
+}
 
 -- the operator accepts a request by the decision on what was read for it
-pub accepts_read : (s : Operator) (t now : ℕ) (q : Request) (meta : MetaRow) (view : View) (a : Accepted) (texts : KeptTexts) → IsSound s → IsReadFor s t now q meta view → IsRequest q
-    → Decides s now q.command (Ok a) → AreTexts s now q texts → Accepts s now q meta view a.entry a.changes texts
-accepts_read s t now q meta view a texts sound it good decides told = record {
-  meta_is = it.meta_is;
-  view_is = it.view_is;
-  reply = a.reply;
+pub accepts_read : (s : Operator) (t now : ℕ) (q : Request) (figures : Figures) (view : View) (a : Accepted) (later : Figures) (texts : KeptTexts) → IsSound s → IsReadFor s t now q figures view → IsRequest q
+    → Decides s now q.command (Ok a) → AreFound now s a → later ≡ figures_after figures now a → AreTexts s now q texts → Accepts s now q a later.sums texts
+accepts_read s t now q figures view a later texts sound it good decides found after told = record {
   decides = decides;
+  found = found;
+  sums_are = ap (λ (f : Figures). f.sums) after ∙ ap (λ (f : Figures). sums_after f.sums a.entry) it.figures_are;
   sound_after = accepted_sound s t q now it.later it.anew it.in_time good sound decides.0;
   texts_are = told;
 }
+
+-- and the figures after it are his
+pub figures_read : (s : Operator) (now : ℕ) (q : Request) (a : Accepted) {figures later : Figures} → FiguresFollow → figures ≡ figures_of s → Decides s now q.command (Ok a) → AreFound now s a → later ≡ figures_after figures now a
+    → later ≡ figures_of (after_acceptance s now q)
+figures_read s now q a follow are decides found after = after ∙ ap (λ (f : Figures). figures_after f now a) are ∙ follow s now q a decides found

@@ -1,26 +1,38 @@
 -- What serving one request rests on.
-use Rattle.std.specs.Prelude.{◌≡◌, ◌≤◌, ℕ, max, List, Option, None, Ok}
+use Rattle.std.specs.Prelude.{◌≡◌, ◌≤◌, ℕ, max, List, None, Ok}
 use Rattle.std.specs.FinMap as map
 use Rattle.sqlite.specs.State.{State}
 use Rattle.bike_fixed.specs.Whole.{last_moment}
-use Rattle.bike_ledger.specs.Entries.{Entry}
+use Rattle.bike_fields.specs.Caller.{caller_text}
 use Rattle.bike_commands.specs.declared.reply.Reply.{Reply}
 use Rattle.bike_commands.specs.declared.request.Request.{Request}
-use Rattle.bike_operator.specs.declared.change.Change.{Change}
+use Rattle.bike_commands.specs.Commands.{text_of}
 use Rattle.bike_operator.specs.declared.view.View.{View}
 use Rattle.bike_operator.specs.Operator.{Operator}
 use Rattle.bike_operator.specs.View.{view_of}
-use Rattle.bike_operator.specs.Changes.{Decides}
 use Rattle.bike_operator.specs.Runs.{key_in, after_acceptance}
 use Rattle.bike_operator.specs.Sound.{IsSound}
+use Rattle.bike_accepted.specs.declared.accepted.Accepted.{Accepted}
+use Rattle.bike_accepted.specs.Effects.{Decides}
+use Rattle.bike_accepted.specs.Found.{AreFound}
 use Rattle.bike_book.specs.declared.row_change.RowChange.{RowChange}
 use Rattle.bike_book.specs.Stored.{Listed}
 use Rattle.bike_book.specs.Leads.{LeadsTo}
 use Rattle.bike_schema.specs.Stands.{Stores, Keeps}
 use Rattle.bike_booking.specs.declared.texts.KeptTexts.{KeptTexts}
+use Rattle.bike_booking.specs.declared.figures.Figures.{Figures}
+use Rattle.bike_booking.specs.declared.stored.Sums.{Sums}
 use Rattle.bike_booking.specs.Booking.{AreTexts}
-use Rattle.bike_accounts.specs.declared.meta.MetaRow.{MetaRow}
-use Rattle.bike_accounts.specs.Accounts.{meta_of}
+use Rattle.bike_booking.specs.Figures.{figures_of}
+use Rattle.bike_booking.specs.Sums.{sums_of, sums_after}
+use Rattle.bike_desk.specs.declared.serve.Asked.{Asked}
+use Rattle.bike_desk.specs.declared.serve.Served.{Served}
+use Rattle.bike_desk.specs.Desk.{AreFigures}
+
+-- the texts are those of the request's caller and command
+pub record IsAsked (asked : Asked) : Type 0 where
+  pub caller : asked.caller.now ≡ caller_text asked.request.now.caller
+  pub text : asked.text.now ≡ text_of asked.request.now.command
 
 -- The connection keeps the operator, and the row changes lead from his tables to those of the next one, who is sound.
 pub record IsNextBy (c : State) (changes : List RowChange) (s next : Operator) : Type 0 where
@@ -31,18 +43,23 @@ pub record IsNextBy (c : State) (changes : List RowChange) (s next : Operator) :
   pub sound : IsSound next
 
 -- What was read for a request that comes at a moment: its key isn't kept, the figures and the view are the operator's, and `now` is the later of both moments.
-pub record IsReadFor (s : Operator) (moment now : ℕ) (q : Request) (meta : MetaRow) (view : View) : Type 0 where
+pub record IsReadFor (s : Operator) (moment now : ℕ) (q : Request) (figures : Figures) (view : View) : Type 0 where
   pub in_time : moment ≤ last_moment
   pub later : now ≡ max moment s.now
   pub anew : map.get s.kept (key_in q) ≡ None
-  pub meta_is : meta ≡ meta_of s
+  pub figures_are : figures ≡ figures_of s
   pub view_is : view ≡ view_of s q.command
 
--- What was read is the operator's, who accepts the request with this entry and these changes, and then is sound; the texts are those of both.
-pub record Accepts (s : Operator) (now : ℕ) (q : Request) (meta : MetaRow) (view : View) (entry : Option Entry) (changes : List (Option Change)) (texts : KeptTexts) : Type 0 where
-  pub meta_is : meta ≡ meta_of s
-  pub view_is : view ≡ view_of s q.command
-  pub reply : Reply
-  pub decides : Decides s now q.command (Ok (record { reply = reply; entry = entry; changes = changes }))
+-- The operator accepts the request so, and then is sound; the records before are his, the sums those with its entry, and the texts those of both.
+pub record Accepts (s : Operator) (now : ℕ) (q : Request) (a : Accepted) (sums : Sums) (texts : KeptTexts) : Type 0 where
+  pub decides : Decides s now q.command (Ok a)
+  pub found : AreFound now s a
+  pub sums_are : sums ≡ sums_after (sums_of s) a.entry
   pub sound_after : IsSound (after_acceptance s now q)
   pub texts_are : AreTexts s now q texts
+
+-- What is told is the step's reply; the connection keeps the operator after it, whose figures these are.
+pub record Serves (c : State) (next : Reply × Operator) (served : Served) : Type 0 where
+  pub reply : served.reply ≡ next.0
+  pub keeps : Keeps c next.1
+  pub figures : AreFigures served.figures next.1

@@ -7,12 +7,13 @@ ghost use Rattle.bike_operator.specs.Operator.{Operator};
 ghost use Rattle.bike_operator.specs.Runs.{step};
 ghost use Rattle.bike_schema.specs.Makes.{OthersStay};
 ghost use Rattle.bike_schema.specs.Stands.{AllLeft};
-ghost use Rattle.bike_desk.specs.Desk.{desk_state, IsAt, TreesStandForEither};
+ghost use Rattle.bike_desk.specs.Desk.{desk_over, desk_state, IsAt, TreesStandForEither};
 
 use crate::fault::DeskFault;
 use crate::newest::{Newest, know_newest};
+use crate::remembered::Remembered;
 use crate::serve::serve;
-use bike_booking::MOST_ROW_CHANGES;
+use bike_booking::{Figures, MOST_ROW_CHANGES};
 use bike_commands::{Reply, Request};
 use bike_fixed::Moment;
 use bike_requests::command_text;
@@ -26,6 +27,7 @@ pub struct Desk<S: Alter> {
     pub(crate) conn: Connection<S>,
     pub(crate) stopped: bool,
     pub(crate) newest: Newest,
+    pub(crate) figures: Option<Figures>,
 }
 
 impl<S: Alter> Model for Desk<S> {
@@ -38,19 +40,20 @@ impl<S: Alter> Model for Desk<S> {
     ghost coded = { desk_code S.code };
 
     // An open transaction counts as a stop.
-    ghost view = { λ d. record { conn = d.conn; is_stopped = d.stopped || d.conn.in_transaction; newest_tells = knows_newest d.newest } };
+    ghost view = { λ d. record { conn = d.conn; is_stopped = d.stopped || d.conn.in_transaction; remembered = record { newest_tells = knows_newest d.newest; figures = d.figures } } };
 }
 
 impl<S: Alter> Desk<S> {
     /// A desk over a connection, whatever its database holds. One that begins at an operator is made by an adoption,
     /// which audits the tables first.
     pub fn over(conn: Connection<S>) -> Desk<S>
-        ensures { result ≡ record { conn = conn; is_stopped = conn.in_transaction; newest_tells = false } }
+        ensures { result ≡ desk_over conn }
     {
         Desk {
             conn,
             stopped: false,
             newest: Newest::Unknown,
+            figures: None,
         }
     }
 
@@ -110,6 +113,10 @@ impl<S: Alter> Desk<S> {
             return Err(DeskFault::StoreFailed);
         };
         self.newest = newest;
+        let remembered = Remembered {
+            newest_tells: newest.tells(),
+            figures: self.figures,
+        };
         let text = text.as_str();
         match serve(
             alloc,
@@ -118,9 +125,12 @@ impl<S: Alter> Desk<S> {
             request,
             text,
             room,
-            newest.tells(),
+            &remembered,
         ) {
-            Ok(reply) => Ok(reply),
+            Ok(served) => {
+                self.figures = served.figures;
+                Ok(served.reply)
+            }
             Err(_) => {
                 self.stopped = true;
                 Err(DeskFault::StoreFailed)

@@ -9,6 +9,7 @@ mod desk;
 mod fault;
 mod newest;
 mod queries;
+mod remembered;
 mod run;
 mod serve;
 mod transaction;

@@ -8,6 +8,7 @@ use Rattle.sqlite.proofs.StateLemmas.{unchanged}
 use Rattle.bike_rows.specs.Calls.{IsQuiet, ReadsWhere}
 use Rattle.bike_rows.proofs.ChainLaws.{quiet_then, reads_both}
 use Rattle.bike_operator.specs.Operator.{Operator}
+use Rattle.bike_operator.specs.Sound.{IsSound}
 use Rattle.bike_book.specs.Stored.{Listed}
 use Rattle.bike_schema.specs.Tables.{IsOurs}
 use Rattle.bike_schema.specs.Answers.{OfEach, Answers}
@@ -33,6 +34,13 @@ module _ {S : Type 0} {g : Ghosts S} where
   pub open_none : {A E : Type 0} {h : Held S} {x : A} (says : Operator → Listed → A → Type 0) → ((s : Operator) (m : Listed) → says s m x) → AnswersOpen g h h {E = E} (Ok x) says
   open_none {h = h} says fact = record {
     answers = λ is_open. record { found = λ clean has s stores. fact s stores.listed; same = λ clean has. unchanged (state g h) is_open; failed = λ clean has. tt; quiet = quiet_same g IsOurs h };
+    quiet = quiet_same g IsOurs h;
+  }
+
+  -- the same of every sound operator
+  pub open_sound : {A E : Type 0} {h : Held S} {x : A} (says : Operator → Listed → A → Type 0) → ((s : Operator) (m : Listed) → IsSound s → says s m x) → AnswersOpen g h h {E = E} (Ok x) says
+  open_sound {h = h} says fact = record {
+    answers = λ is_open. record { found = λ clean has s stores. fact s stores.listed stores.sound; same = λ clean has. unchanged (state g h) is_open; failed = λ clean has. tt; quiet = quiet_same g IsOurs h };
     quiet = quiet_same g IsOurs h;
   }
 

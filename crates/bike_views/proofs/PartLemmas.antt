@@ -1,22 +1,25 @@
 -- Parts of a view, from the records that were read.
 use Rattle.std.proofs.Common.{◌≡◌, ℕ, ℤ, List, Option, Some, None, refl, sym, ap, ◌∙◌}
-use Rattle.std.specs.Prelude.{option_map, is_some, unwrap_or, true, IfSome}
+use Rattle.std.specs.Prelude.{option_map, is_some, Bool}
+use Rattle.std.specs.FinMap as map
 use Rattle.bike_catalogue.specs.Rows.{PlanRow, TypeRow}
 use Rattle.bike_ledger.specs.Entries.{Entry}
 use Rattle.bike_ledger.specs.Ledger.{balance_of, refunded_of}
 use Rattle.bike_operator.specs.declared.records.Bike.{Bike}
 use Rattle.bike_operator.specs.declared.records.Rental.{Rental}
 use Rattle.bike_operator.specs.declared.view.RiderView.{RiderView}
-use Rattle.bike_operator.specs.Operator.{Operator, Rider}
+use Rattle.bike_operator.specs.Operator.{Operator, Rider, Station}
 use Rattle.bike_operator.specs.View.{planned_rental, rider_view, typed_bike}
 use Rattle.bike_book.specs.Stored.{Listed}
-use Rattle.bike_facts.specs.declared.stored.StoredNumbers.{StoredNumbers}
-use Rattle.bike_facts.specs.Touched as touched
+use Rattle.bike_accepted.specs.declared.moved.DockAt.{DockAt}
+use Rattle.bike_booking.specs.declared.stored.StoredCounts.{StoredCounts}
+use Rattle.bike_booking.specs.declared.stored.StoredDock.{StoredDock}
+use Rattle.bike_booking.specs.Stored.{counts_in, AreCountsStored, IsDockStored}
 use Rattle.bike_accounts.specs.declared.rentals.StoredRental.{StoredRental}
 use Rattle.bike_fleet.specs.declared.counts.TypeCounts.{TypeCounts}
+use Rattle.bike_fleet.specs.declared.stations.DockNumbers.{DockNumbers}
 use Rattle.bike_fleet.specs.Fleet as fleet
-use Rattle.bike_fleet.specs.Fleet.{no_counts, type_counts_of}
-use Rattle.bike_views.specs.Parts.{no_numbers}
+use Rattle.bike_views.specs.Parts.{counts_read, dock_read}
 
 -- ---- the bicycle in a dock
 
@@ -55,29 +58,27 @@ pub planned_some : (s : Operator) (number : ℕ) (r : Rental) (o : Option PlanRo
 planned_some s number r o {plan = plan} read some refunds balances =
     (λ i. Some (record { number = number; rental = r; plan = plan; refunded = refunds i; balance = balances i })) ∙ ap (planned_rental s number r) (sym some ∙ read)
 
--- ---- counts of a type
+-- ---- what is stored of a dock
 
--- the same counts with other numbers of the dock
-pub counts_kept : {A : Type 0} (s : Operator) (m : Listed) (station : List ℕ) (text_of : A → List ℕ) (o : Option A) (n k : StoredNumbers) → n.available ≡ k.available → n.disabled ≡ k.disabled → n.has_count_row ≡ k.has_count_row
-    → IfSome o (λ id. touched.AreCounts s m station k (text_of id)) → IfSome o (λ id. touched.AreCounts s m station n (text_of id))
-counts_kept s m station text_of None n k a d row counts = tt
-counts_kept s m station text_of (Some id) n k a d row counts = record { available = a ∙ counts.available; disabled = d ∙ counts.disabled; has_row = row ∙ counts.has_row }
+pub dock_stored : (s : Operator) (m : Listed) (at : DockAt) (numbers : Option DockNumbers) (listed : Bool) {d : StoredDock} → numbers ≡ fleet.dock_numbers_at s at.station.now → d ≡ dock_read numbers listed → IsDockStored s m at d
+dock_stored s m at numbers listed {d = d} read is =
+    let station = at.station.now in
+    let found = λ (x : Station) (there : map.get s.stations station ≡ Some x).
+    is ∙ ap (λ o. dock_read o listed) (read ∙ ap (option_map (fleet.dock_numbers_of s station)) there) in
+    record { free = λ x there. ap (λ (e : StoredDock). e.free) (found x there); broken = λ x there. ap (λ (e : StoredDock). e.broken) (found x there) }
 
-pub counts_none : (s : Operator) (m : Listed) (station type_id : List ℕ) {x : Option TypeCounts} {n : StoredNumbers} → fleet.AreCounts s m station type_id x → x ≡ None → n ≡ no_numbers → touched.AreCounts s m station n type_id
-counts_none s m station type_id read none empty =
-    let same = sym (ap (λ o. unwrap_or o no_counts) none) ∙ read.1 in
-    record {
-      available = ap (λ k. k.available) empty ∙ ap (λ c. c.available) same;
-      disabled = ap (λ k. k.disabled) empty ∙ ap (λ c. c.disabled) same;
-      has_row = ap (λ k. k.has_count_row) empty ∙ sym (ap is_some none) ∙ read.0;
-    }
+pub listed_stored : (numbers : Option DockNumbers) (listed : Bool) {d : StoredDock} → d ≡ dock_read numbers listed → d.is_listed ≡ listed
+listed_stored None listed is = ap (λ (e : StoredDock). e.is_listed) is
+listed_stored (Some n) listed is = ap (λ (e : StoredDock). e.is_listed) is
 
-pub counts_some : (s : Operator) (m : Listed) (station type_id : List ℕ) {x : Option TypeCounts} {counts : TypeCounts} {n : StoredNumbers} → fleet.AreCounts s m station type_id x → x ≡ Some counts
-    → n.available ≡ counts.available → n.disabled ≡ counts.disabled → n.has_count_row ≡ true → touched.AreCounts s m station n type_id
-counts_some s m station type_id read some available disabled has =
-    let same = sym (ap (λ o. unwrap_or o no_counts) some) ∙ read.1 in
-    record {
-      available = available ∙ ap (λ c. c.available) same;
-      disabled = disabled ∙ ap (λ c. c.disabled) same;
-      has_row = has ∙ sym (ap is_some some) ∙ read.0;
-    }
+pub counts_stored : (s : Operator) (m : Listed) (at : DockAt) (type_id : List ℕ) (counts : Option TypeCounts) {c : Option StoredCounts} → fleet.AreCounts s m at.station.now type_id counts → c ≡ option_map counts_read counts → AreCountsStored s m at type_id c
+counts_stored s m at type_id None read is = record {
+  has_row = ap is_some is ∙ read.0;
+  available = ap (λ o. (counts_in o).available) is ∙ ap (λ k. k.available) read.1;
+  disabled = ap (λ o. (counts_in o).disabled) is ∙ ap (λ k. k.disabled) read.1;
+}
+counts_stored s m at type_id (Some k) read is = record {
+  has_row = ap is_some is ∙ read.0;
+  available = ap (λ o. (counts_in o).available) is ∙ ap (λ k. k.available) read.1;
+  disabled = ap (λ o. (counts_in o).disabled) is ∙ ap (λ k. k.disabled) read.1;
+}

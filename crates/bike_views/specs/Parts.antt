@@ -1,5 +1,5 @@
 -- Parts of a view that are read together.
-use Rattle.std.specs.Prelude.{ℕ, List, length, Bool, false}
+use Rattle.std.specs.Prelude.{ℕ, List, length, Bool, Option, Some, None}
 use Rattle.std.specs.List.{list_any}
 use Rattle.std.specs.Str.{bytes_eq}
 use Rattle.std.specs.FinMap as map
@@ -11,16 +11,14 @@ use Rattle.bike_operator.specs.declared.view.View.{View}
 use Rattle.bike_operator.specs.Operator.{Operator, item_numbered}
 use Rattle.bike_operator.specs.Counts.{is_riding, order_load, truck_load}
 use Rattle.bike_operator.specs.View.{bike_of, has_end, has_full_ledger, planned_rental, rental_at, rental_of, rider_at, side_view, truck_at}
-use Rattle.bike_facts.specs.declared.stored.StoredNumbers.{StoredNumbers}
-use Rattle.bike_views.specs.declared.ledger.LedgerRoom.{LedgerRoom}
+use Rattle.bike_booking.specs.declared.stored.StoredCounts.{StoredCounts}
+use Rattle.bike_booking.specs.declared.stored.StoredDock.{StoredDock}
+use Rattle.bike_fleet.specs.declared.counts.TypeCounts.{TypeCounts}
+use Rattle.bike_fleet.specs.declared.stations.DockNumbers.{DockNumbers}
 use Rattle.bike_views.specs.declared.rentals.StartView.{StartView}
 use Rattle.bike_views.specs.declared.rentals.RentalBike.{RentalBike}
 use Rattle.bike_views.specs.declared.orders.OrderNames.{OrderNames}
 use Rattle.bike_views.specs.declared.orders.Loads.{Loads}
-
--- the entries, and whether one more would be too many
-abbrev pub room_of : Operator → LedgerRoom
-room_of s = record { entries = length s.entries; is_full = has_full_ledger s }
 
 -- the rider who starts a rental, and the numbers that are asked for it
 abbrev pub start_view : Operator → ℕ → StartView
@@ -62,9 +60,14 @@ loads_of s truck order = record { truck = truck_at s truck; loaded = truck_load 
 abbrev pub delivery_view : Operator → ℕ → Side → ℕ → View
 delivery_view s order side dock = record (side_view s (item_numbered order s.orders) side dock) { order = item_numbered order s.orders }
 
--- the numbers where nothing is stored
-abbrev pub no_numbers : StoredNumbers
-no_numbers = record { free = 0; broken = 0; has_dock_row = false; available = 0; disabled = 0; has_count_row = false }
+-- the numbers of a station's docks as they were read, 0 where it has none
+abbrev pub dock_read : Option DockNumbers → Bool → StoredDock
+dock_read None listed = record { free = 0; broken = 0; is_listed = listed }
+dock_read (Some n) listed = record { free = n.free; broken = n.broken; is_listed = listed }
+
+-- the counts of a type as they were read
+abbrev pub counts_read : TypeCounts → StoredCounts
+counts_read c = record { available = c.available; disabled = c.disabled }
 
 -- one of these names is in the language
 abbrev pub is_among : List ℕ → List MoreNameRow → Bool

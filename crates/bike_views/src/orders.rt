@@ -1,6 +1,6 @@
 //! What the commands on trucks and their orders name.
 
-ghost use Rattle.std.specs.Prelude.{◌≡◌, ℕ};
+ghost use Rattle.std.specs.Prelude.{◌≡◌, ℕ, length};
 ghost use Rattle.bike_commands.specs.declared.command.Command.TheVariants as command;
 ghost use Rattle.bike_operator.specs.View.{end_at as end_of_order, end_view, has_end, side_view, view_of};
 ghost use Rattle.bike_schema.specs.Answers.{Answers};
@@ -12,8 +12,8 @@ use crate::docks::find_dock_view;
 use crate::empty::empty_view;
 use bike_fields::{BicycleNumber, Ident, OrderNumber, TruckNumber};
 use bike_fleet::{
-    are_trucks_full, find_bike, find_order, find_truck, has_station, has_type, order_count,
-    order_load, truck_load,
+    are_trucks_full, find_bike, find_order, find_truck, has_station, has_type, order_load,
+    truck_load,
 };
 use bike_operator::{Order, TruckView, View};
 use bike_schema::StatementFault;
@@ -84,20 +84,20 @@ fn find_names<S: Alter>(
     })
 }
 
-/// The view for a new order, whatever its quantity.
+/// The view for a new order, whatever its quantity, where there are so many.
 pub(crate) fn view_to_open_order<S: Alter>(
     conn: &mut Connection<S>,
     truck: TruckNumber,
     from_end: &OrderEnd,
     to_end: &OrderEnd,
     type_id: &Ident,
+    orders: u32,
 ) -> Result<View, StatementFault>
-    ensures { Answers S.Store conn.old conn.new result (λ s m view. (count : ℕ)
+    ensures { Answers S.Store conn.old conn.new result (λ s m view. orders ≡ length s.orders → (count : ℕ)
         → view ≡ view_of s (command.OpenOrder truck from_end.now to_end.now type_id.now count)) }
 {
     let truck = find_truck(conn, truck)?;
     let names = find_names(conn, from_end, to_end, type_id)?;
-    let orders = order_count(conn)?;
     Ok(View {
         truck,
         has_from: names.has_from,

@@ -1,19 +1,19 @@
 //! What the commands on rentals name.
 
-ghost use Rattle.std.specs.Prelude.{◌≡◌, ℕ, IsTrue};
+ghost use Rattle.std.specs.Prelude.{◌≡◌, ℕ, length};
 ghost use Rattle.std.specs.FinMap as map;
 ghost use Rattle.bike_ledger.specs.Ledger.{refunded_of};
 ghost use Rattle.bike_commands.specs.declared.command.Command.TheVariants as command;
 ghost use Rattle.bike_operator.specs.View.{planned_rental, rental_at, rental_of, view_of};
 ghost use Rattle.bike_schema.specs.Answers.{Answers};
-ghost use Rattle.bike_accounts.specs.Newest.{NewestTells};
+ghost use Rattle.bike_views.specs.Known.{IsKnown};
 ghost use Rattle.bike_views.specs.Open.{AnswersOpen};
 ghost use Rattle.bike_views.specs.Parts.{rental_bike_at, rental_bike, ridden_bike, start_view};
 
 use crate::docks::find_dock_view;
 use crate::empty::empty_view;
-use crate::ledger::find_room;
-use bike_accounts::{entry_count, find_plan, find_rental, find_rider, is_riding, rental_count};
+use crate::figures::{Known, is_ledger_full};
+use bike_accounts::{find_plan, find_rental, find_rider, is_riding};
 use bike_fields::{BicycleNumber, DockNumber, Ident, RentalNumber, RiderNumber};
 use bike_fleet::find_bike;
 use bike_operator::{Bike, Place, Rental, RentalView, RiderView, View};
@@ -111,20 +111,18 @@ fn find_ridden_bike<S: Alter>(
 fn find_start_view<S: Alter>(
     conn: &mut Connection<S>,
     rider: RiderNumber,
-    newest_tells: bool,
+    known: &Known,
 ) -> Result<StartView, StatementFault>
-    ensures { Answers S.Store conn.old conn.new result
-        (λ s m start. (IsTrue newest_tells → NewestTells s) → start ≡ start_view s rider) }
+    ensures { Answers S.Store conn.old conn.new result (λ s m start. IsKnown s known.now → start ≡ start_view s rider) }
 {
     let found = find_rider(conn, rider)?;
-    let is_riding = is_riding(conn, rider, newest_tells)?;
-    let rentals = rental_count(conn)?;
-    let room = find_room(conn)?;
+    let is_riding = is_riding(conn, rider, known.newest_tells)?;
+    let is_ledger_full = is_ledger_full(conn, known.figures.entries)?;
     Ok(StartView {
         rider: found,
         is_riding,
-        is_ledger_full: room.is_full,
-        rentals,
+        is_ledger_full,
+        rentals: known.figures.rentals,
     })
 }
 
@@ -135,12 +133,12 @@ pub(crate) fn view_to_start<S: Alter>(
     rider: RiderNumber,
     station: &Ident,
     dock: DockNumber,
-    newest_tells: bool,
+    known: &Known,
 ) -> Result<View, StatementFault>
     ensures { Answers S.Store conn.old conn.new result
-        (λ s m view. (IsTrue newest_tells → NewestTells s) → view ≡ view_of s (command.Start rider station.now dock)) }
+        (λ s m view. IsKnown s known.now → view ≡ view_of s (command.Start rider station.now dock)) }
 {
-    let start = find_start_view(conn, rider, newest_tells)?;
+    let start = find_start_view(conn, rider, known)?;
     let view = find_dock_view(alloc, conn, station, dock.get())?;
     Ok(View {
         rider: start.rider,
@@ -151,18 +149,18 @@ pub(crate) fn view_to_start<S: Alter>(
     })
 }
 
-/// The view for the end of a rental.
+/// The view for the end of a rental, where there are so many entries.
 pub(crate) fn view_to_end<S: Alter>(
     alloc: Global,
     conn: &mut Connection<S>,
     bike: BicycleNumber,
     station: &Ident,
     dock: DockNumber,
+    entries: u32,
 ) -> Result<View, StatementFault>
     ensures { Answers S.Store conn.old conn.new result
-        (λ s m view. view ≡ view_of s (command.End bike station.now dock)) }
+        (λ s m view. entries ≡ length s.entries → view ≡ view_of s (command.End bike station.now dock)) }
 {
-    let entries = entry_count(conn)?;
     let ridden = find_ridden_bike(alloc, conn, bike)?;
     let view = find_dock_view(alloc, conn, station, dock.get())?;
     Ok(View {
@@ -206,15 +204,16 @@ fn find_rental_bike_at<S: Alter>(
     }
 }
 
-/// The view for a rental that is closed at the depot.
+/// The view for a rental that is closed at the depot, where there are so many entries.
 pub(crate) fn view_to_recover<S: Alter>(
     alloc: Global,
     conn: &mut Connection<S>,
     rental: RentalNumber,
+    entries: u32,
 ) -> Result<View, StatementFault>
-    ensures { Answers S.Store conn.old conn.new result (λ s m view. view ≡ view_of s (command.Recover rental)) }
+    ensures { Answers S.Store conn.old conn.new result
+        (λ s m view. entries ≡ length s.entries → view ≡ view_of s (command.Recover rental)) }
 {
-    let entries = entry_count(conn)?;
     let recovered = find_rental_bike_at(alloc, conn, rental)?;
     Ok(View {
         rental: recovered.rental,
@@ -224,21 +223,22 @@ pub(crate) fn view_to_recover<S: Alter>(
     })
 }
 
-/// The view for a refund, whatever its amount.
+/// The view for a refund, whatever its amount, where there are so many entries.
 pub(crate) fn view_to_refund<S: Alter>(
     alloc: Global,
     conn: &mut Connection<S>,
     rental: RentalNumber,
+    entries: u32,
 ) -> Result<View, StatementFault>
-    ensures { Answers S.Store conn.old conn.new result
-        (λ s m view. (amount : ℕ) → view ≡ view_of s (command.Refund rental amount)) }
+    ensures { Answers S.Store conn.old conn.new result (λ s m view. entries ≡ length s.entries → (amount : ℕ)
+        → view ≡ view_of s (command.Refund rental amount)) }
 {
-    let room = find_room(conn)?;
     let rental = find_rental_view(alloc, conn, rental)?;
+    let is_ledger_full = is_ledger_full(conn, entries)?;
     Ok(View {
         rental,
-        is_ledger_full: room.is_full,
-        entries: room.entries,
+        is_ledger_full,
+        entries,
         ..empty_view()
     })
 }

@@ -1,12 +1,12 @@
 //! What the commands on riders name.
 
-ghost use Rattle.std.specs.Prelude.{◌≡◌, ℕ, Bool};
+ghost use Rattle.std.specs.Prelude.{◌≡◌, ℕ, Bool, length};
 ghost use Rattle.bike_commands.specs.declared.command.Command.TheVariants as command;
 ghost use Rattle.bike_operator.specs.View.{view_of};
 ghost use Rattle.bike_schema.specs.Answers.{Answers};
 
 use crate::empty::empty_view;
-use crate::ledger::find_room;
+use crate::figures::is_ledger_full;
 use bike_accounts::{are_riders_full, find_rider, has_rider};
 use bike_fields::RiderNumber;
 use bike_operator::View;
@@ -44,20 +44,21 @@ pub(crate) fn view_to_set_rider<S: Alter>(
     })
 }
 
-/// The view for a top-up.
+/// The view for a top-up, where there are so many entries.
 pub(crate) fn view_to_top_up<S: Alter>(
     conn: &mut Connection<S>,
     rider: RiderNumber,
+    entries: u32,
 ) -> Result<View, StatementFault>
-    ensures { Answers S.Store conn.old conn.new result
-        (λ s m view. (amount : ℕ) → view ≡ view_of s (command.TopUp rider amount)) }
+    ensures { Answers S.Store conn.old conn.new result (λ s m view. entries ≡ length s.entries → (amount : ℕ)
+        → view ≡ view_of s (command.TopUp rider amount)) }
 {
     let rider = find_rider(conn, rider)?;
-    let room = find_room(conn)?;
+    let is_ledger_full = is_ledger_full(conn, entries)?;
     Ok(View {
         rider,
-        is_ledger_full: room.is_full,
-        entries: room.entries,
+        is_ledger_full,
+        entries,
         ..empty_view()
     })
 }

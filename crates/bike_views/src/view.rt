@@ -1,14 +1,15 @@
 //! The view of the stored operator for a command.
 
-ghost use Rattle.std.specs.Prelude.{◌≡◌, IsTrue};
+ghost use Rattle.std.specs.Prelude.{◌≡◌};
 ghost use Rattle.bike_operator.specs.View.{view_of};
 ghost use Rattle.bike_schema.specs.Answers.{Answers};
-ghost use Rattle.bike_accounts.specs.Newest.{NewestTells};
+ghost use Rattle.bike_views.specs.Known.{IsKnown};
 
 use crate::bikes::{view_to_add_bike, view_to_mark_bike, view_to_retire_bike};
 use crate::catalogue::{
     view_to_add_plan, view_to_add_region, view_to_add_type, view_to_set_plan, view_to_set_system,
 };
+use crate::figures::Known;
 use crate::names::view_to_add_name;
 use crate::orders::{
     view_to_add_truck, view_to_close_order, view_to_load, view_to_open_order, view_to_unload,
@@ -24,8 +25,8 @@ use bike_schema::StatementFault;
 use sqlite::{Alter, Connection};
 use std::alloc::Global;
 
-/// What the command names of the stored operator, each there or absent, and what is counted for it. Where the caller knows
-/// that each open rental is its rider's newest, a start reads the newest alone.
+/// What the command names of the stored operator, each there or absent, and what is counted for it, by what is known of
+/// him. Where each open rental is its rider's newest, a start reads the newest alone.
 ///
 /// `NoMemory` comes where the engine or the view wants memory that is refused, and `StoreFailed` where the engine fails
 /// otherwise, or a row holds what the product never writes. In each case the tables are as before the call, or as before
@@ -34,11 +35,11 @@ pub fn find_view<S: Alter>(
     alloc: Global,
     conn: &mut Connection<S>,
     command: &Command,
-    newest_tells: bool,
+    known: &Known,
 ) -> Result<View, StatementFault>
-    ensures { Answers S.Store conn.old conn.new result
-        (λ s m view. (IsTrue newest_tells → NewestTells s) → view ≡ view_of s command.now) }
+    ensures { Answers S.Store conn.old conn.new result (λ s m view. IsKnown s known.now → view ≡ view_of s command.now) }
 {
+    let figures = &known.figures;
     match command {
         Command::SetSystem(_) => view_to_set_system(conn),
         Command::AddPlan(plan) => view_to_add_plan(conn, plan),
@@ -53,26 +54,26 @@ pub fn find_view<S: Alter>(
         Command::AddTruck { truck, .. } => view_to_add_truck(conn, *truck),
         Command::AddRider { rider } => view_to_add_rider(conn, *rider),
         Command::SetRider { rider, .. } => view_to_set_rider(conn, *rider),
-        Command::TopUp { rider, .. } => view_to_top_up(conn, *rider),
+        Command::TopUp { rider, .. } => view_to_top_up(conn, *rider, figures.entries),
         Command::Start {
             rider,
             station,
             dock,
-        } => view_to_start(alloc, conn, *rider, station, *dock, newest_tells),
+        } => view_to_start(alloc, conn, *rider, station, *dock, known),
         Command::End {
             bike,
             station,
             dock,
-        } => view_to_end(alloc, conn, *bike, station, *dock),
-        Command::Recover { rental } => view_to_recover(alloc, conn, *rental),
-        Command::Refund { rental, .. } => view_to_refund(alloc, conn, *rental),
+        } => view_to_end(alloc, conn, *bike, station, *dock, figures.entries),
+        Command::Recover { rental } => view_to_recover(alloc, conn, *rental, figures.entries),
+        Command::Refund { rental, .. } => view_to_refund(alloc, conn, *rental, figures.entries),
         Command::OpenOrder {
             truck,
             from_end,
             to_end,
             type_id,
             ..
-        } => view_to_open_order(conn, *truck, from_end, to_end, type_id),
+        } => view_to_open_order(conn, *truck, from_end, to_end, type_id, figures.orders),
         Command::Load { truck, order, bike } => view_to_load(alloc, conn, *truck, *order, *bike),
         Command::Unload {
             truck,

@@ -6,7 +6,7 @@ use Rattle.bike_operator.specs.Operator.{key_of}
 use Rattle.bike_operator.specs.Runs.{step, key_in}
 use Rattle.bike_schema.specs.Makes.{OthersStay}
 use Rattle.bike_schema.specs.Stands.{AllLeft, Keeps}
-use Rattle.bike_desk.specs.Desk.{TreesStandForEither}
+use Rattle.bike_desk.specs.Desk.{AreFigures, TreesStandForEither}
 use Rattle.bike_accounts.specs.Accounts.{KeepsSame}
 use Rattle.bike_desk.proofs.KeepLemmas.{on_err, kept_ours, kept_stores, still, still_left}
 use Rattle.bike_desk.proofs.OtherLemmas.{others_same}
@@ -14,12 +14,12 @@ use Rattle.bike_desk.proofs.ServeLemmas.{step_kept, none_kept}
 use Rattle.bike_desk.proofs.serve.serve.Goals as goal
 
 pub returns-in_err-kept-clause-failed : goal.returns-in_err-kept-clause-failed
-returns-in_err-kept-clause-failed g c clean s keeps tells =
+returns-in_err-kept-clause-failed g c clean s keeps remembers =
     let left : AllLeft (state g.S.Store c.find_kept.new.conn) (TreesStandForEither s (step s c.args.moment c.args.request.now).1) = λ db h. inl (still_left g.S.Store c.args.conn.now c.find_kept.new.conn s keeps clean c.find_kept.ensures.quiet db h) in
     on_err _ left
 
 pub returns-in-Some-clause-ok : goal.returns-in-Some-clause-ok
-returns-in-Some-clause-ok g c clean s keeps tells =
+returns-in-Some-clause-ok g c clean s keeps remembers =
     let q = c.args.request.now in
     let old = state g.S.Store c.args.conn.now in
     let ours = kept_ours old s keeps in
@@ -27,10 +27,14 @@ returns-in-Some-clause-ok g c clean s keeps tells =
     let found = c.in_ok-kept.ensures.found clean ours s (kept_stores old s keeps) in
     let same : KeepsSame (map.get s.kept (key_in q)) (Some c.in-Some.kept) = subst₂ (λ k o. KeepsSame (map.get s.kept k) o) key c.in-Some.is found in
     let it = step_kept s c.args.moment q (map.get s.kept (key_in q)) c.in-Some.kept c.args.text.now refl same c.requires.text in
-    (c.kept_answer.ensures ∙ it.0, subst (λ o. Keeps (state g.S.Store c.find_kept.new.conn) o) it.1 (still g.S.Store c.args.conn.now c.find_kept.new.conn s keeps clean (c.in_ok-kept.ensures.same clean ours) c.find_kept.ensures.quiet))
+    record {
+      reply = c.kept_answer.ensures ∙ it.0;
+      keeps = subst (λ o. Keeps (state g.S.Store c.find_kept.new.conn) o) it.1 (still g.S.Store c.args.conn.now c.find_kept.new.conn s keeps clean (c.in_ok-kept.ensures.same clean ours) c.find_kept.ensures.quiet);
+      figures = subst (AreFigures c.args.remembered.now.figures) it.1 remembers.figures;
+    }
 
 pub returns-in-None-clause-ok : goal.returns-in-None-clause-ok
-returns-in-None-clause-ok g c clean s keeps tells =
+returns-in-None-clause-ok g c clean s keeps remembers =
     let q = c.args.request.now in
     let old = state g.S.Store c.args.conn.now in
     let ours = kept_ours old s keeps in
@@ -38,10 +42,10 @@ returns-in-None-clause-ok g c clean s keeps tells =
     let seen : HasCleanDisk (state g.S.Store c.find_kept.new.conn) = omega (arith, clean, c.serve_anew.ensures.clean) in
     let found = c.in_ok-kept.ensures.found seen ours s (kept_stores old s keeps) in
     let same : KeepsSame (map.get s.kept (key_in q)) None = subst₂ (λ k o. KeepsSame (map.get s.kept k) o) key c.in-None.is found in
-    c.serve_anew.ensures.ok clean s (still g.S.Store c.args.conn.now c.find_kept.new.conn s keeps seen (c.in_ok-kept.ensures.same seen ours) c.find_kept.ensures.quiet) tells (none_kept s c.args.moment q (map.get s.kept (key_in q)) refl same)
+    c.serve_anew.ensures.ok clean s (still g.S.Store c.args.conn.now c.find_kept.new.conn s keeps seen (c.in_ok-kept.ensures.same seen ours) c.find_kept.ensures.quiet) remembers (none_kept s c.args.moment q (map.get s.kept (key_in q)) refl same)
 
 pub returns-in-None-clause-failed : goal.returns-in-None-clause-failed
-returns-in-None-clause-failed g c clean s keeps tells =
+returns-in-None-clause-failed g c clean s keeps remembers =
     let q = c.args.request.now in
     let old = state g.S.Store c.args.conn.now in
     let ours = kept_ours old s keeps in
@@ -49,13 +53,13 @@ returns-in-None-clause-failed g c clean s keeps tells =
     let seen : HasCleanDisk (state g.S.Store c.find_kept.new.conn) = omega (arith, clean, c.serve_anew.ensures.clean) in
     let found = c.in_ok-kept.ensures.found seen ours s (kept_stores old s keeps) in
     let same : KeepsSame (map.get s.kept (key_in q)) None = subst₂ (λ k o. KeepsSame (map.get s.kept k) o) key c.in-None.is found in
-    c.serve_anew.ensures.failed clean s (still g.S.Store c.args.conn.now c.find_kept.new.conn s keeps seen (c.in_ok-kept.ensures.same seen ours) c.find_kept.ensures.quiet) tells (none_kept s c.args.moment q (map.get s.kept (key_in q)) refl same)
+    c.serve_anew.ensures.failed clean s (still g.S.Store c.args.conn.now c.find_kept.new.conn s keeps seen (c.in_ok-kept.ensures.same seen ours) c.find_kept.ensures.quiet) remembers (none_kept s c.args.moment q (map.get s.kept (key_in q)) refl same)
 
 pub returns-in-Some-clause-others : goal.returns-in-Some-clause-others
-returns-in-Some-clause-others g c clean s keeps tells = others_same _ _ (c.in_ok-kept.ensures.same clean (kept_ours (state g.S.Store c.args.conn.now) s keeps)).0.now_is
+returns-in-Some-clause-others g c clean s keeps remembers = others_same _ _ (c.in_ok-kept.ensures.same clean (kept_ours (state g.S.Store c.args.conn.now) s keeps)).0.now_is
 
 pub returns-in-None-clause-others : goal.returns-in-None-clause-others
-returns-in-None-clause-others g c clean s keeps tells =
+returns-in-None-clause-others g c clean s keeps remembers =
     let q = c.args.request.now in
     let old = state g.S.Store c.args.conn.now in
     let ours = kept_ours old s keeps in
@@ -65,4 +69,4 @@ returns-in-None-clause-others g c clean s keeps tells =
     let found = c.in_ok-kept.ensures.found seen ours s (kept_stores old s keeps) in
     let same : KeepsSame (map.get s.kept (key_in q)) None = subst₂ (λ k o. KeepsSame (map.get s.kept k) o) key c.in-None.is found in
     subst (λ db. OnOk c.serve_anew.result (OthersStay db (state g.S.Store c.serve_anew.new.conn).now)) read.0.now_is
-    (c.serve_anew.ensures.others clean s (still g.S.Store c.args.conn.now c.find_kept.new.conn s keeps seen read c.find_kept.ensures.quiet) tells (none_kept s c.args.moment q (map.get s.kept (key_in q)) refl same))
+    (c.serve_anew.ensures.others clean s (still g.S.Store c.args.conn.now c.find_kept.new.conn s keeps seen read c.find_kept.ensures.quiet) remembers (none_kept s c.args.moment q (map.get s.kept (key_in q)) refl same))

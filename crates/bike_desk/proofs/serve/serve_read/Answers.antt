@@ -3,41 +3,58 @@ use Rattle.sqlite.specs.Held.{state}
 use Rattle.bike_commands.specs.declared.reply.Reply.{Reply}
 use Rattle.bike_commands.specs.Replies.{reply_text}
 use Rattle.bike_operator.specs.Operator.{Operator}
-use Rattle.bike_operator.specs.Changes.{Decides}
-use Rattle.bike_schema.specs.Stands.{AllLeft, Keeps}
-use Rattle.bike_desk.specs.Desk.{TreesStandForEither}
+use Rattle.bike_accepted.specs.Effects.{Decides}
 use Rattle.bike_booking.specs.Booking.{AreTexts}
+use Rattle.bike_schema.specs.Stands.{AllLeft}
+use Rattle.bike_desk.specs.Desk.{TreesStandForEither}
+use Rattle.bike_desk.specs.Serving.{Serves}
 use Rattle.bike_desk.proofs.KeepLemmas.{on_err, kept_stores}
 use Rattle.bike_desk.proofs.OtherLemmas.{others_same}
-use Rattle.bike_desk.proofs.ServeLemmas.{step_accepted, accepts_read}
+use Rattle.bike_desk.proofs.ServeLemmas.{step_refused, step_accepted, accepts_read, figures_read}
 use Rattle.bike_desk.proofs.serve.serve_read.Goals as goal
+
+pub returns-in-Err-clause-ok : goal.returns-in-Err-clause-ok
+returns-in-Err-clause-ok g c clean s t keeps it =
+    let q = c.args.asked.request.now in
+    let is = step_refused s t q c.args.now it.later it.anew c.in-Err.refusal (c.in-Err.ensures.decides s it.view_is) in
+    subst (λ (p : Reply × Operator). Serves (state g.S.Store c.args.conn.now) p _) (sym is) (record { reply = refl; keeps = keeps; figures = it.figures_are })
 
 pub returns-in_err-store_accepted-in-Ok-clause-failed : goal.returns-in_err-store_accepted-in-Ok-clause-failed
 returns-in_err-store_accepted-in-Ok-clause-failed g c clean s t keeps it =
-    let decides : Decides s c.args.now c.args.request.now.command (Ok c.in-Ok.accepted) = c.in-Ok.ensures.decides s it.view_is in
-    let told : AreTexts s c.args.now c.args.request.now (record { caller = c.args.caller; key = c.as_str-key.result; command = c.args.text; reply = c.as_str.result }) =
-    record { caller = c.requires.caller; key = c.as_str-key.ensures.text; command = c.requires.text; reply = c.as_str.ensures.value ∙ c.text-spelled.ensures ∙ ap reply_text decides.1 } in
-    let accepts = accepts_read s t c.args.now c.args.request.now c.args.meta.now c.args.view.now c.in-Ok.accepted _ (kept_stores (state g.S.Store c.args.conn.now) s keeps).sound it c.bounds.ensures decides told in
-    let left = c.store_accepted.ensures.left clean s keeps accepts in
-    on_err _ (subst (λ (p : Reply × Operator). AllLeft (state g.S.Store c.store_accepted.new.conn) (TreesStandForEither s p.1)) (sym (step_accepted s t c.args.request.now c.args.now it.later it.anew decides.0)) left)
+    let q = c.args.asked.request.now in
+    let decides : Decides s c.args.now q.command (Ok c.in-Ok.accepted) = c.in-Ok.ensures.decides s it.view_is in
+    let sound = (kept_stores (state g.S.Store c.args.conn.now) s keeps).sound in
+    let found = c.in-Ok.ensures.found s sound it.view_is in
+    let told : AreTexts s c.args.now q (record { caller = c.args.asked.caller; key = c.as_str-key.result; command = c.args.asked.text; reply = c.as_str.result }) =
+    record { caller = c.requires.asked.caller; key = c.as_str-key.ensures.text; command = c.requires.asked.text; reply = c.as_str.ensures.value ∙ c.text-spelled.ensures ∙ ap reply_text decides.1 } in
+    let accepts = accepts_read s t c.args.now q c.args.figures.now c.args.view.now c.in-Ok.accepted c.in-Some.after _ sound it c.bounds.ensures decides found c.in-Some.ensures.figures told in
+    let left = c.store_accepted.ensures.left clean s q keeps accepts in
+    on_err _ (subst (λ (p : Reply × Operator). AllLeft (state g.S.Store c.store_accepted.new.conn) (TreesStandForEither s p.1)) (sym (step_accepted s t q c.args.now it.later it.anew decides.0)) left)
 
 pub returns-in_ok-store_accepted-in-Ok-clause-ok : goal.returns-in_ok-store_accepted-in-Ok-clause-ok
 returns-in_ok-store_accepted-in-Ok-clause-ok g c clean s t keeps it =
-    let decides : Decides s c.args.now c.args.request.now.command (Ok c.in-Ok.accepted) = c.in-Ok.ensures.decides s it.view_is in
-    let told : AreTexts s c.args.now c.args.request.now (record { caller = c.args.caller; key = c.as_str-key.result; command = c.args.text; reply = c.as_str.result }) =
-    record { caller = c.requires.caller; key = c.as_str-key.ensures.text; command = c.requires.text; reply = c.as_str.ensures.value ∙ c.text-spelled.ensures ∙ ap reply_text decides.1 } in
-    let accepts = accepts_read s t c.args.now c.args.request.now c.args.meta.now c.args.view.now c.in-Ok.accepted _ (kept_stores (state g.S.Store c.args.conn.now) s keeps).sound it c.bounds.ensures decides told in
-    let made = c.in_ok-store_accepted-in-Ok.ensures.made clean s keeps accepts in
-    let step_is = step_accepted s t c.args.request.now c.args.now it.later it.anew decides.0 in
-    (decides.1 ∙ sym (ap (λ (p : Reply × Operator). p.0) step_is), subst (λ (p : Reply × Operator). Keeps (state g.S.Store c.store_accepted.new.conn) p.1) (sym step_is) made)
+    let q = c.args.asked.request.now in
+    let decides : Decides s c.args.now q.command (Ok c.in-Ok.accepted) = c.in-Ok.ensures.decides s it.view_is in
+    let sound = (kept_stores (state g.S.Store c.args.conn.now) s keeps).sound in
+    let found = c.in-Ok.ensures.found s sound it.view_is in
+    let told : AreTexts s c.args.now q (record { caller = c.args.asked.caller; key = c.as_str-key.result; command = c.args.asked.text; reply = c.as_str.result }) =
+    record { caller = c.requires.asked.caller; key = c.as_str-key.ensures.text; command = c.requires.asked.text; reply = c.as_str.ensures.value ∙ c.text-spelled.ensures ∙ ap reply_text decides.1 } in
+    let accepts = accepts_read s t c.args.now q c.args.figures.now c.args.view.now c.in-Ok.accepted c.in-Some.after _ sound it c.bounds.ensures decides found c.in-Some.ensures.figures told in
+    let made = c.in_ok-store_accepted-in-Ok.ensures.made clean s q keeps accepts in
+    let figures = figures_read s c.args.now q c.in-Ok.accepted c.books_accepted.ensures.figures it.figures_are decides found c.in-Some.ensures.figures in
+    let step_is = step_accepted s t q c.args.now it.later it.anew decides.0 in
+    subst (λ (p : Reply × Operator). Serves (state g.S.Store c.store_accepted.new.conn) p _) (sym step_is) (record { reply = decides.1; keeps = made; figures = figures })
 
 pub returns-in-Err-clause-others : goal.returns-in-Err-clause-others
 returns-in-Err-clause-others g c clean s t keeps it = others_same _ _ refl
 
 pub returns-in_ok-store_accepted-in-Ok-clause-others : goal.returns-in_ok-store_accepted-in-Ok-clause-others
 returns-in_ok-store_accepted-in-Ok-clause-others g c clean s t keeps it =
-    let decides : Decides s c.args.now c.args.request.now.command (Ok c.in-Ok.accepted) = c.in-Ok.ensures.decides s it.view_is in
-    let told : AreTexts s c.args.now c.args.request.now (record { caller = c.args.caller; key = c.as_str-key.result; command = c.args.text; reply = c.as_str.result }) =
-    record { caller = c.requires.caller; key = c.as_str-key.ensures.text; command = c.requires.text; reply = c.as_str.ensures.value ∙ c.text-spelled.ensures ∙ ap reply_text decides.1 } in
-    let accepts = accepts_read s t c.args.now c.args.request.now c.args.meta.now c.args.view.now c.in-Ok.accepted _ (kept_stores (state g.S.Store c.args.conn.now) s keeps).sound it c.bounds.ensures decides told in
-    c.in_ok-store_accepted-in-Ok.ensures.others clean s keeps accepts
+    let q = c.args.asked.request.now in
+    let decides : Decides s c.args.now q.command (Ok c.in-Ok.accepted) = c.in-Ok.ensures.decides s it.view_is in
+    let sound = (kept_stores (state g.S.Store c.args.conn.now) s keeps).sound in
+    let found = c.in-Ok.ensures.found s sound it.view_is in
+    let told : AreTexts s c.args.now q (record { caller = c.args.asked.caller; key = c.as_str-key.result; command = c.args.asked.text; reply = c.as_str.result }) =
+    record { caller = c.requires.asked.caller; key = c.as_str-key.ensures.text; command = c.requires.asked.text; reply = c.as_str.ensures.value ∙ c.text-spelled.ensures ∙ ap reply_text decides.1 } in
+    let accepts = accepts_read s t c.args.now q c.args.figures.now c.args.view.now c.in-Ok.accepted c.in-Some.after _ sound it c.bounds.ensures decides found c.in-Some.ensures.figures told in
+    c.in_ok-store_accepted-in-Ok.ensures.others clean s q keeps accepts

@@ -1,4 +1,4 @@
-use Rattle.std.proofs.Common.{◌≡◌, Bool, false, IsTrue, Result, [], sym, ap, ◌∙◌}
+use Rattle.std.proofs.Common.{◌≡◌, ℕ, false, Result, [], sym, ap, ◌∙◌}
 use Rattle.sqlite_trees.specs.declared.store.Store.{Ghosts}
 use Rattle.sqlite.specs.Held.{Held}
 use Rattle.bike_commands.specs.declared.command.Command.{Command}
@@ -6,13 +6,21 @@ use Rattle.bike_operator.specs.declared.view.View.{View}
 use Rattle.bike_operator.specs.View.{view_of}
 use Rattle.bike_schema.specs.Answers.{Answers}
 use Rattle.bike_schema.proofs.AnswerLemmas.{reads_weaker}
-use Rattle.bike_accounts.specs.Newest.{NewestTells}
+use Rattle.bike_booking.specs.declared.figures.Figures.{Figures}
+use Rattle.bike_booking.specs.Figures.{figures_of}
+use Rattle.bike_views.specs.declared.figures.Known.{Known}
+use Rattle.bike_views.specs.Known.{IsKnown}
 use Rattle.bike_views.proofs.view.find_view.Goals as goal
 
--- the view for a command is that for the command matched, whatever is known of newest rentals
-view_for : {S E : Type 0} {g : Ghosts S} {old new : Held S} {result : Result View E} {c d : Command} {told : Bool} → Answers g old new result (λ s m view. view ≡ view_of s d) → c ≡ d
-    → Answers g old new result (λ s m view. (IsTrue told → NewestTells s) → view ≡ view_of s c)
-view_for it is = reads_weaker it (λ db view each s h tells. each s h ∙ ap (view_of s) (sym is))
+-- the view for a command is that for the command matched, whatever is known
+view_for : {S E : Type 0} {g : Ghosts S} {old new : Held S} {result : Result View E} {c d : Command} {k : Known} → Answers g old new result (λ s m view. view ≡ view_of s d) → c ≡ d
+    → Answers g old new result (λ s m view. IsKnown s k → view ≡ view_of s c)
+view_for it is = reads_weaker it (λ db view each s h known. each s h ∙ ap (view_of s) (sym is))
+
+-- and where it takes a figure
+view_with : {S E : Type 0} {g : Ghosts S} {old new : Held S} {result : Result View E} {c d : Command} {k : Known} (told : Figures → ℕ) → Answers g old new result (λ s m view. told k.figures ≡ told (figures_of s) → view ≡ view_of s d) → c ≡ d
+    → Answers g old new result (λ s m view. IsKnown s k → view ≡ view_of s c)
+view_with told it is = reads_weaker it (λ db view each s h known. each s h (ap told known.figures) ∙ ap (view_of s) (sym is))
 
 pub returns-in-SetSystem : goal.returns-in-SetSystem
 returns-in-SetSystem g c = view_for (reads_weaker c.view_to_set_system.ensures (λ db x it s h. it s h c.in-SetSystem.field-0)) c.in-SetSystem.is
@@ -54,22 +62,22 @@ pub returns-in-SetRider : goal.returns-in-SetRider
 returns-in-SetRider g c = view_for (reads_weaker c.view_to_set_rider.ensures (λ db x it s h. it s h false)) c.in-SetRider.is
 
 pub returns-in-TopUp : goal.returns-in-TopUp
-returns-in-TopUp g c = view_for (reads_weaker c.view_to_top_up.ensures (λ db x it s h. it s h 0)) c.in-TopUp.is
+returns-in-TopUp g c = view_with (λ f. f.entries) (reads_weaker c.view_to_top_up.ensures (λ db x it s h are. it s h are 0)) c.in-TopUp.is
 
 pub returns-in-Start : goal.returns-in-Start
-returns-in-Start g c = reads_weaker c.view_to_start.ensures (λ db view each s h tells. each s h tells ∙ ap (view_of s) (sym c.in-Start.is))
+returns-in-Start g c = reads_weaker c.view_to_start.ensures (λ db view each s h known. each s h known ∙ ap (view_of s) (sym c.in-Start.is))
 
 pub returns-in-End : goal.returns-in-End
-returns-in-End g c = view_for c.view_to_end.ensures c.in-End.is
+returns-in-End g c = view_with (λ f. f.entries) c.view_to_end.ensures c.in-End.is
 
 pub returns-in-Recover : goal.returns-in-Recover
-returns-in-Recover g c = view_for c.view_to_recover.ensures c.in-Recover.is
+returns-in-Recover g c = view_with (λ f. f.entries) c.view_to_recover.ensures c.in-Recover.is
 
 pub returns-in-Refund : goal.returns-in-Refund
-returns-in-Refund g c = view_for (reads_weaker c.view_to_refund.ensures (λ db x it s h. it s h 0)) c.in-Refund.is
+returns-in-Refund g c = view_with (λ f. f.entries) (reads_weaker c.view_to_refund.ensures (λ db x it s h are. it s h are 0)) c.in-Refund.is
 
 pub returns-in-OpenOrder : goal.returns-in-OpenOrder
-returns-in-OpenOrder g c = view_for (reads_weaker c.view_to_open_order.ensures (λ db x it s h. it s h 0)) c.in-OpenOrder.is
+returns-in-OpenOrder g c = view_with (λ f. f.orders) (reads_weaker c.view_to_open_order.ensures (λ db x it s h are. it s h are 0)) c.in-OpenOrder.is
 
 pub returns-in-Load : goal.returns-in-Load
 returns-in-Load g c = view_for c.view_to_load.ensures c.in-Load.is

@@ -8,4 +8,4 @@ pub returns-in-Ok-clause-query : goal.returns-in-Ok-clause-query
 returns-in-Ok-clause-query g c =
     let going = ap (λ (d : DeskValue g.row.S.Denot). d.is_stopped) c.self.view_is ∙ c.requires in
     let read = reads_as c.in-Ok.ensures (λ db is s h known. ((λ told. (is s h).0 (sym c.found-self-inside.ensures ∙ told)), tt)) in
-    learns g.S.Store c.self.inside.conn c.newest_tells.new.conn c.self.inside.stopped c.self.inside.newest (λ s x. Unit {0}) going c.found-self-inside.result tt c.args.self.now c.self.view_is read
+    learns g.S.Store c.self.inside.conn c.newest_tells.new.conn c.self.inside.stopped c.self.inside.newest c.self.inside.figures (λ s x. Unit {0}) going c.found-self-inside.result tt c.args.self.now c.self.view_is read

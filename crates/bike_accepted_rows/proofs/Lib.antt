@@ -1,5 +1,0 @@
-pub mod Added
-pub mod Written
-pub mod MovedBooks
-pub mod ChangedBooks
-pub mod Accepted

@@ -1,5 +1,0 @@
-pub mod Sums
-pub mod Room
-pub mod Stored
-pub mod Writes
-pub mod Booking

@@ -1,0 +1,292 @@
+-- An accepted request, as row changes.
+use Rattle.std.proofs.Common.{◌≡◌, ◌+◌, ◌<◌, ℕ, ℤ, length, length-append, List, [], ◌∷◌, ◌++◌, append_assoc, Option, Some, None, Ok, refl, sym, ap, ◌∙◌, subst, subst₂, arith}
+use Rattle.std.specs.Prelude.{◌+ℤ◌, IfSome}
+use Rattle.std.specs.Borrow.{Bor}
+use Rattle.std.specs.FinMap as fin
+use Rattle.std.specs.FinMap.{FinMap}
+use Rattle.std.specs.FinSet.{FinSet}
+use Rattle.std.specs.Ordering.{nat_cmp}
+use Rattle.bike_ledger.specs.Entries.{Entry}
+use Rattle.bike_ledger.specs.Ledger.{credit, cash_in, revenue_in, given_back, balance_of, cash_of, revenue_of, refunded_of, IsBalance}
+use Rattle.bike_ledger.proofs.BoundLemmas.{cash_of-bound, revenue_of-bound}
+use Rattle.bike_ledger.proofs.SumLemmas.{total-append}
+use Rattle.bike_commands.specs.declared.request.Request.{Request}
+use Rattle.bike_commands.specs.Replies.{reply_text}
+use Rattle.bike_operator.specs.declared.records.Bike.{Bike}
+use Rattle.bike_operator.specs.declared.records.Order.{Order}
+use Rattle.bike_operator.specs.declared.records.Rental.{Rental}
+use Rattle.bike_operator.specs.Operator.{Operator, Rider, Kept, texts_cmp}
+use Rattle.bike_operator.specs.Changes.{entry_added}
+use Rattle.bike_operator.specs.Steps.{with_report, dock_marked}
+use Rattle.bike_operator.specs.Runs.{key_in, after_acceptance}
+use Rattle.bike_operator.specs.Sound.{IsSound}
+use Rattle.bike_places.proofs.ItemLemmas.{length-number_changed}
+use Rattle.bike_places.proofs.MapLemmas.{text_order, known_changed}
+use Rattle.bike_places.proofs.Moment.{reports}
+use Rattle.bike_places.proofs.NameLemmas.{KeepsNamed, same_named, names_kept}
+use Rattle.bike_laws.proofs.EntryLemmas.{amounts_of}
+use Rattle.bike_book.specs.declared.row_change.RowChange.TheVariants as row
+use Rattle.bike_book.specs.Stored.{Listed, IsListing}
+use Rattle.bike_book.specs.Writes.{RowWrite, Add, write_of, writes_of}
+use Rattle.bike_book.specs.Tables.{Entries}
+use Rattle.bike_book.specs.Rows.{entry_row}
+use Rattle.bike_book.specs.CloseLaws.{after_close, AreKept, AreTextsOf, AreNumbersWith}
+use Rattle.bike_book.proofs.CloseBooks.{close_quiet, close_entry, close_refund}
+use Rattle.bike_book.proofs.SoundNumbers.{no_refunds, no_balance}
+use Rattle.bike_moves.proofs.Ends.{sound_ends}
+use Rattle.bike_accepted.specs.declared.moved.Moved.{Moved}
+use Rattle.bike_accepted.specs.declared.moved.Moved.TheVariants as moved
+use Rattle.bike_accepted.specs.declared.change.Change.{Change}
+use Rattle.bike_accepted.specs.declared.change.Change.TheVariants as change
+use Rattle.bike_accepted.specs.declared.accepted.Booked.{Booked}
+use Rattle.bike_accepted.specs.declared.accepted.Accepted.{Accepted}
+use Rattle.bike_accepted.specs.Effects.{bike_in, after_moved, after_change, where_moved, where_changed, entry_of, changed_by, effect_of, Decides}
+use Rattle.bike_accepted.specs.Found.{IsMovedFound, IsFound, IsRefundFound, IsBookedFound}
+use Rattle.bike_booking.specs.declared.stored.Stored.{Stored}
+use Rattle.bike_booking.specs.declared.stored.Sums.{Sums}
+use Rattle.bike_booking.specs.declared.texts.KeptTexts.{KeptTexts}
+use Rattle.bike_booking.specs.Stored.{IsMovedStored}
+use Rattle.bike_booking.specs.Sums.{sums_of, sums_after}
+use Rattle.bike_booking.specs.Figures.{figures_of, rentals_after, orders_after, entries_after, figures_after, FiguresFollow}
+use Rattle.bike_booking.specs.Writes.{moved_rows, refund_writes, close_rows, where_moved_writes, where_changed_writes, where_booked_writes, writes_of_accepted}
+use Rattle.bike_booking.specs.Booking.{IsAccepted, BooksAccepted, SumsTakeOneMore}
+use Rattle.bike_booking.proofs.Written.{Leads, of_books, to_books, leads_none, leads_then}
+use Rattle.bike_booking.proofs.MovedBooks.{books_moved}
+use Rattle.bike_booking.proofs.ChangedBooks.{IsReady, books_change}
+
+-- ---- what a move and a record leave
+
+-- the ledger, what is kept, riders, rentals and names
+pub record Leaves (s n : Operator) : Type 0 where
+  pub entries : n.entries ≡ s.entries
+  pub kept : n.kept ≡ s.kept
+  pub riders : n.riders ≡ s.riders
+  pub rentals : n.rentals ≡ s.rentals
+  pub orders : n.orders ≡ s.orders
+  pub more_names : n.more_names ≡ s.more_names
+  pub named : KeepsNamed s n
+
+none_left : (s : Operator) → Leaves s s
+none_left s = record { entries = refl; kept = refl; riders = refl; rentals = refl; orders = refl; more_names = refl; named = same_named s s refl }
+
+bike_left : (s : Operator) (bikes : FinMap nat_cmp Bike) → Leaves s (record s { bikes = bikes })
+bike_left s bikes = record { entries = refl; kept = refl; riders = refl; rentals = refl; orders = refl; more_names = refl; named = same_named s (record s { bikes = bikes }) refl }
+
+mark_left : (s : Operator) (broken : FinSet texts_cmp) → Leaves s (record s { broken = broken })
+mark_left s broken = record { entries = refl; kept = refl; riders = refl; rentals = refl; orders = refl; more_names = refl; named = same_named s (record s { broken = broken }) refl }
+
+reported : (now : ℕ) (station : List ℕ) (s n : Operator) → Leaves s n → Leaves s (with_report station now n)
+reported now station s n h = record {
+  entries = h.entries;
+  kept = h.kept;
+  riders = h.riders;
+  rentals = h.rentals;
+  orders = h.orders;
+  more_names = h.more_names;
+  named = record {
+    system = h.named.system;
+    plans = h.named.plans;
+    types = h.named.types;
+    regions = h.named.regions;
+    stations = λ id there. known_changed text_order n.stations station (reports now) id (h.named.stations id there);
+  };
+}
+
+moved_left : (now : ℕ) (mo : Option Moved) (s : Operator) → Leaves s (where_moved now mo s)
+moved_left now None s = none_left s
+moved_left now (Some (moved.Away bike type_id was becomes)) s = bike_left s (fin.insert s.bikes bike (bike_in type_id becomes))
+moved_left now (Some (moved.AtDock at bike type_id was becomes)) s =
+    let bikes = fin.insert s.bikes bike (bike_in type_id becomes) in reported now at.station.now s (record s { bikes = bikes }) (bike_left s bikes)
+moved_left now (Some (moved.Marked at held broken)) s =
+    let n = dock_marked at.station.now at.dock broken s in reported now at.station.now s n (mark_left s n.broken)
+
+ready : (s n : Operator) → IsSound s → Leaves s n → IsReady n
+ready s n sound h = record {
+  names = names_kept s n h.more_names h.named sound.names;
+  refunds = λ rental above. ap (refunded_of rental) h.entries ∙ no_refunds s sound rental (subst (λ (rs : List Rental). length rs < rental) h.rentals above);
+  balance = λ rider none. ap (balance_of rider) h.entries ∙ no_balance s sound rider (ap (λ (m : FinMap nat_cmp Rider). fin.get m rider) (sym h.riders) ∙ none);
+}
+
+-- a record leaves the ledger and what is kept
+change_left : (now : ℕ) (c : Change) (s : Operator) → ((after_change now c s).entries ≡ s.entries) × ((after_change now c s).kept ≡ s.kept)
+change_left now (change.SetSystem x) s = (refl, refl)
+change_left now c s = (refl, refl)
+
+changed_left : (now : ℕ) (co : Option Change) (s : Operator) → ((where_changed now co s).entries ≡ s.entries) × ((where_changed now co s).kept ≡ s.kept)
+changed_left now None s = (refl, refl)
+changed_left now (Some c) s = change_left now c s
+
+-- ---- the parts of an acceptance
+
+leads_moved : (s : Operator) (m : Listed) (now : ℕ) (n : Stored) → IsSound s → IsListing s m → (mo : Option Moved) → IfSome mo (IsMovedFound s) → IfSome mo (IsMovedStored s m n)
+    → (w : Listed) × Leads (where_moved_writes now n mo) s m (where_moved now mo s) w
+leads_moved s m now n sound listing None found stored = (m, leads_none s m listing)
+leads_moved s m now n sound listing (Some mo) found stored =
+    let b = books_moved s m now n sound.bikes listing mo found stored in (b.0, of_books (moved_rows now n mo) s (after_moved now mo s) m b.0 b.1)
+
+leads_changed : (s : Operator) (m : Listed) (now : ℕ) → IsReady s → IsListing s m → (co : Option Change) → IfSome co (IsFound s) → Leads (where_changed_writes now co) s m (where_changed now co s) m
+leads_changed s m now is_ready listing None found = leads_none s m listing
+leads_changed s m now is_ready listing (Some c) found = books_change s m now listing is_ready c found
+
+-- the operator after an accepted request is what was decided of the one before, closed
+accepted_closed : (s : Operator) (now : ℕ) (q : Request) (a : Accepted) → Decides s now q.command (Ok a) → (changed_by now a s).kept ≡ s.kept → after_acceptance s now q ≡ after_close now q a.reply (effect_of now a s)
+accepted_closed s now q a decides stays =
+    let kept : (effect_of now a s).kept ≡ s.kept = go (entry_of a.entry) in
+    λ i. record (sym decides.2 i) { now = now; kept = fin.insert (sym kept i) (key_in q) (record { command = q.command; reply = sym decides.1 i }) }
+  where
+    go : (e : Option Entry) → (entry_added e (changed_by now a s)).kept ≡ s.kept
+    go None = stays
+    go (Some e) = stays
+
+module _ (s : Operator) (m : Listed) (now : ℕ) (q : Request) (a : Accepted) (n : Stored) (texts : KeptTexts) (h : IsAccepted s m now q a n texts) where
+  abbrev moved_next : Operator
+  moved_next = where_moved now a.moved s
+
+  abbrev next : Operator
+  next = changed_by now a s
+
+  left : Leaves s moved_next
+  left = moved_left now a.moved s
+
+  entries : next.entries ≡ s.entries
+  entries = (changed_left now a.change moved_next).0 ∙ left.entries
+
+  kept : next.kept ≡ s.kept
+  kept = (changed_left now a.change moved_next).1 ∙ left.kept
+
+  are_kept : AreKept next
+  are_kept key k found = h.sound.kept key k (ap (λ (m : FinMap texts_cmp Kept). fin.get m key) (sym kept) ∙ found)
+
+  texts_are : AreTextsOf q a.reply texts.caller.now texts.key.now texts.command.now texts.reply.now
+  texts_are = record { caller_is = h.texts_are.caller; key_is = h.texts_are.key; command_is = h.texts_are.command; reply_is = h.texts_are.reply ∙ ap reply_text (sym h.decides.1) }
+
+  numbers : (b : Booked) → IsBookedFound s b → n.sums ≡ sums_after (sums_of s) (Some b) → AreNumbersWith next b.entry b.balance n.sums.cash n.sums.revenue
+  numbers b found sums = record {
+    number_is = found.number_is ∙ ap (λ (es : List Entry). length es + 1) (sym entries);
+    balance_is = found.balance_is ∙ ap (λ (es : List Entry). balance_of b.entry.rider es +ℤ credit b.entry.kind b.entry.amount) (sym entries);
+    cash_is = ap (λ (x : Sums). x.cash) sums ∙ ap (λ (es : List Entry). cash_of es +ℤ cash_in b.entry.kind b.entry.amount) (sym entries);
+    revenue_is = ap (λ (x : Sums). x.revenue) sums ∙ ap (λ (es : List Entry). revenue_of es +ℤ revenue_in b.entry.kind b.entry.amount) (sym entries);
+  }
+
+  -- the entry, where there is one, and the close
+  abbrev Closes : Listed → Option Booked → Type 0
+  Closes w o = Leads (where_booked_writes o ++ writes_of (close_rows now n.sums texts)) next w (after_close now q a.reply (entry_added (entry_of o) next)) w
+
+  closes : (w : Listed) → IsListing next w → (o : Option Booked) → IfSome o (IsBookedFound s) → n.sums ≡ sums_after (sums_of s) o → Closes w o
+  closes w listing None found sums =
+      of_books (close_rows now n.sums texts) next (after_close now q a.reply next) w w
+      (close_quiet next w now q a.reply texts.caller texts.key texts.command texts.reply listing are_kept texts_are n.sums.cash n.sums.revenue (ap (λ (x : Sums). x.cash) sums ∙ ap cash_of (sym entries)) (ap (λ (x : Sums). x.revenue) sums ∙ ap revenue_of (sym entries)))
+  closes w listing (Some b) found sums = go b.refunded found.refunded_is where
+    go : (o : Option ℤ) → IsRefundFound s b.entry o
+        → Leads ((Add Entries (entry_row b.entry.number b.entry) ∷ write_of (row.SetBalance b.entry.rider b.balance) ∷ refund_writes b.entry.rental o) ++ writes_of (close_rows now n.sums texts)) next w (after_close now q a.reply (entry_added (Some b.entry) next)) w
+    go None none =
+        let e : Bor Entry = record { ref_ptr = (0, 0); now = b.entry } in
+        of_books (row.AddEntry e ∷ row.SetBalance b.entry.rider b.balance ∷ close_rows now n.sums texts) next (after_close now q a.reply (entry_added (Some b.entry) next)) w w
+        (close_entry next w now q a.reply texts.caller texts.key texts.command texts.reply listing are_kept texts_are e b.balance n.sums.cash n.sums.revenue (numbers b found sums) none)
+    go (Some refunded) is =
+        let e : Bor Entry = record { ref_ptr = (0, 0); now = b.entry } in
+        of_books (row.AddEntry e ∷ row.SetBalance b.entry.rider b.balance ∷ row.SetRefunded b.entry.rental refunded ∷ close_rows now n.sums texts) next (after_close now q a.reply (entry_added (Some b.entry) next)) w w
+        (close_refund next w now q a.reply texts.caller texts.key texts.command texts.reply listing are_kept texts_are e b.balance refunded n.sums.cash n.sums.revenue (numbers b found sums)
+        (is ∙ ap (λ (es : List Entry). refunded_of b.entry.rental es +ℤ given_back b.entry.kind b.entry.amount) (sym entries)))
+
+  pub leads_accepted : (w : Listed) × Leads (writes_of_accepted now n texts a) s m (after_acceptance s now q) w
+  leads_accepted =
+      let one = leads_moved s m now n h.sound h.listing a.moved h.found.moved h.stored.moved in
+      let w = one.0 in
+      let two = leads_changed moved_next w now (ready s moved_next h.sound left) one.1.listing a.change h.found.change in
+      let three = closes w two.listing a.entry h.found.entry h.stored.sums in
+      let ms = where_moved_writes now n a.moved in
+      let cs = where_changed_writes now a.change in
+      let es = where_booked_writes a.entry in
+      let ks = writes_of (close_rows now n.sums texts) in
+      let end = after_close now q a.reply (effect_of now a s) in
+      let both = leads_then ms cs s moved_next next m w w one.1 two in
+      let all : Leads ((ms ++ cs) ++ (es ++ ks)) s m end w = leads_then (ms ++ cs) (es ++ ks) s next end m w w both three in
+      (w, subst₂ (λ (ws : List RowWrite) (o : Operator). Leads ws s m o w) (sym (append_assoc (ms ++ cs) es ks)) (sym (accepted_closed s now q a h.decides kept)) all)
+
+-- ---- the law
+
+pub books_accepted : BooksAccepted
+books_accepted s m now q a n texts rows h are =
+    let l = leads_accepted s m now q a n texts h in
+    record {
+      listed = l.0;
+      leads = sound_ends rows s (after_acceptance s now q) m l.0 h.sound.bikes h.sound_after.bikes (to_books rows (writes_of_accepted now n texts a) s (after_acceptance s now q) m l.0 are l.1);
+    }
+
+-- what an accepted request leaves of the ledger before its entry
+changed_by_left : (now : ℕ) (a : Accepted) (s : Operator) → ((changed_by now a s).entries ≡ s.entries) × ((changed_by now a s).kept ≡ s.kept)
+changed_by_left now a s =
+    let before = moved_left now a.moved s in
+    let after = changed_left now a.change (where_moved now a.moved s) in (after.0 ∙ before.entries, after.1 ∙ before.kept)
+
+pub sums_take_one_more : SumsTakeOneMore
+sums_take_one_more s now q a sound decides sound_after = go a.entry refl where
+  go : (o : Option Booked) → a.entry ≡ o → IfSome o (λ _. IsBalance (cash_of s.entries) × IsBalance (revenue_of s.entries))
+  go None is = tt
+  go (Some b) is =
+      let next = changed_by now a s in
+      let left = changed_by_left now a s in
+      let entries : (after_acceptance s now q).entries ≡ next.entries ++ b.entry ∷ [] =
+      ap (λ (o : Operator). o.entries) (accepted_closed s now q a decides left.1) ∙ ap (λ (o : Option Booked). (entry_added (entry_of o) next).entries) is in
+      let same = ap (λ (es : List Entry). length es) left.0 in
+      let counted = ap (λ (es : List Entry). length es) entries in
+      let longer = length-append next.entries (b.entry ∷ []) in
+      let most = sound_after.ledger.few_entries in
+      let few : length s.entries < 100000000 = omega (arith, same, counted, longer, most) in
+      (cash_of-bound s.entries (amounts_of s sound.ledger) few, revenue_of-bound s.entries (amounts_of s sound.ledger) few)
+
+-- ---- figures
+
+-- how many rentals and orders there are after a record
+rentals_with : (now : ℕ) (co : Option Change) (s : Operator) → IfSome co (IsFound s) → rentals_after (length s.rentals) co ≡ length (where_changed now co s).rentals
+rentals_with now None s found = refl
+rentals_with now (Some (change.AddRental rental rider bike plan from_station)) s found = found ∙ sym (length-append s.rentals _)
+rentals_with now (Some (change.CloseRental rental to_station fare)) s found = sym (length-number_changed rental _ s.rentals)
+rentals_with now (Some c) s found = refl
+
+orders_with : (now : ℕ) (co : Option Change) (s : Operator) → IfSome co (IsFound s) → orders_after (length s.orders) co ≡ length (where_changed now co s).orders
+orders_with now None s found = refl
+orders_with now (Some (change.AddOrder order truck from_end to_end type_id count)) s found = found ∙ sym (length-append s.orders _)
+orders_with now (Some (change.Deliver order was delivered)) s found = sym (length-number_changed order _ s.orders)
+orders_with now (Some (change.CloseOrder order was)) s found = sym (length-number_changed order _ s.orders)
+orders_with now (Some c) s found = refl
+
+-- the figures of the ledger with an entry
+record LedgerWith (s next : Operator) (o : Option Booked) : Type 0 where
+  sums : sums_after (sums_of s) o ≡ sums_of (entry_added (entry_of o) next)
+  entries : entries_after (length s.entries) o ≡ length (entry_added (entry_of o) next).entries
+  rentals : (entry_added (entry_of o) next).rentals ≡ next.rentals
+  orders : (entry_added (entry_of o) next).orders ≡ next.orders
+
+ledger_with : (s n : Operator) (o : Option Booked) → n.entries ≡ s.entries → IfSome o (IsBookedFound s) → LedgerWith s n o
+ledger_with s n None same found = record {
+  sums = λ i. record { cash = cash_of (sym same i); revenue = revenue_of (sym same i) };
+  entries = ap (λ (es : List Entry). length es) (sym same);
+  rentals = refl;
+  orders = refl;
+}
+ledger_with s n (Some b) same found =
+    let cash = ap (λ (es : List Entry). cash_of es +ℤ cash_in b.entry.kind b.entry.amount) (sym same) ∙ sym (total-append (λ (e : Entry). cash_in e.kind e.amount) n.entries b.entry) in
+    let revenue = ap (λ (es : List Entry). revenue_of es +ℤ revenue_in b.entry.kind b.entry.amount) (sym same) ∙ sym (total-append (λ (e : Entry). revenue_in e.kind e.amount) n.entries b.entry) in
+    record {
+      sums = λ i. record { cash = cash i; revenue = revenue i };
+      entries = found.number_is ∙ ap (λ (es : List Entry). length es + 1) (sym same) ∙ sym (length-append n.entries (b.entry ∷ []));
+      rentals = refl;
+      orders = refl;
+    }
+
+pub figures_follow : FiguresFollow
+figures_follow s now q a decides found =
+    let mid = where_moved now a.moved s in
+    let next = changed_by now a s in
+    let before = moved_left now a.moved s in
+    let left = changed_by_left now a s in
+    let end = effect_of now a s in
+    let ledger = ledger_with s next a.entry left.0 found.entry in
+    let closed = accepted_closed s now q a decides left.1 in
+    let rentals = ap (λ (rs : List Rental). rentals_after (length rs) a.change) (sym before.rentals) ∙ rentals_with now a.change mid found.change ∙ ap (λ (rs : List Rental). length rs) (sym ledger.rentals) in
+    let orders = ap (λ (os : List Order). orders_after (length os) a.change) (sym before.orders) ∙ orders_with now a.change mid found.change ∙ ap (λ (os : List Order). length os) (sym ledger.orders) in
+    let all : figures_after (figures_of s) now a ≡ figures_of (after_close now q a.reply end) =
+    λ i. record { now = now; sums = ledger.sums i; rentals = rentals i; orders = orders i; entries = ledger.entries i } in
+    all ∙ ap figures_of (sym closed)

@@ -1,0 +1,42 @@
+-- The operator's figures: his moment and sums, and how many rentals, orders and entries he has.
+use Rattle.std.specs.Prelude.{◌≡◌, ℕ, length, Option, Some, None, Ok}
+use Rattle.bike_commands.specs.declared.request.Request.{Request}
+use Rattle.bike_operator.specs.Operator.{Operator}
+use Rattle.bike_operator.specs.Runs.{after_acceptance}
+use Rattle.bike_accepted.specs.declared.change.Change.{Change}
+use Rattle.bike_accepted.specs.declared.change.Change.TheVariants as change
+use Rattle.bike_accepted.specs.declared.accepted.Booked.{Booked}
+use Rattle.bike_accepted.specs.declared.accepted.Accepted.{Accepted}
+use Rattle.bike_accepted.specs.Effects.{Decides}
+use Rattle.bike_accepted.specs.Found.{AreFound}
+use Rattle.bike_booking.specs.declared.figures.Figures.{Figures}
+use Rattle.bike_booking.specs.Sums.{sums_of, sums_after}
+
+abbrev pub figures_of : Operator → Figures
+figures_of s = record { now = s.now; sums = sums_of s; rentals = length s.rentals; orders = length s.orders; entries = length s.entries }
+
+-- what is added has the next number, and that is how many there are then
+abbrev pub rentals_after : ℕ → Option Change → ℕ
+rentals_after rentals (Some (change.AddRental rental rider bike plan from_station)) = rental
+rentals_after rentals c = rentals
+
+abbrev pub orders_after : ℕ → Option Change → ℕ
+orders_after orders (Some (change.AddOrder order truck from_end to_end type_id count)) = order
+orders_after orders c = orders
+
+abbrev pub entries_after : ℕ → Option Booked → ℕ
+entries_after entries None = entries
+entries_after entries (Some b) = b.entry.number
+
+abbrev pub figures_after : Figures → ℕ → Accepted → Figures
+figures_after f now a = record {
+  now = now;
+  sums = sums_after f.sums a.entry;
+  rentals = rentals_after f.rentals a.change;
+  orders = orders_after f.orders a.change;
+  entries = entries_after f.entries a.entry;
+}
+
+-- The figures with an accepted request are those of the operator after it.
+abbrev pub FiguresFollow : Type 0
+FiguresFollow = (s : Operator) (now : ℕ) (q : Request) (a : Accepted) → Decides s now q.command (Ok a) → AreFound now s a → figures_after (figures_of s) now a ≡ figures_of (after_acceptance s now q)

@@ -1,0 +1,75 @@
+//! The operator's figures, which a request needs beside what its command names.
+
+ghost use Rattle.std.specs.Prelude.{◌≡◌, IfSome, IsSome};
+ghost use Rattle.bike_ledger.specs.Ledger.{IsBalance};
+ghost use Rattle.bike_booking.specs.Figures.{entries_after, figures_after, orders_after, rentals_after};
+
+use crate::stored::Sums;
+use bike_accepted::{Accepted, Booked, Change};
+use bike_fixed::Moment;
+
+/// The operator's moment and sums, and how many rentals, orders and entries he has.
+#[derive(Clone, Copy)]
+pub struct Figures {
+    /// The greatest moment of an accepted request.
+    pub now: Moment,
+    /// His sums.
+    pub sums: Sums,
+    /// How many rentals there are.
+    pub rentals: u32,
+    /// How many orders.
+    pub orders: u32,
+    /// How many entries.
+    pub entries: u32,
+}
+
+/// How many rentals there are with what is added.
+fn rentals_after(rentals: u32, change: &Option<Change<'_>>) -> u32
+    ensures { result ≡ rentals_after rentals change.now }
+{
+    match change {
+        Some(Change::AddRental { rental, .. }) => *rental,
+        _ => rentals,
+    }
+}
+
+/// How many orders there are with what is added.
+fn orders_after(orders: u32, change: &Option<Change<'_>>) -> u32
+    ensures { result ≡ orders_after orders change.now }
+{
+    match change {
+        Some(Change::AddOrder { order, .. }) => *order,
+        _ => orders,
+    }
+}
+
+/// How many entries there are with the one that is booked.
+fn entries_after(entries: u32, entry: &Option<Booked>) -> u32
+    ensures { result ≡ entries_after entries entry.now }
+{
+    match entry {
+        Some(booked) => booked.entry.number().get(),
+        None => entries,
+    }
+}
+
+impl Figures {
+    /// The figures with an accepted command. None where its entry can't be added to the sums: then they are no sound
+    /// operator's.
+    pub fn after(&self, now: Moment, accepted: &Accepted<'_>) -> Option<Figures>
+        ensures figures { IfSome result (λ figures. figures ≡ figures_after self.entry.now now accepted.now) }
+        ensures some { IfSome accepted.now.entry (λ _. IsBalance self.entry.now.sums.cash × IsBalance self.entry.now.sums.revenue)
+            → IsSome result }
+    {
+        let Some(sums) = self.sums.with(&accepted.entry) else {
+            return None;
+        };
+        Some(Figures {
+            now,
+            sums,
+            rentals: rentals_after(self.rentals, &accepted.change),
+            orders: orders_after(self.orders, &accepted.change),
+            entries: entries_after(self.entries, &accepted.entry),
+        })
+    }
+}

@@ -1,3 +1,0 @@
-pub mod FindingLemmas
-pub mod ShownLemmas
-pub mod ShownFacts

@@ -1,0 +1,177 @@
+//! What the tables store of the dock that an accepted command touches.
+
+ghost use Rattle.std.specs.Prelude.{◌≡◌, IfOk, IfSome, option_map};
+ghost use Rattle.bike_schema.specs.Answers.{Answers};
+ghost use Rattle.bike_booking.specs.Stored.{AreCountsStored, AreHeldStored, IsDockStored, IsListedAt, IsMovedStored};
+ghost use Rattle.bike_views.specs.Open.{AnswersOpen};
+ghost use Rattle.bike_views.specs.Parts.{counts_read, dock_read};
+
+use bike_accepted::{DockAt, Held, Moved};
+use bike_booking::{Stored, StoredCounts, StoredDock, Sums, Total};
+use bike_fields::Ident;
+use bike_fleet::{DockNumbers, TypeCounts, find_counts, find_dock_numbers, find_mark};
+use bike_schema::StatementFault;
+use sqlite::{Alter, Connection};
+
+/// A stored number. `StoreFailed` where it is above the most docks of a station: then it is nobody's.
+fn total(number: u32) -> Result<Total, StatementFault>
+    ensures { IfOk result (λ total. total ≡ number) }
+{
+    match Total::new(number) {
+        Some(total) => Ok(total),
+        None => Err(StatementFault::StoreFailed),
+    }
+}
+
+/// The numbers of a station's docks, all 0 where it has none.
+fn stored_dock(
+    numbers: &Option<DockNumbers>,
+    is_listed: bool,
+) -> Result<StoredDock, StatementFault>
+    ensures { IfOk result (λ dock. dock ≡ dock_read numbers.now is_listed) }
+{
+    let (free, broken) = match numbers {
+        Some(numbers) => (numbers.free, numbers.broken),
+        None => (0, 0),
+    };
+    let free = total(free)?;
+    let broken = total(broken)?;
+    Ok(StoredDock {
+        free,
+        broken,
+        is_listed,
+    })
+}
+
+/// The counts of a type, where they have a row.
+fn stored_counts(counts: &Option<TypeCounts>) -> Result<Option<StoredCounts>, StatementFault>
+    ensures { IfOk result (λ stored. stored ≡ option_map counts_read counts.now) }
+{
+    let Some(counts) = counts else {
+        return Ok(None);
+    };
+    let available = total(counts.available)?;
+    let disabled = total(counts.disabled)?;
+    Ok(Some(StoredCounts {
+        available,
+        disabled,
+    }))
+}
+
+/// The numbers of a dock's station.
+fn find_dock<S: Alter>(
+    conn: &mut Connection<S>,
+    at: &DockAt<'_>,
+) -> Result<StoredDock, StatementFault>
+    ensures { Answers S.Store conn.old conn.new result (λ s m dock. IsDockStored s m at.now dock) }
+{
+    let numbers = find_dock_numbers(conn, at.station)?;
+    stored_dock(&numbers, false)
+}
+
+/// The numbers of a dock's station, and whether the dock has a row.
+fn find_listed_dock<S: Alter>(
+    conn: &mut Connection<S>,
+    at: &DockAt<'_>,
+) -> Result<StoredDock, StatementFault>
+    ensures { Answers S.Store conn.old conn.new result (λ s m dock. IsDockStored s m at.now dock × IsListedAt s m at.now dock) }
+{
+    let numbers = find_dock_numbers(conn, at.station)?;
+    let mark = find_mark(conn, at.station, at.dock)?;
+    stored_dock(&numbers, mark.is_some())
+}
+
+/// The counts of a type at a dock's station.
+fn find_counts_at<S: Alter>(
+    conn: &mut Connection<S>,
+    at: &DockAt<'_>,
+    type_id: &Ident,
+) -> Result<Option<StoredCounts>, StatementFault>
+    ensures { Answers S.Store conn.old conn.new result (λ s m counts. AreCountsStored s m at.now type_id.now counts) }
+{
+    let counts = find_counts(conn, at.station, type_id)?;
+    stored_counts(&counts)
+}
+
+/// The counts of the type of the bicycle in a dock, where there is one.
+fn find_held_counts<S: Alter>(
+    conn: &mut Connection<S>,
+    at: &DockAt<'_>,
+    held: &Option<Held<'_>>,
+) -> Result<Option<StoredCounts>, StatementFault>
+    ensures { AnswersOpen S.Store conn.old conn.new result (λ s m counts. AreHeldStored s m at.now held.now counts) }
+{
+    match held {
+        None => Ok(None),
+        Some(held) => find_counts_at(conn, at, held.type_id),
+    }
+}
+
+/// No docks, and no bicycles.
+fn none() -> Total {
+    match Total::new(0) {
+        Some(none) => none,
+        None => unreachable!(),
+    }
+}
+
+/// What is stored where no dock is touched.
+fn untouched(sums: Sums) -> Stored
+    ensures { result.sums ≡ sums }
+{
+    let dock = StoredDock {
+        free: none(),
+        broken: none(),
+        is_listed: false,
+    };
+    Stored {
+        dock,
+        counts: None,
+        sums,
+    }
+}
+
+/// What is stored of what is put or marked. Where that touches no dock, nothing is read, and the numbers are 0.
+fn find_moved<S: Alter>(
+    conn: &mut Connection<S>,
+    moved: &Moved<'_>,
+    sums: Sums,
+) -> Result<Stored, StatementFault>
+    ensures stored { AnswersOpen S.Store conn.old conn.new result (λ s m stored. IsMovedStored s m stored moved.now) }
+    ensures sums { IfOk result (λ stored. stored.sums ≡ sums) }
+{
+    match moved {
+        Moved::Away { .. } => Ok(untouched(sums)),
+        Moved::AtDock { at, type_id, .. } => {
+            let dock = find_dock(conn, at)?;
+            let counts = find_counts_at(conn, at, type_id)?;
+            Ok(Stored { dock, counts, sums })
+        }
+        Moved::Marked { at, held, .. } => {
+            let dock = find_listed_dock(conn, at)?;
+            let counts = find_held_counts(conn, at, held)?;
+            Ok(Stored { dock, counts, sums })
+        }
+    }
+}
+
+/// What the tables store of what an accepted command puts or marks, beside the operator's sums: the numbers of the dock's
+/// station, the counts there of the bicycle's type, and of a dock that is marked whether it has a row. Where no dock is
+/// touched, nothing is read.
+///
+/// `NoMemory` comes where the engine wants memory that is refused, and `StoreFailed` where it fails otherwise, or a row
+/// holds what the product never writes: a number above the most docks of a station, say. In each case the tables are as
+/// before the call, or as before the transaction.
+pub fn find_stored<S: Alter>(
+    conn: &mut Connection<S>,
+    moved: &Option<Moved<'_>>,
+    sums: Sums,
+) -> Result<Stored, StatementFault>
+    ensures stored { AnswersOpen S.Store conn.old conn.new result (λ s m stored. IfSome moved.now (IsMovedStored s m stored)) }
+    ensures sums { IfOk result (λ stored. stored.sums ≡ sums) }
+{
+    match moved {
+        None => Ok(untouched(sums)),
+        Some(moved) => find_moved(conn, moved, sums),
+    }
+}
