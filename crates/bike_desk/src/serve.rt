@@ -1,6 +1,6 @@
 //! Serving one request: from its kept answer, or by a decision on what it names.
 
-ghost use Rattle.std.specs.Prelude.{◌≡◌, ◌≤◌, ℕ, IfOk, OnOk, OnErr, None, [], string_bytes, if◌then◌else◌};
+ghost use Rattle.std.specs.Prelude.{◌≡◌, ◌≤◌, ℕ, false, IfOk, OnOk, OnErr, None, [], string_bytes, if◌then◌else◌};
 ghost use Rattle.std.specs.Str.{bytes_eq};
 ghost use Rattle.std.specs.FinMap as map;
 ghost use Rattle.sqlite.specs.State.{HasCleanDisk};
@@ -142,9 +142,10 @@ fn serve_read<'a, S: Alter>(
             };
             let reply = accepted.reply;
             let spelled = reply.text();
+            let key = request.key.as_str();
             let texts = KeptTexts {
                 caller: asked.caller,
-                key: request.key.as_str(),
+                key,
                 command: asked.text,
                 reply: spelled.as_str(),
             };

@@ -1,11 +1,13 @@
-use Rattle.std.proofs.Common.{Ok, refl, sym, ap, ◌∙◌, subst}
+use Rattle.std.proofs.Common.{Ok, Some, refl, sym, ap, ◌∙◌, subst}
 use Rattle.sqlite.specs.Held.{state}
 use Rattle.bike_commands.specs.declared.reply.Reply.{Reply}
+use Rattle.bike_commands.specs.declared.reply.Reply.TheVariants.{Refused}
 use Rattle.bike_commands.specs.Replies.{reply_text}
 use Rattle.bike_operator.specs.Operator.{Operator}
 use Rattle.bike_accepted.specs.Effects.{Decides}
 use Rattle.bike_booking.specs.Booking.{AreTexts}
 use Rattle.bike_schema.specs.Stands.{AllLeft}
+use Rattle.bike_desk.specs.declared.serve.Served.{Served}
 use Rattle.bike_desk.specs.Desk.{TreesStandForEither}
 use Rattle.bike_desk.specs.Serving.{Serves}
 use Rattle.bike_desk.proofs.KeepLemmas.{on_err, kept_stores}
@@ -17,7 +19,8 @@ pub returns-in-Err-clause-ok : goal.returns-in-Err-clause-ok
 returns-in-Err-clause-ok g c clean s t keeps it =
     let q = c.args.asked.request.now in
     let is = step_refused s t q c.args.now it.later it.anew c.in-Err.refusal (c.in-Err.ensures.decides s it.view_is) in
-    subst (λ (p : Reply × Operator). Serves (state g.S.Store c.args.conn.now) p _) (sym is) (record { reply = refl; keeps = keeps; figures = it.figures_are })
+    let served : Served = record { reply = Refused c.in-Err.refusal; figures = Some c.args.figures.now } in
+    subst (λ (p : Reply × Operator). Serves (state g.S.Store c.args.conn.now) p served) (sym is) (record { reply = refl; keeps = keeps; figures = it.figures_are })
 
 pub returns-in_err-store_accepted-in-Ok-clause-failed : goal.returns-in_err-store_accepted-in-Ok-clause-failed
 returns-in_err-store_accepted-in-Ok-clause-failed g c clean s t keeps it =
@@ -43,7 +46,8 @@ returns-in_ok-store_accepted-in-Ok-clause-ok g c clean s t keeps it =
     let made = c.in_ok-store_accepted-in-Ok.ensures.made clean s q keeps accepts in
     let figures = figures_read s c.args.now q c.in-Ok.accepted c.books_accepted.ensures.figures it.figures_are decides found c.in-Some.ensures.figures in
     let step_is = step_accepted s t q c.args.now it.later it.anew decides.0 in
-    subst (λ (p : Reply × Operator). Serves (state g.S.Store c.store_accepted.new.conn) p _) (sym step_is) (record { reply = decides.1; keeps = made; figures = figures })
+    let served : Served = record { reply = c.in-Ok.accepted.reply; figures = Some c.in-Some.after } in
+    subst (λ (p : Reply × Operator). Serves (state g.S.Store c.store_accepted.new.conn) p served) (sym step_is) (record { reply = decides.1; keeps = made; figures = figures })
 
 pub returns-in-Err-clause-others : goal.returns-in-Err-clause-others
 returns-in-Err-clause-others g c clean s t keeps it = others_same _ _ refl
