@@ -42,14 +42,23 @@ abbrev pub Finds : List Text → Word → Text → Option Text → Type 0
 Finds texts word id text = (fault_of program texts ≡ []) × (name_in (subcommand_of program texts) ≡ Some (word_name word))
     × (value_in (subcommand_of program texts) id ≡ text)
 
+-- it is none of those of which more is told
+abbrev pub IsOther : ErrorKind → Type 0
+IsOther kind.DisplayHelp = ⊥
+IsOther kind.UnknownArgument = ⊥
+IsOther kind.TooManyValues = ⊥
+IsOther kind.InvalidValue = ⊥
+IsOther kind.ArgumentConflict = ⊥
+IsOther _ = Unit
+
 -- what is told of the words is so
 abbrev pub IsSo : List Text → Mistake → Type 0
 IsSo texts (mistake.Help word) = Against texts kind.DisplayHelp × (word ≡ option_and_then word_named (slice_get texts 0))
-IsSo texts (mistake.UnknownWord text) = (slice_get texts 0 ≡ Some text.now) × (word_named text.now ≡ None)
+IsSo texts (mistake.UnknownWord text) = Otherwise texts kind.DisplayHelp × (slice_get texts 0 ≡ Some text.now) × (word_named text.now ≡ None)
 IsSo texts (mistake.Unexpected word text) = Leads texts word × (Offends texts kind.UnknownArgument text.now ⊎ Offends texts kind.TooManyValues text.now)
 IsSo texts (mistake.NoValue word option) = Leads texts word × Offends texts kind.InvalidValue option.now
 IsSo texts (mistake.Repeated word option) = Leads texts word × OffendsBy texts kind.ArgumentConflict option.now
-IsSo texts (mistake.Misfit word) = Leads texts word × (fault_of program texts ≡ [] → ⊥)
+IsSo texts (mistake.Misfit word) = Leads texts word × ((other : ErrorKind) × Against texts other × IsOther other)
 IsSo texts (mistake.Missing word value) = IsWanted word value × Finds texts word (id_of value) None
 IsSo texts (mistake.BadValue word value text) = IsTaken word value × Finds texts word (id_of value) (Some text.now) × IsBad value text.now
 IsSo texts mistake.NoText = ⊥

@@ -1,6 +1,6 @@
 //! What clap makes of the words, and at which of them it takes offence.
 
-ghost use Rattle.std.specs.Prelude.{◌≡◌, ◌⊎◌, ◌<◌, ◌-◌, [], length, map, slice_get, take, IfOk, IfErr, IfSome, MatchOption, Some, true, false};
+ghost use Rattle.std.specs.Prelude.{◌≡◌, ◌⊎◌, ◌<◌, ◌≤◌, ◌+◌, ◌-◌, [], length, map, slice_get, take, IfOk, IfErr, MatchOption, Some, true, false};
 ghost use Rattle.clap.specs.Words.{fault_of, subcommand_of, subcommand_rows_of};
 ghost use Rattle.bike_words.specs.Program.{program};
 ghost use Rattle.bike_words.specs.Told.{Against, Begins, IsSo, Leads, Otherwise};
@@ -70,40 +70,39 @@ fn has_before<'a>(
     }
 }
 
-/// Whether clap has this against the words from the one at this place on.
-fn begins<'a>(
-    alloc: Global,
-    words: &'a [&'a str],
-    kind: ErrorKind,
-    place: usize,
-) -> Result<bool, AllocError>
-    requires { place < length words.now }
-    ensures { IfOk result (λ is. is ≡ true → Begins (map (λ w. w.now) words.entry.now) kind place) }
+/// A place before which clap has this against the words, and with the next word too: a near one, or the end.
+fn start_of<'a>(alloc: Global, words: &'a [&'a str], kind: ErrorKind) -> Result<usize, AllocError>
+    requires { Against (map (λ w. w.now) words.now) kind }
+    ensures within { IfOk result (λ place. place ≤ length words.entry.now) }
+    ensures there { IfOk result (λ place. Against (take place (map (λ w. w.now) words.entry.now)) kind) }
+    ensures after { IfOk result (λ place. Against (take (place + 1) (map (λ w. w.now) words.entry.now)) kind) }
 {
-    if has_before(alloc, words, kind, place)? {
-        return Ok(false);
+    // No word takes so many: of many words clap takes offence at one of these.
+    let near = 16;
+    if near < words.len()
+        && has_before(alloc, words, kind, near)?
+        && has_before(alloc, words, kind, near + 1)?
+    {
+        return Ok(near);
     }
-    if !has_before(alloc, words, kind, place + 1)? {
-        return Ok(false);
-    }
-    has_before(alloc, words, kind, place + 2)
+    Ok(words.len())
 }
 
 /// The place of the word from which on clap has this against the words.
-fn place_of<'a>(
-    alloc: Global,
-    words: &'a [&'a str],
-    kind: ErrorKind,
-) -> Result<Option<usize>, AllocError>
-    ensures within { IfOk result (λ place. IfSome place (λ i. i < length words.entry.now)) }
-    ensures begins { IfOk result (λ place. IfSome place (Begins (map (λ w. w.now) words.entry.now) kind)) }
+fn place_of<'a>(alloc: Global, words: &'a [&'a str], kind: ErrorKind) -> Result<usize, AllocError>
+    requires { Against (map (λ w. w.now) words.now) kind }
+    ensures within { IfOk result (λ place. place < length words.entry.now) }
+    ensures begins { IfOk result (Begins (map (λ w. w.now) words.entry.now) kind) }
 {
-    for place in 0..words.len() {
-        if begins(alloc, words, kind, place)? {
-            return Ok(Some(place));
+    let mut place = start_of(alloc, words, kind)?;
+    while place > 0 {
+        place -= 1;
+        if !has_before(alloc, words, kind, place)? {
+            return Ok(place);
         }
     }
-    Ok(None)
+    // Clap has nothing against no words.
+    unreachable!()
 }
 
 /// The option that the word at this place is, or that stands before it where it is none.
@@ -126,19 +125,24 @@ pub(crate) fn offence<'a>(
     word: Word,
     kind: ErrorKind,
 ) -> Result<Mistake<'a>, AllocError>
-    ensures { let texts = map (λ w. w.now) words.entry.now in
-        Leads texts word → Against texts kind → IfOk result (IsSo texts) }
+    requires leads { Leads (map (λ w. w.now) words.now) word }
+    requires against { Against (map (λ w. w.now) words.now) kind }
+    ensures { IfOk result (IsSo (map (λ w. w.now) words.entry.now)) }
 {
-    let Some(place) = place_of(alloc, words, kind)? else {
-        return Ok(Mistake::Misfit { word });
-    };
-    let text = words[place];
     match kind {
+        ErrorKind::DisplayHelp => Ok(Mistake::Help { word: Some(word) }),
         ErrorKind::UnknownArgument | ErrorKind::TooManyValues => {
+            let place = place_of(alloc, words, kind)?;
+            let text = words[place];
             Ok(Mistake::Unexpected { word, text })
         }
-        ErrorKind::InvalidValue => Ok(Mistake::NoValue { word, option: text }),
+        ErrorKind::InvalidValue => {
+            let place = place_of(alloc, words, kind)?;
+            let option = words[place];
+            Ok(Mistake::NoValue { word, option })
+        }
         ErrorKind::ArgumentConflict => {
+            let place = place_of(alloc, words, kind)?;
             let option = option_at(words, place);
             Ok(Mistake::Repeated { word, option })
         }

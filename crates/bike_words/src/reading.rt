@@ -17,7 +17,7 @@ use crate::value::Value;
 use crate::word::Word;
 use clap::ArgMatches;
 use clap::error::ErrorKind;
-use std::alloc::Global;
+use std::alloc::{AllocError, Global};
 
 /// What the program is asked to do.
 #[derive(Clone, Copy)]
@@ -76,28 +76,43 @@ fn words_in<'a>(matches: &ArgMatches<'a>, first: &'a str) -> Result<Words<'a>, M
     }
 }
 
-/// What is told of words, of which this is the first, that clap has this against.
-fn refusal<'a>(
+/// What is wrong with words, of which this is the first, that clap has this against.
+fn mistake_in<'a>(
+    alloc: Global,
+    words: &'a [&'a str],
+    first: &'a str,
+    kind: ErrorKind,
+) -> Result<Mistake<'a>, AllocError>
+    requires first { slice_get (map (λ w. w.now) words.now) 0 ≡ Some first.now }
+    requires against { Against (map (λ w. w.now) words.now) kind }
+    ensures { IfOk result (IsSo (map (λ w. w.now) words.entry.now)) }
+{
+    if let Some(word) = Word::read(first) {
+        return offence(alloc, words, word, kind);
+    }
+    match kind {
+        ErrorKind::DisplayHelp => Ok(Mistake::Help { word: None }),
+        _ => Ok(Mistake::UnknownWord { text: first }),
+    }
+}
+
+/// Why words ask for nothing, of which this is the first, and that clap has this against.
+fn fault_in<'a>(
     alloc: Global,
     words: &'a [&'a str],
     first: &'a str,
     kind: ErrorKind,
 ) -> WordsFault<'a>
-    ensures memory { kind ≡ ErrorKind.OutOfMemory → result ≡ WordsFault.NoMemory }
-    ensures told { (mistake : Mistake) → let texts = map (λ w. w.now) words.entry.now in
-        slice_get texts 0 ≡ Some first.entry.now → Against texts kind → result ≡ WordsFault.Usage mistake → IsSo texts mistake }
+    requires first { slice_get (map (λ w. w.now) words.now) 0 ≡ Some first.now }
+    requires refused { (kind ≡ ErrorKind.OutOfMemory) ⊎ Against (map (λ w. w.now) words.now) kind }
+    ensures memory { fault_of program (map (λ w. w.now) words.entry.now) ≡ [] → result ≡ WordsFault.NoMemory }
+    ensures told { (mistake : Mistake) → result ≡ WordsFault.Usage mistake → IsSo (map (λ w. w.now) words.entry.now) mistake }
 {
     match kind {
         ErrorKind::OutOfMemory => WordsFault::NoMemory,
-        ErrorKind::DisplayHelp => WordsFault::Usage(Mistake::Help {
-            word: Word::read(first),
-        }),
-        _ => match Word::read(first) {
-            None => WordsFault::Usage(Mistake::UnknownWord { text: first }),
-            Some(word) => match offence(alloc, words, word, kind) {
-                Ok(mistake) => WordsFault::Usage(mistake),
-                Err(_) => WordsFault::NoMemory,
-            },
+        _ => match mistake_in(alloc, words, first, kind) {
+            Ok(mistake) => WordsFault::Usage(mistake),
+            Err(_) => WordsFault::NoMemory,
         },
     }
 }
@@ -134,6 +149,6 @@ pub fn read_words<'a>(alloc: Global, words: &'a [&'a str]) -> Result<Words<'a>, 
                 Err(mistake) => Err(WordsFault::Usage(mistake)),
             }
         }
-        Err(kind) => Err(refusal(alloc, words, first, kind)),
+        Err(kind) => Err(fault_in(alloc, words, first, kind)),
     }
 }

@@ -18,11 +18,15 @@ struct Shown<'a>(&'a str);
 impl fmt::Display for Shown<'_> {
     fn fmt<W: fmt::Write>(&self, f: &mut fmt::Formatter<W>) -> fmt::Result {
         if self.0.is_empty() {
-            return f.write_str("empty");
+            return f.write_str("(empty)");
         }
         for (place, letter) in self.0.chars().enumerate() {
             if place == MOST_SHOWN {
                 return f.write_str("..");
+            }
+            if letter == '\'' || letter == '"' {
+                f.write_char(letter)?;
+                continue;
             }
             for shown in letter.escape_debug() {
                 f.write_char(shown)?;

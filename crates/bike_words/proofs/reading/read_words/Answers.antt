@@ -34,36 +34,20 @@ returns-in-Err-asked-clause-value c = λ mistake word leads none is.
     let so = c.in-Err-asked.ensures.told texts (first_is c.args.words.now _ c.if-is_empty.ensures) c.in-Ok.ensures.taken c.in-Ok.ensures.found in
     let same : c.in-Err-asked.mistake ≡ mistake = cc in
     subst (λ (m : Mistake). IsOfValue m) same (value_told texts c.in-Err-asked.mistake word so leads none)
+pub fault_in-requires-clause-first : goal.fault_in-requires-clause-first
+fault_in-requires-clause-first c = first_is c.args.words.now _ c.if-is_empty.ensures
 
 pub returns-in-Err-clause-plain : goal.returns-in-Err-clause-plain
-returns-in-Err-clause-plain c = λ task file is plain within.
-    let texts = map (λ (w : Bor (List ℕ)). w.now) c.args.words.now in
-    let free : fault_of program texts ≡ [] = rw is (word_asks task file plain within).0 in
-    elim c.in-Err.ensures.refused [
-      | inl memory ↦ c.refusal.ensures.memory memory
-      | inr against ↦ absurd (against_nothing texts c.in-Err.kind against free)
-    ]
+returns-in-Err-clause-plain c = λ task file is plain within. c.fault_in.ensures.memory (rw is (word_asks task file plain within).0)
 
 pub returns-in-Err-clause-refused : goal.returns-in-Err-clause-refused
-returns-in-Err-clause-refused c = λ mistake is.
-    let same : c.refusal.result ≡ Usage mistake = cc in
-    elim c.in-Err.ensures.refused [
-      | inl memory ↦ let none : c.refusal.result ≡ NoMemory = c.refusal.ensures.memory memory in absurd cc
-      | inr against ↦ refused_by _ c.in-Err.kind against
-    ]
-
-pub returns-in-Err-clause-told : goal.returns-in-Err-clause-told
-returns-in-Err-clause-told c = λ mistake is.
-    let same : c.refusal.result ≡ Usage mistake = cc in
-    elim c.in-Err.ensures.refused [
-      | inl memory ↦ let none : c.refusal.result ≡ NoMemory = c.refusal.ensures.memory memory in absurd cc
-      | inr against ↦ c.refusal.ensures.told mistake (first_is c.args.words.now _ c.if-is_empty.ensures) against same
-    ]
+returns-in-Err-clause-refused c = λ mistake is task file ask.
+    let told : c.fault_in.result ≡ Usage mistake = cc in
+    let none : c.fault_in.result ≡ NoMemory = c.fault_in.ensures.memory ask.0 in
+    absurd cc
 
 pub returns-in-Err-clause-value : goal.returns-in-Err-clause-value
-returns-in-Err-clause-value c = λ mistake word leads none is.
-    let same : c.refusal.result ≡ Usage mistake = cc in
-    elim c.in-Err.ensures.refused [
-      | inl memory ↦ let none : c.refusal.result ≡ NoMemory = c.refusal.ensures.memory memory in absurd cc
-      | inr against ↦ absurd (against_nothing _ c.in-Err.kind against none)
-    ]
+returns-in-Err-clause-value c = λ mistake word leads free is.
+    let told : c.fault_in.result ≡ Usage mistake = cc in
+    let none : c.fault_in.result ≡ NoMemory = c.fault_in.ensures.memory free in
+    absurd cc

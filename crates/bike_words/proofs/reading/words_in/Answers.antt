@@ -1,4 +1,4 @@
-use Rattle.std.proofs.Common.{◌∙◌, ap, sym, option_and_then}
+use Rattle.std.proofs.Common.{◌∙◌, ap, inl, sym, option_and_then}
 use Rattle.clap.specs.Words.{subcommand_rows_of}
 use Rattle.bike_words.specs.Asked.{Found, name_in}
 use Rattle.bike_words.specs.Names.{word_named}
@@ -11,7 +11,7 @@ returns-in_default-clause-none c = no_word _ (sym c.in_default.ensures)
 
 pub returns-in_default-clause-told : goal.returns-in_default-clause-told
 returns-in_default-clause-told c = λ texts first none is.
-    (first, none_first texts c.args.first.now first (ap (λ (found : Found). option_and_then word_named (name_in found)) (sym is) ∙ sym c.in_default.ensures))
+    (inl none, first, none_first texts c.args.first.now first (ap (λ (found : Found). option_and_then word_named (name_in found)) (sym is) ∙ sym c.in_default.ensures))
 
 pub returns-in-Ok-clause-some : goal.returns-in-Ok-clause-some
 returns-in-Ok-clause-some c =
