@@ -68,3 +68,15 @@ abbrev pub IsOfValue : Mistake → Type 0
 IsOfValue (mistake.Missing word value) = Unit
 IsOfValue (mistake.BadValue word value text) = Unit
 IsOfValue _ = ⊥
+
+-- the word whose usage belongs to what is told, where it is one's
+abbrev pub word_told : Mistake → Option Word
+word_told (mistake.Help word) = word
+word_told (mistake.UnknownWord text) = None
+word_told (mistake.Unexpected word text) = Some word
+word_told (mistake.NoValue word option) = Some word
+word_told (mistake.Repeated word option) = Some word
+word_told (mistake.Misfit word) = Some word
+word_told (mistake.Missing word value) = Some word
+word_told (mistake.BadValue word value text) = Some word
+word_told mistake.NoText = None

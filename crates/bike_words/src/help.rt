@@ -1,7 +1,7 @@
 //! How the program is used: all its words, or one of them. The texts stand in pieces, which are joined when they are written.
 
-ghost use Rattle.std.specs.Prelude.{◌≡◌, codes, true};
-ghost use Rattle.bike_words.specs.Program.{has_line, tells, word_of};
+ghost use Rattle.std.specs.Prelude.{◌≡◌, ◌⊎◌, codes, true};
+ghost use Rattle.bike_words.specs.Program.{form_of, has_line, tells, word_of};
 ghost use Rattle.bike_words.specs.Usage.{text_of};
 ghost use Rattle.bike_words.specs.declared.task.Task.{Task};
 
@@ -76,7 +76,9 @@ const ROW: &str = "  ";
 const FIRST_ROW: &str = "\n\n  ";
 
 /// The word with what it takes.
-pub(crate) fn form_of(word: Word) -> &'static str {
+pub(crate) fn form_of(word: Word) -> &'static str
+    ensures { (task : Task) → word_of task ≡ word → result.now ≡ form_of task }
+{
     match word {
         Word::Init => INIT,
         Word::Check => CHECK,
@@ -141,6 +143,9 @@ pub fn usage() -> &'static [&'static str]
 /// How one word is used: its line, and those of its options and its values.
 pub fn usage_of(word: Word) -> &'static [&'static str]
     ensures word { (task : Task) → word_of task ≡ word → tells (text_of result.now) task ≡ true }
+    ensures at { (word ≡ Word.Feed) ⊎ (word ≡ Word.Import) → has_line (text_of result.now) (codes "--at M") ≡ true }
+    ensures port { word ≡ Word.Serve → has_line (text_of result.now) (codes "--port P") ≡ true }
+    ensures count { word ≡ Word.Serve → has_line (text_of result.now) (codes "--count N") ≡ true }
 {
     match word {
         Word::Init => &[HEAD, INIT, FIRST_ROW, INIT, INIT_DOES, "\n", FILE_IS],

@@ -1,5 +1,8 @@
 //! What is wrong with words that ask for nothing.
 
+ghost use Rattle.std.specs.Prelude.{◌≡◌};
+ghost use Rattle.bike_words.specs.Told.{word_told};
+
 use crate::value::Value;
 use crate::word::Word;
 
@@ -64,7 +67,9 @@ pub enum Mistake<'a> {
 
 impl Mistake<'_> {
     /// The word whose usage belongs to it; none where that of the whole program does.
-    pub(crate) fn word(&self) -> Option<Word> {
+    pub(crate) fn word(&self) -> Option<Word>
+        ensures { result ≡ word_told self.now }
+    {
         match self {
             Mistake::Help { word } => *word,
             Mistake::UnknownWord { .. } | Mistake::NoText => None,

@@ -34,6 +34,7 @@ returns-in-Err-asked-clause-value c = λ mistake word leads none is.
     let so = c.in-Err-asked.ensures.told texts (first_is c.args.words.now _ c.if-is_empty.ensures) c.in-Ok.ensures.taken c.in-Ok.ensures.found in
     let same : c.in-Err-asked.mistake ≡ mistake = cc in
     subst (λ (m : Mistake). IsOfValue m) same (value_told texts c.in-Err-asked.mistake word so leads none)
+
 pub fault_in-requires-clause-first : goal.fault_in-requires-clause-first
 fault_in-requires-clause-first c = first_is c.args.words.now _ c.if-is_empty.ensures
 
