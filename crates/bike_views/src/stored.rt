@@ -24,10 +24,7 @@ fn total(number: u32) -> Result<Total, StatementFault>
 }
 
 /// The numbers of a station's docks, all 0 where it has none.
-fn stored_dock(
-    numbers: &Option<DockNumbers>,
-    is_listed: bool,
-) -> Result<StoredDock, StatementFault>
+fn stored_dock(numbers: &Option<DockNumbers>, is_listed: bool) -> Result<StoredDock, StatementFault>
     ensures { IfOk result (λ dock. dock ≡ dock_read numbers.now is_listed) }
 {
     let (free, broken) = match numbers {
