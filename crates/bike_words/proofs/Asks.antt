@@ -19,6 +19,9 @@ use Rattle.bike_feed_texts.specs.declared.feed.Feed.TheVariants as feeds
 use Rattle.bike_words.specs.Program.{IsWithin, name_of, program, words_for}
 use Rattle.bike_words.specs.Asked.{Ask, Found, Wanted, task_in, task_of, value_in, want_of}
 use Rattle.bike_words.specs.Asked as want
+use Rattle.bike_words.specs.Names.{word_name}
+use Rattle.bike_words.specs.declared.word.Word.{Word}
+use Rattle.bike_words.specs.declared.word.Word.TheVariants as word
 use Rattle.bike_words.specs.declared.task.Task.{Task}
 use Rattle.bike_words.specs.declared.task.Task.TheVariants.{Init, Check, Raise, Lines, Feed, Day, Import, Serve}
 use Rattle.bike_words.proofs.Entered.{Enters, fault_entered, subcommand_entered}
@@ -57,19 +60,29 @@ ident_named name good = rw good refl
 
 -- ---- the words of the program
 
-abbrev shape_of : Text → Shape
+abbrev pub shape_of : Text → Shape
 shape_of name = unwrap_or (find (λ s. answers_to name (label_of s)) (built program).subs) (new_shape [])
 
-enters : (task : Task) → Enters program (name_of task) (shape_of (name_of task))
+pub enters : (it : Word) → Enters program (word_name it) (shape_of (word_name it))
 unfolding program clap_on_literals
-enters Init = record { bare = refl; stops = refl; finds = refl; named = refl; turns = refl; ends = refl }
-enters Check = record { bare = refl; stops = refl; finds = refl; named = refl; turns = refl; ends = refl }
-enters Raise = record { bare = refl; stops = refl; finds = refl; named = refl; turns = refl; ends = refl }
-enters Lines = record { bare = refl; stops = refl; finds = refl; named = refl; turns = refl; ends = refl }
-enters (Feed feed at) = record { bare = refl; stops = refl; finds = refl; named = refl; turns = refl; ends = refl }
-enters (Day table date zone) = record { bare = refl; stops = refl; finds = refl; named = refl; turns = refl; ends = refl }
-enters (Import name at) = record { bare = refl; stops = refl; finds = refl; named = refl; turns = refl; ends = refl }
-enters (Serve port count) = record { bare = refl; stops = refl; finds = refl; named = refl; turns = refl; ends = refl }
+enters word.Init = record { bare = refl; stops = refl; finds = refl; named = refl; turns = refl; ends = refl }
+enters word.Check = record { bare = refl; stops = refl; finds = refl; named = refl; turns = refl; ends = refl }
+enters word.Raise = record { bare = refl; stops = refl; finds = refl; named = refl; turns = refl; ends = refl }
+enters word.Lines = record { bare = refl; stops = refl; finds = refl; named = refl; turns = refl; ends = refl }
+enters word.Feed = record { bare = refl; stops = refl; finds = refl; named = refl; turns = refl; ends = refl }
+enters word.Day = record { bare = refl; stops = refl; finds = refl; named = refl; turns = refl; ends = refl }
+enters word.Import = record { bare = refl; stops = refl; finds = refl; named = refl; turns = refl; ends = refl }
+enters word.Serve = record { bare = refl; stops = refl; finds = refl; named = refl; turns = refl; ends = refl }
+
+task_enters : (task : Task) → Enters program (name_of task) (shape_of (name_of task))
+task_enters Init = enters word.Init
+task_enters Check = enters word.Check
+task_enters Raise = enters word.Raise
+task_enters Lines = enters word.Lines
+task_enters (Feed feed at) = enters word.Feed
+task_enters (Day table date zone) = enters word.Day
+task_enters (Import name at) = enters word.Import
+task_enters (Serve port count) = enters word.Serve
 
 -- what stands behind the task's word is this task on this file
 record Behind (task : Task) (file : Text) (words : List Marked) : Type 0 where
@@ -82,9 +95,9 @@ asks_by task file words are is =
     let name = name_of task in
     let s = shape_of name in
     let rest = map text_of words in
-    let found : subcommand_of program (name ∷ rest) ≡ Some (name, rows_behind s words) = subcommand_entered program name s rest (enters task)
-    ∙ ap₂ (λ (n : Text) (rows : List Row). Some (n, rows)) (enters task).named (rows_marked s words are) in
-    let fault = fault_entered program name s rest (enters task) ∙ ap (λ kinds. or_else kinds []) (level_marked s words are ∙ is.free) in
+    let found : subcommand_of program (name ∷ rest) ≡ Some (name, rows_behind s words) = subcommand_entered program name s rest (task_enters task)
+    ∙ ap₂ (λ (n : Text) (rows : List Row). Some (n, rows)) (task_enters task).named (rows_marked s words are) in
+    let fault = fault_entered program name s rest (task_enters task) ∙ ap (λ kinds. or_else kinds []) (level_marked s words are ∙ is.free) in
     (fault, (ap task_in found ∙ is.tells, ap (λ (f : Found). value_in f (codes "file")) found ∙ is.file_is))
 
 abbrev pub feed_by : Option AnyFeed → Option ℕ → Option Wanted

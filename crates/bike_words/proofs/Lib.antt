@@ -6,3 +6,5 @@ pub mod Numbers
 pub mod Bounds
 pub mod Asks
 pub mod Answer
+pub mod Named
+pub mod Refused

@@ -1,4 +1,5 @@
--- The program as clap reads it: its words, each with its FILE and with what it takes besides.
+-- The program as clap reads it: its words, each with its FILE and with what it takes besides. Nothing is required of clap: what a task
+-- wants has to be found (`Asked.IsFound`).
 use Rattle.std.specs.Prelude.{◌≡◌, ◌==◌, ◌≤◌, ℕ, [], ◌∷◌, ◌++◌, fold, codes, decimal, Bool, true, nat_eq, if◌then◌else◌, List, Option, Some, None, IfSome}
 use Rattle.std.specs.List.{list_any, slice_split, starts_with}
 use Rattle.std.specs.Str.Parse.{starts_with_minus}
@@ -9,6 +10,8 @@ use Rattle.bike_day_texts.specs.Tables.{table_name}
 use Rattle.bike_feed_texts.specs.Feeds.{feed_name}
 use Rattle.bike_words.specs.declared.task.TheConstants.{MOST_CONNECTIONS}
 use Rattle.bike_words.specs.declared.task.Task.{Task}
+use Rattle.bike_words.specs.declared.word.Word.{Word}
+use Rattle.bike_words.specs.declared.word.Word.TheVariants as word
 use Rattle.bike_words.specs.declared.task.Task.TheVariants.{Init, Check, Raise, Lines, Feed, Day, Import, Serve}
 
 abbrev pub name_of : Task → Text
@@ -21,15 +24,15 @@ name_of (Day table date zone) = codes "day"
 name_of (Import name at) = codes "import"
 name_of (Serve port count) = codes "serve"
 
--- a value that has to be there, told by its place
+-- a value that is told by its place
 abbrev pub value_rule : Text → Rule
-value_rule id = record (new_rule id) { required = true }
+value_rule id = new_rule id
 
 -- an option with a value
 abbrev pub option_rule : Text → Rule
 option_rule id = record (new_rule id) { long = Some id }
 
--- the word of this name, which wants a FILE
+-- the word of this name, which takes a FILE
 abbrev pub on_file : Text → App
 on_file name = with_rule (new_app name) (value_rule (codes "file"))
 
@@ -43,7 +46,7 @@ day_word = with_rule (with_rule (with_rule (on_file (codes "day")) (value_rule (
 
 -- .. and a port, and may have a count
 abbrev pub serve_word : App
-serve_word = with_rule (with_rule (on_file (codes "serve")) (record (option_rule (codes "port")) { required = true })) (option_rule (codes "count"))
+serve_word = with_rule (with_rule (on_file (codes "serve")) (option_rule (codes "port"))) (option_rule (codes "count"))
 
 -- its own name is none of the words
 abbrev pub top : App
@@ -87,6 +90,17 @@ IsWithin (Feed feed at) = IfSome at (λ seconds. seconds ≤ last_moment)
 IsWithin (Import name at) = (is_ident name.now ≡ true) × IfSome at (λ seconds. seconds ≤ last_moment)
 IsWithin (Serve port count) = (port ≤ 65535) × IfSome count (λ n. (1 ≤ n) × (n ≤ MOST_CONNECTIONS))
 IsWithin _ = Unit
+
+-- the word that asks for the task
+abbrev pub word_of : Task → Word
+word_of Init = word.Init
+word_of Check = word.Check
+word_of Raise = word.Raise
+word_of Lines = word.Lines
+word_of (Feed feed at) = word.Feed
+word_of (Day table date zone) = word.Day
+word_of (Import name at) = word.Import
+word_of (Serve port count) = word.Serve
 
 -- the word with what it takes, as a user is told
 abbrev pub form_of : Task → Text

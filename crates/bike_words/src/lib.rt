@@ -6,11 +6,19 @@
 
 mod help;
 mod laws;
+mod mistake;
+mod parsing;
 mod program;
 mod reading;
 mod task;
+mod telling;
+mod value;
+mod word;
 
-pub use help::usage;
+pub use help::{usage, usage_of};
 pub use laws::word_laws;
+pub use mistake::Mistake;
 pub use reading::{Words, WordsFault, read_words};
 pub use task::Task;
+pub use value::Value;
+pub use word::Word;

@@ -8,12 +8,13 @@ ghost use Rattle.bike_words.specs.Program.{day_word, named_word, on_file, option
 use clap::{Arg, Command};
 use std::alloc::{AllocError, Global};
 
-/// A value that has to be there, told by its place.
+/// A value that is told by its place. None is required of clap, which wouldn't tell which is missing: what is missing is told where the
+/// values are read.
 fn value<'a>(alloc: Global, id: &'a str) -> Arg<'a>
     ensures rule { rule_of result ≡ value_rule id.entry.now }
     ensures local { result.global ≡ false }
 {
-    Arg::new(alloc, id).required(true)
+    Arg::new(alloc, id)
 }
 
 /// An option with a value.
@@ -85,8 +86,7 @@ fn serve_word<'a>(alloc: Global) -> Result<Command<'a>, AllocError>
     ensures app { IfOk result (λ c. app_of c ≡ serve_word) }
     ensures local { IfOk result (λ c. (fields_of c).has_globals ≡ false) }
 {
-    let port = option(alloc, "port").required(true);
-    let word = with_arg(on_file(alloc, "serve"), port);
+    let word = with_arg(on_file(alloc, "serve"), option(alloc, "port"));
     with_arg(word, option(alloc, "count"))
 }
 

@@ -1,10 +1,14 @@
 //! What the program is asked to do, and what of that stands in clap's matches.
 
-ghost use Rattle.std.specs.Prelude.{◌≡◌, option_map};
+ghost use Rattle.std.specs.Prelude.{◌≡◌, MatchResult, None, Some, option_map};
 ghost use Rattle.clap.specs.Words.{subcommand_rows_of};
-ghost use Rattle.bike_words.specs.Asked.{count_in, day_task, feed_in, feed_task, import_in, import_task, moment_in, name_in, port_in, serve_task};
-ghost use Rattle.bike_words.specs.Asked.{table_in, task_in, task_of, value_in, want_of};
+ghost use Rattle.bike_words.specs.Asked.{count_in, day_task, feed_in, feed_task, import_in, import_task, moment_in, port_in, serve_task};
+ghost use Rattle.bike_words.specs.Asked.{table_in, task_of, value_in, want_of};
+ghost use Rattle.bike_words.specs.Names.{id_of, word_name};
+ghost use Rattle.bike_words.specs.Wrong.{IsRead, IsWrong};
 
+use crate::value::Value;
+use crate::word::Word;
 use bike_day_texts::DayTable;
 use bike_feed_texts::Feed;
 use bike_fields::Ident;
@@ -57,15 +61,17 @@ pub enum Task<'a> {
     },
 }
 
-/// The name of the word that was found.
-fn name_in<'a>(matches: &ArgMatches<'a>) -> Option<&'a str>
-    ensures { option_map (λ name. name.now) result ≡ name_in (subcommand_rows_of matches.now) }
-{
-    matches.subcommand_name()
+/// What is wrong with a value behind a word.
+#[derive(Clone, Copy, Debug, Drop)]
+pub(crate) enum Wrong<'a> {
+    /// There is none, and it is wanted.
+    Missing(Value),
+    /// This text is none of its kind.
+    Bad(Value, &'a str),
 }
 
 /// What was found behind the word under this id.
-pub(crate) fn value_in<'a>(matches: &ArgMatches<'a>, id: &str) -> Option<&'a str>
+fn value_in<'a>(matches: &ArgMatches<'a>, id: &str) -> Option<&'a str>
     ensures { option_map (λ value. value.now) result ≡ value_in (subcommand_rows_of matches.now) id.now }
 {
     match matches.subcommand() {
@@ -74,116 +80,129 @@ pub(crate) fn value_in<'a>(matches: &ArgMatches<'a>, id: &str) -> Option<&'a str
     }
 }
 
-/// The feed of the NAME.
-fn feed_in(matches: &ArgMatches<'_>) -> Option<Feed>
-    ensures { result ≡ feed_in (subcommand_rows_of matches.now) }
+/// The text of a value that is wanted.
+pub(crate) fn wanted_in<'a>(matches: &ArgMatches<'a>, value: Value) -> Result<&'a str, Wrong<'a>>
+    ensures { let given = value_in (subcommand_rows_of matches.now) (id_of value) in
+        MatchResult result (λ text. given ≡ Some text.now) (λ wrong. (given ≡ None) × (wrong ≡ Wrong.Missing value)) }
 {
-    Feed::read(value_in(matches, "name")?)
+    match value_in(matches, value.id()) {
+        Some(text) => Ok(text),
+        None => Err(Wrong::Missing(value)),
+    }
+}
+
+/// The feed of the NAME.
+fn feed_in<'a>(matches: &ArgMatches<'a>) -> Result<Feed, Wrong<'a>>
+    ensures { let found = subcommand_rows_of matches.now in IsRead Word.Feed found (λ feed. feed) (feed_in found) result }
+{
+    let text = wanted_in(matches, Value::Feed)?;
+    Feed::read(text).ok_or(Wrong::Bad(Value::Feed, text))
 }
 
 /// The moment of a feed or an import, which may be left out.
-fn moment_in(matches: &ArgMatches<'_>) -> Option<Option<Moment>>
-    ensures { result ≡ moment_in (subcommand_rows_of matches.now) }
+fn moment_in<'a>(matches: &ArgMatches<'a>) -> Result<Option<Moment>, Wrong<'a>>
+    ensures feed { let found = subcommand_rows_of matches.now in IsRead Word.Feed found (λ at. at) (moment_in found) result }
+    ensures import { let found = subcommand_rows_of matches.now in IsRead Word.Import found (λ at. at) (moment_in found) result }
 {
-    match value_in(matches, "at") {
-        Some(text) => Some(Some(Moment::read(text)?)),
-        None => Some(None),
+    let Some(text) = value_in(matches, "at") else {
+        return Ok(None);
+    };
+    match Moment::read(text) {
+        Some(at) => Ok(Some(at)),
+        None => Err(Wrong::Bad(Value::Moment, text)),
     }
 }
 
 /// The table of the WHICH.
-fn table_in(matches: &ArgMatches<'_>) -> Option<DayTable>
-    ensures { result ≡ table_in (subcommand_rows_of matches.now) }
+fn table_in<'a>(matches: &ArgMatches<'a>) -> Result<DayTable, Wrong<'a>>
+    ensures { let found = subcommand_rows_of matches.now in IsRead Word.Day found (λ table. table) (table_in found) result }
 {
-    DayTable::read(value_in(matches, "which")?)
+    let text = wanted_in(matches, Value::Table)?;
+    DayTable::read(text).ok_or(Wrong::Bad(Value::Table, text))
 }
 
 /// The name of an import.
-fn import_in<'a>(matches: &ArgMatches<'a>) -> Option<&'a str>
-    ensures { option_map (λ name. name.now) result ≡ import_in (subcommand_rows_of matches.now) }
+fn import_in<'a>(matches: &ArgMatches<'a>) -> Result<&'a str, Wrong<'a>>
+    ensures { let found = subcommand_rows_of matches.now in IsRead Word.Import found (λ name. name.now) (import_in found) result }
 {
-    Ident::checked(value_in(matches, "name")?)
+    let text = wanted_in(matches, Value::Import)?;
+    Ident::checked(text).ok_or(Wrong::Bad(Value::Import, text))
 }
 
 /// The port.
-fn port_in(matches: &ArgMatches<'_>) -> Option<u16>
-    ensures { result ≡ port_in (subcommand_rows_of matches.now) }
+fn port_in<'a>(matches: &ArgMatches<'a>) -> Result<u16, Wrong<'a>>
+    ensures { let found = subcommand_rows_of matches.now in IsRead Word.Serve found (λ port. port) (port_in found) result }
 {
-    let port = read_whole(value_in(matches, "port")?, 0, 65_535)?;
-    Some(port as u16)
+    let text = wanted_in(matches, Value::Port)?;
+    match read_whole(text, 0, 65_535) {
+        Some(port) => Ok(port as u16),
+        None => Err(Wrong::Bad(Value::Port, text)),
+    }
 }
 
 /// The number of connections, which may be left out.
-fn count_in(matches: &ArgMatches<'_>) -> Option<Option<u32>>
-    ensures { result ≡ count_in (subcommand_rows_of matches.now) }
+fn count_in<'a>(matches: &ArgMatches<'a>) -> Result<Option<u32>, Wrong<'a>>
+    ensures { let found = subcommand_rows_of matches.now in IsRead Word.Serve found (λ count. count) (count_in found) result }
 {
-    match value_in(matches, "count") {
-        Some(text) => {
-            let count = read_whole(text, 1, MOST_CONNECTIONS)?;
-            Some(Some(count as u32))
-        }
-        None => Some(None),
+    let Some(text) = value_in(matches, "count") else {
+        return Ok(None);
+    };
+    match read_whole(text, 1, MOST_CONNECTIONS) {
+        Some(count) => Ok(Some(count as u32)),
+        None => Err(Wrong::Bad(Value::Count, text)),
     }
 }
 
 /// The feed and its moment.
-fn feed_task<'a>(matches: &ArgMatches<'a>) -> Option<Task<'a>>
-    ensures { option_map want_of result ≡ feed_task (subcommand_rows_of matches.now) }
+fn feed_task<'a>(matches: &ArgMatches<'a>) -> Result<Task<'a>, Wrong<'a>>
+    ensures { let found = subcommand_rows_of matches.now in IsRead Word.Feed found want_of (feed_task found) result }
 {
     let feed = feed_in(matches)?;
     let at = moment_in(matches)?;
-    Some(Task::Feed { feed, at })
+    Ok(Task::Feed { feed, at })
 }
 
 /// The table and its day.
-fn day_task<'a>(matches: &ArgMatches<'a>) -> Option<Task<'a>>
-    ensures { option_map want_of result ≡ day_task (subcommand_rows_of matches.now) }
+fn day_task<'a>(matches: &ArgMatches<'a>) -> Result<Task<'a>, Wrong<'a>>
+    ensures { let found = subcommand_rows_of matches.now in IsRead Word.Day found want_of (day_task found) result }
 {
     let table = table_in(matches)?;
-    let date = value_in(matches, "date")?;
-    let zone = value_in(matches, "zone")?;
-    Some(Task::Day { table, date, zone })
+    let date = wanted_in(matches, Value::Date)?;
+    let zone = wanted_in(matches, Value::Zone)?;
+    Ok(Task::Day { table, date, zone })
 }
 
 /// The import's name and its moment.
-fn import_task<'a>(matches: &ArgMatches<'a>) -> Option<Task<'a>>
-    ensures { option_map want_of result ≡ import_task (subcommand_rows_of matches.now) }
+fn import_task<'a>(matches: &ArgMatches<'a>) -> Result<Task<'a>, Wrong<'a>>
+    ensures { let found = subcommand_rows_of matches.now in IsRead Word.Import found want_of (import_task found) result }
 {
     let name = import_in(matches)?;
     let at = moment_in(matches)?;
-    Some(Task::Import { name, at })
+    Ok(Task::Import { name, at })
 }
 
 /// The port and the number of connections.
-fn serve_task<'a>(matches: &ArgMatches<'a>) -> Option<Task<'a>>
-    ensures { option_map want_of result ≡ serve_task (subcommand_rows_of matches.now) }
+fn serve_task<'a>(matches: &ArgMatches<'a>) -> Result<Task<'a>, Wrong<'a>>
+    ensures { let found = subcommand_rows_of matches.now in IsRead Word.Serve found want_of (serve_task found) result }
 {
     let port = port_in(matches)?;
     let count = count_in(matches)?;
-    Some(Task::Serve { port, count })
+    Ok(Task::Serve { port, count })
 }
 
-/// The task of the word of this name.
+/// The task of the word, by what stands behind it.
 #[tactic(auto, unfolding(crate::specs::Asked::task_of))]
-fn task_of<'a>(name: &str, matches: &ArgMatches<'a>) -> Option<Task<'a>>
-    ensures { option_map want_of result ≡ task_of name.now (subcommand_rows_of matches.now) }
+pub(crate) fn task_of<'a>(word: Word, matches: &ArgMatches<'a>) -> Result<Task<'a>, Wrong<'a>>
+    ensures { let found = subcommand_rows_of matches.now in IsRead word found want_of (task_of (word_name word) found) result }
 {
-    match name {
-        "init" => Some(Task::Init),
-        "check" => Some(Task::Check),
-        "raise" => Some(Task::Raise),
-        "lines" => Some(Task::Lines),
-        "feed" => feed_task(matches),
-        "day" => day_task(matches),
-        "import" => import_task(matches),
-        "serve" => serve_task(matches),
-        _ => None,
+    match word {
+        Word::Init => Ok(Task::Init),
+        Word::Check => Ok(Task::Check),
+        Word::Raise => Ok(Task::Raise),
+        Word::Lines => Ok(Task::Lines),
+        Word::Feed => feed_task(matches),
+        Word::Day => day_task(matches),
+        Word::Import => import_task(matches),
+        Word::Serve => serve_task(matches),
     }
-}
-
-/// The task that was found.
-pub(crate) fn task_in<'a>(matches: &ArgMatches<'a>) -> Option<Task<'a>>
-    ensures { option_map want_of result ≡ task_in (subcommand_rows_of matches.now) }
-{
-    task_of(name_in(matches)?, matches)
 }

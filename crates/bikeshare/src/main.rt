@@ -6,7 +6,7 @@ ghost use Rattle.bike_app.specs.Words.{ServesSockets};
 
 use bike_app::{Counted, Fault, Progress, exit_code, run_on_file, run_words_in_memory};
 use bike_server::{clock_moment, listen, listen_on_file};
-use bike_words::{Task, Words, WordsFault, read_words, usage};
+use bike_words::{Mistake, Task, Words, WordsFault, read_words};
 use sqlite::{Connection, Unknown};
 use std::alloc::{AllocError, Global};
 use std::env;
@@ -19,9 +19,9 @@ const WRONG_WORDS: u8 = 2;
 /// How many bytes of a feed or a table are written at once.
 const PIECE: usize = 65_536;
 
-/// Tells how the program is used; that this can't be written changes nothing.
-fn tell_usage(rt: &HostRuntime) -> ExitCode {
-    let _ = rt.stderr().write_all(usage().as_bytes());
+/// Tells what is wrong with the words, and how the program is used; that this can't be written changes nothing.
+fn tell_mistake(rt: &HostRuntime, mistake: &Mistake<'_>) -> ExitCode {
+    let _ = eprint!(rt; "{mistake}");
     ExitCode::from(WRONG_WORDS)
 }
 
@@ -131,7 +131,7 @@ fn main(rt: HostRuntime) -> ExitCode {
         Err(error) if error.kind() == ErrorKind::OutOfMemory => {
             return exit_code(&mut rt.stderr(), &Err(Fault::OutOfMemory));
         }
-        Err(_) => return tell_usage(&rt),
+        Err(_) => return tell_mistake(&rt, &Mistake::NoText),
     };
     let Ok(texts) = args.skip(1).collect::<Vec<String>>(rt.alloc()) else {
         return exit_code(&mut rt.stderr(), &Err(Fault::OutOfMemory));
@@ -141,7 +141,7 @@ fn main(rt: HostRuntime) -> ExitCode {
     };
     match read_words(rt.alloc(), words.as_slice()) {
         Ok(words) => exit_code(&mut rt.stderr(), &run(&rt, &words)),
-        Err(WordsFault::Usage) => tell_usage(&rt),
+        Err(WordsFault::Usage(mistake)) => tell_mistake(&rt, &mistake),
         Err(WordsFault::NoMemory) => exit_code(&mut rt.stderr(), &Err(Fault::OutOfMemory)),
     }
 }

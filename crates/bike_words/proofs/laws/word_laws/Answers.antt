@@ -1,7 +1,6 @@
 use Rattle.std.proofs.Common.{◌≡◌, ◌∙◌, ℕ, ap, ap₂, arith, refl, sym, codes, [], ◌∷◌, Option, Some, None, option_and_then, false}
 use Rattle.std.proofs.lemmas.Fmt.{decimal_digit}
-use Rattle.clap.specs.Walk.{is_empty}
-use Rattle.clap.specs.Words.{Text, fault_of, subcommand_of}
+use Rattle.clap.specs.Words.{Text, subcommand_of}
 use Rattle.clap.proofs.OnLiterals.{clap_on_literals}
 use Rattle.bike_fixed.specs.Whole.{last_moment, number_of}
 use Rattle.bike_fixed.proofs.Numbers.{number_full}
@@ -11,17 +10,17 @@ use Rattle.bike_feed_texts.specs.Feeds.{feed_of}
 use Rattle.bike_day_texts.specs.declared.table.DayTable.TheVariants.{Rentals}
 use Rattle.bike_feed_texts.specs.declared.feed.Feed.TheVariants.{Gbfs, StationStatus}
 use Rattle.bike_words.specs.Program.{name_of, program}
-use Rattle.bike_words.specs.Asked.{Wanted, task_of}
+use Rattle.bike_words.specs.Asked.{Wanted, task_of, value_in}
 use Rattle.bike_words.specs.Asked as want
 use Rattle.bike_words.specs.declared.task.Task.{Task}
 use Rattle.bike_words.specs.declared.task.Task.TheVariants.{Init, Check, Raise, Lines, Feed, Day, Import, Serve}
 use Rattle.bike_words.proofs.Asks.{feed_by, import_by, serve_by, word_asks}
 use Rattle.bike_words.proofs.Bounds.{found_within}
 use Rattle.bike_words.proofs.Numbers.{no_number, number_read}
-use Rattle.bike_words.proofs.Parse.{faulty, taskless}
+use Rattle.bike_words.proofs.Parse.{faulty, fileless, taskless}
 use Rattle.bike_words.proofs.laws.word_laws.Goals as goal
 
-bare : (task : Task) → is_empty (fault_of program (name_of task ∷ [])) ≡ false
+bare : (task : Task) → value_in (subcommand_of program (name_of task ∷ [])) (codes "file") ≡ None
 unfolding program clap_on_literals
 bare Init = refl
 bare Check = refl
@@ -68,7 +67,7 @@ returns c = record {
   file = word_asks;
   within = λ texts task file asks. found_within (subcommand_of program texts) task asks.1.0;
   dashes = (refl, (refl, refl));
-  bare = λ task. faulty (name_of task ∷ []) (bare task);
+  bare = λ task. fileless (name_of task ∷ []) (bare task);
   second = faulty (codes "check" ∷ codes "f" ∷ codes "g" ∷ []) refl;
   flag = faulty (codes "init" ∷ codes "-f" ∷ []) refl;
   other = faulty (codes "start" ∷ codes "f" ∷ []) refl;
@@ -78,22 +77,22 @@ returns c = record {
   feed = (refl, (refl, refl));
   feed_at = (refl, (ap (feed_by (Some StationStatus)) moment_read, refl));
   no_feed = taskless (codes "feed" ∷ codes "f" ∷ codes "nothing" ∷ []) refl;
-  no_name = faulty (codes "feed" ∷ codes "f" ∷ []) refl;
+  no_name = taskless (codes "feed" ∷ codes "f" ∷ []) refl;
   signed = faulty (codes "feed" ∷ codes "f" ∷ codes "gbfs" ∷ codes "--at" ∷ codes "-1" ∷ []) refl;
   tied = taskless (codes "feed" ∷ codes "f" ∷ codes "gbfs" ∷ codes "--at=-1" ∷ [])
       (ap (feed_by (Some Gbfs)) (no_number 0 last_moment (codes "-1") (omega arith) refl));
   late = taskless (codes "feed" ∷ codes "f" ∷ codes "gbfs" ∷ codes "--at" ∷ codes "253402300800" ∷ []) (ap (feed_by (Some Gbfs)) moment_late);
   day = λ date zone is_date is_zone. (refl, (sym (ap₂ (λ (d z : Text). Some (want.Day Rentals d z)) is_date is_zone), refl));
   no_table = taskless (codes "day" ∷ codes "f" ∷ codes "riders" ∷ codes "2024-03-31" ∷ codes "UTC0" ∷ []) refl;
-  no_zone = faulty (codes "day" ∷ codes "f" ∷ codes "entries" ∷ codes "2024-03-31" ∷ []) refl;
+  no_zone = taskless (codes "day" ∷ codes "f" ∷ codes "entries" ∷ codes "2024-03-31" ∷ []) refl;
   import = λ name is. (refl, (sym (ap (λ (n : Text). Some (want.Import n None)) is), refl));
   import_at = λ name is. (refl, (ap (import_by (Some (codes "harbor-2"))) moment_read ∙ sym (ap (λ (n : Text). Some (want.Import n (Some 1700000000))) is), refl));
   no_ident = taskless (codes "import" ∷ codes "f" ∷ codes "Harbor" ∷ []) refl;
-  unnamed = faulty (codes "import" ∷ codes "f" ∷ []) refl;
+  unnamed = taskless (codes "import" ∷ codes "f" ∷ []) refl;
   serve = (refl, (ap port_alone port_high, refl));
   serve_one = (refl, (ap₂ serve_by port_zero count_one, refl));
   before = (refl, (ap port_alone port_eighty, refl));
-  no_port = faulty (codes "serve" ∷ codes "f" ∷ []) refl;
+  no_port = taskless (codes "serve" ∷ codes "f" ∷ []) refl;
   high = taskless (codes "serve" ∷ codes "f" ∷ codes "--port" ∷ codes "65536" ∷ []) (ap port_alone port_past);
   plus = taskless (codes "serve" ∷ codes "f" ∷ codes "--port" ∷ codes "+80" ∷ []) (ap port_alone (no_number 0 65535 (codes "+80") (omega arith) refl));
   no_count = taskless (codes "serve" ∷ codes "f" ∷ codes "--port" ∷ codes "80" ∷ codes "--count" ∷ codes "0" ∷ []) (ap₂ serve_by port_eighty count_zero);

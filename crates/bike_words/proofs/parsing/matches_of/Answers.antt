@@ -1,6 +1,6 @@
 use Rattle.std.proofs.Common.{map, Bor, List, ℕ, Ok, Err}
-use Rattle.bike_words.proofs.Parse.{only_memory, program_fails, program_matches}
-use Rattle.bike_words.proofs.reading.matches_of.Goals as goal
+use Rattle.bike_words.proofs.Parse.{has_among, program_fails, program_matches}
+use Rattle.bike_words.proofs.parsing.matches_of.Goals as goal
 
 pub returns-in-Ok-try_get_matches_from-clause-taken : goal.returns-in-Ok-try_get_matches_from-clause-taken
 returns-in-Ok-try_get_matches_from-clause-taken c =
@@ -16,4 +16,4 @@ pub returns-in-Err-clause-refused : goal.returns-in-Err-clause-refused
 returns-in-Err-clause-refused c =
     let texts = map (λ (w : Bor (List ℕ)). w.now) c.args.words.now in
     let fails = program_fails _ texts (Err c.in-Err.error) c.in-Ok.ensures c.in-Err.ensures.kinds in
-    λ none. c.fault_in.ensures.memory (only_memory _ c.in-Err.error fails none)
+    has_among c.kind.result c.in-Err.error _ c.kind.ensures fails

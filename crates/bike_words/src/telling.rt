@@ -1,0 +1,157 @@
+//! How a mistake is told: a line that says what is wrong and what is wanted, and the usage of the word.
+
+use crate::help::{FEEDS, form_of, usage, usage_of};
+use crate::mistake::Mistake;
+use crate::value::Value;
+use std::fmt;
+
+/// The names of the words.
+const WORDS: &str = "init, check, raise, lines, feed, day, import or serve";
+
+/// How many characters of a word are shown.
+const MOST_SHOWN: usize = 60;
+
+/// A word as it is shown: in characters that are seen, on one line, and cut where it is long.
+#[derive(Drop)]
+struct Shown<'a>(&'a str);
+
+impl fmt::Display for Shown<'_> {
+    fn fmt<W: fmt::Write>(&self, f: &mut fmt::Formatter<W>) -> fmt::Result {
+        if self.0.is_empty() {
+            return f.write_str("(empty)");
+        }
+        for (place, letter) in self.0.chars().enumerate() {
+            if place == MOST_SHOWN {
+                return f.write_str("..");
+            }
+            if letter == '\'' || letter == '"' {
+                f.write_char(letter)?;
+                continue;
+            }
+            for shown in letter.escape_debug() {
+                f.write_char(shown)?;
+            }
+        }
+        Ok(())
+    }
+}
+
+/// A text that stands in pieces.
+#[derive(Drop)]
+struct Joined(&'static [&'static str]);
+
+impl fmt::Display for Joined {
+    fn fmt<W: fmt::Write>(&self, f: &mut fmt::Formatter<W>) -> fmt::Result {
+        for piece in self.0 {
+            f.write_str(piece)?;
+        }
+        Ok(())
+    }
+}
+
+/// The name of an option: what stands before a `=`.
+fn name_of(option: &str) -> &str {
+    match option.split_once('=') {
+        Some((name, _)) => name,
+        None => option,
+    }
+}
+
+/// What is wanted behind an option.
+fn wanted_behind(option: &str) -> &'static str {
+    match option {
+        "--at" => wanted_as(Value::Moment),
+        "--port" => wanted_as(Value::Port),
+        "--count" => wanted_as(Value::Count),
+        _ => "a value",
+    }
+}
+
+/// What stands for a value in the usage.
+fn sign_of(value: Value) -> &'static str {
+    match value {
+        Value::File => "FILE",
+        Value::Feed | Value::Import => "NAME",
+        Value::Table => "WHICH",
+        Value::Date => "DATE",
+        Value::Zone => "ZONE",
+        Value::Moment => "--at",
+        Value::Port => "--port",
+        Value::Count => "--count",
+    }
+}
+
+/// What is wanted as a value.
+fn wanted_as(value: Value) -> &'static str {
+    match value {
+        Value::File => "an SQLite database, or :memory:",
+        Value::Feed => FEEDS,
+        Value::Table => "entries or rentals",
+        Value::Date => "a day's date as 2024-03-31",
+        Value::Zone => "a POSIX time zone as CET-1CEST,M3.5.0,M10.5.0/3",
+        Value::Import => "1 to 36 of a-z 0-9 _ -",
+        Value::Moment => "a whole number from 0 to 253402300799, with no leading zeros",
+        Value::Port => "a whole number from 0 to 65535, with no leading zeros",
+        Value::Count => "a whole number from 1 to 1000000000, with no leading zeros",
+    }
+}
+
+/// The line that says what is wrong and what is wanted; none of a wish for help.
+#[derive(Drop)]
+struct Line<'a>(Mistake<'a>);
+
+impl fmt::Display for Line<'_> {
+    fn fmt<W: fmt::Write>(&self, f: &mut fmt::Formatter<W>) -> fmt::Result {
+        match self.0 {
+            Mistake::Help { .. } => Ok(()),
+            Mistake::NoText => f.write_str("bikeshare: a word is no UTF-8; wanted are texts\n"),
+            Mistake::UnknownWord { text } => {
+                let word = Shown(text);
+                writeln!(
+                    f,
+                    "bikeshare: {word} is no word of bikeshare; wanted is {WORDS}"
+                )
+            }
+            Mistake::Unexpected { word, text } => {
+                let (extra, form) = (Shown(text), form_of(word));
+                writeln!(f, "bikeshare: {extra} is unexpected; wanted is {form}")
+            }
+            Mistake::NoValue { option, .. } => {
+                let (name, wanted) = (Shown(option), wanted_behind(option));
+                writeln!(f, "bikeshare: {name} has no value; wanted is {wanted}")
+            }
+            Mistake::Repeated { option, .. } => {
+                let name = Shown(name_of(option));
+                writeln!(f, "bikeshare: {name} is given twice; wanted is one value")
+            }
+            Mistake::Misfit { word } => {
+                let (name, form) = (word.name(), form_of(word));
+                writeln!(
+                    f,
+                    "bikeshare: the words are none of {name}; wanted is {form}"
+                )
+            }
+            Mistake::Missing { value, .. } => {
+                let (sign, wanted) = (sign_of(value), wanted_as(value));
+                writeln!(f, "bikeshare: {sign} is missing; wanted is {wanted}")
+            }
+            Mistake::BadValue { value, text, .. } => {
+                let (sign, given, wanted) = (sign_of(value), Shown(text), wanted_as(value));
+                writeln!(f, "bikeshare: {sign} is {given}; wanted is {wanted}")
+            }
+        }
+    }
+}
+
+/// What is wrong and what is wanted, on a line, and how the word is used, or the program where it is no word's. Of a wish for help the
+/// usage alone.
+impl fmt::Display for Mistake<'_> {
+    fn fmt<W: fmt::Write>(&self, f: &mut fmt::Formatter<W>) -> fmt::Result {
+        let usage = match self.word() {
+            Some(word) => usage_of(word),
+            None => usage(),
+        };
+        let (line, usage) = (Line(*self), Joined(usage));
+        write!(f, "{line}{usage}")
+    }
+}
