@@ -25,7 +25,8 @@ use Rattle.bike_book.specs.Writes.{Columns, columns_from}
 use Rattle.bike_book.specs.Between.{docks_left}
 use Rattle.bike_book.proofs.MapRows.{set_entries}
 use Rattle.bike_book.proofs.Keys.{numbers}
-use Rattle.bike_moves.specs.Facts.{DockTotals, BikeTotals, HasDockTotals, HasBikeTotals, DocksMove, BikesMove}
+use Rattle.bike_moves.specs.Facts.{DockTotals, BikeTotals, HasDockTotals, HasBikeTotals}
+use Rattle.bike_moves.proofs.NumbersMove.{DocksMove, BikesMove}
 use Rattle.bike_moves.proofs.TotalsRows.{HasTotalsAt, totals_at, SameDocks, SameBikes, SameBikesElsewhere}
 
 -- ---- the bicycle's own row
