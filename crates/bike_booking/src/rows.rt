@@ -154,12 +154,7 @@ fn push_held_mark<'a>(
 }
 
 /// Adds the row changes of what is put or marked.
-fn push_moved<'a>(
-    rows: &mut Rows<'a>,
-    moved: &Moved<'a>,
-    stored: &Stored,
-    now: Moment,
-)
+fn push_moved<'a>(rows: &mut Rows<'a>, moved: &Moved<'a>, stored: &Stored, now: Moment)
     requires { HasRoom 3 rows.old }
     ensures rows { rows.new.items ≡ rows.old.items ++ moved_rows now stored.now moved.now }
     ensures room { TakesRows 3 rows.old rows.new }
@@ -195,11 +190,7 @@ fn push_moved<'a>(
 }
 
 /// Adds the segments of a plan, a row each, from 1 on.
-fn push_segments<'a>(
-    rows: &mut Rows<'a>,
-    plan: &'a Ident,
-    segments: &'a [Segment],
-)
+fn push_segments<'a>(rows: &mut Rows<'a>, plan: &'a Ident, segments: &'a [Segment])
     requires few { length segments.now ≤ 8 }
     requires room { HasRoom 8 rows.old }
     ensures added { AreAdded (segment_writes plan.now 1 segments.now) rows.old.items rows.new.items }
@@ -244,12 +235,7 @@ fn push_entry<'a>(rows: &mut Rows<'a>, booked: &'a Booked)
 }
 
 /// Adds the operator's moment and sums, and what is kept of the request.
-fn push_close<'a>(
-    rows: &mut Rows<'a>,
-    sums: &Sums,
-    now: Moment,
-    texts: &KeptTexts<'a>,
-)
+fn push_close<'a>(rows: &mut Rows<'a>, sums: &Sums, now: Moment, texts: &KeptTexts<'a>)
     requires { HasRoom 2 rows.old }
     ensures { rows.new.items ≡ rows.old.items ++ close_rows now sums.now texts.now }
 {

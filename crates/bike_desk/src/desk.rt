@@ -115,14 +115,7 @@ impl<S: Alter> Desk<S> {
             figures: self.figures,
         };
         let text = text.as_str();
-        match serve(
-            alloc,
-            &mut self.conn,
-            moment,
-            request,
-            text,
-            &remembered,
-        ) {
+        match serve(alloc, &mut self.conn, moment, request, text, &remembered) {
             Ok(served) => {
                 self.figures = served.figures;
                 Ok(served.reply)

@@ -227,4 +227,3 @@ module _ (s : Operator) (m : Listed) (sound : IsSound s) (listing : IsListing s 
       itself : (o : Option Order) → option_map (λ o. o) o ≡ o
       itself None = refl
       itself (Some o) = refl
-
