@@ -92,7 +92,7 @@ module _ {s n : Operator} {bike : ℕ} {b x : Bike} (h : BikeMoves s n bike b x)
       omega (arith, ints, taken, broken)
 
   -- where it adds as much as before
-  pub docks_stay : (station : List ℕ) → occupied_share s station (Some b) ≡ occupied_share s station (Some x) → SameDocks s n station
+  docks_stay : (station : List ℕ) → occupied_share s station (Some b) ≡ occupied_share s station (Some x) → SameDocks s n station
   docks_stay station same docks = let left = left_moves station docks in (omega (arith, ints, left, same), sym (law.broken station docks))
 
   bikes_stay : (station kind : List ℕ) → available_share s station kind (Some b) ≡ available_share s station kind (Some x) → disabled_share s station kind (Some b) ≡ disabled_share s station kind (Some x)
