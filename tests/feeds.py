@@ -608,7 +608,7 @@ def test_wrong_names_and_moments(program):
         ["gbfs", "--at", "253402300800"], ["gbfs", "--at", "1.5"], ["gbfs", "--at", ""], ["gbfs", "--on", "1"], ["gbfs", "--at", "1", "--at", "2"],
     ):
         status, out, said = program.run("feed", "city.db", *words)
-        assert (status, out) == (2, b"") and said.startswith(b"usage: bikeshare "), (words, status, out, said)
+        assert (status, out) == (2, b"") and shared.tells_mistake(said), (words, status, out, said)
 
 
 def test_a_feed_changes_nothing(program):

@@ -27,7 +27,7 @@ from pathlib import Path
 import feeds
 import formats
 import model
-from shared import FEEDS, Server, accepted, data_of, get, is_sound, line_of, requests_of, reset, rest, told
+from shared import FEEDS, Server, accepted, data_of, get, is_sound, line_of, requests_of, reset, rest, tells_mistake, told
 
 INPUTS = int(os.environ.get("BIKESHARE_INPUTS", "2000"))
 SEED = int(os.environ.get("BIKESHARE_SEED", "1"))
@@ -740,8 +740,6 @@ def test_words(program):
     pick = random.Random(f"{SEED} words")
     make_city(program, "city.db")
     Path(program.folder, "text.db").write_bytes(b"no database\n" * 400)
-    usage = program.run("--help")
-    assert usage[:2] == (2, b"") and usage[2].startswith(b"usage: bikeshare "), usage
     for _ in range(INPUTS // 10):
         words = some_words(pick)
         before = set(os.listdir(program.folder))
@@ -751,7 +749,7 @@ def test_words(program):
             raise AssertionError(f"seed {SEED}: {words!r:.500}: it had not ended after {SECONDS} seconds") from None
         where = f"seed {SEED}: {words!r:.500}: {status, out[:200], said[:200]}"
         if status == 2:
-            assert (out, said) == usage[1:] and set(os.listdir(program.folder)) == before, where
+            assert not out and (said.startswith(b"usage: bikeshare ") or tells_mistake(said)) and set(os.listdir(program.folder)) == before, where
         elif status in (0, "listens"):
             assert not said and OUTPUT.fullmatch(out), where
         else:

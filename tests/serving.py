@@ -17,7 +17,7 @@ from datetime import datetime, timezone
 
 from shared import BAD_FIELD, CITY, DONE, FEEDS, FOREIGN, MOMENT, READ_FAILED, READY, SECONDS, START, STARTED, STORE_FAILED, Server
 from shared import answer, ask, city, error, feed, get, get_feed, holds, is_sound, line_of, office, post, refused
-from shared import request, reset, rest, timeless
+from shared import request, reset, rest, tells_mistake, timeless
 
 NOT_RIDING = answer(200, '{"rider":17,"state":"open","balance_cents":2500,"rental":0}')
 
@@ -988,4 +988,4 @@ def test_wrong_words(program):
         ["--port", "0", "--port", "0"], ["--port", "0", "--count", "1", "more"], ["--count", "1"], ["--port", "0", "--host", "127.0.0.1"],
     ):
         status, out, said = ended(program, "city.db", *words)
-        assert (status, out) == (2, b"") and said.startswith(b"usage: bikeshare "), (words, status, out, said)
+        assert (status, out) == (2, b"") and tells_mistake(said), (words, status, out, said)

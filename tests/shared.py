@@ -23,6 +23,7 @@ import subprocess
 import tempfile
 import threading
 import time
+import unicodedata
 from concurrent.futures import ThreadPoolExecutor
 from pathlib import Path
 
@@ -58,6 +59,13 @@ def shown(line):
         return "nothing"
     text = line.decode(errors="backslashreplace").replace("\t", "⇥")
     return repr(text if len(text) <= 160 else f"{text[:120]}.. ({len(line)} bytes)")
+
+
+def tells_mistake(said):
+    """Whether a mistake in the words is told: a line of characters that are seen, with what is wrong and what is wanted, and a usage below it."""
+    line, _, usage = said.decode().partition("\n")
+    is_seen = len(line) < 1000 and not {"Cc", "Cf", "Zl", "Zp"} & {unicodedata.category(it) for it in line}
+    return is_seen and re.fullmatch("bikeshare: .+; wanted is .+", line) and re.fullmatch(r"usage: bikeshare .+\n\n(?:.*\n)+", usage)
 
 
 def lines_of(data):

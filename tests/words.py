@@ -4,19 +4,48 @@ import contextlib
 import os
 import sqlite3
 
-from shared import READY, SOUND, STORE_FAILED, is_whole
+from shared import READY, SOUND, STORE_FAILED, is_whole, tells_mistake
 
 ADD = b"1700000000\toffice\tk0\tadd-rider\t17\n"
 ADD_AGAIN = b"1700000000\toffice\tk1\tadd-rider\t17\n"
 
+# Each word with what it takes, and what is wanted of its values.
+FORMS = (
+    "init FILE", "check FILE", "raise FILE", "lines FILE", "feed FILE NAME [--at M]", "day FILE WHICH DATE ZONE", "import FILE NAME [--at M]",
+    "serve FILE --port P [--count N]",
+)
+FILE = "an SQLite database, or :memory:"
+FEEDS = "gbfs, system_information, vehicle_types, station_information, station_status, system_pricing_plans or system_regions"
+ZONE = "a POSIX time zone as CET-1CEST,M3.5.0,M10.5.0/3"
+IDENT = "1 to 36 of a-z 0-9 _ -"
+MOMENT = "a whole number from 0 to 253402300799, with no leading zeros"
+PORT = "a whole number from 0 to 65535, with no leading zeros"
+COUNT = "a whole number from 1 to 1000000000, with no leading zeros"
 
-def refuses(program, *words):
-    """Holds the program to the usage text, on standard error alone, and leaves no file."""
+
+def refused(program, *words):
+    """What is told of words that ask for nothing, on standard error alone; no file is left."""
     status, out, said = program.run(*words, given=ADD)
     assert (status, out) == (2, b""), (words, status, out)
-    assert said.startswith(b"usage: bikeshare ") and said.endswith(b"\n"), (words, said)
+    assert said.endswith(b"\n"), (words, said)
     assert not os.listdir(program.folder), (words, os.listdir(program.folder))
+    return said.decode()
+
+
+def helped(program, *words):
+    """The usage that a wish for help is answered with: no mistake is told."""
+    said = refused(program, *words)
+    assert said.startswith("usage: bikeshare "), (words, said)
     return said
+
+
+def is_mistaken(program, line, *words):
+    """Holds the program to this mistake, and to the usage of the word, or to the whole usage where the first word is none."""
+    names = [it.split()[0] for it in FORMS]
+    usage = helped(program, words[0], "--help") if words[0] in names else helped(program, "--help")
+    said = refused(program, *words)
+    assert said == f"bikeshare: {line}\n{usage}", (words, line, said)
+    assert tells_mistake(said.encode()), (words, said)
 
 
 def test_no_words_are_lines_in_memory(program):
@@ -97,57 +126,110 @@ def test_lines_of_a_file_are_kept(program):
 
 
 def test_a_file_that_begins_with_a_hyphen(program):
-    refuses(program, "init", "-city.db")
+    refused(program, "init", "-city.db")
     assert program.run("init", "--", "-city.db") == READY
     assert "-city.db" in os.listdir(program.folder), os.listdir(program.folder)
 
 
 def test_usage_has_a_line_for_each_word(program):
-    said = refuses(program, "--help")
-    for form in (
-        b"init FILE",
-        b"check FILE",
-        b"raise FILE",
-        b"lines FILE",
-        b"feed FILE NAME [--at M]",
-        b"day FILE WHICH DATE ZONE",
-        b"import FILE NAME [--at M]",
-        b"serve FILE --port P [--count N]",
-    ):
-        assert b"\n  " + form + b"  " in said, said
-    for option in b"--at M", b"--port P", b"--count N":
-        assert b"\n  " + option + b"  " in said, said
-    assert b":memory:" in said, said
+    said = helped(program, "--help")
+    for form in FORMS:
+        assert f"\n  {form}  " in said, (form, said)
+    for option in "--at M", "--port P", "--count N":
+        assert f"\n  {option}  " in said, (option, said)
+    assert ":memory:" in said, said
 
 
-def test_wrong_words(program):
-    said = refuses(program, "--help")
-    for words in (
-        ["help"],
-        ["-h"],
-        ["init", "--help"],
-        ["start", "city.db"],
-        ["Init", "city.db"],
-        ["city.db"],
-        [""],
-        ["init"],
-        ["check"],
-        ["lines"],
-        ["init", "city.db", "other.db"],
-        ["lines", "city.db", "other.db"],
-        ["feed", "city.db"],
-        ["feed", "gbfs"],
-        ["feed", "city.db", "nothing"],
-        ["day", "city.db", "entries", "2024-03-31"],
-        ["day", "city.db", "riders", "2024-03-31", "UTC0"],
-        ["day", "city.db", "entries", "-1", "UTC0"],
-        ["import", "city.db"],
-        ["import", "city.db", "Spring"],
-        ["import", "city.db", "spring", "--at", "253402300800"],
-        ["init", "--force", "city.db"],
+def test_usage_of_a_word(program):
+    """It is what the whole usage says of the word, of its options and of its values."""
+    whole = helped(program, "--help")
+    for form in FORMS:
+        said = helped(program, form.split()[0], "--help")
+        head, *lines = said.splitlines()
+        assert head == f"usage: bikeshare {form}" and f"\n  {form}  " in said, (form, said)
+        assert set(lines) < set(whole.splitlines()), (form, said)
+        for option in "--at M", "--port P", "--count N":
+            assert (f"\n  {option}  " in said) == (option in form), (form, option, said)
+        assert ("A feed's NAME is " in said) == form.startswith("feed ") and ("An import's NAME is " in said) == form.startswith("import "), (form, said)
+        assert ("WHICH is " in said) == form.startswith("day ") and "\nFILE is " in said, (form, said)
+
+
+def test_help(program):
+    whole = helped(program, "--help")
+    for words in ["-h"], ["help"], ["help", "feed"], ["--help", "city.db"]:
+        assert helped(program, *words) == whole, words
+    feed = helped(program, "feed", "--help")
+    for words in ["-h"], ["city.db", "--help"], ["city.db", "nothing", "-h"]:
+        assert helped(program, "feed", *words) == feed, words
+
+
+def test_first_words_that_are_none(program):
+    wanted = "init, check, raise, lines, feed, day, import or serve"
+    for words in ["start", "city.db"], ["Init", "city.db"], ["city.db"], ["-x"], ["--"], ["--", "init", "city.db"], ["help", "nothing"]:
+        is_mistaken(program, f"{words[0]} is no word of bikeshare; wanted is {wanted}", *words)
+    is_mistaken(program, f"(empty) is no word of bikeshare; wanted is {wanted}", "")
+
+
+def test_values_that_are_missing(program):
+    for word in "init", "check", "raise", "lines", "feed", "day", "import", "serve":
+        is_mistaken(program, f"FILE is missing; wanted is {FILE}", word)
+    is_mistaken(program, f"FILE is missing; wanted is {FILE}", "serve", "--port", "x")
+    is_mistaken(program, f"NAME is missing; wanted is {FEEDS}", "feed", "gbfs")
+    is_mistaken(program, f"NAME is missing; wanted is {FEEDS}", "feed", "city.db", "--at", "x")
+    is_mistaken(program, f"NAME is missing; wanted is {IDENT}", "import", "city.db")
+    is_mistaken(program, "WHICH is missing; wanted is entries or rentals", "day", "city.db")
+    is_mistaken(program, "DATE is missing; wanted is a day's date as 2024-03-31", "day", "city.db", "entries")
+    is_mistaken(program, f"ZONE is missing; wanted is {ZONE}", "day", "city.db", "entries", "2024-03-31")
+    is_mistaken(program, f"--port is missing; wanted is {PORT}", "serve", "city.db", "--count", "1")
+
+
+def test_values_that_are_bad(program):
+    for text, shown in ("080", "080"), ("65536", "65536"), ("+80", "+80"), ("x", "x"), ("", "(empty)"), (" 1", " 1"), ("\u0661", "\u0661"):
+        is_mistaken(program, f"--port is {shown}; wanted is {PORT}", "serve", "city.db", "--port", text)
+        is_mistaken(program, f"--port is {shown}; wanted is {PORT}", "serve", f"--port={text}", "--count", "0", "city.db")
+    for text in "0", "01", "1000000001":
+        is_mistaken(program, f"--count is {text}; wanted is {COUNT}", "serve", "city.db", "--port", "0", "--count", text)
+    is_mistaken(program, f"--at is 253402300800; wanted is {MOMENT}", "import", "city.db", "spring", "--at", "253402300800")
+    is_mistaken(program, f"--at is -1; wanted is {MOMENT}", "feed", "city.db", "gbfs", "--at=-1")
+    is_mistaken(program, f"NAME is nothing; wanted is {FEEDS}", "feed", "city.db", "nothing", "--at", "x")
+    is_mistaken(program, f"NAME is Spring; wanted is {IDENT}", "import", "city.db", "Spring")
+    is_mistaken(program, "WHICH is riders; wanted is entries or rentals", "day", "city.db", "riders", "2024-03-31", "UTC0")
+
+
+def test_options_without_a_value_or_twice(program):
+    for words in ["--port"], ["--port", "--count", "1"], ["--count", "1", "--port"], ["--port", "--"]:
+        is_mistaken(program, f"--port has no value; wanted is {PORT}", "serve", "city.db", *words)
+    is_mistaken(program, f"--count has no value; wanted is {COUNT}", "serve", "city.db", "--port", "1", "--count")
+    is_mistaken(program, f"--at has no value; wanted is {MOMENT}", "feed", "city.db", "gbfs", "--at", "1", "--at")
+    for words in ["--port", "1", "--port", "2"], ["--port=1", "--port=1"], ["--port", "1", "--count", "2", "--port", "3"]:
+        is_mistaken(program, "--port is given twice; wanted is one value", "serve", "city.db", *words)
+    is_mistaken(program, "--at is given twice; wanted is one value", "import", "city.db", "spring", "--at", "1", "--at=2")
+
+
+def test_words_too_many(program):
+    for form in FORMS:
+        name = form.split()[0]
+        options = [it for it in ("--at", "--port", "--count") if it not in form]
+        for text in ["-1", "--force", "-x", "--help=yes", *options]:
+            is_mistaken(program, f"{text} is unexpected; wanted is {form}", name, "city.db", text, "80")
+    is_mistaken(program, "other.db is unexpected; wanted is init FILE", "init", "city.db", "other.db", "third.db")
+    is_mistaken(program, "-city.db is unexpected; wanted is init FILE", "init", "-city.db")
+    is_mistaken(program, "gbfs is unexpected; wanted is feed FILE NAME [--at M]", "feed", "city.db", "gbfs", "gbfs")
+    is_mistaken(program, "-1 is unexpected; wanted is day FILE WHICH DATE ZONE", "day", "city.db", "entries", "-1", "UTC0")
+    is_mistaken(program, "0 is unexpected; wanted is serve FILE --port P [--count N]", "serve", "city.db", "0")
+    is_mistaken(program, "more is unexpected; wanted is init FILE", "init", "city.db", "more", *["word"] * 10_000)
+
+
+def test_what_was_typed_is_shown_on_one_line(program):
+    """Nothing of it is taken by a terminal as a command, and a long word is cut."""
+    for text, shown in (
+        ("st\x1b[31mart", r"st\u{1b}[31mart"), ("a\nb\r\tc", r"a\nb\r\tc"), ("\x7f\x9b2J", r"\u{7f}\u{9b}2J"), ("\u202egbfs", r"\u{202e}gbfs"),
+        ("back\\slash", r"back\\slash"), ("it's \"it\"", "it's \"it\""), ("Zürich", "Zürich"), ("x" * 60, "x" * 60), ("y" * 100_000, "y" * 60 + ".."),
     ):
-        assert refuses(program, *words) == said, words
+        is_mistaken(program, f"NAME is {shown}; wanted is {FEEDS}", "feed", "city.db", text)
+        is_mistaken(program, f"{shown} is no word of bikeshare; wanted is init, check, raise, lines, feed, day, import or serve", text)
 
 
 def test_words_that_are_not_utf_8(program):
-    refuses(program, "init", b"\xff")
+    said = refused(program, "init", b"\xff")
+    assert said == f"bikeshare: a word isn't UTF-8; wanted is UTF-8\n{helped(program, '--help')}", said

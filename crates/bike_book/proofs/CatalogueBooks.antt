@@ -9,13 +9,14 @@ use Rattle.std.proofs.lemmas.Int.{ints}
 use Rattle.sqlite_value.specs.Order.{Row, row_cmp}
 use Rattle.bike_rows.specs.View.{put_row_by}
 use Rattle.bike_operator.specs.Rows.{SystemRow}
-use Rattle.bike_operator.specs.declared.change.Change.TheVariants as change
 use Rattle.bike_operator.specs.Operator.{Operator, Station, NameKey, name_key}
 use Rattle.bike_operator.specs.Steps.{key_changed, new_station}
-use Rattle.bike_operator.specs.Changes.{with_change, text_in}
+use Rattle.bike_operator.specs.Changes.{text_in}
 use Rattle.bike_operator.specs.Sound.{AreNamesSound}
 use Rattle.bike_places.proofs.MapLemmas.{number_order, text_order, known_added, known_changed}
 use Rattle.bike_places.proofs.CatalogueLemmas.{same_docks, docks_changed, docks_added}
+use Rattle.bike_accepted.specs.declared.change.Change.TheVariants as change
+use Rattle.bike_accepted.specs.Effects.{after_change}
 use Rattle.bike_book.specs.Rows.{system_row, station_row}
 use Rattle.bike_book.specs.Stored.{system_rows, stored_type, stored_region, stored_name}
 use Rattle.bike_book.specs.Between.{docks_left, counted_station, tables_between}
@@ -37,7 +38,7 @@ system_put x (Some y) = rw one_key refl
 pub set_system : Everywhere SetSystemLaw
 set_system s m now listing x = record {
   leads = λ i. record (tables_between s m) { system = system_put x.now s.system i };
-  listing = listing_same s (with_change now (change.SetSystem x) s) m (names_same s (with_change now (change.SetSystem x) s) refl refl) refl refl listing;
+  listing = listing_same s (after_change now (change.SetSystem x) s) m (names_same s (after_change now (change.SetSystem x) s) refl refl) refl refl listing;
 }
 
 -- ---- types
@@ -47,7 +48,7 @@ types_known s n stations types = let same = names_same s (record n { types = s.t
 
 pub add_type : Everywhere AddTypeLaw
 add_type s m now listing t =
-    let n = with_change now (change.AddType t) s in
+    let n = after_change now (change.AddType t) s in
     let types = put_entries texts stored_type stored_type (λ e. refl) (λ e. refl) s.types t.now.type_id t.now tt (λ q y found. (tt, λ apart. refl)) in
     record {
       leads = λ i. record (tables_between s m) { types = types i };
@@ -56,7 +57,7 @@ add_type s m now listing t =
 
 pub set_plan : Everywhere SetPlanLaw
 set_plan s m now listing type_id plan =
-    let n = with_change now (change.SetPlan type_id plan) s in
+    let n = after_change now (change.SetPlan type_id plan) s in
     let types = changed_entries texts stored_type stored_type (λ e. refl) (λ e. refl) s.types type_id.now tt _ (λ t. record t { plan_id = plan.now }) (λ v found. refl) (λ q y found. (tt, λ apart. refl)) in
     record {
       leads = λ i. record (tables_between s m) { types = types i };
@@ -67,7 +68,7 @@ set_plan s m now listing type_id plan =
 
 pub add_region : Everywhere AddRegionLaw
 add_region s m now listing r =
-    let n = with_change now (change.AddRegion r) s in
+    let n = after_change now (change.AddRegion r) s in
     let regions = put_entries texts stored_region stored_region (λ e. refl) (λ e. refl) s.regions r.now.region_id r.now tt (λ q y found. (tt, λ apart. refl)) in
     record { leads = λ i. record (tables_between s m) { regions = regions i }; listing = listing_same s n m (names_same s n refl refl) refl refl listing }
 
@@ -75,7 +76,7 @@ add_region s m now listing r =
 
 pub add_station : Everywhere AddStationLaw
 add_station s m now listing x free none_taken none_broken =
-    let n = with_change now (change.AddStation x) s in
+    let n = after_change now (change.AddStation x) s in
     let left : pos x.now.docks ≡ docks_left s x.now.station_id x.now.docks = omega (arith, ints, none_taken, none_broken) in
     let stations =
     ap (λ (r : Row). put_row_by 1 r (map (counted_station s) (fin.entries s.stations))) (ap₂ (station_row x.now.station_id (new_station x.now now)) left (sym none_broken))
@@ -99,7 +100,7 @@ names_station s id f rows = record {
 
 pub set_station : Everywhere SetStationLaw
 set_station s m now listing station installed renting returning =
-    let n = with_change now (change.SetStation station installed renting returning) s in
+    let n = after_change now (change.SetStation station installed renting returning) s in
     let f = λ (x : Station). record x { is_installed = installed; is_renting = renting; is_returning = returning; reported = now } in
     let stations = changed_entries texts (counted_station s) (counted_station s) (λ e. refl) (λ e. refl) s.stations station.now tt _ f (λ v found. refl) (λ q y found. (tt, λ apart. refl)) in
     record {
@@ -109,7 +110,7 @@ set_station s m now listing station installed renting returning =
 
 pub set_region : Everywhere SetRegionLaw
 set_region s m now listing station region =
-    let n = with_change now (change.SetRegion station region) s in
+    let n = after_change now (change.SetRegion station region) s in
     let f = λ (x : Station). record x { region = text_in region } in
     let stations = changed_entries texts (counted_station s) (counted_station s) (λ e. refl) (λ e. refl) s.stations station.now tt _ f (λ v found. refl) (λ q y found. (tt, λ apart. refl)) in
     record {
@@ -124,7 +125,7 @@ named_triple s are key name found = let it = are.names key name found in record 
 
 pub add_name : Everywhere AddNameLaw
 add_name s m now listing kind id language name are =
-    let n = with_change now (change.AddName kind id language name) s in
+    let n = after_change now (change.AddName kind id language name) s in
     let names =
     put_entries triples stored_name stored_name (λ e. refl) (λ e. refl) s.more_names (name_key kind id.now language.now) name.now (name_triple kind id.now language.now)
     (λ q y found. (named_triple s are q y found, λ apart. refl)) in

@@ -1,26 +1,19 @@
 -- The row changes that book the close of a request: its entry, the moment and sums, and what is kept.
-use Rattle.std.proofs.Common.{◌≡◌, ℕ, ℤ, ◌+◌, List, [], ◌∷◌, ◌++◌, length, Option, Some, None, refl, sym, ap, ap₂, ◌∙◌}
+use Rattle.std.proofs.Common.{◌≡◌, ℕ, ℤ, List, [], ◌∷◌, Some, refl, sym, ap₂, ◌∙◌}
 use Rattle.std.specs.Prelude.{map}
 use Rattle.std.specs.FinMap as fin
-use Rattle.std.specs.FinMap.{FinMap}
 use Rattle.bike_rows.specs.View.{put_row_by}
-use Rattle.bike_ledger.specs.Entries.{Entry}
 use Rattle.bike_ledger.specs.Ledger.{cash_of, revenue_of}
 use Rattle.bike_commands.specs.declared.reply.Reply.{Reply}
 use Rattle.bike_commands.specs.declared.request.Request.{Request}
-use Rattle.bike_operator.specs.declared.change.Change.{Change}
-use Rattle.bike_operator.specs.declared.change.Change.TheVariants as change
-use Rattle.bike_operator.specs.declared.change.Accepted.{Accepted}
-use Rattle.bike_operator.specs.Operator.{Operator, Kept, Key, texts_cmp, item_numbered}
-use Rattle.bike_operator.specs.Changes.{with_change, with_changes, present, entry_added, effect_of}
-use Rattle.bike_operator.specs.Runs.{key_in, after_acceptance}
-use Rattle.bike_places.proofs.ItemLemmas.{number_last}
+use Rattle.bike_operator.specs.Operator.{Operator, Kept, Key}
+use Rattle.bike_operator.specs.Changes.{entry_added}
+use Rattle.bike_operator.specs.Runs.{key_in}
 use Rattle.bike_book.specs.declared.version.TheConstants.{NEWEST}
 use Rattle.bike_book.specs.Rows.{meta_row, kept_row}
 use Rattle.bike_book.specs.Stored.{stored_kept}
 use Rattle.bike_book.specs.Between.{tables_between}
-use Rattle.bike_book.specs.ChangeLaws.{LeavesLedger, ChangesLeaveLedger}
-use Rattle.bike_book.specs.CloseLaws.{after_close, AreKept, AreTextsOf, QuietCloseLaw, EntryCloseLaw, RefundCloseLaw, AtEachClose, AcceptedIsClosed, AcceptedEntryNumber, ChangesLeaveKept}
+use Rattle.bike_book.specs.CloseLaws.{after_close, AreKept, AreTextsOf, QuietCloseLaw, EntryCloseLaw, RefundCloseLaw, AtEachClose}
 use Rattle.bike_book.proofs.MapRows.{put_entries}
 use Rattle.bike_book.proofs.Keys.{pairs, IsPair}
 use Rattle.bike_book.proofs.ListingLemmas.{names_same, listing_same}
@@ -72,60 +65,3 @@ close_refund s m now q r caller key command reply listing are texts e balance re
       leads = λ i. record (tables_between s m) { meta = meta i; kept = kept i; entries = entries i; riders = riders i; rentals = rentals i };
       listing = listing_same s n m (names_same s n refl refl) refl refl listing;
     }
-
--- ---- what changes leave
-
-leaves : (now : ℕ) (c : Change) (s : Operator) → LeavesLedger s (with_change now c s)
-leaves now (change.SetSystem x) s = record { entries = refl; kept = refl; now = refl }
-leaves now (change.AddPlan p) s = record { entries = refl; kept = refl; now = refl }
-leaves now (change.AddType t) s = record { entries = refl; kept = refl; now = refl }
-leaves now (change.SetPlan type_id plan) s = record { entries = refl; kept = refl; now = refl }
-leaves now (change.AddStation x) s = record { entries = refl; kept = refl; now = refl }
-leaves now (change.SetStation station installed renting returning) s = record { entries = refl; kept = refl; now = refl }
-leaves now (change.Report station) s = record { entries = refl; kept = refl; now = refl }
-leaves now (change.BreakDock station dock) s = record { entries = refl; kept = refl; now = refl }
-leaves now (change.MendDock station dock) s = record { entries = refl; kept = refl; now = refl }
-leaves now (change.AddBike bike type_id) s = record { entries = refl; kept = refl; now = refl }
-leaves now (change.SetState bike state) s = record { entries = refl; kept = refl; now = refl }
-leaves now (change.PlaceBike bike p) s = record { entries = refl; kept = refl; now = refl }
-leaves now (change.AddTruck truck capacity) s = record { entries = refl; kept = refl; now = refl }
-leaves now (change.SetRider rider blocked) s = record { entries = refl; kept = refl; now = refl }
-leaves now (change.AddRental rider bike plan from_station) s = record { entries = refl; kept = refl; now = refl }
-leaves now (change.CloseRental rental to_station fare) s = record { entries = refl; kept = refl; now = refl }
-leaves now (change.AddOrder truck from_end to_end type_id count) s = record { entries = refl; kept = refl; now = refl }
-leaves now (change.Deliver order) s = record { entries = refl; kept = refl; now = refl }
-leaves now (change.CloseOrder order) s = record { entries = refl; kept = refl; now = refl }
-leaves now (change.AddRegion r) s = record { entries = refl; kept = refl; now = refl }
-leaves now (change.SetRegion station region) s = record { entries = refl; kept = refl; now = refl }
-leaves now (change.AddName kind id language name) s = record { entries = refl; kept = refl; now = refl }
-
-pub changes_leave : ChangesLeaveLedger
-changes_leave now [] s = record { entries = refl; kept = refl; now = refl }
-changes_leave now (c ∷ cs) s =
-    let first = leaves now c s in
-    let rest = changes_leave now cs (with_change now c s) in
-    record { entries = rest.entries ∙ first.entries; kept = rest.kept ∙ first.kept; now = rest.now ∙ first.now }
-
--- ---- the operator after an accepted request
-
-kept_stays : (now : ℕ) (a : Accepted) (s : Operator) → (effect_of now a s).kept ≡ s.kept
-kept_stays now a s = go a.entry where
-  go : (e : Option Entry) → (entry_added e (with_changes now (present a.changes) s)).kept ≡ s.kept
-  go None = (changes_leave now (present a.changes) s).kept
-  go (Some e) = (changes_leave now (present a.changes) s).kept
-
-pub accepted_closed : AcceptedIsClosed
-accepted_closed s now q a decides =
-    (λ i. record (sym decides.2 i) { now = now; kept = fin.insert (sym (kept_stays now a s) i) (key_in q) (record { command = q.command; reply = sym decides.1 i }) })
-
-pub accepted_entry : AcceptedEntryNumber
-accepted_entry s now q a e decides entry_is sound =
-    let before = with_changes now (present a.changes) s in
-    let n = after_acceptance s now q in
-    let entries : n.entries ≡ before.entries ++ e ∷ [] =
-    ap (λ (o : Operator). o.entries) (accepted_closed s now q a decides) ∙ ap (λ (o : Option Entry). (entry_added o before).entries) entry_is in
-    let last : item_numbered (length before.entries + 1) n.entries ≡ Some e = ap (item_numbered (length before.entries + 1)) entries ∙ number_last before.entries e in
-    (sound.ledger.entries (length before.entries + 1) e last).number_is
-
-pub kept_left : ChangesLeaveKept
-kept_left s now changes sound key k found = sound.kept key k (ap (λ (m : FinMap texts_cmp Kept). fin.get m key) (sym (changes_leave now changes s).kept) ∙ found)

@@ -11,10 +11,10 @@ use Rattle.sqlite_value.proofs.OrderLemmas.{value_cmp-Text, then-Equal}
 use Rattle.sqlite_rules.specs.Lists.{Has}
 use Rattle.bike_rows.specs.View.{by_key, put_row_by}
 use Rattle.bike_operator.specs.Rows.{SegmentRow, PlanRow}
-use Rattle.bike_operator.specs.declared.change.Change.TheVariants as change
 use Rattle.bike_operator.specs.Operator.{text_cmp}
-use Rattle.bike_operator.specs.Changes.{with_change}
 use Rattle.bike_places.proofs.MapLemmas.{text_order}
+use Rattle.bike_accepted.specs.declared.change.Change.TheVariants as change
+use Rattle.bike_accepted.specs.Effects.{after_change}
 use Rattle.bike_book.specs.Tables.{Tables, Plans, Segments}
 use Rattle.bike_book.specs.Rows.{plan_row, segment_row}
 use Rattle.bike_book.specs.Stored.{stored_plan, segment_rows, plans_segments}
@@ -155,7 +155,7 @@ segments_written id seq (g ∷ gs) t = segments_written id (suc seq) gs (tables_
 
 pub add_plan : Everywhere AddPlanLaw
 add_plan s m now listing p rows free are =
-    let n = with_change now (change.AddPlan p) s in
+    let n = after_change now (change.AddPlan p) s in
     let id = p.now.plan_id in
     let plans = put_entries texts stored_plan stored_plan (λ e. refl) (λ e. refl) s.plans id p.now tt (λ q y found. (tt, λ apart. refl)) in
     let segments =

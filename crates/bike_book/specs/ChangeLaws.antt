@@ -1,4 +1,4 @@
--- The row changes that book each change of a catalogue record, rider, rental or order, and each bicycle that is added.
+-- The row changes that book each record that an accepted command puts or adds.
 use Rattle.std.specs.Prelude.{◌≡◌, ◌+◌, ℕ, suc, ℤ, pos, length, List, [], ◌∷◌, ◌++◌, Bool, true, false, Option, Some, None}
 use Rattle.std.specs.Borrow.{Bor}
 use Rattle.std.specs.FinMap as fin
@@ -7,13 +7,13 @@ use Rattle.bike_operator.specs.Rows.{SegmentRow, PlanRow, TypeRow, RegionRow, St
 use Rattle.bike_ledger.specs.Ledger.{balance_of, refunded_of}
 use Rattle.bike_commands.specs.OrderEnd.{OrderEnd}
 use Rattle.bike_operator.specs.declared.records.Order.{Order}
-use Rattle.bike_operator.specs.declared.change.Change.{Change}
-use Rattle.bike_operator.specs.declared.change.Change.TheVariants as change
 use Rattle.bike_operator.specs.Operator.{Operator, item_numbered}
 use Rattle.bike_operator.specs.Counts.{docks_broken}
-use Rattle.bike_operator.specs.Changes.{with_change, with_changes}
 use Rattle.bike_operator.specs.Sound.{AreNamesSound}
 use Rattle.bike_places.specs.Numbers.{occupied_docks}
+use Rattle.bike_accepted.specs.declared.change.Change.{Change}
+use Rattle.bike_accepted.specs.declared.change.Change.TheVariants as change
+use Rattle.bike_accepted.specs.Effects.{after_change}
 use Rattle.bike_book.specs.declared.row_change.RowChange.{RowChange}
 use Rattle.bike_book.specs.declared.row_change.RowChange.TheVariants as row
 use Rattle.bike_book.specs.Tables.{Segments}
@@ -30,7 +30,7 @@ segment_writes plan seq (g ∷ gs) = Add Segments (segment_row plan seq g) ∷ s
 module _ (s : Operator) (m : Listed) (now : ℕ) where
   -- The row changes book the change, and the same rows are listed after it.
   abbrev pub BooksChange : List RowChange → Change → Type 0
-  BooksChange rows c = Books rows s m (with_change now c s) m
+  BooksChange rows c = Books rows s m (after_change now c s) m
 
   -- ---- the catalogue
 
@@ -92,7 +92,7 @@ module _ (s : Operator) (m : Listed) (now : ℕ) where
 
   -- a rider whose balance is 0, as of one who isn't there
   abbrev pub AddRiderLaw : Type 0
-  AddRiderLaw = (rider : ℕ) (blocked : Bool) → balance_of rider s.entries ≡ pos 0 → BooksChange (row.AddRider rider blocked ∷ []) (change.SetRider rider blocked)
+  AddRiderLaw = (rider : ℕ) → balance_of rider s.entries ≡ pos 0 → BooksChange (row.AddRider rider false ∷ []) (change.AddRider rider)
 
   -- a rider who is there
   abbrev pub SetRiderLaw : Type 0
@@ -104,7 +104,7 @@ module _ (s : Operator) (m : Listed) (now : ℕ) where
   abbrev pub AddRentalLaw : Type 0
   AddRentalLaw =
       (rental rider bike : ℕ) (plan from_station : Bor (List ℕ)) → rental ≡ length s.rentals + 1 → refunded_of rental s.entries ≡ pos 0
-      → BooksChange (row.AddRental rental rider bike plan from_station now ∷ []) (change.AddRental rider bike plan from_station)
+      → BooksChange (row.AddRental rental rider bike plan from_station now ∷ []) (change.AddRental rental rider bike plan from_station)
 
   -- a rental closed, where it is there
   abbrev pub CloseRentalLaw : Type 0
@@ -115,39 +115,24 @@ module _ (s : Operator) (m : Listed) (now : ℕ) where
   abbrev pub AddOrderLaw : Type 0
   AddOrderLaw =
       (order truck : ℕ) (from_end to_end : Bor OrderEnd) (type_id : Bor (List ℕ)) (count : ℕ) → order ≡ length s.orders + 1
-      → BooksChange (row.AddOrder order truck from_end to_end type_id count ∷ []) (change.AddOrder truck from_end to_end type_id count)
+      → BooksChange (row.AddOrder order truck from_end to_end type_id count ∷ []) (change.AddOrder order truck from_end to_end type_id count)
 
   -- an order that is there, with one more delivered
   abbrev pub DeliverLaw : Type 0
   DeliverLaw =
-      (order delivered : ℕ) (is_open : Bool) (o : Order) → item_numbered order s.orders ≡ Some o → delivered ≡ o.delivered + 1 → is_open ≡ o.is_open
-      → BooksChange (row.SetOrder order delivered is_open ∷ []) (change.Deliver order)
+      (order : ℕ) (was : Bor Order) (delivered : ℕ) → item_numbered order s.orders ≡ Some was.now → delivered ≡ was.now.delivered + 1
+      → BooksChange (row.SetOrder order delivered was.now.is_open ∷ []) (change.Deliver order was delivered)
 
   -- an order that is there
   abbrev pub CloseOrderLaw : Type 0
   CloseOrderLaw =
-      (order delivered : ℕ) (o : Order) → item_numbered order s.orders ≡ Some o → delivered ≡ o.delivered
-      → BooksChange (row.SetOrder order delivered false ∷ []) (change.CloseOrder order)
+      (order : ℕ) (was : Bor Order) → item_numbered order s.orders ≡ Some was.now → BooksChange (row.SetOrder order was.now.delivered false ∷ []) (change.CloseOrder order was)
 
 -- The law holds of each operator whose rows are listed right, at each moment.
 abbrev pub Everywhere : (Operator → Listed → ℕ → Type 0) → Type 0
 Everywhere Law = (s : Operator) (m : Listed) (now : ℕ) → IsListing s m → Law s m now
 
--- no row change leads to the same operator
-abbrev pub NoneInTurn : Type 0
-NoneInTurn = (s : Operator) (m : Listed) → IsListing s m → Books [] s m s m
-
 -- the row changes of two steps, one after the other, lead through both
 abbrev pub BothInTurn : Type 0
 BothInTurn =
     (cs ds : List RowChange) (s n o : Operator) (m w v : Listed) → Books cs s m n w → Books ds n w o v → Books (cs ++ ds) s m o v
-
--- Changes leave the entries, what is kept of requests, and the operator's moment.
-pub record LeavesLedger (s next : Operator) : Type 0 where
-  pub entries : next.entries ≡ s.entries
-  pub kept : next.kept ≡ s.kept
-  pub now : next.now ≡ s.now
-
--- a list of changes leaves them
-abbrev pub ChangesLeaveLedger : Type 0
-ChangesLeaveLedger = (now : ℕ) (changes : List Change) (s : Operator) → LeavesLedger s (with_changes now changes s)

@@ -1,5 +1,5 @@
 -- The row changes that book the close of a request: its entry, the operator's moment and sums, and what is kept.
-use Rattle.std.specs.Prelude.{◌≡◌, ◌+◌, ◌+ℤ◌, ℕ, ℤ, pos, length, List, [], ◌∷◌, Some, Ok}
+use Rattle.std.specs.Prelude.{◌≡◌, ◌+◌, ◌+ℤ◌, ℕ, ℤ, pos, length, List, [], ◌∷◌, Some}
 use Rattle.std.specs.Borrow.{Bor}
 use Rattle.std.specs.FinMap as fin
 use Rattle.bike_commands.specs.Caller.{caller_text}
@@ -9,12 +9,10 @@ use Rattle.bike_commands.specs.declared.reply.Reply.{Reply}
 use Rattle.bike_commands.specs.declared.request.Request.{Request}
 use Rattle.bike_commands.specs.Commands.{text_of}
 use Rattle.bike_commands.specs.Replies.{reply_text}
-use Rattle.bike_operator.specs.declared.change.Change.{Change}
-use Rattle.bike_operator.specs.declared.change.Accepted.{Accepted}
 use Rattle.bike_operator.specs.Operator.{Operator, Kept, Key}
-use Rattle.bike_operator.specs.Changes.{Decides, effect_of, with_changes, present, entry_added}
-use Rattle.bike_operator.specs.Runs.{key_in, after_acceptance}
-use Rattle.bike_operator.specs.Sound.{IsKept, IsSound}
+use Rattle.bike_operator.specs.Changes.{entry_added}
+use Rattle.bike_operator.specs.Runs.{key_in}
+use Rattle.bike_operator.specs.Sound.{IsKept}
 use Rattle.bike_book.specs.declared.row_change.RowChange.TheVariants as row
 use Rattle.bike_book.specs.Stored.{Listed, IsListing}
 use Rattle.bike_book.specs.Between.{Books}
@@ -68,17 +66,3 @@ abbrev pub AtEachClose : (Operator → Listed → ℕ → Request → Reply → 
 AtEachClose Law =
     (s : Operator) (m : Listed) (now : ℕ) (q : Request) (r : Reply) (caller key command reply : Bor (List ℕ)) → IsListing s m → AreKept s
     → AreTextsOf q r caller.now key.now command.now reply.now → Law s m now q r caller key command reply
-
--- The operator after an accepted request is what the decision made of the one before, closed.
-abbrev pub AcceptedIsClosed : Type 0
-AcceptedIsClosed = (s : Operator) (now : ℕ) (q : Request) (a : Accepted) → Decides s now q.command (Ok a) → after_acceptance s now q ≡ after_close now q a.reply (effect_of now a s)
-
--- The entry of an accepted request has the next number, where the operator after the request is sound.
-abbrev pub AcceptedEntryNumber : Type 0
-AcceptedEntryNumber =
-    (s : Operator) (now : ℕ) (q : Request) (a : Accepted) (e : Entry) → Decides s now q.command (Ok a) → a.entry ≡ Some e → IsSound (after_acceptance s now q)
-    → e.number ≡ length (with_changes now (present a.changes) s).entries + 1
-
--- What is kept stands under a caller and a key between two changes too.
-abbrev pub ChangesLeaveKept : Type 0
-ChangesLeaveKept = (s : Operator) (now : ℕ) (changes : List Change) → IsSound s → AreKept (with_changes now changes s)

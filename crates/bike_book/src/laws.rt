@@ -1,11 +1,10 @@
-//! The laws: which row changes book each change of the operator.
+//! The laws: which row changes book each record that an accepted command puts or adds, and the close of its request.
 
-ghost use Rattle.bike_book.specs.ChangeLaws.{Everywhere, NoneInTurn, BothInTurn, ChangesLeaveLedger};
+ghost use Rattle.bike_book.specs.ChangeLaws.{Everywhere, BothInTurn};
 ghost use Rattle.bike_book.specs.ChangeLaws.{SetSystemLaw, AddPlanLaw, AddTypeLaw, SetPlanLaw, AddRegionLaw, AddStationLaw, SetStationLaw, SetRegionLaw, AddNameLaw};
 ghost use Rattle.bike_book.specs.ChangeLaws.{AddBikeLaw, AddTruckLaw, AddRiderLaw, SetRiderLaw};
 ghost use Rattle.bike_book.specs.ChangeLaws.{AddRentalLaw, CloseRentalLaw, AddOrderLaw, DeliverLaw, CloseOrderLaw};
 ghost use Rattle.bike_book.specs.CloseLaws.{AtEachClose, QuietCloseLaw, EntryCloseLaw, RefundCloseLaw};
-ghost use Rattle.bike_book.specs.CloseLaws.{AcceptedIsClosed, AcceptedEntryNumber, ChangesLeaveKept};
 ghost use Rattle.bike_book.specs.Found.{WhereListed, FoundByKey, FoundListed, FoundByColumns, FoundNumbers};
 ghost use Rattle.bike_book.specs.Merges.{ReportMergesLaw, ReportMergesBeforeLaw, SameBehindLaw};
 ghost use Rattle.bike_book.specs.NotThere.{WhereSound, NoRefundsYet, NoBalanceYet, NoneDockedYet, NoneBrokenYet};
@@ -49,8 +48,7 @@ pub fn books_close()
 
 /// The law of row changes one after the other.
 pub fn books_in_turn()
-    ensures none { NoneInTurn }
-    ensures both { BothInTurn }
+    ensures { BothInTurn }
 {}
 
 /// The law of a station's docks and its report, which are set as one, also where counts are written between.
@@ -58,14 +56,6 @@ pub fn merges_report()
     ensures at_once { ReportMergesLaw }
     ensures before { ReportMergesBeforeLaw }
     ensures behind { SameBehindLaw }
-{}
-
-/// What a decision leaves to the close: no change touches the ledger, and the operator after it is the one closed.
-pub fn leaves_close()
-    ensures changes { ChangesLeaveLedger }
-    ensures accepted { AcceptedIsClosed }
-    ensures entry_number { AcceptedEntryNumber }
-    ensures kept { ChangesLeaveKept }
 {}
 
 /// What soundness says of a rental, a rider and a station that isn't there: its numbers are 0.

@@ -11,7 +11,7 @@ mod version;
 
 pub use laws::{
     books_catalogue, books_close, books_fleet, books_in_turn, books_rentals, finds_rows,
-    leaves_close, merges_report, starts_at_zero,
+    merges_report, starts_at_zero,
 };
 pub use row_change::RowChange;
 pub use version::NEWEST;

@@ -182,3 +182,13 @@ pub enum RowChange<'a> {
         name: &'a Name,
     },
 }
+
+/// Fills a fixed array's places that hold no row change yet; it is never made.
+impl<'a> Default for RowChange<'a> {
+    fn default() -> RowChange<'a> {
+        RowChange::SetBlocked {
+            rider: 0,
+            is_blocked: false,
+        }
+    }
+}

@@ -19,7 +19,7 @@ use Rattle.bike_accepted.specs.declared.change.Change.{Change}
 use Rattle.bike_accepted.specs.declared.change.Change.TheVariants as change
 use Rattle.bike_accepted.specs.Effects.{after_change}
 use Rattle.bike_accepted.specs.Found.{IsFound}
-use Rattle.bike_booking.specs.Writes.{change_row, change_writes}
+use Rattle.bike_booking.specs.Writes.{change_writes}
 use Rattle.bike_booking.proofs.Written.{Leads, of_books}
 
 -- a plan's segments, as row changes of texts and records that stand anywhere
@@ -39,34 +39,29 @@ pub record IsReady (s : Operator) : Type 0 where
   pub balance : (rider : ℕ) → fin.get s.riders rider ≡ None → balance_of rider s.entries ≡ pos 0
 
 module _ (s : Operator) (m : Listed) (now : ℕ) (listing : IsListing s m) (ready : IsReady s) where
-  one : (c : Change) → Books (change_row now c ∷ []) s m (after_change now c s) m → Leads (write_of (change_row now c) ∷ []) s m (after_change now c s) m
-  one c books = of_books (change_row now c ∷ []) s (after_change now c s) m m books
+  one : {rows : List RowChange} {n : Operator} → Books rows s m n m → Leads (writes_of rows) s m n m
+  one {rows = rows} {n = n} books = of_books rows s n m m books
 
   pub books_change : (c : Change) → IsFound s c → Leads (change_writes now c) s m (after_change now c s) m
-  books_change (change.SetSystem x) found = one (change.SetSystem x) (set_system s m now listing x)
+  books_change (change.SetSystem x) found = one (set_system s m now listing x)
   books_change (change.AddPlan p) found =
       let rows = segment_rows p.now.plan_id 1 p.now.segments in
       let written = segments_written p.now.plan_id 1 p.now.segments in
-      subst (λ (ws : List RowWrite). Leads (write_of (row.AddPlan p) ∷ ws) s m (after_change now (change.AddPlan p) s) m) written
-      (of_books (row.AddPlan p ∷ rows) s (after_change now (change.AddPlan p) s) m m (add_plan s m now listing p rows found written))
-  books_change (change.AddType t) found = one (change.AddType t) (add_type s m now listing t)
-  books_change (change.SetPlan type_id plan) found = one (change.SetPlan type_id plan) (set_plan s m now listing type_id plan)
-  books_change (change.AddStation x) found = one (change.AddStation x) (add_station s m now listing x found.absent found.none_docked found.none_broken)
-  books_change (change.SetStation station installed renting returning) found =
-      one (change.SetStation station installed renting returning) (set_station s m now listing station installed renting returning)
-  books_change (change.AddRegion r) found = one (change.AddRegion r) (add_region s m now listing r)
-  books_change (change.SetRegion station region) found = one (change.SetRegion station region) (set_region s m now listing station region)
-  books_change (change.AddName kind id language name) found = one (change.AddName kind id language name) (add_name s m now listing kind id language name ready.names)
-  books_change (change.AddBike bike type_id) found = one (change.AddBike bike type_id) (add_bike s m now listing bike type_id found)
-  books_change (change.AddTruck truck capacity) found = one (change.AddTruck truck capacity) (add_truck s m now listing truck capacity)
-  books_change (change.AddRider rider) found = one (change.AddRider rider) (add_rider s m now listing rider _ (ready.balance rider found))
-  books_change (change.SetRider rider blocked) found = one (change.SetRider rider blocked) (set_rider s m now listing rider blocked found)
+      subst (λ (ws : List RowWrite). Leads (write_of (row.AddPlan p) ∷ ws) s m (after_change now (change.AddPlan p) s) m) written (one (add_plan s m now listing p rows found written))
+  books_change (change.AddType t) found = one (add_type s m now listing t)
+  books_change (change.SetPlan type_id plan) found = one (set_plan s m now listing type_id plan)
+  books_change (change.AddStation x) found = one (add_station s m now listing x found.absent found.none_docked found.none_broken)
+  books_change (change.SetStation station installed renting returning) found = one (set_station s m now listing station installed renting returning)
+  books_change (change.AddRegion r) found = one (add_region s m now listing r)
+  books_change (change.SetRegion station region) found = one (set_region s m now listing station region)
+  books_change (change.AddName kind id language name) found = one (add_name s m now listing kind id language name ready.names)
+  books_change (change.AddBike bike type_id) found = one (add_bike s m now listing bike type_id found)
+  books_change (change.AddTruck truck capacity) found = one (add_truck s m now listing truck capacity)
+  books_change (change.AddRider rider) found = one (add_rider s m now listing rider (ready.balance rider found))
+  books_change (change.SetRider rider blocked) found = one (set_rider s m now listing rider blocked found)
   books_change (change.AddRental rental rider bike plan from_station) found =
-      one (change.AddRental rental rider bike plan from_station)
-      (add_rental s m now listing rental rider bike plan from_station found (ready.refunds rental (let is : rental ≡ length s.rentals + 1 = found in omega (arith, is))))
-  books_change (change.CloseRental rental to_station fare) found = one (change.CloseRental rental to_station fare) (close_rental s m now listing rental to_station fare)
-  books_change (change.AddOrder order truck from_end to_end type_id count) found =
-      one (change.AddOrder order truck from_end to_end type_id count) (add_order s m now listing order truck from_end to_end type_id count found)
-  books_change (change.Deliver order was delivered) found =
-      one (change.Deliver order was delivered) (deliver s m now listing order delivered was.now.is_open was.now found.0 found.1 refl)
-  books_change (change.CloseOrder order was) found = one (change.CloseOrder order was) (close_order s m now listing order was.now.delivered was.now found refl)
+      let is : rental ≡ length s.rentals + 1 = found in one (add_rental s m now listing rental rider bike plan from_station found (ready.refunds rental (omega (arith, is))))
+  books_change (change.CloseRental rental to_station fare) found = one (close_rental s m now listing rental to_station fare)
+  books_change (change.AddOrder order truck from_end to_end type_id count) found = one (add_order s m now listing order truck from_end to_end type_id count found)
+  books_change (change.Deliver order was delivered) found = one (deliver s m now listing order was delivered found.0 found.1)
+  books_change (change.CloseOrder order was) found = one (close_order s m now listing order was found)

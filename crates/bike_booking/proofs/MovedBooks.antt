@@ -15,7 +15,7 @@ use Rattle.bike_book.specs.declared.row_change.RowChange.TheVariants as row
 use Rattle.bike_book.specs.Stored.{Listed, IsListing}
 use Rattle.bike_book.specs.Between.{Books}
 use Rattle.bike_moves.specs.Facts.{BikeTotals, HasDockTotals, HasBikeTotals}
-use Rattle.bike_moves.specs.MoveLaws.{count_change, dock_change, with_count, with_dock}
+use Rattle.bike_moves.specs.AddedOrSet.{count_change, dock_change, with_count, with_dock}
 use Rattle.bike_moves.specs.Put.{IsDockAt, IsPutAtDock, adds_put, adds_marked, docks_by, bikes_by, docks_marked_empty, docks_marked_held}
 use Rattle.bike_moves.specs.PutLaws.{docks_reported}
 use Rattle.bike_moves.proofs.Ends.{left_is}

@@ -1,11 +1,12 @@
--- Room for row changes. A vector grows only where it has no room left, and then there may be no memory.
-use Rattle.std.specs.Prelude.{ℕ, ◌+◌, ◌≤◌, Vec, vec_len, vec_capacity}
+-- Room for row changes in their fixed array.
+use Rattle.std.specs.Prelude.{ℕ, ◌+◌, ◌≤◌}
+use Rattle.arrayvec.specs.ArrayVec.{ArrayVec, array_vec_len}
+use Rattle.bike_booking.specs.declared.rows.TheConstants.{MOST_ROW_CHANGES}
 
 -- so many more find room
-abbrev pub HasRoom : {X Z : Type 0} → ℕ → Vec X Z → Type 0
-HasRoom more rows = vec_len rows + more ≤ vec_capacity rows
+abbrev pub HasRoom : {X : Type 0} → ℕ → ArrayVec X → Type 0
+HasRoom more rows = array_vec_len rows + more ≤ MOST_ROW_CHANGES
 
--- At most so many were added, and the room didn't shrink.
-pub record TakesRows {X Z : Type 0} (most : ℕ) (before after : Vec X Z) : Type 0 where
-  pub len : vec_len after ≤ vec_len before + most
-  pub capacity : vec_capacity before ≤ vec_capacity after
+-- at most so many were added
+abbrev pub TakesRows : {X : Type 0} → ℕ → ArrayVec X → ArrayVec X → Type 0
+TakesRows most before after = array_vec_len after ≤ array_vec_len before + most

@@ -12,6 +12,6 @@ mod texts;
 
 pub use figures::Figures;
 pub use laws::books_accepted;
-pub use rows::{MOST_ROW_CHANGES, push_rows};
+pub use rows::{MOST_ROW_CHANGES, Rows, rows_of};
 pub use stored::{Stored, StoredCounts, StoredDock, Sums, Total};
 pub use texts::KeptTexts;

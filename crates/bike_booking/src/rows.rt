@@ -3,6 +3,7 @@
 ghost use Rattle.std.specs.Prelude.{◌≡◌, ◌++◌, ◌≤◌, length, Some, None};
 ghost use Rattle.bike_book.specs.declared.row_change.RowChange.TheVariants as row;
 ghost use Rattle.bike_book.specs.ChangeLaws.{segment_writes};
+ghost use Rattle.bike_book.specs.Writes.{writes_of};
 ghost use Rattle.bike_moves.specs.Put.{bikes_by};
 ghost use Rattle.bike_accepted.specs.declared.moved.Moved.TheVariants as moved;
 ghost use Rattle.bike_booking.specs.Room.{HasRoom, TakesRows};
@@ -13,24 +14,27 @@ use crate::change_row::change_row;
 use crate::shares::{BikeShares, moved_by, one};
 use crate::stored::{Stored, StoredCounts, Sums};
 use crate::texts::KeptTexts;
+use arrayvec::ArrayVec;
 use bike_accepted::{Accepted, Booked, Change, DockAt, Held, Moved, Standing};
 use bike_book::RowChange;
 use bike_catalogue::Segment;
 use bike_fields::Ident;
 use bike_fixed::Moment;
-use std::alloc::Global;
 
 /// A request makes at most this many row changes: 3 of what is put or marked, a record and 8 segments of a plan, 3 of an
-/// entry and 2 of the close. With room for them, no memory is asked for.
+/// entry and 2 of the close.
 pub const MOST_ROW_CHANGES: usize = 17;
 
+/// The row changes of a request. They take no memory.
+pub type Rows<'a> = ArrayVec<RowChange<'a>, MOST_ROW_CHANGES>;
+
 /// Adds row changes, for which there is room.
-fn add<'a>(rows: &mut Vec<RowChange<'a>, Global>, more: &[RowChange<'a>])
+fn add<'a>(rows: &mut Rows<'a>, more: &[RowChange<'a>])
     requires { HasRoom (length more.now) rows.old }
     ensures items { rows.new.items ≡ rows.old.items ++ more.now }
     ensures room { TakesRows (length more.now) rows.old rows.new }
 {
-    if !rows.extend_from_slice(more).is_ok() {
+    if !rows.try_extend_from_slice(more).is_ok() {
         unreachable!()
     }
 }
@@ -107,7 +111,7 @@ fn dock_row<'a>(is_listed: bool, at: &DockAt<'a>, is_broken: bool) -> RowChange<
 
 /// Adds the row changes of an empty dock that is marked.
 fn push_mark<'a>(
-    rows: &mut Vec<RowChange<'a>, Global>,
+    rows: &mut Rows<'a>,
     at: &DockAt<'a>,
     is_broken: bool,
     stored: &Stored,
@@ -128,7 +132,7 @@ fn push_mark<'a>(
 
 /// Adds the row changes of a dock that is marked with a bicycle in it.
 fn push_held_mark<'a>(
-    rows: &mut Vec<RowChange<'a>, Global>,
+    rows: &mut Rows<'a>,
     at: &DockAt<'a>,
     held: &Held<'a>,
     is_broken: bool,
@@ -150,12 +154,7 @@ fn push_held_mark<'a>(
 }
 
 /// Adds the row changes of what is put or marked.
-fn push_moved<'a>(
-    rows: &mut Vec<RowChange<'a>, Global>,
-    moved: &Moved<'a>,
-    stored: &Stored,
-    now: Moment,
-)
+fn push_moved<'a>(rows: &mut Rows<'a>, moved: &Moved<'a>, stored: &Stored, now: Moment)
     requires { HasRoom 3 rows.old }
     ensures rows { rows.new.items ≡ rows.old.items ++ moved_rows now stored.now moved.now }
     ensures room { TakesRows 3 rows.old rows.new }
@@ -191,11 +190,7 @@ fn push_moved<'a>(
 }
 
 /// Adds the segments of a plan, a row each, from 1 on.
-fn push_segments<'a>(
-    rows: &mut Vec<RowChange<'a>, Global>,
-    plan: &'a Ident,
-    segments: &'a [Segment],
-)
+fn push_segments<'a>(rows: &mut Rows<'a>, plan: &'a Ident, segments: &'a [Segment])
     requires few { length segments.now ≤ 8 }
     requires room { HasRoom 8 rows.old }
     ensures added { AreAdded (segment_writes plan.now 1 segments.now) rows.old.items rows.new.items }
@@ -209,7 +204,7 @@ fn push_segments<'a>(
 }
 
 /// Adds the row changes of one record.
-fn push_change<'a>(rows: &mut Vec<RowChange<'a>, Global>, change: &Change<'a>, now: Moment)
+fn push_change<'a>(rows: &mut Rows<'a>, change: &Change<'a>, now: Moment)
     requires { HasRoom 9 rows.old }
     ensures added { AreAdded (change_writes now change.now) rows.old.items rows.new.items }
     ensures room { TakesRows 9 rows.old rows.new }
@@ -222,7 +217,7 @@ fn push_change<'a>(rows: &mut Vec<RowChange<'a>, Global>, change: &Change<'a>, n
 }
 
 /// Adds the row changes of an entry.
-fn push_entry<'a>(rows: &mut Vec<RowChange<'a>, Global>, booked: &'a Booked)
+fn push_entry<'a>(rows: &mut Rows<'a>, booked: &'a Booked)
     requires { HasRoom 3 rows.old }
     ensures added { AreAdded (entry_writes booked.now) rows.old.items rows.new.items }
     ensures room { TakesRows 3 rows.old rows.new }
@@ -240,12 +235,7 @@ fn push_entry<'a>(rows: &mut Vec<RowChange<'a>, Global>, booked: &'a Booked)
 }
 
 /// Adds the operator's moment and sums, and what is kept of the request.
-fn push_close<'a>(
-    rows: &mut Vec<RowChange<'a>, Global>,
-    sums: &Sums,
-    now: Moment,
-    texts: &KeptTexts<'a>,
-)
+fn push_close<'a>(rows: &mut Rows<'a>, sums: &Sums, now: Moment, texts: &KeptTexts<'a>)
     requires { HasRoom 2 rows.old }
     ensures { rows.new.items ≡ rows.old.items ++ close_rows now sums.now texts.now }
 {
@@ -263,25 +253,25 @@ fn push_close<'a>(
     add(rows, &[meta_row, kept_row]);
 }
 
-/// Adds the row changes of an accepted command.
-pub fn push_rows<'a>(
-    rows: &mut Vec<RowChange<'a>, Global>,
+/// The row changes of an accepted command.
+pub fn rows_of<'a>(
     accepted: &'a Accepted<'a>,
     stored: &Stored,
     now: Moment,
     texts: &KeptTexts<'a>,
-)
-    requires { HasRoom MOST_ROW_CHANGES rows.old }
-    ensures { AreAdded (writes_of_accepted now stored.now texts.now accepted.now) rows.old.items rows.new.items }
+) -> Rows<'a>
+    ensures { writes_of result.items ≡ writes_of_accepted now stored.now texts.now accepted.now }
 {
+    let mut rows = ArrayVec::new();
     if let Some(moved) = &accepted.moved {
-        push_moved(rows, moved, stored, now);
+        push_moved(&mut rows, moved, stored, now);
     }
     if let Some(change) = &accepted.change {
-        push_change(rows, change, now);
+        push_change(&mut rows, change, now);
     }
     if let Some(booked) = &accepted.entry {
-        push_entry(rows, booked);
+        push_entry(&mut rows, booked);
     }
-    push_close(rows, &stored.sums, now, texts);
+    push_close(&mut rows, &stored.sums, now, texts);
+    rows
 }

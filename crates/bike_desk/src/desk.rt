@@ -13,7 +13,7 @@ use crate::fault::DeskFault;
 use crate::newest::{Newest, know_newest};
 use crate::remembered::Remembered;
 use crate::serve::serve;
-use bike_booking::{Figures, MOST_ROW_CHANGES};
+use bike_booking::Figures;
 use bike_commands::{Reply, Request};
 use bike_fixed::Moment;
 use bike_requests::command_text;
@@ -105,9 +105,6 @@ impl<S: Alter> Desk<S> {
         let Ok(text) = command_text(alloc, &request.command) else {
             return Err(DeskFault::NoMemory);
         };
-        let Ok(room) = Vec::with_capacity(alloc, MOST_ROW_CHANGES) else {
-            return Err(DeskFault::NoMemory);
-        };
         let Ok(newest) = know_newest(&mut self.conn, self.newest, &request.command) else {
             self.stopped = true;
             return Err(DeskFault::StoreFailed);
@@ -118,15 +115,7 @@ impl<S: Alter> Desk<S> {
             figures: self.figures,
         };
         let text = text.as_str();
-        match serve(
-            alloc,
-            &mut self.conn,
-            moment,
-            request,
-            text,
-            room,
-            &remembered,
-        ) {
+        match serve(alloc, &mut self.conn, moment, request, text, &remembered) {
             Ok(served) => {
                 self.figures = served.figures;
                 Ok(served.reply)

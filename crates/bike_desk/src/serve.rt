@@ -12,7 +12,6 @@ ghost use Rattle.bike_operator.specs.Operator.{Operator};
 ghost use Rattle.bike_operator.specs.Runs.{step, after_acceptance, key_in};
 ghost use Rattle.bike_schema.specs.Makes.{OthersStay};
 ghost use Rattle.bike_schema.specs.Stands.{AllLeft, Keeps};
-ghost use Rattle.bike_booking.specs.Room.{HasRoom};
 ghost use Rattle.bike_desk.specs.Desk.{IsRemembered, TreesStandForEither};
 ghost use Rattle.bike_desk.specs.Serving.{Accepts, IsAsked, IsReadFor, Serves};
 
@@ -20,8 +19,7 @@ use crate::remembered::Remembered;
 use crate::transaction::make_all;
 use bike_accepted::Accepted;
 use bike_accounts::{KeptRow, find_kept};
-use bike_book::RowChange;
-use bike_booking::{Figures, KeptTexts, MOST_ROW_CHANGES, Sums, books_accepted, push_rows};
+use bike_booking::{Figures, KeptTexts, Sums, books_accepted, rows_of};
 use bike_commands::{Refusal, Reply, Request};
 use bike_core::{decide, is_bounded};
 use bike_fixed::Moment;
@@ -30,16 +28,6 @@ use bike_schema::StatementFault;
 use bike_views::{Known, find_stored, find_view, know_figures};
 use sqlite::{Alter, Connection};
 use std::alloc::Global;
-
-/// Room for the row changes of a request, before there are any.
-pub type Room = Vec<RowChange<'static>>;
-
-/// The room, to be filled.
-fn rows_in<'a>(room: Room) -> Vec<RowChange<'a>>
-    ensures { result ≡ room.entry }
-{
-    room
-}
 
 /// A request with the texts of its caller and of its command.
 #[derive(Clone, Copy)]
@@ -75,11 +63,8 @@ fn store_accepted<'a, S: Alter>(
     sums: Sums,
     now: Moment,
     texts: &KeptTexts<'a>,
-    mut rows: Vec<RowChange<'a>>,
 ) -> Result<(), StatementFault>
     requires outside { conn.old.in_transaction ≡ false }
-    requires empty { rows.items ≡ [] }
-    requires room { HasRoom MOST_ROW_CHANGES rows }
     ensures ended { conn.new.in_transaction ≡ false }
     ensures clean { doubt (state S.Store conn.old).is_clean ≤ doubt (state S.Store conn.new).is_clean }
     ensures made { HasCleanDisk (state S.Store conn.new) → (s : Operator) (q : Request) → Keeps (state S.Store conn.old) s
@@ -94,7 +79,7 @@ fn store_accepted<'a, S: Alter>(
 {
     let stored = find_stored(conn, &accepted.moved, sums)?;
     books_accepted();
-    push_rows(&mut rows, accepted, &stored, now, texts);
+    let rows = rows_of(accepted, &stored, now, texts);
     make_all(conn, rows.as_slice())
 }
 
@@ -105,12 +90,9 @@ fn serve_read<'a, S: Alter>(
     view: &'a View,
     now: Moment,
     asked: Asked<'a>,
-    room: Room,
 ) -> Result<Served, StatementFault>
     requires outside { conn.old.in_transaction ≡ false }
     requires asked { IsAsked asked }
-    requires empty { room.items ≡ [] }
-    requires room { HasRoom MOST_ROW_CHANGES room }
     ensures ended { conn.new.in_transaction ≡ false }
     ensures clean { doubt (state S.Store conn.old).is_clean ≤ doubt (state S.Store conn.new).is_clean }
     ensures ok { HasCleanDisk (state S.Store conn.new) → (s : Operator) (t : ℕ) → Keeps (state S.Store conn.old) s
@@ -149,7 +131,7 @@ fn serve_read<'a, S: Alter>(
                 command: asked.text,
                 reply: spelled.as_str(),
             };
-            store_accepted(conn, &accepted, after.sums, now, &texts, rows_in(room))?;
+            store_accepted(conn, &accepted, after.sums, now, &texts)?;
             Ok(Served {
                 reply,
                 figures: Some(after),
@@ -164,13 +146,10 @@ fn serve_anew<'a, S: Alter>(
     conn: &mut Connection<S>,
     moment: Moment,
     asked: Asked<'a>,
-    room: Room,
     remembered: &Remembered,
 ) -> Result<Served, StatementFault>
     requires outside { conn.old.in_transaction ≡ false }
     requires asked { IsAsked asked }
-    requires empty { room.items ≡ [] }
-    requires room { HasRoom MOST_ROW_CHANGES room }
     ensures ended { conn.new.in_transaction ≡ false }
     ensures clean { doubt (state S.Store conn.old).is_clean ≤ doubt (state S.Store conn.new).is_clean }
     ensures ok { HasCleanDisk (state S.Store conn.new) → (s : Operator) → Keeps (state S.Store conn.old) s
@@ -191,24 +170,20 @@ fn serve_anew<'a, S: Alter>(
     let view = find_view(alloc, conn, &asked.request.command, &known)?;
     let now = moment.later(&figures.now);
     let _ = moment.seconds();
-    serve_read(conn, &figures, &view, now, asked, room)
+    serve_read(conn, &figures, &view, now, asked)
 }
 
-/// Serves one request, of whose command `text` is the text, by what is remembered of the operator. Its row changes are put
-/// together in the room.
+/// Serves one request, of whose command `text` is the text, by what is remembered of the operator.
 pub(crate) fn serve<S: Alter>(
     alloc: Global,
     conn: &mut Connection<S>,
     moment: Moment,
     request: &Request,
     text: &str,
-    room: Room,
     remembered: &Remembered,
 ) -> Result<Served, StatementFault>
     requires outside { conn.old.in_transaction ≡ false }
     requires text { text.now ≡ text_of request.now.command }
-    requires empty { room.items ≡ [] }
-    requires room { HasRoom MOST_ROW_CHANGES room }
     ensures ended { conn.new.in_transaction ≡ false }
     ensures clean { doubt (state S.Store conn.old).is_clean ≤ doubt (state S.Store conn.new).is_clean }
     ensures ok { HasCleanDisk (state S.Store conn.new) → (s : Operator) → Keeps (state S.Store conn.old) s
@@ -233,7 +208,7 @@ pub(crate) fn serve<S: Alter>(
                 caller,
                 text,
             };
-            serve_anew(alloc, conn, moment, asked, room, remembered)
+            serve_anew(alloc, conn, moment, asked, remembered)
         }
     }
 }

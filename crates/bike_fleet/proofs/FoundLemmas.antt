@@ -29,7 +29,7 @@ use Rattle.bike_fleet.specs.declared.stations.DockNumbers.{DockNumbers}
 use Rattle.bike_fleet.specs.declared.counts.TypeCounts.{TypeCounts}
 use Rattle.bike_fleet.specs.declared.bikes.NumberedBike.{NumberedBike}
 use Rattle.bike_fleet.specs.Fleet.{dock_numbers_of, dock_numbers_at, IsMark, type_counts_of, no_counts, AreCounts, numbered_pair}
-use Rattle.bike_fleet.specs.Holds.{HoldsAny, HoldsStation, HoldsDockNumbers, HoldsMark, HoldsCounts, HoldsPlan, HoldsTruck, HoldsBike, HoldsPlace, HoldsNumbered, HoldsOrder, HoldsOrderTruck}
+use Rattle.bike_fleet.specs.Holds.{HoldsAny, HoldsStation, HoldsDockNumbers, HoldsMark, HoldsCounts, HoldsPlan, HoldsTruck, HoldsBike, HoldsPlace, HoldsNumbered, HoldsOrder}
 
 -- What a row holds is what the record shows of which the row is.
 held_found : {Y Z : Type 0} (row_of : Y → Row) (view : Y → Z) (Holds : Row → Z → Type 0) (o : Option Y) (row : Option Row) (x : Option Z) → ((y : Y) (z : Z) → o ≡ Some y → Holds (row_of y) z → z ≡ view y) → row ≡ option_map row_of o → HoldsAny Holds row x → x ≡ option_map view o
@@ -227,6 +227,3 @@ module _ (s : Operator) (m : Listed) (sound : IsSound s) (listing : IsListing s 
       itself : (o : Option Order) → option_map (λ o. o) o ≡ o
       itself None = refl
       itself (Some o) = refl
-
-  pub order_truck_found : (order : ℕ) (row : Option Row) (x : Option ℕ) → row ≡ row_under s m Orders (number_value order ∷ []) → HoldsAny HoldsOrderTruck row x → x ≡ option_map (λ o. o.truck) (item_numbered order s.orders)
-  order_truck_found order row x is held = held_found (order_row order) (λ o. o.truck) HoldsOrderTruck (item_numbered order s.orders) row x (λ y z found h. cc) (is ∙ (found_by_key s m sound listing).orders order) held

@@ -66,15 +66,15 @@ module _ (s : Operator) (sound : IsSound s) (order : ℕ) where
   carried_by e has for_it = carried e.0 e.1.type_id e.1.place (sound.bikes.bikes e.0 e.1 (has_get number_order.total s.bikes e has)).placed for_it
 
   -- an order that isn't there has no bicycle
-  no_load_of : item_numbered order s.orders ≡ None → 0 ≡ order_load s order
-  no_load_of none = sym (ap length (filter_none _ (fin.entries s.bikes) (λ e has. by e has (is_for_order order e.1.place) refl)))
+  pub no_load : item_numbered order s.orders ≡ None → 0 ≡ order_load s order
+  no_load none = sym (ap length (filter_none _ (fin.entries s.bikes) (λ e has. by e has (is_for_order order e.1.place) refl)))
     where
       by : (e : ℕ × Bike) → Has (fin.entries s.bikes) e → (b : Bool) → is_for_order order e.1.place ≡ b → is_for_order order e.1.place ≡ false
       by e has false is = is
       by e has true is = absurd (let it = carried_by e has is in let found = it.1 in cc)
 
   -- the rows of the order's truck and of the order are those of its bicycles
-  load_rows : (m : Listed) (row : Order) → item_numbered order s.orders ≡ Some row → length (rows_by s m Bikes (6 ∷ 7 ∷ []) (number_value row.truck ∷ number_value order ∷ [])) ≡ order_load s order
+  pub load_rows : (m : Listed) (row : Order) → item_numbered order s.orders ≡ Some row → length (rows_by s m Bikes (6 ∷ 7 ∷ []) (number_value row.truck ∷ number_value order ∷ [])) ≡ order_load s order
   load_rows m row found =
       ap length (rows_passing _ (λ e. is_on_truck row.truck e.1.place && is_for_order order e.1.place) (λ e. on_truck_for row.truck order e.0 e.1 e.1.place) (fin.entries s.bikes))
       ∙ same_length stored_bike (filter (λ e. is_on_truck row.truck e.1.place && is_for_order order e.1.place) (fin.entries s.bikes))
@@ -91,23 +91,3 @@ module _ (s : Operator) (sound : IsSound s) (order : ℕ) where
           let same : it.0 ≡ row = let there = it.1 in cc in
           let on : is_on_truck row.truck e.1.place ≡ true = ap (λ (o : Order). is_on_truck o.truck e.1.place) (sym same) ∙ it.2 in
           ap (λ b. b && is_for_order order e.1.place) on
-
-  -- .. by the truck that is read of the order
-  abbrev its_truck : Option ℕ
-  its_truck = option_map (λ o. o.truck) (item_numbered order s.orders)
-
-  pub no_load : None ≡ its_truck → 0 ≡ order_load s order
-  no_load none = no_load_of (by (item_numbered order s.orders) none)
-    where
-      by : (o : Option Order) → None ≡ option_map (λ o. o.truck) o → o ≡ None
-      by None is = refl
-      by (Some row) is = absurd (cc)
-
-  pub load_on_truck : (m : Listed) (truck : ℕ) → Some truck ≡ its_truck → length (rows_by s m Bikes (6 ∷ 7 ∷ []) (number_value truck ∷ number_value order ∷ [])) ≡ order_load s order
-  load_on_truck m truck some = by (item_numbered order s.orders) refl some
-    where
-      by : (o : Option Order) → item_numbered order s.orders ≡ o → Some truck ≡ option_map (λ o. o.truck) o → length (rows_by s m Bikes (6 ∷ 7 ∷ []) (number_value truck ∷ number_value order ∷ [])) ≡ order_load s order
-      by None found is = absurd (cc)
-      by (Some row) found is =
-          let same : truck ≡ row.truck = cc in
-          ap (λ n. length (rows_by s m Bikes (6 ∷ 7 ∷ []) (number_value n ∷ number_value order ∷ []))) same ∙ load_rows m row found

@@ -71,10 +71,6 @@ pub record HoldsEnd (v : Value) (end : OrderEnd) : Type 0 where
   pub is : v ≡ Text (end_text end)
   pub good : IsEnd end
 
--- the truck in the row of an order
-abbrev pub HoldsOrderTruck : Row → ℕ → Type 0
-HoldsOrderTruck row truck = column row 1 ≡ number_value truck
-
 -- the columns of an order that are numbers or a flag
 pub record HoldsOrderNumbers (row : Row) (n : OrderNumbers) : Type 0 where
   pub truck : column row 1 ≡ number_value n.truck

@@ -1,6 +1,6 @@
 //! The statements on `orders`, and the count of an order's bicycles.
 
-ghost use Rattle.std.specs.Prelude.{◌≡◌, [], ◌∷◌, true, IfOk, Some, codes, length, option_map};
+ghost use Rattle.std.specs.Prelude.{◌≡◌, [], ◌∷◌, true, IfOk, Some, codes, length};
 ghost use Rattle.sqlite.specs.declared.types.Value.TheVariants.{Text};
 ghost use Rattle.sqlite.specs.Order.{column};
 ghost use Rattle.sqlite_sql.specs.Aggregate.{count};
@@ -10,7 +10,7 @@ ghost use Rattle.bike_book.specs.Tables.{Bikes, Orders};
 ghost use Rattle.bike_book.specs.Rows.{number_value, end_text};
 ghost use Rattle.bike_book.specs.Found.{row_under, rows_by, last_row};
 ghost use Rattle.bike_schema.specs.Answers.{Answers};
-ghost use Rattle.bike_fleet.specs.Holds.{HoldsAny, HoldsEnd, HoldsOrder, HoldsOrderNumbers, HoldsOrderTruck};
+ghost use Rattle.bike_fleet.specs.Holds.{HoldsAny, HoldsEnd, HoldsOrder, HoldsOrderNumbers};
 
 use crate::columns::{count_of, last_of, whole_at};
 use bike_fields::{OrderNumber, OrderQuantity, TruckNumber};
@@ -68,19 +68,6 @@ fn count_on_truck_for<S: Alter>(
         "SELECT count(*) FROM bikes WHERE truck = ?1 AND ord = ?2",
         params![truck.get(), order.get()],
     )
-}
-
-/// The truck in the stored row.
-fn truck_of(row: &Option<Row>) -> Result<Option<TruckNumber>, StatementFault>
-    ensures { IfOk result (λ truck. HoldsAny HoldsOrderTruck row.now truck) }
-{
-    match row {
-        Some(row) => {
-            let truck = number_at(row, 1)?;
-            Ok(Some(truck))
-        }
-        None => Ok(None),
-    }
 }
 
 /// Whether the column is `*`, which stands for the depot.
@@ -172,42 +159,16 @@ pub fn order_count<S: Alter>(conn: &mut Connection<S>) -> Result<u32, StatementF
     last_of(&row)
 }
 
-/// The truck of an order.
-fn find_truck_of<S: Alter>(
-    conn: &mut Connection<S>,
-    order: OrderNumber,
-) -> Result<Option<TruckNumber>, StatementFault>
-    ensures { Answers S.Store conn.old conn.new result
-        (λ s m x. x ≡ option_map (λ o. o.truck) (item_numbered order s.orders)) }
-{
-    let row = select_order(conn, order)?;
-    truck_of(&row)
-}
-
-/// How many bicycles are on a truck for an order, as the rows of `bikes` tell.
-fn load_on<S: Alter>(
-    conn: &mut Connection<S>,
-    truck: TruckNumber,
-    order: OrderNumber,
-) -> Result<u32, StatementFault>
-    ensures { Answers S.Store conn.old conn.new result (λ s m x. x ≡ length
-        (rows_by s m Bikes (6 ∷ 7 ∷ []) (number_value truck ∷ number_value order ∷ []))) }
-{
-    let answer = count_on_truck_for(conn, truck, order)?;
-    count_of(&answer)
-}
-
-/// How many bicycles are on a truck for an order. All of them are on the order's own truck, by which they are counted:
-/// there is an index by truck and none by order.
+/// How many bicycles are on a truck for an order that is there, of which it is the truck. All bicycles of an order are on its
+/// truck, by which they are counted: there is an index by truck and none by order.
 pub fn order_load<S: Alter>(
     conn: &mut Connection<S>,
     order: OrderNumber,
+    truck: TruckNumber,
 ) -> Result<u32, StatementFault>
-    ensures { Answers S.Store conn.old conn.new result (λ s m x. x ≡ order_load s order) }
+    ensures { Answers S.Store conn.old conn.new result (λ s m x. (row : Order) → item_numbered order s.orders ≡ Some row
+        → row.truck ≡ truck → x ≡ order_load s order) }
 {
-    let found = find_truck_of(conn, order)?;
-    match found {
-        Some(truck) => load_on(conn, truck, order),
-        None => Ok(0),
-    }
+    let answer = count_on_truck_for(conn, truck, order)?;
+    count_of(&answer)
 }

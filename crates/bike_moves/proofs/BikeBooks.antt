@@ -1,10 +1,9 @@
--- A bicycle put in another place, and a bicycle in another state, as row changes.
+-- A bicycle's record changed, as row changes: its own row, and the counts of its type at one station.
 use Rattle.std.proofs.Common.{◌≡◌, ℕ, List, [], ◌∷◌, true, Some, refl, sym, ap, ◌∙◌, subst}
 use Rattle.std.specs.Prelude.{map}
 use Rattle.std.specs.FinMap as fin
 use Rattle.std.specs.Borrow.{Bor}
 use Rattle.bike_operator.specs.declared.records.BikeState.{BikeState}
-use Rattle.bike_operator.specs.declared.records.Place.{Place}
 use Rattle.bike_operator.specs.declared.records.Bike.{Bike}
 use Rattle.bike_operator.specs.declared.change.NewPlace.{NewPlace}
 use Rattle.bike_operator.specs.Operator.{Operator}
@@ -15,15 +14,14 @@ use Rattle.bike_places.specs.Laws.{IsAway}
 use Rattle.bike_book.specs.declared.row_change.RowChange.TheVariants as row
 use Rattle.bike_book.specs.Tables.{Tables}
 use Rattle.bike_book.specs.Stored.{Listed, IsListing, stored_count}
-use Rattle.bike_book.specs.Writes.{write_of, writes_of, tables_after, tables_after_all}
+use Rattle.bike_book.specs.Writes.{write_of, tables_after}
 use Rattle.bike_book.specs.Between.{tables_between, Books}
-use Rattle.bike_book.specs.ChangeLaws.{Everywhere}
 use Rattle.bike_book.proofs.ListingLemmas.{KeepsNames, names_same}
 use Rattle.bike_moves.specs.Facts.{BikeTotals}
-use Rattle.bike_moves.specs.MoveLaws.{count_change, with_count, PlaceAwayLaw, PlaceAtLaw, TurnAwayLaw, TurnAtLaw}
-use Rattle.bike_moves.proofs.TotalsRows.{stations_same, stations_set, counts_same, count_written, SameBikesElsewhere}
+use Rattle.bike_moves.specs.AddedOrSet.{count_change, with_count}
+use Rattle.bike_moves.proofs.TotalsRows.{stations_same, counts_same, count_written, SameBikesElsewhere}
 use Rattle.bike_moves.proofs.Listed.{AreMarksListed, marks_same, listing_kept, listing_counted_at}
-use Rattle.bike_moves.proofs.BikeMoves.{bike_changed, moves_by, MovesAt, bikes_set, docks_stay, docks_away, bikes_away, docks_elsewhere, bikes_elsewhere, docks_here, available_here, disabled_here}
+use Rattle.bike_moves.proofs.BikeMoves.{bike_changed, moves_by, bikes_set, docks_away, bikes_away}
 
 module _ (s : Operator) (m : Listed) (listing : IsListing s m) (bike : ℕ) (f : Bike → Bike) where
   abbrev next : Operator
@@ -60,40 +58,3 @@ module _ (s : Operator) (m : Listed) (listing : IsListing s m) (bike : ℕ) (f :
     pub listing_at : fin.contains_key s.stations station.now ≡ true → fin.contains_key s.types b.type_id ≡ true → IsListing next (with_count station.now type_id.now m)
     listing_at has_station has_type =
         subst (λ (t : List ℕ). IsListing next (with_count station.now t m)) (sym type_is) (listing_counted_at s next m names marks listing station.now b.type_id has_station has_type others)
-
--- ---- the laws
-
-pub place_away : Everywhere PlaceAwayLaw
-place_away s m now listing bike b p found from_away to_away = away s m listing bike (λ x. record x { place = place_of p }) b b.state p found refl from_away to_away
-
-pub turn_away : Everywhere TurnAwayLaw
-turn_away s m now listing bike b state p found place_is is_away =
-    away s m listing bike (λ x. record x { state = state }) b state p found (ap (λ (q : Place). record b { state = state; place = q }) place_is) is_away is_away
-
-pub place_at : Everywhere PlaceAtLaw
-place_at s m now listing bike b p station type_id d e n o type_is h =
-    let f : Bike → Bike = λ x. record x { place = place_of p } in
-    let next : Operator = bike_changed bike f s in
-    let moves : MovesAt s next bike b (f b) station.now h.from_broken h.to_broken = record { moves = moves_by s bike b f h.found; type_same = refl; from_is = h.from_is; to_is = h.to_is } in
-    let bikes = bikes_set s.bikes bike f b b.state (place_of p) h.found refl in
-    let stations = stations_set s next station.now e (docks_elsewhere moves) (docks_here moves d e h.docks h.docks_move) in
-    let counts = counts_at s m listing bike f station type_id b type_is (bikes_elsewhere moves) o (available_here moves n o h.bikes h.bikes_move) (disabled_here moves n o h.bikes h.bikes_move) in
-    record {
-      leads = counts (tables_after_all (writes_of (row.SetBike bike b.state p ∷ row.SetDocks station e.free e.broken ∷ [])) (tables_between s m)) refl
-          ∙ (λ i. record (tables_between s m) { bikes = bikes i; stations = stations i; counts = map (stored_count next) (fin.entries (with_count station.now type_id.now m).counts) });
-      listing = listing_at s m listing bike f station type_id b type_is (bikes_elsewhere moves) h.bikes.station_is h.bikes.type_is;
-    }
-
-pub turn_at : Everywhere TurnAtLaw
-turn_at s m now listing bike b state p station type_id n o place_is type_is h =
-    let f : Bike → Bike = λ x. record x { state = state } in
-    let next : Operator = bike_changed bike f s in
-    let moves : MovesAt s next bike b (f b) station.now h.dock_broken h.dock_broken = record { moves = moves_by s bike b f h.found; type_same = refl; from_is = h.place_is; to_is = h.place_is } in
-    let bikes = bikes_set s.bikes bike f b state (place_of p) h.found (ap (λ (q : Place). record b { state = state; place = q }) place_is) in
-    let stations = stations_same s next (λ other. docks_stay moves.moves other refl) in
-    let counts = counts_at s m listing bike f station type_id b type_is (bikes_elsewhere moves) o (available_here moves n o h.bikes h.bikes_move) (disabled_here moves n o h.bikes h.bikes_move) in
-    record {
-      leads = counts (tables_after_all (writes_of (row.SetBike bike state p ∷ [])) (tables_between s m)) refl
-          ∙ (λ i. record (tables_between s m) { bikes = bikes i; stations = stations i; counts = map (stored_count next) (fin.entries (with_count station.now type_id.now m).counts) });
-      listing = listing_at s m listing bike f station type_id b type_is (bikes_elsewhere moves) h.bikes.station_is h.bikes.type_is;
-    }

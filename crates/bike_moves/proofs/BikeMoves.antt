@@ -25,7 +25,8 @@ use Rattle.bike_book.specs.Writes.{Columns, columns_from}
 use Rattle.bike_book.specs.Between.{docks_left}
 use Rattle.bike_book.proofs.MapRows.{set_entries}
 use Rattle.bike_book.proofs.Keys.{numbers}
-use Rattle.bike_moves.specs.Facts.{DockTotals, BikeTotals, HasDockTotals, HasBikeTotals, DocksMove, BikesMove}
+use Rattle.bike_moves.specs.Facts.{DockTotals, BikeTotals, HasDockTotals, HasBikeTotals}
+use Rattle.bike_moves.proofs.NumbersMove.{DocksMove, BikesMove}
 use Rattle.bike_moves.proofs.TotalsRows.{HasTotalsAt, totals_at, SameDocks, SameBikes, SameBikesElsewhere}
 
 -- ---- the bicycle's own row
@@ -91,7 +92,7 @@ module _ {s n : Operator} {bike : ℕ} {b x : Bike} (h : BikeMoves s n bike b x)
       omega (arith, ints, taken, broken)
 
   -- where it adds as much as before
-  pub docks_stay : (station : List ℕ) → occupied_share s station (Some b) ≡ occupied_share s station (Some x) → SameDocks s n station
+  docks_stay : (station : List ℕ) → occupied_share s station (Some b) ≡ occupied_share s station (Some x) → SameDocks s n station
   docks_stay station same docks = let left = left_moves station docks in (omega (arith, ints, left, same), sym (law.broken station docks))
 
   bikes_stay : (station kind : List ℕ) → available_share s station kind (Some b) ≡ available_share s station kind (Some x) → disabled_share s station kind (Some b) ≡ disabled_share s station kind (Some x)

@@ -20,7 +20,8 @@ use Rattle.bike_places.proofs.DockLaw.{dock_is}
 use Rattle.bike_places.proofs.ShareLaw.{share_law}
 use Rattle.bike_places.proofs.MarkLaw.{mark_law}
 use Rattle.bike_book.specs.Between.{docks_left}
-use Rattle.bike_moves.specs.Facts.{DockTotals, BikeTotals, IsMarkedEmpty, IsMarkedHeld}
+use Rattle.bike_moves.specs.Facts.{DockTotals, BikeTotals}
+use Rattle.bike_moves.proofs.NumbersMove.{IsMarkedEmpty, IsMarkedHeld}
 use Rattle.bike_moves.proofs.TotalsRows.{HasTotalsAt, totals_at, SameDocks, SameBikes, SameBikesElsewhere}
 
 -- a dock is broken or works

@@ -1,11 +1,11 @@
 pub mod TotalsRows
 pub mod Listed
 pub mod ReportBooks
+pub mod NumbersMove
 pub mod BikeMoves
 pub mod BikeBooks
 pub mod DockMarks
 pub mod MarkBooks
-pub mod After
 pub mod Ends
 pub mod PutBooks
 pub mod MarkedBooks

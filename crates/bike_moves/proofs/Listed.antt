@@ -11,7 +11,7 @@ use Rattle.bike_operator.specs.Sound.{HasDock}
 use Rattle.bike_places.proofs.MapLemmas.{texts_order, tied}
 use Rattle.bike_book.specs.Stored.{Listed, IsListing, IsDockKey, IsCountKey}
 use Rattle.bike_book.proofs.ListingLemmas.{KeepsNames, dock_kept, count_kept}
-use Rattle.bike_moves.specs.MoveLaws.{with_count, with_dock}
+use Rattle.bike_moves.specs.AddedOrSet.{with_count, with_dock}
 use Rattle.bike_moves.proofs.TotalsRows.{apart_pairs, SameBikes, SameBikesElsewhere}
 
 -- ---- a key added to a map of keys

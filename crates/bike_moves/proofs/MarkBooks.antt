@@ -1,5 +1,5 @@
 -- A dock marked as broken or as working, as row changes.
-use Rattle.std.proofs.Common.{◌≡◌, ℕ, List, [], ◌∷◌, Bool, true, false, refl, sym, ap, ◌∙◌, subst}
+use Rattle.std.proofs.Common.{◌≡◌, ℕ, List, [], ◌∷◌, Bool, true, refl, sym, ap, ◌∙◌, subst}
 use Rattle.std.specs.Prelude.{map}
 use Rattle.std.specs.FinMap as fin
 use Rattle.std.specs.Borrow.{Bor}
@@ -15,10 +15,10 @@ use Rattle.bike_book.specs.Tables.{Tables}
 use Rattle.bike_book.specs.Stored.{Listed, IsListing, stored_dock, stored_count}
 use Rattle.bike_book.specs.Writes.{write_of, writes_of, tables_after, tables_after_all}
 use Rattle.bike_book.specs.Between.{tables_between, Books}
-use Rattle.bike_book.specs.ChangeLaws.{Everywhere}
 use Rattle.bike_book.proofs.ListingLemmas.{KeepsNames, names_same}
-use Rattle.bike_moves.specs.Facts.{DockTotals, BikeTotals, IsMarkedEmpty, IsMarkedHeld}
-use Rattle.bike_moves.specs.MoveLaws.{count_change, dock_change, with_count, with_dock, MarkEmptyLaw, MarkHeldLaw}
+use Rattle.bike_moves.specs.Facts.{DockTotals, BikeTotals}
+use Rattle.bike_moves.specs.AddedOrSet.{count_change, dock_change, with_count, with_dock}
+use Rattle.bike_moves.proofs.NumbersMove.{IsMarkedEmpty, IsMarkedHeld}
 use Rattle.bike_moves.proofs.TotalsRows.{stations_set, counts_same, count_written, dock_written, SameBikesElsewhere}
 use Rattle.bike_moves.proofs.Listed.{AreMarksListed, marks_turned, listing_dock, listing_kept, listing_counted_at}
 use Rattle.bike_moves.proofs.DockMarks.{has_marked, marks_elsewhere, empty_bikes, empty_elsewhere, empty_here, held_bikes, held_elsewhere, held_here, held_available, held_disabled}
@@ -67,13 +67,3 @@ module _ (s : Operator) (m : Listed) (listing : IsListing s m) (sound : AreBikes
             ∙ (λ i. record with_mark { stations = stations i; counts = map (stored_count next) (fin.entries (with_count station.now type_id.now m).counts) });
         listing = listing_counted_at s next w names marks (listing_dock s m station.now dock h.has listing) station.now type_id.now h.bikes.station_is has_type others;
       }
-
--- ---- the laws
-
-pub mark_empty : Everywhere MarkEmptyLaw
-mark_empty s m now listing station dock true d e sound h = empty_books s m listing sound station dock true d e h
-mark_empty s m now listing station dock false d e sound h = empty_books s m listing sound station dock false d e h
-
-pub mark_held : Everywhere MarkHeldLaw
-mark_held s m now listing station type_id dock true bike b d e n o sound type_is h = held_books s m listing sound station dock true type_id bike b d e n o type_is h
-mark_held s m now listing station type_id dock false bike b d e n o sound type_is h = held_books s m listing sound station dock false type_id bike b d e n o type_is h

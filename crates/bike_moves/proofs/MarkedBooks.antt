@@ -13,10 +13,11 @@ use Rattle.bike_book.specs.ChangeLaws.{Everywhere}
 use Rattle.bike_book.specs.Between.{tables_between}
 use Rattle.bike_book.proofs.BooksLemmas.{books_then}
 use Rattle.bike_book.proofs.MergeLemmas.{report_merges, same_behind}
-use Rattle.bike_moves.specs.Facts.{DockTotals, BikeTotals, HasDockTotals, HasBikeTotals, IsMarkedEmpty, IsMarkedHeld, BikesMove}
-use Rattle.bike_moves.specs.MoveLaws.{count_change, dock_change, with_count, with_dock}
+use Rattle.bike_moves.specs.Facts.{DockTotals, BikeTotals, HasDockTotals, HasBikeTotals}
+use Rattle.bike_moves.specs.AddedOrSet.{count_change, dock_change, with_count, with_dock}
 use Rattle.bike_moves.specs.Put.{IsDockAt, moved_by, Adds, adds_marked, bikes_by, docks_marked_empty, docks_marked_held}
 use Rattle.bike_moves.specs.PutLaws.{docks_reported, MarkedEmptyLaw, MarkedHeldLaw}
+use Rattle.bike_moves.proofs.NumbersMove.{IsMarkedEmpty, IsMarkedHeld, BikesMove}
 use Rattle.bike_moves.proofs.TotalsRows.{totals_at}
 use Rattle.bike_moves.proofs.ReportBooks.{report}
 use Rattle.bike_moves.proofs.DockMarks.{broken_or_not, has_marked, available_held, disabled_held}

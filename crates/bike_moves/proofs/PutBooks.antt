@@ -27,10 +27,11 @@ use Rattle.bike_book.specs.Between.{tables_between, Books}
 use Rattle.bike_book.specs.ChangeLaws.{Everywhere}
 use Rattle.bike_book.proofs.BooksLemmas.{books_then}
 use Rattle.bike_book.proofs.MergeLemmas.{report_merges_before, same_behind}
-use Rattle.bike_moves.specs.Facts.{DockTotals, BikeTotals, HasDockTotals, HasBikeTotals, DocksMove, BikesMove}
-use Rattle.bike_moves.specs.MoveLaws.{count_change, with_count}
+use Rattle.bike_moves.specs.Facts.{DockTotals, BikeTotals, HasDockTotals, HasBikeTotals}
+use Rattle.bike_moves.specs.AddedOrSet.{count_change, with_count}
 use Rattle.bike_moves.specs.Put.{standing, bike_put, IsNoOtherDock, IsPutAtDock, moved_by, Adds, adds_put, docks_by, bikes_by}
 use Rattle.bike_moves.specs.PutLaws.{docks_reported, AwayLaw, AtDockLaw}
+use Rattle.bike_moves.proofs.NumbersMove.{DocksMove, BikesMove}
 use Rattle.bike_moves.proofs.TotalsRows.{totals_at, stations_set}
 use Rattle.bike_moves.proofs.ReportBooks.{report}
 use Rattle.bike_moves.proofs.BikeMoves.{bike_changed, key_found, moves_by, MovesAt, bikes_set, docks_elsewhere, bikes_elsewhere, docks_here, available_here, disabled_here, before, after, available_moves, disabled_moves}

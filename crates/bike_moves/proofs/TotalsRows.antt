@@ -22,7 +22,7 @@ use Rattle.bike_book.proofs.MapRows.{same_entries, put_entries, set_entries, kep
 use Rattle.bike_book.proofs.Keys.{texts, pairs, docks, IsPair, IsDockPair}
 use Rattle.bike_book.proofs.FoundKeys.{count_pair, dock_pair}
 use Rattle.bike_moves.specs.Facts.{DockTotals, BikeTotals, HasDockTotals}
-use Rattle.bike_moves.specs.MoveLaws.{count_change, dock_change, with_count, with_dock}
+use Rattle.bike_moves.specs.AddedOrSet.{count_change, dock_change, with_count, with_dock}
 
 -- ---- keys that differ
 

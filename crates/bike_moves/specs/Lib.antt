@@ -1,6 +1,5 @@
 pub mod Facts
-pub mod MoveLaws
-pub mod AfterLaws
+pub mod AddedOrSet
 pub mod Ends
 pub mod Put
 pub mod PutLaws

@@ -1,13 +1,9 @@
-//! Bicycles that move and docks that are marked, as row changes.
+//! Bicycles that are put and docks that are marked, as row changes.
 //!
-//! Between two changes of one request no operator need be sound. So the laws by change hold over tables with each
-//! station's docks left in place of its docks available. At both ends of the request these are the operator's own
-//! tables.
+//! Between two changes of one request no operator need be sound. So the laws hold over tables with each station's docks
+//! left in place of its docks available. At both ends of the request these are the operator's own tables.
 #![tactic(auto)]
 
 mod laws;
 
-pub use laws::{
-    books_mark, books_marked, books_place, books_put, books_report, books_request, books_state,
-    stands_after,
-};
+pub use laws::{books_marked, books_put, books_request};

@@ -1,8 +1,8 @@
 //! The operator of a bike share, defined: what it keeps, when it is sound, its 25 commands with their tests, effects and
 //! replies, and the view by which a command is decided.
 //!
-//! The code here is data alone: the records and how many there may be, the view of an operator for a command, and the
-//! changes that a decision makes. Decisions stand above.
+//! The code here is data alone: the records and how many there may be, where a bicycle is put, and the view of an operator
+//! for a command. Decisions, and what they make, stand above.
 #![tactic(auto)]
 
 mod change;
@@ -10,7 +10,7 @@ mod limits;
 mod records;
 mod view;
 
-pub use change::{Accepted, Change, Decision, NewPlace};
+pub use change::NewPlace;
 pub use limits::{
     MOST_BIKES, MOST_ENTRIES, MOST_FURTHER_NAMES, MOST_ORDERS, MOST_PLANS, MOST_REGIONS,
     MOST_RIDERS, MOST_STATIONS, MOST_TRUCKS, MOST_TYPES,

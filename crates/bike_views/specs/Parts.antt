@@ -9,7 +9,7 @@ use Rattle.bike_texts.specs.declared.ends.Side.{Side}
 use Rattle.bike_operator.specs.declared.records.Rental.{Rental}
 use Rattle.bike_operator.specs.declared.view.View.{View}
 use Rattle.bike_operator.specs.Operator.{Operator, item_numbered}
-use Rattle.bike_operator.specs.Counts.{is_riding, order_load, truck_load}
+use Rattle.bike_operator.specs.Counts.{is_riding, truck_load}
 use Rattle.bike_operator.specs.View.{bike_of, has_end, has_full_ledger, planned_rental, rental_at, rental_of, rider_at, side_view, truck_at}
 use Rattle.bike_booking.specs.declared.stored.StoredCounts.{StoredCounts}
 use Rattle.bike_booking.specs.declared.stored.StoredDock.{StoredDock}
@@ -18,7 +18,7 @@ use Rattle.bike_fleet.specs.declared.stations.DockNumbers.{DockNumbers}
 use Rattle.bike_views.specs.declared.rentals.StartView.{StartView}
 use Rattle.bike_views.specs.declared.rentals.RentalBike.{RentalBike}
 use Rattle.bike_views.specs.declared.orders.OrderNames.{OrderNames}
-use Rattle.bike_views.specs.declared.orders.Loads.{Loads}
+use Rattle.bike_views.specs.declared.orders.LoadedTruck.{LoadedTruck}
 
 -- the rider who starts a rental, and the numbers that are asked for it
 abbrev pub start_view : Operator → ℕ → StartView
@@ -52,9 +52,9 @@ names_of s from_end to_end type_id = record {
   has_to = has_end s to_end;
 }
 
--- a truck, and the bicycles on it, over all orders and for one
-abbrev pub loads_of : Operator → ℕ → ℕ → Loads
-loads_of s truck order = record { truck = truck_at s truck; loaded = truck_load s truck; on_truck = order_load s order }
+-- a truck, and the bicycles on it
+abbrev pub loaded_truck : Operator → ℕ → LoadedTruck
+loaded_truck s truck = record { truck = truck_at s truck; loaded = truck_load s truck }
 
 -- an order, and the dock at a side of it
 abbrev pub delivery_view : Operator → ℕ → Side → ℕ → View

@@ -2,10 +2,12 @@
 
 ghost use Rattle.std.specs.Prelude.{◌≡◌, ℕ, length};
 ghost use Rattle.bike_commands.specs.declared.command.Command.TheVariants as command;
+ghost use Rattle.bike_operator.specs.Counts.{order_load};
+ghost use Rattle.bike_operator.specs.Operator.{item_numbered};
 ghost use Rattle.bike_operator.specs.View.{end_at as end_of_order, end_view, has_end, side_view, view_of};
 ghost use Rattle.bike_schema.specs.Answers.{Answers};
 ghost use Rattle.bike_views.specs.Open.{AnswersOpen};
-ghost use Rattle.bike_views.specs.Parts.{delivery_view, loads_of, names_of};
+ghost use Rattle.bike_views.specs.Parts.{delivery_view, loaded_truck, names_of};
 
 use crate::bikes::find_bike_view;
 use crate::docks::find_dock_view;
@@ -29,12 +31,11 @@ pub(crate) struct OrderNames {
     pub(crate) has_to: bool,
 }
 
-/// A truck, and how many bicycles are on it: over all orders, and for one.
+/// A truck, and how many bicycles are on it.
 #[derive(Clone, Copy)]
-pub(crate) struct Loads {
+pub(crate) struct LoadedTruck {
     pub(crate) truck: Option<TruckView>,
     pub(crate) loaded: u32,
-    pub(crate) on_truck: u32,
 }
 
 /// The view for a new truck, whatever it holds.
@@ -108,22 +109,34 @@ pub(crate) fn view_to_open_order<S: Alter>(
     })
 }
 
-/// The truck and its loads.
-fn find_loads<S: Alter>(
+/// The truck and its load, over all orders.
+fn find_loaded_truck<S: Alter>(
     conn: &mut Connection<S>,
     truck: TruckNumber,
-    order: OrderNumber,
-) -> Result<Loads, StatementFault>
-    ensures { Answers S.Store conn.old conn.new result (λ s m loads. loads ≡ loads_of s truck order) }
+) -> Result<LoadedTruck, StatementFault>
+    ensures { Answers S.Store conn.old conn.new result (λ s m found. found ≡ loaded_truck s truck) }
 {
     let found = find_truck(conn, truck)?;
     let loaded = truck_load(conn, truck)?;
-    let on_truck = order_load(conn, order)?;
-    Ok(Loads {
+    Ok(LoadedTruck {
         truck: found,
         loaded,
-        on_truck,
     })
+}
+
+/// How many bicycles are on its truck for an order, of which this was read.
+fn find_order_load<S: Alter>(
+    conn: &mut Connection<S>,
+    number: OrderNumber,
+    order: &Option<Order>,
+) -> Result<u32, StatementFault>
+    ensures { AnswersOpen S.Store conn.old conn.new result
+        (λ s m load. order.now ≡ item_numbered number s.orders → load ≡ order_load s number) }
+{
+    match order {
+        None => Ok(0),
+        Some(order) => order_load(conn, number, order.truck),
+    }
 }
 
 /// The view for a bicycle that is loaded.
@@ -137,14 +150,15 @@ pub(crate) fn view_to_load<S: Alter>(
     ensures { Answers S.Store conn.old conn.new result
         (λ s m view. view ≡ view_of s (command.Load truck order bike)) }
 {
-    let loads = find_loads(conn, truck, order)?;
-    let order = find_order(alloc, conn, order)?;
+    let loaded = find_loaded_truck(conn, truck)?;
+    let found = find_order(alloc, conn, order)?;
+    let on_truck = find_order_load(conn, order, &found)?;
     let view = find_bike_view(alloc, conn, bike)?;
     Ok(View {
-        truck: loads.truck,
-        loaded: loads.loaded,
-        order,
-        on_truck: loads.on_truck,
+        truck: loaded.truck,
+        loaded: loaded.loaded,
+        order: found,
+        on_truck,
         ..view
     })
 }
@@ -236,10 +250,10 @@ pub(crate) fn view_to_close_order<S: Alter>(
 ) -> Result<View, StatementFault>
     ensures { Answers S.Store conn.old conn.new result (λ s m view. view ≡ view_of s (command.CloseOrder order)) }
 {
-    let on_truck = order_load(conn, order)?;
-    let order = find_order(alloc, conn, order)?;
+    let found = find_order(alloc, conn, order)?;
+    let on_truck = find_order_load(conn, order, &found)?;
     Ok(View {
-        order,
+        order: found,
         on_truck,
         ..empty_view()
     })

@@ -104,7 +104,7 @@ impl fmt::Display for Line<'_> {
     fn fmt<W: fmt::Write>(&self, f: &mut fmt::Formatter<W>) -> fmt::Result {
         match self.0 {
             Mistake::Help { .. } => Ok(()),
-            Mistake::NoText => f.write_str("bikeshare: a word is no UTF-8; wanted are texts\n"),
+            Mistake::NoText => f.write_str("bikeshare: a word isn't UTF-8; wanted is UTF-8\n"),
             Mistake::UnknownWord { text } => {
                 let word = Shown(text);
                 writeln!(

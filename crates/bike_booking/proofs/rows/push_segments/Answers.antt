@@ -7,7 +7,6 @@ pub loop-segment-preserved : goal.loop-segment-preserved
 loop-segment-preserved c = record {
   place = omega arith;
   len = omega arith;
-  capacity = omega arith;
   added =
       let segments = c.args.segments.now in
       let index = c.loop-segment.segment-index in

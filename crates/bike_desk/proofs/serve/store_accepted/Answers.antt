@@ -1,12 +1,9 @@
-use Rattle.std.proofs.Common.{OnOk, ap, ◌∙◌, arith, subst}
-use Rattle.std.specs.Prelude.{◌++◌}
+use Rattle.std.proofs.Common.{OnOk, arith, subst}
 use Rattle.sqlite.specs.State.{HasCleanDisk}
 use Rattle.sqlite.specs.Held.{state}
 use Rattle.bike_commands.specs.declared.request.Request.{Request}
 use Rattle.bike_operator.specs.Operator.{Operator}
 use Rattle.bike_operator.specs.Runs.{after_acceptance}
-use Rattle.bike_book.specs.Writes.{writes_of}
-use Rattle.bike_booking.specs.Writes.{writes_of_accepted}
 use Rattle.bike_schema.specs.Makes.{OthersStay}
 use Rattle.bike_schema.specs.Stands.{Keeps}
 use Rattle.bike_desk.specs.Serving.{IsNextBy, Accepts}
@@ -26,9 +23,8 @@ next_is g c seen s q keeps it =
     let answered = c.in_ok-stored.ensures.stored.answers keeps.is_open in
     let same = answered.same seen ours in
     let told = accepts_stored s h.listed c.args.now q c.args.accepted.now c.args.sums c.args.texts.now c.in_ok-stored.stored h.sound h.listing it (answered.found seen ours s h) c.in_ok-stored.ensures.sums in
-    let wrote = c.push_rows.ensures ∙ ap (λ rows. writes_of rows ++ writes_of_accepted c.args.now c.in_ok-stored.stored c.args.texts.now c.args.accepted.now) c.requires.empty in
-    let books = c.books_accepted.ensures.books s h.listed c.args.now q c.args.accepted.now c.in_ok-stored.stored c.args.texts.now c.push_rows.new.rows.items told wrote in
-    rw c.as_slice.ensures.value (booked_next old new s c.args.now q h c.push_rows.new.rows.items same.0.now_is (still g.S.Store c.args.conn.now c.find_stored.new.conn s keeps seen same c.find_stored.ensures.stored.quiet) it.sound_after books)
+    let books = c.books_accepted.ensures.books s h.listed c.args.now q c.args.accepted.now c.in_ok-stored.stored c.args.texts.now c.rows_of.result.items told c.rows_of.ensures in
+    rw c.as_slice.ensures.value (booked_next old new s c.args.now q h c.rows_of.result.items same.0.now_is (still g.S.Store c.args.conn.now c.find_stored.new.conn s keeps seen same c.find_stored.ensures.stored.quiet) it.sound_after books)
 
 pub returns-clause-made : goal.returns-clause-made
 returns-clause-made g c clean s q keeps it =

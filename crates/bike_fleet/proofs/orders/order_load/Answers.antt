@@ -1,11 +1,13 @@
-use Rattle.std.proofs.Common.{sym, ◌∙◌}
-use Rattle.bike_rows.proofs.ChainLaws.{reads_as}
-use Rattle.bike_schema.proofs.AnswerLemmas.{answers_next}
-use Rattle.bike_fleet.proofs.LoadLemmas.{no_load, load_on_truck}
+use Rattle.std.proofs.Common.{[], ◌∷◌, length, sym, ap, ◌∙◌}
+use Rattle.bike_book.specs.Tables.{Bikes}
+use Rattle.bike_book.specs.Rows.{number_value}
+use Rattle.bike_book.specs.Found.{rows_by}
+use Rattle.bike_schema.proofs.AnswerLemmas.{answers_made}
+use Rattle.bike_fleet.proofs.LoadLemmas.{load_rows}
 use Rattle.bike_fleet.proofs.orders.order_load.Goals as goal
 
-pub returns-in-None : goal.returns-in-None
-returns-in-None g c = reads_as c.in_ok-found.ensures (λ db is s h. no_load s h.sound c.args.order (sym c.in-None.is ∙ is s h))
-
-pub returns-in-Some : goal.returns-in-Some
-returns-in-Some g c = answers_next c.in_ok-found.ensures c.load_on.ensures (λ db y truck load s h. load s h ∙ load_on_truck s h.sound c.args.order h.listed c.in-Some.truck (sym c.in-Some.is ∙ truck s h))
+pub returns : goal.returns
+returns g c = answers_made c.in_ok-answer.ensures c.count_of.ensures (λ db x is counted s h row found truck_is.
+    counted _ (is s h)
+    ∙ ap (λ n. length (rows_by s h.listed Bikes (6 ∷ 7 ∷ []) (number_value n ∷ number_value c.args.order ∷ []))) (sym truck_is)
+    ∙ load_rows s h.sound c.args.order h.listed row found)

@@ -1,4 +1,3 @@
-use Rattle.std.proofs.Common.{map, Bor, List, ℕ}
 use Rattle.bike_words.proofs.Refused.{is_nothing, is_other, is_there, texts_before}
 use Rattle.bike_words.proofs.parsing.has_before.Goals as goal
 

@@ -1,5 +1,4 @@
 use Rattle.std.proofs.Common.{inl, inr}
-use Rattle.bike_words.proofs.Parse.{against_nothing}
 use Rattle.bike_words.proofs.reading.fault_in.Goals as goal
 
 pub mistake_in-requires-clause-against : goal.mistake_in-requires-clause-against

@@ -1,5 +1,5 @@
-use Rattle.std.proofs.Common.{◌≡◌, map, subst, Bor, List, ℕ, [], inl, inr}
-use Rattle.clap.specs.Words.{fault_of, subcommand_of}
+use Rattle.std.proofs.Common.{◌≡◌, map, subst, Bor, List, ℕ}
+use Rattle.clap.specs.Words.{subcommand_of}
 use Rattle.bike_words.specs.Program.{program}
 use Rattle.bike_words.specs.Asked.{Ask}
 use Rattle.bike_words.specs.Told.{IsOfValue}
@@ -8,7 +8,6 @@ use Rattle.bike_words.specs.declared.reading.WordsFault.TheVariants.{NoMemory, U
 use Rattle.bike_words.proofs.Asks.{word_asks}
 use Rattle.bike_words.proofs.Answer.{told}
 use Rattle.bike_words.proofs.Bounds.{found_within}
-use Rattle.bike_words.proofs.Parse.{against_nothing, refused_by}
 use Rattle.bike_words.proofs.Refused.{first_is, value_told}
 use Rattle.bike_words.proofs.reading.read_words.Goals as goal
 

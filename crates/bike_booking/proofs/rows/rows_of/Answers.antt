@@ -1,12 +1,13 @@
-use Rattle.std.proofs.Common.{◌++◌, List, Vec, ap, ◌∙◌}
+use Rattle.std.proofs.Common.{◌++◌, List, ap, ◌∙◌}
+use Rattle.arrayvec.specs.ArrayVec.{ArrayVec}
 use Rattle.bike_book.specs.declared.row_change.RowChange.{RowChange}
 use Rattle.bike_book.specs.Writes.{writes_of}
 use Rattle.bike_booking.specs.Writes.{where_moved_writes, where_changed_writes, where_booked_writes, close_rows, AreAdded}
 use Rattle.bike_booking.proofs.Added.{added_rows, added_then, where_moved, not_moved, where_changed, not_changed, where_booked, not_booked}
-use Rattle.bike_booking.proofs.rows.push_rows.Goals.{in-Some, in_default, in-Some-change, in_default-change, in-Some-entry, in_default-entry}
-use Rattle.bike_booking.proofs.rows.push_rows.Goals as goal
+use Rattle.bike_booking.proofs.rows.rows_of.Goals.{in-Some, in_default, in-Some-change, in_default-change, in-Some-entry, in_default-entry}
+use Rattle.bike_booking.proofs.rows.rows_of.Goals as goal
 
-items : {Z : Type 0} → Vec RowChange Z → List RowChange
+items : ArrayVec RowChange → List RowChange
 items r = r.items
 
 pub returns : goal.returns
@@ -15,7 +16,7 @@ returns c =
     let a = c.args.accepted.now in
     let n = c.args.stored.now in
     let now = c.args.now in
-    let r0 = c.args.rows.now.items in
+    let r0 = c.new-rows.result.items in
     let r1 = c.match-accepted.rows.items in
     let r2 = c.match-accepted-2.rows.items in
     let r3 = c.match-accepted-3.rows.items in
@@ -40,4 +41,4 @@ returns c =
     let es = where_booked_writes a.entry in
     let all : AreAdded (ms ++ cs ++ es ++ writes_of close) r0 c.push_close.new.rows.items =
     added_then (ms ++ cs ++ es) (writes_of close) r0 r3 c.push_close.new.rows.items (added_then (ms ++ cs) es r0 r2 r3 (added_then ms cs r0 r1 r2 moved changed) booked) closed in
-    all
+    all ∙ ap (λ rows. writes_of rows ++ (ms ++ cs ++ es ++ writes_of close)) c.new-rows.ensures
