@@ -1,4 +1,4 @@
-"""The examples that documents show: request lines with their answers beside them."""
+"""The documents: the examples that they show, request lines with their answers beside them, counts, and words that are gone."""
 
 import math
 import re
@@ -52,3 +52,39 @@ def test_wrong_bodies(program):
     kept = len(list(TOP.glob("review/*/*.edit")))
     for wanted in f"{len(tried)} in all", f"{kept} in all":
         assert wanted in text, wanted
+
+
+# Words and phrases that no document has any more, each with the plain one that stands in its place.
+GONE = {
+    "dear": "expensive",
+    "dearer": "more expensive",
+    "dearest": "most expensive",
+    "dearly": "expensively",
+    "let go": "dropped, freed",
+    "lets go": "drops, frees",
+    "letting go": "dropping, freeing",
+    "in whom": "in which",
+    "himself": "itself",
+    "fronts": "prefixes",
+    "words of the program": "subcommands, or the command line",
+    "lists of words": "command lines",
+}
+
+
+def gone_in(text):
+    """The words of the list above that stand in a document's prose: code blocks and texts in backticks are left out, and a phrase may go
+    over the end of a line."""
+    prose = re.sub(r"^ *```.*?^ *```$", "", text, flags=re.M | re.S)
+    prose = " ".join(re.sub(r"(`+)[^`]+\1", "`", prose).split())
+    return [it for it in GONE if re.search(rf"\b{it}\b", prose, re.I)]
+
+
+def test_words_that_are_gone(program):
+    """No document has one of them again."""
+    assert gone_in("Such a proof is Dear: it\nlets\n  go of the lock.") == ["dear", "lets go"]
+    assert gone_in("# `dear`\n\n```\nin whom\n```\n\nNearly `lets go`, dears.\n\n  ```\n  himself\n  ```\n") == []
+    documents = [*(TOP / it for it in ("README.md", "CHANGELOG.md", "CONTRIBUTING.md")), *sorted((TOP / "docs").glob("*.md"))]
+    assert len(documents) > 12, documents
+    for document in documents:
+        found = gone_in(document.read_text(encoding="utf-8"))
+        assert not found, f"{document.name} has {', '.join(f'{it} (say: {GONE[it]})' for it in found)}"
