@@ -1,3 +1,4 @@
+mod LoadLemmas
 mod OpenLaws
 mod PartLemmas
 mod NameLemmas

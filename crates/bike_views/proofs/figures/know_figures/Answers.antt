@@ -1,4 +1,4 @@
-use Rattle.std.proofs.Common.{◌≡◌, sym, subst}
+use Rattle.std.proofs.Common.{◌≡◌, subst}
 use Rattle.std.specs.Prelude.{IfSome}
 use Rattle.bike_booking.specs.Figures.{figures_of}
 use Rattle.bike_schema.proofs.AnswerLemmas.{reads_weaker}
