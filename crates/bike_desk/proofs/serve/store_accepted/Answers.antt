@@ -12,7 +12,7 @@ use Rattle.bike_desk.proofs.ServeLemmas.{booked_next, accepts_stored}
 use Rattle.bike_desk.proofs.serve.store_accepted.Given.{Over}
 use Rattle.bike_desk.proofs.serve.store_accepted.Goals as goal
 
-next_is : (g : Over) (c : goal.After-drop-rows-2 g) → HasCleanDisk (state g.S.Store c.find_stored.new.conn) → (s : Operator) (q : Request) → Keeps (state g.S.Store c.args.conn.now) s
+next_is : (g : Over) (c : goal.After-make_all g) → HasCleanDisk (state g.S.Store c.find_stored.new.conn) → (s : Operator) (q : Request) → Keeps (state g.S.Store c.args.conn.now) s
     → Accepts s c.args.now q c.args.accepted.now c.args.sums c.args.texts.now
     → IsNextBy (state g.S.Store c.find_stored.new.conn) c.as_slice.result.now s (after_acceptance s c.args.now q)
 next_is g c seen s q keeps it =
@@ -23,8 +23,8 @@ next_is g c seen s q keeps it =
     let answered = c.in_ok-stored.ensures.stored.answers keeps.is_open in
     let same = answered.same seen ours in
     let told = accepts_stored s h.listed c.args.now q c.args.accepted.now c.args.sums c.args.texts.now c.in_ok-stored.stored h.sound h.listing it (answered.found seen ours s h) c.in_ok-stored.ensures.sums in
-    let books = c.books_accepted.ensures.books s h.listed c.args.now q c.args.accepted.now c.in_ok-stored.stored c.args.texts.now c.rows_of.result.items told c.rows_of.ensures in
-    rw c.as_slice.ensures.value (booked_next old new s c.args.now q h c.rows_of.result.items same.0.now_is (still g.S.Store c.args.conn.now c.find_stored.new.conn s keeps seen same c.find_stored.ensures.stored.quiet) it.sound_after books)
+    let books = c.books_accepted.ensures.books s h.listed c.args.now q c.args.accepted.now c.in_ok-stored.stored c.args.texts.now c.rows_of-rows.result.items told c.rows_of-rows.ensures in
+    rw c.as_slice.ensures.value (booked_next old new s c.args.now q h c.rows_of-rows.result.items same.0.now_is (still g.S.Store c.args.conn.now c.find_stored.new.conn s keeps seen same c.find_stored.ensures.stored.quiet) it.sound_after books)
 
 pub returns-clause-made : goal.returns-clause-made
 returns-clause-made g c clean s q keeps it =
