@@ -1,11 +1,33 @@
-"""The documents: the examples that they show, request lines with their answers beside them, counts, and words that are gone."""
+"""The documents: the examples that they show, request lines with their answers beside them, quoted code, what they name and link to,
+counts, and words that are gone."""
 
 import math
+import os
 import re
 
-from shared import TOP
+import days
+import feeds
+import formats
+from shared import CITY, HEAD, HEADER, TOP
 
 ROW = re.compile(r"^(\d+⇥\S+) {2,}(\S+)(?: {2,}.*)?$", re.M)
+
+
+BLOCK = re.compile(r"^ *```[a-z]*\n(.*?)^ *```$", re.M | re.S)
+SOURCE = re.compile(r" *(?://|--) ((?:crates|review)/\S+)")
+QUOTED = re.compile(r"(?<!`)`([^`]+)`(?!`)")
+
+
+def documents():
+    """Each document with its text."""
+    found = [*(TOP / it for it in ("README.md", "CHANGELOG.md", "CONTRIBUTING.md")), *sorted((TOP / "docs").glob("*.md"))]
+    assert len(found) > 12, found
+    return {str(it.relative_to(TOP)): it.read_text(encoding="utf-8") for it in found}
+
+
+def quoted(text):
+    """The texts in backticks of a document's prose, each on one line."""
+    return [" ".join(it.split()) for it in QUOTED.findall(BLOCK.sub("", text))]
 
 
 def rows_of(document):
@@ -83,8 +105,7 @@ GONE = {
 def gone_in(text):
     """The words of the list above that stand in a document's prose: code blocks and texts in backticks are left out, and a phrase may go
     over the end of a line."""
-    prose = re.sub(r"^ *```.*?^ *```$", "", text, flags=re.M | re.S)
-    prose = " ".join(re.sub(r"(`+)[^`]+\1", "`", prose).split())
+    prose = " ".join(re.sub(r"(`+)[^`]+\1", "`", BLOCK.sub("", text)).split())
     return [it for it in GONE if re.search(rf"\b{it}\b", prose, re.I)]
 
 
@@ -92,8 +113,137 @@ def test_words_that_are_gone(program):
     """No document has one of them again."""
     assert gone_in("Such a proof is Dear: it\nlets\n  go of the lock.") == ["dear", "lets go"]
     assert gone_in("# `dear`\n\n```\nin whom\n```\n\nNearly `lets go`, dears.\n\n  ```\n  himself\n  ```\n") == []
-    documents = [*(TOP / it for it in ("README.md", "CHANGELOG.md", "CONTRIBUTING.md")), *sorted((TOP / "docs").glob("*.md"))]
-    assert len(documents) > 12, documents
-    for document in documents:
-        found = gone_in(document.read_text(encoding="utf-8"))
-        assert not found, f"{document.name} has {', '.join(f'{it} (say: {GONE[it]})' for it in found)}"
+    for name, text in documents().items():
+        found = gone_in(text)
+        assert not found, f"{name} has {', '.join(f'{it} (say: {GONE[it]})' for it in found)}"
+
+
+def misquoted(text, lines_of):
+    """The lines that a text quotes, below a line that names their file, and that don't stand so in it, and how many it quotes. Two dots stand
+    for what is left out."""
+    wrong, count = [], 0
+    for block in BLOCK.findall(text):
+        lines = None
+        for line in block.splitlines():
+            source = SOURCE.fullmatch(line)
+            if source:
+                lines = {it.strip() for it in lines_of(source[1])}
+            elif lines is not None and line.strip() not in ("", ".."):
+                count += 1
+                pattern = re.escape(line.strip()).replace(r"\.\.", ".+")
+                if line.strip() not in lines and not any(re.fullmatch(pattern, it) for it in lines):
+                    wrong.append(line.strip())
+    return wrong, count
+
+
+def test_quoted_code_stands_in_its_file(program):
+    """Each line of code below the name of a file is a line of that file."""
+    shown = "```rust\n// crates/a.rt\nfn f()\n    one { x }\n    ..\n-- crates/b.antt\ng (a ..) = b\n```\n"
+    source = {"crates/a.rt": ["fn f()", "  one { x }"], "crates/b.antt": ["g (a b c) = b"]}
+    assert misquoted(shown, source.get) == ([], 3)
+    source["crates/a.rt"][1] = source["crates/b.antt"][0] = "two { x }"
+    assert misquoted(shown, source.get) == (["one { x }", "g (a ..) = b"], 3)
+    counts = {}
+    for name, text in documents().items():
+        wrong, counts[name] = misquoted(text, lambda it: (TOP / it).read_text(encoding="utf-8").splitlines())
+        assert not wrong, f"{name} quotes what isn't there: {wrong}"
+    assert counts["docs/READING.md"] > 100 and counts["README.md"] > 5 and counts["CONTRIBUTING.md"] > 1, counts
+
+
+# What files of the toolchain, of a made program or of a configured machine are named by, and names that stand for many.
+ELSEWHERE = re.compile(r"sqlite\w*/specs/.*|std/specs/.*|crates/bikeshare/out/.*|(?:FIRST|SHORTER)_PROOFS\.md|/etc/.*|.*@.*|.*(?:CRATE|NAME)\b.*")
+ENDINGS = r"py|rt|antt|md|sh|yaml|txt|edit|conf|svg|html"
+
+
+def missing_in(text):
+    """The files that a text names in backticks and that aren't there. They are named from the top, from docs, from crates or from a crate."""
+    named = {it for one in quoted(text) for it in re.findall(r"[\w./@*-]+", one)}
+    named = {it for it in named if re.search(rf"\w\.(?:{ENDINGS})$", it) or re.match(r"(?:crates|tests|tools|docs|deploy|bench|examples|review)/", it)}
+    folders = TOP, TOP / "docs", TOP / "crates", TOP / "deploy", TOP / "tests"
+    wanted = sorted(it for it in named if not ELSEWHERE.fullmatch(it) and not any(any(folder.glob(it.strip("/"))) for folder in folders))
+    return [it for it in wanted if not any(any(TOP.glob(f"{where}/{it}")) for where in ("crates/*", "crates/*/specs", "crates/*/src", "crates/*/proofs"))]
+
+
+def test_files_that_are_named_are_there(program):
+    """Whatever a document names in backticks like a file of the repository is one."""
+    assert missing_in("`tests/documents.py`, `docs/*.md`, `bike_core/src/lib.rt` and `sqlite/specs/State.antt`") == []
+    assert missing_in("`tests/document.py` and `bike_core/src/none.rt`") == ["bike_core/src/none.rt", "tests/document.py"]
+    for name, text in documents().items():
+        assert not missing_in(text), f"{name} names {missing_in(text)}"
+
+
+def anchors_of(text):
+    """The anchors of a document's headings."""
+    heads = re.findall(r"^#+ (.*)$", BLOCK.sub("", text), re.M)
+    return {re.sub(r"[^\w -]", "", it.lower()).replace(" ", "-") for it in heads}
+
+
+def bad_links(texts):
+    """The links of these documents that lead nowhere, and the sections and the titles of a document that it doesn't have."""
+    found = []
+    for name, text in texts.items():
+        for link in re.findall(r"\]\(([^)\s]+)\)", BLOCK.sub("", text)):
+            place, _, anchor = link.partition("#")
+            place = os.path.normpath(os.path.join(os.path.dirname(name), place)) if place else name
+            page = f"{place}/README.md" if (TOP / place).is_dir() else place
+            if not re.match("https?:", link) and not ((TOP / place).exists() and (not anchor or anchor in anchors_of(texts[page]))):
+                found.append(f"{name}: {link}")
+        plain = " ".join(re.sub(r"\]\([^)]*\)|\[", "", text).split())
+        for cited, one, other in re.findall(r"\b([A-Z]{3,})\.md, sections? (\d+)(?:(?: and | to )(\d+))?", plain):
+            heads = re.findall(r"^## (\d+)\. ", texts[f"docs/{cited}.md"], re.M)
+            found += [f"{name}: {cited}.md, section {it}" for it in (one, other) if it and it not in heads]
+        for cited, title in re.findall(r"\b([A-Z]{3,})\.md, \"([^\"]+)\"", plain):
+            where = texts.get(f"docs/{cited}.md", texts.get(f"{cited}.md"))
+            if not re.search(rf"^#+ (?:\d+\. )?{re.escape(title)}$|\*\*{re.escape(title)}\.?\*\*", where, re.M):
+                found.append(f"{name}: {cited}.md, {title}")
+    return found
+
+
+def test_links_and_sections(program):
+    """Each link leads to a file and a heading that are there, and each section that is cited, by its number or its title, too."""
+    text = "[a](docs/API.md#routes) [a](docs/none.md) API.md, \"Nothing\", FORMATS.md, section 99, [a](#none)\n# One\n"
+    assert bad_links(documents() | {"README.md": text}) == [
+        "README.md: docs/none.md", "README.md: #none", "README.md: FORMATS.md, section 99", "README.md: API.md, Nothing"
+    ]
+    others = [TOP / "docs/openapi.yaml", *(it for where in ("bench", "examples/*", "tests/files") for it in TOP.glob(f"{where}/README.md"))]
+    assert len(others) == 5, others
+    found = bad_links(documents() | {str(it.relative_to(TOP)): it.read_text(encoding="utf-8") for it in others})
+    assert not found, found
+
+
+def test_examples_of_the_formats(program):
+    """The city, the feeds, the day table and the header that docs/FORMATS.md shows are those of the tests, which send them to the program."""
+    lines = "\n".join(BLOCK.findall(documents()["docs/FORMATS.md"])).replace("⇥", "\t").splitlines()
+    begin = lines.index(CITY[0])
+    assert lines[begin : begin + len(feeds.CITY)] == feeds.CITY, lines[begin:][: len(feeds.CITY)]
+    shown = [it for it in lines if it.startswith("{")]
+    assert shown == [f"{HEAD}{feeds.DATA['station_status']}}}", feeds.DATA["station_information"]], shown
+    table = lines.index(days.RENTALS.strip()) + 1
+    assert f'"{lines[table]}\\n"' in (TOP / "tests/days.py").read_text(encoding="utf-8"), lines[table]
+    assert f"`{HEADER.strip()}`" in documents()["docs/FORMATS.md"]
+
+
+def test_subcommands(program):
+    """Wherever a document shows the program's command line, its first word is one of docs/FORMATS.md, section 9."""
+    texts = documents()
+    known = set(re.findall(r"^\| `([a-z]+) FILE", texts["docs/FORMATS.md"], re.M))
+    assert len(known) == 8, known
+    for name, text in texts.items():
+        shown = [*"\n".join(BLOCK.findall(text)).splitlines(), *quoted(text)]
+        found = {it[1] for line in shown if (it := re.match(r"(?:\S*/)?bikeshare ([a-z]+)\b", line))}
+        assert found <= known, (name, found - known)
+
+
+def test_names_of_contracts(program):
+    """Each name in backticks of docs/READING.md and of docs/PROVED.md stands in the code, its definitions or the tests."""
+    wanted = re.compile(r"[A-Za-z]\w*[_A-Z]\w*")
+    kinds = "crates/*/src/**/*.rt", "crates/*/specs/**/*.antt", "crates/*/proofs/*.antt", "crates.txt", "HANDLES", "tests/*", "tools/*"
+    files = [it for kind in kinds for it in TOP.glob(kind) if it.is_file()]
+    there = {it for file in files for it in wanted.findall(f"{file.stem} {file.read_text(encoding='utf-8')}")}
+    there |= {it.parent.name for it in TOP.glob("crates/*/src")} | {it.stem for it in TOP.glob("crates/*/must-fail/*")}
+    assert len(files) > 500 and "run_adopt_and_read" in there, len(files)
+    # What stands for other names, and a file of the top.
+    other = {"IsX", "AreX", "HasX", "is_x", "CRATE", "HANDLES"}
+    for name in ("docs/READING.md", "docs/PROVED.md"):
+        found = {it for one in quoted(documents()[name]) for it in wanted.findall(one)} - other - there
+        assert not found, f"{name} names {sorted(found)}"
