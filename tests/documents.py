@@ -1,14 +1,16 @@
 """The documents: the examples that they show, request lines with their answers beside them, quoted code, what they name and link to,
 counts, and words that are gone."""
 
+import contextlib
 import math
 import os
 import re
+import sqlite3
 
 import days
 import feeds
 import formats
-from shared import CITY, HEAD, HEADER, TOP
+from shared import CITY, HEAD, HEADER, TOP, loaded
 
 ROW = re.compile(r"^(\d+⇥\S+) {2,}(\S+)(?: {2,}.*)?$", re.M)
 
@@ -247,3 +249,51 @@ def test_names_of_contracts(program):
     for name in ("docs/READING.md", "docs/PROVED.md"):
         found = {it for one in quoted(documents()[name]) for it in wanted.findall(one)} - other - there
         assert not found, f"{name} names {sorted(found)}"
+
+
+def test_refusals_of_commands(program):
+    """docs/OPERATOR.md has the refusals and each command's row as the definitions have them, in their order."""
+    text = documents()["docs/OPERATOR.md"]
+    steps, names = ((TOP / "crates" / it).read_text(encoding="utf-8") for it in ("bike_operator/specs/Steps.antt", "bike_commands/specs/Refusals.antt"))
+    number_of = {name: int(number) for name, number in re.findall(r"^number_of r\.(\w+) = (\d+)$", names, re.M)}
+    named = {number_of[name]: word for name, word in re.findall(r'^name_of r\.(\w+) = codes "(\w+)"$', names, re.M)}
+    assert {int(number): word for number, word in re.findall(r"^\| (\d+) \| ([a-z_]+) \| ", text, re.M)} == named == formats.REFUSALS
+    wanted = {}
+    for command, tried in re.findall(r"^tests v \(command\.(\w+).*?\) = *(.*?)∷ \[\]$", steps, re.M | re.S):
+        word = re.sub(r"(?<!^)([A-Z])", r"-\1", command).lower()
+        wanted[word] = [number_of.get(it, "the kind's") for it in re.findall(r"(?:refusal\.|, )(\w+)(?: kind)?\)", tried)]
+    rows = {}
+    for word, refusals in re.findall(r"^\| \*\*([a-z-]+)\*\* \| [^|]+ \| ([^|]+) \| ", text, re.M):
+        rows[word] = [int(it) if it.isdigit() else "the kind's" for it in re.sub(r" \((?:from|to)\)", "", refusals).split(", ")]
+    assert len(rows) == 25 and rows == wanted, [(it, rows.get(it), wanted.get(it)) for it in wanted if rows.get(it) != wanted[it]]
+    kinds = dict(re.findall(r"^unknown_of named\.(\w+) = refusal\.(\w+)$", steps, re.M))
+    told = re.findall(r"^  \| `(\w+)` \| .* \| (\d+) (\w+) \|$", text, re.M)
+    assert told == [(it.lower(), str(number_of[why]), named[number_of[why]]) for it, why in kinds.items()], told
+
+
+def test_limits_of_the_rules(program):
+    """The limits of docs/OPERATOR.md, section 11, are the constants, in their order."""
+    rows = documents()["docs/OPERATOR.md"].split("## 11. Limits", 1)[1].split("\n## ", 1)[0]
+    limits = re.findall(r"^pub const \w+: u32 = ([\d_]+);$", (TOP / "crates/bike_operator/src/limits.rt").read_text(encoding="utf-8"), re.M)
+    found = [it.replace(",", "") for it in re.findall(r"^\| [^|]+ \| ([\d,]+) \| ", rows, re.M)]
+    assert len(found) == 10 and found == [it.replace("_", "") for it in limits], (found, limits)
+
+
+def test_tables_of_the_formats(program):
+    """docs/FORMATS.md, section 10, has the tables of deploy/bikeshare-doctor, which tests/doctor.py holds to those that the program makes: their
+    columns in order, which of them may be NULL and which are the key, and which are texts."""
+    rows = documents()["docs/FORMATS.md"].split("## 10. Database", 1)[1].split("\n## ", 1)[0]
+    found = {}
+    for table, columns in re.findall(r"^\| ([a-z_0-9]+) \| ([^|;]+)[^|]*\| ", rows, re.M):
+        found[table] = re.sub(r" \([^)]*\)", "", columns).strip().split(", ")
+    texts = set("app name description form propulsion caller req_key command reply from_station to_station from_end to_end".split())
+    with contextlib.closing(sqlite3.connect(":memory:")) as db:
+        db.executescript(loaded(TOP / "deploy/bikeshare-doctor").SCHEMA)
+        wanted = {}
+        for (table,) in db.execute("SELECT name FROM sqlite_master WHERE type = 'table' ORDER BY rootpage").fetchall():
+            wanted[table] = []
+            for _, name, kind, is_wanted, _, key in db.execute(f"PRAGMA table_info({table})").fetchall():
+                wanted[table].append(f"{name}{'*' if key else '' if is_wanted else '?'}")
+                is_text = name in texts or name.endswith("_id") or table == "more_names" or (table == "system" and name not in ("one", "ttl"))
+                assert kind == ("TEXT" if is_text else "INTEGER"), (table, name, kind)
+    assert len(found) == 17 and found == wanted, [(it, found.get(it), wanted[it]) for it in wanted if found.get(it) != wanted[it]]
