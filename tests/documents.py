@@ -154,16 +154,14 @@ def test_quoted_code_stands_in_its_file(program):
 
 # What files of the toolchain, of a made program or of a configured machine are named by, and names that stand for many.
 ELSEWHERE = re.compile(r"sqlite\w*/specs/.*|std/specs/.*|crates/bikeshare/out/.*|(?:FIRST|SHORTER)_PROOFS\.md|/etc/.*|.*@.*|.*(?:CRATE|NAME)\b.*")
-ENDINGS = r"py|rt|antt|md|sh|yaml|txt|edit|conf|svg|html"
+IS_FILE = re.compile(r"(?:crates|tests|tools|docs|deploy|bench|examples|review)/.*|.*\w\.(?:py|rt|antt|md|sh|yaml|txt|edit|conf|svg|html)")
 
 
 def missing_in(text):
     """The files that a text names in backticks and that aren't there. They are named from the top, from docs, from crates or from a crate."""
-    named = {it for one in quoted(text) for it in re.findall(r"[\w./@*-]+", one)}
-    named = {it for it in named if re.search(rf"\w\.(?:{ENDINGS})$", it) or re.match(r"(?:crates|tests|tools|docs|deploy|bench|examples|review)/", it)}
-    folders = TOP, TOP / "docs", TOP / "crates", TOP / "deploy", TOP / "tests"
-    wanted = sorted(it for it in named if not ELSEWHERE.fullmatch(it) and not any(any(folder.glob(it.strip("/"))) for folder in folders))
-    return [it for it in wanted if not any(any(TOP.glob(f"{where}/{it}")) for where in ("crates/*", "crates/*/specs", "crates/*/src", "crates/*/proofs"))]
+    named = {it.strip("/") for one in quoted(text) for it in re.findall(r"[\w./@*-]+", one) if IS_FILE.fullmatch(it) and not ELSEWHERE.fullmatch(it)}
+    folders = "", "docs/", "deploy/", "tests/", "crates/", "crates/*/", "crates/*/specs/", "crates/*/src/", "crates/*/proofs/"
+    return sorted(it for it in named if not any(any(TOP.glob(f"{folder}{it}")) for folder in folders))
 
 
 def test_files_that_are_named_are_there(program):
@@ -254,7 +252,8 @@ def test_names_of_contracts(program):
 def test_refusals_of_commands(program):
     """docs/OPERATOR.md has the refusals and each command's row as the definitions have them, in their order."""
     text = documents()["docs/OPERATOR.md"]
-    steps, names = ((TOP / "crates" / it).read_text(encoding="utf-8") for it in ("bike_operator/specs/Steps.antt", "bike_commands/specs/Refusals.antt"))
+    files = "bike_operator/specs/Steps.antt", "bike_commands/specs/Refusals.antt"
+    steps, names = ((TOP / "crates" / it).read_text(encoding="utf-8") for it in files)
     number_of = {name: int(number) for name, number in re.findall(r"^number_of r\.(\w+) = (\d+)$", names, re.M)}
     named = {number_of[name]: word for name, word in re.findall(r'^name_of r\.(\w+) = codes "(\w+)"$', names, re.M)}
     assert {int(number): word for number, word in re.findall(r"^\| (\d+) \| ([a-z_]+) \| ", text, re.M)} == named == formats.REFUSALS
@@ -297,3 +296,11 @@ def test_tables_of_the_formats(program):
                 is_text = name in texts or name.endswith("_id") or table == "more_names" or (table == "system" and name not in ("one", "ttl"))
                 assert kind == ("TEXT" if is_text else "INTEGER"), (table, name, kind)
     assert len(found) == 17 and found == wanted, [(it, found.get(it), wanted[it]) for it in wanted if found.get(it) != wanted[it]]
+
+
+def test_rules_have_their_names(program):
+    """Each rule that a comment of the code names stands in bold in docs/OPERATOR.md."""
+    bold = {" ".join(it.lower().split()) for it in re.findall(r"\*\*(the [^*]+ rule)\b", documents()["docs/OPERATOR.md"], re.I)}
+    files = [it for kind in ("src/**/*.rt", "specs/**/*.antt") for it in TOP.glob(f"crates/*/{kind}")]
+    named = {it.lower() for file in files for it in re.findall(r"\bthe [a-z]+(?:-[a-z]+)* rule\b", file.read_text(encoding="utf-8"), re.I)}
+    assert len(named) > 15 and named <= bold, named - bold
