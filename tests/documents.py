@@ -300,7 +300,7 @@ def test_tables_of_the_formats(program):
 
 def test_rules_have_their_names(program):
     """Each rule that a comment of the code names stands in bold in docs/OPERATOR.md."""
-    bold = {" ".join(it.lower().split()) for it in re.findall(r"\*\*(the [^*]+ rule)\b", documents()["docs/OPERATOR.md"], re.I)}
+    bold = {" ".join(it.lower().split()) for it in re.findall(r"\*\*(the [^*]+\srule)\b", documents()["docs/OPERATOR.md"], re.I)}
     files = [it for kind in ("src/**/*.rt", "specs/**/*.antt") for it in TOP.glob(f"crates/*/{kind}")]
     named = {it.lower() for file in files for it in re.findall(r"\bthe [a-z]+(?:-[a-z]+)* rule\b", file.read_text(encoding="utf-8"), re.I)}
     assert len(named) > 15 and named <= bold, named - bold
