@@ -304,3 +304,21 @@ def test_rules_have_their_names(program):
     files = [it for kind in ("src/**/*.rt", "specs/**/*.antt") for it in TOP.glob(f"crates/*/{kind}")]
     named = {it.lower() for file in files for it in re.findall(r"\bthe [a-z]+(?:-[a-z]+)* rule\b", file.read_text(encoding="utf-8"), re.I)}
     assert len(named) > 15 and named <= bold, named - bold
+
+
+def test_glossary(program):
+    """Each entry of docs/READING.md's glossary stands there once, and its words are defined in the files that it names."""
+    section = documents()["docs/READING.md"].split("## 2. Glossary", 1)[1].split("\n## ", 1)[0]
+    rows = re.findall(r"^\| ([^|]+) \| [^|]+ \| ([^|]*`) \|$", section, re.M)
+    words = [word for row, _ in rows for word in row.split(", ")]
+    assert len(rows) > 20 and len(words) == len(set(words)), words
+    tried = 0
+    for word, cell in rows:
+        for part in cell.split("; "):
+            names, place = part.rsplit(": ", 1)
+            if not place.startswith("toolchain"):
+                text = (TOP / "crates" / place.strip("`")).read_text(encoding="utf-8")
+                for name in QUOTED.findall(names):
+                    tried += 1
+                    assert re.search(rf"\bpub (?:\w+ )*{name}\b", text), (word, name, place)
+    assert tried > 25, tried
