@@ -322,3 +322,31 @@ def test_glossary(program):
                     tried += 1
                     assert re.search(rf"\bpub (?:\w+ )*{name}\b", text), (word, name, place)
     assert tried > 25, tried
+
+
+def unknown_in(text):
+    """The crates, the variables and the tests that a text names and that there aren't."""
+    crates = {it.name for it in TOP.glob("crates/*")} | set(formats.REFUSALS.values())
+    scripts = [it for kind in ("tests/*", "tools/*", "deploy/*", "bench/*", "gate") for it in TOP.glob(kind) if it.is_file()]
+    variables = set(re.findall(r"BIKESHARE_[A-Z_]+", "".join(it.read_text(encoding="utf-8") for it in scripts)))
+    tests = [f"{it.stem}." for it in TOP.glob("tests/*.py")] + [f"lines/{it.name}" for it in TOP.glob("tests/lines/*.in")]
+    named = [it for it in re.findall(r"\bbike_[a-z_]+\b", text) if it not in crates]
+    named += [it for it in re.findall(r"\bBIKESHARE_[A-Z_]+\b", text) if it not in variables]
+    words = [word for it in re.findall(r"\btests/run ([a-z_.]+(?: [a-z_.]+)*)", text) for word in it.split()]
+    return named + [it for it in words if not any(it in name for name in tests)]
+
+
+def test_what_the_repository_has(program):
+    """Crates, variables and tests that a document names are there; and README.md tells the crates and, to a thirtieth, the lines."""
+    assert unknown_in("bike_core, BIKESHARE_SEED=7 tests/run kill. regions") == []
+    assert unknown_in("bike_kore, BIKESHARE_SEEDS=7 tests/run kills. regions") == ["bike_kore", "BIKESHARE_SEEDS", "kills."]
+    texts = documents()
+    for name, text in texts.items():
+        assert not unknown_in(text), (name, unknown_in(text))
+    size = r"(\d+) crates, with some ([\d,]+) lines of `src`, ([\d,]+) of `specs` and ([\d,]+) of `proofs`"
+    crates, *told = (int(it.replace(",", "")) for it in re.search(size, " ".join(texts["README.md"].split())).groups())
+    assert crates == len(list(TOP.glob("crates/*"))), crates
+    for wanted, folder in zip(told, ("src", "specs", "proofs")):
+        files = [it for it in TOP.glob(f"crates/*/{folder}/**/*") if it.suffix in (".rt", ".antt")]
+        found = sum(it.read_text(encoding="utf-8").count("\n") for it in files)
+        assert abs(found - wanted) * 30 < wanted, (folder, found, wanted)
