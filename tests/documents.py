@@ -327,7 +327,8 @@ def test_glossary(program):
 def unknown_in(text):
     """The crates, the variables and the tests that a text names and that there aren't."""
     crates = {it.name for it in TOP.glob("crates/*")} | set(formats.REFUSALS.values())
-    scripts = [it for kind in ("tests/*", "tools/*", "deploy/*", "bench/*", "gate") for it in TOP.glob(kind) if it.is_file() and it.name != "documents.py"]
+    files = [it for kind in ("tests/*", "tools/*", "deploy/*", "bench/*", "gate") for it in TOP.glob(kind) if it.is_file()]
+    scripts = [it for it in files if it.name != "documents.py"]
     variables = set(re.findall(r"BIKESHARE_[A-Z_]+", "".join(it.read_text(encoding="utf-8") for it in scripts)))
     tests = [f"{it.stem}." for it in TOP.glob("tests/*.py")] + [f"lines/{it.name}" for it in TOP.glob("tests/lines/*.in")]
     named = [it for it in re.findall(r"\bbike_[a-z_]+\b", text) if it not in crates]
