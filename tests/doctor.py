@@ -98,8 +98,7 @@ def test_fields_have_the_bounds_of_the_documents(program):
 
 def test_fields_have_the_names_of_the_documents(program):
     """docs/OPERATOR.md names the fields of each command in this order; it writes words in place of a state."""
-    rules = " ".join((TOP / "docs/OPERATOR.md").read_text().split())
-    rows = dict(re.findall(r"- \*\*([a-z-]+)\*\* ([^.]*?)\. Refused with", rules))
+    rows = dict(re.findall(r"^\| \*\*([a-z-]+)\*\* \| (.*?) \| ", (TOP / "docs/OPERATOR.md").read_text(), re.M))
     assert rows.keys() == doctor.COMMANDS.keys(), rows.keys() ^ doctor.COMMANDS.keys()
     for word, row in rows.items():
         wanted = ["side" if "/" in it and word == "unload" else "state" if "/" in it else it for it in row.split()]

@@ -1,11 +1,35 @@
-"""The documents: the examples that they show, request lines with their answers beside them, counts, and words that are gone."""
+"""The documents: the examples that they show, request lines with their answers beside them, quoted code, what they name and link to,
+counts, and words that are gone."""
 
+import contextlib
 import math
+import os
 import re
+import sqlite3
 
-from shared import TOP
+import days
+import feeds
+import formats
+from shared import CITY, HEAD, HEADER, TOP, loaded
 
 ROW = re.compile(r"^(\d+⇥\S+) {2,}(\S+)(?: {2,}.*)?$", re.M)
+
+
+BLOCK = re.compile(r"^ *```[a-z]*\n(.*?)^ *```$", re.M | re.S)
+SOURCE = re.compile(r" *(?://|--) ((?:crates|review)/\S+)")
+QUOTED = re.compile(r"(?<!`)`([^`]+)`(?!`)")
+
+
+def documents():
+    """Each document with its text."""
+    found = [*(TOP / it for it in ("README.md", "CHANGELOG.md", "CONTRIBUTING.md")), *sorted((TOP / "docs").glob("*.md"))]
+    assert len(found) > 12, found
+    return {str(it.relative_to(TOP)): it.read_text(encoding="utf-8") for it in found}
+
+
+def quoted(text):
+    """The texts in backticks of a document's prose, each on one line."""
+    return [" ".join(it.split()) for it in QUOTED.findall(BLOCK.sub("", text))]
 
 
 def rows_of(document):
@@ -83,8 +107,7 @@ GONE = {
 def gone_in(text):
     """The words of the list above that stand in a document's prose: code blocks and texts in backticks are left out, and a phrase may go
     over the end of a line."""
-    prose = re.sub(r"^ *```.*?^ *```$", "", text, flags=re.M | re.S)
-    prose = " ".join(re.sub(r"(`+)[^`]+\1", "`", prose).split())
+    prose = " ".join(re.sub(r"(`+)[^`]+\1", "`", BLOCK.sub("", text)).split())
     return [it for it in GONE if re.search(rf"\b{it}\b", prose, re.I)]
 
 
@@ -92,8 +115,239 @@ def test_words_that_are_gone(program):
     """No document has one of them again."""
     assert gone_in("Such a proof is Dear: it\nlets\n  go of the lock.") == ["dear", "lets go"]
     assert gone_in("# `dear`\n\n```\nin whom\n```\n\nNearly `lets go`, dears.\n\n  ```\n  himself\n  ```\n") == []
-    documents = [*(TOP / it for it in ("README.md", "CHANGELOG.md", "CONTRIBUTING.md")), *sorted((TOP / "docs").glob("*.md"))]
-    assert len(documents) > 12, documents
-    for document in documents:
-        found = gone_in(document.read_text(encoding="utf-8"))
-        assert not found, f"{document.name} has {', '.join(f'{it} (say: {GONE[it]})' for it in found)}"
+    for name, text in documents().items():
+        found = gone_in(text)
+        assert not found, f"{name} has {', '.join(f'{it} (say: {GONE[it]})' for it in found)}"
+
+
+def misquoted(text, lines_of):
+    """The lines that a text quotes, below a line that names their file, and that don't stand so in it, and how many it quotes. Two dots stand
+    for what is left out."""
+    wrong, count = [], 0
+    for block in BLOCK.findall(text):
+        lines = None
+        for line in block.splitlines():
+            source = SOURCE.fullmatch(line)
+            if source:
+                lines = {it.strip() for it in lines_of(source[1])}
+            elif lines is not None and line.strip() not in ("", ".."):
+                count += 1
+                pattern = re.escape(line.strip()).replace(r"\.\.", ".+")
+                if line.strip() not in lines and not any(re.fullmatch(pattern, it) for it in lines):
+                    wrong.append(line.strip())
+    return wrong, count
+
+
+def test_quoted_code_stands_in_its_file(program):
+    """Each line of code below the name of a file is a line of that file."""
+    shown = "```rust\n// crates/a.rt\nfn f()\n    one { x }\n    ..\n-- crates/b.antt\ng (a ..) = b\n```\n"
+    source = {"crates/a.rt": ["fn f()", "  one { x }"], "crates/b.antt": ["g (a b c) = b"]}
+    assert misquoted(shown, source.get) == ([], 3)
+    source["crates/a.rt"][1] = source["crates/b.antt"][0] = "two { x }"
+    assert misquoted(shown, source.get) == (["one { x }", "g (a ..) = b"], 3)
+    counts = {}
+    for name, text in documents().items():
+        wrong, counts[name] = misquoted(text, lambda it: (TOP / it).read_text(encoding="utf-8").splitlines())
+        assert not wrong, f"{name} quotes what isn't there: {wrong}"
+    assert counts["docs/READING.md"] > 100 and counts["README.md"] > 5 and counts["CONTRIBUTING.md"] > 1, counts
+
+
+# What files of the toolchain, of a made program or of a configured machine are named by, and names that stand for many.
+ELSEWHERE = re.compile(r"sqlite\w*/specs/.*|std/specs/.*|crates/bikeshare/out/.*|(?:FIRST|SHORTER)_PROOFS\.md|/etc/.*|.*@.*|.*(?:CRATE|NAME)\b.*")
+IS_FILE = re.compile(r"(?:crates|tests|tools|docs|deploy|bench|examples|review)/.*|.*\w\.(?:py|rt|antt|md|sh|yaml|txt|edit|conf|svg|html)")
+
+
+def missing_in(text):
+    """The files that a text names in backticks and that aren't there. They are named from the top, from docs, from crates or from a crate."""
+    named = {it.strip("/") for one in quoted(text) for it in re.findall(r"[\w./@*-]+", one) if IS_FILE.fullmatch(it) and not ELSEWHERE.fullmatch(it)}
+    folders = "", "docs/", "deploy/", "tests/", "crates/", "crates/*/", "crates/*/specs/", "crates/*/src/", "crates/*/proofs/"
+    return sorted(it for it in named if not any(any(TOP.glob(f"{folder}{it}")) for folder in folders))
+
+
+def test_files_that_are_named_are_there(program):
+    """Whatever a document names in backticks like a file of the repository is one."""
+    assert missing_in("`tests/documents.py`, `docs/*.md`, `bike_core/src/lib.rt` and `sqlite/specs/State.antt`") == []
+    assert missing_in("`tests/document.py` and `bike_core/src/none.rt`") == ["bike_core/src/none.rt", "tests/document.py"]
+    for name, text in documents().items():
+        assert not missing_in(text), f"{name} names {missing_in(text)}"
+
+
+def anchors_of(text):
+    """The anchors of a document's headings."""
+    heads = re.findall(r"^#+ (.*)$", BLOCK.sub("", text), re.M)
+    return {re.sub(r"[^\w -]", "", it.lower()).replace(" ", "-") for it in heads}
+
+
+def bad_links(texts):
+    """The links of these documents that lead nowhere, and the sections and the titles of a document that it doesn't have."""
+    found = []
+    for name, text in texts.items():
+        for link in re.findall(r"\]\(([^)\s]+)\)", BLOCK.sub("", text)):
+            place, _, anchor = link.partition("#")
+            place = os.path.normpath(os.path.join(os.path.dirname(name), place)) if place else name
+            page = f"{place}/README.md" if (TOP / place).is_dir() else place
+            if not re.match("https?:", link) and not ((TOP / place).exists() and (not anchor or anchor in anchors_of(texts[page]))):
+                found.append(f"{name}: {link}")
+        plain = " ".join(re.sub(r"\]\([^)]*\)|\[", "", text).split())
+        for cited, one, other in re.findall(r"\b([A-Z]{3,})\.md, sections? (\d+)(?:(?: and | to )(\d+))?", plain):
+            heads = re.findall(r"^## (\d+)\. ", texts[f"docs/{cited}.md"], re.M)
+            found += [f"{name}: {cited}.md, section {it}" for it in (one, other) if it and it not in heads]
+        for cited, title in re.findall(r"\b([A-Z]{3,})\.md, \"([^\"]+)\"", plain):
+            where = texts.get(f"docs/{cited}.md", texts.get(f"{cited}.md"))
+            if not re.search(rf"^#+ (?:\d+\. )?{re.escape(title)}$|\*\*{re.escape(title)}\.?\*\*", where, re.M):
+                found.append(f"{name}: {cited}.md, {title}")
+    return found
+
+
+def test_links_and_sections(program):
+    """Each link leads to a file and a heading that are there, and each section that is cited, by its number or its title, too."""
+    text = "[a](docs/API.md#routes) [a](docs/none.md) API.md, \"Nothing\", FORMATS.md, section 99, [a](#none)\n# One\n"
+    assert bad_links(documents() | {"README.md": text}) == [
+        "README.md: docs/none.md", "README.md: #none", "README.md: FORMATS.md, section 99", "README.md: API.md, Nothing"
+    ]
+    others = [TOP / "docs/openapi.yaml", *(it for where in ("bench", "examples/*", "tests/files") for it in TOP.glob(f"{where}/README.md"))]
+    assert len(others) == 5, others
+    found = bad_links(documents() | {str(it.relative_to(TOP)): it.read_text(encoding="utf-8") for it in others})
+    assert not found, found
+
+
+def test_examples_of_the_formats(program):
+    """The city, the feeds, the day table and the header that docs/FORMATS.md shows are those of the tests, which send them to the program."""
+    lines = "\n".join(BLOCK.findall(documents()["docs/FORMATS.md"])).replace("⇥", "\t").splitlines()
+    begin = lines.index(CITY[0])
+    assert lines[begin : begin + len(feeds.CITY)] == feeds.CITY, lines[begin:][: len(feeds.CITY)]
+    shown = [it for it in lines if it.startswith("{")]
+    assert shown == [f"{HEAD}{feeds.DATA['station_status']}}}", feeds.DATA["station_information"]], shown
+    table = lines.index(days.RENTALS.strip()) + 1
+    assert f'"{lines[table]}\\n"' in (TOP / "tests/days.py").read_text(encoding="utf-8"), lines[table]
+    assert f"`{HEADER.strip()}`" in documents()["docs/FORMATS.md"]
+
+
+def test_subcommands(program):
+    """Wherever a document shows the program's command line, its first word is one of docs/FORMATS.md, section 9."""
+    texts = documents()
+    known = set(re.findall(r"^\| `([a-z]+) FILE", texts["docs/FORMATS.md"], re.M))
+    assert len(known) == 8, known
+    for name, text in texts.items():
+        shown = [*"\n".join(BLOCK.findall(text)).splitlines(), *quoted(text)]
+        found = {it[1] for line in shown if (it := re.match(r"(?:\S*/)?bikeshare ([a-z]+)\b", line))}
+        assert found <= known, (name, found - known)
+
+
+def test_names_of_contracts(program):
+    """Each name in backticks of docs/READING.md and of docs/PROVED.md stands in the code, its definitions or the tests."""
+    wanted = re.compile(r"[A-Za-z]\w*[_A-Z]\w*")
+    kinds = "crates/*/src/**/*.rt", "crates/*/specs/**/*.antt", "crates/*/proofs/*.antt", "crates.txt", "HANDLES", "tests/*", "tools/*"
+    files = [it for kind in kinds for it in TOP.glob(kind) if it.is_file()]
+    there = {it for file in files for it in wanted.findall(f"{file.stem} {file.read_text(encoding='utf-8')}")}
+    there |= {it.parent.name for it in TOP.glob("crates/*/src")} | {it.stem for it in TOP.glob("crates/*/must-fail/*")}
+    assert len(files) > 500 and "run_adopt_and_read" in there, len(files)
+    # What stands for other names, and a file of the top.
+    other = {"IsX", "AreX", "HasX", "is_x", "CRATE", "HANDLES"}
+    for name in ("docs/READING.md", "docs/PROVED.md"):
+        found = {it for one in quoted(documents()[name]) for it in wanted.findall(one)} - other - there
+        assert not found, f"{name} names {sorted(found)}"
+
+
+def test_refusals_of_commands(program):
+    """docs/OPERATOR.md has the refusals and each command's row as the definitions have them, in their order."""
+    text = documents()["docs/OPERATOR.md"]
+    files = "bike_operator/specs/Steps.antt", "bike_commands/specs/Refusals.antt"
+    steps, names = ((TOP / "crates" / it).read_text(encoding="utf-8") for it in files)
+    number_of = {name: int(number) for name, number in re.findall(r"^number_of r\.(\w+) = (\d+)$", names, re.M)}
+    named = {number_of[name]: word for name, word in re.findall(r'^name_of r\.(\w+) = codes "(\w+)"$', names, re.M)}
+    assert {int(number): word for number, word in re.findall(r"^\| (\d+) \| ([a-z_]+) \| ", text, re.M)} == named == formats.REFUSALS
+    wanted = {}
+    for command, tried in re.findall(r"^tests v \(command\.(\w+).*?\) = *(.*?)∷ \[\]$", steps, re.M | re.S):
+        word = re.sub(r"(?<!^)([A-Z])", r"-\1", command).lower()
+        wanted[word] = [number_of.get(it, "the kind's") for it in re.findall(r"(?:refusal\.|, )(\w+)(?: kind)?\)", tried)]
+    rows = {}
+    for word, refusals in re.findall(r"^\| \*\*([a-z-]+)\*\* \| [^|]+ \| ([^|]+) \| ", text, re.M):
+        rows[word] = [int(it) if it.isdigit() else "the kind's" for it in re.sub(r" \((?:from|to)\)", "", refusals).split(", ")]
+    assert len(rows) == 25 and rows == wanted, [(it, rows.get(it), wanted.get(it)) for it in wanted if rows.get(it) != wanted[it]]
+    kinds = dict(re.findall(r"^unknown_of named\.(\w+) = refusal\.(\w+)$", steps, re.M))
+    told = re.findall(r"^  \| `(\w+)` \| .* \| (\d+) (\w+) \|$", text, re.M)
+    assert told == [(it.lower(), str(number_of[why]), named[number_of[why]]) for it, why in kinds.items()], told
+
+
+def test_limits_of_the_rules(program):
+    """The limits of docs/OPERATOR.md, section 11, are the constants, in their order."""
+    rows = documents()["docs/OPERATOR.md"].split("## 11. Limits", 1)[1].split("\n## ", 1)[0]
+    limits = re.findall(r"^pub const \w+: u32 = ([\d_]+);$", (TOP / "crates/bike_operator/src/limits.rt").read_text(encoding="utf-8"), re.M)
+    found = [it.replace(",", "") for it in re.findall(r"^\| [^|]+ \| ([\d,]+) \| ", rows, re.M)]
+    assert len(found) == 10 and found == [it.replace("_", "") for it in limits], (found, limits)
+
+
+def test_tables_of_the_formats(program):
+    """docs/FORMATS.md, section 10, has the tables of deploy/bikeshare-doctor, which tests/doctor.py holds to those that the program makes: their
+    columns in order, which of them may be NULL and which are the key, and which are texts."""
+    rows = documents()["docs/FORMATS.md"].split("## 10. Database", 1)[1].split("\n## ", 1)[0]
+    found = {}
+    for table, columns in re.findall(r"^\| ([a-z_0-9]+) \| ([^|;]+)[^|]*\| ", rows, re.M):
+        found[table] = re.sub(r" \([^)]*\)", "", columns).strip().split(", ")
+    texts = set("app name description form propulsion caller req_key command reply from_station to_station from_end to_end".split())
+    with contextlib.closing(sqlite3.connect(":memory:")) as db:
+        db.executescript(loaded(TOP / "deploy/bikeshare-doctor").SCHEMA)
+        wanted = {}
+        for (table,) in db.execute("SELECT name FROM sqlite_master WHERE type = 'table' ORDER BY rootpage").fetchall():
+            wanted[table] = []
+            for _, name, kind, is_wanted, _, key in db.execute(f"PRAGMA table_info({table})").fetchall():
+                wanted[table].append(f"{name}{'*' if key else '' if is_wanted else '?'}")
+                is_text = name in texts or name.endswith("_id") or table == "more_names" or (table == "system" and name not in ("one", "ttl"))
+                assert kind == ("TEXT" if is_text else "INTEGER"), (table, name, kind)
+    assert len(found) == 17 and found == wanted, [(it, found.get(it), wanted[it]) for it in wanted if found.get(it) != wanted[it]]
+
+
+def test_rules_have_their_names(program):
+    """Each rule that a comment of the code names stands in bold in docs/OPERATOR.md."""
+    bold = {" ".join(it.lower().split()) for it in re.findall(r"\*\*(the [^*]+\srule)\b", documents()["docs/OPERATOR.md"], re.I)}
+    files = [it for kind in ("src/**/*.rt", "specs/**/*.antt") for it in TOP.glob(f"crates/*/{kind}")]
+    named = {it.lower() for file in files for it in re.findall(r"\bthe [a-z]+(?:-[a-z]+)* rule\b", file.read_text(encoding="utf-8"), re.I)}
+    assert len(named) > 15 and named <= bold, named - bold
+
+
+def test_glossary(program):
+    """Each entry of docs/READING.md's glossary stands there once, and its words are defined in the files that it names."""
+    section = documents()["docs/READING.md"].split("## 2. Glossary", 1)[1].split("\n## ", 1)[0]
+    rows = re.findall(r"^\| ([^|]+) \| [^|]+ \| ([^|]*`) \|$", section, re.M)
+    words = [word for row, _ in rows for word in row.split(", ")]
+    assert len(rows) > 20 and len(words) == len(set(words)), words
+    tried = 0
+    for word, cell in rows:
+        for part in cell.split("; "):
+            names, place = part.rsplit(": ", 1)
+            if not place.startswith("toolchain"):
+                text = (TOP / "crates" / place.strip("`")).read_text(encoding="utf-8")
+                for name in QUOTED.findall(names):
+                    tried += 1
+                    assert re.search(rf"\bpub (?:\w+ )*{name}\b", text), (word, name, place)
+    assert tried > 25, tried
+
+
+def unknown_in(text):
+    """The crates, the variables and the tests that a text names and that there aren't."""
+    crates = {it.name for it in TOP.glob("crates/*")} | set(formats.REFUSALS.values())
+    files = [it for kind in ("tests/*", "tools/*", "deploy/*", "bench/*", "gate") for it in TOP.glob(kind) if it.is_file()]
+    scripts = [it for it in files if it.name != "documents.py"]
+    variables = set(re.findall(r"BIKESHARE_[A-Z_]+", "".join(it.read_text(encoding="utf-8") for it in scripts)))
+    tests = [f"{it.stem}." for it in TOP.glob("tests/*.py")] + [f"lines/{it.name}" for it in TOP.glob("tests/lines/*.in")]
+    named = [it for it in re.findall(r"\bbike_[a-z_]+\b", text) if it not in crates]
+    named += [it for it in re.findall(r"\bBIKESHARE_[A-Z_]+\b", text) if it not in variables]
+    words = [word for it in re.findall(r"\btests/run ([a-z_.]+(?: [a-z_.]+)*)", text) for word in it.split()]
+    return named + [it for it in words if not any(it in name for name in tests)]
+
+
+def test_what_the_repository_has(program):
+    """Crates, variables and tests that a document names are there; and README.md tells the crates and, to a thirtieth, the lines."""
+    assert unknown_in("bike_core, BIKESHARE_SEED=7 tests/run kill. regions") == []
+    assert unknown_in("bike_kore, BIKESHARE_SEEDS=7 tests/run kills. regions") == ["bike_kore", "BIKESHARE_SEEDS", "kills."]
+    texts = documents()
+    for name, text in texts.items():
+        assert not unknown_in(text), (name, unknown_in(text))
+    size = r"(\d+) crates, with some ([\d,]+) lines of `src`, ([\d,]+) of `specs` and ([\d,]+) of `proofs`"
+    crates, *told = (int(it.replace(",", "")) for it in re.search(size, " ".join(texts["README.md"].split())).groups())
+    assert crates == len(list(TOP.glob("crates/*"))), crates
+    for wanted, folder in zip(told, ("src", "specs", "proofs")):
+        files = [it for it in TOP.glob(f"crates/*/{folder}/**/*") if it.suffix in (".rt", ".antt")]
+        found = sum(it.read_text(encoding="utf-8").count("\n") for it in files)
+        assert abs(found - wanted) * 30 < wanted, (folder, found, wanted)
