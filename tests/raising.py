@@ -359,9 +359,11 @@ def test_a_file_that_is_not_there(program):
 
 
 def test_words(program):
-    said = words.refuses(program, "--help")
-    for given in ["raise"], ["raise", "a.db", "b.db"], ["raise", "--force", "a.db"], ["raise", "a.db", "--at", "0"], ["Raise", "a.db"], ["raise", "-a.db"]:
-        assert words.refuses(program, *given) == said, given
+    file, form = words.FILE, "raise FILE"
+    words.is_mistaken(program, f"FILE is missing; wanted is {file}", "raise")
+    for extra, given in ("b.db", ["a.db", "b.db"]), ("--force", ["--force", "a.db"]), ("--at", ["a.db", "--at", "0"]), ("-a.db", ["-a.db"]):
+        words.is_mistaken(program, f"{extra} is unexpected; wanted is {form}", "raise", *given)
+    assert words.refused(program, "Raise", "a.db").startswith("bikeshare: Raise is no word of bikeshare; wanted is ")
     file = of_sql(program.folder, 1)
     file.rename(file.with_name("-city.db"))
     assert program.run("raise", "--", "-city.db", given=b"x\n") == DONE
