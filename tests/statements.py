@@ -5,7 +5,7 @@ import re
 from shared import TOP
 
 # The crates whose statements are sent while requests and feeds are served, and what only the tables of a day ask.
-SERVING = "bike_accounts", "bike_desk", "bike_feeds", "bike_fleet", "bike_http", "bike_lines", "bike_queries", "bike_views", "bike_writes"
+SERVING = "bike_office_reads", "bike_desk", "bike_feeds", "bike_fleet_reads", "bike_http", "bike_lines", "bike_queries", "bike_views", "bike_writes"
 TEXT = re.compile(r'"((?:SELECT|INSERT|UPDATE|DELETE|REPLACE|WITH)\b(?:[^"\\]|\\.)*)"', re.S)
 OF_A_DAY = {
     "SELECT * FROM entries WHERE entry > ?1 AND at >= ?2 AND at < ?3 ORDER BY entry LIMIT 1",

@@ -6,7 +6,7 @@ use Rattle.sqlite_store.specs.declared.store.FileStore.{FileStore}
 use Rattle.sqlite.specs.Held.{Held}
 use Rattle.sqlite.specs.State.{HasCleanDisk}
 use Rattle.sqlite.specs.Files.{file_state}
-use Rattle.bike_words.specs.declared.task.Task.{Task}
+use Rattle.bike_command_line.specs.declared.task.Task.{Task}
 use Rattle.bike_console.specs.declared.end.Fault.{Fault}
 use Rattle.bike_console.specs.declared.closing.Remains.{Remains}
 use Rattle.bike_console.specs.declared.closing.Remains.TheVariants.{Open, Settled, Unsettled}

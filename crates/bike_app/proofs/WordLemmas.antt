@@ -4,8 +4,8 @@ use Rattle.sqlite.specs.Steps.{over_memory, IsEmpty}
 use Rattle.sqlite.specs.Held.{Held, state}
 use Rattle.sqlite_trees.specs.declared.memory.MemStore.{MemStore}
 use Rattle.bike_operator.specs.Operator.{no_operator}
-use Rattle.bike_words.specs.declared.task.Task.{Task}
-use Rattle.bike_words.specs.declared.task.Task.TheVariants.{Init, Check, Raise, Lines, Feed, Day, Import, Serve}
+use Rattle.bike_command_line.specs.declared.task.Task.{Task}
+use Rattle.bike_command_line.specs.declared.task.Task.TheVariants.{Init, Check, Raise, Lines, Feed, Day, Import, Serve}
 use Rattle.bike_console.specs.declared.end.Fault.{Fault}
 use Rattle.bike_app.specs.Words.{Does, DoesInMemory}
 use Rattle.bike_app.proofs.ProgramLemmas.{in_memory, memory_begins, memory_refused, raise_refused}

@@ -12,8 +12,8 @@ use Rattle.sqlite.specs.State.{HasCleanDisk}
 use Rattle.sqlite.specs.Closing.{IsCopied}
 use Rattle.sqlite.specs.Files.{over_files, file_state, IsClosed, IsOpened}
 use Rattle.bike_recognition.specs.Added.{has_added_unique}
-use Rattle.bike_words.specs.declared.task.Task.{Task}
-use Rattle.bike_words.specs.declared.task.Task.TheVariants.{Init, Raise, Lines, Import}
+use Rattle.bike_command_line.specs.declared.task.Task.{Task}
+use Rattle.bike_command_line.specs.declared.task.Task.TheVariants.{Init, Raise, Lines, Import}
 use Rattle.bike_console.specs.declared.end.Fault.{Fault}
 use Rattle.bike_console.specs.declared.end.Fault.TheVariants.{StoreFailed}
 use Rattle.bike_console.specs.declared.closing.Remains.{Remains}

@@ -7,7 +7,7 @@ ghost use Rattle.sqlite_wal.specs.Files.{image_at};
 ghost use Rattle.bike_operator.specs.Operator.{Operator};
 ghost use Rattle.bike_schema.specs.Stands.{AllLeft};
 ghost use Rattle.bike_console.specs.Files.{HoldsOperator};
-ghost use Rattle.bike_words.specs.Program.{IsWithin};
+ghost use Rattle.bike_command_line.specs.Program.{IsWithin};
 ghost use Rattle.bike_app.specs.Words.{MayStand, ServesSockets};
 ghost use Rattle.bike_app.specs.Files.{DoesOverFile, EndsOnFile, IsAlone, IsUntouched, settles};
 
@@ -15,7 +15,7 @@ use crate::words::run_words;
 use bike_adoption::Watch;
 use bike_console::{Fault, NewLog, Remains, open_file, prepare_file, settle};
 use bike_fixed::Moment;
-use bike_words::Task;
+use bike_command_line::Task;
 use sqlite::{Connection, FileFrom, FileStore, Start};
 use std::io::{Read, Write};
 

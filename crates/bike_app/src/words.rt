@@ -7,7 +7,7 @@ ghost use Rattle.sqlite_trees.specs.View.{doubt};
 ghost use Rattle.bike_operator.specs.Operator.{Operator};
 ghost use Rattle.bike_schema.specs.Stands.{AllLeft, TreesStandFor};
 ghost use Rattle.bike_adoption.specs.Adoption.{LeavesAll};
-ghost use Rattle.bike_words.specs.Program.{IsWithin};
+ghost use Rattle.bike_command_line.specs.Program.{IsWithin};
 ghost use Rattle.bike_app.specs.Raises.{WritesLine};
 ghost use Rattle.bike_app.specs.Words.{Does, DoesInMemory, Looks, MayStand, ServesSockets, TellsLookedAt, TellsTakenUp};
 
@@ -20,7 +20,7 @@ use bike_adoption::{Looked, Unwatched, Watch, adopt_watched, look};
 use bike_console::Fault;
 use bike_fixed::Moment;
 use bike_stream::write_whole;
-use bike_words::Task;
+use bike_command_line::Task;
 use sqlite::{Alter, Connection};
 use std::alloc::Global;
 use std::io::{Read, Write};

@@ -10,10 +10,10 @@ use crate::rate::Rate;
 use bike_fields::{Bound, Field, FieldFault, Micro, Within};
 
 /// The number as that field.
-pub fn in_range<const LO: u32, const HI: u32>(
+pub fn in_range<const LO: u32, const HI: u32, K>(
     field: Field,
     number: u32,
-) -> Result<Within<LO, HI>, FieldFault>
+) -> Result<Within<LO, HI, K>, FieldFault>
     ensures { result ≡ value_or_fault number (at_field field (range_fault LO HI number)) }
 {
     match Within::new(number) {

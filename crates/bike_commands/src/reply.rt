@@ -43,9 +43,9 @@ pub enum Reply {
     Refused(Refusal),
 }
 
-fn push_number<const LO: u32, const HI: u32>(
+fn push_number<const LO: u32, const HI: u32, K>(
     out: &mut ArrayString<REPLY_LENGTH>,
-    number: &Within<LO, HI>,
+    number: &Within<LO, HI, K>,
 )
     requires room { array_string_len out.old + 11 ≤ 48 }
     ensures bytes { out.new.bytes ≡ out.old.bytes ++ 9 ∷ decimal number.now }

@@ -17,7 +17,7 @@ use bike_operator::{Closing, MOST_ENTRIES, RentalView};
 use bike_texts::Fare;
 
 /// The number after so many numbered ones, by the numbering rule.
-pub(crate) fn next_number(count: u32) -> Within<1, GREATEST_SERIAL>
+pub(crate) fn next_number<K>(count: u32) -> Within<1, GREATEST_SERIAL, K>
     requires { count < MOST_ENTRIES }
     ensures { result ≡ count + 1 }
 {

@@ -23,7 +23,7 @@ use Rattle.bike_places.proofs.ItemLemmas.{number_or_last, number_within, IsTurne
 use Rattle.bike_places.proofs.TestLemmas.{none_holds}
 use Rattle.bike_laws.proofs.FoundLemmas.{closing_now, closed_by}
 use Rattle.bike_laws.proofs.QuietLaw.{quiet_kind}
-use Rattle.bike_accounts.specs.Newest.{NewestTells}
+use Rattle.bike_office_reads.specs.Newest.{NewestTells}
 
 -- ---- rentals as they were
 

@@ -7,7 +7,7 @@ use Rattle.bike_book.specs.Stored.{Listed}
 use Rattle.bike_schema.specs.Answers.{Answers}
 use Rattle.bike_schema.specs.declared.fault.StatementFault.{StatementFault}
 use Rattle.bike_schema.proofs.AnswerLemmas.{reads_weaker}
-use Rattle.bike_accounts.specs.Newest.{NewestTells}
+use Rattle.bike_office_reads.specs.Newest.{NewestTells}
 use Rattle.bike_booking.specs.declared.figures.Figures.{Figures}
 use Rattle.bike_desk.specs.declared.fault.DeskFault.{DeskFault}
 use Rattle.bike_desk.specs.declared.fault.DeskFault.TheVariants.{NoMemory, StoreFailed, Stopped}

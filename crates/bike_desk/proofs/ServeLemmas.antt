@@ -22,8 +22,8 @@ use Rattle.bike_book.specs.declared.row_change.RowChange.{RowChange}
 use Rattle.bike_book.specs.Stored.{Listed, IsListing}
 use Rattle.bike_schema.specs.Tables.{tables_of}
 use Rattle.bike_schema.specs.Stands.{Stores, Keeps}
-use Rattle.bike_accounts.specs.declared.kept.KeptRow.{KeptRow}
-use Rattle.bike_accounts.specs.Accounts.{KeepsSame}
+use Rattle.bike_office_reads.specs.declared.kept.KeptRow.{KeptRow}
+use Rattle.bike_office_reads.specs.Accounts.{KeepsSame}
 use Rattle.bike_accepted.specs.declared.accepted.Accepted.{Accepted}
 use Rattle.bike_accepted.specs.Effects.{Decides}
 use Rattle.bike_accepted.specs.Found.{AreFound}

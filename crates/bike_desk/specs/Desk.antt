@@ -9,7 +9,7 @@ use Rattle.bike_operator.specs.Operator.{Operator}
 use Rattle.bike_booking.specs.declared.figures.Figures.{Figures}
 use Rattle.bike_booking.specs.Figures.{figures_of}
 use Rattle.bike_schema.specs.Stands.{Keeps, TreesStandFor}
-use Rattle.bike_accounts.specs.Newest.{NewestTells}
+use Rattle.bike_office_reads.specs.Newest.{NewestTells}
 use Rattle.bike_desk.specs.declared.remembered.Remembered.{Remembered}
 
 -- a connection, whether the desk serves no more, and what it remembers of its operator

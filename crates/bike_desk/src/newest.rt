@@ -6,10 +6,10 @@ ghost use Rattle.sqlite.specs.Held.{state};
 ghost use Rattle.sqlite_trees.specs.View.{doubt};
 ghost use Rattle.bike_operator.specs.Operator.{Operator};
 ghost use Rattle.bike_schema.specs.Stands.{AllLeft, Keeps, TreesStandFor};
-ghost use Rattle.bike_accounts.specs.Newest.{NewestTells};
+ghost use Rattle.bike_office_reads.specs.Newest.{NewestTells};
 ghost use Rattle.bike_desk.specs.Newest.{knows_newest};
 
-use bike_accounts::newest_tells;
+use bike_office_reads::newest_tells;
 use bike_commands::Command;
 use bike_schema::StatementFault;
 use sqlite::{Alter, Connection};

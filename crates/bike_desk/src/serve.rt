@@ -18,7 +18,7 @@ ghost use Rattle.bike_desk.specs.Serving.{Accepts, IsAsked, IsReadFor, Serves};
 use crate::remembered::Remembered;
 use crate::transaction::make_all;
 use bike_accepted::Accepted;
-use bike_accounts::{KeptRow, find_kept};
+use bike_office_reads::{KeptRow, find_kept};
 use bike_booking::{Figures, KeptTexts, Sums, books_accepted, rows_of};
 use bike_commands::{Refusal, Reply, Request};
 use bike_core::{decide, is_bounded};

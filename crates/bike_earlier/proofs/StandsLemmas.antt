@@ -4,7 +4,7 @@ use Rattle.std.specs.Prelude.{◌↔◌}
 use Rattle.std.specs.List.{AllByRecursion}
 use Rattle.std.proofs.lemmas.Bool.{true≢false, both_ways}
 use Rattle.sqlite.specs.Effect.{Database}
-use Rattle.bike_names.specs.Found.{IsPlainTable}
+use Rattle.bike_sql.specs.Found.{IsPlainTable}
 use Rattle.bike_rows.specs.Layout.{table_of}
 use Rattle.bike_rows.specs.Stands.{Stands}
 use Rattle.bike_rows.proofs.KeyLemmas.{IsKeyOf, columns_key_at}

@@ -7,8 +7,9 @@ ghost use Rattle.bike_fields.specs.Reads.{Gives, IsReadAs};
 ghost use Rattle.bike_fields.specs.declared.caller.Caller.{Caller};
 
 use crate::ident::Ident;
-use crate::numbers::{RiderNumber, TruckNumber};
+use crate::numbers::{GREATEST_NUMBER, RiderNumber, TruckNumber};
 use arrayvec::ArrayString;
+use bike_fixed::Within;
 use itoa::Buffer;
 use std::alloc::{AllocError, Global};
 
@@ -129,7 +130,7 @@ fn named<'a>(kind: &str, name: &'a str) -> Option<CallerName<'a>>
 }
 
 /// Appends a rider's or a truck's number.
-fn push_number(out: &mut ArrayString<43>, number: &RiderNumber)
+fn push_number<K>(out: &mut ArrayString<43>, number: &Within<1, GREATEST_NUMBER, K>)
     requires { array_string_len out.old ≤ 7 }
     ensures { out.new.bytes ≡ out.old.bytes ++ decimal number.now }
 {

@@ -25,6 +25,7 @@ pub use ident::Ident;
 pub use key::RequestKey;
 pub use language::Language;
 pub use name::Name;
+pub use numbers::kind;
 pub use numbers::{
     BicycleNumber, DockCount, DockNumber, GREATEST_NUMBER, GREATEST_PAYMENT, GREATEST_PRICE,
     GREATEST_RANGE, GREATEST_SERIAL, LAST_MINUTE, LONGEST_TIME_TO_LIVE, MOST_CARRIED, MOST_DOCKS,

@@ -2,23 +2,55 @@
 
 use bike_fixed::Within;
 
+/// What a number is one of. A number of one kind can't stand where another kind is wanted, be their
+/// bounds the same.
+pub mod kind {
+    /// Riders.
+    #[derive(Clone, Copy, Debug, PartialEq, Eq)]
+    pub struct Rider;
+
+    /// Bicycles.
+    #[derive(Clone, Copy, Debug, PartialEq, Eq)]
+    pub struct Bicycle;
+
+    /// Trucks.
+    #[derive(Clone, Copy, Debug, PartialEq, Eq)]
+    pub struct Truck;
+
+    /// Docks of a station.
+    #[derive(Clone, Copy, Debug, PartialEq, Eq)]
+    pub struct Dock;
+
+    /// Rentals.
+    #[derive(Clone, Copy, Debug, PartialEq, Eq)]
+    pub struct Rental;
+
+    /// Orders.
+    #[derive(Clone, Copy, Debug, PartialEq, Eq)]
+    pub struct Order;
+
+    /// Entries of the ledger.
+    #[derive(Clone, Copy, Debug, PartialEq, Eq)]
+    pub struct Entry;
+}
+
 /// The greatest number of a rider, a bicycle or a truck; the least is 1.
 pub const GREATEST_NUMBER: u32 = 999_999;
 
 /// A rider.
-pub type RiderNumber = Within<1, GREATEST_NUMBER>;
+pub type RiderNumber = Within<1, GREATEST_NUMBER, kind::Rider>;
 
 /// A bicycle.
-pub type BicycleNumber = Within<1, GREATEST_NUMBER>;
+pub type BicycleNumber = Within<1, GREATEST_NUMBER, kind::Bicycle>;
 
 /// A truck.
-pub type TruckNumber = Within<1, GREATEST_NUMBER>;
+pub type TruckNumber = Within<1, GREATEST_NUMBER, kind::Truck>;
 
 /// A station has at most this many docks, which are numbered from 1.
 pub const MOST_DOCKS: u32 = 500;
 
 /// A dock of a station.
-pub type DockNumber = Within<1, MOST_DOCKS>;
+pub type DockNumber = Within<1, MOST_DOCKS, kind::Dock>;
 
 /// How many docks a station has, at least 1.
 pub type DockCount = Within<1, MOST_DOCKS>;
@@ -42,10 +74,10 @@ pub type Payment = Within<1, GREATEST_PAYMENT>;
 pub const GREATEST_SERIAL: u32 = 100_000_000;
 
 /// A rental.
-pub type RentalNumber = Within<1, GREATEST_SERIAL>;
+pub type RentalNumber = Within<1, GREATEST_SERIAL, kind::Rental>;
 
 /// An order.
-pub type OrderNumber = Within<1, GREATEST_SERIAL>;
+pub type OrderNumber = Within<1, GREATEST_SERIAL, kind::Order>;
 
 /// The greatest price of a plan, in hundredths.
 pub const GREATEST_PRICE: u32 = 1_000_000;

@@ -43,10 +43,10 @@ fn is_ident(text: &str) -> bool
 
 /// The number in a column, where it lies from `LO` to `HI`.
 #[tactic(auto, using(bike_readings::proofs::ReadLemmas::read_some, bike_readings::proofs::ReadLemmas::read_none))]
-pub(crate) fn number_in<const LO: u32, const HI: u32>(
+pub(crate) fn number_in<const LO: u32, const HI: u32, K>(
     line: &Row,
     at: usize,
-) -> Option<Within<LO, HI>>
+) -> Option<Within<LO, HI, K>>
     ensures { result ≡ number_in LO HI (column line.now at) }
 {
     match number_at(line, at) {
@@ -129,10 +129,10 @@ fn ident_or_none(line: &Row, at: usize) -> Option<Option<&str>>
 
 /// The number in a column, in the same way.
 #[tactic(auto, using(bike_readings::proofs::ReadLemmas::read_some, bike_readings::proofs::ReadLemmas::read_none))]
-fn number_or_none<const LO: u32, const HI: u32>(
+fn number_or_none<const LO: u32, const HI: u32, K>(
     line: &Row,
     at: usize,
-) -> Option<Option<Within<LO, HI>>>
+) -> Option<Option<Within<LO, HI, K>>>
     ensures { result ≡ or_none (number_in LO HI) (column line.now at) }
 {
     match optional_number_at(line, at) {

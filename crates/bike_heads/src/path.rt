@@ -34,7 +34,7 @@ fn part_in(path: &str) -> Option<&str>
 
 /// The number that this part spells.
 #[tactic(auto, unfolding(crate::specs::Table::named_in))]
-pub(crate) fn number_in<const LO: u32, const HI: u32>(path: &str) -> Option<Within<LO, HI>>
+pub(crate) fn number_in<const LO: u32, const HI: u32, K>(path: &str) -> Option<Within<LO, HI, K>>
     ensures { result ≡ named_in (number_of LO HI) path.now }
 {
     let part = part_in(path)?;

@@ -5,7 +5,7 @@ use Rattle.bike_ledger.specs.Ledger.{balance_of, refunded_of}
 use Rattle.bike_operator.specs.declared.records.Closing.{Closing}
 use Rattle.bike_operator.specs.declared.records.Rental.{Rental}
 use Rattle.bike_operator.specs.Operator.{Operator, Rider, item_numbered}
-use Rattle.bike_accounts.specs.Newest.{open_number}
+use Rattle.bike_office_reads.specs.Newest.{open_number}
 use Rattle.bike_heads.specs.declared.aim.Rejection.TheVariants.{NotFound}
 use Rattle.bike_heads.specs.declared.resource.Shown.{Shown}
 use Rattle.bike_heads.specs.declared.resource.Shown.TheVariants as shown

@@ -20,10 +20,10 @@ pub(crate) fn text_in<'v>(body: &'v Value, name: &str) -> Option<&'v str>
 
 /// The member, where it is a whole number without sign, fraction and exponent, and lies in the range.
 #[tactic(auto, unfolding(crate::specs::Members::number_in))]
-pub(crate) fn number_in<const LO: u32, const HI: u32>(
+pub(crate) fn number_in<const LO: u32, const HI: u32, K>(
     body: &Value,
     name: &str,
-) -> Option<Within<LO, HI>>
+) -> Option<Within<LO, HI, K>>
     ensures { result ≡ number_in LO HI name.now (view body.now) }
 {
     let number = body.get(name).and_then(Value::as_u64)?;

@@ -9,9 +9,9 @@ use Rattle.sqlite_resolve.specs.Lowering.{Checked}
 use Rattle.sqlite_resolve.specs.Program.{Shown}
 use Rattle.sqlite_typing.specs.Types.{accepts_program}
 use Rattle.sqlite.specs.Effect.{Database}
-use Rattle.bike_names.specs.Has.{HasTable, of_tables}
-use Rattle.bike_names.specs.Reads.{IsDraft, draft_of}
-use Rattle.bike_names.proofs.ReadLaws.{select_is}
+use Rattle.bike_sql.specs.Has.{HasTable, of_tables}
+use Rattle.bike_sql.specs.Reads.{IsDraft, draft_of}
+use Rattle.bike_sql.proofs.ReadLaws.{select_is}
 use Rattle.bike_rows.specs.Answer.{MeansQuery, HasOneAnswer}
 use Rattle.bike_rows.specs.Layout.{Layout, table_of}
 use Rattle.bike_rows.specs.Queries.{two_left_query, by_columns, join_tests, third_tests}

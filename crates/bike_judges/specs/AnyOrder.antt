@@ -12,7 +12,7 @@ use Rattle.sqlite.specs.declared.rows.stream.Rows.{Rows}
 use Rattle.sqlite.specs.Effect.{Database}
 use Rattle.sqlite.specs.Given.{HasGiven}
 use Rattle.sqlite.specs.Held.{Held, state}
-use Rattle.bike_names.specs.Laws.{Reads}
+use Rattle.bike_sql.specs.Laws.{Reads}
 use Rattle.bike_rows.specs.Calls.{ReadsWhere}
 use Rattle.bike_schema.specs.Tables.{IsOurs, tables_of}
 

@@ -3,12 +3,12 @@
 ghost use Rattle.std.specs.Prelude.{◌≡◌, ◌≤◌, ◌≤ℤ◌, pos};
 ghost use Rattle.bike_ledger.specs.Entries.{IsEntry};
 
-use bike_fields::{GREATEST_SERIAL, Payment, RentalNumber, RiderNumber};
+use bike_fields::{GREATEST_SERIAL, Payment, RentalNumber, RiderNumber, kind};
 use bike_fixed::{Cents, GREATEST_FARE, Moment, Within};
 use std::marker::Model;
 
 /// The number of an entry, 1 to `GREATEST_SERIAL`.
-pub type EntryNumber = Within<1, GREATEST_SERIAL>;
+pub type EntryNumber = Within<1, GREATEST_SERIAL, kind::Entry>;
 
 /// What an entry books: from which account to which.
 #[derive(Clone, Copy, Debug, PartialEq, Eq)]

@@ -11,7 +11,7 @@ use Rattle.sqlite.specs.Calls.{IsWrite}
 use Rattle.sqlite.specs.Held.{Held, state}
 use Rattle.sqlite.specs.State.{State, HasCleanDisk, Shows, Survives, Runs as RunsAs, ExecutesIn, Executes, ExecutesInside, CommitsBy, MayCommit, shows_rows}
 use Rattle.sqlite.proofs.StateLemmas.{survives_weaker}
-use Rattle.bike_inside.specs.Inside.{IsWriteIn}
+use Rattle.bike_rows.specs.Inside.{IsWriteIn}
 use Rattle.bike_migrate.specs.Calls.{Runs}
 
 -- ---- it commits nothing

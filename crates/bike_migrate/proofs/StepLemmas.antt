@@ -7,7 +7,7 @@ use Rattle.sqlite.specs.Effect.{Database}
 use Rattle.sqlite.specs.Held.{Held, state}
 use Rattle.sqlite.specs.State.{State, HasCleanDisk, ExecutesInside, IsUnchanged}
 use Rattle.sqlite.proofs.StateLemmas.{survives_weaker, survives_then}
-use Rattle.bike_inside.specs.Inside.{IsWriteIn}
+use Rattle.bike_rows.specs.Inside.{IsWriteIn}
 use Rattle.bike_rows.specs.Calls.{ReadsWhere}
 use Rattle.bike_schema.specs.Makes.{Continues}
 use Rattle.bike_schema.proofs.MakesLemmas.{continues_then}

@@ -22,12 +22,12 @@ use Rattle.sqlite.specs.Listing.{understood}
 use Rattle.sqlite.specs.State.{State, Executes}
 use Rattle.sqlite.specs.Values.{bound_value}
 use Rattle.sqlite.proofs.Callers.{command_of}
-use Rattle.bike_names.specs.Inserts.{IsInsert}
-use Rattle.bike_names.proofs.InsertLaws.{insert_is}
-use Rattle.bike_inside.specs.Inside.{IsWriteIn}
-use Rattle.bike_drops.specs.Drops.{IsDrop}
-use Rattle.bike_drops.proofs.TextLemmas.{drop_means}
-use Rattle.bike_drops.proofs.DropLaw.{table_dropped}
+use Rattle.bike_sql.specs.Inserts.{IsInsert}
+use Rattle.bike_sql.proofs.InsertLaws.{insert_is}
+use Rattle.bike_rows.specs.Inside.{IsWriteIn}
+use Rattle.bike_rows.specs.Drops.{IsDrop}
+use Rattle.bike_rows.proofs.DropTextLemmas.{drop_means}
+use Rattle.bike_rows.proofs.DropLaw.{table_dropped}
 use Rattle.bike_rows.specs.Layout.{table_of}
 use Rattle.bike_rows.specs.Queries.{table_query, key_tests, by_columns}
 use Rattle.bike_rows.specs.Stands.{Stands}

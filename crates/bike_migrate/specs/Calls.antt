@@ -5,7 +5,7 @@ use Rattle.sqlite_trees.specs.declared.store.Store.{Ghosts}
 use Rattle.sqlite.specs.Effect.{Database}
 use Rattle.sqlite.specs.Held.{Held, state}
 use Rattle.sqlite.specs.State.{HasCleanDisk, ExecutesInside, Survives}
-use Rattle.bike_inside.specs.Inside.{IsWriteIn}
+use Rattle.bike_rows.specs.Inside.{IsWriteIn}
 use Rattle.bike_schema.specs.Makes.{Continues}
 
 module _ {S : Type 0} (g : Ghosts S) where

@@ -12,7 +12,7 @@ use Rattle.bike_book.specs.Writes.{RowWrite, Add, Set, tables_after}
 use Rattle.bike_schema.specs.Layouts.{layout_of, name_of}
 use Rattle.bike_schema.specs.Makes.{OthersStay}
 use Rattle.bike_schema.specs.Tables.{tables_of, HasTables, is_parent, product_names}
-use Rattle.bike_drops.specs.Drops as drops
+use Rattle.bike_rows.specs.Drops as drops
 use Rattle.bike_recognition.specs.Recognition.{meta_version}
 use Rattle.bike_recognition.specs.declared.version.MetaVersion.TheVariants.{Version}
 use Rattle.bike_earlier.specs.declared.earlier.Earlier.{Earlier}

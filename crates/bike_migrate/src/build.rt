@@ -4,7 +4,7 @@ ghost use Rattle.std.specs.Prelude.{◌≡◌, [], ◌∷◌};
 ghost use Rattle.bike_book.specs.Tables.{Regions, Stations, MoreNames};
 ghost use Rattle.bike_schema.specs.Layouts.{name_of};
 ghost use Rattle.sqlite_resolve.specs.Compile.{first};
-ghost use Rattle.bike_drops.specs.Drops.{IsDrop};
+ghost use Rattle.bike_rows.specs.Drops.{IsDrop};
 ghost use Rattle.bike_earlier.specs.Earlier.{stations_layout, stations_name, IsAt};
 ghost use Rattle.bike_rows.specs.Stands.{Stands};
 ghost use Rattle.sqlite.specs.Effect.{IsDatabase};

@@ -15,7 +15,7 @@ use crate::judge::judge;
 use crate::stations::read_stations;
 use bike_audit::{BadRow, Finding, Unwatched, Watch, audit};
 use bike_earlier::{Earlier, Found, find_version_of};
-use bike_inside::{begin, commit, undo};
+use bike_rows::inside::{begin, commit, undo};
 use bike_recognition::check_open;
 use bike_schema::StatementFault;
 use sqlite::{Alter, Connection, Row};

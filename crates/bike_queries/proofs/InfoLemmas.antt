@@ -8,8 +8,8 @@ use Rattle.bike_operator.specs.declared.records.Rental.{Rental}
 use Rattle.bike_operator.specs.declared.view.RiderView.{RiderView}
 use Rattle.bike_operator.specs.Operator.{Operator, Rider}
 use Rattle.bike_operator.specs.View.{rider_view}
-use Rattle.bike_accounts.specs.declared.rentals.StoredRental.{StoredRental}
-use Rattle.bike_accounts.specs.Newest.{open_number}
+use Rattle.bike_office_reads.specs.declared.rentals.StoredRental.{StoredRental}
+use Rattle.bike_office_reads.specs.Newest.{open_number}
 use Rattle.bike_queries.specs.Infos.{rider_info, rental_info, stored_info}
 
 pub rider_shown : (s : Operator) (rider : ℕ) (o : Option Rider) (view : RiderView) (rental : Option ℕ) → Some view ≡ rider_view s rider o → rental ≡ open_number s rider

@@ -18,15 +18,15 @@ use Rattle.bike_book.specs.Found.{rows_of}
 use Rattle.bike_book.specs.Stored.{Listed, IsListing, stored_station, stored_count, stored_name}
 use Rattle.bike_book.proofs.Keys.{texts}
 use Rattle.bike_book.proofs.MapRows.{has_get}
-use Rattle.bike_fleet.specs.declared.stations.DockNumbers.{DockNumbers}
-use Rattle.bike_fleet.specs.Fleet.{dock_numbers_of}
-use Rattle.bike_fleet.specs.Holds.{HoldsDockNumbers, columns_at}
+use Rattle.bike_fleet_reads.specs.declared.stations.DockNumbers.{DockNumbers}
+use Rattle.bike_fleet_reads.specs.Fleet.{dock_numbers_of}
+use Rattle.bike_fleet_reads.specs.Holds.{HoldsDockNumbers, columns_at}
 use Rattle.bike_queries.specs.After.{begins_from, HoldsStation, start_after, station_of}
 use Rattle.bike_feed_texts.specs.Trees.{further_languages}
 use Rattle.bike_feed_texts.proofs.Languages.{no_further_names}
-use Rattle.bike_accounts.specs.ReadRows.{named_in, owned_name, is_name_within, IsOwnedName}
-use Rattle.bike_accounts.specs.Within.{rows_within}
-use Rattle.bike_accounts.proofs.NameLemmas.{names_read}
+use Rattle.bike_office_reads.specs.ReadRows.{named_in, owned_name, is_name_within, IsOwnedName}
+use Rattle.bike_office_reads.specs.Within.{rows_within}
+use Rattle.bike_office_reads.proofs.NameLemmas.{names_read}
 use Rattle.bike_queries.specs.StationCounts.{AreCountRows}
 use Rattle.bike_queries.specs.Pages.{page_after, IsStationOf, IsStatusOf, AreStatuses, IsNamedStation, AreNamedStations, AreApart, ArePage, EndsWith, id_of, own_rows, IsStoredStation, ReadsStation, ReadsStatus, ReadsNamed}
 use Rattle.bike_queries.specs.declared.stations.StoredStation.{StoredStation}

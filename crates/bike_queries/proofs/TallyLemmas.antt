@@ -8,9 +8,9 @@ use Rattle.bike_operator.specs.Operator.{Operator, Station}
 use Rattle.bike_operator.specs.Counts.{available_of}
 use Rattle.bike_operator.specs.Sound.{IsSound}
 use Rattle.bike_places.specs.Numbers.{disabled_of}
-use Rattle.bike_fleet.specs.declared.counts.TypeCounts.{TypeCounts}
-use Rattle.bike_fleet.specs.declared.stations.DockNumbers.{DockNumbers}
-use Rattle.bike_fleet.specs.Fleet.{dock_numbers_of, type_counts_of}
+use Rattle.bike_fleet_reads.specs.declared.counts.TypeCounts.{TypeCounts}
+use Rattle.bike_fleet_reads.specs.declared.stations.DockNumbers.{DockNumbers}
+use Rattle.bike_fleet_reads.specs.Fleet.{dock_numbers_of, type_counts_of}
 use Rattle.bike_queries.specs.declared.counts.Tally.{Tally}
 use Rattle.bike_queries.specs.declared.counts.Counts.{Counts}
 use Rattle.bike_queries.specs.StationCounts.{type_count, counts_with, IsTally, Adds, AreCountsFor}

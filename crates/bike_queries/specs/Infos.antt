@@ -6,8 +6,8 @@ use Rattle.bike_operator.specs.declared.records.Place.{Place}
 use Rattle.bike_operator.specs.declared.records.Rental.{Rental}
 use Rattle.bike_operator.specs.declared.records.Closing.{Closing}
 use Rattle.bike_operator.specs.Operator.{Operator, Rider, item_numbered}
-use Rattle.bike_accounts.specs.declared.rentals.StoredRental.{StoredRental}
-use Rattle.bike_accounts.specs.Newest.{open_number}
+use Rattle.bike_office_reads.specs.declared.rentals.StoredRental.{StoredRental}
+use Rattle.bike_office_reads.specs.Newest.{open_number}
 use Rattle.bike_queries.specs.declared.riders.RiderInfo.{RiderInfo}
 use Rattle.bike_queries.specs.declared.rentals.ClosingInfo.{ClosingInfo}
 use Rattle.bike_queries.specs.declared.rentals.RentalInfo.{RentalInfo}

@@ -13,9 +13,9 @@ use Rattle.bike_operator.specs.NameKind.TheVariants as named
 use Rattle.bike_operator.specs.Names.{further_names}
 use Rattle.bike_operator.specs.Operator.{Operator, Station, text_cmp}
 use Rattle.bike_operator.specs.Sound.{IsSound}
-use Rattle.bike_fleet.specs.Fleet.{dock_numbers_of}
-use Rattle.bike_fleet.specs.Holds.{HoldsDockNumbers}
-use Rattle.bike_accounts.specs.ReadRows.{IsOwnedName}
+use Rattle.bike_fleet_reads.specs.Fleet.{dock_numbers_of}
+use Rattle.bike_fleet_reads.specs.Holds.{HoldsDockNumbers}
+use Rattle.bike_office_reads.specs.ReadRows.{IsOwnedName}
 use Rattle.bike_feed_texts.specs.Trees.{further_languages}
 use Rattle.bike_queries.specs.declared.pages.TheConstants.{STATIONS_A_PAGE}
 use Rattle.bike_queries.specs.declared.stations.StationInfo.{StationInfo}

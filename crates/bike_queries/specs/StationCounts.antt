@@ -9,10 +9,10 @@ use Rattle.sqlite_value.specs.Order.{Row, column}
 use Rattle.bike_operator.specs.Operator.{Operator, Station}
 use Rattle.bike_operator.specs.Counts.{available, available_of, disabled_bikes, docks_available, docks_broken}
 use Rattle.bike_places.specs.Numbers.{disabled_of}
-use Rattle.bike_fleet.specs.declared.counts.TypeCounts.{TypeCounts}
-use Rattle.bike_fleet.specs.declared.stations.DockNumbers.{DockNumbers}
-use Rattle.bike_fleet.specs.Fleet.{no_counts, type_counts_of}
-use Rattle.bike_fleet.specs.Holds.{HoldsAny, HoldsCounts}
+use Rattle.bike_fleet_reads.specs.declared.counts.TypeCounts.{TypeCounts}
+use Rattle.bike_fleet_reads.specs.declared.stations.DockNumbers.{DockNumbers}
+use Rattle.bike_fleet_reads.specs.Fleet.{no_counts, type_counts_of}
+use Rattle.bike_fleet_reads.specs.Holds.{HoldsAny, HoldsCounts}
 use Rattle.bike_feed_texts.specs.declared.status.TypeCount.{TypeCount}
 use Rattle.bike_queries.specs.declared.counts.Counts.{Counts}
 use Rattle.bike_queries.specs.declared.counts.Tally.{Tally}

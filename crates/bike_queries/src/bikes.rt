@@ -5,7 +5,7 @@ ghost use Rattle.bike_schema.specs.Answers.{Answers};
 ghost use Rattle.bike_queries.specs.Infos.{place_at};
 
 use bike_fields::BicycleNumber;
-use bike_fleet::find_bike;
+use bike_fleet_reads::find_bike;
 use bike_operator::{Bike, Place};
 use bike_schema::StatementFault;
 use sqlite::{Alter, Connection};

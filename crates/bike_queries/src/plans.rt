@@ -6,7 +6,7 @@ ghost use Rattle.bike_schema.specs.Answers.{Answers};
 ghost use Rattle.bike_queries.specs.After.{IsNext, first_after};
 
 use crate::after::start_of;
-use bike_accounts::{find_plan, find_plan_row_from};
+use bike_office_reads::{find_plan, find_plan_row_from};
 use bike_catalogue::Plan;
 use bike_fields::Ident;
 use bike_schema::{StatementFault, ident_at};

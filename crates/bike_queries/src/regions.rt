@@ -9,7 +9,7 @@ ghost use Rattle.bike_queries.specs.After.{IsNext, first_after};
 use crate::after::start_of;
 use bike_catalogue::Region;
 use bike_fields::Ident;
-use bike_fleet::find_region_row_from;
+use bike_fleet_reads::find_region_row_from;
 use bike_schema::{StatementFault, ident_at, name_at};
 use sqlite::{Alter, Connection, Row};
 use std::alloc::Global;

@@ -7,7 +7,7 @@ ghost use Rattle.bike_queries.specs.Infos.{closing_info, stored_info, rental_inf
 ghost use Rattle.bike_queries.specs.Spans.{ended_after, ended_info_after};
 
 use crate::span::{seconds_of, start_at};
-use bike_accounts::{StoredRental, find_rental};
+use bike_office_reads::{StoredRental, find_rental};
 use bike_fields::{BicycleNumber, Ident, RentalNumber, RiderNumber};
 use bike_fixed::{Cents, Moment};
 use bike_operator::{Closing, Rental};

@@ -2,10 +2,10 @@
 
 ghost use Rattle.std.specs.Prelude.{◌≡◌, IsTrue};
 ghost use Rattle.bike_schema.specs.Answers.{Answers};
-ghost use Rattle.bike_accounts.specs.Newest.{NewestTells};
+ghost use Rattle.bike_office_reads.specs.Newest.{NewestTells};
 ghost use Rattle.bike_queries.specs.Infos.{balance_at, rider_info_at};
 
-use bike_accounts::{find_open_rental, find_rider};
+use bike_office_reads::{find_open_rental, find_rider};
 use bike_fields::{RentalNumber, RiderNumber};
 use bike_fixed::Cents;
 use bike_schema::StatementFault;

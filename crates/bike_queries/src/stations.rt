@@ -5,7 +5,7 @@ ghost use Rattle.std.specs.Borrow.{sem};
 ghost use Rattle.bike_rows.specs.Calls.{LendsWhere, WalksWhere};
 ghost use Rattle.bike_schema.specs.Answers.{Answers};
 ghost use Rattle.bike_schema.specs.Tables.{IsOurs, tables_of};
-ghost use Rattle.bike_fleet.specs.Holds.{HoldsDockNumbers};
+ghost use Rattle.bike_fleet_reads.specs.Holds.{HoldsDockNumbers};
 ghost use Rattle.bike_queries.specs.declared.pages.TheConstants.{STATIONS_A_PAGE};
 ghost use Rattle.bike_queries.specs.After.{HoldsStation, begins_from, station_of};
 ghost use Rattle.bike_queries.specs.Pages.{AreNamedStations, ArePage, IsTold, ReadsNamed, ReadsStation, id_of, page_after};
@@ -13,11 +13,11 @@ ghost use Rattle.bike_queries.specs.Pages.{AreNamedStations, ArePage, IsTold, Re
 use crate::after::start_of;
 use crate::columns::{micro_at, whole_at};
 use crate::pages::{OwnedRow, OwnerReader, last_id, read_page};
-use bike_accounts::{NameRow, ReadRow, collect_rows, read_names, select_names};
+use bike_office_reads::{NameRow, ReadRow, collect_rows, read_names, select_names};
 use bike_catalogue::{MoreName, NameKind, Station};
 use bike_fields::Ident;
 use bike_fixed::Moment;
-use bike_fleet::DockNumbers;
+use bike_fleet_reads::DockNumbers;
 use bike_schema::{
     StatementFault, flag_at, ident_at, moment_at, name_at, number_at, optional_ident_at,
 };

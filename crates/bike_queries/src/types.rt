@@ -15,7 +15,7 @@ use crate::after::start_of;
 use crate::columns::str_at;
 use bike_catalogue::{Form, Propulsion, VehicleType};
 use bike_fields::Ident;
-use bike_fleet::{find_type_row_from, select_types};
+use bike_fleet_reads::{find_type_row_from, select_types};
 use bike_schema::{StatementFault, ident_at, name_at, number_at};
 use sqlite::{Alter, Connection, Row};
 use std::alloc::Global;

@@ -26,10 +26,10 @@ pub(crate) fn is_null_at(part: &Part<'_>, at: usize) -> bool
 
 /// The number, where it lies from `LO` to `HI`.
 #[tactic(auto, using(crate::proofs::ReadLemmas::read_some, crate::proofs::ReadLemmas::read_none))]
-pub(crate) fn number_in<const LO: u32, const HI: u32>(
+pub(crate) fn number_in<const LO: u32, const HI: u32, K>(
     part: &Part<'_>,
     at: usize,
-) -> Option<Within<LO, HI>>
+) -> Option<Within<LO, HI, K>>
     ensures { result ≡ number_in LO HI (column part.now at) }
 {
     let (row, at) = part.column(at);

@@ -9,9 +9,9 @@ use Rattle.sqlite_resolve.specs.Lowering.{Checked, and_then}
 use Rattle.sqlite_resolve.specs.Program.{Shown}
 use Rattle.sqlite_typing.specs.Types.{accepts_program}
 use Rattle.sqlite_tied.specs.Compute.{everything}
-use Rattle.bike_names.specs.Has.{HasTable, of_tables}
-use Rattle.bike_names.specs.Reads.{draft_of, of_query, one_select, IsDraft}
-use Rattle.bike_names.proofs.ReadLaws.{select_is}
+use Rattle.bike_sql.specs.Has.{HasTable, of_tables}
+use Rattle.bike_sql.specs.Reads.{draft_of, of_query, one_select, IsDraft}
+use Rattle.bike_sql.proofs.ReadLaws.{select_is}
 use Rattle.bike_rows.specs.Layout.{Layout, table_of}
 use Rattle.bike_rows.proofs.TextLemmas.{IsSelect, Drafts, alone, select_means}
 use Rattle.bike_book.specs.Tables.{Meta, System, Plans, Segments, Types, Regions, Stations, Docks, Bikes, Trucks, Riders, Rentals, Orders, Entries, Kept, Counts, MoreNames}

@@ -4,8 +4,8 @@ use Rattle.std.specs.Prelude.{◌↔◌}
 use Rattle.std.proofs.lemmas.Bool.{true≢false}
 use Rattle.sqlite_schema.specs.declared.schema.Schema.{Schema}
 use Rattle.sqlite_schema.specs.declared.schema.Table.{Table}
-use Rattle.bike_names.specs.Found.{IsPlainTable, StandsAt, with_tree}
-use Rattle.bike_names.specs.Has.{HasTable}
+use Rattle.bike_sql.specs.Found.{IsPlainTable, StandsAt, with_tree}
+use Rattle.bike_sql.specs.Has.{HasTable}
 use Rattle.bike_rows.specs.Stands.{is_referred_to}
 use Rattle.bike_rows.proofs.ListLemmas.{same_some}
 use Rattle.bike_recognition.specs.Wanted.{HasWanted}

@@ -12,7 +12,7 @@ use Rattle.sqlite_trees.specs.declared.store.Store.{Ghosts}
 use Rattle.sqlite.specs.Effect.{Database, IsDatabase}
 use Rattle.sqlite.specs.Held.{Held, state}
 use Rattle.sqlite.specs.State.{IsLive}
-use Rattle.bike_names.specs.Found.{IsPlainTable, HasNoDefaults}
+use Rattle.bike_sql.specs.Found.{IsPlainTable, HasNoDefaults}
 use Rattle.bike_rows.specs.Calls.{ReadsWhere}
 use Rattle.bike_rows.specs.Layout.{Layout, table_of}
 use Rattle.bike_rows.specs.Stands.{Stands}

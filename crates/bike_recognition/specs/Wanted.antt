@@ -3,8 +3,8 @@ use Rattle.std.specs.Prelude.{◌≡◌, ℕ, List, false, Ok}
 use Rattle.sqlite_schema.specs.declared.schema.Schema.{Schema}
 use Rattle.sqlite_schema.specs.declared.schema.Table.{Table}
 use Rattle.sqlite_resolve.specs.Compile.{table_defined_by}
-use Rattle.bike_names.specs.Found.{IsPlainTable, with_tree}
-use Rattle.bike_names.specs.Has.{HasTable}
+use Rattle.bike_sql.specs.Found.{IsPlainTable, with_tree}
+use Rattle.bike_sql.specs.Has.{HasTable}
 use Rattle.bike_rows.specs.Answer.{MeansQuery}
 use Rattle.bike_rows.specs.Layout.{Layout, table_of}
 use Rattle.bike_rows.specs.Stands.{is_referred_to}

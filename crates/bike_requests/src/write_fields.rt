@@ -15,9 +15,9 @@ use itoa::Buffer;
 use std::alloc::AllocError;
 
 /// The number's decimal.
-pub fn put_number<const LO: u32, const HI: u32>(
+pub fn put_number<const LO: u32, const HI: u32, K>(
     out: &mut String,
-    number: &Within<LO, HI>,
+    number: &Within<LO, HI, K>,
 ) -> Result<(), AllocError>
     ensures { OnOk result (string_bytes out.new ≡ string_bytes out.old ++ 9 ∷ decimal number.now) }
 {

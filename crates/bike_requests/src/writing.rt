@@ -11,9 +11,7 @@ use crate::write_fields::{
 };
 use crate::write_records::{put_name, put_plan, put_region, put_station, put_system, put_type};
 use bike_commands::Command;
-use bike_fields::{
-    BicycleNumber, DockNumber, Ident, OrderNumber, OrderQuantity, RiderNumber, TruckNumber,
-};
+use bike_fields::{BicycleNumber, DockNumber, GREATEST_NUMBER, Ident, OrderNumber, OrderQuantity, TruckNumber, Within};
 use bike_texts::{OrderEnd, Side, UnloadDock};
 use std::alloc::{AllocError, Global};
 
@@ -112,9 +110,9 @@ fn put_unloading(
 
 /// A place and the dock there, behind the number of whoever comes to it.
 #[tactic(auto, unfolding(bike_texts::specs::Fields::fields_text))]
-fn put_at_dock(
+fn put_at_dock<K>(
     out: &mut String,
-    number: &RiderNumber,
+    number: &Within<1, GREATEST_NUMBER, K>,
     station: &Ident,
     dock: &DockNumber,
 ) -> Result<(), AllocError>

@@ -24,7 +24,7 @@ module _ {S : Type 0} {g : Ghosts S} {P : Database → Type 0} where
     survives = survives_then (state g old) (state g mid) (state g new) _ _ (λ _. ¬ P (state g old).now) (λ clean db none. none) (λ clean db none has. none (stand (omega (arith, clean, two.survives.clean)) has)) one.survives two.survives;
   }
 
-  -- a step of a walk, as `next_row` takes it, after a quiet call
+  -- a step of a walk, after a quiet call
   pub quiet_step : {old mid new : Held S} → IsQuiet g P old mid → (mid.in_transaction ≡ false → new.in_transaction ≡ false) → Survives (state g mid) (state g new) (λ _. ⊥) → IsQuiet g P old new
   quiet_step {old} {mid} {new} one mode survives = record {
     mode = λ outside. mode (one.mode outside);

@@ -28,7 +28,7 @@ use Rattle.sqlite.specs.Listing.{understood, reads_listing, listing_schema, if_s
 use Rattle.sqlite.specs.declared.error.Error.{Error}
 use Rattle.sqlite.specs.State.{State, Shows, Writes, Executes, ExecutesIn, ExecutesInside, mode_of}
 use Rattle.sqlite.proofs.Callers.{command_of, statement_of, runs_as}
-use Rattle.bike_names.proofs.GrowLemmas.{same_has}
+use Rattle.bike_sql.proofs.GrowLemmas.{same_has}
 use Rattle.bike_rows.specs.Layout.{Layout, table_of}
 use Rattle.bike_rows.specs.View.{IsKeyed}
 use Rattle.bike_rows.specs.Stands.{refers_to, Stands, Stays, Indexes}

@@ -34,3 +34,10 @@ pub mod IndexLaw
 pub mod TwoJoinsLaw
 pub mod LineLemmas
 pub mod UnionOfThreeLaw
+pub mod InsideLemmas
+pub mod DropListLemmas
+pub mod DropNameLemmas
+pub mod DropTextLemmas
+pub mod DropEffectLemmas
+pub mod DropLaw
+pub mod ExampleDrops

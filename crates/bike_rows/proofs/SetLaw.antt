@@ -34,7 +34,7 @@ use Rattle.sqlite_rules.proofs.TableLemmas.{int_is}
 use Rattle.sqlite.specs.Effect.{Database, IsDatabase}
 use Rattle.sqlite.specs.State.{State, Executes}
 use Rattle.sqlite.proofs.Callers.{one_permutation, runs_as}
-use Rattle.bike_names.specs.Laws.{Means}
+use Rattle.bike_sql.specs.Laws.{Means}
 use Rattle.bike_rows.specs.Keyed.{in_order}
 use Rattle.bike_rows.specs.Layout.{Layout, table_of}
 use Rattle.bike_rows.specs.View.{columns_of, by_key, rows_in, row_with, put_row_by, rows_after_update, AreSpread, AreNumbered, IsKeyed}

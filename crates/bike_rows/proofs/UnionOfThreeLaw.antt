@@ -15,7 +15,7 @@ use Rattle.sqlite_sql.specs.declared.query.SetOp.TheVariants.{UnionAll}
 use Rattle.sqlite_schema.specs.declared.command.Command.TheVariants.{Select}
 use Rattle.sqlite_schema.specs.Program.{let_in}
 use Rattle.sqlite.specs.Effect.{Database}
-use Rattle.bike_names.specs.Laws.{Reads}
+use Rattle.bike_sql.specs.Laws.{Reads}
 use Rattle.bike_rows.specs.Layout.{Layout, table_of}
 use Rattle.bike_rows.specs.Stands.{rows_of, Stands}
 use Rattle.bike_rows.specs.Answer.{HasOneAnswer}

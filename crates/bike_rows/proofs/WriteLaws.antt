@@ -16,8 +16,8 @@ use Rattle.sqlite_rules.specs.Edit.{with_rowid}
 use Rattle.sqlite.specs.Effect.{value_rows, IsDatabase}
 use Rattle.sqlite.specs.declared.error.Error.{Error}
 use Rattle.sqlite.specs.State.{State, Executes, ExecutesInside, Shows}
-use Rattle.bike_names.specs.Inserts.{IsInsert}
-use Rattle.bike_names.proofs.InsertLaws.{insert_is}
+use Rattle.bike_sql.specs.Inserts.{IsInsert}
+use Rattle.bike_sql.proofs.InsertLaws.{insert_is}
 use Rattle.bike_rows.specs.Layout.{Layout, table_of}
 use Rattle.bike_rows.specs.View.{columns_of, IsFree, put_row_by, rows_after_replacement, rows_after_update}
 use Rattle.bike_rows.specs.Stands.{rows_of, Stands, Sets}

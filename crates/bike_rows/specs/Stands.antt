@@ -7,7 +7,7 @@ use Rattle.sqlite_schema.specs.declared.schema.Reference.{Reference}
 use Rattle.sqlite_schema.specs.declared.schema.Schema.{Schema}
 use Rattle.sqlite_schema.specs.Names.{same_name, table_named}
 use Rattle.sqlite.specs.Effect.{Database, IsDatabase}
-use Rattle.bike_names.specs.Has.{HasTable}
+use Rattle.bike_sql.specs.Has.{HasTable}
 use Rattle.bike_rows.specs.Layout.{Layout, table_of}
 use Rattle.bike_rows.specs.View.{rows_in, IsKeyed}
 

@@ -13,8 +13,8 @@ use Rattle.sqlite_catalog.specs.Listing.{IsTableRow}
 use Rattle.sqlite_catalog.proofs.StepLemmas.{table_below}
 use Rattle.sqlite_rules.proofs.ListLemmas.{all_from}
 use Rattle.sqlite.specs.Effect.{Database}
-use Rattle.bike_names.proofs.ListLemmas.{get_first, get_last}
-use Rattle.bike_names.proofs.GrowLemmas.{still_has, created_has, created_keeps}
+use Rattle.bike_sql.proofs.ListLemmas.{get_first, get_last}
+use Rattle.bike_sql.proofs.GrowLemmas.{still_has, created_has, created_keeps}
 use Rattle.bike_rows.specs.Layout.{Layout, table_of}
 use Rattle.bike_rows.specs.Keyed.{in_order}
 use Rattle.bike_rows.specs.View.{IsKeyed, by_key, columns_of}

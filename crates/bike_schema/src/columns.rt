@@ -46,7 +46,7 @@ fn is_null_at(row: &Row, at: usize) -> bool
 }
 
 /// The number, where it lies from `LO` to `HI`.
-fn number_of<const LO: u32, const HI: u32>(whole: i64) -> Option<Within<LO, HI>>
+fn number_of<const LO: u32, const HI: u32, K>(whole: i64) -> Option<Within<LO, HI, K>>
     ensures { result ≡ number_of LO HI whole }
 {
     match u32::try_from(whole) {
@@ -89,10 +89,10 @@ fn state_of(whole: i64) -> Option<BikeState>
 }
 
 /// The column as a number from `LO` to `HI`; any other column is `StoreFailed`.
-pub fn number_at<const LO: u32, const HI: u32>(
+pub fn number_at<const LO: u32, const HI: u32, K>(
     row: &Row,
     at: usize,
-) -> Result<Within<LO, HI>, StatementFault>
+) -> Result<Within<LO, HI, K>, StatementFault>
     ensures { result ≡ read_or_failed (number_in LO HI (column row.now at)) }
 {
     let Some(whole) = whole_at(row, at) else {
@@ -183,10 +183,10 @@ pub fn language_at(alloc: Global, row: &Row, at: usize) -> Result<Language, Stat
 }
 
 /// The column as a number from `LO` to `HI`, or `None` where it is NULL.
-pub fn optional_number_at<const LO: u32, const HI: u32>(
+pub fn optional_number_at<const LO: u32, const HI: u32, K>(
     row: &Row,
     at: usize,
-) -> Result<Option<Within<LO, HI>>, StatementFault>
+) -> Result<Option<Within<LO, HI, K>>, StatementFault>
     ensures { result ≡ read_or_failed (or_none (number_in LO HI) (column row.now at)) }
 {
     if is_null_at(row, at) {

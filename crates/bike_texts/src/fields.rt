@@ -82,7 +82,7 @@ impl<'a> Fields<'a> {
     }
 
     /// The next part as a whole number of a range.
-    pub fn number<const LO: u32, const HI: u32>(&mut self) -> Option<Within<LO, HI>>
+    pub fn number<const LO: u32, const HI: u32, K>(&mut self) -> Option<Within<LO, HI, K>>
         ensures { Takes (λ n. n) result (field_at (number_of LO HI) self.old) self.new }
     {
         let text = self.part()?;

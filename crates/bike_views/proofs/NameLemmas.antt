@@ -14,7 +14,7 @@ use Rattle.bike_operator.specs.Operator.{Operator, NameKey, name_key, text_cmp, 
 use Rattle.bike_operator.specs.Names.{part_at, is_name_of, further_names}
 use Rattle.bike_operator.specs.Sound.{AreNamesSound}
 use Rattle.bike_book.proofs.MapRows.{has_get}
-use Rattle.bike_accounts.specs.ReadRows.{named_in}
+use Rattle.bike_office_reads.specs.ReadRows.{named_in}
 use Rattle.bike_views.specs.Parts.{is_among}
 
 texts_total : IsTotalOrder texts_cmp

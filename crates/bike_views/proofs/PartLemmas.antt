@@ -15,10 +15,10 @@ use Rattle.bike_accepted.specs.declared.moved.DockAt.{DockAt}
 use Rattle.bike_booking.specs.declared.stored.StoredCounts.{StoredCounts}
 use Rattle.bike_booking.specs.declared.stored.StoredDock.{StoredDock}
 use Rattle.bike_booking.specs.Stored.{counts_in, AreCountsStored, IsDockStored}
-use Rattle.bike_accounts.specs.declared.rentals.StoredRental.{StoredRental}
-use Rattle.bike_fleet.specs.declared.counts.TypeCounts.{TypeCounts}
-use Rattle.bike_fleet.specs.declared.stations.DockNumbers.{DockNumbers}
-use Rattle.bike_fleet.specs.Fleet as fleet
+use Rattle.bike_office_reads.specs.declared.rentals.StoredRental.{StoredRental}
+use Rattle.bike_fleet_reads.specs.declared.counts.TypeCounts.{TypeCounts}
+use Rattle.bike_fleet_reads.specs.declared.stations.DockNumbers.{DockNumbers}
+use Rattle.bike_fleet_reads.specs.Fleet as fleet
 use Rattle.bike_views.specs.Parts.{counts_read, dock_read}
 
 -- ---- the bicycle in a dock

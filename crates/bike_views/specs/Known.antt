@@ -1,7 +1,7 @@
 -- What is known of the operator when a request is read.
 use Rattle.std.specs.Prelude.{◌≡◌, IsTrue}
 use Rattle.bike_operator.specs.Operator.{Operator}
-use Rattle.bike_accounts.specs.Newest.{NewestTells}
+use Rattle.bike_office_reads.specs.Newest.{NewestTells}
 use Rattle.bike_booking.specs.Figures.{figures_of}
 use Rattle.bike_views.specs.declared.figures.Known.{Known}
 

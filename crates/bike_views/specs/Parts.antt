@@ -13,8 +13,8 @@ use Rattle.bike_operator.specs.Counts.{is_riding, truck_load}
 use Rattle.bike_operator.specs.View.{bike_of, has_end, has_full_ledger, planned_rental, rental_at, rental_of, rider_at, side_view, truck_at}
 use Rattle.bike_booking.specs.declared.stored.StoredCounts.{StoredCounts}
 use Rattle.bike_booking.specs.declared.stored.StoredDock.{StoredDock}
-use Rattle.bike_fleet.specs.declared.counts.TypeCounts.{TypeCounts}
-use Rattle.bike_fleet.specs.declared.stations.DockNumbers.{DockNumbers}
+use Rattle.bike_fleet_reads.specs.declared.counts.TypeCounts.{TypeCounts}
+use Rattle.bike_fleet_reads.specs.declared.stations.DockNumbers.{DockNumbers}
 use Rattle.bike_views.specs.declared.rentals.StartView.{StartView}
 use Rattle.bike_views.specs.declared.rentals.RentalBike.{RentalBike}
 use Rattle.bike_views.specs.declared.orders.OrderNames.{OrderNames}

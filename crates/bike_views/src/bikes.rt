@@ -9,7 +9,7 @@ ghost use Rattle.bike_views.specs.Open.{AnswersOpen};
 use crate::docks::is_marked;
 use crate::empty::empty_view;
 use bike_fields::{BicycleNumber, Ident};
-use bike_fleet::{are_bikes_full, find_bike, has_type};
+use bike_fleet_reads::{are_bikes_full, find_bike, has_type};
 use bike_operator::{Bike, Place, View};
 use bike_schema::StatementFault;
 use sqlite::{Alter, Connection};

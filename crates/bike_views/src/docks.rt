@@ -5,11 +5,11 @@ ghost use Rattle.std.specs.FinMap as map;
 ghost use Rattle.bike_operator.specs.Counts.{docked_at, is_broken};
 ghost use Rattle.bike_operator.specs.View.{dock_view, docked_view, typed_bike};
 ghost use Rattle.bike_schema.specs.Answers.{Answers};
-ghost use Rattle.bike_fleet.specs.Fleet.{numbered_pair};
+ghost use Rattle.bike_fleet_reads.specs.Fleet.{numbered_pair};
 
 use crate::empty::empty_view;
 use bike_fields::Ident;
-use bike_fleet::{NumberedBike, find_default_plan, find_docked, find_mark, find_station};
+use bike_fleet_reads::{NumberedBike, find_default_plan, find_docked, find_mark, find_station};
 use bike_operator::{DockedBike, View};
 use bike_schema::StatementFault;
 use sqlite::{Alter, Connection};

@@ -5,15 +5,15 @@ ghost use Rattle.bike_commands.specs.declared.command.Command.TheVariants as com
 ghost use Rattle.bike_operator.specs.Names.{has_named, is_own_language, is_system};
 ghost use Rattle.bike_operator.specs.View.{view_of};
 ghost use Rattle.bike_schema.specs.Answers.{Answers};
-ghost use Rattle.bike_accounts.specs.Accounts.{system_key};
+ghost use Rattle.bike_office_reads.specs.Accounts.{system_key};
 ghost use Rattle.bike_views.specs.Open.{AnswersOpen};
 ghost use Rattle.bike_views.specs.Parts.{is_among};
 
 use crate::empty::empty_view;
-use bike_accounts::{find_names, find_system_key, has_plan};
+use bike_office_reads::{find_names, find_system_key, has_plan};
 use bike_catalogue::{MoreName, NameKind};
 use bike_fields::{Ident, Language};
-use bike_fleet::{has_region, has_station, has_type};
+use bike_fleet_reads::{has_region, has_station, has_type};
 use bike_operator::{MOST_FURTHER_NAMES, View};
 use bike_schema::StatementFault;
 use sqlite::{Alter, Connection};

@@ -13,7 +13,7 @@ use crate::bikes::find_bike_view;
 use crate::docks::find_dock_view;
 use crate::empty::empty_view;
 use bike_fields::{BicycleNumber, Ident, OrderNumber, TruckNumber};
-use bike_fleet::{
+use bike_fleet_reads::{
     are_trucks_full, find_bike, find_order, find_truck, has_station, has_type, order_load,
     truck_load,
 };

@@ -13,9 +13,9 @@ ghost use Rattle.bike_views.specs.Parts.{rental_bike_at, rental_bike, ridden_bik
 use crate::docks::find_dock_view;
 use crate::empty::empty_view;
 use crate::figures::{Known, is_ledger_full};
-use bike_accounts::{find_plan, find_rental, find_rider, is_riding};
+use bike_office_reads::{find_plan, find_rental, find_rider, is_riding};
 use bike_fields::{BicycleNumber, DockNumber, Ident, RentalNumber, RiderNumber};
-use bike_fleet::find_bike;
+use bike_fleet_reads::find_bike;
 use bike_operator::{Bike, Place, Rental, RentalView, RiderView, View};
 use bike_schema::StatementFault;
 use sqlite::{Alter, Connection};

@@ -10,7 +10,7 @@ use crate::docks::find_dock_view;
 use crate::empty::empty_view;
 use bike_catalogue::Station;
 use bike_fields::{DockNumber, Ident};
-use bike_fleet::{are_stations_full, find_station, has_region};
+use bike_fleet_reads::{are_stations_full, find_station, has_region};
 use bike_operator::View;
 use bike_schema::StatementFault;
 use sqlite::{Alter, Connection};

@@ -9,7 +9,7 @@ ghost use Rattle.bike_views.specs.Parts.{counts_read, dock_read};
 use bike_accepted::{DockAt, Held, Moved};
 use bike_booking::{Stored, StoredCounts, StoredDock, Sums, Total};
 use bike_fields::Ident;
-use bike_fleet::{DockNumbers, TypeCounts, find_counts, find_dock_numbers, find_mark};
+use bike_fleet_reads::{DockNumbers, TypeCounts, find_counts, find_dock_numbers, find_mark};
 use bike_schema::StatementFault;
 use sqlite::{Alter, Connection};
 

@@ -7,7 +7,7 @@ use Rattle.bike_operator.specs.Runs.{step, key_in}
 use Rattle.bike_schema.specs.Makes.{OthersStay}
 use Rattle.bike_schema.specs.Stands.{AllLeft, Keeps}
 use Rattle.bike_desk.specs.Desk.{AreFigures, TreesStandForEither}
-use Rattle.bike_accounts.specs.Accounts.{KeepsSame}
+use Rattle.bike_office_reads.specs.Accounts.{KeepsSame}
 use Rattle.bike_desk.proofs.KeepLemmas.{on_err, kept_ours, kept_stores, still, still_left}
 use Rattle.bike_desk.proofs.OtherLemmas.{others_same}
 use Rattle.bike_desk.proofs.ServeLemmas.{step_kept, none_kept}

@@ -1,5 +1,5 @@
 use Rattle.std.proofs.Common.{None, sym, subst, ◌∙◌}
-use Rattle.bike_fleet.specs.Holds.{HoldsAny, HoldsCounts}
+use Rattle.bike_fleet_reads.specs.Holds.{HoldsAny, HoldsCounts}
 use Rattle.bike_queries.proofs.CountRows.{passed_over, found_nowhere}
 use Rattle.bike_queries.proofs.counts.counts_among.Goals as goal
 

@@ -1,4 +1,4 @@
-use Rattle.bike_accounts.proofs.RowLemmas.{made_if}
+use Rattle.bike_office_reads.proofs.RowLemmas.{made_if}
 use Rattle.bike_queries.proofs.NextLemmas.{station_read}
 use Rattle.bike_queries.proofs.stations.read_station.Goals as goal
 

@@ -5,7 +5,7 @@ use Rattle.bike_book.specs.Tables.{Tables}
 use Rattle.bike_schema.specs.Answers.{Answers}
 use Rattle.bike_schema.specs.Tables.{tables_of}
 use Rattle.bike_schema.proofs.AnswerLemmas.{reads_weaker}
-use Rattle.bike_accounts.proofs.CollectLaws.{begins}
+use Rattle.bike_office_reads.proofs.CollectLaws.{begins}
 use Rattle.bike_queries.specs.After.{begins_from}
 use Rattle.bike_queries.specs.Pages.{ArePage, ReadsStation}
 use Rattle.bike_queries.proofs.StatusLemmas.{page_read}

@@ -1,6 +1,6 @@
 use Rattle.bike_rows.proofs.ParamLemmas.{bindings}
 use Rattle.bike_schema.proofs.AnswerLemmas.{row_answers}
-use Rattle.bike_accounts.proofs.TextLemmas.{finds_system}
+use Rattle.bike_office_reads.proofs.TextLemmas.{finds_system}
 use Rattle.bike_queries.proofs.system.select_system.Goals as goal
 
 pub returns : goal.returns

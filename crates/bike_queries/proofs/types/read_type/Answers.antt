@@ -1,4 +1,4 @@
-use Rattle.bike_accounts.proofs.RowLemmas.{made_if}
+use Rattle.bike_office_reads.proofs.RowLemmas.{made_if}
 use Rattle.bike_queries.proofs.NextLemmas.{type_read}
 use Rattle.bike_queries.proofs.types.read_type.Goals as goal
 

@@ -1,7 +1,7 @@
 use Rattle.std.proofs.Common.{◌≡◌, rules, refl, length, nat_le, Bool, ◌||◌, Option, Some, None, ap, ◌∙◌}
 use Rattle.std.specs.Prelude.{is_some, option_map}
 use Rattle.bike_catalogue.specs.Rows.{SystemRow}
-use Rattle.bike_accounts.specs.Accounts.{system_key}
+use Rattle.bike_office_reads.specs.Accounts.{system_key}
 use Rattle.bike_rows.proofs.ChainLaws.{reads_as, reads_both, reads_failed}
 use Rattle.bike_operator.specs.declared.limits.TheConstants.{MOST_FURTHER_NAMES}
 use Rattle.bike_operator.specs.Names.{is_own_language}

@@ -3,7 +3,7 @@ use Rattle.sqlite.specs.State.{HasCleanDisk}
 use Rattle.sqlite.specs.Held.{state}
 use Rattle.bike_schema.specs.Makes.{OthersStay}
 use Rattle.bike_schema.specs.Stands.{Keeps}
-use Rattle.bike_accounts.specs.Newest.{NewestTells}
+use Rattle.bike_office_reads.specs.Newest.{NewestTells}
 use Rattle.bike_desk.specs.Desk.{DeskValue, AreFigures, IsRemembered}
 use Rattle.bike_desk.specs.Newest.{knows_newest}
 use Rattle.bike_desk.proofs.KeepLemmas.{still_going}

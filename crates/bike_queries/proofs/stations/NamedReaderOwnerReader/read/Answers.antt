@@ -2,7 +2,7 @@ use Rattle.std.proofs.Common.{List, refl, sym, subst}
 use Rattle.std.specs.List.{AllZip}
 use Rattle.std.proofs.lemmas.List.{map-id}
 use Rattle.sqlite_value.specs.Order.{Row}
-use Rattle.bike_accounts.specs.ReadRows.{IsOwnedName}
+use Rattle.bike_office_reads.specs.ReadRows.{IsOwnedName}
 use Rattle.bike_queries.proofs.stations.NamedReaderOwnerReader.read.Goals as goal
 
 pub returns : goal.returns

@@ -1,7 +1,0 @@
-use Rattle.bike_rows.proofs.ParamLemmas.{bindings}
-use Rattle.bike_schema.proofs.AnswerLemmas.{row_answers}
-use Rattle.bike_accounts.proofs.TextLemmas.{finds_plan}
-use Rattle.bike_accounts.proofs.plans.find_plan_row.Goals as goal
-
-pub returns : goal.returns
-returns g c = row_answers (finds_plan c.args.plan.now) c.first_row.ensures (search bindings)

@@ -1,8 +1,0 @@
-use Rattle.bike_rows.proofs.ParamLemmas.{bindings}
-use Rattle.bike_schema.proofs.AnswerLemmas.{row_answers}
-use Rattle.bike_accounts.proofs.TextLemmas.{lists_plans_from}
-use Rattle.bike_accounts.proofs.WithinLaw.{first_listed}
-use Rattle.bike_accounts.proofs.plans.find_plan_row_from.Goals as goal
-
-pub returns : goal.returns
-returns g c = row_answers (first_listed (lists_plans_from c.args.start.now)) c.first_row.ensures (search bindings)

@@ -1,7 +1,0 @@
-use Rattle.bike_rows.proofs.ParamLemmas.{bindings}
-use Rattle.bike_schema.proofs.AnswerLemmas.{row_answers}
-use Rattle.bike_accounts.proofs.TextLemmas.{finds_last_rider}
-use Rattle.bike_accounts.proofs.riders.find_last_row.Goals as goal
-
-pub returns : goal.returns
-returns g c = row_answers finds_last_rider c.first_row.ensures (search bindings)

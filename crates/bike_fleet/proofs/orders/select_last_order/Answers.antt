@@ -1,7 +1,0 @@
-use Rattle.bike_rows.proofs.ParamLemmas.{bindings}
-use Rattle.bike_schema.proofs.AnswerLemmas.{row_answers}
-use Rattle.bike_fleet.proofs.StatementLemmas.{finds_last_order}
-use Rattle.bike_fleet.proofs.orders.select_last_order.Goals as goal
-
-pub returns : goal.returns
-returns g c = row_answers finds_last_order c.first_row.ensures (search bindings)

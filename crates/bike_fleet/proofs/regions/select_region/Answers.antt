@@ -1,7 +1,0 @@
-use Rattle.bike_rows.proofs.ParamLemmas.{bindings}
-use Rattle.bike_schema.proofs.AnswerLemmas.{row_answers}
-use Rattle.bike_fleet.proofs.StatementLemmas.{finds_region}
-use Rattle.bike_fleet.proofs.regions.select_region.Goals as goal
-
-pub returns : goal.returns
-returns g c = row_answers (finds_region c.args.region.now) c.first_row.ensures (search bindings)

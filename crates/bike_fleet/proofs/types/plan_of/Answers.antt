@@ -1,5 +1,0 @@
-use Rattle.bike_fleet.proofs.ColumnLemmas.{holds_ident}
-use Rattle.bike_fleet.proofs.types.plan_of.Goals as goal
-
-pub returns-in_ok-plan-in-Some : goal.returns-in_ok-plan-in-Some
-returns-in_ok-plan-in-Some c = rw c.in-Some.is (holds_ident _ _ c.in_ok-plan-in-Some.ensures.ok).0

@@ -1,0 +1,7 @@
+use Rattle.bike_rows.proofs.ParamLemmas.{bindings}
+use Rattle.bike_schema.proofs.AnswerLemmas.{row_answers}
+use Rattle.bike_fleet_reads.proofs.StatementLemmas.{finds_docked}
+use Rattle.bike_fleet_reads.proofs.bikes.select_docked.Goals as goal
+
+pub returns : goal.returns
+returns g c = row_answers (finds_docked c.args.station.now c.args.dock) c.first_row.ensures (search bindings)

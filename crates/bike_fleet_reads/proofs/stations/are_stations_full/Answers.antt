@@ -1,0 +1,8 @@
+use Rattle.std.proofs.Common.{nat_le, ap, ◌∙◌}
+use Rattle.bike_operator.specs.declared.limits.TheConstants.{MOST_STATIONS}
+use Rattle.bike_book.proofs.FoundNumbers.{found_numbers}
+use Rattle.bike_schema.proofs.AnswerLemmas.{answers_made}
+use Rattle.bike_fleet_reads.proofs.stations.are_stations_full.Goals as goal
+
+pub returns : goal.returns
+returns g c = answers_made c.in_ok-answer.ensures c.is_full.ensures (λ db x is full s h. full _ (is s h) ∙ ap (nat_le MOST_STATIONS) (found_numbers s h.listed h.sound h.listing).stations)

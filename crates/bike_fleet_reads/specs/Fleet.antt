@@ -1,0 +1,42 @@
+-- What is read of the fleet, as facts of the operator.
+use Rattle.std.specs.Prelude.{◌≡◌, ℕ, List, Bool, false, Option, option_map, is_some, unwrap_or}
+use Rattle.std.specs.FinMap as map
+use Rattle.bike_operator.specs.declared.records.Bike.{Bike}
+use Rattle.bike_operator.specs.Operator.{Operator, Station, key_of, dock_key}
+use Rattle.bike_operator.specs.Counts.{available_of, docks_available, docks_broken, is_broken}
+use Rattle.bike_places.specs.Numbers.{disabled_of}
+use Rattle.bike_book.specs.Stored.{Listed}
+use Rattle.bike_fleet_reads.specs.declared.stations.DockNumbers.{DockNumbers}
+use Rattle.bike_fleet_reads.specs.declared.counts.TypeCounts.{TypeCounts}
+use Rattle.bike_fleet_reads.specs.declared.bikes.NumberedBike.{NumberedBike}
+
+-- the docks of a station that are available, and those that are broken
+abbrev pub dock_numbers_of : Operator → List ℕ → Station → DockNumbers
+dock_numbers_of s station x =
+    record { free = docks_available s station x.row.docks; broken = docks_broken s station x.row.docks }
+
+abbrev pub dock_numbers_at : Operator → List ℕ → Option DockNumbers
+dock_numbers_at s station = option_map (dock_numbers_of s station) (map.get s.stations station)
+
+-- A dock's mark: there where the dock has a row, and whether it is broken. A dock with no row works.
+abbrev pub IsMark : Operator → Listed → List ℕ → ℕ → Option Bool → Type 0
+IsMark s m station dock mark =
+    (is_some mark ≡ map.contains_key m.docks (dock_key station dock)) × (unwrap_or mark false ≡ is_broken s station dock)
+
+-- a station's bicycles of a type, those that can be rented and those that can't
+abbrev pub type_counts_of : Operator → List ℕ → List ℕ → TypeCounts
+type_counts_of s station type_id =
+    record { available = available_of s station type_id; disabled = disabled_of s station type_id }
+
+abbrev pub no_counts : TypeCounts
+no_counts = record { available = 0; disabled = 0 }
+
+-- Counts of a type at a station: there where they have a row. Counts with no row are 0 and 0.
+abbrev pub AreCounts : Operator → Listed → List ℕ → List ℕ → Option TypeCounts → Type 0
+AreCounts s m station type_id counts =
+    (is_some counts ≡ map.contains_key m.counts (key_of station type_id))
+    × (unwrap_or counts no_counts ≡ type_counts_of s station type_id)
+
+-- a bicycle with its number, as a pair
+abbrev pub numbered_pair : NumberedBike → ℕ × Bike
+numbered_pair x = (x.number, x.bike)

@@ -1,0 +1,202 @@
+//! The statements on `bikes`.
+
+ghost use Rattle.std.specs.Prelude.{◌≡◌, [], ◌∷◌, IfOk, Some, option_map, slice_get, length, ◌≤◌};
+ghost use Rattle.std.specs.FinMap.{get, len};
+ghost use Rattle.sqlite.specs.declared.types.Value.TheVariants.{Text};
+ghost use Rattle.sqlite_sql.specs.Aggregate.{count};
+ghost use Rattle.bike_operator.specs.declared.limits.TheConstants.{MOST_BIKES};
+ghost use Rattle.bike_operator.specs.Counts.{docked_at, truck_load};
+ghost use Rattle.bike_operator.specs.View.{is_at_limit};
+ghost use Rattle.bike_book.specs.Tables.{Bikes};
+ghost use Rattle.bike_book.specs.Rows.{number_value};
+ghost use Rattle.bike_book.specs.Found.{last_row, row_count, row_under, rows_by};
+ghost use Rattle.bike_schema.specs.Answers.{Answers};
+ghost use Rattle.bike_fleet_reads.specs.Fleet.{numbered_pair};
+ghost use Rattle.bike_fleet_reads.specs.Holds.{HoldsAny, HoldsBike, HoldsNumbered};
+
+use crate::columns::{count_of, is_full, last_of};
+use crate::places::place_at;
+use bike_fields::{BicycleNumber, Ident, TruckNumber};
+use bike_operator::{Bike, MOST_BIKES};
+use bike_rows::lookup::first_row;
+use bike_schema::{StatementFault, ident_at, number_at, state_at};
+use sqlite::{Alter, Connection, Row, params};
+use std::alloc::Global;
+
+/// A bicycle with its number.
+#[derive(Drop)]
+pub struct NumberedBike {
+    /// Its number.
+    pub number: BicycleNumber,
+    /// The bicycle.
+    pub bike: Bike,
+}
+
+/// The bicycle's row.
+fn select_bike<S: Alter>(
+    conn: &mut Connection<S>,
+    bike: BicycleNumber,
+) -> Result<Option<Row>, StatementFault>
+    ensures { Answers S.Store conn.old conn.new result
+        (λ s m row. row ≡ row_under s m Bikes (number_value bike ∷ [])) }
+{
+    first_row(
+        conn,
+        "SELECT * FROM bikes WHERE bike = ?1",
+        params![bike.get()],
+    )
+}
+
+/// The first row of a bicycle in this dock.
+fn select_docked<S: Alter>(
+    conn: &mut Connection<S>,
+    station: &Ident,
+    dock: u32,
+) -> Result<Option<Row>, StatementFault>
+    ensures { Answers S.Store conn.old conn.new result (λ s m row.
+        row ≡ slice_get (rows_by s m Bikes (3 ∷ 4 ∷ []) (Text station.now ∷ number_value dock ∷ [])) 0) }
+{
+    first_row(
+        conn,
+        "SELECT * FROM bikes WHERE station_id = ?1 AND dock = ?2 ORDER BY bike LIMIT 1",
+        params![station.as_str(), dock],
+    )
+}
+
+/// The row of the last bicycle.
+fn select_last_bike<S: Alter>(conn: &mut Connection<S>) -> Result<Option<Row>, StatementFault>
+    ensures { Answers S.Store conn.old conn.new result (λ s m row. row ≡ last_row s m Bikes) }
+{
+    first_row(conn, "SELECT * FROM bikes ORDER BY bike DESC LIMIT 1", &[])
+}
+
+/// How many bicycles there are, as the database answers it.
+fn count_bikes<S: Alter>(conn: &mut Connection<S>) -> Result<Option<Row>, StatementFault>
+    ensures { Answers S.Store conn.old conn.new result (λ s m row. row ≡ Some (count (row_count s m Bikes) ∷ [])) }
+{
+    first_row(conn, "SELECT count(*) FROM bikes", &[])
+}
+
+/// How many bicycles are on a truck, as the database answers it.
+fn count_on_truck<S: Alter>(
+    conn: &mut Connection<S>,
+    truck: TruckNumber,
+) -> Result<Option<Row>, StatementFault>
+    ensures { Answers S.Store conn.old conn.new result (λ s m row.
+        row ≡ Some (count (length (rows_by s m Bikes (6 ∷ []) (number_value truck ∷ []))) ∷ [])) }
+{
+    first_row(
+        conn,
+        "SELECT count(*) FROM bikes WHERE truck = ?1",
+        params![truck.get()],
+    )
+}
+
+/// The stored row as a bicycle.
+fn bike_at(alloc: Global, row: &Row) -> Result<Bike, StatementFault>
+    ensures { IfOk result (λ bike. HoldsBike row.now bike) }
+{
+    let state = state_at(row, 2)?;
+    let place = place_at(alloc, row)?;
+    let type_id = ident_at(alloc, row, 1)?;
+    Ok(Bike {
+        type_id,
+        state,
+        place,
+    })
+}
+
+/// The stored row as a bicycle, where there is one.
+fn bike_of(alloc: Global, row: &Option<Row>) -> Result<Option<Bike>, StatementFault>
+    ensures { IfOk result (λ bike. HoldsAny HoldsBike row.now bike) }
+{
+    match row {
+        Some(row) => {
+            let bike = bike_at(alloc, row)?;
+            Ok(Some(bike))
+        }
+        None => Ok(None),
+    }
+}
+
+/// The stored row as a bicycle with its number, where there is one.
+fn numbered_bike_of(
+    alloc: Global,
+    row: &Option<Row>,
+) -> Result<Option<NumberedBike>, StatementFault>
+    ensures { IfOk result (λ bike. HoldsAny HoldsNumbered row.now bike) }
+{
+    match row {
+        Some(row) => {
+            let number = number_at(row, 0)?;
+            let bike = bike_at(alloc, row)?;
+            Ok(Some(NumberedBike { number, bike }))
+        }
+        None => Ok(None),
+    }
+}
+
+/// The bicycle with this number.
+pub fn find_bike<S: Alter>(
+    alloc: Global,
+    conn: &mut Connection<S>,
+    bike: BicycleNumber,
+) -> Result<Option<Bike>, StatementFault>
+    ensures { Answers S.Store conn.old conn.new result (λ s m x. x ≡ get s.bikes bike) }
+{
+    let row = select_bike(conn, bike)?;
+    bike_of(alloc, &row)
+}
+
+/// The bicycle in a dock, with its number.
+pub fn find_docked<S: Alter>(
+    alloc: Global,
+    conn: &mut Connection<S>,
+    station: &Ident,
+    dock: u32,
+) -> Result<Option<NumberedBike>, StatementFault>
+    ensures { Answers S.Store conn.old conn.new result
+        (λ s m x. option_map numbered_pair x ≡ docked_at s station.now dock) }
+{
+    let row = select_docked(conn, station, dock)?;
+    numbered_bike_of(alloc, &row)
+}
+
+/// The last bicycle's number, 0 where there is none. There are at most so many, since their numbers begin at 1.
+fn last_bike<S: Alter>(conn: &mut Connection<S>) -> Result<u32, StatementFault>
+    ensures { Answers S.Store conn.old conn.new result (λ s m x. len s.bikes ≤ x) }
+{
+    let row = select_last_bike(conn)?;
+    last_of(&row)
+}
+
+/// Whether there are as many bicycles as there may be, by a count over all of them.
+fn is_count_full<S: Alter>(conn: &mut Connection<S>) -> Result<bool, StatementFault>
+    ensures { Answers S.Store conn.old conn.new result (λ s m x. x ≡ is_at_limit MOST_BIKES s.bikes) }
+{
+    let answer = count_bikes(conn)?;
+    is_full(&answer, MOST_BIKES)
+}
+
+/// Whether there are as many bicycles as there may be.
+pub fn are_bikes_full<S: Alter>(conn: &mut Connection<S>) -> Result<bool, StatementFault>
+    ensures { Answers S.Store conn.old conn.new result (λ s m x. x ≡ is_at_limit MOST_BIKES s.bikes) }
+{
+    // A count goes over all bicycles, so it is asked only where the last number doesn't tell.
+    let last = last_bike(conn)?;
+    if last < MOST_BIKES {
+        return Ok(false);
+    }
+    is_count_full(conn)
+}
+
+/// How many bicycles are on a truck.
+pub fn truck_load<S: Alter>(
+    conn: &mut Connection<S>,
+    truck: TruckNumber,
+) -> Result<u32, StatementFault>
+    ensures { Answers S.Store conn.old conn.new result (λ s m x. x ≡ truck_load s truck) }
+{
+    let answer = count_on_truck(conn, truck)?;
+    count_of(&answer)
+}

@@ -1,0 +1,174 @@
+//! The statements on `orders`, and the count of an order's bicycles.
+
+ghost use Rattle.std.specs.Prelude.{◌≡◌, [], ◌∷◌, true, IfOk, Some, codes, length};
+ghost use Rattle.sqlite.specs.declared.types.Value.TheVariants.{Text};
+ghost use Rattle.sqlite.specs.Order.{column};
+ghost use Rattle.sqlite_sql.specs.Aggregate.{count};
+ghost use Rattle.bike_operator.specs.Operator.{item_numbered};
+ghost use Rattle.bike_operator.specs.Counts.{order_load};
+ghost use Rattle.bike_book.specs.Tables.{Bikes, Orders};
+ghost use Rattle.bike_book.specs.Rows.{number_value, end_text};
+ghost use Rattle.bike_book.specs.Found.{row_under, rows_by, last_row};
+ghost use Rattle.bike_schema.specs.Answers.{Answers};
+ghost use Rattle.bike_fleet_reads.specs.Holds.{HoldsAny, HoldsEnd, HoldsOrder, HoldsOrderNumbers};
+
+use crate::columns::{count_of, last_of, whole_at};
+use bike_fields::{OrderNumber, OrderQuantity, TruckNumber};
+use bike_fixed::Within;
+use bike_operator::Order;
+use bike_rows::lookup::first_row;
+use bike_schema::{StatementFault, flag_at, ident_at, number_at};
+use bike_texts::OrderEnd;
+use sqlite::types::ValueRef;
+use sqlite::{Alter, Connection, Row, params};
+use std::alloc::Global;
+
+/// The columns of an order that are numbers or a flag.
+#[derive(Clone, Copy)]
+struct OrderNumbers {
+    truck: TruckNumber,
+    count: OrderQuantity,
+    delivered: u32,
+    is_open: bool,
+}
+
+/// The order's row.
+fn select_order<S: Alter>(
+    conn: &mut Connection<S>,
+    order: OrderNumber,
+) -> Result<Option<Row>, StatementFault>
+    ensures { Answers S.Store conn.old conn.new result
+        (λ s m row. row ≡ row_under s m Orders (number_value order ∷ [])) }
+{
+    first_row(
+        conn,
+        "SELECT * FROM orders WHERE ord = ?1",
+        params![order.get()],
+    )
+}
+
+/// The row of the last order.
+fn select_last_order<S: Alter>(conn: &mut Connection<S>) -> Result<Option<Row>, StatementFault>
+    ensures { Answers S.Store conn.old conn.new result (λ s m row. row ≡ last_row s m Orders) }
+{
+    first_row(conn, "SELECT * FROM orders ORDER BY ord DESC LIMIT 1", &[])
+}
+
+/// How many bicycles are on a truck for an order, as the database answers it.
+fn count_on_truck_for<S: Alter>(
+    conn: &mut Connection<S>,
+    truck: TruckNumber,
+    order: OrderNumber,
+) -> Result<Option<Row>, StatementFault>
+    ensures { Answers S.Store conn.old conn.new result (λ s m row. row ≡ Some (count (length
+        (rows_by s m Bikes (6 ∷ 7 ∷ []) (number_value truck ∷ number_value order ∷ []))) ∷ [])) }
+{
+    first_row(
+        conn,
+        "SELECT count(*) FROM bikes WHERE truck = ?1 AND ord = ?2",
+        params![truck.get(), order.get()],
+    )
+}
+
+/// Whether the column is `*`, which stands for the depot.
+fn is_depot_at(row: &Row, at: usize) -> bool
+    ensures { result ≡ true → column row.now at ≡ Text (codes "*") }
+{
+    match row.get_ref(at) {
+        Ok(ValueRef::Text(text)) => text == "*".as_bytes(),
+        _ => false,
+    }
+}
+
+/// The column as an end of an order.
+fn end_at(alloc: Global, row: &Row, at: usize) -> Result<OrderEnd, StatementFault>
+    ensures { IfOk result (λ end. HoldsEnd (column row.now at) end) }
+{
+    if is_depot_at(row, at) {
+        return Ok(OrderEnd::Depot);
+    }
+    let station = ident_at(alloc, row, at)?;
+    Ok(OrderEnd::Station(station))
+}
+
+/// The columns of the stored row that are numbers or a flag.
+fn numbers_at(row: &Row) -> Result<OrderNumbers, StatementFault>
+    ensures { IfOk result (λ numbers. HoldsOrderNumbers row.now numbers) }
+{
+    let truck = number_at(row, 1)?;
+    let count = number_at(row, 5)?;
+    let delivered = whole_at(row, 6)?;
+    let is_open = flag_at(row, 7)?;
+    Ok(OrderNumbers {
+        truck,
+        count,
+        delivered,
+        is_open,
+    })
+}
+
+/// The stored row as an order.
+fn order_at(alloc: Global, row: &Row) -> Result<Order, StatementFault>
+    ensures { IfOk result (λ order. HoldsOrder row.now order) }
+{
+    let numbers = numbers_at(row)?;
+    let from_end = end_at(alloc, row, 2)?;
+    let to_end = end_at(alloc, row, 3)?;
+    let type_id = ident_at(alloc, row, 4)?;
+    Ok(Order {
+        truck: numbers.truck,
+        from_end,
+        to_end,
+        type_id,
+        count: numbers.count,
+        delivered: numbers.delivered,
+        is_open: numbers.is_open,
+    })
+}
+
+/// The stored row as an order, where there is one.
+fn order_of(alloc: Global, row: &Option<Row>) -> Result<Option<Order>, StatementFault>
+    ensures { IfOk result (λ order. HoldsAny HoldsOrder row.now order) }
+{
+    match row {
+        Some(row) => {
+            let order = order_at(alloc, row)?;
+            Ok(Some(order))
+        }
+        None => Ok(None),
+    }
+}
+
+/// The order with this number.
+pub fn find_order<S: Alter>(
+    alloc: Global,
+    conn: &mut Connection<S>,
+    order: OrderNumber,
+) -> Result<Option<Order>, StatementFault>
+    ensures { Answers S.Store conn.old conn.new result (λ s m x. x ≡ item_numbered order s.orders) }
+{
+    let row = select_order(conn, order)?;
+    order_of(alloc, &row)
+}
+
+/// How many orders there are, by the last one's number.
+pub fn order_count<S: Alter>(conn: &mut Connection<S>) -> Result<u32, StatementFault>
+    ensures { Answers S.Store conn.old conn.new result (λ s m x. x ≡ length s.orders) }
+{
+    let row = select_last_order(conn)?;
+    last_of(&row)
+}
+
+/// How many bicycles are on a truck for an order that is there, of which it is the truck. All bicycles of an order are on its
+/// truck, by which they are counted: there is an index by truck and none by order.
+pub fn order_load<S: Alter>(
+    conn: &mut Connection<S>,
+    order: OrderNumber,
+    truck: TruckNumber,
+) -> Result<u32, StatementFault>
+    ensures { Answers S.Store conn.old conn.new result (λ s m x. (row : Order) → item_numbered order s.orders ≡ Some row
+        → row.truck ≡ truck → x ≡ order_load s order) }
+{
+    let answer = count_on_truck_for(conn, truck, order)?;
+    count_of(&answer)
+}

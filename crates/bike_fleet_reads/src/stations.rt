@@ -1,0 +1,127 @@
+//! The statements on `stations_3`.
+
+ghost use Rattle.std.specs.Prelude.{◌≡◌, [], ◌∷◌, IfOk, Some};
+ghost use Rattle.std.specs.FinMap.{contains_key};
+ghost use Rattle.sqlite.specs.declared.types.Value.TheVariants.{Text};
+ghost use Rattle.sqlite_sql.specs.Aggregate.{count};
+ghost use Rattle.bike_operator.specs.declared.limits.TheConstants.{MOST_STATIONS};
+ghost use Rattle.bike_operator.specs.View.{is_at_limit, station_at};
+ghost use Rattle.bike_book.specs.Tables.{Stations};
+ghost use Rattle.bike_book.specs.Found.{row_count, row_under};
+ghost use Rattle.bike_schema.specs.Answers.{Answers};
+ghost use Rattle.bike_fleet_reads.specs.Fleet.{dock_numbers_at};
+ghost use Rattle.bike_fleet_reads.specs.Holds.{HoldsAny, HoldsStation, HoldsDockNumbers};
+
+use crate::columns::{is_full, whole_at};
+use bike_fields::Ident;
+use bike_operator::{MOST_STATIONS, StationView};
+use bike_rows::lookup::first_row;
+use bike_schema::{StatementFault, flag_at, number_at};
+use sqlite::{Alter, Connection, Row, params};
+
+/// The numbers of a station's docks.
+#[derive(Clone, Copy, Debug, PartialEq, Eq)]
+pub struct DockNumbers {
+    /// How many are available: empty and not broken.
+    pub free: u32,
+    /// How many are broken.
+    pub broken: u32,
+}
+
+/// The station's row.
+fn select_station<S: Alter>(
+    conn: &mut Connection<S>,
+    station: &Ident,
+) -> Result<Option<Row>, StatementFault>
+    ensures { Answers S.Store conn.old conn.new result
+        (λ s m row. row ≡ row_under s m Stations (Text station.now ∷ [])) }
+{
+    first_row(
+        conn,
+        "SELECT * FROM stations_3 WHERE station_id = ?1",
+        params![station.as_str()],
+    )
+}
+
+/// The stored row as a station.
+fn station_of(row: &Option<Row>) -> Result<Option<StationView>, StatementFault>
+    ensures { IfOk result (λ station. HoldsAny HoldsStation row.now station) }
+{
+    match row {
+        Some(row) => {
+            let docks = number_at(row, 4)?;
+            let is_installed = flag_at(row, 5)?;
+            let is_renting = flag_at(row, 6)?;
+            let is_returning = flag_at(row, 7)?;
+            Ok(Some(StationView {
+                docks,
+                is_installed,
+                is_renting,
+                is_returning,
+            }))
+        }
+        None => Ok(None),
+    }
+}
+
+/// The numbers of docks in the stored row.
+fn dock_numbers_of(row: &Option<Row>) -> Result<Option<DockNumbers>, StatementFault>
+    ensures { IfOk result (λ numbers. HoldsAny HoldsDockNumbers row.now numbers) }
+{
+    match row {
+        Some(row) => {
+            let free = whole_at(row, 9)?;
+            let broken = whole_at(row, 10)?;
+            Ok(Some(DockNumbers { free, broken }))
+        }
+        None => Ok(None),
+    }
+}
+
+/// How many stations there are, as the database answers it.
+fn count_stations<S: Alter>(conn: &mut Connection<S>) -> Result<Option<Row>, StatementFault>
+    ensures { Answers S.Store conn.old conn.new result (λ s m row. row ≡ Some (count (row_count s m Stations) ∷ [])) }
+{
+    first_row(conn, "SELECT count(*) FROM stations_3", &[])
+}
+
+/// The station with this identifier.
+pub fn find_station<S: Alter>(
+    conn: &mut Connection<S>,
+    station: &Ident,
+) -> Result<Option<StationView>, StatementFault>
+    ensures { Answers S.Store conn.old conn.new result (λ s m x. x ≡ station_at s station.now) }
+{
+    let row = select_station(conn, station)?;
+    station_of(&row)
+}
+
+/// Whether there is a station with this identifier.
+pub fn has_station<S: Alter>(
+    conn: &mut Connection<S>,
+    station: &Ident,
+) -> Result<bool, StatementFault>
+    ensures { Answers S.Store conn.old conn.new result (λ s m x. x ≡ contains_key s.stations station.now) }
+{
+    let row = select_station(conn, station)?;
+    Ok(row.is_some())
+}
+
+/// How many docks of the station are available, and how many are broken; `None` where there is no such station.
+pub fn find_dock_numbers<S: Alter>(
+    conn: &mut Connection<S>,
+    station: &Ident,
+) -> Result<Option<DockNumbers>, StatementFault>
+    ensures { Answers S.Store conn.old conn.new result (λ s m x. x ≡ dock_numbers_at s station.now) }
+{
+    let row = select_station(conn, station)?;
+    dock_numbers_of(&row)
+}
+
+/// Whether there are as many stations as there may be, by a count over all of them.
+pub fn are_stations_full<S: Alter>(conn: &mut Connection<S>) -> Result<bool, StatementFault>
+    ensures { Answers S.Store conn.old conn.new result (λ s m x. x ≡ is_at_limit MOST_STATIONS s.stations) }
+{
+    let answer = count_stations(conn)?;
+    is_full(&answer, MOST_STATIONS)
+}

@@ -1,6 +1,0 @@
--- The law is the lemma.
-use Rattle.bike_names.proofs.ReadLaws.{select_is}
-use Rattle.bike_names.proofs.laws.select_law.Goals as goal
-
-pub returns : goal.returns
-returns c = select_is

@@ -1,6 +1,0 @@
--- The law is the lemma.
-use Rattle.bike_names.proofs.ReadLaws.{union_is}
-use Rattle.bike_names.proofs.laws.union_law.Goals as goal
-
-pub returns : goal.returns
-returns c = union_is

@@ -1,0 +1,7 @@
+use Rattle.bike_rows.proofs.ParamLemmas.{bindings}
+use Rattle.bike_schema.proofs.AnswerLemmas.{row_answers}
+use Rattle.bike_office_reads.proofs.TextLemmas.{finds_meta}
+use Rattle.bike_office_reads.proofs.meta.find_meta_row.Goals as goal
+
+pub returns : goal.returns
+returns g c = row_answers finds_meta c.first_row.ensures (search bindings)

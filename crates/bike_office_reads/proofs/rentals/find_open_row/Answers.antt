@@ -1,0 +1,7 @@
+use Rattle.bike_rows.proofs.ParamLemmas.{bindings}
+use Rattle.bike_schema.proofs.AnswerLemmas.{row_answers}
+use Rattle.bike_office_reads.proofs.TextLemmas.{finds_open}
+use Rattle.bike_office_reads.proofs.rentals.find_open_row.Goals as goal
+
+pub returns : goal.returns
+returns g c = row_answers (finds_open c.args.rider) c.first_row.ensures (search bindings)

@@ -1,0 +1,7 @@
+use Rattle.bike_rows.proofs.ParamLemmas.{bindings}
+use Rattle.bike_schema.proofs.AnswerLemmas.{row_answers}
+use Rattle.bike_office_reads.proofs.TextLemmas.{finds_rental}
+use Rattle.bike_office_reads.proofs.rentals.find_rental_row.Goals as goal
+
+pub returns : goal.returns
+returns g c = row_answers (finds_rental c.args.rental) c.first_row.ensures (search bindings)

@@ -1,0 +1,10 @@
+use Rattle.std.proofs.Common.{rules}
+use Rattle.bike_rows.proofs.ParamLemmas.{bindings}
+use Rattle.bike_office_reads.proofs.SegmentLemmas.{lists_segments, all_answer, all_refused}
+use Rattle.bike_office_reads.proofs.segments.find_segment_rows.Goals as goal
+
+pub returns : goal.returns
+returns g c = all_answer _ _ _ (lists_segments c.args.plan.now) (search bindings) c.in_ok-rows.ensures.mode c.in_ok-rows.ensures.survives (λ rows. rows.items) c.in_ok-rows.ensures.ok
+
+pub returns-in_err-rows : goal.returns-in_err-rows
+returns-in_err-rows g c = all_refused _ _ _ (lists_segments c.args.plan.now) (search bindings) c.in_err-rows.ensures.mode c.in_err-rows.ensures.survives _ (search rules) c.in_err-rows.ensures.err
