@@ -14,6 +14,7 @@ ghost use Rattle.bike_adoption.specs.Adoption.{handed, failed, found_as, Adopts,
 use crate::tables::make_tables;
 use bike_audit::{BadRow, Finding, Unwatched, Watch, audit};
 use bike_desk::Desk;
+use bike_rows::inside::is_at_rest;
 use bike_schema::{StatementFault, has_none};
 use sqlite::{Alter, Connection};
 use std::alloc::Global;
@@ -104,9 +105,7 @@ fn begin<S: Alter>(mut conn: Connection<S>) -> Result<Desk<S>, AdoptFault<S>>
         → IsTrue (state S.Store conn).is_open → IfErr result (λ e. HasCleanDisk (state S.Store (handed e))
         → AllLeft (state S.Store (handed e)) (TreesStandFor s)) }
 {
-    // These two tell the prover that nothing is pending and that the database obeys its schema.
-    let _ = conn.is_autocommit();
-    let _ = conn.schema();
+    is_at_rest(&conn);
     match make_tables(&mut conn) {
         Ok(()) => Ok(Desk::over(conn)),
         Err(fault) => Err(AdoptFault::failed(fault, conn)),
@@ -149,9 +148,7 @@ pub fn adopt_watched<S: Alter, P: Watch>(
     ensures adopts { Adopts S.Store conn result }
     ensures watched { WasTold (P.told watch.old) (P.told watch.new) (AreToldBy S.Store conn result) }
 {
-    // These two tell the prover that nothing is pending and that the database obeys its schema.
-    let _ = conn.is_autocommit();
-    let _ = conn.schema();
+    is_at_rest(&conn);
     if has_none(&conn) {
         return begin(conn);
     }

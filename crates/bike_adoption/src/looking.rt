@@ -5,6 +5,7 @@ ghost use Rattle.bike_adoption.specs.Adoption.{looked_as, Looks};
 
 use crate::adoption::AdoptFault;
 use bike_audit::{Finding, Watch, audit};
+use bike_rows::inside::is_at_rest;
 use bike_schema::has_none;
 use sqlite::{Alter, Connection};
 use std::alloc::Global;
@@ -44,9 +45,7 @@ pub fn look<S: Alter, P: Watch>(
     requires { conn.in_transaction ≡ false }
     ensures { Looks S.Store conn result }
 {
-    // These two tell the prover that nothing is pending and that the database obeys its schema.
-    let _ = conn.is_autocommit();
-    let _ = conn.schema();
+    is_at_rest(&conn);
     if has_none(&conn) {
         return Ok(Looked::Empty(conn));
     }

@@ -9,6 +9,7 @@ ghost use Rattle.bike_audit.specs.Watching.{WasTold, AreToldOf};
 use crate::tables::{BadRow, first_bad_row};
 use crate::watch::Watch;
 use bike_recognition::{Recognition, check_open, recognise};
+use bike_rows::inside::obeys_schema;
 use bike_schema::StatementFault;
 use sqlite::{Alter, Connection};
 use std::alloc::Global;
@@ -40,8 +41,7 @@ fn audit_tables<S: Alter, P: Watch>(
     ensures watched { WasTold (P.told watch.old) (P.told watch.new) (AreToldOf result) }
 {
     check_open(conn)?;
-    // This tells the prover that the database obeys its schema.
-    let _ = conn.schema();
+    obeys_schema(conn);
     match first_bad_row(alloc, conn, watch)? {
         Some(bad) => Ok(Finding::Unsound(bad)),
         None => Ok(Finding::Sound),

@@ -8,7 +8,6 @@
 #![tactic(auto)]
 
 mod booking;
-mod bounds;
 mod decide_bikes;
 mod decide_catalogue;
 mod decide_names;
@@ -23,5 +22,4 @@ pub use bike_accepted::{Accepted, Change, Decision, Moved};
 pub use bike_commands::{Command, Refusal, Reply, Request};
 pub use bike_operator::View;
 pub use bike_requests::{command_text, read_command, read_line};
-pub use bounds::is_bounded;
 pub use decision::decide;

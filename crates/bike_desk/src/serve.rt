@@ -21,9 +21,9 @@ use bike_accepted::Accepted;
 use bike_office_reads::{KeptRow, find_kept};
 use bike_booking::{Figures, KeptTexts, Sums, books_accepted, rows_of};
 use bike_commands::{Refusal, Reply, Request};
-use bike_core::{decide, is_bounded};
+use bike_core::decide;
 use bike_fixed::Moment;
-use bike_operator::View;
+use bike_operator::{View, is_bounded};
 use bike_schema::StatementFault;
 use bike_views::{Known, find_stored, find_view, know_figures};
 use sqlite::{Alter, Connection};
@@ -169,7 +169,6 @@ fn serve_anew<'a, S: Alter>(
     };
     let view = find_view(alloc, conn, &asked.request.command, &known)?;
     let now = moment.later(&figures.now);
-    let _ = moment.seconds();
     serve_read(conn, &figures, &view, now, asked)
 }
 

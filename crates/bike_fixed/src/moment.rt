@@ -75,9 +75,10 @@ impl Moment {
         self.seconds
     }
 
-    /// The later of two moments.
+    /// The later of two moments, and the bound of the first.
     pub fn later(&self, other: &Moment) -> Moment
-        ensures { result ≡ max self.now other.now }
+        ensures value { result ≡ max self.now other.now }
+        ensures bound { self.now ≤ last_moment }
     {
         if self.seconds < other.seconds {
             return *other;

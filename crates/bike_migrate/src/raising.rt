@@ -15,8 +15,8 @@ use crate::judge::judge;
 use crate::stations::read_stations;
 use bike_audit::{BadRow, Finding, Unwatched, Watch, audit};
 use bike_earlier::{Earlier, Found, find_version_of};
-use bike_rows::inside::{begin, commit, undo};
 use bike_recognition::check_open;
+use bike_rows::inside::{begin, commit, is_at_rest, undo};
 use bike_schema::StatementFault;
 use sqlite::{Alter, Connection, Row};
 use std::alloc::Global;
@@ -115,9 +115,7 @@ fn attempt_whole<S: Alter, P: Watch>(
     requires { conn.old.in_transaction ≡ false }
     ensures { RaisesInPlace S.Store earlier conn.old conn.new result }
 {
-    // These two tell the prover that nothing is pending and that the database obeys its schema.
-    let _ = conn.is_autocommit();
-    let _ = conn.schema();
+    is_at_rest(conn);
     let bad = attempt(alloc, conn, earlier, watch)?;
     end(conn, bad)
 }
@@ -223,9 +221,7 @@ pub fn raise_watched<S: Alter, P: Watch>(
     requires { conn.in_transaction ≡ false }
     ensures { IsRaise S.Store conn result }
 {
-    // These two tell the prover that nothing is pending and that the database obeys its schema.
-    let _ = conn.is_autocommit();
-    let _ = conn.schema();
+    is_at_rest(&conn);
     match raise_any(alloc, &mut conn, watch) {
         Ok(Outcome::Ready) => Ok(conn),
         Ok(Outcome::Foreign) => Err(RaiseFault::Foreign(conn)),

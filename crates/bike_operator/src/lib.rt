@@ -1,15 +1,17 @@
 //! The operator of a bike share, defined: what it keeps, when it is sound, its 25 commands with their tests, effects and
 //! replies, and the view by which a command is decided.
 //!
-//! The code here is data alone: the records and how many there may be, where a bicycle is put, and the view of an operator
-//! for a command. Decisions, and what they make, stand above.
+//! The code here is data: the records and how many there may be, where a bicycle is put, and the view of an operator
+//! for a command, with the test whether its numbers are those of a sound one. Decisions, and what they make, stand above.
 #![tactic(auto)]
 
+mod bounds;
 mod change;
 mod limits;
 mod records;
 mod view;
 
+pub use bounds::is_bounded;
 pub use change::NewPlace;
 pub use limits::{
     MOST_BIKES, MOST_ENTRIES, MOST_FURTHER_NAMES, MOST_ORDERS, MOST_PLANS, MOST_REGIONS,

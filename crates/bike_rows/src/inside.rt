@@ -4,15 +4,31 @@
 //! connection's, which goes on serving whoever takes a connection: a reader that judges what the transaction would commit, say. Whoever
 //! begins one ends it, by `commit` or `undo`.
 
-ghost use Rattle.std.specs.Prelude.{◌≡◌, ℕ, false, true, IsTrue, Ok, OnOk, OnErr};
+ghost use Rattle.std.specs.Prelude.{◌≡◌, false, true, IsTrue, OnOk, OnErr};
 ghost use Rattle.sqlite.specs.Held.{state};
-ghost use Rattle.sqlite.specs.Values.{bound};
-ghost use Rattle.sqlite.specs.State.{HasCleanDisk, Executes, Shows, Survives};
+ghost use Rattle.sqlite.specs.State.{HasCleanDisk, IsLive, Shows, Survives};
 ghost use Rattle.bike_rows.specs.Outcome.{IsLeft};
-ghost use Rattle.bike_rows.specs.Inside.{IsWriteIn, IsEnded};
+ghost use Rattle.bike_rows.specs.Inside.{IsEnded};
 
-use sqlite::types::ValueRef;
 use sqlite::{Alter, Connection, Error};
+
+/// That the database of a connection obeys its schema, which is so of every connection: for a proof, since it computes nothing.
+pub fn obeys_schema<S: Alter>(conn: &Connection<S>)
+    ensures { IsLive (state S.Store conn.now) }
+{
+    let _ = conn.schema();
+}
+
+/// That a connection outside a transaction has nothing that waits for a commit, and that its database obeys its schema: for a proof, since
+/// it computes nothing.
+pub fn is_at_rest<S: Alter>(conn: &Connection<S>)
+    requires { conn.now.in_transaction ≡ false }
+    ensures settled { IsTrue (state S.Store conn.now).is_open → (state S.Store conn.now).now ≡ (state S.Store conn.now).committed }
+    ensures live { IsLive (state S.Store conn.now) }
+{
+    let _ = conn.is_autocommit();
+    obeys_schema(conn);
+}
 
 /// Begins a transaction, on a connection that is in none. After an error it may be in none still.
 pub fn begin<S: Alter>(conn: &mut Connection<S>) -> Result<(), Error>

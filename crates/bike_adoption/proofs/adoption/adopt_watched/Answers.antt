@@ -19,7 +19,7 @@ returns-then-has_none-clause-adopts g c =
       clean = search rules;
       only = IfOk-weaker c.begin.result _ _ (λ d begun clean. (no_operator, inl (none, refl), (begun clean).at)) (c.begin.ensures.begun none);
       others = IfOk-weaker c.begin.result _ _ (λ d begun clean. (begun clean).others) (c.begin.ensures.begun none);
-      found = λ s stands. IfOk-weaker c.begin.result _ _ (λ d begun clean. nobody_at g.S.Store c.args.conn d s c.schema.ensures.live (begun clean).was_open none stands (begun clean).at) (c.begin.ensures.begun none);
+      found = λ s stands. IfOk-weaker c.begin.result _ _ (λ d begun clean. nobody_at g.S.Store c.args.conn d s c.is_at_rest.ensures.live (begun clean).was_open none stands (begun clean).at) (c.begin.ensures.begun none);
       refused = λ s stands. IfErr-weaker c.begin.result _ _ (λ e told clean. subst IsWant (sym told.1) (want_of told.0 (handed e))) c.begin.ensures.told;
       told = search rules;
       autocommit = search rules;
@@ -29,25 +29,25 @@ returns-then-has_none-clause-adopts g c =
 
 pub returns-in-Ok-clause-adopts : goal.returns-in-Ok-clause-adopts
 returns-in-Ok-clause-adopts g c =
-    let settled = c.is_autocommit.ensures.settled (c.is_autocommit.ensures.value ∙ ap not c.requires) in
+    let settled = c.is_at_rest.ensures.settled in
     record {
-      clean = rw c.found.ensures (found_clean g.S.Store g.met.S.Store.settled c.args.conn c.audit.new.conn c.requires settled c.schema.ensures.live c.in-Ok.finding c.in-Ok.ensures.audited);
-      only = rw c.found.ensures (found_only g.S.Store g.met.S.Store.settled c.args.conn c.audit.new.conn c.requires settled c.schema.ensures.live c.in-Ok.finding c.in-Ok.ensures.audited);
-      others = rw c.found.ensures (found_others g.S.Store g.met.S.Store.settled c.args.conn c.audit.new.conn c.requires settled c.schema.ensures.live c.in-Ok.finding c.in-Ok.ensures.audited);
-      found = λ s stands. rw c.found.ensures (found_at g.S.Store g.met.S.Store.settled c.args.conn c.audit.new.conn c.requires settled c.schema.ensures.live c.in-Ok.finding c.in-Ok.ensures.audited s stands);
+      clean = rw c.found.ensures (found_clean g.S.Store g.met.S.Store.settled c.args.conn c.audit.new.conn c.requires settled c.is_at_rest.ensures.live c.in-Ok.finding c.in-Ok.ensures.audited);
+      only = rw c.found.ensures (found_only g.S.Store g.met.S.Store.settled c.args.conn c.audit.new.conn c.requires settled c.is_at_rest.ensures.live c.in-Ok.finding c.in-Ok.ensures.audited);
+      others = rw c.found.ensures (found_others g.S.Store g.met.S.Store.settled c.args.conn c.audit.new.conn c.requires settled c.is_at_rest.ensures.live c.in-Ok.finding c.in-Ok.ensures.audited);
+      found = λ s stands. rw c.found.ensures (found_at g.S.Store g.met.S.Store.settled c.args.conn c.audit.new.conn c.requires settled c.is_at_rest.ensures.live c.in-Ok.finding c.in-Ok.ensures.audited s stands);
       refused = λ s stands. let some : ¬ HasNone (state g.S.Store c.args.conn).now.schema = search rules in
-          rw c.found.ensures (found_refused g.S.Store g.met.S.Store.settled c.args.conn c.audit.new.conn c.requires settled c.schema.ensures.live c.in-Ok.finding c.in-Ok.ensures.audited s stands some);
-      told = rw c.found.ensures (found_told g.S.Store g.met.S.Store.settled c.args.conn c.audit.new.conn c.requires settled c.schema.ensures.live c.in-Ok.finding c.in-Ok.ensures.audited);
+          rw c.found.ensures (found_refused g.S.Store g.met.S.Store.settled c.args.conn c.audit.new.conn c.requires settled c.is_at_rest.ensures.live c.in-Ok.finding c.in-Ok.ensures.audited s stands some);
+      told = rw c.found.ensures (found_told g.S.Store g.met.S.Store.settled c.args.conn c.audit.new.conn c.requires settled c.is_at_rest.ensures.live c.in-Ok.finding c.in-Ok.ensures.audited);
       autocommit = search rules;
-      left = λ s stands live. rw c.found.ensures (handed_back g.S.Store g.met.S.Store.settled c.args.conn c.audit.new.conn c.requires settled c.schema.ensures.live c.in-Ok.finding c.in-Ok.ensures.audited (λ h. HasCleanDisk (state g.S.Store h) → AllLeft (state g.S.Store h) (TreesStandFor s))
-          (still_stands g.S.Store g.met.S.Store.settled c.args.conn c.audit.new.conn c.requires settled c.schema.ensures.live c.in-Ok.ensures.audited.quiet s stands live));
-      stays = λ never. rw c.found.ensures (handed_back g.S.Store g.met.S.Store.settled c.args.conn c.audit.new.conn c.requires settled c.schema.ensures.live c.in-Ok.finding c.in-Ok.ensures.audited (λ h. HasCleanDisk (state g.S.Store h) → AllLeft (state g.S.Store h) (state g.S.Store c.args.conn).may_leave)
-          (stays_left g.S.Store g.met.S.Store.settled c.args.conn c.audit.new.conn c.requires settled c.schema.ensures.live c.in-Ok.ensures.audited.quiet));
+      left = λ s stands live. rw c.found.ensures (handed_back g.S.Store g.met.S.Store.settled c.args.conn c.audit.new.conn c.requires settled c.is_at_rest.ensures.live c.in-Ok.finding c.in-Ok.ensures.audited (λ h. HasCleanDisk (state g.S.Store h) → AllLeft (state g.S.Store h) (TreesStandFor s))
+          (still_stands g.S.Store g.met.S.Store.settled c.args.conn c.audit.new.conn c.requires settled c.is_at_rest.ensures.live c.in-Ok.ensures.audited.quiet s stands live));
+      stays = λ never. rw c.found.ensures (handed_back g.S.Store g.met.S.Store.settled c.args.conn c.audit.new.conn c.requires settled c.is_at_rest.ensures.live c.in-Ok.finding c.in-Ok.ensures.audited (λ h. HasCleanDisk (state g.S.Store h) → AllLeft (state g.S.Store h) (state g.S.Store c.args.conn).may_leave)
+          (stays_left g.S.Store g.met.S.Store.settled c.args.conn c.audit.new.conn c.requires settled c.is_at_rest.ensures.live c.in-Ok.ensures.audited.quiet));
     }
 
 pub returns-in-Err-clause-adopts : goal.returns-in-Err-clause-adopts
 returns-in-Err-clause-adopts g c =
-    let settled = c.is_autocommit.ensures.settled (c.is_autocommit.ensures.value ∙ ap not c.requires) in
+    let settled = c.is_at_rest.ensures.settled in
     record {
       clean = search rules;
       only = search rules;
@@ -57,7 +57,7 @@ returns-in-Err-clause-adopts g c =
       told = search rules;
       autocommit = search rules;
       left = λ s stands live. let back = handed_failed c.in-Err.fault c.audit.new.conn in
-          rw (c.failed.ensures, back) (still_stands g.S.Store g.met.S.Store.settled c.args.conn c.audit.new.conn c.requires settled c.schema.ensures.live c.in-Err.ensures.audited.quiet s stands live);
+          rw (c.failed.ensures, back) (still_stands g.S.Store g.met.S.Store.settled c.args.conn c.audit.new.conn c.requires settled c.is_at_rest.ensures.live c.in-Err.ensures.audited.quiet s stands live);
       stays = search rules;
     }
 

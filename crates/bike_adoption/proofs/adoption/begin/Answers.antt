@@ -14,6 +14,6 @@ returns-in-Err-clause-told g c = (c.in-Err.fault, c.failed.ensures ∙ sym (ap (
 
 pub returns-in-Err-clause-left : goal.returns-in-Err-clause-left
 returns-in-Err-clause-left g c none s stands live =
-    let settled = c.is_autocommit.ensures.settled (c.is_autocommit.ensures.value ∙ ap not c.requires) in
+    let settled = c.is_at_rest.ensures.settled in
     let back = handed_failed c.in-Err.fault c.make_tables.new.conn in
-    rw (c.failed.ensures, back) (λ clean. left_after g.S.Store g.met.S.Store.settled c.args.conn settled c.make_tables.new.conn c.schema.ensures.live none clean (c.make_tables.ensures.crash none) s stands live)
+    rw (c.failed.ensures, back) (λ clean. left_after g.S.Store g.met.S.Store.settled c.args.conn settled c.make_tables.new.conn c.is_at_rest.ensures.live none clean (c.make_tables.ensures.crash none) s stands live)

@@ -8,7 +8,7 @@ use Rattle.bike_adoption.proofs.looking.look.Goals as goal
 
 pub returns-then-has_none : goal.returns-then-has_none
 returns-then-has_none g c =
-    let settled = c.is_autocommit.ensures.settled (c.is_autocommit.ensures.value ∙ ap not c.requires) in
+    let settled = c.is_at_rest.ensures.settled in
     let none : HasNone (state g.S.Store c.args.conn).now.schema = search rules in
     record {
       clean = search rules;
@@ -22,13 +22,13 @@ returns-then-has_none g c =
 
 pub returns-in-Ok : goal.returns-in-Ok
 returns-in-Ok g c =
-    let settled = c.is_autocommit.ensures.settled (c.is_autocommit.ensures.value ∙ ap not c.requires) in
+    let settled = c.is_at_rest.ensures.settled in
     let some : ¬ HasNone (state g.S.Store c.args.conn).now.schema = search rules in
-    rw c.seen_as.ensures (looks g.S.Store g.met.S.Store.settled c.args.conn c.audit.new.conn c.requires settled c.schema.ensures.live some c.in-Ok.finding c.in-Ok.ensures.audited)
+    rw c.seen_as.ensures (looks g.S.Store g.met.S.Store.settled c.args.conn c.audit.new.conn c.requires settled c.is_at_rest.ensures.live some c.in-Ok.finding c.in-Ok.ensures.audited)
 
 pub returns-in-Err : goal.returns-in-Err
 returns-in-Err g c =
-    let settled = c.is_autocommit.ensures.settled (c.is_autocommit.ensures.value ∙ ap not c.requires) in
+    let settled = c.is_at_rest.ensures.settled in
     let back = handed_failed c.in-Err.fault c.audit.new.conn in
     let read = c.in-Err.ensures.audited in
     record {
@@ -37,6 +37,6 @@ returns-in-Err g c =
       refused = λ s stands. rw c.failed.ensures (λ clean. want_of c.in-Err.fault c.audit.new.conn);
       told = search rules;
       autocommit = search rules;
-      stays = rw (c.failed.ensures, back) (stays_left g.S.Store g.met.S.Store.settled c.args.conn c.audit.new.conn c.requires settled c.schema.ensures.live read.quiet);
-      left = λ s stands opened. rw (c.failed.ensures, back) (still_stands g.S.Store g.met.S.Store.settled c.args.conn c.audit.new.conn c.requires settled c.schema.ensures.live read.quiet s stands opened);
+      stays = rw (c.failed.ensures, back) (stays_left g.S.Store g.met.S.Store.settled c.args.conn c.audit.new.conn c.requires settled c.is_at_rest.ensures.live read.quiet);
+      left = λ s stands opened. rw (c.failed.ensures, back) (still_stands g.S.Store g.met.S.Store.settled c.args.conn c.audit.new.conn c.requires settled c.is_at_rest.ensures.live read.quiet s stands opened);
     }

@@ -5,9 +5,11 @@ ghost use Rattle.bike_ledger.specs.Ledger.{IsBalance};
 ghost use Rattle.bike_operator.specs.Bounds.{IsChargeable, IsRefundable, IsBounded};
 ghost use Rattle.bike_operator.specs.Counts.{is_open};
 
+use crate::limits::MOST_ENTRIES;
+use crate::records::Closing;
+use crate::view::{RentalView, View};
 use bike_fixed::Moment;
 use bike_ledger::GREATEST_BALANCE;
-use bike_operator::{Closing, MOST_ENTRIES, RentalView, View};
 
 /// Whether the balance takes one more entry.
 fn is_balance(balance: &i64) -> bool
