@@ -1,5 +1,5 @@
 -- What was read for a request whose key isn't kept.
-use Rattle.std.proofs.Common.{◌≡◌, ◌≤◌, ℕ, None, Ok, ap, ◌∙◌, arith}
+use Rattle.std.proofs.Common.{◌≡◌, ◌≤◌, ℕ, None, Ok, sym, ap, subst, ◌∙◌, arith}
 use Rattle.std.specs.Prelude.{max}
 use Rattle.std.specs.FinMap as map
 use Rattle.sqlite_trees.specs.declared.store.Store.{Ghosts}
@@ -7,9 +7,7 @@ use Rattle.sqlite.specs.State.{HasCleanDisk}
 use Rattle.sqlite.specs.Held.{Held, state}
 use Rattle.bike_fixed.specs.Whole.{last_moment}
 use Rattle.bike_commands.specs.declared.request.Request.{Request}
-use Rattle.bike_operator.specs.declared.view.View.{View}
 use Rattle.bike_operator.specs.Operator.{Operator}
-use Rattle.bike_operator.specs.View.{view_of}
 use Rattle.bike_operator.specs.Runs.{key_in}
 use Rattle.bike_book.specs.Stored.{Listed}
 use Rattle.bike_booking.specs.declared.figures.Figures.{Figures}
@@ -18,32 +16,37 @@ use Rattle.bike_schema.specs.declared.fault.StatementFault.{StatementFault}
 use Rattle.bike_schema.specs.Answers.{Answers}
 use Rattle.bike_schema.specs.Stands.{Keeps}
 use Rattle.bike_views.specs.declared.figures.Known.{Known}
+use Rattle.bike_views.specs.declared.sight.Sight.{Sight}
 use Rattle.bike_views.specs.Known.{IsKnown}
 use Rattle.bike_views.specs.Open.{AnswersOpen}
+use Rattle.bike_views.specs.Sight.{IsSight}
 use Rattle.bike_desk.specs.declared.remembered.Remembered.{Remembered}
 use Rattle.bike_desk.specs.Desk.{AreFigures, IsRemembered}
-use Rattle.bike_desk.specs.Serving.{IsReadFor}
+use Rattle.bike_desk.specs.Serving.{IsReadFor, IsSightOf}
 use Rattle.bike_desk.proofs.KeepLemmas.{kept_ours, kept_stores, still}
 
-module _ {S : Type 0} (g : Ghosts S) (old mid new : Held S) (s : Operator) (moment now : ℕ) (q : Request) (r : Remembered) (figures : Figures) (view : View) where
+module _ {S : Type 0} (g : Ghosts S) (old mid new : Held S) (s : Operator) (moment now : ℕ) (q : Request) (r : Remembered) (figures : Figures) (x : Sight) where
   abbrev known : Known
   known = record { figures = figures; newest_tells = r.newest_tells }
 
   -- after both reads the connection keeps the operator, whose figures and view they are
-  pub both_read : Keeps (state g old) s → HasCleanDisk (state g new) → AnswersOpen g old mid {E = StatementFault} (Ok figures) (λ s m x. AreFigures r.figures s → x ≡ figures_of s) → Answers g mid new {E = StatementFault} (Ok view) (λ s m x. IsKnown s known → x ≡ view_of s q.command)
-      → IsRemembered s r → moment ≤ last_moment → now ≡ max moment figures.now → map.get s.kept (key_in q) ≡ None → Keeps (state g new) s × IsReadFor s moment now q figures view
+  pub both_read : Keeps (state g old) s → HasCleanDisk (state g new) → AnswersOpen g old mid {E = StatementFault} (Ok figures) (λ s m x. AreFigures r.figures s → x ≡ figures_of s) → Answers g mid new {E = StatementFault} (Ok x) (λ s m x. IsKnown s known → IsSight s m q.command x)
+      → IsRemembered s r → moment ≤ last_moment → now ≡ max moment figures.now → map.get s.kept (key_in q) ≡ None → Keeps (state g new) s × IsReadFor (state g new).now s moment now q figures x
   both_read keeps clean one two remembers in_time later anew =
       let first = one.answers keeps.is_open in
       let early : HasCleanDisk (state g mid) = omega (arith, clean, two.quiet.survives.clean) in
       let are = first.found early (kept_ours (state g old) s keeps) s (kept_stores (state g old) s keeps) remembers.figures in
-      let at = still g old mid s keeps early (first.same early (kept_ours (state g old) s keeps)) one.quiet in (
-        still g mid new s at clean (two.same clean (kept_ours (state g mid) s at)) two.quiet,
+      let at = still g old mid s keeps early (first.same early (kept_ours (state g old) s keeps)) one.quiet in
+      let same = two.same clean (kept_ours (state g mid) s at) in
+      let sight : IsSightOf (state g mid).now s q.command x = λ h. two.found clean (kept_ours (state g mid) s at) s h (record { figures = are; newest = remembers.newest }) in (
+        still g mid new s at clean same two.quiet,
         record {
           in_time = in_time;
           later = later ∙ ap (λ (f : Figures). max moment f.now) are;
           anew = anew;
           figures_are = are;
-          view_is = two.found clean (kept_ours (state g mid) s at) s (kept_stores (state g mid) s at) (record { figures = are; newest = remembers.newest });
+          view_is = (sight (kept_stores (state g mid) s at)).view_is;
+          sight = subst (λ db. IsSightOf db s q.command x) (sym same.0.now_is) sight;
         },
       )
 

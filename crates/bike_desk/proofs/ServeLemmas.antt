@@ -12,7 +12,8 @@ use Rattle.bike_commands.specs.declared.refusal.Refusal.{Refusal}
 use Rattle.bike_commands.specs.declared.refusal.Refusal.TheVariants as refusal
 use Rattle.bike_commands.specs.Commands.{text_of}
 use Rattle.bike_commands.specs.Requests.{IsRequest}
-use Rattle.bike_operator.specs.declared.view.View.{View}
+use Rattle.sqlite.specs.Effect.{Database}
+use Rattle.bike_views.specs.declared.sight.Sight.{Sight}
 use Rattle.bike_operator.specs.Operator.{Operator, Kept}
 use Rattle.bike_operator.specs.Sound.{IsSound}
 use Rattle.bike_operator.specs.Steps.{refusal_of, reply_of}
@@ -83,9 +84,9 @@ accepts_stored s m now q a sums texts n sound listing it moved is = record {
 }
 
 -- the operator accepts a request by the decision on what was read for it
-pub accepts_read : (s : Operator) (t now : ℕ) (q : Request) (figures : Figures) (view : View) (a : Accepted) (later : Figures) (texts : KeptTexts) → IsSound s → IsReadFor s t now q figures view → IsRequest q
+pub accepts_read : (db : Database) (s : Operator) (t now : ℕ) (q : Request) (figures : Figures) (x : Sight) (a : Accepted) (later : Figures) (texts : KeptTexts) → IsSound s → IsReadFor db s t now q figures x → IsRequest q
     → Decides s now q.command (Ok a) → AreFound now s a → later ≡ figures_after figures now a → AreTexts s now q texts → Accepts s now q a later.sums texts
-accepts_read s t now q figures view a later texts sound it good decides found after told = record {
+accepts_read db s t now q figures x a later texts sound it good decides found after told = record {
   decides = decides;
   found = found;
   sums_are = ap (λ (f : Figures). f.sums) after ∙ ap (λ (f : Figures). sums_after f.sums a.entry) it.figures_are;

@@ -1,13 +1,14 @@
 -- What serving one request rests on.
 use Rattle.std.specs.Prelude.{◌≡◌, ◌≤◌, ℕ, max, List, None, Ok}
 use Rattle.std.specs.FinMap as map
+use Rattle.sqlite.specs.Effect.{Database}
 use Rattle.sqlite.specs.State.{State}
 use Rattle.bike_fixed.specs.Whole.{last_moment}
 use Rattle.bike_fields.specs.Caller.{caller_text}
+use Rattle.bike_commands.specs.declared.command.Command.{Command}
 use Rattle.bike_commands.specs.declared.reply.Reply.{Reply}
 use Rattle.bike_commands.specs.declared.request.Request.{Request}
 use Rattle.bike_commands.specs.Commands.{text_of}
-use Rattle.bike_operator.specs.declared.view.View.{View}
 use Rattle.bike_operator.specs.Operator.{Operator}
 use Rattle.bike_operator.specs.View.{view_of}
 use Rattle.bike_operator.specs.Runs.{key_in, after_acceptance}
@@ -25,6 +26,8 @@ use Rattle.bike_booking.specs.declared.stored.Sums.{Sums}
 use Rattle.bike_booking.specs.Booking.{AreTexts}
 use Rattle.bike_booking.specs.Figures.{figures_of}
 use Rattle.bike_booking.specs.Sums.{sums_of, sums_after}
+use Rattle.bike_views.specs.Sight.{IsSight}
+use Rattle.bike_views.specs.declared.sight.Sight.{Sight}
 use Rattle.bike_desk.specs.declared.serve.Asked.{Asked}
 use Rattle.bike_desk.specs.declared.serve.Served.{Served}
 use Rattle.bike_desk.specs.Desk.{AreFigures}
@@ -42,13 +45,18 @@ pub record IsNextBy (c : State) (changes : List RowChange) (s next : Operator) :
   pub leads : LeadsTo changes s stores.listed next listed
   pub sound : IsSound next
 
+-- what was read for the command of the operator whose tables the database has
+abbrev pub IsSightOf : Database → Operator → Command → Sight → Type 0
+IsSightOf db s c x = (h : Stores db s) → IsSight s h.listed c x
+
 -- What was read for a request that comes at a moment: its key isn't kept, the figures and the view are the operator's, and `now` is the later of both moments.
-pub record IsReadFor (s : Operator) (moment now : ℕ) (q : Request) (figures : Figures) (view : View) : Type 0 where
+pub record IsReadFor (db : Database) (s : Operator) (moment now : ℕ) (q : Request) (figures : Figures) (x : Sight) : Type 0 where
   pub in_time : moment ≤ last_moment
   pub later : now ≡ max moment s.now
   pub anew : map.get s.kept (key_in q) ≡ None
   pub figures_are : figures ≡ figures_of s
-  pub view_is : view ≡ view_of s q.command
+  pub view_is : x.view ≡ view_of s q.command
+  pub sight : IsSightOf db s q.command x
 
 -- The operator accepts the request so, and then is sound; the records before are his, the sums those with its entry, and the texts those of both.
 pub record Accepts (s : Operator) (now : ℕ) (q : Request) (a : Accepted) (sums : Sums) (texts : KeptTexts) : Type 0 where

@@ -9,8 +9,8 @@ ghost use Rattle.bike_schema.specs.Stands.{AllLeft, Keeps, TreesStandFor};
 ghost use Rattle.bike_office_reads.specs.Newest.{NewestTells};
 ghost use Rattle.bike_desk.specs.Newest.{knows_newest};
 
-use bike_office_reads::newest_tells;
 use bike_commands::Command;
+use bike_office_reads::newest_tells;
 use bike_schema::StatementFault;
 use sqlite::{Alter, Connection};
 

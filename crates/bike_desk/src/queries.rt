@@ -11,11 +11,11 @@ ghost use Rattle.bike_desk.specs.Queries.{Queries, TellsOf};
 use crate::desk::Desk;
 use crate::fault::DeskFault;
 use crate::newest::Newest;
-use bike_office_reads::{find_names, newest_tells};
 use bike_catalogue::{MoreName, NameKind, System};
 use bike_fields::{BicycleNumber, Ident, OrderNumber, RentalNumber, RiderNumber};
 use bike_fixed::Cents;
 use bike_fleet_reads::{find_bike, find_order};
+use bike_office_reads::{find_names, newest_tells};
 use bike_operator::{Bike, MOST_TYPES, Order, Place};
 use bike_queries::{
     Counts, RentalInfo, RiderInfo, find_balance, find_place, find_rental_info, find_rider_info,

@@ -13,19 +13,19 @@ ghost use Rattle.bike_operator.specs.Runs.{step, after_acceptance, key_in};
 ghost use Rattle.bike_schema.specs.Makes.{OthersStay};
 ghost use Rattle.bike_schema.specs.Stands.{AllLeft, Keeps};
 ghost use Rattle.bike_desk.specs.Desk.{IsRemembered, TreesStandForEither};
-ghost use Rattle.bike_desk.specs.Serving.{Accepts, IsAsked, IsReadFor, Serves};
+ghost use Rattle.bike_desk.specs.Serving.{Accepts, IsAsked, IsReadFor, IsSightOf, Serves};
 
 use crate::remembered::Remembered;
 use crate::transaction::make_all;
 use bike_accepted::Accepted;
-use bike_office_reads::{KeptRow, find_kept};
 use bike_booking::{Figures, KeptTexts, Sums, books_accepted, rows_of};
-use bike_commands::{Refusal, Reply, Request};
+use bike_commands::{Command, Refusal, Reply, Request};
 use bike_core::decide;
 use bike_fixed::Moment;
-use bike_operator::{View, is_bounded};
+use bike_office_reads::{KeptRow, find_kept};
+use bike_operator::is_bounded;
 use bike_schema::StatementFault;
-use bike_views::{Known, find_stored, find_view, know_figures};
+use bike_views::{Known, Sight, find_stored, find_view, know_figures};
 use sqlite::{Alter, Connection};
 use std::alloc::Global;
 
@@ -59,6 +59,8 @@ fn kept_answer(kept: &KeptRow, text: &str) -> Reply
 /// its entry.
 fn store_accepted<'a, S: Alter>(
     conn: &mut Connection<S>,
+    command: &Command,
+    sight: &Sight,
     accepted: &'a Accepted<'a>,
     sums: Sums,
     now: Moment,
@@ -68,26 +70,27 @@ fn store_accepted<'a, S: Alter>(
     ensures ended { conn.new.in_transaction ≡ false }
     ensures clean { doubt (state S.Store conn.old).is_clean ≤ doubt (state S.Store conn.new).is_clean }
     ensures made { HasCleanDisk (state S.Store conn.new) → (s : Operator) (q : Request) → Keeps (state S.Store conn.old) s
-        → Accepts s now q accepted.now sums texts.now
+        → IsSightOf (state S.Store conn.old).now s command.now sight.now → Accepts s now q accepted.now sums texts.now
         → OnOk result (Keeps (state S.Store conn.new) (after_acceptance s now q)) }
     ensures others { HasCleanDisk (state S.Store conn.new) → (s : Operator) (q : Request) → Keeps (state S.Store conn.old) s
-        → Accepts s now q accepted.now sums texts.now
+        → IsSightOf (state S.Store conn.old).now s command.now sight.now → Accepts s now q accepted.now sums texts.now
         → OnOk result (OthersStay (state S.Store conn.old).now (state S.Store conn.new).now) }
     ensures left { HasCleanDisk (state S.Store conn.new) → (s : Operator) (q : Request) → Keeps (state S.Store conn.old) s
-        → Accepts s now q accepted.now sums texts.now
+        → IsSightOf (state S.Store conn.old).now s command.now sight.now → Accepts s now q accepted.now sums texts.now
         → AllLeft (state S.Store conn.new) (TreesStandForEither s (after_acceptance s now q)) }
 {
-    let stored = find_stored(conn, &accepted.moved, sums)?;
+    let stored = find_stored(conn, command, sight, &accepted.moved, sums)?;
     books_accepted();
     let rows = rows_of(accepted, &stored, now, texts);
     make_all(conn, rows.as_slice())
 }
 
-/// Serves a request whose key isn't kept by a decision on what was read for it: the operator's figures and the view.
+/// Serves a request whose key isn't kept by a decision on what was read for it: the operator's figures, and the view with what
+/// was read beside it.
 fn serve_read<'a, S: Alter>(
     conn: &mut Connection<S>,
     figures: &Figures,
-    view: &'a View,
+    sight: &'a Sight,
     now: Moment,
     asked: Asked<'a>,
 ) -> Result<Served, StatementFault>
@@ -96,16 +99,17 @@ fn serve_read<'a, S: Alter>(
     ensures ended { conn.new.in_transaction ≡ false }
     ensures clean { doubt (state S.Store conn.old).is_clean ≤ doubt (state S.Store conn.new).is_clean }
     ensures ok { HasCleanDisk (state S.Store conn.new) → (s : Operator) (t : ℕ) → Keeps (state S.Store conn.old) s
-        → IsReadFor s t now asked.entry.request.now figures.entry.now view.now
+        → IsReadFor (state S.Store conn.old).now s t now asked.entry.request.now figures.entry.now sight.now
         → IfOk result (Serves (state S.Store conn.new) (step s t asked.entry.request.now)) }
     ensures others { HasCleanDisk (state S.Store conn.new) → (s : Operator) (t : ℕ) → Keeps (state S.Store conn.old) s
-        → IsReadFor s t now asked.entry.request.now figures.entry.now view.now
+        → IsReadFor (state S.Store conn.old).now s t now asked.entry.request.now figures.entry.now sight.now
         → OnOk result (OthersStay (state S.Store conn.old).now (state S.Store conn.new).now) }
     ensures failed { HasCleanDisk (state S.Store conn.new) → (s : Operator) (t : ℕ) → Keeps (state S.Store conn.old) s
-        → IsReadFor s t now asked.entry.request.now figures.entry.now view.now
+        → IsReadFor (state S.Store conn.old).now s t now asked.entry.request.now figures.entry.now sight.now
         → OnErr result (AllLeft (state S.Store conn.new) (TreesStandForEither s (step s t asked.entry.request.now).1)) }
 {
     let request = asked.request;
+    let view = &sight.view;
     request.bounds();
     // Every view of a sound operator is bounded: else what is stored is nobody's.
     if !is_bounded(view, now) {
@@ -131,7 +135,15 @@ fn serve_read<'a, S: Alter>(
                 command: asked.text,
                 reply: spelled.as_str(),
             };
-            store_accepted(conn, &accepted, after.sums, now, &texts)?;
+            store_accepted(
+                conn,
+                &request.command,
+                sight,
+                &accepted,
+                after.sums,
+                now,
+                &texts,
+            )?;
             Ok(Served {
                 reply,
                 figures: Some(after),
@@ -167,9 +179,9 @@ fn serve_anew<'a, S: Alter>(
         figures,
         newest_tells: remembered.newest_tells,
     };
-    let view = find_view(alloc, conn, &asked.request.command, &known)?;
+    let sight = find_view(alloc, conn, &asked.request.command, &known)?;
     let now = moment.later(&figures.now);
-    serve_read(conn, &figures, &view, now, asked)
+    serve_read(conn, &figures, &sight, now, asked)
 }
 
 /// Serves one request, of whose command `text` is the text, by what is remembered of the operator.

@@ -4,9 +4,11 @@ use Rattle.std.specs.FinMap as map
 use Rattle.bike_operator.specs.declared.records.Bike.{Bike}
 use Rattle.bike_operator.specs.Operator.{Operator, Station, key_of, dock_key}
 use Rattle.bike_operator.specs.Counts.{available_of, docks_available, docks_broken, is_broken}
+use Rattle.bike_operator.specs.View.{station_at}
 use Rattle.bike_places.specs.Numbers.{disabled_of}
 use Rattle.bike_book.specs.Stored.{Listed}
 use Rattle.bike_fleet_reads.specs.declared.stations.DockNumbers.{DockNumbers}
+use Rattle.bike_fleet_reads.specs.declared.stations.StationRow.{StationRow}
 use Rattle.bike_fleet_reads.specs.declared.counts.TypeCounts.{TypeCounts}
 use Rattle.bike_fleet_reads.specs.declared.bikes.NumberedBike.{NumberedBike}
 
@@ -17,6 +19,10 @@ dock_numbers_of s station x =
 
 abbrev pub dock_numbers_at : Operator → List ℕ → Option DockNumbers
 dock_numbers_at s station = option_map (dock_numbers_of s station) (map.get s.stations station)
+
+-- a station as a command sees it, and the numbers of its docks
+abbrev pub station_row_at : Operator → List ℕ → StationRow
+station_row_at s station = record { station = station_at s station; numbers = dock_numbers_at s station }
 
 -- A dock's mark: there where the dock has a row, and whether it is broken. A dock with no row works.
 abbrev pub IsMark : Operator → Listed → List ℕ → ℕ → Option Bool → Type 0

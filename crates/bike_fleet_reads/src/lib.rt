@@ -22,6 +22,9 @@ pub use counts::{TypeCounts, find_counts};
 pub use docks::find_mark;
 pub use orders::{find_order, order_count, order_load};
 pub use regions::{are_regions_full, find_region_row_from, has_region};
-pub use stations::{DockNumbers, are_stations_full, find_dock_numbers, find_station, has_station};
+pub use stations::{
+    DockNumbers, StationRow, are_stations_full, find_dock_numbers, find_station, find_station_row,
+    has_station,
+};
 pub use trucks::{are_trucks_full, find_truck};
 pub use types::{are_types_full, find_default_plan, find_type_row_from, has_type, select_types};

@@ -9,7 +9,7 @@ ghost use Rattle.bike_operator.specs.View.{is_at_limit, station_at};
 ghost use Rattle.bike_book.specs.Tables.{Stations};
 ghost use Rattle.bike_book.specs.Found.{row_count, row_under};
 ghost use Rattle.bike_schema.specs.Answers.{Answers};
-ghost use Rattle.bike_fleet_reads.specs.Fleet.{dock_numbers_at};
+ghost use Rattle.bike_fleet_reads.specs.Fleet.{dock_numbers_at, station_row_at};
 ghost use Rattle.bike_fleet_reads.specs.Holds.{HoldsAny, HoldsStation, HoldsDockNumbers};
 
 use crate::columns::{is_full, whole_at};
@@ -26,6 +26,15 @@ pub struct DockNumbers {
     pub free: u32,
     /// How many are broken.
     pub broken: u32,
+}
+
+/// A station as a command sees it, and the numbers of its docks, both of its row; `None` where there is no such station.
+#[derive(Clone, Copy)]
+pub struct StationRow {
+    /// The station.
+    pub station: Option<StationView>,
+    /// Its numbers.
+    pub numbers: Option<DockNumbers>,
 }
 
 /// The station's row.
@@ -78,6 +87,15 @@ fn dock_numbers_of(row: &Option<Row>) -> Result<Option<DockNumbers>, StatementFa
     }
 }
 
+/// The station and the numbers of its docks in the stored row.
+fn station_row_of(row: &Option<Row>) -> Result<StationRow, StatementFault>
+    ensures { IfOk result (λ x. HoldsAny HoldsStation row.now x.station × HoldsAny HoldsDockNumbers row.now x.numbers) }
+{
+    let station = station_of(row)?;
+    let numbers = dock_numbers_of(row)?;
+    Ok(StationRow { station, numbers })
+}
+
 /// How many stations there are, as the database answers it.
 fn count_stations<S: Alter>(conn: &mut Connection<S>) -> Result<Option<Row>, StatementFault>
     ensures { Answers S.Store conn.old conn.new result (λ s m row. row ≡ Some (count (row_count s m Stations) ∷ [])) }
@@ -105,6 +123,17 @@ pub fn has_station<S: Alter>(
 {
     let row = select_station(conn, station)?;
     Ok(row.is_some())
+}
+
+/// The station with this identifier, and the numbers of its docks, by one read.
+pub fn find_station_row<S: Alter>(
+    conn: &mut Connection<S>,
+    station: &Ident,
+) -> Result<StationRow, StatementFault>
+    ensures { Answers S.Store conn.old conn.new result (λ s m x. x ≡ station_row_at s station.now) }
+{
+    let row = select_station(conn, station)?;
+    station_row_of(&row)
 }
 
 /// How many docks of the station are available, and how many are broken; `None` where there is no such station.

@@ -9,8 +9,8 @@ ghost use Rattle.bike_book.specs.Found.{row_under, rows_of};
 ghost use Rattle.bike_schema.specs.Answers.{Answers};
 ghost use Rattle.bike_fleet_reads.specs.Holds.{HoldsAny, HoldsTruck};
 
-use bike_office_reads::{END, are_at_least};
 use bike_fields::TruckNumber;
+use bike_office_reads::{END, are_at_least};
 use bike_operator::{MOST_TRUCKS, TruckView};
 use bike_rows::lookup::first_row;
 use bike_schema::{StatementFault, number_at};

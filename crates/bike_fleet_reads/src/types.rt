@@ -11,8 +11,8 @@ ghost use Rattle.bike_schema.specs.Answers.{Answers};
 ghost use Rattle.bike_office_reads.specs.Within.{rows_from};
 ghost use Rattle.bike_fleet_reads.specs.Holds.{HoldsAny, HoldsPlan};
 
-use bike_office_reads::{END, are_at_least};
 use bike_fields::Ident;
+use bike_office_reads::{END, are_at_least};
 use bike_operator::MOST_TYPES;
 use bike_rows::lookup::first_row;
 use bike_schema::{StatementFault, ident_at};

@@ -1,3 +1,4 @@
 pub mod Known
 pub mod Open
+pub mod Sight
 pub mod Parts

@@ -7,10 +7,10 @@ ghost use Rattle.bike_operator.specs.View.{type_view, view_of};
 ghost use Rattle.bike_schema.specs.Answers.{Answers};
 
 use crate::empty::empty_view;
-use bike_office_reads::{are_plans_full, has_plan, has_system};
 use bike_catalogue::{Plan, Region, VehicleType};
 use bike_fields::Ident;
 use bike_fleet_reads::{are_regions_full, are_types_full, has_region, has_type};
+use bike_office_reads::{are_plans_full, has_plan, has_system};
 use bike_operator::View;
 use bike_schema::StatementFault;
 use sqlite::{Alter, Connection};

@@ -6,10 +6,12 @@ ghost use Rattle.bike_operator.specs.Counts.{docked_at, is_broken};
 ghost use Rattle.bike_operator.specs.View.{dock_view, docked_view, typed_bike};
 ghost use Rattle.bike_schema.specs.Answers.{Answers};
 ghost use Rattle.bike_fleet_reads.specs.Fleet.{numbered_pair};
+ghost use Rattle.bike_views.specs.Sight.{IsDockRead};
 
 use crate::empty::empty_view;
+use crate::sight::Sight;
 use bike_fields::Ident;
-use bike_fleet_reads::{NumberedBike, find_default_plan, find_docked, find_mark, find_station};
+use bike_fleet_reads::{NumberedBike, find_default_plan, find_docked, find_mark, find_station_row};
 use bike_operator::{DockedBike, View};
 use bike_schema::StatementFault;
 use sqlite::{Alter, Connection};
@@ -63,22 +65,27 @@ fn find_docked_bike<S: Alter>(
     }
 }
 
-/// The station, the mark of its dock and the bicycle in it.
+/// The station, the mark of its dock and the bicycle in it, with what the rows of station and dock tell beside it.
 pub(crate) fn find_dock_view<S: Alter>(
     alloc: Global,
     conn: &mut Connection<S>,
     station: &Ident,
     dock: u32,
-) -> Result<View, StatementFault>
-    ensures { Answers S.Store conn.old conn.new result (λ s m view. view ≡ dock_view s station.now dock) }
+) -> Result<Sight, StatementFault>
+    ensures { Answers S.Store conn.old conn.new result
+        (λ s m x. (x.view ≡ dock_view s station.now dock) × IsDockRead s m station.now dock x.numbers x.mark) }
 {
-    let found = find_station(conn, station)?;
-    let is_dock_broken = is_marked(conn, station, dock)?;
+    let row = find_station_row(conn, station)?;
+    let mark = find_mark(conn, station, dock)?;
     let docked = find_docked_bike(alloc, conn, station, dock)?;
-    Ok(View {
-        station: found,
-        is_dock_broken,
-        docked,
-        ..empty_view()
+    Ok(Sight {
+        view: View {
+            station: row.station,
+            is_dock_broken: mark.unwrap_or(false),
+            docked,
+            ..empty_view()
+        },
+        numbers: row.numbers,
+        mark,
     })
 }

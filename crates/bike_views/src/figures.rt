@@ -6,10 +6,10 @@ ghost use Rattle.bike_booking.specs.Figures.{figures_of};
 ghost use Rattle.bike_schema.specs.Answers.{Answers};
 ghost use Rattle.bike_views.specs.Open.{AnswersOpen};
 
-use bike_office_reads::{entry_count, find_meta, open_rental_count, rental_count};
 use bike_booking::{Figures, Sums};
 use bike_fleet_reads::order_count;
 use bike_laws::ledger_room_law;
+use bike_office_reads::{entry_count, find_meta, open_rental_count, rental_count};
 use bike_operator::{MOST_BIKES, MOST_ENTRIES};
 use bike_schema::StatementFault;
 use sqlite::{Alter, Connection};

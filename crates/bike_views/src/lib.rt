@@ -13,10 +13,12 @@ mod names;
 mod orders;
 mod rentals;
 mod riders;
+mod sight;
 mod stations;
 mod stored;
 mod view;
 
 pub use figures::{Known, know_figures};
+pub use sight::Sight;
 pub use stored::find_stored;
 pub use view::find_view;

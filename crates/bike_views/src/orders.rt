@@ -8,10 +8,12 @@ ghost use Rattle.bike_operator.specs.View.{end_at as end_of_order, end_view, has
 ghost use Rattle.bike_schema.specs.Answers.{Answers};
 ghost use Rattle.bike_views.specs.Open.{AnswersOpen};
 ghost use Rattle.bike_views.specs.Parts.{delivery_view, loaded_truck, names_of};
+ghost use Rattle.bike_views.specs.Sight.{IsEndRead, IsSideRead, IsSight};
 
 use crate::bikes::find_bike_view;
 use crate::docks::find_dock_view;
 use crate::empty::empty_view;
+use crate::sight::Sight;
 use bike_fields::{BicycleNumber, Ident, OrderNumber, TruckNumber};
 use bike_fleet_reads::{
     are_trucks_full, find_bike, find_order, find_truck, has_station, has_type, order_load,
@@ -164,7 +166,7 @@ pub(crate) fn view_to_load<S: Alter>(
 }
 
 /// The end of an order at a side.
-fn end_at(side: Side, order: &Order) -> &OrderEnd
+pub(crate) fn end_at(side: Side, order: &Order) -> &OrderEnd
     ensures { result.now ≡ end_of_order side order.now }
 {
     match side {
@@ -179,11 +181,12 @@ fn find_end_view<S: Alter>(
     conn: &mut Connection<S>,
     end: &OrderEnd,
     dock: u32,
-) -> Result<View, StatementFault>
-    ensures { AnswersOpen S.Store conn.old conn.new result (λ s m view. view ≡ end_view s end.now dock) }
+) -> Result<Sight, StatementFault>
+    ensures { AnswersOpen S.Store conn.old conn.new result
+        (λ s m x. (x.view ≡ end_view s end.now dock) × IsEndRead s m end.now dock x.numbers x.mark) }
 {
     match end {
-        OrderEnd::Depot => Ok(empty_view()),
+        OrderEnd::Depot => Ok(Sight::plain(empty_view())),
         OrderEnd::Station(station) => find_dock_view(alloc, conn, station, dock),
     }
 }
@@ -195,11 +198,12 @@ fn find_side_view<S: Alter>(
     order: &Option<Order>,
     side: Side,
     dock: u32,
-) -> Result<View, StatementFault>
-    ensures { AnswersOpen S.Store conn.old conn.new result (λ s m view. view ≡ side_view s order.now side dock) }
+) -> Result<Sight, StatementFault>
+    ensures { AnswersOpen S.Store conn.old conn.new result
+        (λ s m x. (x.view ≡ side_view s order.now side dock) × IsSideRead s m order.now side dock x.numbers x.mark) }
 {
     match order {
-        None => Ok(empty_view()),
+        None => Ok(Sight::plain(empty_view())),
         Some(order) => find_end_view(alloc, conn, end_at(side, order), dock),
     }
 }
@@ -211,12 +215,14 @@ fn find_delivery<S: Alter>(
     order: OrderNumber,
     side: Side,
     dock: u32,
-) -> Result<View, StatementFault>
-    ensures { Answers S.Store conn.old conn.new result (λ s m view. view ≡ delivery_view s order side dock) }
+) -> Result<Sight, StatementFault>
+    ensures { Answers S.Store conn.old conn.new result (λ s m x. (x.view ≡ delivery_view s order side dock)
+        × IsSideRead s m (item_numbered order s.orders) side dock x.numbers x.mark) }
 {
     let order = find_order(alloc, conn, order)?;
-    let view = find_side_view(alloc, conn, &order, side, dock)?;
-    Ok(View { order, ..view })
+    let seen = find_side_view(alloc, conn, &order, side, dock)?;
+    let view = View { order, ..seen.view };
+    Ok(Sight { view, ..seen })
 }
 
 /// The view for a bicycle that is unloaded.
@@ -228,18 +234,19 @@ pub(crate) fn view_to_unload<S: Alter>(
     bike: BicycleNumber,
     side: Side,
     dock: UnloadDock,
-) -> Result<View, StatementFault>
+) -> Result<Sight, StatementFault>
     ensures { Answers S.Store conn.old conn.new result
-        (λ s m view. view ≡ view_of s (command.Unload truck order bike side dock)) }
+        (λ s m x. IsSight s m (command.Unload truck order bike side dock) x) }
 {
     let truck = find_truck(conn, truck)?;
     let bike = find_bike(alloc, conn, bike)?;
-    let view = find_delivery(alloc, conn, order, side, dock.get())?;
-    Ok(View {
+    let seen = find_delivery(alloc, conn, order, side, dock.get())?;
+    let view = View {
         truck,
         bike,
-        ..view
-    })
+        ..seen.view
+    };
+    Ok(Sight { view, ..seen })
 }
 
 /// The view for an order that is closed.

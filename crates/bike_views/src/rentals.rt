@@ -8,14 +8,16 @@ ghost use Rattle.bike_operator.specs.View.{planned_rental, rental_at, rental_of,
 ghost use Rattle.bike_schema.specs.Answers.{Answers};
 ghost use Rattle.bike_views.specs.Known.{IsKnown};
 ghost use Rattle.bike_views.specs.Open.{AnswersOpen};
+ghost use Rattle.bike_views.specs.Sight.{IsSight};
 ghost use Rattle.bike_views.specs.Parts.{rental_bike_at, rental_bike, ridden_bike, start_view};
 
 use crate::docks::find_dock_view;
 use crate::empty::empty_view;
 use crate::figures::{Known, is_ledger_full};
-use bike_office_reads::{find_plan, find_rental, find_rider, is_riding};
+use crate::sight::Sight;
 use bike_fields::{BicycleNumber, DockNumber, Ident, RentalNumber, RiderNumber};
 use bike_fleet_reads::find_bike;
+use bike_office_reads::{find_plan, find_rental, find_rider, is_riding};
 use bike_operator::{Bike, Place, Rental, RentalView, RiderView, View};
 use bike_schema::StatementFault;
 use sqlite::{Alter, Connection};
@@ -134,19 +136,20 @@ pub(crate) fn view_to_start<S: Alter>(
     station: &Ident,
     dock: DockNumber,
     known: &Known,
-) -> Result<View, StatementFault>
+) -> Result<Sight, StatementFault>
     ensures { Answers S.Store conn.old conn.new result
-        (λ s m view. IsKnown s known.now → view ≡ view_of s (command.Start rider station.now dock)) }
+        (λ s m x. IsKnown s known.now → IsSight s m (command.Start rider station.now dock) x) }
 {
     let start = find_start_view(conn, rider, known)?;
-    let view = find_dock_view(alloc, conn, station, dock.get())?;
-    Ok(View {
+    let seen = find_dock_view(alloc, conn, station, dock.get())?;
+    let view = View {
         rider: start.rider,
         is_riding: start.is_riding,
         is_ledger_full: start.is_ledger_full,
         rentals: start.rentals,
-        ..view
-    })
+        ..seen.view
+    };
+    Ok(Sight { view, ..seen })
 }
 
 /// The view for the end of a rental, where there are so many entries.
@@ -157,18 +160,19 @@ pub(crate) fn view_to_end<S: Alter>(
     station: &Ident,
     dock: DockNumber,
     entries: u32,
-) -> Result<View, StatementFault>
+) -> Result<Sight, StatementFault>
     ensures { Answers S.Store conn.old conn.new result
-        (λ s m view. entries ≡ length s.entries → view ≡ view_of s (command.End bike station.now dock)) }
+        (λ s m x. entries ≡ length s.entries → IsSight s m (command.End bike station.now dock) x) }
 {
     let ridden = find_ridden_bike(alloc, conn, bike)?;
-    let view = find_dock_view(alloc, conn, station, dock.get())?;
-    Ok(View {
+    let seen = find_dock_view(alloc, conn, station, dock.get())?;
+    let view = View {
         bike: ridden.bike,
         rental: ridden.rental,
         entries,
-        ..view
-    })
+        ..seen.view
+    };
+    Ok(Sight { view, ..seen })
 }
 
 /// The bicycle of the rental, and the rental with its plan.

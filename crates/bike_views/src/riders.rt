@@ -7,8 +7,8 @@ ghost use Rattle.bike_schema.specs.Answers.{Answers};
 
 use crate::empty::empty_view;
 use crate::figures::is_ledger_full;
-use bike_office_reads::{are_riders_full, find_rider, has_rider};
 use bike_fields::RiderNumber;
+use bike_office_reads::{are_riders_full, find_rider, has_rider};
 use bike_operator::View;
 use bike_schema::StatementFault;
 use sqlite::{Alter, Connection};

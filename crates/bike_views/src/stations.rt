@@ -5,9 +5,11 @@ ghost use Rattle.bike_commands.specs.declared.command.Command.TheVariants as com
 ghost use Rattle.bike_operator.specs.View.{has_region, view_of};
 ghost use Rattle.bike_schema.specs.Answers.{Answers};
 ghost use Rattle.bike_views.specs.Open.{AnswersOpen};
+ghost use Rattle.bike_views.specs.Sight.{IsSight};
 
 use crate::docks::find_dock_view;
 use crate::empty::empty_view;
+use crate::sight::Sight;
 use bike_catalogue::Station;
 use bike_fields::{DockNumber, Ident};
 use bike_fleet_reads::{are_stations_full, find_station, has_region};
@@ -54,9 +56,9 @@ pub(crate) fn view_to_mark_dock<S: Alter>(
     conn: &mut Connection<S>,
     station: &Ident,
     dock: DockNumber,
-) -> Result<View, StatementFault>
+) -> Result<Sight, StatementFault>
     ensures { Answers S.Store conn.old conn.new result
-        (λ s m view. (broken : Bool) → view ≡ view_of s (command.MarkDock station.now dock broken)) }
+        (λ s m x. (broken : Bool) → IsSight s m (command.MarkDock station.now dock broken) x) }
 {
     find_dock_view(alloc, conn, station, dock.get())
 }

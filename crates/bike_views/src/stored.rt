@@ -1,16 +1,25 @@
 //! What the tables store of the dock that an accepted command touches.
 
-ghost use Rattle.std.specs.Prelude.{◌≡◌, IfOk, IfSome, option_map};
+ghost use Rattle.std.specs.Prelude.{◌≡◌, Bool, IfOk, IfSome, IsTrue, Option, is_some, option_map};
+ghost use Rattle.bike_operator.specs.Operator.{Operator};
+ghost use Rattle.bike_book.specs.Stored.{Listed};
+ghost use Rattle.bike_fleet_reads.specs.declared.stations.DockNumbers.{DockNumbers};
 ghost use Rattle.bike_schema.specs.Answers.{Answers};
 ghost use Rattle.bike_booking.specs.Stored.{AreCountsStored, AreHeldStored, IsDockStored, IsListedAt, IsMovedStored};
 ghost use Rattle.bike_views.specs.Open.{AnswersOpen};
 ghost use Rattle.bike_views.specs.Parts.{counts_read, dock_read};
+ghost use Rattle.bike_views.specs.Sight.{IsDockRead, IsSideRead, IsSight};
 
+use crate::orders::end_at;
+use crate::sight::Sight;
 use bike_accepted::{DockAt, Held, Moved};
 use bike_booking::{Stored, StoredCounts, StoredDock, Sums, Total};
+use bike_commands::Command;
 use bike_fields::Ident;
 use bike_fleet_reads::{DockNumbers, TypeCounts, find_counts, find_dock_numbers, find_mark};
+use bike_operator::Order;
 use bike_schema::StatementFault;
+use bike_texts::{OrderEnd, Side};
 use sqlite::{Alter, Connection};
 
 /// A stored number. `StoreFailed` where it is above the most docks of a station: then it is nobody's.
@@ -55,24 +64,80 @@ fn stored_counts(counts: &Option<TypeCounts>) -> Result<Option<StoredCounts>, St
     }))
 }
 
-/// The numbers of a dock's station.
+/// Whether this is the dock.
+fn is_at(at: &DockAt<'_>, station: &Ident, dock: u32) -> bool
+    ensures { IsTrue result → (at.now.station.now ≡ station.now) × (at.now.dock ≡ dock) }
+{
+    at.dock == dock && at.station.as_str() == station.as_str()
+}
+
+/// Whether this is the dock at a side of the order.
+fn is_at_side(at: &DockAt<'_>, order: &Option<Order>, side: Side, dock: u32) -> bool
+    ensures { IsTrue result → (s : Operator) (m : Listed) (numbers : Option DockNumbers) (mark : Option Bool)
+        → IsSideRead s m order.now side dock numbers mark → IsDockRead s m at.now.station.now at.now.dock numbers mark }
+{
+    let Some(order) = order else {
+        return false;
+    };
+    match end_at(side, order) {
+        OrderEnd::Depot => false,
+        OrderEnd::Station(station) => is_at(at, station, dock),
+    }
+}
+
+/// Whether this is the dock that was read with the view.
+fn is_read(command: &Command, sight: &Sight, at: &DockAt<'_>) -> bool
+    ensures { IsTrue result → (s : Operator) (m : Listed) → IsSight s m command.now sight.now
+        → IsDockRead s m at.now.station.now at.now.dock sight.now.numbers sight.now.mark }
+{
+    match command {
+        Command::MarkDock { station, dock, .. } => is_at(at, station, dock.get()),
+        Command::Start { station, dock, .. } => is_at(at, station, dock.get()),
+        Command::End { station, dock, .. } => is_at(at, station, dock.get()),
+        Command::Unload { side, dock, .. } => {
+            is_at_side(at, &sight.view.order, *side, dock.get())
+        }
+        _ => false,
+    }
+}
+
+/// The numbers of a dock's station, and whether the dock has a row, as both were read with the view.
+fn dock_of_sight(sight: &Sight) -> Result<StoredDock, StatementFault>
+    ensures { IfOk result (λ dock. dock ≡ dock_read sight.now.numbers (is_some sight.now.mark)) }
+{
+    stored_dock(&sight.numbers, sight.mark.is_some())
+}
+
+/// The numbers of a dock's station, of the view's read or of one more.
 fn find_dock<S: Alter>(
     conn: &mut Connection<S>,
+    command: &Command,
+    sight: &Sight,
     at: &DockAt<'_>,
 ) -> Result<StoredDock, StatementFault>
-    ensures { Answers S.Store conn.old conn.new result (λ s m dock. IsDockStored s m at.now dock) }
+    ensures { AnswersOpen S.Store conn.old conn.new result
+        (λ s m dock. IsSight s m command.now sight.now → IsDockStored s m at.now dock) }
 {
+    if is_read(command, sight, at) {
+        return dock_of_sight(sight);
+    }
     let numbers = find_dock_numbers(conn, at.station)?;
     stored_dock(&numbers, false)
 }
 
-/// The numbers of a dock's station, and whether the dock has a row.
+/// The numbers of a dock's station, and whether the dock has a row, of the view's reads or of two more.
 fn find_listed_dock<S: Alter>(
     conn: &mut Connection<S>,
+    command: &Command,
+    sight: &Sight,
     at: &DockAt<'_>,
 ) -> Result<StoredDock, StatementFault>
-    ensures { Answers S.Store conn.old conn.new result (λ s m dock. IsDockStored s m at.now dock × IsListedAt s m at.now dock) }
+    ensures { AnswersOpen S.Store conn.old conn.new result (λ s m dock. IsSight s m command.now sight.now
+        → IsDockStored s m at.now dock × IsListedAt s m at.now dock) }
 {
+    if is_read(command, sight, at) {
+        return dock_of_sight(sight);
+    }
     let numbers = find_dock_numbers(conn, at.station)?;
     let mark = find_mark(conn, at.station, at.dock)?;
     stored_dock(&numbers, mark.is_some())
@@ -131,21 +196,24 @@ fn untouched(sums: Sums) -> Stored
 /// What is stored of what is put or marked. Where that touches no dock, nothing is read, and the numbers are 0.
 fn find_moved<S: Alter>(
     conn: &mut Connection<S>,
+    command: &Command,
+    sight: &Sight,
     moved: &Moved<'_>,
     sums: Sums,
 ) -> Result<Stored, StatementFault>
-    ensures stored { AnswersOpen S.Store conn.old conn.new result (λ s m stored. IsMovedStored s m stored moved.now) }
+    ensures stored { AnswersOpen S.Store conn.old conn.new result
+        (λ s m stored. IsSight s m command.now sight.now → IsMovedStored s m stored moved.now) }
     ensures sums { IfOk result (λ stored. stored.sums ≡ sums) }
 {
     match moved {
         Moved::Away { .. } => Ok(untouched(sums)),
         Moved::AtDock { at, type_id, .. } => {
-            let dock = find_dock(conn, at)?;
+            let dock = find_dock(conn, command, sight, at)?;
             let counts = find_counts_at(conn, at, type_id)?;
             Ok(Stored { dock, counts, sums })
         }
         Moved::Marked { at, held, .. } => {
-            let dock = find_listed_dock(conn, at)?;
+            let dock = find_listed_dock(conn, command, sight, at)?;
             let counts = find_held_counts(conn, at, held)?;
             Ok(Stored { dock, counts, sums })
         }
@@ -153,22 +221,25 @@ fn find_moved<S: Alter>(
 }
 
 /// What the tables store of what an accepted command puts or marks, beside the operator's sums: the numbers of the dock's
-/// station, the counts there of the bicycle's type, and of a dock that is marked whether it has a row. Where no dock is
-/// touched, nothing is read.
+/// station, the counts there of the bicycle's type, and of a dock that is marked whether it has a row. `sight` is what was
+/// read for the command: a dock that was read for it isn't read again. Where no dock is touched, nothing is read.
 ///
 /// `NoMemory` comes where the engine wants memory that is refused, and `StoreFailed` where it fails otherwise, or a row
 /// holds what the product never writes: a number above the most docks of a station, say. In each case the tables are as
 /// before the call, or as before the transaction.
 pub fn find_stored<S: Alter>(
     conn: &mut Connection<S>,
+    command: &Command,
+    sight: &Sight,
     moved: &Option<Moved<'_>>,
     sums: Sums,
 ) -> Result<Stored, StatementFault>
-    ensures stored { AnswersOpen S.Store conn.old conn.new result (λ s m stored. IfSome moved.now (IsMovedStored s m stored)) }
+    ensures stored { AnswersOpen S.Store conn.old conn.new result
+        (λ s m stored. IsSight s m command.now sight.now → IfSome moved.now (IsMovedStored s m stored)) }
     ensures sums { IfOk result (λ stored. stored.sums ≡ sums) }
 {
     match moved {
         None => Ok(untouched(sums)),
-        Some(moved) => find_moved(conn, moved, sums),
+        Some(moved) => find_moved(conn, command, sight, moved, sums),
     }
 }

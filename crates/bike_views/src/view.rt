@@ -1,9 +1,8 @@
 //! The view of the stored operator for a command.
 
-ghost use Rattle.std.specs.Prelude.{◌≡◌};
-ghost use Rattle.bike_operator.specs.View.{view_of};
 ghost use Rattle.bike_schema.specs.Answers.{Answers};
 ghost use Rattle.bike_views.specs.Known.{IsKnown};
+ghost use Rattle.bike_views.specs.Sight.{IsSight};
 
 use crate::bikes::{view_to_add_bike, view_to_mark_bike, view_to_retire_bike};
 use crate::catalogue::{
@@ -16,17 +15,18 @@ use crate::orders::{
 };
 use crate::rentals::{view_to_end, view_to_recover, view_to_refund, view_to_start};
 use crate::riders::{view_to_add_rider, view_to_set_rider, view_to_top_up};
+use crate::sight::{Sight, without_dock};
 use crate::stations::{
     view_to_add_station, view_to_mark_dock, view_to_set_region, view_to_set_station,
 };
 use bike_commands::Command;
-use bike_operator::View;
 use bike_schema::StatementFault;
 use sqlite::{Alter, Connection};
 use std::alloc::Global;
 
 /// What the command names of the stored operator, each there or absent, and what is counted for it, by what is known of
-/// him. Where each open rental is its rider's newest, a start reads the newest alone.
+/// it; where a dock is read for that, what its rows tell beside. Where each open rental is its rider's newest, a start reads
+/// the newest alone.
 ///
 /// `NoMemory` comes where the engine or the view wants memory that is refused, and `StoreFailed` where the engine fails
 /// otherwise, or a row holds what the product never writes. In each case the tables are as before the call, or as before
@@ -36,25 +36,27 @@ pub fn find_view<S: Alter>(
     conn: &mut Connection<S>,
     command: &Command,
     known: &Known,
-) -> Result<View, StatementFault>
-    ensures { Answers S.Store conn.old conn.new result (λ s m view. IsKnown s known.now → view ≡ view_of s command.now) }
+) -> Result<Sight, StatementFault>
+    ensures { Answers S.Store conn.old conn.new result (λ s m x. IsKnown s known.now → IsSight s m command.now x) }
 {
     let figures = &known.figures;
     match command {
-        Command::SetSystem(_) => view_to_set_system(conn),
-        Command::AddPlan(plan) => view_to_add_plan(conn, plan),
-        Command::AddType(added) => view_to_add_type(conn, added),
-        Command::SetPlan { type_id, plan } => view_to_set_plan(conn, type_id, plan),
-        Command::AddStation(added) => view_to_add_station(conn, added),
-        Command::SetStation { station, .. } => view_to_set_station(conn, station),
+        Command::SetSystem(_) => without_dock(view_to_set_system(conn)),
+        Command::AddPlan(plan) => without_dock(view_to_add_plan(conn, plan)),
+        Command::AddType(added) => without_dock(view_to_add_type(conn, added)),
+        Command::SetPlan { type_id, plan } => without_dock(view_to_set_plan(conn, type_id, plan)),
+        Command::AddStation(added) => without_dock(view_to_add_station(conn, added)),
+        Command::SetStation { station, .. } => without_dock(view_to_set_station(conn, station)),
         Command::MarkDock { station, dock, .. } => view_to_mark_dock(alloc, conn, station, *dock),
-        Command::AddBike { bike, type_id } => view_to_add_bike(alloc, conn, *bike, type_id),
-        Command::MarkBike { bike, .. } => view_to_mark_bike(alloc, conn, *bike),
-        Command::RetireBike { bike } => view_to_retire_bike(alloc, conn, *bike),
-        Command::AddTruck { truck, .. } => view_to_add_truck(conn, *truck),
-        Command::AddRider { rider } => view_to_add_rider(conn, *rider),
-        Command::SetRider { rider, .. } => view_to_set_rider(conn, *rider),
-        Command::TopUp { rider, .. } => view_to_top_up(conn, *rider, figures.entries),
+        Command::AddBike { bike, type_id } => without_dock(view_to_add_bike(
+            alloc, conn, *bike, type_id,
+        )),
+        Command::MarkBike { bike, .. } => without_dock(view_to_mark_bike(alloc, conn, *bike)),
+        Command::RetireBike { bike } => without_dock(view_to_retire_bike(alloc, conn, *bike)),
+        Command::AddTruck { truck, .. } => without_dock(view_to_add_truck(conn, *truck)),
+        Command::AddRider { rider } => without_dock(view_to_add_rider(conn, *rider)),
+        Command::SetRider { rider, .. } => without_dock(view_to_set_rider(conn, *rider)),
+        Command::TopUp { rider, .. } => without_dock(view_to_top_up(conn, *rider, figures.entries)),
         Command::Start {
             rider,
             station,
@@ -65,16 +67,35 @@ pub fn find_view<S: Alter>(
             station,
             dock,
         } => view_to_end(alloc, conn, *bike, station, *dock, figures.entries),
-        Command::Recover { rental } => view_to_recover(alloc, conn, *rental, figures.entries),
-        Command::Refund { rental, .. } => view_to_refund(alloc, conn, *rental, figures.entries),
+        Command::Recover { rental } => without_dock(view_to_recover(
+            alloc,
+            conn,
+            *rental,
+            figures.entries,
+        )),
+        Command::Refund { rental, .. } => without_dock(view_to_refund(
+            alloc,
+            conn,
+            *rental,
+            figures.entries,
+        )),
         Command::OpenOrder {
             truck,
             from_end,
             to_end,
             type_id,
             ..
-        } => view_to_open_order(conn, *truck, from_end, to_end, type_id, figures.orders),
-        Command::Load { truck, order, bike } => view_to_load(alloc, conn, *truck, *order, *bike),
+        } => without_dock(view_to_open_order(
+            conn,
+            *truck,
+            from_end,
+            to_end,
+            type_id,
+            figures.orders,
+        )),
+        Command::Load { truck, order, bike } => without_dock(view_to_load(
+            alloc, conn, *truck, *order, *bike,
+        )),
         Command::Unload {
             truck,
             order,
@@ -82,14 +103,16 @@ pub fn find_view<S: Alter>(
             side,
             dock,
         } => view_to_unload(alloc, conn, *truck, *order, *bike, *side, *dock),
-        Command::CloseOrder { order } => view_to_close_order(alloc, conn, *order),
-        Command::AddRegion(added) => view_to_add_region(conn, added),
-        Command::SetRegion { station, region } => view_to_set_region(conn, station, region),
+        Command::CloseOrder { order } => without_dock(view_to_close_order(alloc, conn, *order)),
+        Command::AddRegion(added) => without_dock(view_to_add_region(conn, added)),
+        Command::SetRegion { station, region } => without_dock(view_to_set_region(
+            conn, station, region,
+        )),
         Command::AddName {
             kind,
             id,
             language,
             ..
-        } => view_to_add_name(alloc, conn, *kind, id, language),
+        } => without_dock(view_to_add_name(alloc, conn, *kind, id, language)),
     }
 }

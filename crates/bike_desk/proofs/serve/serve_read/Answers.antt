@@ -30,8 +30,8 @@ returns-in_err-store_accepted-in-Ok-clause-failed g c clean s t keeps it =
     let found = c.in-Ok.ensures.found s sound it.view_is in
     let told : AreTexts s c.args.now q (record { caller = c.args.asked.caller; key = c.as_str-key.result; command = c.args.asked.text; reply = c.as_str.result }) =
     record { caller = c.requires.asked.caller; key = c.as_str-key.ensures.text; command = c.requires.asked.text; reply = c.as_str.ensures.value ∙ c.text-spelled.ensures ∙ ap reply_text decides.1 } in
-    let accepts = accepts_read s t c.args.now q c.args.figures.now c.args.view.now c.in-Ok.accepted c.in-Some.after _ sound it c.bounds.ensures decides found c.in-Some.ensures.figures told in
-    let left = c.store_accepted.ensures.left clean s q keeps accepts in
+    let accepts = accepts_read (state g.S.Store c.args.conn.now).now s t c.args.now q c.args.figures.now c.args.sight.now c.in-Ok.accepted c.in-Some.after _ sound it c.bounds.ensures decides found c.in-Some.ensures.figures told in
+    let left = c.store_accepted.ensures.left clean s q keeps it.sight accepts in
     on_err _ (subst (λ (p : Reply × Operator). AllLeft (state g.S.Store c.store_accepted.new.conn) (TreesStandForEither s p.1)) (sym (step_accepted s t q c.args.now it.later it.anew decides.0)) left)
 
 pub returns-in_ok-store_accepted-in-Ok-clause-ok : goal.returns-in_ok-store_accepted-in-Ok-clause-ok
@@ -42,8 +42,8 @@ returns-in_ok-store_accepted-in-Ok-clause-ok g c clean s t keeps it =
     let found = c.in-Ok.ensures.found s sound it.view_is in
     let told : AreTexts s c.args.now q (record { caller = c.args.asked.caller; key = c.as_str-key.result; command = c.args.asked.text; reply = c.as_str.result }) =
     record { caller = c.requires.asked.caller; key = c.as_str-key.ensures.text; command = c.requires.asked.text; reply = c.as_str.ensures.value ∙ c.text-spelled.ensures ∙ ap reply_text decides.1 } in
-    let accepts = accepts_read s t c.args.now q c.args.figures.now c.args.view.now c.in-Ok.accepted c.in-Some.after _ sound it c.bounds.ensures decides found c.in-Some.ensures.figures told in
-    let made = c.in_ok-store_accepted-in-Ok.ensures.made clean s q keeps accepts in
+    let accepts = accepts_read (state g.S.Store c.args.conn.now).now s t c.args.now q c.args.figures.now c.args.sight.now c.in-Ok.accepted c.in-Some.after _ sound it c.bounds.ensures decides found c.in-Some.ensures.figures told in
+    let made = c.in_ok-store_accepted-in-Ok.ensures.made clean s q keeps it.sight accepts in
     let figures = figures_read s c.args.now q c.in-Ok.accepted c.books_accepted.ensures.figures it.figures_are decides found c.in-Some.ensures.figures in
     let step_is = step_accepted s t q c.args.now it.later it.anew decides.0 in
     let served : Served = record { reply = c.in-Ok.accepted.reply; figures = Some c.in-Some.after } in
@@ -60,5 +60,5 @@ returns-in_ok-store_accepted-in-Ok-clause-others g c clean s t keeps it =
     let found = c.in-Ok.ensures.found s sound it.view_is in
     let told : AreTexts s c.args.now q (record { caller = c.args.asked.caller; key = c.as_str-key.result; command = c.args.asked.text; reply = c.as_str.result }) =
     record { caller = c.requires.asked.caller; key = c.as_str-key.ensures.text; command = c.requires.asked.text; reply = c.as_str.ensures.value ∙ c.text-spelled.ensures ∙ ap reply_text decides.1 } in
-    let accepts = accepts_read s t c.args.now q c.args.figures.now c.args.view.now c.in-Ok.accepted c.in-Some.after _ sound it c.bounds.ensures decides found c.in-Some.ensures.figures told in
-    c.in_ok-store_accepted-in-Ok.ensures.others clean s q keeps accepts
+    let accepts = accepts_read (state g.S.Store c.args.conn.now).now s t c.args.now q c.args.figures.now c.args.sight.now c.in-Ok.accepted c.in-Some.after _ sound it c.bounds.ensures decides found c.in-Some.ensures.figures told in
+    c.in_ok-store_accepted-in-Ok.ensures.others clean s q keeps it.sight accepts

@@ -1,22 +1,21 @@
 use Rattle.std.proofs.Common.{rules, sym, subst}
-use Rattle.bike_rows.proofs.ChainLaws.{reads_as, reads_both, reads_failed}
 use Rattle.bike_booking.specs.Stored.{IsMovedStored}
-use Rattle.bike_views.proofs.OpenLaws.{open_none, open_of, open_both}
+use Rattle.bike_views.proofs.OpenLaws.{open_as, open_failed, open_none, open_of, open_then}
 use Rattle.bike_views.proofs.stored.find_moved.Goals as goal
 
 pub returns-in-Away-clause-stored : goal.returns-in-Away-clause-stored
-returns-in-Away-clause-stored g c = open_none _ (λ s m. subst (IsMovedStored s m c.untouched.result) (sym c.in-Away.is) tt)
+returns-in-Away-clause-stored g c = open_none _ (λ s m sight. subst (IsMovedStored s m c.untouched.result) (sym c.in-Away.is) tt)
 
 pub returns-in_err-counts-in-AtDock-clause-stored : goal.returns-in_err-counts-in-AtDock-clause-stored
-returns-in_err-counts-in-AtDock-clause-stored g c = open_of (reads_failed (reads_both c.in_ok-dock-in-AtDock.ensures c.in_err-counts-in-AtDock.ensures) (search rules))
+returns-in_err-counts-in-AtDock-clause-stored g c = open_failed (open_then c.in_ok-dock-in-AtDock.ensures (open_of c.in_err-counts-in-AtDock.ensures)) (search rules)
 
 pub returns-in_err-counts-in-Marked-clause-stored : goal.returns-in_err-counts-in-Marked-clause-stored
-returns-in_err-counts-in-Marked-clause-stored g c = open_of (reads_failed (open_both c.in_ok-dock-in-Marked.ensures c.in_err-counts-in-Marked.ensures) (search rules))
+returns-in_err-counts-in-Marked-clause-stored g c = open_failed (open_then c.in_ok-dock-in-Marked.ensures c.in_err-counts-in-Marked.ensures) (search rules)
 
 pub returns-in_ok-counts-in-AtDock-clause-stored : goal.returns-in_ok-counts-in-AtDock-clause-stored
-returns-in_ok-counts-in-AtDock-clause-stored g c = open_of (reads_as (reads_both c.in_ok-dock-in-AtDock.ensures c.in_ok-counts-in-AtDock.ensures) (λ db it s h.
-    subst (IsMovedStored s h.listed (record { dock = c.in_ok-dock-in-AtDock.dock; counts = c.in_ok-counts-in-AtDock.counts; sums = c.args.sums })) (sym c.in-AtDock.is) (it.0 s h, it.1 s h)))
+returns-in_ok-counts-in-AtDock-clause-stored g c = open_as (open_then c.in_ok-dock-in-AtDock.ensures (open_of c.in_ok-counts-in-AtDock.ensures)) (λ s m it sight.
+    subst (IsMovedStored s m (record { dock = c.in_ok-dock-in-AtDock.dock; counts = c.in_ok-counts-in-AtDock.counts; sums = c.args.sums })) (sym c.in-AtDock.is) (it.0 sight, it.1))
 
 pub returns-in_ok-counts-in-Marked-clause-stored : goal.returns-in_ok-counts-in-Marked-clause-stored
-returns-in_ok-counts-in-Marked-clause-stored g c = open_of (reads_as (open_both c.in_ok-dock-in-Marked.ensures c.in_ok-counts-in-Marked.ensures) (λ db it s h.
-    subst (IsMovedStored s h.listed (record { dock = c.in_ok-dock-in-Marked.dock; counts = c.in_ok-counts-in-Marked.counts; sums = c.args.sums })) (sym c.in-Marked.is) ((it.0 s h).0, (it.0 s h).1, it.1 s h)))
+returns-in_ok-counts-in-Marked-clause-stored g c = open_as (open_then c.in_ok-dock-in-Marked.ensures c.in_ok-counts-in-Marked.ensures) (λ s m it sight.
+    subst (IsMovedStored s m (record { dock = c.in_ok-dock-in-Marked.dock; counts = c.in_ok-counts-in-Marked.counts; sums = c.args.sums })) (sym c.in-Marked.is) ((it.0 sight).0, (it.0 sight).1, it.1))

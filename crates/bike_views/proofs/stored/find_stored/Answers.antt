@@ -5,7 +5,7 @@ use Rattle.bike_views.proofs.OpenLaws.{open_none, open_weaker}
 use Rattle.bike_views.proofs.stored.find_stored.Goals as goal
 
 pub returns-in-None-clause-stored : goal.returns-in-None-clause-stored
-returns-in-None-clause-stored g c = open_none _ (λ s m. subst (λ o. IfSome o (IsMovedStored s m c.untouched.result)) (sym c.in-None.is) tt)
+returns-in-None-clause-stored g c = open_none _ (λ s m sight. subst (λ o. IfSome o (IsMovedStored s m c.untouched.result)) (sym c.in-None.is) tt)
 
 pub returns-in-Some-clause-stored : goal.returns-in-Some-clause-stored
-returns-in-Some-clause-stored g c = open_weaker c.find_moved.ensures.stored (λ s m x it. subst (λ o. IfSome o (IsMovedStored s m x)) (sym c.in-Some.is) it)
+returns-in-Some-clause-stored g c = open_weaker c.find_moved.ensures.stored (λ s m x it sight. subst (λ o. IfSome o (IsMovedStored s m x)) (sym c.in-Some.is) (it sight))

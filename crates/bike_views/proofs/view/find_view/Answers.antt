@@ -1,15 +1,21 @@
-use Rattle.std.proofs.Common.{◌≡◌, ℕ, false, Result, [], sym, ap, ◌∙◌}
+use Rattle.std.proofs.Common.{◌≡◌, ℕ, false, Result, Ok, Err, [], refl, sym, ap, subst, ◌∙◌}
 use Rattle.sqlite_trees.specs.declared.store.Store.{Ghosts}
 use Rattle.sqlite.specs.Held.{Held}
 use Rattle.bike_commands.specs.declared.command.Command.{Command}
 use Rattle.bike_operator.specs.declared.view.View.{View}
+use Rattle.bike_operator.specs.Operator.{Operator}
 use Rattle.bike_operator.specs.View.{view_of}
+use Rattle.bike_book.specs.Stored.{Listed}
+use Rattle.bike_rows.proofs.ChainLaws.{reads_as, reads_failed}
+use Rattle.bike_schema.specs.declared.fault.StatementFault.{StatementFault}
 use Rattle.bike_schema.specs.Answers.{Answers}
 use Rattle.bike_schema.proofs.AnswerLemmas.{reads_weaker}
 use Rattle.bike_booking.specs.declared.figures.Figures.{Figures}
 use Rattle.bike_booking.specs.Figures.{figures_of}
 use Rattle.bike_views.specs.declared.figures.Known.{Known}
+use Rattle.bike_views.specs.declared.sight.Sight.{Sight}
 use Rattle.bike_views.specs.Known.{IsKnown}
+use Rattle.bike_views.specs.Sight.{IsPlain, IsRead, IsSight}
 use Rattle.bike_views.proofs.view.find_view.Goals as goal
 
 -- the view for a command is that for the command matched, whatever is known
@@ -22,77 +28,91 @@ view_with : {S E : Type 0} {g : Ghosts S} {old new : Held S} {result : Result Vi
     → Answers g old new result (λ s m view. IsKnown s k → view ≡ view_of s c)
 view_with told it is = reads_weaker it (λ db view each s h known. each s h (ap told known.figures) ∙ ap (view_of s) (sym is))
 
+-- a view for which no dock is read
+seen_plain : {S : Type 0} {g : Ghosts S} {old new : Held S} {found : Result View StatementFault} {result : Result Sight StatementFault} {c d : Command} {k : Known} → Answers g old new found (λ s m view. IsKnown s k → view ≡ view_of s c) → IsPlain found result → c ≡ d
+    → ((s : Operator) (m : Listed) (x : Sight) → IsRead s m d x) → Answers g old new result (λ s m x. IsKnown s k → IsSight s m c x)
+seen_plain {found = Ok v} {result = Ok x} it plain is none = reads_as it (λ db each s h known. record {
+  view_is = ap (λ (y : Sight). y.view) plain ∙ each s h known;
+  read = subst (λ e. IsRead s h.listed e x) (sym is) (none s h.listed x);
+})
+seen_plain {found = Err e} {result = Err f} it plain is none = reads_failed it refl
+seen_plain {found = Ok v} {result = Err f} it plain is none = absurd plain
+seen_plain {found = Err e} {result = Ok x} it plain is none = absurd plain
+
+sight_for : {s : Operator} {m : Listed} {c d : Command} {x : Sight} → IsSight s m d x → c ≡ d → IsSight s m c x
+sight_for {s = s} {m = m} {x = x} it is = subst (λ e. IsSight s m e x) (sym is) it
+
 pub returns-in-SetSystem : goal.returns-in-SetSystem
-returns-in-SetSystem g c = view_for (reads_weaker c.view_to_set_system.ensures (λ db x it s h. it s h c.in-SetSystem.field-0)) c.in-SetSystem.is
+returns-in-SetSystem g c = seen_plain (view_for (reads_weaker c.view_to_set_system.ensures (λ db x it s h. it s h c.in-SetSystem.field-0)) c.in-SetSystem.is) c.without_dock.ensures c.in-SetSystem.is (λ s m x. tt)
 
 pub returns-in-AddPlan : goal.returns-in-AddPlan
-returns-in-AddPlan g c = view_for c.view_to_add_plan.ensures c.in-AddPlan.is
+returns-in-AddPlan g c = seen_plain (view_for c.view_to_add_plan.ensures c.in-AddPlan.is) c.without_dock.ensures c.in-AddPlan.is (λ s m x. tt)
 
 pub returns-in-AddType : goal.returns-in-AddType
-returns-in-AddType g c = view_for c.view_to_add_type.ensures c.in-AddType.is
+returns-in-AddType g c = seen_plain (view_for c.view_to_add_type.ensures c.in-AddType.is) c.without_dock.ensures c.in-AddType.is (λ s m x. tt)
 
 pub returns-in-SetPlan : goal.returns-in-SetPlan
-returns-in-SetPlan g c = view_for c.view_to_set_plan.ensures c.in-SetPlan.is
+returns-in-SetPlan g c = seen_plain (view_for c.view_to_set_plan.ensures c.in-SetPlan.is) c.without_dock.ensures c.in-SetPlan.is (λ s m x. tt)
 
 pub returns-in-AddStation : goal.returns-in-AddStation
-returns-in-AddStation g c = view_for c.view_to_add_station.ensures c.in-AddStation.is
+returns-in-AddStation g c = seen_plain (view_for c.view_to_add_station.ensures c.in-AddStation.is) c.without_dock.ensures c.in-AddStation.is (λ s m x. tt)
 
 pub returns-in-SetStation : goal.returns-in-SetStation
-returns-in-SetStation g c = view_for (reads_weaker c.view_to_set_station.ensures (λ db x it s h. it s h false false false)) c.in-SetStation.is
+returns-in-SetStation g c = seen_plain (view_for (reads_weaker c.view_to_set_station.ensures (λ db x it s h. it s h false false false)) c.in-SetStation.is) c.without_dock.ensures c.in-SetStation.is (λ s m x. tt)
 
 pub returns-in-MarkDock : goal.returns-in-MarkDock
-returns-in-MarkDock g c = view_for (reads_weaker c.view_to_mark_dock.ensures (λ db x it s h. it s h false)) c.in-MarkDock.is
+returns-in-MarkDock g c = reads_weaker c.view_to_mark_dock.ensures (λ db x it s h known. sight_for (it s h false) c.in-MarkDock.is)
 
 pub returns-in-AddBike : goal.returns-in-AddBike
-returns-in-AddBike g c = view_for c.view_to_add_bike.ensures c.in-AddBike.is
+returns-in-AddBike g c = seen_plain (view_for c.view_to_add_bike.ensures c.in-AddBike.is) c.without_dock.ensures c.in-AddBike.is (λ s m x. tt)
 
 pub returns-in-MarkBike : goal.returns-in-MarkBike
-returns-in-MarkBike g c = view_for (reads_weaker c.view_to_mark_bike.ensures (λ db x it s h. it s h false)) c.in-MarkBike.is
+returns-in-MarkBike g c = seen_plain (view_for (reads_weaker c.view_to_mark_bike.ensures (λ db x it s h. it s h false)) c.in-MarkBike.is) c.without_dock.ensures c.in-MarkBike.is (λ s m x. tt)
 
 pub returns-in-RetireBike : goal.returns-in-RetireBike
-returns-in-RetireBike g c = view_for c.view_to_retire_bike.ensures c.in-RetireBike.is
+returns-in-RetireBike g c = seen_plain (view_for c.view_to_retire_bike.ensures c.in-RetireBike.is) c.without_dock.ensures c.in-RetireBike.is (λ s m x. tt)
 
 pub returns-in-AddTruck : goal.returns-in-AddTruck
-returns-in-AddTruck g c = view_for (reads_weaker c.view_to_add_truck.ensures (λ db x it s h. it s h 0)) c.in-AddTruck.is
+returns-in-AddTruck g c = seen_plain (view_for (reads_weaker c.view_to_add_truck.ensures (λ db x it s h. it s h 0)) c.in-AddTruck.is) c.without_dock.ensures c.in-AddTruck.is (λ s m x. tt)
 
 pub returns-in-AddRider : goal.returns-in-AddRider
-returns-in-AddRider g c = view_for c.view_to_add_rider.ensures c.in-AddRider.is
+returns-in-AddRider g c = seen_plain (view_for c.view_to_add_rider.ensures c.in-AddRider.is) c.without_dock.ensures c.in-AddRider.is (λ s m x. tt)
 
 pub returns-in-SetRider : goal.returns-in-SetRider
-returns-in-SetRider g c = view_for (reads_weaker c.view_to_set_rider.ensures (λ db x it s h. it s h false)) c.in-SetRider.is
+returns-in-SetRider g c = seen_plain (view_for (reads_weaker c.view_to_set_rider.ensures (λ db x it s h. it s h false)) c.in-SetRider.is) c.without_dock.ensures c.in-SetRider.is (λ s m x. tt)
 
 pub returns-in-TopUp : goal.returns-in-TopUp
-returns-in-TopUp g c = view_with (λ f. f.entries) (reads_weaker c.view_to_top_up.ensures (λ db x it s h are. it s h are 0)) c.in-TopUp.is
+returns-in-TopUp g c = seen_plain (view_with (λ f. f.entries) (reads_weaker c.view_to_top_up.ensures (λ db x it s h are. it s h are 0)) c.in-TopUp.is) c.without_dock.ensures c.in-TopUp.is (λ s m x. tt)
 
 pub returns-in-Start : goal.returns-in-Start
-returns-in-Start g c = reads_weaker c.view_to_start.ensures (λ db view each s h known. each s h known ∙ ap (view_of s) (sym c.in-Start.is))
+returns-in-Start g c = reads_weaker c.view_to_start.ensures (λ db x it s h known. sight_for (it s h known) c.in-Start.is)
 
 pub returns-in-End : goal.returns-in-End
-returns-in-End g c = view_with (λ f. f.entries) c.view_to_end.ensures c.in-End.is
+returns-in-End g c = reads_weaker c.view_to_end.ensures (λ db x it s h known. sight_for (it s h (ap (λ (f : Figures). f.entries) known.figures)) c.in-End.is)
 
 pub returns-in-Recover : goal.returns-in-Recover
-returns-in-Recover g c = view_with (λ f. f.entries) c.view_to_recover.ensures c.in-Recover.is
+returns-in-Recover g c = seen_plain (view_with (λ f. f.entries) c.view_to_recover.ensures c.in-Recover.is) c.without_dock.ensures c.in-Recover.is (λ s m x. tt)
 
 pub returns-in-Refund : goal.returns-in-Refund
-returns-in-Refund g c = view_with (λ f. f.entries) (reads_weaker c.view_to_refund.ensures (λ db x it s h are. it s h are 0)) c.in-Refund.is
+returns-in-Refund g c = seen_plain (view_with (λ f. f.entries) (reads_weaker c.view_to_refund.ensures (λ db x it s h are. it s h are 0)) c.in-Refund.is) c.without_dock.ensures c.in-Refund.is (λ s m x. tt)
 
 pub returns-in-OpenOrder : goal.returns-in-OpenOrder
-returns-in-OpenOrder g c = view_with (λ f. f.orders) (reads_weaker c.view_to_open_order.ensures (λ db x it s h are. it s h are 0)) c.in-OpenOrder.is
+returns-in-OpenOrder g c = seen_plain (view_with (λ f. f.orders) (reads_weaker c.view_to_open_order.ensures (λ db x it s h are. it s h are 0)) c.in-OpenOrder.is) c.without_dock.ensures c.in-OpenOrder.is (λ s m x. tt)
 
 pub returns-in-Load : goal.returns-in-Load
-returns-in-Load g c = view_for c.view_to_load.ensures c.in-Load.is
+returns-in-Load g c = seen_plain (view_for c.view_to_load.ensures c.in-Load.is) c.without_dock.ensures c.in-Load.is (λ s m x. tt)
 
 pub returns-in-Unload : goal.returns-in-Unload
-returns-in-Unload g c = view_for c.view_to_unload.ensures c.in-Unload.is
+returns-in-Unload g c = reads_weaker c.view_to_unload.ensures (λ db x it s h known. sight_for (it s h) c.in-Unload.is)
 
 pub returns-in-CloseOrder : goal.returns-in-CloseOrder
-returns-in-CloseOrder g c = view_for c.view_to_close_order.ensures c.in-CloseOrder.is
+returns-in-CloseOrder g c = seen_plain (view_for c.view_to_close_order.ensures c.in-CloseOrder.is) c.without_dock.ensures c.in-CloseOrder.is (λ s m x. tt)
 
 pub returns-in-AddRegion : goal.returns-in-AddRegion
-returns-in-AddRegion g c = view_for c.view_to_add_region.ensures c.in-AddRegion.is
+returns-in-AddRegion g c = seen_plain (view_for c.view_to_add_region.ensures c.in-AddRegion.is) c.without_dock.ensures c.in-AddRegion.is (λ s m x. tt)
 
 pub returns-in-SetRegion : goal.returns-in-SetRegion
-returns-in-SetRegion g c = view_for c.view_to_set_region.ensures c.in-SetRegion.is
+returns-in-SetRegion g c = seen_plain (view_for c.view_to_set_region.ensures c.in-SetRegion.is) c.without_dock.ensures c.in-SetRegion.is (λ s m x. tt)
 
 pub returns-in-AddName : goal.returns-in-AddName
-returns-in-AddName g c = view_for (reads_weaker c.view_to_add_name.ensures (λ db x it s h. it s h [])) c.in-AddName.is
+returns-in-AddName g c = seen_plain (view_for (reads_weaker c.view_to_add_name.ensures (λ db x it s h. it s h [])) c.in-AddName.is) c.without_dock.ensures c.in-AddName.is (λ s m x. tt)
