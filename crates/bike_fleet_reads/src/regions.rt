@@ -10,8 +10,8 @@ ghost use Rattle.bike_book.specs.Found.{row_under, rows_of};
 ghost use Rattle.bike_schema.specs.Answers.{Answers};
 ghost use Rattle.bike_office_reads.specs.Within.{rows_from};
 
-use bike_office_reads::{END, are_at_least};
 use bike_fields::Ident;
+use bike_office_reads::{END, are_at_least};
 use bike_operator::MOST_REGIONS;
 use bike_rows::lookup::first_row;
 use bike_schema::StatementFault;
