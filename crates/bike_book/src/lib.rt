@@ -5,6 +5,7 @@
 //! operator to those of the next.
 #![tactic(auto)]
 
+pub mod columns;
 mod laws;
 mod row_change;
 mod version;

@@ -12,6 +12,7 @@ ghost use Rattle.bike_judges.specs.Verdicts.{JudgesTable};
 ghost use Rattle.bike_catalogue_rules.specs.Names.{system_key, with_system, is_of_same, names_since, is_own_id, is_further, next_run, first_misnamed, is_place_there, is_offer_there, has_place, has_offer};
 
 use crate::key::columns_key;
+use bike_book::columns::{more_names, plans, regions, stations, types};
 use bike_catalogue::NameKind;
 use bike_fields::{Ident, Language};
 use bike_judges::{
@@ -24,6 +25,21 @@ use bike_readings::{
 use bike_schema::StatementFault;
 use sqlite::{Alter, Connection, Row};
 use std::alloc::Global;
+
+/// Where the row of a name stands in its line.
+const NAME_AT: usize = 0;
+
+/// Where that of the station stands, in a line with station and region.
+const STATION_AT: usize = NAME_AT + more_names::COLUMNS;
+
+/// Where that of the region stands, in the same line.
+const REGION_AT: usize = STATION_AT + stations::COLUMNS;
+
+/// Where that of the vehicle type stands, in a line with type and plan.
+const TYPE_AT: usize = NAME_AT + more_names::COLUMNS;
+
+/// Where that of the plan stands, in the same line.
+const PLAN_AT: usize = TYPE_AT + types::COLUMNS;
 
 /// The system's identifier and its language, with which names are compared.
 #[derive(Drop)]
@@ -143,8 +159,8 @@ fn is_place_there(kind: NameKind, line: &Row) -> bool
     ensures { result ≡ is_place_there kind line.now }
 {
     match kind {
-        NameKind::Station => read_station(Part::of(line, 4, 12)).is_some(),
-        NameKind::Region => read_region(Part::of(line, 16, 2)).is_some(),
+        NameKind::Station => read_station(Part::of(line, STATION_AT, stations::COLUMNS)).is_some(),
+        NameKind::Region => read_region(Part::of(line, REGION_AT, regions::COLUMNS)).is_some(),
         _ => true,
     }
 }
@@ -154,8 +170,12 @@ fn is_offer_there(kind: NameKind, line: &Row) -> bool
     ensures { result ≡ is_offer_there kind line.now }
 {
     match kind {
-        NameKind::Type => read_type(Part::of(line, 4, 6)).is_some(),
-        NameKind::Plan | NameKind::Description => read_plan(Part::of(line, 10, 5)).is_some(),
+        NameKind::Type => read_type(Part::of(line, TYPE_AT, types::COLUMNS)).is_some(),
+        NameKind::Plan | NameKind::Description => read_plan(Part::of(
+            line,
+            PLAN_AT,
+            plans::COLUMNS,
+        )).is_some(),
         _ => true,
     }
 }
@@ -170,7 +190,7 @@ impl LineTest for PlaceTest {
     ghost key = { λ this line. take 3 line };
 
     fn is_good(&self, _before: u64, line: &Row) -> Result<bool, StatementFault> {
-        let Some(name) = read_name(Part::of(line, 0, 4)) else {
+        let Some(name) = read_name(Part::of(line, NAME_AT, more_names::COLUMNS)) else {
             return Ok(false);
         };
         Ok(is_place_there(name.kind, line))
@@ -191,7 +211,7 @@ impl LineTest for OfferTest {
     ghost key = { λ this line. take 3 line };
 
     fn is_good(&self, _before: u64, line: &Row) -> Result<bool, StatementFault> {
-        let Some(name) = read_name(Part::of(line, 0, 4)) else {
+        let Some(name) = read_name(Part::of(line, NAME_AT, more_names::COLUMNS)) else {
             return Ok(false);
         };
         Ok(is_offer_there(name.kind, line))

@@ -10,11 +10,15 @@ ghost use Rattle.bike_catalogue_rules.specs.Tests.{segment_name, comes_after, is
 
 use crate::key::columns_key;
 use crate::types::has_plan;
+use bike_book::columns::segments;
 use bike_fixed::Within;
 use bike_judges::{BadKey, Judge, Query, judge_lines};
 use bike_readings::{Part, read_segment};
 use bike_schema::StatementFault;
 use sqlite::{Alter, Connection, Row};
+
+/// Where the row of a segment stands in its line.
+const SEGMENT_AT: usize = 0;
 
 /// A segment by its plan, where that is there, and its number in it.
 #[derive(Clone, Copy)]
@@ -30,7 +34,7 @@ fn segment_name(line: &Row) -> Option<SegmentName<'_>>
     if !has_plan(line) {
         return None;
     }
-    match read_segment(Part::of(line, 0, 6)) {
+    match read_segment(Part::of(line, SEGMENT_AT, segments::COLUMNS)) {
         Some(segment) => Some(SegmentName {
             plan: segment.plan_id,
             number: segment.seq,

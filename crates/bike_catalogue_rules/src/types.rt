@@ -8,17 +8,24 @@ ghost use Rattle.bike_judges.specs.Verdicts.{JudgesTable};
 ghost use Rattle.bike_catalogue_rules.specs.Tests.{has_plan, is_type};
 
 use crate::key::columns_key;
+use bike_book::columns::{plans, types};
 use bike_judges::{BadKey, LineJudge, LineTest, Query, judge_lines};
 use bike_operator::MOST_TYPES;
 use bike_readings::{Part, read_plan, read_type};
 use bike_schema::StatementFault;
 use sqlite::{Alter, Connection, Row};
 
+/// Where the row of a vehicle type stands in its line.
+const TYPE_AT: usize = 0;
+
+/// Where that of its plan stands. In the line of a segment it stands in the same column, since both rows are of one width.
+const PLAN_AT: usize = TYPE_AT + types::COLUMNS;
+
 /// Whether the plan is there that a segment or a vehicle type names.
 pub(crate) fn has_plan(line: &Row) -> bool
     ensures { result ≡ has_plan line.now }
 {
-    read_plan(Part::of(line, 6, 5)).is_some()
+    read_plan(Part::of(line, PLAN_AT, plans::COLUMNS)).is_some()
 }
 
 /// A row of `types` spells a vehicle type, its default plan is there, and there is room for it.
@@ -34,7 +41,7 @@ impl LineTest for TypeTest {
         Ok(
             before < u64::from(MOST_TYPES)
                 && has_plan(line)
-                && read_type(Part::of(line, 0, 6)).is_some(),
+                && read_type(Part::of(line, TYPE_AT, types::COLUMNS)).is_some(),
         )
     }
 

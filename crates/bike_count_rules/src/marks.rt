@@ -4,12 +4,25 @@ ghost use Rattle.std.specs.Prelude.{◌≡◌, IfOk, OnOk, None, false, get_or};
 ghost use Rattle.sqlite_value.specs.Order.{column};
 ghost use Rattle.bike_count_rules.specs.Tallies.{is_place, has_mark, is_at, none_marked, marks_after};
 
+use bike_book::columns::docks;
 use bike_fields::{DockNumber, Ident, MOST_DOCKS};
 use bike_readings::{Part, read_dock};
 use bike_schema::StatementFault;
 use sqlite::Row;
 use sqlite::types::ValueRef;
 use std::alloc::Global;
+
+/// The column that holds 0 in a line of a dock, and 1 in one of a type.
+pub(crate) const HAS_TYPE: usize = 1;
+
+/// The column that holds 1 in a type's line of a bicycle, and 0 in that of its counts.
+pub(crate) const HAS_BIKE: usize = 3;
+
+/// The column with the number of the bicycle.
+const BIKE: usize = 4;
+
+/// Where the row begins, of whatever table it is.
+pub(crate) const ROW_AT: usize = BIKE + 1;
 
 /// A station's docks have these places by their numbers, of which 0 is no dock's.
 pub(crate) const PLACES: usize = MOST_DOCKS as usize + 1;
@@ -96,10 +109,10 @@ impl Marks {
     pub(crate) fn mark(&mut self, alloc: Global, line: &Row) -> Result<(), StatementFault>
         ensures { OnOk result (self.new ≡ marks_after self.old line.now) }
     {
-        if !is_place(line, 1, 0) {
+        if !is_place(line, HAS_TYPE, 0) {
             return Ok(());
         }
-        let Some(dock) = read_dock(Part::of(line, 5, 3)) else {
+        let Some(dock) = read_dock(Part::of(line, ROW_AT, docks::COLUMNS)) else {
             return Ok(());
         };
         if !dock.is_broken {

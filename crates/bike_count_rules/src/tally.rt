@@ -9,7 +9,8 @@ ghost use Rattle.bike_count_rules.specs.Tallies.{is_same, tally_sum, bad_key, co
 ghost use Rattle.bike_places.specs.Laws.{one};
 ghost use Rattle.bike_readings.specs.Views.{place_of};
 
-use crate::marks::{Marks, ident, is_place};
+use crate::marks::{HAS_BIKE, HAS_TYPE, Marks, ROW_AT, ident, is_place};
+use bike_book::columns::{bikes, counts};
 use bike_fields::Ident;
 use bike_judges::BadKey;
 use bike_operator::BikeState;
@@ -86,7 +87,7 @@ fn is_fit(state: BikeState) -> bool
 fn count_tally(alloc: Global, line: &Row) -> Result<Option<Tally>, StatementFault>
     ensures { IfOk result (λ tally. tally ≡ count_tally (count_read (part 5 4 line.now))) }
 {
-    let Some(counts) = read_counts(Part::of(line, 5, 4)) else {
+    let Some(counts) = read_counts(Part::of(line, ROW_AT, counts::COLUMNS)) else {
         return Ok(None);
     };
     Ok(Some(Tally {
@@ -136,7 +137,7 @@ fn one(passes: bool) -> u64
 fn bike_tally(alloc: Global, marks: &Marks, line: &Row) -> Result<Option<Tally>, StatementFault>
     ensures { IfOk result (λ tally. tally ≡ bike_tally (has_mark marks.now) (bike_read (part 5 8 line.now))) }
 {
-    match read_bike(Part::of(line, 5, 8)) {
+    match read_bike(Part::of(line, ROW_AT, bikes::COLUMNS)) {
         Some(bike) => placed_tally(alloc, marks, bike.type_id, bike.state, bike.place),
         None => Ok(None),
     }
@@ -150,10 +151,10 @@ pub(crate) fn tally_in(
 ) -> Result<Option<Tally>, StatementFault>
     ensures { IfOk result (λ tally. tally ≡ tally_in (has_mark marks.now) line.now) }
 {
-    if !is_place(line, 1, 1) {
+    if !is_place(line, HAS_TYPE, 1) {
         return Ok(None);
     }
-    if is_place(line, 3, 1) {
+    if is_place(line, HAS_BIKE, 1) {
         return bike_tally(alloc, marks, line);
     }
     count_tally(alloc, line)

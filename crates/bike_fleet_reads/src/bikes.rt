@@ -16,6 +16,7 @@ ghost use Rattle.bike_fleet_reads.specs.Holds.{HoldsAny, HoldsBike, HoldsNumbere
 
 use crate::columns::{count_of, is_full, last_of};
 use crate::places::place_at;
+use bike_book::columns::bikes;
 use bike_fields::{BicycleNumber, Ident, TruckNumber};
 use bike_operator::{Bike, MOST_BIKES};
 use bike_rows::lookup::first_row;
@@ -96,9 +97,9 @@ fn count_on_truck<S: Alter>(
 fn bike_at(alloc: Global, row: &Row) -> Result<Bike, StatementFault>
     ensures { IfOk result (λ bike. HoldsBike row.now bike) }
 {
-    let state = state_at(row, 2)?;
+    let state = state_at(row, bikes::STATE)?;
     let place = place_at(alloc, row)?;
-    let type_id = ident_at(alloc, row, 1)?;
+    let type_id = ident_at(alloc, row, bikes::TYPE_ID)?;
     Ok(Bike {
         type_id,
         state,
@@ -128,7 +129,7 @@ fn numbered_bike_of(
 {
     match row {
         Some(row) => {
-            let number = number_at(row, 0)?;
+            let number = number_at(row, bikes::BIKE)?;
             let bike = bike_at(alloc, row)?;
             Ok(Some(NumberedBike { number, bike }))
         }

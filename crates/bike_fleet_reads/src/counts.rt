@@ -9,6 +9,7 @@ ghost use Rattle.bike_fleet_reads.specs.Fleet.{AreCounts};
 ghost use Rattle.bike_fleet_reads.specs.Holds.{HoldsAny, HoldsCounts};
 
 use crate::columns::whole_at;
+use bike_book::columns::counts;
 use bike_fields::Ident;
 use bike_rows::lookup::first_row;
 use bike_schema::StatementFault;
@@ -45,8 +46,8 @@ fn counts_of(row: &Option<Row>) -> Result<Option<TypeCounts>, StatementFault>
 {
     match row {
         Some(row) => {
-            let available = whole_at(row, 2)?;
-            let disabled = whole_at(row, 3)?;
+            let available = whole_at(row, counts::AVAILABLE)?;
+            let disabled = whole_at(row, counts::DISABLED)?;
             Ok(Some(TypeCounts {
                 available,
                 disabled,

@@ -9,6 +9,7 @@ ghost use Rattle.bike_schema.specs.Answers.{Answers};
 ghost use Rattle.bike_fleet_reads.specs.Fleet.{IsMark};
 ghost use Rattle.bike_fleet_reads.specs.Holds.{HoldsAny, HoldsMark};
 
+use bike_book::columns::docks;
 use bike_fields::Ident;
 use bike_rows::lookup::first_row;
 use bike_schema::{StatementFault, flag_at};
@@ -36,7 +37,7 @@ fn mark_of(row: &Option<Row>) -> Result<Option<bool>, StatementFault>
 {
     match row {
         Some(row) => {
-            let is_broken = flag_at(row, 2)?;
+            let is_broken = flag_at(row, docks::BROKEN)?;
             Ok(Some(is_broken))
         }
         None => Ok(None),

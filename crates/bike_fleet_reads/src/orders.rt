@@ -13,6 +13,7 @@ ghost use Rattle.bike_schema.specs.Answers.{Answers};
 ghost use Rattle.bike_fleet_reads.specs.Holds.{HoldsAny, HoldsEnd, HoldsOrder, HoldsOrderNumbers};
 
 use crate::columns::{count_of, last_of, whole_at};
+use bike_book::columns::orders;
 use bike_fields::{OrderNumber, OrderQuantity, TruckNumber};
 use bike_fixed::Within;
 use bike_operator::Order;
@@ -95,10 +96,10 @@ fn end_at(alloc: Global, row: &Row, at: usize) -> Result<OrderEnd, StatementFaul
 fn numbers_at(row: &Row) -> Result<OrderNumbers, StatementFault>
     ensures { IfOk result (λ numbers. HoldsOrderNumbers row.now numbers) }
 {
-    let truck = number_at(row, 1)?;
-    let count = number_at(row, 5)?;
-    let delivered = whole_at(row, 6)?;
-    let is_open = flag_at(row, 7)?;
+    let truck = number_at(row, orders::TRUCK)?;
+    let count = number_at(row, orders::QUANTITY)?;
+    let delivered = whole_at(row, orders::DELIVERED)?;
+    let is_open = flag_at(row, orders::IS_OPEN)?;
     Ok(OrderNumbers {
         truck,
         count,
@@ -112,9 +113,9 @@ fn order_at(alloc: Global, row: &Row) -> Result<Order, StatementFault>
     ensures { IfOk result (λ order. HoldsOrder row.now order) }
 {
     let numbers = numbers_at(row)?;
-    let from_end = end_at(alloc, row, 2)?;
-    let to_end = end_at(alloc, row, 3)?;
-    let type_id = ident_at(alloc, row, 4)?;
+    let from_end = end_at(alloc, row, orders::FROM_END)?;
+    let to_end = end_at(alloc, row, orders::TO_END)?;
+    let type_id = ident_at(alloc, row, orders::TYPE_ID)?;
     Ok(Order {
         truck: numbers.truck,
         from_end,

@@ -6,6 +6,7 @@ ghost use Rattle.sqlite.specs.Values.{or_null};
 ghost use Rattle.bike_book.specs.Rows.{number_value, place_columns};
 ghost use Rattle.bike_fleet_reads.specs.Holds.{columns_at, HoldsPlace};
 
+use bike_book::columns::bikes;
 use bike_fields::{DockNumber, Ident, OrderNumber, RentalNumber, TruckNumber};
 use bike_operator::Place;
 use bike_schema::{StatementFault, optional_ident_at, optional_number_at};
@@ -26,10 +27,10 @@ fn numbers_at(row: &Row) -> Result<PlaceNumbers, StatementFault>
     ensures { IfOk result (λ n. columns_at 4 4 row.now ≡ or_null number_value n.dock
         ∷ or_null number_value n.rental ∷ or_null number_value n.truck ∷ or_null number_value n.order ∷ []) }
 {
-    let dock = optional_number_at(row, 4)?;
-    let rental = optional_number_at(row, 5)?;
-    let truck = optional_number_at(row, 6)?;
-    let order = optional_number_at(row, 7)?;
+    let dock = optional_number_at(row, bikes::DOCK)?;
+    let rental = optional_number_at(row, bikes::RENTAL)?;
+    let truck = optional_number_at(row, bikes::TRUCK)?;
+    let order = optional_number_at(row, bikes::ORD)?;
     Ok(PlaceNumbers {
         dock,
         rental,
@@ -64,6 +65,6 @@ pub(crate) fn place_at(alloc: Global, row: &Row) -> Result<Place, StatementFault
     ensures { IfOk result (λ place. HoldsPlace row.now place) }
 {
     let numbers = numbers_at(row)?;
-    let station = optional_ident_at(alloc, row, 3)?;
+    let station = optional_ident_at(alloc, row, bikes::STATION_ID)?;
     place_of(station, numbers).ok_or(StatementFault::StoreFailed)
 }

@@ -13,6 +13,7 @@ ghost use Rattle.bike_fleet_reads.specs.Fleet.{dock_numbers_at, station_row_at};
 ghost use Rattle.bike_fleet_reads.specs.Holds.{HoldsAny, HoldsStation, HoldsDockNumbers};
 
 use crate::columns::{is_full, whole_at};
+use bike_book::columns::stations;
 use bike_fields::Ident;
 use bike_operator::{MOST_STATIONS, StationView};
 use bike_rows::lookup::first_row;
@@ -58,10 +59,10 @@ fn station_of(row: &Option<Row>) -> Result<Option<StationView>, StatementFault>
 {
     match row {
         Some(row) => {
-            let docks = number_at(row, 4)?;
-            let is_installed = flag_at(row, 5)?;
-            let is_renting = flag_at(row, 6)?;
-            let is_returning = flag_at(row, 7)?;
+            let docks = number_at(row, stations::DOCKS)?;
+            let is_installed = flag_at(row, stations::INSTALLED)?;
+            let is_renting = flag_at(row, stations::RENTING)?;
+            let is_returning = flag_at(row, stations::RETURNING)?;
             Ok(Some(StationView {
                 docks,
                 is_installed,
@@ -79,8 +80,8 @@ fn dock_numbers_of(row: &Option<Row>) -> Result<Option<DockNumbers>, StatementFa
 {
     match row {
         Some(row) => {
-            let free = whole_at(row, 9)?;
-            let broken = whole_at(row, 10)?;
+            let free = whole_at(row, stations::FREE)?;
+            let broken = whole_at(row, stations::BROKEN)?;
             Ok(Some(DockNumbers { free, broken }))
         }
         None => Ok(None),

@@ -9,6 +9,7 @@ ghost use Rattle.bike_book.specs.Found.{row_under, rows_of};
 ghost use Rattle.bike_schema.specs.Answers.{Answers};
 ghost use Rattle.bike_fleet_reads.specs.Holds.{HoldsAny, HoldsTruck};
 
+use bike_book::columns::trucks;
 use bike_fields::TruckNumber;
 use bike_office_reads::{END, are_at_least};
 use bike_operator::{MOST_TRUCKS, TruckView};
@@ -36,7 +37,7 @@ fn truck_of(row: &Option<Row>) -> Result<Option<TruckView>, StatementFault>
 {
     match row {
         Some(row) => {
-            let capacity = number_at(row, 1)?;
+            let capacity = number_at(row, trucks::CAPACITY)?;
             Ok(Some(TruckView { capacity }))
         }
         None => Ok(None),

@@ -11,6 +11,7 @@ ghost use Rattle.bike_schema.specs.Answers.{Answers};
 ghost use Rattle.bike_office_reads.specs.Within.{rows_from};
 ghost use Rattle.bike_fleet_reads.specs.Holds.{HoldsAny, HoldsPlan};
 
+use bike_book::columns::types;
 use bike_fields::Ident;
 use bike_office_reads::{END, are_at_least};
 use bike_operator::MOST_TYPES;
@@ -63,7 +64,7 @@ fn plan_of(alloc: Global, row: &Option<Row>) -> Result<Option<Ident>, StatementF
 {
     match row {
         Some(row) => {
-            let plan = ident_at(alloc, row, 5)?;
+            let plan = ident_at(alloc, row, types::PLAN_ID)?;
             Ok(Some(plan))
         }
         None => Ok(None),

@@ -10,6 +10,7 @@ ghost use Rattle.bike_fleet_rules.specs.Tests.{first_key, has_dock, is_dock_ther
 
 use crate::key::number_key;
 use crate::partners::{has_truck, has_type};
+use bike_book::columns::{bikes, orders, rentals, stations, types};
 use bike_fields::{BicycleNumber, DockNumber, TruckNumber};
 use bike_judges::{BadKey, LineTest};
 use bike_operator::{BikeState, MOST_BIKES};
@@ -18,6 +19,24 @@ use bike_readings::{
 };
 use bike_schema::StatementFault;
 use sqlite::Row;
+
+/// Where the row of a bicycle stands in its line.
+const BIKE_AT: usize = 0;
+
+/// Where that of its type stands, in a line with type and station.
+const TYPE_AT: usize = BIKE_AT + bikes::COLUMNS;
+
+/// Where that of its station stands, in the same line.
+const STATION_AT: usize = TYPE_AT + types::COLUMNS;
+
+/// Where that of its rental stands, in a line with rental and order.
+const RENTAL_AT: usize = BIKE_AT + bikes::COLUMNS;
+
+/// Where that of its order stands, in the same line.
+const ORDER_AT: usize = RENTAL_AT + rentals::COLUMNS;
+
+/// Where that of its truck stands, in a line with the truck.
+const TRUCK_AT: usize = BIKE_AT + bikes::COLUMNS;
 
 /// Bicycles, each with its type and its station.
 #[derive(Debug, Drop)]
@@ -35,14 +54,14 @@ pub(crate) struct BikeTrucks;
 fn bike_of(line: &Row) -> Option<StoredBike<'_>>
     ensures { option_map bike_of result ≡ bike_read (part 0 8 line.now) }
 {
-    read_bike(Part::of(line, 0, 8))
+    read_bike(Part::of(line, BIKE_AT, bikes::COLUMNS))
 }
 
 /// Whether the line's station has the dock.
 fn has_dock(line: &Row, dock: DockNumber) -> bool
     ensures { result ≡ has_dock dock (station_read (part 14 12 line.now)) }
 {
-    match read_station(Part::of(line, 14, 12)) {
+    match read_station(Part::of(line, STATION_AT, stations::COLUMNS)) {
         Some(station) => dock.get() <= station.docks.get(),
         None => false,
     }
@@ -78,7 +97,7 @@ fn is_where_retired(state: BikeState, place: &StoredPlace<'_>) -> bool
 fn is_ridden(line: &Row, bike: BicycleNumber) -> bool
     ensures { result ≡ is_ridden bike (rental_read (part 8 10 line.now)) }
 {
-    match read_rental(Part::of(line, 8, 10)) {
+    match read_rental(Part::of(line, RENTAL_AT, rentals::COLUMNS)) {
         Some(rental) => rental.closing.is_none() && rental.bike.get() == bike.get(),
         None => false,
     }
@@ -88,7 +107,7 @@ fn is_ridden(line: &Row, bike: BicycleNumber) -> bool
 fn is_carried(line: &Row, type_id: &str, truck: TruckNumber) -> bool
     ensures { result ≡ is_carried type_id.now truck (order_read (part 18 8 line.now)) }
 {
-    match read_order(Part::of(line, 18, 8)) {
+    match read_order(Part::of(line, ORDER_AT, orders::COLUMNS)) {
         Some(order) => order.is_open
             && order.truck.get() == truck.get()
             && order.type_id == type_id,
@@ -112,7 +131,7 @@ fn is_truck_there(place: &StoredPlace<'_>, line: &Row) -> bool
     ensures { result ≡ is_truck_there (place_of place.now) (truck_read (part 8 2 line.now)) }
 {
     match place {
-        StoredPlace::Truck { truck: _, order: _ } => has_truck(line, 8),
+        StoredPlace::Truck { truck: _, order: _ } => has_truck(line, TRUCK_AT),
         _ => true,
     }
 }
@@ -127,7 +146,7 @@ fn is_named(before: u64, line: &Row) -> bool
         return false;
     };
     before < u64::from(MOST_BIKES)
-        && has_type(line, 8)
+        && has_type(line, TYPE_AT)
         && is_dock_there(&bike.place, line)
         && is_where_retired(bike.state, &bike.place)
 }

@@ -13,6 +13,7 @@ ghost use Rattle.bike_judges.specs.Lines.{part};
 ghost use Rattle.bike_fleet_rules.specs.Counted.{counted_at, counted_in, place_at};
 ghost use Rattle.bike_fleet_rules.specs.Loads.{is_of};
 
+use bike_book::columns::bikes;
 use bike_fields::{DockNumber, OrderNumber, RentalNumber, TruckNumber};
 use bike_fixed::Within;
 use bike_operator::BikeState;
@@ -20,6 +21,30 @@ use bike_readings::{StoredBike, StoredPlace};
 use bike_schema::{number_at, optional_number_at, state_at};
 use sqlite::Row;
 use sqlite::types::ValueRef;
+
+/// The column with the number of the owner, a truck or an order.
+const OWNER: usize = 0;
+
+/// The column that says which table the line is of.
+pub(crate) const TABLE: usize = 1;
+
+/// The column by which the owner's lines of one table are in order.
+const ORDINAL: usize = 2;
+
+/// Where the row begins, of whatever table it is.
+pub(crate) const ROW_AT: usize = ORDINAL + 1;
+
+/// From the station of a place to its dock.
+const TO_DOCK: usize = bikes::DOCK - bikes::STATION_ID;
+
+/// From there to the rental.
+const TO_RENTAL: usize = bikes::RENTAL - bikes::STATION_ID;
+
+/// From there to the truck.
+const TO_TRUCK: usize = bikes::TRUCK - bikes::STATION_ID;
+
+/// From there to the order.
+const TO_ORDER: usize = bikes::ORD - bikes::STATION_ID;
 
 /// a-z 0-9 _ -
 fn is_ident_byte(b: u8) -> bool
@@ -74,7 +99,7 @@ fn serial_in(line: &Row, at: usize) -> Option<u32>
 pub(crate) fn is_of(line: &Row, owner: u32) -> bool
     ensures { result ≡ is_of owner line.now }
 {
-    match serial_in(line, 0) {
+    match serial_in(line, OWNER) {
         Some(number) => number == owner,
         None => false,
     }
@@ -190,10 +215,10 @@ fn place_at(line: &Row, at: usize) -> Option<StoredPlace<'_>>
     ensures { option_map place_of result ≡ place_at at line.now }
 {
     let station = ident_or_none(line, at)?;
-    let dock = number_or_none(line, at + 1)?;
-    let rental = number_or_none(line, at + 2)?;
-    let truck = number_or_none(line, at + 3)?;
-    let order = number_or_none(line, at + 4)?;
+    let dock = number_or_none(line, at + TO_DOCK)?;
+    let rental = number_or_none(line, at + TO_RENTAL)?;
+    let truck = number_or_none(line, at + TO_TRUCK)?;
+    let order = number_or_none(line, at + TO_ORDER)?;
     Some(first_place(station, dock, rental, truck, order))
 }
 
@@ -203,13 +228,13 @@ fn counted_at(line: &Row, first: usize) -> Option<StoredBike<'_>>
     ensures { option_map bike_of result ≡ counted_at first line.now }
 {
     let count = line.column_count();
-    if count < 8 || first > count - 8 {
+    if count < bikes::COLUMNS || first > count - bikes::COLUMNS {
         return None;
     }
     let bike = number_in(line, first)?;
-    let type_id = ident_in(line, first + 1)?;
-    let state = state_in(line, first + 2)?;
-    match place_at(line, first + 3) {
+    let type_id = ident_in(line, first + bikes::TYPE_ID)?;
+    let state = state_in(line, first + bikes::STATE)?;
+    match place_at(line, first + bikes::STATION_ID) {
         Some(place) => Some(StoredBike {
             bike,
             type_id,

@@ -14,6 +14,15 @@ use bike_readings::{StoredBike, StoredPlace};
 use bike_schema::StatementFault;
 use sqlite::Row;
 
+/// The column that says which table the line is of, behind station and dock.
+const TABLE: usize = 2;
+
+/// The column with the number of the bicycle.
+const BIKE: usize = 3;
+
+/// Where the row begins, of whatever table it is.
+const ROW_AT: usize = BIKE + 1;
+
 /// Docks with the bicycles in them: a bicycle in the dock of the one before it is bad.
 #[derive(Drop)]
 pub(crate) struct DockJudge {
@@ -27,11 +36,11 @@ pub(crate) struct DockJudge {
 fn counted_line(line: &Row) -> Option<StoredBike<'_>>
     ensures { option_map bike_of result ≡ counted_line line.now }
 {
-    let place: Option<Within<1, 1>> = number_in(line, 2);
+    let place: Option<Within<1, 1>> = number_in(line, TABLE);
     if place.is_none() {
         return None;
     }
-    counted_bike(line, 4)
+    counted_bike(line, ROW_AT)
 }
 
 /// Whether the place is a dock.

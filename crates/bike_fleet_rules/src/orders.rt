@@ -9,8 +9,9 @@ ghost use Rattle.bike_rows.specs.Calls.{ReadsWhere};
 ghost use Rattle.bike_schema.specs.Tables.{IsOurs};
 ghost use Rattle.bike_judges.specs.Verdicts.{JudgesTable};
 
-use crate::counted::{counted_bike, is_of, number_in};
+use crate::counted::{ROW_AT, TABLE, counted_bike, is_of, number_in};
 use crate::order_tests::{OrderEnds, OrderNames};
+use bike_book::columns::orders;
 use bike_fields::{OrderNumber, OrderQuantity};
 use bike_fixed::Within;
 use bike_judges::{Account, BadKey, LineJudge, Opening, Query, StretchJudge, judge_lines, least};
@@ -48,7 +49,7 @@ fn loads(line: &Row, order: OrderNumber) -> bool
     if !is_of(line, order.get()) {
         return false;
     }
-    match counted_bike(line, 3) {
+    match counted_bike(line, ROW_AT) {
         Some(bike) => is_for_order(bike.place, order),
         None => false,
     }
@@ -64,11 +65,11 @@ impl Account for OrderAccount {
     ghost key = { order_key };
 
     fn begin(line: &Row) -> Result<Opening<OrderAccount>, StatementFault> {
-        let place: Option<Within<0, 0>> = number_in(line, 1);
+        let place: Option<Within<0, 0>> = number_in(line, TABLE);
         if place.is_none() {
             return Ok(Opening::Item);
         }
-        match read_order(Part::of(line, 3, 8)) {
+        match read_order(Part::of(line, ROW_AT, orders::COLUMNS)) {
             Some(order) => Ok(Opening::Head(OrderAccount {
                 order: order.order,
                 count: order.count,

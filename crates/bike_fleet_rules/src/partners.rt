@@ -7,6 +7,7 @@ ghost use Rattle.bike_readings.specs.Views.{end_of};
 ghost use Rattle.bike_judges.specs.Lines.{part};
 ghost use Rattle.bike_fleet_rules.specs.Tests.{holds, is_end_there};
 
+use bike_book::columns::{stations, trucks, types};
 use bike_fields::OrderQuantity;
 use bike_readings::{Part, StoredEnd, read_station, read_truck, read_type};
 use sqlite::Row;
@@ -15,28 +16,28 @@ use sqlite::Row;
 pub(crate) fn has_type(line: &Row, first: usize) -> bool
     ensures { result ≡ is_some (type_read (part first 6 line.now)) }
 {
-    read_type(Part::of(line, first, 6)).is_some()
+    read_type(Part::of(line, first, types::COLUMNS)).is_some()
 }
 
 /// Whether a station stands in the line from the column `first` on.
 pub(crate) fn has_station(line: &Row, first: usize) -> bool
     ensures { result ≡ is_some (station_read (part first 12 line.now)) }
 {
-    read_station(Part::of(line, first, 12)).is_some()
+    read_station(Part::of(line, first, stations::COLUMNS)).is_some()
 }
 
 /// Whether a truck stands in the line from the column `first` on.
 pub(crate) fn has_truck(line: &Row, first: usize) -> bool
     ensures { result ≡ is_some (truck_read (part first 2 line.now)) }
 {
-    read_truck(Part::of(line, first, 2)).is_some()
+    read_truck(Part::of(line, first, trucks::COLUMNS)).is_some()
 }
 
 /// Whether the truck that stands in the line from the column `first` on holds so many bicycles.
 pub(crate) fn holds(line: &Row, first: usize, count: OrderQuantity) -> bool
     ensures { result ≡ holds count (truck_read (part first 2 line.now)) }
 {
-    match read_truck(Part::of(line, first, 2)) {
+    match read_truck(Part::of(line, first, trucks::COLUMNS)) {
         Some(truck) => count.get() <= truck.capacity.get(),
         None => false,
     }

@@ -9,7 +9,8 @@ ghost use Rattle.bike_rows.specs.Calls.{ReadsWhere};
 ghost use Rattle.bike_schema.specs.Tables.{IsOurs};
 ghost use Rattle.bike_judges.specs.Verdicts.{JudgesTable};
 
-use crate::counted::{counted_bike, is_of, number_in};
+use crate::counted::{ROW_AT, TABLE, counted_bike, is_of, number_in};
+use bike_book::columns::trucks;
 use bike_fields::{TruckCapacity, TruckNumber};
 use bike_fixed::Within;
 use bike_judges::{Account, BadKey, Opening, Query, StretchJudge, judge_lines};
@@ -47,7 +48,7 @@ fn loads(line: &Row, truck: TruckNumber) -> bool
     if !is_of(line, truck.get()) {
         return false;
     }
-    match counted_bike(line, 3) {
+    match counted_bike(line, ROW_AT) {
         Some(bike) => is_on_truck(bike.place, truck),
         None => false,
     }
@@ -63,11 +64,11 @@ impl Account for TruckAccount {
     ghost key = { truck_key };
 
     fn begin(line: &Row) -> Result<Opening<TruckAccount>, StatementFault> {
-        let place: Option<Within<0, 0>> = number_in(line, 1);
+        let place: Option<Within<0, 0>> = number_in(line, TABLE);
         if place.is_none() {
             return Ok(Opening::Item);
         }
-        match read_truck(Part::of(line, 3, 2)) {
+        match read_truck(Part::of(line, ROW_AT, trucks::COLUMNS)) {
             Some(truck) => Ok(Opening::Head(TruckAccount {
                 truck: truck.truck,
                 capacity: truck.capacity,

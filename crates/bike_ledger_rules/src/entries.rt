@@ -15,6 +15,7 @@ use crate::moment::find_moment;
 use crate::numbers::ByNumber;
 use crate::open_rentals::count_rentals;
 use crate::sums::Sums;
+use bike_book::columns::{entries, rentals};
 use bike_fixed::Moment;
 use bike_judges::{BadKey, Judge, Query, judge_lines};
 use bike_ledger::EntryKind;
@@ -23,6 +24,12 @@ use bike_readings::{Part, StoredEntry, StoredRental, read_entry, read_rental};
 use bike_schema::StatementFault;
 use sqlite::{Alter, Connection, Row};
 use std::alloc::Global;
+
+/// Where the row of an entry stands in its line.
+const ENTRY_AT: usize = 0;
+
+/// Where that of its rental stands.
+const RENTAL_AT: usize = ENTRY_AT + entries::COLUMNS;
 
 /// Whether it is a closed rental of the entry's rider, at the amount where the entry is a fare.
 fn is_of(entry: &StoredEntry, rental: &StoredRental<'_>) -> bool
@@ -44,7 +51,7 @@ fn is_booked(entry: &StoredEntry, line: &Row) -> bool
     if entry.kind == EntryKind::TopUp {
         return true;
     }
-    match read_rental(Part::of(line, 6, 10)) {
+    match read_rental(Part::of(line, RENTAL_AT, rentals::COLUMNS)) {
         Some(rental) => is_of(entry, &rental),
         None => false,
     }
@@ -92,7 +99,7 @@ impl Judge for EntryJudge {
     ghost says = { λ j lines verdict. first_bad (is_listed j.riders) j.moment j.riding j.fares j.before lines ≡ verdict };
 
     fn take(&mut self, line: &Row) -> Result<Option<BadKey>, StatementFault> {
-        let Some(entry) = read_entry(Part::of(line, 0, 6)) else {
+        let Some(entry) = read_entry(Part::of(line, ENTRY_AT, entries::COLUMNS)) else {
             return Ok(Some(number_key(line)?));
         };
         let is_next = self.is_next(&entry);

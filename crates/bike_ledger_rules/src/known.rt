@@ -9,11 +9,18 @@ ghost use Rattle.bike_ledger_rules.specs.Known.{value_at, has_rider, is_listed, 
 
 use crate::idents::Idents;
 use crate::numbers::ByNumber;
+use bike_book::columns::{bikes, stations};
 use bike_judges::{LineFold, Query, fold_lines};
 use bike_readings::{Part, StoredPlace, read_bike, read_plan, read_rider, read_station};
 use bike_schema::StatementFault;
 use sqlite::{Alter, Connection, Row};
 use std::alloc::Global;
+
+/// Where the row of a bicycle stands in a line with its truck.
+const BIKE_AT: usize = 0;
+
+/// Where the row of a station stands in a line with its region.
+const STATION_AT: usize = 0;
 
 /// The numbers of riders.
 #[derive(Debug, Drop)]
@@ -52,7 +59,7 @@ impl LineFold for BikeSet {
     ghost after = { with_bike };
 
     fn add(&mut self, line: &Row) -> Result<(), StatementFault> {
-        if let Some(row) = read_bike(Part::of(line, 0, 8)) {
+        if let Some(row) = read_bike(Part::of(line, BIKE_AT, bikes::COLUMNS)) {
             self.rentals.set(row.bike.get(), rental_at(&row.place))?;
         }
         Ok(())
@@ -86,7 +93,7 @@ impl LineFold for StationSet {
     ghost after = { with_station };
 
     fn add(&mut self, line: &Row) -> Result<(), StatementFault> {
-        if let Some(row) = read_station(Part::of(line, 0, 12)) {
+        if let Some(row) = read_station(Part::of(line, STATION_AT, stations::COLUMNS)) {
             self.idents.insert(row.station_id)?;
         }
         Ok(())

@@ -8,6 +8,7 @@ ghost use Rattle.bike_readings.specs.ReadOff.{moment_of};
 ghost use Rattle.bike_schema.specs.Tables.{IsOurs, tables_of};
 ghost use Rattle.bike_ledger_rules.specs.Lines.{MetaGood};
 
+use bike_book::columns::meta;
 use bike_fixed::Moment;
 use bike_rows::lookup::first_row;
 use bike_schema::{StatementFault, moment_at};
@@ -27,7 +28,7 @@ pub(crate) fn find_moment<S: Alter>(conn: &mut Connection<S>) -> Result<Moment, 
         (λ db moment. MetaGood (tables_of db) → moment ≡ moment_of (tables_of db).meta) }
 {
     match find_meta_row(conn)? {
-        Some(row) => moment_at(&row, 3),
+        Some(row) => moment_at(&row, meta::NOW),
         None => Err(StatementFault::StoreFailed),
     }
 }

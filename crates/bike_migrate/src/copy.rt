@@ -12,8 +12,25 @@ ghost use Rattle.bike_migrate.specs.Stations.{station_row, IsStationRow};
 use crate::inside::run;
 use crate::stations::{are_texts, are_wholes, value_at};
 use bike_book::NEWEST;
+use bike_book::columns::stations;
 use bike_schema::StatementFault;
 use sqlite::{Alter, Connection, Row, params};
+
+/// The columns of a station that hold texts.
+const TEXTS: [usize; 3] = [stations::STATION_ID, stations::NAME, stations::REGION_ID];
+
+/// Those that hold whole numbers.
+const WHOLES: [usize; 9] = [
+    stations::LAT,
+    stations::LON,
+    stations::DOCKS,
+    stations::INSTALLED,
+    stations::RENTING,
+    stations::RETURNING,
+    stations::REPORTED,
+    stations::FREE,
+    stations::BROKEN,
+];
 
 /// Sets the version in the row of `meta` to the newest.
 fn set_version<S: Alter>(conn: &mut Connection<S>) -> Result<(), StatementFault>
@@ -30,7 +47,7 @@ fn set_version<S: Alter>(conn: &mut Connection<S>) -> Result<(), StatementFault>
 fn is_station(row: &Row) -> bool
     ensures { IsTrue result → IsStationRow row.now }
 {
-    are_texts(row, &[0, 1, 11]) && are_wholes(row, &[2, 3, 4, 5, 6, 7, 8, 9, 10])
+    are_texts(row, &TEXTS) && are_wholes(row, &WHOLES)
 }
 
 /// Adds a station.
@@ -42,18 +59,18 @@ fn put_station<S: Alter>(conn: &mut Connection<S>, row: &Row) -> Result<(), Stat
         conn,
         "INSERT INTO stations_3 VALUES (?1, ?2, ?3, ?4, ?5, ?6, ?7, ?8, ?9, ?10, ?11, ?12)",
         &[
-            value_at(row, 0),
-            value_at(row, 1),
-            value_at(row, 2),
-            value_at(row, 3),
-            value_at(row, 4),
-            value_at(row, 5),
-            value_at(row, 6),
-            value_at(row, 7),
-            value_at(row, 8),
-            value_at(row, 9),
-            value_at(row, 10),
-            value_at(row, 11),
+            value_at(row, stations::STATION_ID),
+            value_at(row, stations::NAME),
+            value_at(row, stations::LAT),
+            value_at(row, stations::LON),
+            value_at(row, stations::DOCKS),
+            value_at(row, stations::INSTALLED),
+            value_at(row, stations::RENTING),
+            value_at(row, stations::RETURNING),
+            value_at(row, stations::REPORTED),
+            value_at(row, stations::FREE),
+            value_at(row, stations::BROKEN),
+            value_at(row, stations::REGION_ID),
         ],
     )
 }

@@ -10,6 +10,7 @@ ghost use Rattle.bike_earlier.specs.Earlier.{stations_layout};
 ghost use Rattle.bike_migrate.specs.Raised.{old_stations};
 ghost use Rattle.bike_migrate.specs.Stations.{AsksRows, is_text, is_whole, has_few, IsOver};
 
+use bike_book::columns::stations;
 use bike_earlier::{Earlier, MOST_DOCKS_BEFORE};
 use bike_schema::StatementFault;
 use sqlite::types::ValueRef;
@@ -75,7 +76,7 @@ pub(crate) fn are_wholes(row: &Row, places: &[usize]) -> bool
 fn has_few(row: &Row) -> bool
     ensures { result ≡ has_few row.now }
 {
-    match value_at(row, 4) {
+    match value_at(row, stations::DOCKS) {
         ValueRef::Int(docks) => docks <= i64::from(MOST_DOCKS_BEFORE),
         _ => true,
     }

@@ -10,6 +10,7 @@ ghost use Rattle.bike_schema.specs.Answers.{Answers};
 ghost use Rattle.bike_office_reads.specs.Accounts.{KeepsSame};
 ghost use Rattle.bike_office_reads.specs.ReadRows.{KeepsRow};
 
+use bike_book::columns::kept;
 use bike_commands::Reply;
 use bike_rows::lookup::first_row;
 use bike_schema::{StatementFault, text_at};
@@ -45,8 +46,8 @@ fn find_kept_row<S: Alter>(
 fn read_kept(alloc: Global, row: &Row) -> Result<KeptRow, StatementFault>
     ensures { IfOk result (KeepsRow row.now) }
 {
-    let command = text_at(alloc, row, 2)?;
-    let text = text_at(alloc, row, 3)?;
+    let command = text_at(alloc, row, kept::COMMAND)?;
+    let text = text_at(alloc, row, kept::REPLY)?;
     match Reply::read(text.as_str()) {
         Some(reply) => Ok(KeptRow { command, reply }),
         None => Err(StatementFault::StoreFailed),

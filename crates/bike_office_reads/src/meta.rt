@@ -8,6 +8,7 @@ ghost use Rattle.bike_book.specs.Found.{row_under};
 ghost use Rattle.bike_schema.specs.Answers.{Answers, IsReadOf};
 ghost use Rattle.bike_office_reads.specs.Accounts.{meta_of};
 
+use bike_book::columns::meta;
 use bike_fixed::{Cents, Moment};
 use bike_rows::lookup::first_row;
 use bike_schema::{StatementFault, cents_at, moment_at};
@@ -36,9 +37,9 @@ fn find_meta_row<S: Alter>(conn: &mut Connection<S>) -> Result<Option<Row>, Stat
 fn read_meta(row: &Row) -> Result<MetaRow, StatementFault>
     ensures { IsReadOf (λ m. meta_row NEWEST m.now m.cash m.revenue) row.now result }
 {
-    let now = moment_at(row, 3)?;
-    let cash = cents_at(row, 4)?;
-    let revenue = cents_at(row, 5)?;
+    let now = moment_at(row, meta::NOW)?;
+    let cash = cents_at(row, meta::CASH)?;
+    let revenue = cents_at(row, meta::REVENUE)?;
     Ok(MetaRow { now, cash, revenue })
 }
 

@@ -19,6 +19,7 @@ ghost use Rattle.bike_office_reads.specs.ReadRows.{IsOwnedName, is_name_within, 
 use crate::collect::{ReadRow, collect_rows, short_text_at};
 use crate::plans::find_system_row;
 use arrayvec::ArrayString;
+use bike_book::columns::system;
 use bike_catalogue::{MoreName, NameKind};
 use bike_fields::{Ident, LONGEST_IDENT, LONGEST_LANGUAGE, LONGEST_NAME, Language, Name};
 use bike_operator::MOST_FURTHER_NAMES;
@@ -26,6 +27,18 @@ use bike_schema::{StatementFault, ident_at, language_at};
 use sqlite::{Alter, Connection, Error, Row, Rows, params};
 use std::alloc::Global;
 use std::marker::Model;
+
+/// Where a line of a kind's names has the identifier of what has the name.
+const ID: usize = 0;
+
+/// Where it has the language.
+const LANGUAGE: usize = 1;
+
+/// Where it has the name.
+const NAME: usize = 2;
+
+/// How many columns such a line has.
+const COLUMNS: usize = 3;
 
 /// A further name as it is stored, with the identifier of what has it.
 #[derive(Drop)]
@@ -62,12 +75,12 @@ impl ReadRow for NameRow {
     ghost reads = { λ row x. row ≡ x };
 
     fn read(_alloc: Global, row: &Row) -> Result<NameRow, StatementFault> {
-        if row.column_count() != 3 {
+        if row.column_count() != COLUMNS {
             return Err(StatementFault::StoreFailed);
         }
-        let id = short_text_at(row, 0)?;
-        let language = short_text_at(row, 1)?;
-        let name = short_text_at(row, 2)?;
+        let id = short_text_at(row, ID)?;
+        let language = short_text_at(row, LANGUAGE)?;
+        let name = short_text_at(row, NAME)?;
         Ok(NameRow { id, language, name })
     }
 }
@@ -152,8 +165,8 @@ pub fn find_names<S: Alter>(
 fn read_system_key(alloc: Global, row: &Row) -> Result<(Ident, Language), StatementFault>
     ensures { IfOk result (λ x. (r : _) → row.now ≡ system_row r → x ≡ system_key r) }
 {
-    let system_id = ident_at(alloc, row, 1)?;
-    let language = language_at(alloc, row, 2)?;
+    let system_id = ident_at(alloc, row, system::SYSTEM_ID)?;
+    let language = language_at(alloc, row, system::LANGUAGE)?;
     Ok((system_id, language))
 }
 

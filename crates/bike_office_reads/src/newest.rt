@@ -9,6 +9,7 @@ ghost use Rattle.bike_schema.specs.Answers.{Answers};
 ghost use Rattle.bike_office_reads.specs.Newest.{NewestTells, newest_rental, number_if_open, newest_open, newest_number, open_after, ride_of};
 
 use crate::numbers::last_number;
+use bike_book::columns::rentals;
 use bike_fields::{RentalNumber, RiderNumber};
 use bike_rows::lookup::first_row;
 use bike_schema::{StatementFault, number_at, optional_moment_at};
@@ -42,11 +43,11 @@ fn find_newest_row<S: Alter>(
 fn read_open_number(row: &Row) -> Result<Option<RentalNumber>, StatementFault>
     ensures { IfOk result (λ x. (number : _) (r : _) (refunded : _) → row.now ≡ rental_row number r refunded → x ≡ number_if_open (number, r)) }
 {
-    let finish = optional_moment_at(row, 7)?;
+    let finish = optional_moment_at(row, rentals::FINISH)?;
     if finish.is_some() {
         return Ok(None);
     }
-    let number = number_at(row, 0)?;
+    let number = number_at(row, rentals::RENTAL)?;
     Ok(Some(number))
 }
 
@@ -101,8 +102,8 @@ pub(crate) fn select_open<S: Alter>(conn: &mut Connection<S>) -> Result<Vec<Row>
 fn read_ride(row: &Row) -> Result<Ride, StatementFault>
     ensures { IfOk result (λ x. (number : _) (r : _) (refunded : _) → row.now ≡ rental_row number r refunded → x ≡ ride_of (number, r)) }
 {
-    let number = number_at(row, 0)?;
-    let rider = number_at(row, 1)?;
+    let number = number_at(row, rentals::RENTAL)?;
+    let rider = number_at(row, rentals::RIDER)?;
     Ok(Ride { number, rider })
 }
 

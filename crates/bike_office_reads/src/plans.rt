@@ -13,6 +13,7 @@ ghost use Rattle.bike_office_reads.specs.Within.{rows_from};
 
 use crate::segments::find_segments;
 use crate::within::{END, are_at_least};
+use bike_book::columns::plans;
 use bike_catalogue::{Plan, Segment};
 use bike_fields::Ident;
 use bike_operator::MOST_PLANS;
@@ -69,11 +70,11 @@ fn select_plans<S: Alter>(conn: &mut Connection<S>) -> Result<Vec<Row>, Statemen
 fn read_plan(alloc: Global, row: &Row, segments: Vec<Segment>) -> Result<Plan, StatementFault>
     ensures { IfOk result (λ x. (p : _) → row.now ≡ plan_row p.plan_id p → segments.items ≡ p.segments → x ≡ p) }
 {
-    let plan_id = ident_at(alloc, row, 0)?;
-    let name = name_at(alloc, row, 1)?;
-    let price = number_at(row, 2)?;
-    let taxable = flag_at(row, 3)?;
-    let description = name_at(alloc, row, 4)?;
+    let plan_id = ident_at(alloc, row, plans::PLAN_ID)?;
+    let name = name_at(alloc, row, plans::NAME)?;
+    let price = number_at(row, plans::PRICE)?;
+    let taxable = flag_at(row, plans::TAXABLE)?;
+    let description = name_at(alloc, row, plans::DESCRIPTION)?;
     Plan::from_fields(plan_id, name, price, taxable, description, segments).ok_or(
         StatementFault::StoreFailed,
     )

@@ -12,6 +12,7 @@ ghost use Rattle.bike_office_reads.specs.ReadRows.{HasClosing};
 
 use crate::newest::{find_newest_open, select_open};
 use crate::numbers::{count_rows, last_number};
+use bike_book::columns::rentals;
 use bike_fields::{RentalNumber, RiderNumber};
 use bike_operator::{Closing, Rental};
 use bike_rows::lookup::first_row;
@@ -75,9 +76,9 @@ fn find_last_rental<S: Alter>(conn: &mut Connection<S>) -> Result<Option<Row>, S
 fn read_closing(alloc: Global, row: &Row) -> Result<Option<Closing>, StatementFault>
     ensures { IfOk result (λ x. (closing : _) → HasClosing row.now closing → x ≡ closing) }
 {
-    let to_station = optional_ident_at(alloc, row, 6)?;
-    let finish = optional_moment_at(row, 7)?;
-    let fare = optional_cents_at(row, 8)?;
+    let to_station = optional_ident_at(alloc, row, rentals::TO_STATION)?;
+    let finish = optional_moment_at(row, rentals::FINISH)?;
+    let fare = optional_cents_at(row, rentals::FARE)?;
     match (finish, fare) {
         (Some(finish), Some(fare)) => Ok(Some(Closing {
             to_station,
@@ -93,13 +94,13 @@ fn read_closing(alloc: Global, row: &Row) -> Result<Option<Closing>, StatementFa
 fn read_rental(alloc: Global, row: &Row) -> Result<StoredRental, StatementFault>
     ensures { (number : _) → IsReadOf (λ x. rental_row number x.rental x.refunded) row.now result }
 {
-    let rider = number_at(row, 1)?;
-    let bike = number_at(row, 2)?;
-    let plan = ident_at(alloc, row, 3)?;
-    let from_station = ident_at(alloc, row, 4)?;
-    let start = moment_at(row, 5)?;
+    let rider = number_at(row, rentals::RIDER)?;
+    let bike = number_at(row, rentals::BIKE)?;
+    let plan = ident_at(alloc, row, rentals::PLAN_ID)?;
+    let from_station = ident_at(alloc, row, rentals::FROM_STATION)?;
+    let start = moment_at(row, rentals::START)?;
     let closing = read_closing(alloc, row)?;
-    let refunded = cents_at(row, 9)?;
+    let refunded = cents_at(row, rentals::REFUNDED)?;
     Ok(StoredRental {
         rental: Rental {
             rider,
@@ -134,7 +135,7 @@ fn read_number(row: &Option<Row>) -> Result<Option<RentalNumber>, StatementFault
 {
     match row {
         Some(row) => {
-            let rental = number_at(row, 0)?;
+            let rental = number_at(row, rentals::RENTAL)?;
             Ok(Some(rental))
         }
         None => Ok(None),

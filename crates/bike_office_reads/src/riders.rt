@@ -11,6 +11,7 @@ ghost use Rattle.bike_book.specs.Found.{row_under, last_row, row_count};
 ghost use Rattle.bike_schema.specs.Answers.{Answers, IsReadOf};
 
 use crate::numbers::{last_number, reaches};
+use bike_book::columns::riders;
 use bike_fields::RiderNumber;
 use bike_operator::{MOST_RIDERS, RiderView};
 use bike_rows::lookup::first_row;
@@ -36,8 +37,8 @@ fn find_rider_row<S: Alter>(
 fn read_rider(row: &Row) -> Result<RiderView, StatementFault>
     ensures { (rider : _) → IsReadOf (λ r. rider_row rider r.is_blocked r.balance) row.now result }
 {
-    let is_blocked = flag_at(row, 1)?;
-    let balance = cents_at(row, 2)?;
+    let is_blocked = flag_at(row, riders::BLOCKED)?;
+    let balance = cents_at(row, riders::BALANCE)?;
     Ok(RiderView {
         is_blocked,
         balance: balance.hundredths(),

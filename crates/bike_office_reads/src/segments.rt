@@ -10,6 +10,7 @@ ghost use Rattle.bike_book.specs.Stored.{segment_rows};
 ghost use Rattle.bike_book.specs.Found.{rows_by};
 ghost use Rattle.bike_schema.specs.Answers.{Answers, IsReadOf};
 
+use bike_book::columns::segments;
 use bike_catalogue::{Rate, Segment};
 use bike_fields::Ident;
 use bike_schema::{StatementFault, cents_at, number_at, optional_number_at};
@@ -35,7 +36,7 @@ fn find_segment_rows<S: Alter>(
 fn read_rate(row: &Row) -> Result<Rate, StatementFault>
     ensures { IfOk result (λ x. (rate : _) → column row.now 3 ≡ Int rate → x ≡ rate) }
 {
-    let hundredths = cents_at(row, 3)?.hundredths();
+    let hundredths = cents_at(row, segments::RATE)?.hundredths();
     let Ok(hundredths) = i32::try_from(hundredths) else {
         return Err(StatementFault::StoreFailed);
     };
@@ -46,10 +47,10 @@ fn read_rate(row: &Row) -> Result<Rate, StatementFault>
 fn read_segment(row: &Row) -> Result<Segment, StatementFault>
     ensures { (id : _) (seq : _) → IsReadOf (segment_row id seq) row.now result }
 {
-    let start = number_at(row, 2)?;
+    let start = number_at(row, segments::START)?;
     let rate = read_rate(row)?;
-    let interval = number_at(row, 4)?;
-    let end = optional_number_at(row, 5)?;
+    let interval = number_at(row, segments::EVERY)?;
+    let end = optional_number_at(row, segments::FINISH)?;
     Segment::from_fields(start, rate, interval, end).ok_or(StatementFault::StoreFailed)
 }
 

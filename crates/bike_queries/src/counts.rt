@@ -17,10 +17,11 @@ use crate::columns::whole_at;
 use crate::pages::OwnedRow;
 use crate::types::find_type_ids;
 use arrayvec::ArrayString;
-use bike_office_reads::{ReadRow, collect_rows, short_text_at};
+use bike_book::columns::counts;
 use bike_feed_texts::TypeCount;
 use bike_fields::{Ident, LONGEST_IDENT};
 use bike_fleet_reads::{DockNumbers, TypeCounts, find_dock_numbers};
+use bike_office_reads::{ReadRow, collect_rows, short_text_at};
 use bike_schema::StatementFault;
 use sqlite::{Alter, Connection, Error, Row, Rows, params};
 use std::alloc::Global;
@@ -77,13 +78,13 @@ impl ReadRow for CountRow {
     ghost reads = { λ row x. row ≡ x };
 
     fn read(_alloc: Global, row: &Row) -> Result<CountRow, StatementFault> {
-        if row.column_count() != 4 {
+        if row.column_count() != counts::COLUMNS {
             return Err(StatementFault::StoreFailed);
         }
-        let station_id = short_text_at(row, 0)?;
-        let type_id = short_text_at(row, 1)?;
-        let available = whole_at(row, 2)?;
-        let disabled = whole_at(row, 3)?;
+        let station_id = short_text_at(row, counts::STATION_ID)?;
+        let type_id = short_text_at(row, counts::TYPE_ID)?;
+        let available = whole_at(row, counts::AVAILABLE)?;
+        let disabled = whole_at(row, counts::DISABLED)?;
         Ok(CountRow {
             station_id,
             type_id,

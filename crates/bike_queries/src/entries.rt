@@ -10,6 +10,7 @@ ghost use Rattle.bike_queries.specs.Spans.{entry_after};
 
 use crate::columns::whole_at;
 use crate::span::{seconds_of, start_at};
+use bike_book::columns::entries;
 use bike_fixed::{Cents, GREATEST_FARE, Moment, Within};
 use bike_ledger::{Entry, EntryKind};
 use bike_rows::lookup::first_row;
@@ -61,24 +62,24 @@ fn fare_at(row: &Row, at: usize) -> Result<Cents, StatementFault>
 fn read_entry(row: &Row) -> Result<Entry, StatementFault>
     ensures { IsReadOf (λ e. entry_row e.number e) row.now result }
 {
-    let number = number_at(row, 0)?;
-    let kind = kind_at(row, 1)?;
-    let rider = number_at(row, 2)?;
-    let at = moment_at(row, 5)?;
+    let number = number_at(row, entries::ENTRY)?;
+    let kind = kind_at(row, entries::KIND)?;
+    let rider = number_at(row, entries::RIDER)?;
+    let at = moment_at(row, entries::AT)?;
     match kind {
         EntryKind::TopUp => {
-            let _none: Within<0, 0> = number_at(row, 3)?;
-            let amount = number_at(row, 4)?;
+            let _none: Within<0, 0> = number_at(row, entries::RENTAL)?;
+            let amount = number_at(row, entries::AMOUNT)?;
             Ok(Entry::top_up(number, rider, amount, at))
         }
         EntryKind::Fare => {
-            let rental = number_at(row, 3)?;
-            let amount = fare_at(row, 4)?;
+            let rental = number_at(row, entries::RENTAL)?;
+            let amount = fare_at(row, entries::AMOUNT)?;
             Ok(Entry::fare(number, rider, rental, amount, at))
         }
         EntryKind::Refund => {
-            let rental = number_at(row, 3)?;
-            let amount = number_at(row, 4)?;
+            let rental = number_at(row, entries::RENTAL)?;
+            let amount = number_at(row, entries::AMOUNT)?;
             Ok(Entry::refund(number, rider, rental, amount, at))
         }
     }

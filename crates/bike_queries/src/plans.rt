@@ -6,9 +6,10 @@ ghost use Rattle.bike_schema.specs.Answers.{Answers};
 ghost use Rattle.bike_queries.specs.After.{IsNext, first_after};
 
 use crate::after::start_of;
-use bike_office_reads::{find_plan, find_plan_row_from};
+use bike_book::columns::plans;
 use bike_catalogue::Plan;
 use bike_fields::Ident;
+use bike_office_reads::{find_plan, find_plan_row_from};
 use bike_schema::{StatementFault, ident_at};
 use sqlite::{Alter, Connection, Row};
 use std::alloc::Global;
@@ -35,7 +36,7 @@ fn find_next<S: Alter>(
         (λ s m x. x ≡ option_map (λ e. e.0) (first_after (option_map (λ id. id.now) after.entry) s.plans)) }
 {
     match select_plan(conn, after)? {
-        Some(row) => Ok(Some(ident_at(alloc, &row, 0)?)),
+        Some(row) => Ok(Some(ident_at(alloc, &row, plans::PLAN_ID)?)),
         None => Ok(None),
     }
 }

@@ -7,6 +7,7 @@ ghost use Rattle.bike_schema.specs.Answers.{Answers, IsReadOf};
 ghost use Rattle.bike_queries.specs.After.{IsNext, first_after};
 
 use crate::after::start_of;
+use bike_book::columns::regions;
 use bike_catalogue::Region;
 use bike_fields::Ident;
 use bike_fleet_reads::find_region_row_from;
@@ -30,8 +31,8 @@ fn select_region<S: Alter>(
 fn read_region(alloc: Global, row: &Row) -> Result<Region, StatementFault>
     ensures { IsReadOf (λ r. region_row r.region_id r) row.now result }
 {
-    let region_id = ident_at(alloc, row, 0)?;
-    let name = name_at(alloc, row, 1)?;
+    let region_id = ident_at(alloc, row, regions::REGION_ID)?;
+    let name = name_at(alloc, row, regions::NAME)?;
     Ok(Region::from_fields(region_id, name))
 }
 

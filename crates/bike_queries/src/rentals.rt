@@ -7,9 +7,10 @@ ghost use Rattle.bike_queries.specs.Infos.{closing_info, stored_info, rental_inf
 ghost use Rattle.bike_queries.specs.Spans.{ended_after, ended_info_after};
 
 use crate::span::{seconds_of, start_at};
-use bike_office_reads::{StoredRental, find_rental};
+use bike_book::columns::rentals;
 use bike_fields::{BicycleNumber, Ident, RentalNumber, RiderNumber};
 use bike_fixed::{Cents, Moment};
+use bike_office_reads::{StoredRental, find_rental};
 use bike_operator::{Closing, Rental};
 use bike_rows::lookup::first_row;
 use bike_schema::{StatementFault, number_at};
@@ -133,7 +134,7 @@ fn find_ended<S: Alter>(
         (λ s m x. x ≡ option_map (λ e. e.0) (ended_after s number begin end)) }
 {
     match select_ended(conn, number, begin, end)? {
-        Some(row) => Ok(Some(number_at(&row, 0)?)),
+        Some(row) => Ok(Some(number_at(&row, rentals::RENTAL)?)),
         None => Ok(None),
     }
 }

@@ -5,9 +5,9 @@ ghost use Rattle.bike_schema.specs.Answers.{Answers};
 ghost use Rattle.bike_office_reads.specs.Newest.{NewestTells};
 ghost use Rattle.bike_queries.specs.Infos.{balance_at, rider_info_at};
 
-use bike_office_reads::{find_open_rental, find_rider};
 use bike_fields::{RentalNumber, RiderNumber};
 use bike_fixed::Cents;
+use bike_office_reads::{find_open_rental, find_rider};
 use bike_schema::StatementFault;
 use sqlite::{Alter, Connection};
 

@@ -13,11 +13,12 @@ ghost use Rattle.bike_queries.specs.Pages.{AreNamedStations, ArePage, IsTold, Re
 use crate::after::start_of;
 use crate::columns::{micro_at, whole_at};
 use crate::pages::{OwnedRow, OwnerReader, last_id, read_page};
-use bike_office_reads::{NameRow, ReadRow, collect_rows, read_names, select_names};
+use bike_book::columns::stations;
 use bike_catalogue::{MoreName, NameKind, Station};
 use bike_fields::Ident;
 use bike_fixed::Moment;
 use bike_fleet_reads::DockNumbers;
+use bike_office_reads::{NameRow, ReadRow, collect_rows, read_names, select_names};
 use bike_schema::{
     StatementFault, flag_at, ident_at, moment_at, name_at, number_at, optional_ident_at,
 };
@@ -109,11 +110,11 @@ pub(crate) fn select_stations<S: Alter>(
 fn read_station(alloc: Global, row: &Row) -> Result<Station, StatementFault>
     ensures { IfOk result (λ x. (y : _) → HoldsStation row.now y → x ≡ y.row) }
 {
-    let station_id = ident_at(alloc, row, 0)?;
-    let name = name_at(alloc, row, 1)?;
-    let lat = micro_at(row, 2)?;
-    let lon = micro_at(row, 3)?;
-    let docks = number_at(row, 4)?;
+    let station_id = ident_at(alloc, row, stations::STATION_ID)?;
+    let name = name_at(alloc, row, stations::NAME)?;
+    let lat = micro_at(row, stations::LAT)?;
+    let lon = micro_at(row, stations::LON)?;
+    let docks = number_at(row, stations::DOCKS)?;
     Station::from_fields(station_id, name, lat, lon, docks).ok_or(StatementFault::StoreFailed)
 }
 
@@ -121,8 +122,8 @@ fn read_station(alloc: Global, row: &Row) -> Result<Station, StatementFault>
 fn read_docks(row: &Row) -> Result<DockNumbers, StatementFault>
     ensures { IfOk result (HoldsDockNumbers row.now) }
 {
-    let free = whole_at(row, 9)?;
-    let broken = whole_at(row, 10)?;
+    let free = whole_at(row, stations::FREE)?;
+    let broken = whole_at(row, stations::BROKEN)?;
     Ok(DockNumbers { free, broken })
 }
 
@@ -131,11 +132,11 @@ fn read_info(alloc: Global, row: &Row) -> Result<StationInfo, StatementFault>
     ensures { IfOk result (λ x. (y : _) → HoldsStation row.now y → station_of x ≡ y) }
 {
     let station = read_station(alloc, row)?;
-    let is_installed = flag_at(row, 5)?;
-    let is_renting = flag_at(row, 6)?;
-    let is_returning = flag_at(row, 7)?;
-    let reported = moment_at(row, 8)?;
-    let region = optional_ident_at(alloc, row, 11)?;
+    let is_installed = flag_at(row, stations::INSTALLED)?;
+    let is_renting = flag_at(row, stations::RENTING)?;
+    let is_returning = flag_at(row, stations::RETURNING)?;
+    let reported = moment_at(row, stations::REPORTED)?;
+    let region = optional_ident_at(alloc, row, stations::REGION_ID)?;
     Ok(StationInfo {
         station,
         is_installed,

@@ -7,6 +7,7 @@ ghost use Rattle.bike_book.specs.Found.{row_under};
 ghost use Rattle.bike_schema.specs.Answers.{Answers, IsReadOf};
 
 use crate::columns::str_at;
+use bike_book::columns::system;
 use bike_catalogue::System;
 use bike_fields::{FieldFault, TimeToLive};
 use bike_rows::lookup::first_row;
@@ -26,15 +27,15 @@ fn select_system<S: Alter>(conn: &mut Connection<S>) -> Result<Option<Row>, Stat
 fn read_system(alloc: Global, row: &Row) -> Result<System, StatementFault>
     ensures { IsReadOf system_row row.now result }
 {
-    let system_id = str_at(row, 1)?;
-    let language = str_at(row, 2)?;
-    let name = str_at(row, 3)?;
-    let opening_hours = str_at(row, 4)?;
-    let feed_contact_email = str_at(row, 5)?;
-    let timezone = str_at(row, 6)?;
-    let currency = str_at(row, 7)?;
-    let base_url = str_at(row, 8)?;
-    let ttl: TimeToLive = number_at(row, 9)?;
+    let system_id = str_at(row, system::SYSTEM_ID)?;
+    let language = str_at(row, system::LANGUAGE)?;
+    let name = str_at(row, system::NAME)?;
+    let opening_hours = str_at(row, system::HOURS)?;
+    let feed_contact_email = str_at(row, system::CONTACT)?;
+    let timezone = str_at(row, system::ZONE)?;
+    let currency = str_at(row, system::CURRENCY)?;
+    let base_url = str_at(row, system::BASE_URL)?;
+    let ttl: TimeToLive = number_at(row, system::TTL)?;
     match System::new(
         alloc,
         system_id,

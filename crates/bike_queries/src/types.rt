@@ -13,6 +13,7 @@ ghost use Rattle.bike_queries.specs.After.{IsNext, first_after};
 
 use crate::after::start_of;
 use crate::columns::str_at;
+use bike_book::columns::types;
 use bike_catalogue::{Form, Propulsion, VehicleType};
 use bike_fields::Ident;
 use bike_fleet_reads::{find_type_row_from, select_types};
@@ -53,12 +54,12 @@ fn propulsion_at(row: &Row, at: usize) -> Result<Propulsion, StatementFault>
 fn read_type(alloc: Global, row: &Row) -> Result<VehicleType, StatementFault>
     ensures { IsReadOf (λ t. type_row t.type_id t) row.now result }
 {
-    let type_id = ident_at(alloc, row, 0)?;
-    let name = name_at(alloc, row, 1)?;
-    let form = form_at(row, 2)?;
-    let propulsion = propulsion_at(row, 3)?;
-    let max_range = number_at(row, 4)?;
-    let plan_id = ident_at(alloc, row, 5)?;
+    let type_id = ident_at(alloc, row, types::TYPE_ID)?;
+    let name = name_at(alloc, row, types::NAME)?;
+    let form = form_at(row, types::FORM)?;
+    let propulsion = propulsion_at(row, types::PROPULSION)?;
+    let max_range = number_at(row, types::RANGE_M)?;
+    let plan_id = ident_at(alloc, row, types::PLAN_ID)?;
     VehicleType::from_fields(type_id, name, form, propulsion, max_range, plan_id).ok_or(
         StatementFault::StoreFailed,
     )
@@ -86,7 +87,7 @@ fn read_type_ids(alloc: Global, rows: &[Row]) -> Result<Vec<Ident>, StatementFau
 {
     let mut type_ids = Vec::new(alloc);
     for row in rows {
-        let type_id = ident_at(alloc, row, 0)?;
+        let type_id = ident_at(alloc, row, types::TYPE_ID)?;
         if type_ids.push(type_id).is_err() {
             return Err(StatementFault::NoMemory);
         }

@@ -13,6 +13,7 @@ use crate::columns::{
     moment_in, name_in, number_in, propulsion_in, signed_in,
 };
 use crate::part::Part;
+use bike_book::columns::{meta, plans, segments, system, types};
 use bike_catalogue::{Form, GREATEST_RATE, Propulsion};
 use bike_fields::{GREATEST_RANGE, MaxRange, Price, SegmentMinute, TimeToLive};
 use bike_fixed::{Cents, Moment, Within};
@@ -89,15 +90,15 @@ pub struct StoredType<'a> {
 pub fn read_meta(part: Part<'_>) -> Option<StoredMeta>
     ensures { option_map meta_of result ≡ meta_read part.entry }
 {
-    if part.column_count() != 6 {
+    if part.column_count() != meta::COLUMNS {
         return None;
     }
-    let _one: Within<1, 1> = number_in(&part, 0)?;
-    let _app = app_in(&part, 1)?;
-    let version = number_in(&part, 2)?;
-    let now = moment_in(&part, 3)?;
-    let cash = cents_in(&part, 4)?;
-    let revenue = cents_in(&part, 5)?;
+    let _one: Within<1, 1> = number_in(&part, meta::ONE)?;
+    let _app = app_in(&part, meta::APP)?;
+    let version = number_in(&part, meta::VERSION)?;
+    let now = moment_in(&part, meta::NOW)?;
+    let cash = cents_in(&part, meta::CASH)?;
+    let revenue = cents_in(&part, meta::REVENUE)?;
     Some(StoredMeta {
         version,
         now,
@@ -110,19 +111,19 @@ pub fn read_meta(part: Part<'_>) -> Option<StoredMeta>
 pub fn read_system(part: Part<'_>) -> Option<StoredSystem<'_>>
     ensures { option_map system_of result ≡ system_read part.entry }
 {
-    if part.column_count() != 10 {
+    if part.column_count() != system::COLUMNS {
         return None;
     }
-    let _one: Within<1, 1> = number_in(&part, 0)?;
-    let system_id = ident_in(&part, 1)?;
-    let language = language_in(&part, 2)?;
-    let name = name_in(&part, 3)?;
-    let opening_hours = ascii_in(&part, 4)?;
-    let feed_contact_email = ascii_in(&part, 5)?;
-    let timezone = ascii_in(&part, 6)?;
-    let currency = currency_in(&part, 7)?;
-    let base_url = ascii_in(&part, 8)?;
-    let ttl = number_in(&part, 9)?;
+    let _one: Within<1, 1> = number_in(&part, system::ONE)?;
+    let system_id = ident_in(&part, system::SYSTEM_ID)?;
+    let language = language_in(&part, system::LANGUAGE)?;
+    let name = name_in(&part, system::NAME)?;
+    let opening_hours = ascii_in(&part, system::HOURS)?;
+    let feed_contact_email = ascii_in(&part, system::CONTACT)?;
+    let timezone = ascii_in(&part, system::ZONE)?;
+    let currency = currency_in(&part, system::CURRENCY)?;
+    let base_url = ascii_in(&part, system::BASE_URL)?;
+    let ttl = number_in(&part, system::TTL)?;
     Some(StoredSystem {
         system_id,
         language,
@@ -140,14 +141,14 @@ pub fn read_system(part: Part<'_>) -> Option<StoredSystem<'_>>
 pub fn read_plan(part: Part<'_>) -> Option<StoredPlan<'_>>
     ensures { option_map plan_of result ≡ plan_read part.entry }
 {
-    if part.column_count() != 5 {
+    if part.column_count() != plans::COLUMNS {
         return None;
     }
-    let plan_id = ident_in(&part, 0)?;
-    let name = name_in(&part, 1)?;
-    let price = number_in(&part, 2)?;
-    let taxable = flag_in(&part, 3)?;
-    let description = name_in(&part, 4)?;
+    let plan_id = ident_in(&part, plans::PLAN_ID)?;
+    let name = name_in(&part, plans::NAME)?;
+    let price = number_in(&part, plans::PRICE)?;
+    let taxable = flag_in(&part, plans::TAXABLE)?;
+    let description = name_in(&part, plans::DESCRIPTION)?;
     Some(StoredPlan {
         plan_id,
         name,
@@ -172,20 +173,20 @@ fn end_in(part: &Part<'_>, at: usize) -> Option<Option<SegmentMinute>>
 pub fn read_segment(part: Part<'_>) -> Option<StoredSegment<'_>>
     ensures { option_map segment_of result ≡ segment_read part.entry }
 {
-    if part.column_count() != 6 {
+    if part.column_count() != segments::COLUMNS {
         return None;
     }
-    let plan_id = ident_in(&part, 0)?;
-    let seq = number_in(&part, 1)?;
-    let start: SegmentMinute = number_in(&part, 2)?;
+    let plan_id = ident_in(&part, segments::PLAN_ID)?;
+    let seq = number_in(&part, segments::SEQ)?;
+    let start: SegmentMinute = number_in(&part, segments::START)?;
     let rate = signed_in(
         &part,
-        3,
+        segments::RATE,
         -i64::from(GREATEST_RATE),
         i64::from(GREATEST_RATE),
     )?;
-    let interval = number_in(&part, 4)?;
-    let end: Option<SegmentMinute> = end_in(&part, 5)?;
+    let interval = number_in(&part, segments::EVERY)?;
+    let end: Option<SegmentMinute> = end_in(&part, segments::FINISH)?;
     if let Some(end) = end {
         if end.get() <= start.get() {
             return None;
@@ -215,15 +216,15 @@ fn suits(propulsion: Propulsion, range: MaxRange) -> bool
 pub fn read_type(part: Part<'_>) -> Option<StoredType<'_>>
     ensures { option_map type_of result ≡ type_read part.entry }
 {
-    if part.column_count() != 6 {
+    if part.column_count() != types::COLUMNS {
         return None;
     }
-    let type_id = ident_in(&part, 0)?;
-    let name = name_in(&part, 1)?;
-    let form = form_in(&part, 2)?;
-    let propulsion = propulsion_in(&part, 3)?;
-    let max_range = number_in(&part, 4)?;
-    let plan_id = ident_in(&part, 5)?;
+    let type_id = ident_in(&part, types::TYPE_ID)?;
+    let name = name_in(&part, types::NAME)?;
+    let form = form_in(&part, types::FORM)?;
+    let propulsion = propulsion_in(&part, types::PROPULSION)?;
+    let max_range = number_in(&part, types::RANGE_M)?;
+    let plan_id = ident_in(&part, types::PLAN_ID)?;
     if !suits(propulsion, max_range) {
         return None;
     }

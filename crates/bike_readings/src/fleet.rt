@@ -9,6 +9,7 @@ ghost use Rattle.bike_readings.specs.Views.{place_of, bike_of, truck_of, end_of,
 use crate::columns::{flag_in, ident_in, is_null_at, number_in, state_in, text_in};
 use crate::part::Part;
 use crate::texts::is_ident;
+use bike_book::columns::{bikes, orders, trucks};
 use bike_fields::{
     BicycleNumber, DockNumber, MOST_CARRIED, OrderNumber, OrderQuantity, RentalNumber,
     TruckCapacity, TruckNumber,
@@ -80,8 +81,8 @@ pub struct StoredOrder<'a> {
 fn in_dock<'a>(part: &Part<'a>) -> Option<StoredPlace<'a>>
     ensures { option_map place_of result ≡ in_dock (column part.now 3) (column part.now 4) }
 {
-    let station = ident_in(part, 3)?;
-    let dock = number_in(part, 4)?;
+    let station = ident_in(part, bikes::STATION_ID)?;
+    let dock = number_in(part, bikes::DOCK)?;
     Some(StoredPlace::Dock { station, dock })
 }
 
@@ -89,7 +90,7 @@ fn in_dock<'a>(part: &Part<'a>) -> Option<StoredPlace<'a>>
 fn in_rental<'a>(part: &Part<'a>) -> Option<StoredPlace<'a>>
     ensures { option_map place_of result ≡ in_rental (column part.now 5) }
 {
-    let rental = number_in(part, 5)?;
+    let rental = number_in(part, bikes::RENTAL)?;
     Some(StoredPlace::Rental { rental })
 }
 
@@ -97,8 +98,8 @@ fn in_rental<'a>(part: &Part<'a>) -> Option<StoredPlace<'a>>
 fn on_truck<'a>(part: &Part<'a>) -> Option<StoredPlace<'a>>
     ensures { option_map place_of result ≡ on_truck (column part.now 6) (column part.now 7) }
 {
-    let truck = number_in(part, 6)?;
-    let order = number_in(part, 7)?;
+    let truck = number_in(part, bikes::TRUCK)?;
+    let order = number_in(part, bikes::ORD)?;
     Some(StoredPlace::Truck { truck, order })
 }
 
@@ -107,9 +108,9 @@ fn place_in<'a>(part: &Part<'a>) -> Option<StoredPlace<'a>>
     ensures { option_map place_of result ≡ place_in (column part.now 3) (column part.now 4) (column part.now 5)
         (column part.now 6) (column part.now 7) }
 {
-    let no_dock = is_null_at(part, 3) && is_null_at(part, 4);
-    let no_rental = is_null_at(part, 5);
-    let no_truck = is_null_at(part, 6) && is_null_at(part, 7);
+    let no_dock = is_null_at(part, bikes::STATION_ID) && is_null_at(part, bikes::DOCK);
+    let no_rental = is_null_at(part, bikes::RENTAL);
+    let no_truck = is_null_at(part, bikes::TRUCK) && is_null_at(part, bikes::ORD);
     match (no_dock, no_rental, no_truck) {
         (true, true, true) => Some(StoredPlace::Depot),
         (false, true, true) => in_dock(part),
@@ -123,12 +124,12 @@ fn place_in<'a>(part: &Part<'a>) -> Option<StoredPlace<'a>>
 pub fn read_bike(part: Part<'_>) -> Option<StoredBike<'_>>
     ensures { option_map bike_of result ≡ bike_read part.entry }
 {
-    if part.column_count() != 8 {
+    if part.column_count() != bikes::COLUMNS {
         return None;
     }
-    let bike = number_in(&part, 0)?;
-    let type_id = ident_in(&part, 1)?;
-    let state = state_in(&part, 2)?;
+    let bike = number_in(&part, bikes::BIKE)?;
+    let type_id = ident_in(&part, bikes::TYPE_ID)?;
+    let state = state_in(&part, bikes::STATE)?;
     match place_in(&part) {
         Some(place) => Some(StoredBike {
             bike,
@@ -144,11 +145,11 @@ pub fn read_bike(part: Part<'_>) -> Option<StoredBike<'_>>
 pub fn read_truck(part: Part<'_>) -> Option<StoredTruck>
     ensures { option_map truck_of result ≡ truck_read part.entry }
 {
-    if part.column_count() != 2 {
+    if part.column_count() != trucks::COLUMNS {
         return None;
     }
-    let truck = number_in(&part, 0)?;
-    let capacity = number_in(&part, 1)?;
+    let truck = number_in(&part, trucks::TRUCK)?;
+    let capacity = number_in(&part, trucks::CAPACITY)?;
     Some(StoredTruck { truck, capacity })
 }
 
@@ -171,17 +172,17 @@ fn end_in<'a>(part: &Part<'a>, at: usize) -> Option<StoredEnd<'a>>
 pub fn read_order(part: Part<'_>) -> Option<StoredOrder<'_>>
     ensures { option_map order_of result ≡ order_read part.entry }
 {
-    if part.column_count() != 8 {
+    if part.column_count() != orders::COLUMNS {
         return None;
     }
-    let order = number_in(&part, 0)?;
-    let truck = number_in(&part, 1)?;
-    let from_end = end_in(&part, 2)?;
-    let to_end = end_in(&part, 3)?;
-    let type_id = ident_in(&part, 4)?;
-    let count = number_in(&part, 5)?;
-    let delivered = number_in(&part, 6)?;
-    let is_open = flag_in(&part, 7)?;
+    let order = number_in(&part, orders::ORD)?;
+    let truck = number_in(&part, orders::TRUCK)?;
+    let from_end = end_in(&part, orders::FROM_END)?;
+    let to_end = end_in(&part, orders::TO_END)?;
+    let type_id = ident_in(&part, orders::TYPE_ID)?;
+    let count = number_in(&part, orders::QUANTITY)?;
+    let delivered = number_in(&part, orders::DELIVERED)?;
+    let is_open = flag_in(&part, orders::IS_OPEN)?;
     Some(StoredOrder {
         order,
         truck,

@@ -13,6 +13,7 @@ ghost use Rattle.bike_readings.specs.Views.{kept_of};
 
 use crate::columns::text_in;
 use crate::part::Part;
+use bike_book::columns::kept;
 use bike_commands::{Command, Reply};
 use bike_fields::{Caller, RequestKey};
 use bike_requests::{command_text, read_command};
@@ -86,7 +87,7 @@ fn accepted_of(text: &str) -> Option<Reply>
 fn caller_in(alloc: Global, part: &Part<'_>) -> Result<Option<Caller>, AllocError>
     ensures { IfOk result (λ o. o ≡ caller_in (column part.now 0)) }
 {
-    match text_in(part, 0) {
+    match text_in(part, kept::CALLER) {
         Some(text) => Caller::read(alloc, text),
         None => Ok(None),
     }
@@ -96,7 +97,7 @@ fn caller_in(alloc: Global, part: &Part<'_>) -> Result<Option<Caller>, AllocErro
 fn key_in(alloc: Global, part: &Part<'_>) -> Result<Option<RequestKey>, AllocError>
     ensures { IfOk result (λ o. o ≡ key_in (column part.now 1)) }
 {
-    match text_in(part, 1) {
+    match text_in(part, kept::REQ_KEY) {
         Some(text) => RequestKey::read(alloc, text),
         None => Ok(None),
     }
@@ -106,7 +107,7 @@ fn key_in(alloc: Global, part: &Part<'_>) -> Result<Option<RequestKey>, AllocErr
 fn command_in(alloc: Global, part: &Part<'_>) -> Result<Option<Command>, AllocError>
     ensures { IfOk result (λ o. o ≡ command_in (column part.now 2)) }
 {
-    match text_in(part, 2) {
+    match text_in(part, kept::COMMAND) {
         Some(text) => one_command_of(alloc, text),
         None => Ok(None),
     }
@@ -116,7 +117,7 @@ fn command_in(alloc: Global, part: &Part<'_>) -> Result<Option<Command>, AllocEr
 fn reply_in(part: &Part<'_>) -> Option<Reply>
     ensures { result ≡ reply_in (column part.now 3) }
 {
-    match text_in(part, 3) {
+    match text_in(part, kept::REPLY) {
         Some(text) => accepted_of(text),
         None => None,
     }
@@ -127,7 +128,7 @@ pub fn read_kept(alloc: Global, part: Part<'_>) -> Result<Option<StoredKept>, St
     ensures spelled { IfOk result (λ x. option_map kept_of x ≡ kept_read part.entry) }
     ensures fault { IfErr result (λ e. e ≡ NoMemory) }
 {
-    if part.column_count() != 4 {
+    if part.column_count() != kept::COLUMNS {
         return Ok(None);
     }
     let Some(reply) = reply_in(&part) else {

@@ -11,6 +11,7 @@ use crate::columns::{
     signed_in,
 };
 use crate::part::Part;
+use bike_book::columns::{entries, rentals, riders};
 use bike_fields::{BicycleNumber, GREATEST_PAYMENT, RentalNumber, RiderNumber};
 use bike_fixed::{Cents, GREATEST_FARE, Moment, Within};
 use bike_ledger::{EntryKind, EntryNumber};
@@ -66,12 +67,12 @@ pub struct StoredEntry {
 pub fn read_rider(part: Part<'_>) -> Option<StoredRider>
     ensures { option_map rider_of result ≡ rider_read part.entry }
 {
-    if part.column_count() != 3 {
+    if part.column_count() != riders::COLUMNS {
         return None;
     }
-    let rider = number_in(&part, 0)?;
-    let is_blocked = flag_in(&part, 1)?;
-    let balance = cents_in(&part, 2)?;
+    let rider = number_in(&part, riders::RIDER)?;
+    let is_blocked = flag_in(&part, riders::BLOCKED)?;
+    let balance = cents_in(&part, riders::BALANCE)?;
     Some(StoredRider {
         rider,
         is_blocked,
@@ -84,9 +85,9 @@ fn closed_in<'a>(part: &Part<'a>) -> Option<Option<StoredClosing<'a>>>
     ensures { option_map (option_map closing_of) result
         ≡ closed_in (column part.now 6) (column part.now 7) (column part.now 8) }
 {
-    let to_station = ident_or_none_in(part, 6)?;
-    let finish = moment_in(part, 7)?;
-    let fare = signed_in(part, 8, 0, GREATEST_FARE)?;
+    let to_station = ident_or_none_in(part, rentals::TO_STATION)?;
+    let finish = moment_in(part, rentals::FINISH)?;
+    let fare = signed_in(part, rentals::FARE, 0, GREATEST_FARE)?;
     Some(Some(StoredClosing {
         to_station,
         finish,
@@ -99,7 +100,10 @@ fn closing_in<'a>(part: &Part<'a>) -> Option<Option<StoredClosing<'a>>>
     ensures { option_map (option_map closing_of) result
         ≡ closing_in (column part.now 6) (column part.now 7) (column part.now 8) }
 {
-    if is_null_at(part, 6) && is_null_at(part, 7) && is_null_at(part, 8) {
+    if is_null_at(part, rentals::TO_STATION)
+        && is_null_at(part, rentals::FINISH)
+        && is_null_at(part, rentals::FARE)
+    {
         return Some(None);
     }
     closed_in(part)
@@ -109,18 +113,18 @@ fn closing_in<'a>(part: &Part<'a>) -> Option<Option<StoredClosing<'a>>>
 pub fn read_rental(part: Part<'_>) -> Option<StoredRental<'_>>
     ensures { option_map rental_of result ≡ rental_read part.entry }
 {
-    if part.column_count() != 10 {
+    if part.column_count() != rentals::COLUMNS {
         return None;
     }
-    let rental = number_in(&part, 0)?;
-    let rider = number_in(&part, 1)?;
-    let bike = number_in(&part, 2)?;
-    let plan = ident_in(&part, 3)?;
-    let from_station = ident_in(&part, 4)?;
-    let start = moment_in(&part, 5)?;
+    let rental = number_in(&part, rentals::RENTAL)?;
+    let rider = number_in(&part, rentals::RIDER)?;
+    let bike = number_in(&part, rentals::BIKE)?;
+    let plan = ident_in(&part, rentals::PLAN_ID)?;
+    let from_station = ident_in(&part, rentals::FROM_STATION)?;
+    let start = moment_in(&part, rentals::START)?;
     match closing_in(&part) {
         Some(closing) => {
-            let refunded = cents_in(&part, 9)?;
+            let refunded = cents_in(&part, rentals::REFUNDED)?;
             Some(StoredRental {
                 rental,
                 rider,
@@ -142,11 +146,11 @@ fn rental_in(kind: EntryKind, part: &Part<'_>) -> Option<u32>
 {
     match kind {
         EntryKind::TopUp => {
-            let none: Within<0, 0> = number_in(part, 3)?;
+            let none: Within<0, 0> = number_in(part, entries::RENTAL)?;
             Some(none.get())
         }
         EntryKind::Fare | EntryKind::Refund => {
-            let rental: RentalNumber = number_in(part, 3)?;
+            let rental: RentalNumber = number_in(part, entries::RENTAL)?;
             Some(rental.get())
         }
     }
@@ -157,8 +161,13 @@ fn amount_in(kind: EntryKind, part: &Part<'_>) -> Option<i64>
     ensures { result ≡ amount_in kind (column part.now 4) }
 {
     match kind {
-        EntryKind::TopUp | EntryKind::Refund => signed_in(part, 4, 1, i64::from(GREATEST_PAYMENT)),
-        EntryKind::Fare => signed_in(part, 4, 0, GREATEST_FARE),
+        EntryKind::TopUp | EntryKind::Refund => signed_in(
+            part,
+            entries::AMOUNT,
+            1,
+            i64::from(GREATEST_PAYMENT),
+        ),
+        EntryKind::Fare => signed_in(part, entries::AMOUNT, 0, GREATEST_FARE),
     }
 }
 
@@ -166,15 +175,15 @@ fn amount_in(kind: EntryKind, part: &Part<'_>) -> Option<i64>
 pub fn read_entry(part: Part<'_>) -> Option<StoredEntry>
     ensures { option_map entry_of result ≡ entry_read part.entry }
 {
-    if part.column_count() != 6 {
+    if part.column_count() != entries::COLUMNS {
         return None;
     }
-    let number = number_in(&part, 0)?;
-    let kind = kind_in(&part, 1)?;
-    let rider = number_in(&part, 2)?;
+    let number = number_in(&part, entries::ENTRY)?;
+    let kind = kind_in(&part, entries::KIND)?;
+    let rider = number_in(&part, entries::RIDER)?;
     let rental = rental_in(kind, &part)?;
     let amount = amount_in(kind, &part)?;
-    let at = moment_in(&part, 5)?;
+    let at = moment_in(&part, entries::AT)?;
     Some(StoredEntry {
         number,
         kind,

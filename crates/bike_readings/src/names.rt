@@ -6,6 +6,7 @@ ghost use Rattle.bike_readings.specs.Views.{name_of};
 
 use crate::columns::{ident_in, language_in, name_in, named_kind_in};
 use crate::part::Part;
+use bike_book::columns::more_names;
 use bike_catalogue::NameKind;
 
 /// A row of `more_names`.
@@ -23,13 +24,13 @@ pub struct StoredName<'a> {
 pub fn read_name(part: Part<'_>) -> Option<StoredName<'_>>
     ensures { option_map name_of result ≡ name_read part.entry }
 {
-    if part.column_count() != 4 {
+    if part.column_count() != more_names::COLUMNS {
         return None;
     }
-    let kind = named_kind_in(&part, 0)?;
-    let id = ident_in(&part, 1)?;
-    let language = language_in(&part, 2)?;
-    let name = name_in(&part, 3)?;
+    let kind = named_kind_in(&part, more_names::KIND)?;
+    let id = ident_in(&part, more_names::ID)?;
+    let language = language_in(&part, more_names::LANGUAGE)?;
+    let name = name_in(&part, more_names::NAME)?;
     Some(StoredName {
         kind,
         id,

@@ -8,6 +8,7 @@ use crate::columns::{
     cents_in, flag_in, ident_in, ident_or_none_in, moment_in, name_in, number_in, signed_in,
 };
 use crate::part::Part;
+use bike_book::columns::{counts, docks, regions, stations};
 use bike_catalogue::GREATEST_LATITUDE;
 use bike_fields::{DockCount, DockNumber};
 use bike_fixed::{GREATEST_COORDINATE, Moment, Within};
@@ -68,11 +69,11 @@ pub struct StoredCounts<'a> {
 pub fn read_region(part: Part<'_>) -> Option<StoredRegion<'_>>
     ensures { option_map region_of result ≡ region_read part.entry }
 {
-    if part.column_count() != 2 {
+    if part.column_count() != regions::COLUMNS {
         return None;
     }
-    let region_id = ident_in(&part, 0)?;
-    let name = name_in(&part, 1)?;
+    let region_id = ident_in(&part, regions::REGION_ID)?;
+    let name = name_in(&part, regions::NAME)?;
     Some(StoredRegion { region_id, name })
 }
 
@@ -80,31 +81,31 @@ pub fn read_region(part: Part<'_>) -> Option<StoredRegion<'_>>
 pub fn read_station(part: Part<'_>) -> Option<StoredStation<'_>>
     ensures { option_map station_of result ≡ station_read part.entry }
 {
-    if part.column_count() != 12 {
+    if part.column_count() != stations::COLUMNS {
         return None;
     }
-    let station_id = ident_in(&part, 0)?;
-    let name = name_in(&part, 1)?;
+    let station_id = ident_in(&part, stations::STATION_ID)?;
+    let name = name_in(&part, stations::NAME)?;
     let lat = signed_in(
         &part,
-        2,
+        stations::LAT,
         -i64::from(GREATEST_LATITUDE),
         i64::from(GREATEST_LATITUDE),
     )?;
     let lon = signed_in(
         &part,
-        3,
+        stations::LON,
         -i64::from(GREATEST_COORDINATE),
         i64::from(GREATEST_COORDINATE),
     )?;
-    let docks = number_in(&part, 4)?;
-    let is_installed = flag_in(&part, 5)?;
-    let is_renting = flag_in(&part, 6)?;
-    let is_returning = flag_in(&part, 7)?;
-    let reported = moment_in(&part, 8)?;
-    let free = cents_in(&part, 9)?;
-    let broken = number_in(&part, 10)?;
-    let region = ident_or_none_in(&part, 11)?;
+    let docks = number_in(&part, stations::DOCKS)?;
+    let is_installed = flag_in(&part, stations::INSTALLED)?;
+    let is_renting = flag_in(&part, stations::RENTING)?;
+    let is_returning = flag_in(&part, stations::RETURNING)?;
+    let reported = moment_in(&part, stations::REPORTED)?;
+    let free = cents_in(&part, stations::FREE)?;
+    let broken = number_in(&part, stations::BROKEN)?;
+    let region = ident_or_none_in(&part, stations::REGION_ID)?;
     Some(StoredStation {
         station_id,
         name,
@@ -125,12 +126,12 @@ pub fn read_station(part: Part<'_>) -> Option<StoredStation<'_>>
 pub fn read_dock(part: Part<'_>) -> Option<StoredDock<'_>>
     ensures { option_map dock_of result ≡ dock_read part.entry }
 {
-    if part.column_count() != 3 {
+    if part.column_count() != docks::COLUMNS {
         return None;
     }
-    let station = ident_in(&part, 0)?;
-    let dock = number_in(&part, 1)?;
-    let is_broken = flag_in(&part, 2)?;
+    let station = ident_in(&part, docks::STATION_ID)?;
+    let dock = number_in(&part, docks::DOCK)?;
+    let is_broken = flag_in(&part, docks::BROKEN)?;
     Some(StoredDock {
         station,
         dock,
@@ -142,13 +143,13 @@ pub fn read_dock(part: Part<'_>) -> Option<StoredDock<'_>>
 pub fn read_counts(part: Part<'_>) -> Option<StoredCounts<'_>>
     ensures { option_map counts_of result ≡ count_read part.entry }
 {
-    if part.column_count() != 4 {
+    if part.column_count() != counts::COLUMNS {
         return None;
     }
-    let station = ident_in(&part, 0)?;
-    let type_id = ident_in(&part, 1)?;
-    let available = number_in(&part, 2)?;
-    let disabled = number_in(&part, 3)?;
+    let station = ident_in(&part, counts::STATION_ID)?;
+    let type_id = ident_in(&part, counts::TYPE_ID)?;
+    let available = number_in(&part, counts::AVAILABLE)?;
+    let disabled = number_in(&part, counts::DISABLED)?;
     Some(StoredCounts {
         station,
         type_id,

@@ -10,8 +10,8 @@ ghost use Rattle.bike_recognition.specs.Names.{table_named};
 ghost use Rattle.bike_recognition.specs.Wanted.{HasWanted};
 
 use crate::table::TableName;
-use bike_sql::find::place_of_table;
 use bike_schema::StatementFault;
+use bike_sql::find::place_of_table;
 use sqlite_schema::schema::{Reference, Schema, Table};
 use std::alloc::Global;
 

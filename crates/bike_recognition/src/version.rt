@@ -11,6 +11,7 @@ ghost use Rattle.bike_schema.specs.Columns.{whole_in};
 ghost use Rattle.bike_schema.specs.Layouts.{name_of};
 ghost use Rattle.bike_recognition.specs.Recognition.{TableStands, is_app, version_of, version_in, meta_version};
 
+use bike_book::columns::meta;
 use bike_rows::lookup::first_row;
 use bike_schema::{APP, StatementFault};
 use sqlite::types::ValueRef;
@@ -64,8 +65,8 @@ fn version_in(row: &Option<Row>) -> MetaVersion
 {
     match row {
         Some(row) => {
-            if is_app_at(row, 1) {
-                version_at(row, 2)
+            if is_app_at(row, meta::APP) {
+                version_at(row, meta::VERSION)
             } else {
                 MetaVersion::NotOurs
             }

@@ -4,7 +4,8 @@ ghost use Rattle.std.specs.Prelude.{◌≡◌};
 ghost use Rattle.bike_station_rules.specs.Stations.{begins, more, good, key, broken_at, taken_at};
 
 use crate::dock_set::DockSet;
-use crate::lines::{HeadLine, docked_at, is_of};
+use crate::lines::{HeadLine, ROW_AT, docked_at, is_of};
+use bike_book::columns::{docks, stations};
 use bike_fields::{DockCount, DockNumber};
 use bike_fixed::Within;
 use bike_judges::{Account, BadKey, Opening};
@@ -42,7 +43,7 @@ impl Account for StationAccount {
         if !is_of(line, 0) {
             return Ok(Opening::Item);
         }
-        let Some(station) = read_station(Part::of(line, 3, 12)) else {
+        let Some(station) = read_station(Part::of(line, ROW_AT, stations::COLUMNS)) else {
             return Ok(Opening::Unread);
         };
         Ok(Opening::Head(StationAccount {
@@ -85,7 +86,7 @@ fn broken_at(line: &Row) -> Option<DockNumber>
     if !is_of(line, 1) {
         return None;
     }
-    match read_dock(Part::of(line, 3, 3)) {
+    match read_dock(Part::of(line, ROW_AT, docks::COLUMNS)) {
         Some(dock) if dock.is_broken => Some(dock.dock),
         _ => None,
     }

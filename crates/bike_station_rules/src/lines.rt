@@ -8,6 +8,7 @@ ghost use Rattle.bike_station_rules.specs.Stations.{is_same_text, is_place};
 ghost use Rattle.bike_schema.specs.Columns.{text_in, ident_in};
 ghost use Rattle.bike_station_rules.specs.Docked.{docked_in, docked_columns, dock_named, keep_bounds};
 
+use bike_book::columns::bikes;
 use bike_fields::{BicycleNumber, DockNumber, Ident, OrderNumber, RentalNumber, TruckNumber};
 use bike_judges::BadKey;
 use bike_schema::{StatementFault, number_at, optional_number_at, state_at};
@@ -15,11 +16,44 @@ use sqlite::Row;
 use sqlite::types::ValueRef;
 use std::marker::Model;
 
+/// The column with the identifier of the station.
+const STATION: usize = 0;
+
+/// The column that says which table the line is of.
+const TABLE: usize = 1;
+
+/// The column by which the station's lines of one table are in order.
+const ORDINAL: usize = 2;
+
+/// Where the row begins, of whatever table it is.
+pub(crate) const ROW_AT: usize = ORDINAL + 1;
+
+/// The columns of a line of a bicycle.
+const BIKE: usize = ROW_AT + bikes::BIKE;
+
+const TYPE_ID: usize = ROW_AT + bikes::TYPE_ID;
+
+const STATE: usize = ROW_AT + bikes::STATE;
+
+/// The first column of its place, which names a station.
+const PLACE: usize = ROW_AT + bikes::STATION_ID;
+
+const DOCK: usize = ROW_AT + bikes::DOCK;
+
+const RENTAL: usize = ROW_AT + bikes::RENTAL;
+
+const TRUCK: usize = ROW_AT + bikes::TRUCK;
+
+const ORDER: usize = ROW_AT + bikes::ORD;
+
+/// How many columns a line has at least that holds a bicycle.
+const COLUMNS: usize = ROW_AT + bikes::COLUMNS;
+
 /// Whether the line is of the table of that place.
 pub(crate) fn is_of(line: &Row, place: u32) -> bool
     ensures { result ≡ is_place place (column line.now 1) }
 {
-    match line.get_ref(1) {
+    match line.get_ref(TABLE) {
         Ok(ValueRef::Int(n)) => n == i64::from(place),
         _ => false,
     }
@@ -57,7 +91,7 @@ impl HeadLine {
     pub(crate) fn owns(&self, line: &Row) -> bool
         ensures { result ≡ is_same_text (column line.now 0) (column self.now 0) }
     {
-        match (line.get_ref(0), self.line.get_ref(0)) {
+        match (line.get_ref(STATION), self.line.get_ref(STATION)) {
             (Ok(ValueRef::Text(other)), Ok(ValueRef::Text(owner))) => other == owner,
             _ => false,
         }
@@ -98,9 +132,9 @@ fn has_ident(line: &Row, at: usize) -> bool
 fn keep_bounds(line: &Row) -> bool
     ensures { result ≡ keep_bounds (column line.now 8) (column line.now 9) (column line.now 10) }
 {
-    let rental: Result<Option<RentalNumber>, StatementFault> = optional_number_at(line, 8);
-    let truck: Result<Option<TruckNumber>, StatementFault> = optional_number_at(line, 9);
-    let order: Result<Option<OrderNumber>, StatementFault> = optional_number_at(line, 10);
+    let rental: Result<Option<RentalNumber>, StatementFault> = optional_number_at(line, RENTAL);
+    let truck: Result<Option<TruckNumber>, StatementFault> = optional_number_at(line, TRUCK);
+    let order: Result<Option<OrderNumber>, StatementFault> = optional_number_at(line, ORDER);
     rental.is_ok() && truck.is_ok() && order.is_ok()
 }
 
@@ -108,10 +142,10 @@ fn keep_bounds(line: &Row) -> bool
 fn dock_named(line: &Row) -> Option<DockNumber>
     ensures { result ≡ dock_named (column line.now 6) (column line.now 7) (column line.now 8) (column line.now 9) (column line.now 10) }
 {
-    if !has_ident(line, 6) || !keep_bounds(line) {
+    if !has_ident(line, PLACE) || !keep_bounds(line) {
         return None;
     }
-    match number_at(line, 7) {
+    match number_at(line, DOCK) {
         Ok(dock) => Some(dock),
         Err(_) => None,
     }
@@ -121,11 +155,11 @@ fn dock_named(line: &Row) -> Option<DockNumber>
 fn dock_in_columns(line: &Row) -> Option<DockNumber>
     ensures { result ≡ docked_columns line.now }
 {
-    if line.column_count() < 11 {
+    if line.column_count() < COLUMNS {
         return None;
     }
-    let bike: Result<BicycleNumber, StatementFault> = number_at(line, 3);
-    if bike.is_err() || !has_ident(line, 4) || state_at(line, 5).is_err() {
+    let bike: Result<BicycleNumber, StatementFault> = number_at(line, BIKE);
+    if bike.is_err() || !has_ident(line, TYPE_ID) || state_at(line, STATE).is_err() {
         return None;
     }
     dock_named(line)

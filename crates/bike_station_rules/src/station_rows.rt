@@ -5,12 +5,19 @@ ghost use Rattle.bike_readings.specs.Readings.{region_read};
 ghost use Rattle.bike_judges.specs.Lines.{part};
 ghost use Rattle.bike_station_rules.specs.StationRows.{is_by, has_region, is_good_station};
 
+use bike_book::columns::{regions, stations};
 use bike_fixed::Moment;
 use bike_judges::{BadKey, LineTest};
 use bike_operator::MOST_STATIONS;
 use bike_readings::{Part, read_region, read_station};
 use bike_schema::StatementFault;
 use sqlite::Row;
+
+/// Where the row of a station stands in its line.
+const STATION_AT: usize = 0;
+
+/// Where that of its region stands.
+const REGION_AT: usize = STATION_AT + stations::COLUMNS;
 
 /// A station is good for which there is room, which reported by now, and of which the region is there, if it names one.
 /// A line has the row of a station with that of its region.
@@ -35,7 +42,7 @@ fn has_region(region: Option<&str>, line: &Row) -> bool
     ensures { result ≡ has_region (option_map (λ text. text.now) region.entry) (region_read (part 12 2 line.now)) }
 {
     match region {
-        Some(_) => read_region(Part::of(line, 12, 2)).is_some(),
+        Some(_) => read_region(Part::of(line, REGION_AT, regions::COLUMNS)).is_some(),
         None => true,
     }
 }
@@ -46,7 +53,7 @@ impl LineTest for StationTest {
     ghost key = { λ test line. take 1 line };
 
     fn is_good(&self, before: u64, line: &Row) -> Result<bool, StatementFault> {
-        let Some(station) = read_station(Part::of(line, 0, 12)) else {
+        let Some(station) = read_station(Part::of(line, STATION_AT, stations::COLUMNS)) else {
             return Ok(false);
         };
         Ok(

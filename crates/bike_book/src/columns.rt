@@ -1,0 +1,320 @@
+//! Where the columns of the tables stand in their rows.
+//!
+//! `specs/Rows` gives the rows, and the schema the columns of the same names. In a line that holds the rows of several tables the
+//! row behind one begins after as many columns as that has: `COLUMNS`.
+
+/// The columns of `meta`.
+pub mod meta {
+    pub const ONE: usize = 0;
+
+    pub const APP: usize = 1;
+
+    pub const VERSION: usize = 2;
+
+    /// Seconds.
+    pub const NOW: usize = 3;
+
+    /// Hundredths.
+    pub const CASH: usize = 4;
+
+    /// Hundredths.
+    pub const REVENUE: usize = 5;
+
+    pub const COLUMNS: usize = 6;
+}
+
+/// The columns of `system`.
+pub mod system {
+    pub const ONE: usize = 0;
+
+    pub const SYSTEM_ID: usize = 1;
+
+    pub const LANGUAGE: usize = 2;
+
+    pub const NAME: usize = 3;
+
+    pub const HOURS: usize = 4;
+
+    pub const CONTACT: usize = 5;
+
+    pub const ZONE: usize = 6;
+
+    pub const CURRENCY: usize = 7;
+
+    pub const BASE_URL: usize = 8;
+
+    /// Seconds.
+    pub const TTL: usize = 9;
+
+    pub const COLUMNS: usize = 10;
+}
+
+/// The columns of `plans`.
+pub mod plans {
+    pub const PLAN_ID: usize = 0;
+
+    pub const NAME: usize = 1;
+
+    /// Hundredths.
+    pub const PRICE: usize = 2;
+
+    pub const TAXABLE: usize = 3;
+
+    pub const DESCRIPTION: usize = 4;
+
+    pub const COLUMNS: usize = 5;
+}
+
+/// The columns of `segments`.
+pub mod segments {
+    pub const PLAN_ID: usize = 0;
+
+    /// The place of the segment in its plan, from 1.
+    pub const SEQ: usize = 1;
+
+    /// Minutes.
+    pub const START: usize = 2;
+
+    /// Hundredths.
+    pub const RATE: usize = 3;
+
+    /// Minutes.
+    pub const EVERY: usize = 4;
+
+    /// Minutes, or NULL.
+    pub const FINISH: usize = 5;
+
+    pub const COLUMNS: usize = 6;
+}
+
+/// The columns of `types`.
+pub mod types {
+    pub const TYPE_ID: usize = 0;
+
+    pub const NAME: usize = 1;
+
+    pub const FORM: usize = 2;
+
+    pub const PROPULSION: usize = 3;
+
+    /// Metres.
+    pub const RANGE_M: usize = 4;
+
+    pub const PLAN_ID: usize = 5;
+
+    pub const COLUMNS: usize = 6;
+}
+
+/// The columns of `regions`.
+pub mod regions {
+    pub const REGION_ID: usize = 0;
+
+    pub const NAME: usize = 1;
+
+    pub const COLUMNS: usize = 2;
+}
+
+/// The columns of `stations_3`, and of its earlier tables: the first of these ends before the region.
+pub mod stations {
+    pub const STATION_ID: usize = 0;
+
+    pub const NAME: usize = 1;
+
+    /// Microdegrees.
+    pub const LAT: usize = 2;
+
+    /// Microdegrees.
+    pub const LON: usize = 3;
+
+    /// How many docks it has.
+    pub const DOCKS: usize = 4;
+
+    pub const INSTALLED: usize = 5;
+
+    pub const RENTING: usize = 6;
+
+    pub const RETURNING: usize = 7;
+
+    /// Seconds.
+    pub const REPORTED: usize = 8;
+
+    /// How many docks are available.
+    pub const FREE: usize = 9;
+
+    /// How many docks are broken.
+    pub const BROKEN: usize = 10;
+
+    /// NULL where it stands in no region.
+    pub const REGION_ID: usize = 11;
+
+    pub const COLUMNS: usize = 12;
+}
+
+/// The columns of `docks`.
+pub mod docks {
+    pub const STATION_ID: usize = 0;
+
+    pub const DOCK: usize = 1;
+
+    pub const BROKEN: usize = 2;
+
+    pub const COLUMNS: usize = 3;
+}
+
+/// The columns of `bikes`. Those from `STATION_ID` on tell the place.
+pub mod bikes {
+    pub const BIKE: usize = 0;
+
+    pub const TYPE_ID: usize = 1;
+
+    pub const STATE: usize = 2;
+
+    pub const STATION_ID: usize = 3;
+
+    pub const DOCK: usize = 4;
+
+    pub const RENTAL: usize = 5;
+
+    pub const TRUCK: usize = 6;
+
+    /// The order for which it is on the truck.
+    pub const ORD: usize = 7;
+
+    pub const COLUMNS: usize = 8;
+}
+
+/// The columns of `trucks`.
+pub mod trucks {
+    pub const TRUCK: usize = 0;
+
+    pub const CAPACITY: usize = 1;
+
+    pub const COLUMNS: usize = 2;
+}
+
+/// The columns of `riders`.
+pub mod riders {
+    pub const RIDER: usize = 0;
+
+    pub const BLOCKED: usize = 1;
+
+    /// Hundredths.
+    pub const BALANCE: usize = 2;
+
+    pub const COLUMNS: usize = 3;
+}
+
+/// The columns of `rentals`. Those of the closing are NULL while it is open.
+pub mod rentals {
+    pub const RENTAL: usize = 0;
+
+    pub const RIDER: usize = 1;
+
+    pub const BIKE: usize = 2;
+
+    pub const PLAN_ID: usize = 3;
+
+    pub const FROM_STATION: usize = 4;
+
+    /// Seconds.
+    pub const START: usize = 5;
+
+    /// NULL where the bicycle was recovered, too.
+    pub const TO_STATION: usize = 6;
+
+    /// Seconds.
+    pub const FINISH: usize = 7;
+
+    /// Hundredths.
+    pub const FARE: usize = 8;
+
+    /// Hundredths.
+    pub const REFUNDED: usize = 9;
+
+    pub const COLUMNS: usize = 10;
+}
+
+/// The columns of `orders`.
+pub mod orders {
+    pub const ORD: usize = 0;
+
+    pub const TRUCK: usize = 1;
+
+    /// A station's identifier, or `*` for the depot.
+    pub const FROM_END: usize = 2;
+
+    /// In the same way.
+    pub const TO_END: usize = 3;
+
+    pub const TYPE_ID: usize = 4;
+
+    pub const QUANTITY: usize = 5;
+
+    pub const DELIVERED: usize = 6;
+
+    pub const IS_OPEN: usize = 7;
+
+    pub const COLUMNS: usize = 8;
+}
+
+/// The columns of `entries`.
+pub mod entries {
+    pub const ENTRY: usize = 0;
+
+    pub const KIND: usize = 1;
+
+    pub const RIDER: usize = 2;
+
+    /// 0 for a top-up.
+    pub const RENTAL: usize = 3;
+
+    /// Hundredths.
+    pub const AMOUNT: usize = 4;
+
+    /// Seconds.
+    pub const AT: usize = 5;
+
+    pub const COLUMNS: usize = 6;
+}
+
+/// The columns of `kept`.
+pub mod kept {
+    pub const CALLER: usize = 0;
+
+    pub const REQ_KEY: usize = 1;
+
+    pub const COMMAND: usize = 2;
+
+    pub const REPLY: usize = 3;
+
+    pub const COLUMNS: usize = 4;
+}
+
+/// The columns of `counts`.
+pub mod counts {
+    pub const STATION_ID: usize = 0;
+
+    pub const TYPE_ID: usize = 1;
+
+    /// How many bicycles can be rented.
+    pub const AVAILABLE: usize = 2;
+
+    /// How many bicycles can't.
+    pub const DISABLED: usize = 3;
+
+    pub const COLUMNS: usize = 4;
+}
+
+/// The columns of `more_names`.
+pub mod more_names {
+    pub const KIND: usize = 0;
+
+    /// The identifier of what has the name.
+    pub const ID: usize = 1;
+
+    pub const LANGUAGE: usize = 2;
+
+    pub const NAME: usize = 3;
+
+    pub const COLUMNS: usize = 4;
+}
