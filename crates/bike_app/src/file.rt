@@ -13,9 +13,9 @@ ghost use Rattle.bike_app.specs.Files.{DoesOverFile, EndsOnFile, IsAlone, IsUnto
 
 use crate::words::run_words;
 use bike_adoption::Watch;
+use bike_command_line::Task;
 use bike_console::{Fault, NewLog, Remains, open_file, prepare_file, settle};
 use bike_fixed::Moment;
-use bike_command_line::Task;
 use sqlite::{Connection, FileFrom, FileStore, Start};
 use std::io::{Read, Write};
 

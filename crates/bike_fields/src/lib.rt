@@ -25,12 +25,11 @@ pub use ident::Ident;
 pub use key::RequestKey;
 pub use language::Language;
 pub use name::Name;
-pub use numbers::kind;
 pub use numbers::{
     BicycleNumber, DockCount, DockNumber, GREATEST_NUMBER, GREATEST_PAYMENT, GREATEST_PRICE,
     GREATEST_RANGE, GREATEST_SERIAL, LAST_MINUTE, LONGEST_TIME_TO_LIVE, MOST_CARRIED, MOST_DOCKS,
     MaxRange, OrderNumber, OrderQuantity, Payment, Price, RentalNumber, RiderNumber, SegmentMinute,
-    TimeToLive, TruckCapacity, TruckNumber,
+    TimeToLive, TruckCapacity, TruckNumber, kind,
 };
 pub use text_lengths::{
     CURRENCY_LENGTH, LONGEST_ASCII, LONGEST_IDENT, LONGEST_KEY, LONGEST_LANGUAGE, LONGEST_NAME,

@@ -11,7 +11,10 @@ use crate::write_fields::{
 };
 use crate::write_records::{put_name, put_plan, put_region, put_station, put_system, put_type};
 use bike_commands::Command;
-use bike_fields::{BicycleNumber, DockNumber, GREATEST_NUMBER, Ident, OrderNumber, OrderQuantity, TruckNumber, Within};
+use bike_fields::{
+    BicycleNumber, DockNumber, GREATEST_NUMBER, Ident, OrderNumber, OrderQuantity, TruckNumber,
+    Within,
+};
 use bike_texts::{OrderEnd, Side, UnloadDock};
 use std::alloc::{AllocError, Global};
 

@@ -5,8 +5,8 @@ ghost use Rattle.bike_command_line.specs.Program.{IsWithin};
 ghost use Rattle.bike_app.specs.Words.{ServesSockets};
 
 use bike_app::{Counted, Fault, Progress, exit_code, run_on_file, run_words_in_memory};
-use bike_server::{clock_moment, listen, listen_on_file};
 use bike_command_line::{Mistake, Task, Words, WordsFault, read_words};
+use bike_server::{clock_moment, listen, listen_on_file};
 use sqlite::{Connection, Unknown};
 use std::alloc::{AllocError, Global};
 use std::env;
