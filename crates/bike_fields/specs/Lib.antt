@@ -1,6 +1,7 @@
 pub mod Bytes
 pub mod Fault
 pub mod Reads
+pub mod Texts
 pub mod Caller
 pub use Rattle.bike_fixed.specs.Whole
 pub use Rattle.bike_fixed.specs.Coordinate

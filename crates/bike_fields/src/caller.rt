@@ -6,8 +6,8 @@ ghost use Rattle.bike_fields.specs.Caller.{IsCaller, HasIdent, HoldsIdent, calle
 ghost use Rattle.bike_fields.specs.Reads.{Gives, IsReadAs};
 ghost use Rattle.bike_fields.specs.declared.caller.Caller.{Caller};
 
-use crate::ident::Ident;
 use crate::numbers::{GREATEST_NUMBER, RiderNumber, TruckNumber};
+use crate::text::Ident;
 use arrayvec::ArrayString;
 use bike_fixed::Within;
 use itoa::Buffer;

@@ -4,33 +4,25 @@
 //! answers the value of the text or number given, or names the first bound that it breaks.
 #![tactic(auto)]
 
-mod ascii;
 mod bytes;
 mod caller;
-mod currency;
 mod fault;
-mod ident;
-mod key;
-mod language;
-mod name;
 mod numbers;
+mod text;
+mod text_kind;
 mod text_lengths;
 
-pub use ascii::Ascii;
 pub use bike_fixed::{GREATEST_COORDINATE, Micro, Within, read_signed};
 pub use caller::{Caller, CallerName, caller_laws};
-pub use currency::Currency;
 pub use fault::{Bound, Field, FieldFault};
-pub use ident::Ident;
-pub use key::RequestKey;
-pub use language::Language;
-pub use name::Name;
 pub use numbers::{
     BicycleNumber, DockCount, DockNumber, GREATEST_NUMBER, GREATEST_PAYMENT, GREATEST_PRICE,
     GREATEST_RANGE, GREATEST_SERIAL, LAST_MINUTE, LONGEST_TIME_TO_LIVE, MOST_CARRIED, MOST_DOCKS,
     MaxRange, OrderNumber, OrderQuantity, Payment, Price, RentalNumber, RiderNumber, SegmentMinute,
     TimeToLive, TruckCapacity, TruckNumber, kind,
 };
+pub use text::{Ascii, Currency, Ident, Language, Name, RequestKey, Text};
+pub use text_kind::TextKind;
 pub use text_lengths::{
     CURRENCY_LENGTH, LONGEST_ASCII, LONGEST_IDENT, LONGEST_KEY, LONGEST_LANGUAGE, LONGEST_NAME,
     SHORTEST_LANGUAGE,
