@@ -3,6 +3,7 @@
 use bike_commands::{
     Ident, Language, Name, NameKind, OrderEnd, Plan, Region, Station, System, VehicleType,
 };
+use bike_fixed::Cents;
 use bike_operator::Order;
 
 /// One record that is put or added. What is added wasn't there. Moments are the operator's `now`.
@@ -69,11 +70,11 @@ pub enum Change<'a> {
         plan: &'a Ident,
         from_station: &'a Ident,
     },
-    /// A rental is closed at a station, or recovered, at a fare in hundredths.
+    /// A rental is closed at a station, or recovered, at a fare.
     CloseRental {
         rental: u32,
         to_station: Option<&'a Ident>,
-        fare: i64,
+        fare: Cents,
     },
     /// An order is added, which is open.
     AddOrder {

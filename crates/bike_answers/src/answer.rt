@@ -5,6 +5,7 @@ ghost use Rattle.bike_answers.specs.Status.{status_of, refused_status, allow_of}
 
 use bike_commands::{Refusal, Reply};
 use bike_fields::{BicycleNumber, OrderNumber, RentalNumber, RiderNumber};
+use bike_fixed::Cents;
 use bike_heads::{Allow, Rejection};
 use bike_operator::{Bike, Order, Rental};
 
@@ -16,7 +17,7 @@ pub struct RiderRow {
     /// Whether the rider is blocked.
     pub blocked: bool,
     /// The balance in hundredths.
-    pub balance: i64,
+    pub balance: Cents,
     /// The open rental; none where there is none.
     pub rental: Option<RentalNumber>,
 }
@@ -35,7 +36,7 @@ pub enum Answer {
     /// A bicycle of that number.
     Bike(BicycleNumber, Bike),
     /// A rental of that number, with the sum of its refunds in hundredths.
-    Rental(RentalNumber, Rental, i64),
+    Rental(RentalNumber, Rental, Cents),
     /// An order of that number.
     Order(OrderNumber, Order),
 }

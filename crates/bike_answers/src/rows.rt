@@ -8,6 +8,7 @@ ghost use Rattle.bike_answers.specs.Bodies.{rider_state, open_rental, rider_tree
 use crate::answer::RiderRow;
 use crate::members::{Scalar, signed, whole, write_object};
 use bike_fields::{BicycleNumber, Ident, OrderNumber, RentalNumber};
+use bike_fixed::Cents;
 use bike_json::{JsonState, Output};
 use bike_operator::{Bike, BikeState, Order, Place, Rental};
 use bike_texts::OrderEnd;
@@ -39,7 +40,7 @@ pub(crate) fn write_rider<W: Output>(json: &mut JsonState, out: &mut W, row: &Ri
         &[
             ("rider", whole(row.rider)),
             ("state", Scalar::Text(rider_state(row.blocked))),
-            ("balance_cents", signed(row.balance)),
+            ("balance_cents", signed(row.balance.hundredths())),
             ("rental", open_rental(row.rental)),
         ],
     );
@@ -127,8 +128,8 @@ fn ended_at(station: &Option<Ident>) -> &str
 struct Closed<'a> {
     to: &'a str,
     finish: &'a str,
-    fare: i64,
-    refunded: i64,
+    fare: Cents,
+    refunded: Cents,
 }
 
 fn write_open<'a, W: Output>(
@@ -187,8 +188,8 @@ fn write_closed<'a, W: Output>(
             ("is_open", Scalar::Flag(false)),
             ("to", Scalar::Text(closed.to)),
             ("end", Scalar::Text(closed.finish)),
-            ("fare_cents", signed(closed.fare)),
-            ("refunded_cents", signed(closed.refunded)),
+            ("fare_cents", signed(closed.fare.hundredths())),
+            ("refunded_cents", signed(closed.refunded.hundredths())),
         ],
     );
 }
@@ -198,7 +199,7 @@ pub(crate) fn write_rental<W: Output>(
     out: &mut W,
     number: RentalNumber,
     rental: &Rental,
-    refunded: i64,
+    refunded: Cents,
 )
     requires value { IsTrue (takes_value json.old.top) }
     requires room { length json.old.round < 16 }

@@ -33,13 +33,13 @@ impl LineFold for Sums {
         };
         match entry.kind {
             EntryKind::TopUp => {
-                self.cash = sum(self.cash.checked_add(entry.amount))?;
+                self.cash = sum(self.cash.checked_add(entry.amount.hundredths()))?;
             }
             EntryKind::Fare => {
-                self.revenue = sum(self.revenue.checked_add(entry.amount))?;
+                self.revenue = sum(self.revenue.checked_add(entry.amount.hundredths()))?;
             }
             EntryKind::Refund => {
-                self.revenue = sum(self.revenue.checked_sub(entry.amount))?;
+                self.revenue = sum(self.revenue.checked_sub(entry.amount.hundredths()))?;
             }
         }
         Ok(())

@@ -38,14 +38,14 @@ pub(crate) fn next_entry(entries: u32) -> Option<EntryNumber>
 }
 
 /// An entry that is booked, with its rider's balance after it, and for a refund what is refunded then.
-pub(crate) fn booked(balance: &i64, entry: Entry, refunded: Option<Cents>) -> Booked
-    requires { IsBalance balance.now }
+pub(crate) fn booked(balance: Cents, entry: Entry, refunded: Option<Cents>) -> Booked
+    requires { IsBalance balance }
     ensures entry { result.entry ≡ entry }
-    ensures balance { result.balance ≡ balance.now +ℤ credit entry.kind entry.amount }
+    ensures balance { result.balance ≡ balance +ℤ credit entry.kind entry.amount }
     ensures refunded { result.refunded ≡ refunded }
 {
     Booked {
-        balance: Cents::new(balance_after(*balance, &entry)),
+        balance: balance_after(balance, &entry),
         entry,
         refunded,
     }
@@ -63,7 +63,7 @@ pub(crate) fn fare_booked(entries: u32, row: &RentalView, now: Moment) -> Booked
     let number = next_number(entries);
     let amount = fare(&row.plan, row.rental.start, now);
     let entry = Entry::fare(number, row.rental.rider, row.number, amount, now);
-    booked(&row.balance, entry, None)
+    booked(row.balance, entry, None)
 }
 
 /// The rental closed at a station or recovered, at the fare that is booked.
@@ -77,7 +77,7 @@ pub(crate) fn closing<'a>(
     Change::CloseRental {
         rental: row.number.get(),
         to_station,
-        fare: booked.entry.amount().hundredths(),
+        fare: booked.entry.amount(),
     }
 }
 
@@ -99,23 +99,24 @@ pub(crate) fn ended_reply(booked: &Booked) -> Reply
 }
 
 /// Whether an amount is more than what of a rental's fare isn't refunded yet, which the refund rule forbids.
-pub(crate) fn is_too_much(closing: &Closing, refunded: &i64, amount: Payment) -> bool
-    requires low { pos 0 ≤ℤ refunded.now }
-    requires high { refunded.now ≤ℤ closing.now.fare }
-    ensures { result ≡ int_lt (closing.now.fare -ℤ refunded.now) (pos amount) }
+pub(crate) fn is_too_much(closing: &Closing, refunded: Cents, amount: Payment) -> bool
+    requires low { pos 0 ≤ℤ refunded }
+    requires high { refunded ≤ℤ closing.now.fare }
+    ensures { result ≡ int_lt (closing.now.fare -ℤ refunded) (pos amount) }
 {
-    let left = refundable(Cents::new(closing.fare), Cents::new(*refunded));
+    let left = refundable(closing.fare, refunded);
     left.hundredths() < i64::from(amount.get())
 }
 
 /// The sum of both, which is at most so much.
-pub(crate) fn sum_within(refunded: &i64, amount: Payment, most: &i64) -> i64
-    requires low { pos 0 ≤ℤ refunded.now }
-    requires high { refunded.now ≤ℤ most.now }
-    requires within { pos amount ≤ℤ (most.now -ℤ refunded.now) }
-    ensures { result ≡ refunded.now +ℤ pos amount }
+pub(crate) fn sum_within(refunded: Cents, amount: Payment, most: Cents) -> Cents
+    requires low { pos 0 ≤ℤ refunded }
+    requires high { refunded ≤ℤ most }
+    requires within { pos amount ≤ℤ (most -ℤ refunded) }
+    ensures { result ≡ refunded +ℤ pos amount }
 {
-    let left = *most - *refunded;
+    let most = most.hundredths();
+    let left = most - refunded.hundredths();
     let amount = i64::from(amount.get());
-    *most - (left - amount)
+    Cents::new(most - (left - amount))
 }

@@ -34,7 +34,7 @@ fn check_start(view: &View, dock: DockNumber) -> Result<&DockedBike, Refusal>
     if rider.is_blocked {
         return Err(Refusal::RiderBlocked);
     }
-    if rider.balance < 0 {
+    if rider.balance.hundredths() < 0 {
         return Err(Refusal::BalanceNegative);
     }
     if view.is_riding {
@@ -275,7 +275,7 @@ fn check_refund(view: &View, amount: Payment) -> Result<Refunding<'_>, Refusal>
     let Some(closing) = &row.rental.closing else {
         return Err(Refusal::RentalOpen);
     };
-    if is_too_much(closing, &row.refunded, amount) {
+    if is_too_much(closing, row.refunded, amount) {
         return Err(Refusal::RefundTooLarge);
     }
     if view.is_ledger_full {
@@ -283,7 +283,7 @@ fn check_refund(view: &View, amount: Payment) -> Result<Refunding<'_>, Refusal>
     }
     Ok(Refunding {
         rental: row,
-        refunded: Cents::new(sum_within(&row.refunded, amount, &closing.fare)),
+        refunded: sum_within(row.refunded, amount, closing.fare),
     })
 }
 
@@ -307,7 +307,7 @@ pub(crate) fn decide_refund<'a>(
         return Err(Refusal::LimitReached);
     };
     let entry = Entry::refund(number, row.rental.rider, row.number, amount, now);
-    let booked = booked(&row.balance, entry, Some(refunding.refunded));
+    let booked = booked(row.balance, entry, Some(refunding.refunded));
     Ok(Accepted {
         reply: balance_reply(&booked),
         moved: None,

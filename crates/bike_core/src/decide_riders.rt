@@ -66,11 +66,7 @@ pub(crate) fn decide_top_up<'a>(
     let Some(number) = next_entry(view.entries) else {
         return Err(Refusal::LimitReached);
     };
-    let booked = booked(
-        &row.balance,
-        Entry::top_up(number, rider, amount, now),
-        None,
-    );
+    let booked = booked(row.balance, Entry::top_up(number, rider, amount, now), None);
     Ok(Accepted {
         reply: balance_reply(&booked),
         moved: None,

@@ -5,6 +5,7 @@ ghost use Rattle.bike_http.specs.Rows.{rider_answer, bike_answer, closing_in, re
 
 use bike_answers::{Answer, RiderRow};
 use bike_fields::{BicycleNumber, OrderNumber, RentalNumber, RiderNumber};
+use bike_fixed::Cents;
 use bike_heads::Rejection;
 use bike_operator::{Bike, Closing, Order, Rental};
 use bike_queries::{ClosingInfo, RentalInfo, RiderInfo};
@@ -17,7 +18,7 @@ pub(crate) fn rider_answer(number: RiderNumber, found: Option<RiderInfo>) -> Ans
         Some(info) => Answer::Rider(RiderRow {
             rider: number,
             blocked: info.is_blocked,
-            balance: info.balance.hundredths(),
+            balance: info.balance,
             rental: info.rental,
         }),
         None => Answer::Rejected(Rejection::NotFound),
@@ -35,12 +36,12 @@ pub(crate) fn bike_answer(number: BicycleNumber, found: Option<Bike>) -> Answer
 }
 
 /// How a rental was closed, and the sum of its refunds.
-fn closing_of(closing: Option<ClosingInfo>) -> (Option<Closing>, i64)
+fn closing_of(closing: Option<ClosingInfo>) -> (Option<Closing>, Cents)
     ensures closing { result.0 ≡ option_map closing_in closing }
     ensures refunds { result.1 ≡ refunds_in closing }
 {
     match closing {
-        None => (None, 0),
+        None => (None, Cents::new(0)),
         Some(
             ClosingInfo {
                 to_station,
@@ -49,13 +50,12 @@ fn closing_of(closing: Option<ClosingInfo>) -> (Option<Closing>, i64)
                 refunded,
             },
         ) => {
-            let fare = fare.hundredths();
             let closing = Closing {
                 to_station,
                 finish,
                 fare,
             };
-            (Some(closing), refunded.hundredths())
+            (Some(closing), refunded)
         }
     }
 }

@@ -12,15 +12,15 @@ use bike_fixed::Cents;
 /// What one entry fewer than `GREATEST_SERIAL`, each of `GREATEST_FARE`, come to, in hundredths.
 pub const GREATEST_BALANCE: i64 = 3_456_179_965_438_200_000;
 
-/// The balance of the entry's rider after the entry, in hundredths.
-pub fn balance_after(balance: i64, entry: &Entry) -> i64
+/// The balance of the entry's rider after the entry.
+pub fn balance_after(balance: Cents, entry: &Entry) -> Cents
     requires balance { IsBalance balance }
     ensures { result ≡ balance +ℤ credit entry.now.kind entry.now.amount }
 {
     let amount = entry.amount().hundredths();
     match entry.kind() {
-        EntryKind::TopUp | EntryKind::Refund => balance + amount,
-        EntryKind::Fare => balance - amount,
+        EntryKind::TopUp | EntryKind::Refund => Cents::new(balance.hundredths() + amount),
+        EntryKind::Fare => Cents::new(balance.hundredths() - amount),
     }
 }
 

@@ -38,7 +38,8 @@ fn is_of(entry: &StoredEntry, rental: &StoredRental<'_>) -> bool
     match &rental.closing {
         Some(closing) => {
             rental.rider == entry.rider
-                && (entry.kind != EntryKind::Fare || closing.fare == entry.amount)
+                && (entry.kind != EntryKind::Fare
+                    || closing.fare.hundredths() == entry.amount.hundredths())
         }
         None => false,
     }

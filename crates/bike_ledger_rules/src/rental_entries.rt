@@ -35,7 +35,7 @@ impl LineFold for RentalEntries {
         let (fares, refunded) = match entry.kind {
             EntryKind::TopUp => (0, 0),
             EntryKind::Fare => (1, 0),
-            EntryKind::Refund => (0, entry.amount),
+            EntryKind::Refund => (0, entry.amount.hundredths()),
         };
         let rental = entry.rental as usize;
         self.fares.add(rental, fares)?;
@@ -49,7 +49,7 @@ fn is_booked(rental: &StoredRental<'_>, fares: i64, refunded: i64) -> bool
     ensures { result ≡ is_booked fares refunded (rental_of rental.now).1 (rental_of rental.now).2 }
 {
     let (has_fare, most) = match &rental.closing {
-        Some(closing) => (fares >= 1, closing.fare),
+        Some(closing) => (fares >= 1, closing.fare.hundredths()),
         None => (true, 0),
     };
     has_fare && rental.refunded.hundredths() == refunded && refunded <= most

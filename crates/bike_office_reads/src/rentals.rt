@@ -14,6 +14,7 @@ use crate::newest::{find_newest_open, select_open};
 use crate::numbers::{count_rows, last_number};
 use bike_book::columns::rentals;
 use bike_fields::{RentalNumber, RiderNumber};
+use bike_fixed::Cents;
 use bike_operator::{Closing, Rental};
 use bike_rows::lookup::first_row;
 use bike_schema::{
@@ -29,7 +30,7 @@ pub struct StoredRental {
     /// The rental.
     pub rental: Rental,
     /// The sum of its refunds, in hundredths.
-    pub refunded: i64,
+    pub refunded: Cents,
 }
 
 /// The rental's row of `rentals`.
@@ -83,7 +84,7 @@ fn read_closing(alloc: Global, row: &Row) -> Result<Option<Closing>, StatementFa
         (Some(finish), Some(fare)) => Ok(Some(Closing {
             to_station,
             finish,
-            fare: fare.hundredths(),
+            fare,
         })),
         (None, None) => Ok(None),
         _ => Err(StatementFault::StoreFailed),
@@ -110,7 +111,7 @@ fn read_rental(alloc: Global, row: &Row) -> Result<StoredRental, StatementFault>
             start,
             closing,
         },
-        refunded: refunded.hundredths(),
+        refunded,
     })
 }
 

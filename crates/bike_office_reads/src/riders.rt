@@ -41,7 +41,7 @@ fn read_rider(row: &Row) -> Result<RiderView, StatementFault>
     let balance = cents_at(row, riders::BALANCE)?;
     Ok(RiderView {
         is_blocked,
-        balance: balance.hundredths(),
+        balance,
     })
 }
 

@@ -8,14 +8,15 @@ ghost use Rattle.bike_operator.specs.Counts.{is_open};
 use crate::limits::MOST_ENTRIES;
 use crate::records::Closing;
 use crate::view::{RentalView, View};
-use bike_fixed::Moment;
+use bike_fixed::{Cents, Moment};
 use bike_ledger::GREATEST_BALANCE;
 
 /// Whether the balance takes one more entry.
-fn is_balance(balance: &i64) -> bool
-    ensures { IsTrue result ↔ IsBalance balance.now }
+fn is_balance(balance: Cents) -> bool
+    ensures { IsTrue result ↔ IsBalance balance }
 {
-    -GREATEST_BALANCE <= *balance && *balance <= GREATEST_BALANCE
+    let hundredths = balance.hundredths();
+    -GREATEST_BALANCE <= hundredths && hundredths <= GREATEST_BALANCE
 }
 
 /// Whether one more rental has a number, where the ledger isn't full.
@@ -30,7 +31,7 @@ fn is_rider_bounded(view: &View) -> bool
     ensures { IsTrue result ↔ (view.now.is_ledger_full ≡ false → IfSome view.now.rider (λ r. IsBalance r.balance)) }
 {
     match &view.rider {
-        Some(rider) => view.is_ledger_full || is_balance(&rider.balance),
+        Some(rider) => view.is_ledger_full || is_balance(rider.balance),
         None => true,
     }
 }
@@ -39,16 +40,17 @@ fn is_rider_bounded(view: &View) -> bool
 fn is_chargeable(entries: u32, now: Moment, row: &RentalView) -> bool
     ensures { IsTrue result ↔ IsChargeable entries now row.now }
 {
-    row.rental.start <= now && entries < MOST_ENTRIES && is_balance(&row.balance)
+    row.rental.start <= now && entries < MOST_ENTRIES && is_balance(row.balance)
 }
 
 /// Whether refunds lie within the fare, and where there is room for an entry, one more can be booked.
 fn is_refundable(entries: u32, row: &RentalView, closing: &Closing) -> bool
     ensures { IsTrue result ↔ IsRefundable entries row.now closing.now.fare }
 {
-    0 <= row.refunded
-        && row.refunded <= closing.fare
-        && (entries >= MOST_ENTRIES || is_balance(&row.balance))
+    let refunded = row.refunded.hundredths();
+    0 <= refunded
+        && refunded <= closing.fare.hundredths()
+        && (entries >= MOST_ENTRIES || is_balance(row.balance))
 }
 
 /// Whether the fare of an open rental can be booked now.

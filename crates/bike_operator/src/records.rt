@@ -4,7 +4,7 @@ use bike_commands::{
     BicycleNumber, DockNumber, Ident, OrderEnd, OrderNumber, OrderQuantity, RentalNumber,
     RiderNumber, TruckNumber,
 };
-use bike_fixed::Moment;
+use bike_fixed::{Cents, Moment};
 
 /// What a bicycle is good for.
 #[derive(Clone, Copy, Debug, PartialEq, Eq)]
@@ -56,8 +56,8 @@ pub struct Closing {
     pub to_station: Option<Ident>,
     /// When it ended.
     pub finish: Moment,
-    /// Its fare in hundredths.
-    pub fare: i64,
+    /// Its fare.
+    pub fare: Cents,
 }
 
 /// A rental.

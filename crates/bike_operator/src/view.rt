@@ -2,6 +2,7 @@
 
 use crate::records::{Bike, BikeState, Order, Rental};
 use bike_commands::{BicycleNumber, DockCount, Ident, Plan, RentalNumber, TruckCapacity};
+use bike_fixed::Cents;
 
 /// What a decision needs to know of a station.
 #[derive(Clone, Copy, Debug)]
@@ -38,10 +39,10 @@ pub struct RentalView {
     pub rental: Rental,
     /// Its pricing plan.
     pub plan: Plan,
-    /// Its refunds so far, in hundredths.
-    pub refunded: i64,
-    /// Its rider's balance in hundredths.
-    pub balance: i64,
+    /// Its refunds so far.
+    pub refunded: Cents,
+    /// Its rider's balance.
+    pub balance: Cents,
 }
 
 /// What a decision needs to know of a rider.
@@ -49,8 +50,8 @@ pub struct RentalView {
 pub struct RiderView {
     /// Whether the rider is blocked.
     pub is_blocked: bool,
-    /// The balance in hundredths of the currency.
-    pub balance: i64,
+    /// The balance.
+    pub balance: Cents,
 }
 
 /// What a decision needs to know of a truck.

@@ -60,7 +60,7 @@ impl ClosingInfo {
         Some(ClosingInfo {
             to_station,
             finish,
-            fare: Cents::new(fare),
+            fare,
             refunded,
         })
     }
@@ -86,7 +86,7 @@ impl RentalInfo {
             plan,
             from_station,
             start,
-            closing: ClosingInfo::with_refunds(closing, Cents::new(refunded)),
+            closing: ClosingInfo::with_refunds(closing, refunded),
         }
     }
 }

@@ -30,7 +30,7 @@ pub fn find_balance<S: Alter>(
     ensures { Answers S.Store conn.old conn.new result (λ s m x. x ≡ balance_at s rider) }
 {
     match find_rider(conn, rider)? {
-        Some(view) => Ok(Some(Cents::new(view.balance))),
+        Some(view) => Ok(Some(view.balance)),
         None => Ok(None),
     }
 }
@@ -49,7 +49,7 @@ pub fn find_rider_info<S: Alter>(
             let rental = find_open_rental(conn, rider, newest_tells)?;
             Ok(Some(RiderInfo {
                 is_blocked: view.is_blocked,
-                balance: Cents::new(view.balance),
+                balance: view.balance,
                 rental,
             }))
         }

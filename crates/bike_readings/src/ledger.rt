@@ -31,8 +31,8 @@ pub struct StoredClosing<'a> {
     /// The station at which it ended; none where the bicycle was recovered.
     pub to_station: Option<&'a str>,
     pub finish: Moment,
-    /// Its fare, in hundredths.
-    pub fare: i64,
+    /// Its fare.
+    pub fare: Cents,
 }
 
 /// A row of `rentals`.
@@ -58,8 +58,8 @@ pub struct StoredEntry {
     pub rider: RiderNumber,
     /// Its rental, 0 for a top-up.
     pub rental: u32,
-    /// Its amount, in hundredths.
-    pub amount: i64,
+    /// Its amount.
+    pub amount: Cents,
     pub at: Moment,
 }
 
@@ -87,7 +87,7 @@ fn closed_in<'a>(part: &Part<'a>) -> Option<Option<StoredClosing<'a>>>
 {
     let to_station = ident_or_none_in(part, rentals::TO_STATION)?;
     let finish = moment_in(part, rentals::FINISH)?;
-    let fare = signed_in(part, rentals::FARE, 0, GREATEST_FARE)?;
+    let fare = Cents::new(signed_in(part, rentals::FARE, 0, GREATEST_FARE)?);
     Some(Some(StoredClosing {
         to_station,
         finish,
@@ -156,19 +156,15 @@ fn rental_in(kind: EntryKind, part: &Part<'_>) -> Option<u32>
     }
 }
 
-/// The amount of an entry of the kind, in hundredths.
-fn amount_in(kind: EntryKind, part: &Part<'_>) -> Option<i64>
+/// The amount of an entry of the kind.
+fn amount_in(kind: EntryKind, part: &Part<'_>) -> Option<Cents>
     ensures { result ≡ amount_in kind (column part.now 4) }
 {
-    match kind {
-        EntryKind::TopUp | EntryKind::Refund => signed_in(
-            part,
-            entries::AMOUNT,
-            1,
-            i64::from(GREATEST_PAYMENT),
-        ),
-        EntryKind::Fare => signed_in(part, entries::AMOUNT, 0, GREATEST_FARE),
-    }
+    let (least, most) = match kind {
+        EntryKind::TopUp | EntryKind::Refund => (1, i64::from(GREATEST_PAYMENT)),
+        EntryKind::Fare => (0, GREATEST_FARE),
+    };
+    Some(Cents::new(signed_in(part, entries::AMOUNT, least, most)?))
 }
 
 /// What a row of `entries` spells.

@@ -16,6 +16,7 @@ use crate::empty::empty_view;
 use crate::figures::{Known, is_ledger_full};
 use crate::sight::Sight;
 use bike_fields::{BicycleNumber, DockNumber, Ident, RentalNumber, RiderNumber};
+use bike_fixed::Cents;
 use bike_fleet_reads::find_bike;
 use bike_office_reads::{find_plan, find_rental, find_rider, is_riding};
 use bike_operator::{Bike, Place, Rental, RentalView, RiderView, View};
@@ -45,7 +46,7 @@ fn find_planned_rental<S: Alter>(
     conn: &mut Connection<S>,
     number: RentalNumber,
     rental: Rental,
-    refunded: i64,
+    refunded: Cents,
 ) -> Result<Option<RentalView>, StatementFault>
     ensures { Answers S.Store conn.old conn.new result (λ s m found. refunded ≡ refunded_of number s.entries
         → found ≡ planned_rental s number rental (map.get s.plans rental.plan)) }
@@ -181,7 +182,7 @@ fn find_rental_bike<S: Alter>(
     conn: &mut Connection<S>,
     number: RentalNumber,
     rental: Rental,
-    refunded: i64,
+    refunded: Cents,
 ) -> Result<RentalBike, StatementFault>
     ensures { Answers S.Store conn.old conn.new result (λ s m ridden. refunded ≡ refunded_of number s.entries
         → ridden ≡ rental_bike s number rental) }
