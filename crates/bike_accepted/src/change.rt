@@ -3,7 +3,6 @@
 use bike_commands::{
     Ident, Language, Name, NameKind, OrderEnd, Plan, Region, Station, System, VehicleType,
 };
-use bike_fixed::Cents;
 use bike_operator::Order;
 
 /// One record that is put or added. What is added wasn't there. Moments are the operator's `now`.
@@ -70,11 +69,11 @@ pub enum Change<'a> {
         plan: &'a Ident,
         from_station: &'a Ident,
     },
-    /// A rental is closed at a station, or recovered, at a fare.
+    /// A rental is closed at a station, or recovered, at a fare in hundredths.
     CloseRental {
         rental: u32,
         to_station: Option<&'a Ident>,
-        fare: Cents,
+        fare: i64,
     },
     /// An order is added, which is open.
     AddOrder {

@@ -21,7 +21,7 @@ pub(crate) enum Scalar<'a> {
 
 /// A number of a range, as a value.
 pub(crate) fn whole<const LO: u32, const HI: u32, K>(number: Within<LO, HI, K>) -> Scalar<'static>
-    ensures { result ≡ Scalar.Whole (pos number.entry) }
+    ensures { result ≡ Scalar.Whole (pos number) }
 {
     Scalar::Whole(i64::from(number.get()))
 }

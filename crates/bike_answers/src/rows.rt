@@ -123,13 +123,13 @@ fn ended_at(station: &Option<Ident>) -> &str
     }
 }
 
-/// How a rental was closed, as texts and amounts.
+/// How a rental was closed, as texts and amounts in hundredths.
 #[derive(Clone, Copy)]
 struct Closed<'a> {
     to: &'a str,
     finish: &'a str,
-    fare: Cents,
-    refunded: Cents,
+    fare: i64,
+    refunded: i64,
 }
 
 fn write_open<'a, W: Output>(
@@ -188,8 +188,8 @@ fn write_closed<'a, W: Output>(
             ("is_open", Scalar::Flag(false)),
             ("to", Scalar::Text(closed.to)),
             ("end", Scalar::Text(closed.finish)),
-            ("fare_cents", signed(closed.fare.hundredths())),
-            ("refunded_cents", signed(closed.refunded.hundredths())),
+            ("fare_cents", signed(closed.fare)),
+            ("refunded_cents", signed(closed.refunded)),
         ],
     );
 }
@@ -215,8 +215,8 @@ pub(crate) fn write_rental<W: Output>(
             let closed = Closed {
                 to: ended_at(&closing.to_station),
                 finish: finish.as_str(),
-                fare: closing.fare,
-                refunded,
+                fare: closing.fare.hundredths(),
+                refunded: refunded.hundredths(),
             };
             write_closed(json, out, number, rental, start.as_str(), closed);
         }

@@ -86,7 +86,7 @@ pub(crate) fn change_row<'a>(change: &Change<'a>, now: Moment) -> RowChange<'a>
             rental: *rental,
             to_station: *to_station,
             finish: now,
-            fare: *fare,
+            fare: Cents::new(*fare),
         },
         Change::AddOrder {
             order,

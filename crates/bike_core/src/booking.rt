@@ -77,7 +77,7 @@ pub(crate) fn closing<'a>(
     Change::CloseRental {
         rental: row.number.get(),
         to_station,
-        fare: booked.entry.amount(),
+        fare: booked.entry.amount().hundredths(),
     }
 }
 
@@ -108,6 +108,18 @@ pub(crate) fn is_too_much(closing: &Closing, refunded: Cents, amount: Payment) -
     left.hundredths() < i64::from(amount.get())
 }
 
+/// The sum of both in hundredths, which is at most so much.
+fn hundredths_within(refunded: i64, amount: Payment, most: i64) -> i64
+    requires low { pos 0 ≤ℤ refunded }
+    requires high { refunded ≤ℤ most }
+    requires within { pos amount ≤ℤ (most -ℤ refunded) }
+    ensures { result ≡ refunded +ℤ pos amount }
+{
+    let left = most - refunded;
+    let amount = i64::from(amount.get());
+    most - (left - amount)
+}
+
 /// The sum of both, which is at most so much.
 pub(crate) fn sum_within(refunded: Cents, amount: Payment, most: Cents) -> Cents
     requires low { pos 0 ≤ℤ refunded }
@@ -115,8 +127,5 @@ pub(crate) fn sum_within(refunded: Cents, amount: Payment, most: Cents) -> Cents
     requires within { pos amount ≤ℤ (most -ℤ refunded) }
     ensures { result ≡ refunded +ℤ pos amount }
 {
-    let most = most.hundredths();
-    let left = most - refunded.hundredths();
-    let amount = i64::from(amount.get());
-    Cents::new(most - (left - amount))
+    Cents::new(hundredths_within(refunded.hundredths(), amount, most.hundredths()))
 }

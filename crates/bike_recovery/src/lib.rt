@@ -2,8 +2,11 @@
 //!
 //! What is read then is that of the operator after a front of the list, which holds every acknowledged request and at most one more. It
 //! is said of any two stores, of one that crashes, and of files: those that a process leaves, and those that the next one opens.
+//!
+//! `bounds` says the numbers behind the bounds that contracts name.
 #![tactic(auto)]
 
+mod bounds;
 mod crash;
 mod files;
 mod raising;
@@ -12,6 +15,7 @@ mod reopening;
 mod sessions;
 mod stop;
 
+pub use bounds::{input_bounds, number_bounds, record_limits, text_bounds};
 pub use crash::{Acknowledged, Lost, run_adopt_and_read, run_crash_and_read, run_in_memory};
 pub use files::{NotOpened, stop_and_open};
 pub use raising::{Unraised, raise_crash_and_read};

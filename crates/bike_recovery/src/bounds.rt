@@ -1,0 +1,79 @@
+//! The numbers of the bounds that contracts name. A constant of another number is refused here.
+
+ghost use Rattle.std.specs.Prelude.{◌≡◌, pos};
+ghost use Rattle.bike_fixed.specs.declared.moment.TheConstants.{LAST_MOMENT};
+ghost use Rattle.bike_fixed.specs.declared.micro.TheConstants.{GREATEST_COORDINATE};
+ghost use Rattle.bike_fixed.specs.declared.cents.TheConstants.{GREATEST_FARE};
+ghost use Rattle.bike_fields.specs.declared.numbers.TheConstants as number;
+ghost use Rattle.bike_fields.specs.declared.text_lengths.TheConstants as text;
+ghost use Rattle.bike_catalogue.specs.declared.limits.TheConstants as catalogue;
+ghost use Rattle.bike_ledger.specs.declared.sums.TheConstants.{GREATEST_BALANCE};
+ghost use Rattle.bike_commands.specs.declared.request.TheConstants.{LINE_LENGTH};
+ghost use Rattle.bike_operator.specs.declared.limits.TheConstants as limit;
+ghost use Rattle.bike_earlier.specs.declared.earlier.TheConstants.{MOST_DOCKS_BEFORE};
+ghost use Rattle.bike_book.specs.declared.version.TheConstants.{NEWEST};
+ghost use Rattle.bike_heads.specs.declared.head.TheConstants.{HEAD_LENGTH};
+ghost use Rattle.bike_heads.specs.declared.length.TheConstants.{BODY_LENGTH};
+ghost use Rattle.bike_incoming.specs.declared.input.TheConstants as http;
+ghost use Rattle.bike_lines.specs.declared.lines.TheConstants as lines;
+ghost use Rattle.bike_imports.specs.declared.import.TheConstants.{MOST_ROWS};
+ghost use Rattle.bike_imports.specs.declared.input.TheConstants as csv;
+
+/// How many there may be of each record.
+pub fn record_limits()
+    ensures plans { limit.MOST_PLANS ≡ 256 }
+    ensures types { limit.MOST_TYPES ≡ 32 }
+    ensures regions { limit.MOST_REGIONS ≡ 256 }
+    ensures further_names { limit.MOST_FURTHER_NAMES ≡ 3 }
+    ensures stations { limit.MOST_STATIONS ≡ 5000 }
+    ensures docks { number.MOST_DOCKS ≡ 500 }
+    ensures docks_before { MOST_DOCKS_BEFORE ≡ 200 }
+    ensures bikes { limit.MOST_BIKES ≡ 100000 }
+    ensures trucks { limit.MOST_TRUCKS ≡ 1000 }
+    ensures riders { limit.MOST_RIDERS ≡ 500000 }
+    ensures orders { limit.MOST_ORDERS ≡ 10000000 }
+    ensures entries { limit.MOST_ENTRIES ≡ 100000000 }
+    ensures segments { catalogue.MOST_SEGMENTS ≡ 8 }
+    ensures version { NEWEST ≡ 3 }
+{}
+
+/// The greatest numbers of fields. Money is in hundredths, a coordinate in microdegrees, a time in seconds, a range in metres.
+pub fn number_bounds()
+    ensures name { number.GREATEST_NUMBER ≡ 999999 }
+    ensures serial { number.GREATEST_SERIAL ≡ 100000000 }
+    ensures carried { number.MOST_CARRIED ≡ 60 }
+    ensures payment { number.GREATEST_PAYMENT ≡ 1000000 }
+    ensures price { number.GREATEST_PRICE ≡ 1000000 }
+    ensures rate { catalogue.GREATEST_RATE ≡ 100000 }
+    ensures minute { number.LAST_MINUTE ≡ 100000 }
+    ensures range { number.GREATEST_RANGE ≡ 1000000 }
+    ensures time_to_live { number.LONGEST_TIME_TO_LIVE ≡ 86400 }
+    ensures latitude { catalogue.GREATEST_LATITUDE ≡ 90000000 }
+    ensures coordinate { GREATEST_COORDINATE ≡ 180000000 }
+    ensures moment { LAST_MOMENT ≡ 253402300799 }
+    ensures fare { GREATEST_FARE ≡ pos 34561800000 }
+    ensures balance { GREATEST_BALANCE ≡ pos 3456179965438200000 }
+{}
+
+/// The lengths of texts in bytes.
+pub fn text_bounds()
+    ensures ident { text.LONGEST_IDENT ≡ 36 }
+    ensures key { text.LONGEST_KEY ≡ 64 }
+    ensures shortest_language { text.SHORTEST_LANGUAGE ≡ 2 }
+    ensures longest_language { text.LONGEST_LANGUAGE ≡ 35 }
+    ensures currency { text.CURRENCY_LENGTH ≡ 3 }
+    ensures name { text.LONGEST_NAME ≡ 120 }
+    ensures ascii { text.LONGEST_ASCII ≡ 200 }
+    ensures line { LINE_LENGTH ≡ 4096 }
+    ensures head { HEAD_LENGTH ≡ 8192 }
+    ensures body { BODY_LENGTH ≡ 16384 }
+{}
+
+/// How many reads of its input one call makes at most, and how many rows an import has.
+pub fn input_bounds()
+    ensures http_reads { http.MOST_READS ≡ 20000 }
+    ensures line_reads { lines.MOST_READS ≡ 1000000000 }
+    ensures import_reads { csv.MOST_READS ≡ 1000000 }
+    ensures import_record { csv.MOST_RECORD ≡ 65536 }
+    ensures import_rows { MOST_ROWS ≡ 1000000 }
+{}
