@@ -2,6 +2,7 @@
 counts, and words that are gone."""
 
 import contextlib
+import csv
 import math
 import os
 import re
@@ -67,7 +68,7 @@ def test_axes_of_pictures(program):
 
 
 def test_wrong_bodies(program):
-    """docs/GATE.md lists the wrong bodies that the gate tries, and tells how many there are of each kind."""
+    """docs/GATE.md lists the must-fail edits that the gate tries, and says how many there are of them and in review/."""
     text = (TOP / "docs/GATE.md").read_text(encoding="utf-8")
     tried = {f"{it.parts[-3]}/{it.stem}" for it in TOP.glob("crates/*/must-fail/*.edit")}
     listed = re.findall(r"^\| .* \| `(bike_\w+/\w+)` \|$", text, re.M)
@@ -75,7 +76,38 @@ def test_wrong_bodies(program):
     assert len(tried) <= 30, len(tried)
     kept = len(list(TOP.glob("review/*/*.edit")))
     for wanted in f"{len(tried)} in all", f"{kept} in all":
-        assert wanted in text, wanted
+        assert wanted in " ".join(text.split()), wanted
+
+
+def test_costs(program):
+    """docs/costs.csv has the crates in the order of crates.txt, each with its edits and, to a thirtieth, its lines; of what is measured the day."""
+    crates = [it.split(":")[0] for it in (TOP / "crates.txt").read_text(encoding="utf-8").splitlines() if it and not it.startswith("#")]
+    with open(TOP / "docs/costs.csv", encoding="utf-8", newline="") as file:
+        rows = list(csv.DictReader(file))
+    old = "tools/costs table writes docs/costs.csv anew"
+    assert sorted(crates) == sorted(it.name for it in TOP.glob("crates/*")) and [it["crate"] for it in rows] == crates, old
+    for row in rows:
+        for name, place in ("must_fail", f"crates/{row['crate']}/must-fail"), ("review", f"review/{row['crate']}"):
+            assert int(row[name]) == len(list(TOP.glob(f"{place}/*.edit"))), (row["crate"], name, old)
+        for name in "src", "specs", "proofs":
+            files = [it for it in TOP.glob(f"crates/{row['crate']}/{name}/**/*") if it.suffix in (".rt", ".antt")]
+            found = sum(it.read_text(encoding="utf-8").count("\n") for it in files)
+            assert abs(found - int(row[name])) <= max(20, found / 30), (row["crate"], name, found, old)
+        for name in "noted", "tried":
+            assert re.fullmatch(r"(?:\d{4}-\d\d-\d\d)?", row[name]), (row["crate"], row[name])
+        assert row["noted"] or not any(row[it] for it in ("check_s", "edits_s", "memory_mb")), row
+
+
+def test_groups_of_crates(program):
+    """docs/ARCHITECTURE.md has the crates below the headings of crates.txt, and within each in their order."""
+    text = documents()["docs/ARCHITECTURE.md"].split("## The crates", 1)[1].split("\n## ", 1)[0]
+    found, wanted = [], []
+    for line in text.splitlines():
+        head = re.fullmatch(r"\*\*([^*]+)\*\*", line)
+        found += [head[1]] if head else re.findall(r"\*\*`(\w+)`\*\*", line)
+    for line in (TOP / "crates.txt").read_text(encoding="utf-8").splitlines()[1:]:
+        wanted.append(line[2:] if line.startswith("# ") else line.split(":")[0])
+    assert found == wanted, [(one, other) for one, other in zip(found, wanted) if one != other]
 
 
 # Words and phrases that no document has any more, each with the plain one that stands in its place.
