@@ -2,9 +2,7 @@
 
 ghost use Rattle.std.specs.Prelude.{IsTrue};
 ghost use Rattle.std.specs.Io.KnownBytes.{Keeps};
-ghost use Rattle.sqlite.specs.State.{HasCleanDisk};
-ghost use Rattle.bike_operator.specs.Operator.{Operator};
-ghost use Rattle.bike_desk.specs.Desk.{desk_state, IsAt};
+ghost use Rattle.bike_desk.specs.Desk.{OfOperator};
 ghost use Rattle.bike_days.specs.Ends.{EndsByDay, WritesDay, LeavesDesk};
 
 use crate::fault::DayTableFault;
@@ -33,8 +31,8 @@ pub fn day_csv<S: Alter, W: Write>(
 ) -> Result<(), DayTableFault>
     ensures day { EndsByDay date.now zone.now (W.contents out.old) (W.contents out.new) result }
     ensures desk { LeavesDesk S.Store desk.old desk.new result }
-    ensures wrote { HasCleanDisk (desk_state S.Store desk.new) → (s : Operator) → IsAt S.Store desk.old s
-        → WritesDay s table date.now zone.now (W.contents out.old) (W.contents out.new) result }
+    ensures wrote { OfOperator S.Store desk.old desk.new (λ s.
+        WritesDay s table date.now zone.now (W.contents out.old) (W.contents out.new) result) }
     ensures nothing { IsTrue desk.old.is_stopped → Keeps (W.contents out.old) (W.contents out.new) }
 {
     let (begin, until) = day_bounds(date, zone)?;

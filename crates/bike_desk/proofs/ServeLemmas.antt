@@ -1,6 +1,6 @@
 -- One step, as serving takes it.
 use Rattle.std.proofs.Common.{◌≡◌, ℕ, ◌≤◌, List, cond, Option, Some, None, Ok, Err, sym, ap, ap₂, ◌∙◌, subst}
-use Rattle.std.specs.Prelude.{IfSome, max, string_bytes}
+use Rattle.std.specs.Prelude.{IfSome, is_none, ◌&&◌, max, string_bytes}
 use Rattle.std.specs.Str.{bytes_eq}
 use Rattle.std.specs.FinMap as map
 use Rattle.sqlite.specs.State.{State}
@@ -19,6 +19,7 @@ use Rattle.bike_operator.specs.Sound.{IsSound}
 use Rattle.bike_operator.specs.Steps.{refusal_of, reply_of}
 use Rattle.bike_operator.specs.Runs.{step, outcome_with_kept, outcome, after_acceptance, key_in}
 use Rattle.bike_laws.proofs.OrderLemmas.{step_sound}
+use Rattle.bike_laws.proofs.RetryLemmas.{first_kept}
 use Rattle.bike_book.specs.declared.row_change.RowChange.{RowChange}
 use Rattle.bike_book.specs.Stored.{Listed, IsListing}
 use Rattle.bike_schema.specs.Tables.{tables_of}
@@ -63,6 +64,12 @@ module _ (s : Operator) (t : ℕ) (q : Request) where
     -- the operator after it is sound
     pub accepted_sound : t ≤ last_moment → IsRequest q → IsSound s → refusal_of s q.command ≡ None → IsSound (after_acceptance s now q)
     accepted_sound moment good order free = subst (λ (p : Reply × Operator). IsSound p.1) (step_accepted free) (step_sound s t q moment good order)
+
+-- an accepted request keeps its key, so it doesn't leave the operator as it was
+pub acceptance_moves : (s : Operator) (t : ℕ) (q : Request) → map.get s.kept (key_in q) ≡ None → refusal_of s q.command ≡ None → (step s t q).1 ≡ s → ⊥
+acceptance_moves s t q anew free same =
+    let kept = first_kept s t q (ap₂ (λ k r. is_none k && is_none r) anew free) in
+    let none : map.get (step s t q).1.kept (key_in q) ≡ None = ap (λ (o : Operator). map.get o.kept (key_in q)) same ∙ anew in cc
 
 -- what is booked leads on, from the same rows after a read
 pub booked_next : (old new : State) (s : Operator) (now : ℕ) (q : Request) (h : Stores old.now s) (rows : List RowChange) → new.now ≡ old.now → Keeps new s → IsSound (after_acceptance s now q) → Books rows s h.listed now q → IsNextBy new rows s (after_acceptance s now q)

@@ -3,7 +3,7 @@ use Rattle.std.specs.Prelude.{◌≡◌, ◌⊎◌, ℕ, ℤ, Bool, false, IsTru
 use Rattle.std.specs.Coded.{Coded, code_by, coded×, coded_bool, coded_option, coded_ℕ, coded_ℤ}
 use Rattle.sqlite_trees.specs.Tree.{Trees}
 use Rattle.sqlite_trees.specs.declared.store.Store.{Ghosts}
-use Rattle.sqlite.specs.State.{State}
+use Rattle.sqlite.specs.State.{State, HasCleanDisk}
 use Rattle.sqlite.specs.Held.{Held, held_code, state}
 use Rattle.bike_operator.specs.Operator.{Operator}
 use Rattle.bike_booking.specs.declared.figures.Figures.{Figures}
@@ -64,3 +64,7 @@ pub record IsAt {S : Type 0} (g : Ghosts S) (d : DeskValue S) (s : Operator) : T
   pub goes_on : d.is_stopped ≡ false
   pub keeps : Keeps (state g d.conn) s
   pub remembers : IsRemembered s d.remembered
+
+-- So it is of the operator at which the desk was, where the disk is clean afterwards.
+abbrev pub OfOperator : {S : Type 0} → Ghosts S → DeskValue S → DeskValue S → (Operator → Type 0) → Type 0
+OfOperator g old new says = HasCleanDisk (desk_state g new) → (s : Operator) → IsAt g old s → says s

@@ -1,13 +1,11 @@
 //! The desk, and the one call that changes what it keeps.
 
 ghost use Rattle.std.specs.Prelude.{◌≡◌, ◌≤◌, false, IsTrue, IfOk, OnOk, Err};
-ghost use Rattle.sqlite.specs.State.{HasCleanDisk};
 ghost use Rattle.sqlite_trees.specs.View.{doubt};
-ghost use Rattle.bike_operator.specs.Operator.{Operator};
 ghost use Rattle.bike_operator.specs.Runs.{step};
 ghost use Rattle.bike_schema.specs.Makes.{OthersStay};
 ghost use Rattle.bike_schema.specs.Stands.{AllLeft};
-ghost use Rattle.bike_desk.specs.Desk.{desk_over, desk_state, IsAt, TreesStandForEither};
+ghost use Rattle.bike_desk.specs.Desk.{desk_over, desk_state, IsAt, TreesStandForEither, OfOperator};
 
 use crate::fault::DeskFault;
 use crate::newest::{Newest, know_newest};
@@ -73,7 +71,8 @@ impl<S: Alter> Desk<S> {
         conn
     }
 
-    /// Serves one request that comes at the moment, in one transaction. Tables of other names stay as they are.
+    /// Serves one request that comes at the moment, in one transaction. Tables of other names stay as they are. A request
+    /// that changes nothing of the operator, since it is refused or its key is kept, changes nothing of the database.
     ///
     /// `NoMemory` comes before anything changes and leaves everything as it was. `StoreFailed` comes where the
     /// engine fails, memory for it included, or where what is stored is no sound operator's; on the tables of one
@@ -86,14 +85,17 @@ impl<S: Alter> Desk<S> {
         request: &Request,
     ) -> Result<Reply, DeskFault>
         ensures clean { doubt (desk_state S.Store self.old).is_clean ≤ doubt (desk_state S.Store self.new).is_clean }
-        ensures ok { HasCleanDisk (desk_state S.Store self.new) → (s : Operator) → IsAt S.Store self.old s
-            → IfOk result (λ reply. (reply ≡ (step s moment request.now).0) × IsAt S.Store self.new (step s moment request.now).1) }
-        ensures others { HasCleanDisk (desk_state S.Store self.new) → (s : Operator) → IsAt S.Store self.old s
-            → OnOk result (OthersStay (desk_state S.Store self.old).now (desk_state S.Store self.new).now) }
+        ensures ok { OfOperator S.Store self.old self.new (λ s.
+            IfOk result (λ reply. (reply ≡ (step s moment request.now).0) × IsAt S.Store self.new (step s moment request.now).1)) }
+        ensures others { OfOperator S.Store self.old self.new (λ s.
+            OnOk result (OthersStay (desk_state S.Store self.old).now (desk_state S.Store self.new).now)) }
+        ensures rests { OfOperator S.Store self.old self.new (λ s. (step s moment request.now).1 ≡ s
+            → OnOk result ((desk_state S.Store self.new).now ≡ (desk_state S.Store self.old).now)) }
         ensures goes_on { OnOk result (self.new.is_stopped ≡ false) }
         ensures no_memory { result ≡ Err DeskFault.NoMemory → self.new ≡ self.old }
-        ensures store_failed { HasCleanDisk (desk_state S.Store self.new) → (s : Operator) → IsAt S.Store self.old s
-            → result ≡ Err DeskFault.StoreFailed → AllLeft (desk_state S.Store self.new) (TreesStandForEither s (step s moment request.now).1) }
+        ensures store_failed { OfOperator S.Store self.old self.new (λ s.
+            result ≡ Err DeskFault.StoreFailed
+            → AllLeft (desk_state S.Store self.new) (TreesStandForEither s (step s moment request.now).1)) }
         ensures stops { result ≡ Err DeskFault.StoreFailed → IsTrue self.new.is_stopped }
         ensures stopped { result ≡ Err DeskFault.Stopped → IsTrue self.old.is_stopped }
         ensures stays { IsTrue self.old.is_stopped → (result ≡ Err DeskFault.Stopped) × (self.new ≡ self.old) }

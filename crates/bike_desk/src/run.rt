@@ -1,12 +1,10 @@
 //! Serving a list of requests.
 
 ghost use Rattle.std.specs.Prelude.{◌≡◌, ◌≢◌, ◌≤◌, ◌<◌, ◌+◌, ◌++◌, IsNone, Some, [], ◌∷◌, length, vec_len, vec_capacity};
-ghost use Rattle.sqlite.specs.State.{HasCleanDisk};
 ghost use Rattle.sqlite_trees.specs.View.{doubt};
-ghost use Rattle.bike_operator.specs.Operator.{Operator};
 ghost use Rattle.bike_schema.specs.Makes.{OthersStay};
 ghost use Rattle.bike_schema.specs.Stands.{AllLeft};
-ghost use Rattle.bike_desk.specs.Desk.{desk_state, IsAt};
+ghost use Rattle.bike_desk.specs.Desk.{desk_state, OfOperator};
 ghost use Rattle.bike_desk.specs.Runs.{Ran, IsAfterFront, StopsBy};
 
 use crate::desk::Desk;
@@ -44,12 +42,13 @@ impl<S: Alter> Desk<S> {
     /// answers that.
     pub fn run_list(&mut self, alloc: Global, calls: &[(Moment, Request)]) -> Run
         ensures clean { doubt (desk_state S.Store self.old).is_clean ≤ doubt (desk_state S.Store self.new).is_clean }
-        ensures ran { HasCleanDisk (desk_state S.Store self.new) → (s : Operator) → IsAt S.Store self.old s
-            → Ran S.Store self.new s calls.now result.replies.items result.end }
-        ensures front { HasCleanDisk (desk_state S.Store self.new) → (s : Operator) → IsAt S.Store self.old s
-            → AllLeft (desk_state S.Store self.new) (IsAfterFront s calls.now (length result.replies.items)) }
-        ensures others { HasCleanDisk (desk_state S.Store self.new) → (s : Operator) → IsAt S.Store self.old s
-            → result.end ≢ Some DeskFault.StoreFailed → OthersStay (desk_state S.Store self.old).now (desk_state S.Store self.new).now }
+        ensures ran { OfOperator S.Store self.old self.new (λ s.
+            Ran S.Store self.new s calls.now result.replies.items result.end) }
+        ensures front { OfOperator S.Store self.old self.new (λ s.
+            AllLeft (desk_state S.Store self.new) (IsAfterFront s calls.now (length result.replies.items))) }
+        ensures others { OfOperator S.Store self.old self.new (λ s.
+            result.end ≢ Some DeskFault.StoreFailed
+            → OthersStay (desk_state S.Store self.old).now (desk_state S.Store self.new).now) }
         ensures stops { StopsBy self.old self.new result.end }
         ensures refused { result.end ≡ Some DeskFault.Stopped → result.replies.items ≡ [] }
         ensures whole { IsNone result.end → length result.replies.items ≡ length calls.now }

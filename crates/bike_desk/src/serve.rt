@@ -104,6 +104,9 @@ fn serve_read<'a, S: Alter>(
     ensures others { HasCleanDisk (state S.Store conn.new) → (s : Operator) (t : ℕ) → Keeps (state S.Store conn.old) s
         → IsReadFor (state S.Store conn.old).now s t now asked.entry.request.now figures.entry.now sight.now
         → OnOk result (OthersStay (state S.Store conn.old).now (state S.Store conn.new).now) }
+    ensures rests { HasCleanDisk (state S.Store conn.new) → (s : Operator) (t : ℕ) → Keeps (state S.Store conn.old) s
+        → IsReadFor (state S.Store conn.old).now s t now asked.entry.request.now figures.entry.now sight.now
+        → (step s t asked.entry.request.now).1 ≡ s → OnOk result ((state S.Store conn.new).now ≡ (state S.Store conn.old).now) }
     ensures failed { HasCleanDisk (state S.Store conn.new) → (s : Operator) (t : ℕ) → Keeps (state S.Store conn.old) s
         → IsReadFor (state S.Store conn.old).now s t now asked.entry.request.now figures.entry.now sight.now
         → OnErr result (AllLeft (state S.Store conn.new) (TreesStandForEither s (step s t asked.entry.request.now).1)) }
@@ -170,6 +173,10 @@ fn serve_anew<'a, S: Alter>(
     ensures others { HasCleanDisk (state S.Store conn.new) → (s : Operator) → Keeps (state S.Store conn.old) s
         → IsRemembered s remembered.now → map.get s.kept (key_in asked.entry.request.now) ≡ None
         → OnOk result (OthersStay (state S.Store conn.old).now (state S.Store conn.new).now) }
+    ensures rests { HasCleanDisk (state S.Store conn.new) → (s : Operator) → Keeps (state S.Store conn.old) s
+        → IsRemembered s remembered.now → map.get s.kept (key_in asked.entry.request.now) ≡ None
+        → (step s moment asked.entry.request.now).1 ≡ s
+        → OnOk result ((state S.Store conn.new).now ≡ (state S.Store conn.old).now) }
     ensures failed { HasCleanDisk (state S.Store conn.new) → (s : Operator) → Keeps (state S.Store conn.old) s
         → IsRemembered s remembered.now → map.get s.kept (key_in asked.entry.request.now) ≡ None
         → OnErr result (AllLeft (state S.Store conn.new) (TreesStandForEither s (step s moment asked.entry.request.now).1)) }
@@ -202,6 +209,9 @@ pub(crate) fn serve<S: Alter>(
     ensures others { HasCleanDisk (state S.Store conn.new) → (s : Operator) → Keeps (state S.Store conn.old) s
         → IsRemembered s remembered.now
         → OnOk result (OthersStay (state S.Store conn.old).now (state S.Store conn.new).now) }
+    ensures rests { HasCleanDisk (state S.Store conn.new) → (s : Operator) → Keeps (state S.Store conn.old) s
+        → IsRemembered s remembered.now → (step s moment request.now).1 ≡ s
+        → OnOk result ((state S.Store conn.new).now ≡ (state S.Store conn.old).now) }
     ensures failed { HasCleanDisk (state S.Store conn.new) → (s : Operator) → Keeps (state S.Store conn.old) s
         → IsRemembered s remembered.now
         → OnErr result (AllLeft (state S.Store conn.new) (TreesStandForEither s (step s moment request.now).1)) }

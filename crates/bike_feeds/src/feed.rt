@@ -2,10 +2,8 @@
 
 ghost use Rattle.std.specs.Prelude.{◌≡◌, false, IsTrue, Err, IfOk, OnOk, OnErr};
 ghost use Rattle.std.specs.Io.KnownBytes.{Keeps};
-ghost use Rattle.sqlite.specs.State.{HasCleanDisk};
 ghost use Rattle.bike_json.specs.State.{outset};
-ghost use Rattle.bike_operator.specs.Operator.{Operator};
-ghost use Rattle.bike_desk.specs.Desk.{desk_state, IsAt};
+ghost use Rattle.bike_desk.specs.Desk.{OfOperator};
 ghost use Rattle.bike_feeds.specs.declared.fault.FeedFault.TheVariants.{Write as WriteFailed};
 ghost use Rattle.bike_feeds.specs.Publishing.{feed_text, IsPublished, IsBegun, IsLength, IsTooLong, MayFailToWrite, LeavesDesk};
 ghost use Rattle.bike_feeds.specs.Walking.{IsCounted, WritesText};
@@ -65,12 +63,12 @@ fn publish<S: Alter, W: Output>(
 ) -> Result<(), FeedFault>
     requires { json.old ≡ outset }
     ensures desk { LeavesDesk S.Store desk.old desk.new result }
-    ensures whole { HasCleanDisk (desk_state S.Store desk.new) → (s : Operator) → IsAt S.Store desk.old s
-        → OnOk result (IsCounted s feed moment (W.contents out.old).bytes (W.contents out.new).bytes json.new.count) }
-    ensures front { HasCleanDisk (desk_state S.Store desk.new) → (s : Operator) → IsAt S.Store desk.old s
-        → OnErr result (IsBegun s feed moment (W.contents out.old).bytes (W.contents out.new).bytes) }
-    ensures cause { HasCleanDisk (desk_state S.Store desk.new) → (s : Operator) → IsAt S.Store desk.old s
-        → result ≡ Err WriteFailed → MayFailToWrite (W.contents out.old) s feed moment }
+    ensures whole { OfOperator S.Store desk.old desk.new (λ s.
+        OnOk result (IsCounted s feed moment (W.contents out.old).bytes (W.contents out.new).bytes json.new.count)) }
+    ensures front { OfOperator S.Store desk.old desk.new (λ s.
+        OnErr result (IsBegun s feed moment (W.contents out.old).bytes (W.contents out.new).bytes)) }
+    ensures cause { OfOperator S.Store desk.old desk.new (λ s.
+        result ≡ Err WriteFailed → MayFailToWrite (W.contents out.old) s feed moment) }
     ensures nothing { IsTrue desk.old.is_stopped → Keeps (W.contents out.old).bytes (W.contents out.new).bytes }
 {
     let Some(system) = desk.system(alloc)? else {
@@ -92,10 +90,10 @@ pub fn write_feed<S: Alter, W: Write>(
     out: &mut W,
 ) -> Result<(), FeedFault>
     ensures desk { LeavesDesk S.Store desk.old desk.new result }
-    ensures whole { HasCleanDisk (desk_state S.Store desk.new) → (s : Operator) → IsAt S.Store desk.old s
-        → OnOk result (IsPublished s feed moment (W.contents out.old) (W.contents out.new)) }
-    ensures front { HasCleanDisk (desk_state S.Store desk.new) → (s : Operator) → IsAt S.Store desk.old s
-        → OnErr result (IsBegun s feed moment (W.contents out.old) (W.contents out.new)) }
+    ensures whole { OfOperator S.Store desk.old desk.new (λ s.
+        OnOk result (IsPublished s feed moment (W.contents out.old) (W.contents out.new))) }
+    ensures front { OfOperator S.Store desk.old desk.new (λ s.
+        OnErr result (IsBegun s feed moment (W.contents out.old) (W.contents out.new))) }
     ensures nothing { IsTrue desk.old.is_stopped → Keeps (W.contents out.old) (W.contents out.new) }
 {
     let mut json = JsonState::new();
@@ -111,10 +109,9 @@ pub fn feed_length<S: Alter>(
     moment: Moment,
 ) -> Result<u64, FeedFault>
     ensures desk { LeavesDesk S.Store desk.old desk.new result }
-    ensures length { HasCleanDisk (desk_state S.Store desk.new) → (s : Operator) → IsAt S.Store desk.old s
-        → IfOk result (λ n. IsLength s feed moment n) }
-    ensures too_long { HasCleanDisk (desk_state S.Store desk.new) → (s : Operator) → IsAt S.Store desk.old s
-        → result ≡ Err WriteFailed → IsTooLong s feed moment }
+    ensures length { OfOperator S.Store desk.old desk.new (λ s. IfOk result (λ n. IsLength s feed moment n)) }
+    ensures too_long { OfOperator S.Store desk.old desk.new (λ s.
+        result ≡ Err WriteFailed → IsTooLong s feed moment) }
 {
     let mut json = JsonState::new();
     publish(alloc, desk, feed, moment, &mut json, &mut Discard)?;

@@ -4,7 +4,7 @@ ghost use Rattle.std.specs.Prelude.{◌≡◌, ◌≤◌, IsTrue, Ok};
 ghost use Rattle.sqlite.specs.State.{HasCleanDisk};
 ghost use Rattle.sqlite_trees.specs.View.{doubt};
 ghost use Rattle.bike_operator.specs.Operator.{Operator};
-ghost use Rattle.bike_feeds.specs.Desk.{desk_state, IsAt};
+ghost use Rattle.bike_feeds.specs.Desk.{desk_state, IsAt, OfOperator};
 ghost use Rattle.bike_http.specs.Exchange.{Response};
 ghost use Rattle.bike_http.specs.Again.{CameBefore, SendsAgain};
 ghost use Rattle.bike_http.specs.Telling.{end_of_sending, Serves, Rests, Refuses, IsDone};
@@ -71,10 +71,10 @@ pub fn serve_one<S: Alter, R: Read, W: Write>(
     writer: &mut W,
 ) -> Result<Served, ServeFault>
     ensures clean { doubt (desk_state S.Store desk.old).is_clean ≤ doubt (desk_state S.Store desk.new).is_clean }
-    ensures served { HasCleanDisk (desk_state S.Store desk.new) → (s : Operator) → IsAt S.Store desk.old s
-        → Serves S.Store desk.new s moment (R.remaining reader.old) (W.contents writer.old) (W.contents writer.new) result }
-    ensures done { HasCleanDisk (desk_state S.Store desk.new) → (s : Operator) → IsAt S.Store desk.old s
-        → result ≡ Ok (Served.Status 200) → IsDone S.Store desk.new s moment (R.remaining reader.old) }
+    ensures served { OfOperator S.Store desk.old desk.new (λ s.
+        Serves S.Store desk.new s moment (R.remaining reader.old) (W.contents writer.old) (W.contents writer.new) result) }
+    ensures done { OfOperator S.Store desk.old desk.new (λ s.
+        result ≡ Ok (Served.Status 200) → IsDone S.Store desk.new s moment (R.remaining reader.old)) }
     ensures again { HasCleanDisk (desk_state S.Store desk.new) → (s : Operator) (first : Response) → IsAt S.Store desk.old s
         → CameBefore (R.remaining reader.old) s first
         → SendsAgain S.Store desk.new s first (W.contents writer.old) (W.contents writer.new) result }

@@ -1,11 +1,9 @@
 //! Asking the desk, and sending the response.
 
 ghost use Rattle.std.specs.Prelude.{◌≡◌, ◌≤◌, IsTrue};
-ghost use Rattle.sqlite.specs.State.{HasCleanDisk};
 ghost use Rattle.sqlite_trees.specs.View.{doubt};
-ghost use Rattle.bike_operator.specs.Operator.{Operator};
 ghost use Rattle.bike_operator.specs.Runs.{step};
-ghost use Rattle.bike_feeds.specs.Desk.{desk_state, IsAt};
+ghost use Rattle.bike_feeds.specs.Desk.{desk_state, OfOperator};
 ghost use Rattle.bike_feeds.specs.Queries.{Queries};
 ghost use Rattle.bike_feeds.specs.Publishing.{IsLength};
 ghost use Rattle.bike_http.specs.Shown.{shown_of};
@@ -51,8 +49,8 @@ pub(crate) fn send<W: Write>(writer: &mut W, answer: &Answer) -> Result<u16, Sen
 /// Asks the desk to act.
 fn act<S: Alter>(alloc: Global, desk: &mut Desk<S>, moment: Moment, request: &Request) -> Answer
     ensures clean { doubt (desk_state S.Store desk.old).is_clean ≤ doubt (desk_state S.Store desk.new).is_clean }
-    ensures told { HasCleanDisk (desk_state S.Store desk.new) → (s : Operator) → IsAt S.Store desk.old s
-        → Tells S.Store desk.new s (answered (Answer.Replied (step s moment request.now).0)) (step s moment request.now).1 (answered result) }
+    ensures told { OfOperator S.Store desk.old desk.new (λ s.
+        Tells S.Store desk.new s (answered (Answer.Replied (step s moment request.now).0)) (step s moment request.now).1 (answered result)) }
     ensures stays { IsTrue desk.old.is_stopped → desk.new ≡ desk.old }
     ensures refuses { IsTrue desk.old.is_stopped → result ≡ Answer.Unavailable }
 {
@@ -77,8 +75,8 @@ fn find_row<S: Alter>(alloc: Global, desk: &mut Desk<S>, row: Shown) -> Result<A
 /// Asks the desk to show a row.
 fn show<S: Alter>(alloc: Global, desk: &mut Desk<S>, row: Shown) -> Answer
     ensures clean { doubt (desk_state S.Store desk.old).is_clean ≤ doubt (desk_state S.Store desk.new).is_clean }
-    ensures told { HasCleanDisk (desk_state S.Store desk.new) → (s : Operator) → IsAt S.Store desk.old s
-        → Tells S.Store desk.new s (answered (shown_of s row)) s (answered result) }
+    ensures told { OfOperator S.Store desk.old desk.new (λ s.
+        Tells S.Store desk.new s (answered (shown_of s row)) s (answered result)) }
     ensures stays { IsTrue desk.old.is_stopped → desk.new ≡ desk.old }
     ensures refuses { IsTrue desk.old.is_stopped → result ≡ Answer.Unavailable }
 {
@@ -98,8 +96,8 @@ fn publish_whole<S: Alter, W: Write>(
     writer: &mut W,
 ) -> Result<u16, SendFault>
     ensures clean { doubt (desk_state S.Store desk.old).is_clean ≤ doubt (desk_state S.Store desk.new).is_clean }
-    ensures sent { HasCleanDisk (desk_state S.Store desk.new) → (s : Operator) → IsAt S.Store desk.old s → IsLength s feed moment length
-        → Responds S.Store desk.new s (feed_response s moment feed s.system) s (W.contents writer.old) (W.contents writer.new) result }
+    ensures sent { OfOperator S.Store desk.old desk.new (λ s. IsLength s feed moment length
+        → Responds S.Store desk.new s (feed_response s moment feed s.system) s (W.contents writer.old) (W.contents writer.new) result) }
     ensures stays { IsTrue desk.old.is_stopped → desk.new ≡ desk.old }
 {
     let head = head_text(200, None, length);
@@ -122,8 +120,8 @@ fn publish_counted<S: Alter, W: Write>(
     writer: &mut W,
 ) -> Result<u16, SendFault>
     ensures clean { doubt (desk_state S.Store desk.old).is_clean ≤ doubt (desk_state S.Store desk.new).is_clean }
-    ensures sent { HasCleanDisk (desk_state S.Store desk.new) → (s : Operator) → IsAt S.Store desk.old s
-        → Responds S.Store desk.new s (feed_response s moment feed s.system) s (W.contents writer.old) (W.contents writer.new) result }
+    ensures sent { OfOperator S.Store desk.old desk.new (λ s.
+        Responds S.Store desk.new s (feed_response s moment feed s.system) s (W.contents writer.old) (W.contents writer.new) result) }
     ensures stays { IsTrue desk.old.is_stopped → desk.new ≡ desk.old }
     ensures refuses { IsTrue desk.old.is_stopped → SendsAnswer (W.contents writer.old) (W.contents writer.new) Answer.Unavailable result }
 {
@@ -157,8 +155,8 @@ fn publish<S: Alter, W: Write>(
     writer: &mut W,
 ) -> Result<u16, SendFault>
     ensures clean { doubt (desk_state S.Store desk.old).is_clean ≤ doubt (desk_state S.Store desk.new).is_clean }
-    ensures sent { HasCleanDisk (desk_state S.Store desk.new) → (s : Operator) → IsAt S.Store desk.old s
-        → Responds S.Store desk.new s (feed_response s moment feed s.system) s (W.contents writer.old) (W.contents writer.new) result }
+    ensures sent { OfOperator S.Store desk.old desk.new (λ s.
+        Responds S.Store desk.new s (feed_response s moment feed s.system) s (W.contents writer.old) (W.contents writer.new) result) }
     ensures stays { IsTrue desk.old.is_stopped → desk.new ≡ desk.old }
     ensures refuses { IsTrue desk.old.is_stopped → SendsAnswer (W.contents writer.old) (W.contents writer.new) Answer.Unavailable result }
 {
@@ -181,8 +179,8 @@ pub(crate) fn respond<S: Alter, W: Write>(
     writer: &mut W,
 ) -> Result<u16, SendFault>
     ensures clean { doubt (desk_state S.Store desk.old).is_clean ≤ doubt (desk_state S.Store desk.new).is_clean }
-    ensures sent { HasCleanDisk (desk_state S.Store desk.new) → (s : Operator) → IsAt S.Store desk.old s
-        → Responds S.Store desk.new s (response_of s moment asked) (operator_after s moment asked) (W.contents writer.old) (W.contents writer.new) result }
+    ensures sent { OfOperator S.Store desk.old desk.new (λ s.
+        Responds S.Store desk.new s (response_of s moment asked) (operator_after s moment asked) (W.contents writer.old) (W.contents writer.new) result) }
     ensures stays { IsTrue desk.old.is_stopped → desk.new ≡ desk.old }
     ensures refuses { IsTrue desk.old.is_stopped → SendsAnswer (W.contents writer.old) (W.contents writer.new) (refusal_of asked) result }
 {

@@ -2,11 +2,9 @@
 
 ghost use Rattle.std.specs.Prelude.{◌≡◌, ◌<◌, ◌≤◌, Err, IfOk};
 ghost use Rattle.std.specs.Io.KnownBytes.{Keeps};
-ghost use Rattle.sqlite.specs.State.{HasCleanDisk};
 ghost use Rattle.sqlite_trees.specs.View.{doubt};
-ghost use Rattle.bike_operator.specs.Operator.{Operator};
 ghost use Rattle.bike_schema.specs.Stands.{AllLeft};
-ghost use Rattle.bike_desk.specs.Desk.{desk_state, IsAt};
+ghost use Rattle.bike_desk.specs.Desk.{desk_state, OfOperator};
 ghost use Rattle.bike_desk.specs.Runs.{StopsBy};
 ghost use Rattle.bike_imports.specs.Serving.{desk_fault};
 ghost use Rattle.bike_imports.specs.Imports.{Imports, StandsAfterSome};
@@ -41,10 +39,10 @@ pub fn import_stations<S: Alter, R: Read>(
     reader: &mut R,
 ) -> Result<u64, ImportFault>
     ensures clean { doubt (desk_state S.Store desk.old).is_clean ≤ doubt (desk_state S.Store desk.new).is_clean }
-    ensures imports { HasCleanDisk (desk_state S.Store desk.new) → (s : Operator) → IsAt S.Store desk.old s
-        → Imports S.Store desk.new s moment name.now (R.remaining reader.old) result }
-    ensures left { HasCleanDisk (desk_state S.Store desk.new) → (s : Operator) → IsAt S.Store desk.old s
-        → AllLeft (desk_state S.Store desk.new) (StandsAfterSome s) }
+    ensures imports { OfOperator S.Store desk.old desk.new (λ s.
+        Imports S.Store desk.new s moment name.now (R.remaining reader.old) result) }
+    ensures left { OfOperator S.Store desk.old desk.new (λ s.
+        AllLeft (desk_state S.Store desk.new) (StandsAfterSome s)) }
     ensures stops { StopsBy desk.old desk.new (desk_fault result) }
     ensures refused { result ≡ Err (ImportFault.Desk DeskFault.Stopped) → Keeps (R.remaining reader.old) (R.remaining reader.new) }
     ensures few { IfOk result (λ count. count < MOST_ROWS) }

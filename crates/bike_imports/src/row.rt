@@ -2,10 +2,8 @@
 
 ghost use Rattle.std.specs.Prelude.{◌≡◌, ◌≤◌, false};
 ghost use Rattle.csv.specs.Records.{fields_of};
-ghost use Rattle.sqlite.specs.State.{HasCleanDisk};
 ghost use Rattle.sqlite_trees.specs.View.{doubt};
-ghost use Rattle.bike_operator.specs.Operator.{Operator};
-ghost use Rattle.bike_desk.specs.Desk.{desk_state, IsAt};
+ghost use Rattle.bike_desk.specs.Desk.{desk_state, OfOperator};
 ghost use Rattle.bike_imports.specs.Rows.{call_of};
 ghost use Rattle.bike_imports.specs.Serving.{desk_fault, GoesOn, ServesCall, ServesRow};
 
@@ -29,8 +27,8 @@ fn serve_request<S: Alter>(
 ) -> Result<(), ImportFault>
     ensures clean { doubt (desk_state S.Store desk.old).is_clean ≤ doubt (desk_state S.Store desk.new).is_clean }
     ensures goes_on { desk.old.is_stopped ≡ false → GoesOn desk.new (desk_fault result) }
-    ensures served { HasCleanDisk (desk_state S.Store desk.new) → (s : Operator) → IsAt S.Store desk.old s
-        → ServesCall S.Store desk.new s number (moment, request.now) result }
+    ensures served { OfOperator S.Store desk.old desk.new (λ s.
+        ServesCall S.Store desk.new s number (moment, request.now) result) }
 {
     match desk.apply(alloc, moment, request)? {
         Reply::Refused(refusal) => Err(ImportFault::Row(number, refusal)),
@@ -50,8 +48,8 @@ pub fn import_row<S: Alter>(
 ) -> Result<(), ImportFault>
     ensures clean { doubt (desk_state S.Store desk.old).is_clean ≤ doubt (desk_state S.Store desk.new).is_clean }
     ensures goes_on { desk.old.is_stopped ≡ false → GoesOn desk.new (desk_fault result) }
-    ensures served { HasCleanDisk (desk_state S.Store desk.new) → (s : Operator) → IsAt S.Store desk.old s
-        → ServesRow S.Store desk.new s number (fields_of row.now) (call_of moment name.now number (fields_of row.now)) result }
+    ensures served { OfOperator S.Store desk.old desk.new (λ s.
+        ServesRow S.Store desk.new s number (fields_of row.now) (call_of moment name.now number (fields_of row.now)) result) }
 {
     let _ = moment.seconds();
     let request = row_request(alloc, name, number, row)?;

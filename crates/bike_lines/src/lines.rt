@@ -2,11 +2,9 @@
 
 ghost use Rattle.std.specs.Prelude.{◌≡◌, ◌≤◌, ◌++◌, ◌∷◌, [], Err};
 ghost use Rattle.std.specs.Io.KnownBytes.{Keeps};
-ghost use Rattle.sqlite.specs.State.{HasCleanDisk};
 ghost use Rattle.sqlite_trees.specs.View.{doubt};
 ghost use Rattle.bike_commands.specs.Replies.{reply_text};
-ghost use Rattle.bike_operator.specs.Operator.{Operator};
-ghost use Rattle.bike_desk.specs.Desk.{desk_state, IsAt};
+ghost use Rattle.bike_desk.specs.Desk.{desk_state, OfOperator};
 ghost use Rattle.bike_desk.specs.Runs.{StopsBy};
 ghost use Rattle.bike_lines.specs.Serving.{RepliesTo};
 ghost use Rattle.bike_lines.specs.Runs.{desk_fault, RanLines, ServesSome};
@@ -71,11 +69,10 @@ pub fn run_lines<S: Alter, R: Read, W: Write>(
     writer: &mut W,
 ) -> Result<u64, LinesFault>
     ensures clean { doubt (desk_state S.Store desk.old).is_clean ≤ doubt (desk_state S.Store desk.new).is_clean }
-    ensures ran { HasCleanDisk (desk_state S.Store desk.new) → (s : Operator) → IsAt S.Store desk.old s
-        → RanLines S.Store desk.new s (R.remaining reader.old) (R.remaining reader.new)
-        (W.contents writer.old) (W.contents writer.new) result }
-    ensures kept { HasCleanDisk (desk_state S.Store desk.new) → (s : Operator) → IsAt S.Store desk.old s
-        → ServesSome S.Store desk.new s (desk_fault result) }
+    ensures ran { OfOperator S.Store desk.old desk.new (λ s.
+        RanLines S.Store desk.new s (R.remaining reader.old) (R.remaining reader.new)
+        (W.contents writer.old) (W.contents writer.new) result) }
+    ensures kept { OfOperator S.Store desk.old desk.new (λ s. ServesSome S.Store desk.new s (desk_fault result)) }
     ensures stops { StopsBy desk.old desk.new (desk_fault result) }
     ensures refused { result ≡ Err (LinesFault.Desk DeskFault.Stopped)
         → Keeps (R.remaining reader.old) (R.remaining reader.new)

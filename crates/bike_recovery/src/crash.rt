@@ -6,7 +6,7 @@ ghost use Rattle.sqlite.specs.Held.{state};
 ghost use Rattle.sqlite.specs.Steps.{over_memory};
 ghost use Rattle.sqlite_trees.specs.View.{doubt};
 ghost use Rattle.bike_operator.specs.Operator.{Operator, no_operator};
-ghost use Rattle.bike_feeds.specs.Desk.{desk_state, IsAt};
+ghost use Rattle.bike_feeds.specs.Desk.{desk_state, IsAt, OfOperator};
 ghost use Rattle.bike_adoption.specs.Adoption.{handed, IsWant};
 ghost use Rattle.bike_feeds.specs.Runs.{IsAfterFront, IsAtFront, Ran, StopsBy};
 ghost use Rattle.bike_schema.specs.Stands.{AllLeft};
@@ -50,14 +50,15 @@ pub fn run_adopt_and_read<S: Alter, T: Alter, W: Write>(
     out: &mut W,
 ) -> (Acknowledged, Result<(Desk<T>, Reading), AdoptFault<T>>)
     requires { left.in_transaction ≡ false }
-    ensures headline { HasCleanDisk (desk_state S.Store desk.new) → (s : Operator) → IsAt S.Store desk.old s
-        → (desk_state S.Store desk.new).may_leave (state T.Store left).now.trees → IfOk result.1 (λ r. HasCleanDisk (desk_state T.Store r.0)
-        → ReadsFront T.Store r.0 s calls.now (length result.0.replies.items) bike moment (W.contents out.old) (W.contents out.new) r.1) }
-    ensures refused { HasCleanDisk (desk_state S.Store desk.new) → (s : Operator) → IsAt S.Store desk.old s
-        → (desk_state S.Store desk.new).may_leave (state T.Store left).now.trees
-        → IfErr result.1 (λ e. HasCleanDisk (state T.Store (handed e)) → IsWant e) }
-    ensures ran { HasCleanDisk (desk_state S.Store desk.new) → (s : Operator) → IsAt S.Store desk.old s
-        → Ran S.Store desk.new s calls.now result.0.replies.items result.0.end }
+    ensures headline { OfOperator S.Store desk.old desk.new (λ s.
+        (desk_state S.Store desk.new).may_leave (state T.Store left).now.trees
+        → IfOk result.1 (λ r. HasCleanDisk (desk_state T.Store r.0)
+        → ReadsFront T.Store r.0 s calls.now (length result.0.replies.items) bike moment (W.contents out.old) (W.contents out.new) r.1)) }
+    ensures refused { OfOperator S.Store desk.old desk.new (λ s.
+        (desk_state S.Store desk.new).may_leave (state T.Store left).now.trees
+        → IfErr result.1 (λ e. HasCleanDisk (state T.Store (handed e)) → IsWant e)) }
+    ensures ran { OfOperator S.Store desk.old desk.new (λ s.
+        Ran S.Store desk.new s calls.now result.0.replies.items result.0.end) }
     ensures stops { StopsBy desk.old desk.new result.0.end }
 {
     let run = desk.run_list(alloc, calls);

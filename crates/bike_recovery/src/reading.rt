@@ -1,10 +1,8 @@
 //! What is read of a desk that was taken into service again.
 
 ghost use Rattle.std.specs.Prelude.{◌≤◌};
-ghost use Rattle.sqlite.specs.State.{HasCleanDisk};
 ghost use Rattle.sqlite_trees.specs.View.{doubt};
-ghost use Rattle.bike_operator.specs.Operator.{Operator};
-ghost use Rattle.bike_feeds.specs.Desk.{desk_state, IsAt};
+ghost use Rattle.bike_feeds.specs.Desk.{desk_state, OfOperator};
 ghost use Rattle.bike_recovery.specs.Recovery.{ReadsOf};
 
 use bike_feeds::{Desk, DeskFault, Feed, FeedFault, write_feed};
@@ -33,8 +31,8 @@ pub fn read_again<S: Alter, W: Write>(
     out: &mut W,
 ) -> Reading
     ensures clean { doubt (desk_state S.Store desk.old).is_clean ≤ doubt (desk_state S.Store desk.new).is_clean }
-    ensures reads { HasCleanDisk (desk_state S.Store desk.new) → (s : Operator) → IsAt S.Store desk.old s
-        → ReadsOf S.Store desk.new s bike moment (W.contents out.old) (W.contents out.new) result }
+    ensures reads { OfOperator S.Store desk.old desk.new (λ s.
+        ReadsOf S.Store desk.new s bike moment (W.contents out.old) (W.contents out.new) result) }
 {
     let place = desk.place(alloc, bike);
     let status = write_feed(alloc, desk, Feed::StationStatus, moment, out);

@@ -70,3 +70,19 @@ returns-in-None-clause-others g c clean s keeps remembers =
     let same : KeepsSame (map.get s.kept (key_in q)) None = subst₂ (λ k o. KeepsSame (map.get s.kept k) o) key c.in-None.is found in
     subst (λ db. OnOk c.serve_anew.result (OthersStay db (state g.S.Store c.serve_anew.new.conn).now)) read.0.now_is
     (c.serve_anew.ensures.others clean s (still g.S.Store c.args.conn.now c.find_kept.new.conn s keeps seen read c.find_kept.ensures.quiet) remembers (none_kept s c.args.moment q (map.get s.kept (key_in q)) refl same))
+
+pub returns-in-Some-clause-rests : goal.returns-in-Some-clause-rests
+returns-in-Some-clause-rests g c clean s keeps remembers rests = (c.in_ok-kept.ensures.same clean (kept_ours (state g.S.Store c.args.conn.now) s keeps)).0.now_is
+
+pub returns-in-None-clause-rests : goal.returns-in-None-clause-rests
+returns-in-None-clause-rests g c clean s keeps remembers rests =
+    let q = c.args.request.now in
+    let old = state g.S.Store c.args.conn.now in
+    let ours = kept_ours old s keeps in
+    let key : key_of c.as_str-caller.result.now c.as_str.result.now ≡ key_in q = ap₂ key_of (c.as_str-caller.ensures.value ∙ c.text-caller.ensures) c.as_str.ensures.text in
+    let seen : HasCleanDisk (state g.S.Store c.find_kept.new.conn) = omega (arith, clean, c.serve_anew.ensures.clean) in
+    let read = c.in_ok-kept.ensures.same seen ours in
+    let found = c.in_ok-kept.ensures.found seen ours s (kept_stores old s keeps) in
+    let same : KeepsSame (map.get s.kept (key_in q)) None = subst₂ (λ k o. KeepsSame (map.get s.kept k) o) key c.in-None.is found in
+    subst (λ db. OnOk c.serve_anew.result ((state g.S.Store c.serve_anew.new.conn).now ≡ db)) read.0.now_is
+    (c.serve_anew.ensures.rests clean s (still g.S.Store c.args.conn.now c.find_kept.new.conn s keeps seen read c.find_kept.ensures.quiet) remembers (none_kept s c.args.moment q (map.get s.kept (key_in q)) refl same) rests)

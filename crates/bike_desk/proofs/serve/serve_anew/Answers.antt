@@ -1,4 +1,4 @@
-use Rattle.std.proofs.Common.{OnOk, inl, arith, subst}
+use Rattle.std.proofs.Common.{◌≡◌, OnOk, inl, arith, subst}
 use Rattle.sqlite.specs.State.{HasCleanDisk}
 use Rattle.sqlite.specs.Held.{state}
 use Rattle.bike_operator.specs.Runs.{step}
@@ -36,3 +36,11 @@ returns-clause-others g c clean s keeps remembers anew =
     let read = both_read g.S.Store c.args.conn.now c.know_figures.new.conn c.find_view.new.conn s c.args.moment _ q c.args.remembered.now _ _ keeps seen c.in_ok-figures.ensures c.in_ok-sight.ensures remembers c.later-now.ensures.bound c.later-now.ensures.value anew in
     let same = both_same g.S.Store c.args.conn.now c.know_figures.new.conn c.find_view.new.conn s _ _ keeps seen c.in_ok-figures.ensures c.in_ok-sight.ensures in
     subst (λ db. OnOk c.serve_read.result (OthersStay db (state g.S.Store c.serve_read.new.conn).now)) same (c.serve_read.ensures.others clean s c.args.moment read.0 read.1)
+
+pub returns-clause-rests : goal.returns-clause-rests
+returns-clause-rests g c clean s keeps remembers anew rests =
+    let seen : HasCleanDisk (state g.S.Store c.find_view.new.conn) = omega (arith, clean, c.serve_read.ensures.clean) in
+    let q = c.args.asked.request.now in
+    let read = both_read g.S.Store c.args.conn.now c.know_figures.new.conn c.find_view.new.conn s c.args.moment _ q c.args.remembered.now _ _ keeps seen c.in_ok-figures.ensures c.in_ok-sight.ensures remembers c.later-now.ensures.bound c.later-now.ensures.value anew in
+    let same = both_same g.S.Store c.args.conn.now c.know_figures.new.conn c.find_view.new.conn s _ _ keeps seen c.in_ok-figures.ensures c.in_ok-sight.ensures in
+    subst (λ db. OnOk c.serve_read.result ((state g.S.Store c.serve_read.new.conn).now ≡ db)) same (c.serve_read.ensures.rests clean s c.args.moment read.0 read.1 rests)

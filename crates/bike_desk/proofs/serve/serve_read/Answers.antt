@@ -12,7 +12,7 @@ use Rattle.bike_desk.specs.Desk.{TreesStandForEither}
 use Rattle.bike_desk.specs.Serving.{Serves}
 use Rattle.bike_desk.proofs.KeepLemmas.{on_err, kept_stores}
 use Rattle.bike_desk.proofs.OtherLemmas.{others_same}
-use Rattle.bike_desk.proofs.ServeLemmas.{step_refused, step_accepted, accepts_read, figures_read}
+use Rattle.bike_desk.proofs.ServeLemmas.{acceptance_moves, step_refused, step_accepted, accepts_read, figures_read}
 use Rattle.bike_desk.proofs.serve.serve_read.Goals as goal
 
 pub returns-in-Err-clause-ok : goal.returns-in-Err-clause-ok
@@ -62,3 +62,10 @@ returns-in_ok-store_accepted-in-Ok-clause-others g c clean s t keeps it =
     record { caller = c.requires.asked.caller; key = c.as_str-key.ensures.text; command = c.requires.asked.text; reply = c.as_str.ensures.value ∙ c.text-spelled.ensures ∙ ap reply_text decides.1 } in
     let accepts = accepts_read (state g.S.Store c.args.conn.now).now s t c.args.now q c.args.figures.now c.args.sight.now c.in-Ok.accepted c.in-Some.after _ sound it c.bounds.ensures decides found c.in-Some.ensures.figures told in
     c.in_ok-store_accepted-in-Ok.ensures.others clean s q keeps it.sight accepts
+
+pub returns-in-Err-clause-rests : goal.returns-in-Err-clause-rests
+returns-in-Err-clause-rests g c clean s t keeps it same = refl
+
+pub returns-in_ok-store_accepted-in-Ok-clause-rests : goal.returns-in_ok-store_accepted-in-Ok-clause-rests
+returns-in_ok-store_accepted-in-Ok-clause-rests g c clean s t keeps it same =
+    absurd (acceptance_moves s t c.args.asked.request.now it.anew (c.in-Ok.ensures.decides s it.view_is).0 same)

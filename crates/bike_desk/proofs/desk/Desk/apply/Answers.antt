@@ -1,4 +1,4 @@
-use Rattle.std.proofs.Common.{IsTrue, sym, ap, ◌∙◌, subst, arith}
+use Rattle.std.proofs.Common.{◌≡◌, IsTrue, sym, ap, ◌∙◌, subst, arith}
 use Rattle.sqlite.specs.State.{HasCleanDisk}
 use Rattle.sqlite.specs.Held.{state}
 use Rattle.bike_schema.specs.Makes.{OthersStay}
@@ -51,3 +51,16 @@ returns-in-Ok-serve-clause-others g c clean s at =
     let same = c.in-Ok-know_newest.ensures.same seen s was in
     let stay = c.in-Ok-serve.ensures.others clean s (c.in-Ok-know_newest.ensures.keeps seen s was) remembers in
     subst (λ (d : DeskValue g.row.S.Denot). OthersStay (state g.S.Store d.conn).now (state g.S.Store c.serve.new.conn).now) c.self.view_is (subst (λ db. OthersStay db (state g.S.Store c.serve.new.conn).now) same stay)
+
+pub returns-in-Ok-serve-clause-rests : goal.returns-in-Ok-serve-clause-rests
+returns-in-Ok-serve-clause-rests g c clean s at rests =
+    let was : Keeps (state g.S.Store c.self.inside.conn) s = subst (λ (d : DeskValue g.row.S.Denot). Keeps (state g.S.Store d.conn) s) (sym c.self.view_is) at.keeps in
+    let known : IsTrue (knows_newest c.self.inside.newest) → NewestTells s = subst (λ (d : DeskValue g.row.S.Denot). IsTrue d.remembered.newest_tells → NewestTells s) (sym c.self.view_is) at.remembers.newest in
+    let after : HasCleanDisk (state g.S.Store c.serve.new.conn) = clean in
+    let seen : HasCleanDisk (state g.S.Store c.know_newest.new.conn) = omega (arith, after, c.serve.ensures.clean) in
+    let figures : AreFigures c.self.inside.figures s = subst (λ (d : DeskValue g.row.S.Denot). AreFigures d.remembered.figures s) (sym c.self.view_is) at.remembers.figures in
+    let newest = c.in-Ok-know_newest.ensures.newest seen s was known in
+    let remembers : IsRemembered s (record { newest_tells = c.tells.result; figures = c.self.inside.figures }) = record { newest = λ told. newest (sym c.tells.ensures ∙ told); figures = figures } in
+    let same = c.in-Ok-know_newest.ensures.same seen s was in
+    let stay = c.in-Ok-serve.ensures.rests clean s (c.in-Ok-know_newest.ensures.keeps seen s was) remembers rests in
+    subst (λ (d : DeskValue g.row.S.Denot). (state g.S.Store c.serve.new.conn).now ≡ (state g.S.Store d.conn).now) c.self.view_is (subst (λ db. (state g.S.Store c.serve.new.conn).now ≡ db) same stay)
