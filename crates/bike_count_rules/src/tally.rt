@@ -106,13 +106,13 @@ fn placed_tally(
     marks: &Marks,
     type_id: &str,
     state: BikeState,
-    place: StoredPlace<'_>,
+    place: &StoredPlace<'_>,
 ) -> Result<Option<Tally>, StatementFault>
-    ensures { IfOk result (λ tally. tally ≡ placed_tally (has_mark marks.now) type_id.now state (place_of place.entry)) }
+    ensures { IfOk result (λ tally. tally ≡ placed_tally (has_mark marks.now) type_id.now state (place_of place.now)) }
 {
     match place {
         StoredPlace::Dock { station, dock } => {
-            let is_available = is_fit(state) && !marks.has(station, dock);
+            let is_available = is_fit(state) && !marks.has(station, *dock);
             Ok(Some(Tally {
                 station: ident(alloc, station)?,
                 type_id: ident(alloc, type_id)?,
@@ -138,7 +138,7 @@ fn bike_tally(alloc: Global, marks: &Marks, line: &Row) -> Result<Option<Tally>,
     ensures { IfOk result (λ tally. tally ≡ bike_tally (has_mark marks.now) (bike_read (part 5 8 line.now))) }
 {
     match read_bike(Part::of(line, ROW_AT, bikes::COLUMNS)) {
-        Some(bike) => placed_tally(alloc, marks, bike.type_id, bike.state, bike.place),
+        Some(bike) => placed_tally(alloc, marks, bike.type_id, bike.state, &bike.place),
         None => Ok(None),
     }
 }

@@ -116,12 +116,12 @@ fn is_carried(line: &Row, type_id: &str, truck: TruckNumber) -> bool
 }
 
 /// Whether the bicycle may be where it is, if it is in a rental or on a truck.
-fn is_used(line: &Row, bike: BicycleNumber, type_id: &str, place: StoredPlace<'_>) -> bool
-    ensures { result ≡ is_used bike type_id.now (place_of place.entry) (rental_read (part 8 10 line.now)) (order_read (part 18 8 line.now)) }
+fn is_used(line: &Row, bike: BicycleNumber, type_id: &str, place: &StoredPlace<'_>) -> bool
+    ensures { result ≡ is_used bike type_id.now (place_of place.now) (rental_read (part 8 10 line.now)) (order_read (part 18 8 line.now)) }
 {
     match place {
         StoredPlace::Rental { rental: _ } => is_ridden(line, bike),
-        StoredPlace::Truck { truck, order: _ } => is_carried(line, type_id, truck),
+        StoredPlace::Truck { truck, order: _ } => is_carried(line, type_id, *truck),
         _ => true,
     }
 }
@@ -159,7 +159,7 @@ fn is_own(before: u64, line: &Row) -> bool
     let Some(bike) = bike_of(line) else {
         return false;
     };
-    is_used(line, bike.bike, bike.type_id, bike.place)
+    is_used(line, bike.bike, bike.type_id, &bike.place)
 }
 
 /// Whether the bicycle's truck is there.

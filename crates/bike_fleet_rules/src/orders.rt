@@ -30,8 +30,8 @@ pub(crate) struct OrderAccount {
 }
 
 /// Whether the place is on a truck for the order.
-fn is_for_order(place: StoredPlace<'_>, order: OrderNumber) -> bool
-    ensures { result ≡ is_for_order order (place_of place.entry) }
+fn is_for_order(place: &StoredPlace<'_>, order: OrderNumber) -> bool
+    ensures { result ≡ is_for_order order (place_of place.now) }
 {
     match place {
         StoredPlace::Truck {
@@ -50,7 +50,7 @@ fn loads(line: &Row, order: OrderNumber) -> bool
         return false;
     }
     match counted_bike(line, ROW_AT) {
-        Some(bike) => is_for_order(bike.place, order),
+        Some(bike) => is_for_order(&bike.place, order),
         None => false,
     }
 }

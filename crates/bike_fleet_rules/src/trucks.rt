@@ -29,8 +29,8 @@ pub(crate) struct TruckAccount {
 }
 
 /// Whether the place is on the truck.
-fn is_on_truck(place: StoredPlace<'_>, truck: TruckNumber) -> bool
-    ensures { result ≡ is_on_truck truck (place_of place.entry) }
+fn is_on_truck(place: &StoredPlace<'_>, truck: TruckNumber) -> bool
+    ensures { result ≡ is_on_truck truck (place_of place.now) }
 {
     match place {
         StoredPlace::Truck {
@@ -49,7 +49,7 @@ fn loads(line: &Row, truck: TruckNumber) -> bool
         return false;
     }
     match counted_bike(line, ROW_AT) {
-        Some(bike) => is_on_truck(bike.place, truck),
+        Some(bike) => is_on_truck(&bike.place, truck),
         None => false,
     }
 }

@@ -2,3 +2,4 @@ mod LoadLemmas
 mod OpenLaws
 mod PartLemmas
 mod NameLemmas
+pub mod SightLemmas

@@ -221,8 +221,17 @@ fn find_delivery<S: Alter>(
 {
     let order = find_order(alloc, conn, order)?;
     let seen = find_side_view(alloc, conn, &order, side, dock)?;
-    let view = View { order, ..seen.view };
-    Ok(Sight { view, ..seen })
+    let Sight {
+        view,
+        numbers,
+        mark,
+    } = seen;
+    let view = View { order, ..view };
+    Ok(Sight {
+        view,
+        numbers,
+        mark,
+    })
 }
 
 /// The view for a bicycle that is unloaded.
@@ -241,12 +250,21 @@ pub(crate) fn view_to_unload<S: Alter>(
     let truck = find_truck(conn, truck)?;
     let bike = find_bike(alloc, conn, bike)?;
     let seen = find_delivery(alloc, conn, order, side, dock.get())?;
+    let Sight {
+        view,
+        numbers,
+        mark,
+    } = seen;
     let view = View {
         truck,
         bike,
-        ..seen.view
+        ..view
     };
-    Ok(Sight { view, ..seen })
+    Ok(Sight {
+        view,
+        numbers,
+        mark,
+    })
 }
 
 /// The view for an order that is closed.

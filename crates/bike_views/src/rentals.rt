@@ -143,14 +143,23 @@ pub(crate) fn view_to_start<S: Alter>(
 {
     let start = find_start_view(conn, rider, known)?;
     let seen = find_dock_view(alloc, conn, station, dock.get())?;
+    let Sight {
+        view,
+        numbers,
+        mark,
+    } = seen;
     let view = View {
         rider: start.rider,
         is_riding: start.is_riding,
         is_ledger_full: start.is_ledger_full,
         rentals: start.rentals,
-        ..seen.view
+        ..view
     };
-    Ok(Sight { view, ..seen })
+    Ok(Sight {
+        view,
+        numbers,
+        mark,
+    })
 }
 
 /// The view for the end of a rental, where there are so many entries.
@@ -167,13 +176,22 @@ pub(crate) fn view_to_end<S: Alter>(
 {
     let ridden = find_ridden_bike(alloc, conn, bike)?;
     let seen = find_dock_view(alloc, conn, station, dock.get())?;
+    let Sight {
+        view,
+        numbers,
+        mark,
+    } = seen;
     let view = View {
         bike: ridden.bike,
         rental: ridden.rental,
         entries,
-        ..seen.view
+        ..view
     };
-    Ok(Sight { view, ..seen })
+    Ok(Sight {
+        view,
+        numbers,
+        mark,
+    })
 }
 
 /// The bicycle of the rental, and the rental with its plan.

@@ -7,4 +7,4 @@ returns g c = reads_as (reads_both (reads_both c.in_ok-row.ensures c.in_ok-mark.
     let row = it.0.0 s h in
     let mark = it.0.1 s h in
     let broken = c.unwrap_or.ensures ∙ mark.1 in
-    ((λ i. record (c.empty_view.ensures i) { station = (row i).station; is_dock_broken = broken i; docked = it.1 s h i }), (λ i. (row i).numbers), mark))
+    ((λ i. record (c.empty_view.ensures i) { station = (row i).station; is_dock_broken = broken i; docked = it.1 s h i }), ((λ i. (row i).numbers), mark)))

@@ -1,5 +1,4 @@
-use Rattle.std.proofs.Common.{rules, w64, FitsSigned, sym, ap, ◌∙◌}
-use Rattle.std.proofs.lemmas.Int.{to_z-of_z}
+use Rattle.std.proofs.Common.{rules, sym, ap, ◌∙◌}
 use Rattle.std.specs.FinMap as map
 use Rattle.bike_rows.proofs.ChainLaws.{reads_as, reads_both, reads_failed}
 use Rattle.bike_operator.specs.View.{planned_rental}
@@ -16,7 +15,6 @@ returns-in-None g c = reads_as (reads_both c.in_ok-rider.ensures c.in_ok-find_pl
 pub returns-in-Some-2 : goal.returns-in-Some-2
 returns-in-Some-2 g c = reads_as (reads_both c.in_ok-rider.ensures c.in_ok-find_plan.ensures) (λ db it s h refunds.
     let rider = c.args.rental.rider in
-    let fits : FitsSigned w64 c.in-Some.rider.balance = search rules in
     let balance = balance_read s rider (map.get s.riders rider) (it.0 s h) c.in-Some.is in
     planned_some s c.args.number c.args.rental (map.get s.plans c.args.rental.plan) (it.1 s h) c.in-Some-2.is
-    (to_z-of_z w64 c.args.refunded c.ranges.refunded ∙ refunds) (to_z-of_z w64 c.in-Some.rider.balance fits ∙ balance))
+    refunds balance)

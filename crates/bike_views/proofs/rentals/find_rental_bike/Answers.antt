@@ -1,5 +1,4 @@
-use Rattle.std.proofs.Common.{rules, w64, ◌∙◌}
-use Rattle.std.proofs.lemmas.Int.{to_z-of_z}
+use Rattle.std.proofs.Common.{rules}
 use Rattle.bike_rows.proofs.ChainLaws.{reads_as, reads_both, reads_failed}
 use Rattle.bike_views.proofs.rentals.find_rental_bike.Goals as goal
 
@@ -8,5 +7,5 @@ returns-in_err-rental g c = reads_failed (reads_both c.in_ok-bike.ensures c.in_e
 
 pub returns : goal.returns
 returns g c = reads_as (reads_both c.in_ok-bike.ensures c.in_ok-rental.ensures) (λ db it s h refunds.
-    let rental = it.1 s h (to_z-of_z w64 c.args.refunded c.ranges.refunded ∙ refunds) in
+    let rental = it.1 s h refunds in
     λ i. record { bike = it.0 s h i; rental = rental i })

@@ -1,5 +1,4 @@
-use Rattle.std.proofs.Common.{rules, w64, FitsSigned, Option, sym, ap, ◌∙◌}
-use Rattle.std.proofs.lemmas.Int.{to_z-of_z}
+use Rattle.std.proofs.Common.{Option, sym, ap, ◌∙◌}
 use Rattle.bike_rows.proofs.ChainLaws.{reads_as, reads_both}
 use Rattle.bike_operator.specs.declared.records.Rental.{Rental}
 use Rattle.bike_operator.specs.Operator.{item_numbered}
@@ -17,6 +16,5 @@ returns-in-None g c = reads_as c.in_ok-find_rental.ensures (λ db it s h.
 pub returns-in-Some : goal.returns-in-Some
 returns-in-Some g c = reads_weaker (reads_both c.in_ok-find_rental.ensures c.find_rental_bike.ensures) (λ db x it s h.
     let found = rental_read c.args.rental s.entries (item_numbered c.args.rental s.rentals) (it.0 s h) c.in-Some.is in
-    let fits : FitsSigned w64 c.in-Some.stored.refunded = search rules in
     let whole = λ (o : Option Rental). let ridden : RentalBike = record { bike = bike_of s o; rental = rental_view s c.args.rental o } in ridden in
-    it.1 s h (to_z-of_z w64 c.in-Some.stored.refunded fits ∙ found.1) ∙ ap whole (sym found.0))
+    it.1 s h found.1 ∙ ap whole (sym found.0))

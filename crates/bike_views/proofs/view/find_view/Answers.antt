@@ -43,46 +43,46 @@ sight_for : {s : Operator} {m : Listed} {c d : Command} {x : Sight} → IsSight 
 sight_for {s = s} {m = m} {x = x} it is = subst (λ e. IsSight s m e x) (sym is) it
 
 pub returns-in-SetSystem : goal.returns-in-SetSystem
-returns-in-SetSystem g c = seen_plain (view_for (reads_weaker c.view_to_set_system.ensures (λ db x it s h. it s h c.in-SetSystem.field-0)) c.in-SetSystem.is) c.without_dock.ensures c.in-SetSystem.is (λ s m x. tt)
+returns-in-SetSystem g c = seen_plain (view_for (reads_weaker c.view_to_set_system.ensures (λ db x it s h. it s h c.in-SetSystem.field-0)) c.in-SetSystem.is) c.without_dock-in-SetSystem.ensures c.in-SetSystem.is (λ s m x. tt)
 
 pub returns-in-AddPlan : goal.returns-in-AddPlan
-returns-in-AddPlan g c = seen_plain (view_for c.view_to_add_plan.ensures c.in-AddPlan.is) c.without_dock.ensures c.in-AddPlan.is (λ s m x. tt)
+returns-in-AddPlan g c = seen_plain (view_for c.view_to_add_plan.ensures c.in-AddPlan.is) c.without_dock-in-AddPlan.ensures c.in-AddPlan.is (λ s m x. tt)
 
 pub returns-in-AddType : goal.returns-in-AddType
-returns-in-AddType g c = seen_plain (view_for c.view_to_add_type.ensures c.in-AddType.is) c.without_dock.ensures c.in-AddType.is (λ s m x. tt)
+returns-in-AddType g c = seen_plain (view_for c.view_to_add_type.ensures c.in-AddType.is) c.without_dock-in-AddType.ensures c.in-AddType.is (λ s m x. tt)
 
 pub returns-in-SetPlan : goal.returns-in-SetPlan
-returns-in-SetPlan g c = seen_plain (view_for c.view_to_set_plan.ensures c.in-SetPlan.is) c.without_dock.ensures c.in-SetPlan.is (λ s m x. tt)
+returns-in-SetPlan g c = seen_plain (view_for c.view_to_set_plan.ensures c.in-SetPlan.is) c.without_dock-in-SetPlan.ensures c.in-SetPlan.is (λ s m x. tt)
 
 pub returns-in-AddStation : goal.returns-in-AddStation
-returns-in-AddStation g c = seen_plain (view_for c.view_to_add_station.ensures c.in-AddStation.is) c.without_dock.ensures c.in-AddStation.is (λ s m x. tt)
+returns-in-AddStation g c = seen_plain (view_for c.view_to_add_station.ensures c.in-AddStation.is) c.without_dock-in-AddStation.ensures c.in-AddStation.is (λ s m x. tt)
 
 pub returns-in-SetStation : goal.returns-in-SetStation
-returns-in-SetStation g c = seen_plain (view_for (reads_weaker c.view_to_set_station.ensures (λ db x it s h. it s h false false false)) c.in-SetStation.is) c.without_dock.ensures c.in-SetStation.is (λ s m x. tt)
+returns-in-SetStation g c = seen_plain (view_for (reads_weaker c.view_to_set_station.ensures (λ db x it s h. it s h false false false)) c.in-SetStation.is) c.without_dock-in-SetStation.ensures c.in-SetStation.is (λ s m x. tt)
 
 pub returns-in-MarkDock : goal.returns-in-MarkDock
-returns-in-MarkDock g c = reads_weaker c.view_to_mark_dock.ensures (λ db x it s h known. sight_for (it s h false) c.in-MarkDock.is)
+returns-in-MarkDock g c = reads_weaker c.view_to_mark_dock.ensures (λ db x it s h known. sight_for (it s h c.in-MarkDock.broken) c.in-MarkDock.is)
 
 pub returns-in-AddBike : goal.returns-in-AddBike
-returns-in-AddBike g c = seen_plain (view_for c.view_to_add_bike.ensures c.in-AddBike.is) c.without_dock.ensures c.in-AddBike.is (λ s m x. tt)
+returns-in-AddBike g c = seen_plain (view_for c.view_to_add_bike.ensures c.in-AddBike.is) c.without_dock-in-AddBike.ensures c.in-AddBike.is (λ s m x. tt)
 
 pub returns-in-MarkBike : goal.returns-in-MarkBike
-returns-in-MarkBike g c = seen_plain (view_for (reads_weaker c.view_to_mark_bike.ensures (λ db x it s h. it s h false)) c.in-MarkBike.is) c.without_dock.ensures c.in-MarkBike.is (λ s m x. tt)
+returns-in-MarkBike g c = seen_plain (view_for (reads_weaker c.view_to_mark_bike.ensures (λ db x it s h. it s h false)) c.in-MarkBike.is) c.without_dock-in-MarkBike.ensures c.in-MarkBike.is (λ s m x. tt)
 
 pub returns-in-RetireBike : goal.returns-in-RetireBike
-returns-in-RetireBike g c = seen_plain (view_for c.view_to_retire_bike.ensures c.in-RetireBike.is) c.without_dock.ensures c.in-RetireBike.is (λ s m x. tt)
+returns-in-RetireBike g c = seen_plain (view_for c.view_to_retire_bike.ensures c.in-RetireBike.is) c.without_dock-in-RetireBike.ensures c.in-RetireBike.is (λ s m x. tt)
 
 pub returns-in-AddTruck : goal.returns-in-AddTruck
-returns-in-AddTruck g c = seen_plain (view_for (reads_weaker c.view_to_add_truck.ensures (λ db x it s h. it s h 0)) c.in-AddTruck.is) c.without_dock.ensures c.in-AddTruck.is (λ s m x. tt)
+returns-in-AddTruck g c = seen_plain (view_for (reads_weaker c.view_to_add_truck.ensures (λ db x it s h. it s h 0)) c.in-AddTruck.is) c.without_dock-in-AddTruck.ensures c.in-AddTruck.is (λ s m x. tt)
 
 pub returns-in-AddRider : goal.returns-in-AddRider
-returns-in-AddRider g c = seen_plain (view_for c.view_to_add_rider.ensures c.in-AddRider.is) c.without_dock.ensures c.in-AddRider.is (λ s m x. tt)
+returns-in-AddRider g c = seen_plain (view_for c.view_to_add_rider.ensures c.in-AddRider.is) c.without_dock-in-AddRider.ensures c.in-AddRider.is (λ s m x. tt)
 
 pub returns-in-SetRider : goal.returns-in-SetRider
-returns-in-SetRider g c = seen_plain (view_for (reads_weaker c.view_to_set_rider.ensures (λ db x it s h. it s h false)) c.in-SetRider.is) c.without_dock.ensures c.in-SetRider.is (λ s m x. tt)
+returns-in-SetRider g c = seen_plain (view_for (reads_weaker c.view_to_set_rider.ensures (λ db x it s h. it s h false)) c.in-SetRider.is) c.without_dock-in-SetRider.ensures c.in-SetRider.is (λ s m x. tt)
 
 pub returns-in-TopUp : goal.returns-in-TopUp
-returns-in-TopUp g c = seen_plain (view_with (λ f. f.entries) (reads_weaker c.view_to_top_up.ensures (λ db x it s h are. it s h are 0)) c.in-TopUp.is) c.without_dock.ensures c.in-TopUp.is (λ s m x. tt)
+returns-in-TopUp g c = seen_plain (view_with (λ f. f.entries) (reads_weaker c.view_to_top_up.ensures (λ db x it s h are. it s h are 0)) c.in-TopUp.is) c.without_dock-in-TopUp.ensures c.in-TopUp.is (λ s m x. tt)
 
 pub returns-in-Start : goal.returns-in-Start
 returns-in-Start g c = reads_weaker c.view_to_start.ensures (λ db x it s h known. sight_for (it s h known) c.in-Start.is)
@@ -91,28 +91,28 @@ pub returns-in-End : goal.returns-in-End
 returns-in-End g c = reads_weaker c.view_to_end.ensures (λ db x it s h known. sight_for (it s h (ap (λ (f : Figures). f.entries) known.figures)) c.in-End.is)
 
 pub returns-in-Recover : goal.returns-in-Recover
-returns-in-Recover g c = seen_plain (view_with (λ f. f.entries) c.view_to_recover.ensures c.in-Recover.is) c.without_dock.ensures c.in-Recover.is (λ s m x. tt)
+returns-in-Recover g c = seen_plain (view_with (λ f. f.entries) c.view_to_recover.ensures c.in-Recover.is) c.without_dock-in-Recover.ensures c.in-Recover.is (λ s m x. tt)
 
 pub returns-in-Refund : goal.returns-in-Refund
-returns-in-Refund g c = seen_plain (view_with (λ f. f.entries) (reads_weaker c.view_to_refund.ensures (λ db x it s h are. it s h are 0)) c.in-Refund.is) c.without_dock.ensures c.in-Refund.is (λ s m x. tt)
+returns-in-Refund g c = seen_plain (view_with (λ f. f.entries) (reads_weaker c.view_to_refund.ensures (λ db x it s h are. it s h are 0)) c.in-Refund.is) c.without_dock-in-Refund.ensures c.in-Refund.is (λ s m x. tt)
 
 pub returns-in-OpenOrder : goal.returns-in-OpenOrder
-returns-in-OpenOrder g c = seen_plain (view_with (λ f. f.orders) (reads_weaker c.view_to_open_order.ensures (λ db x it s h are. it s h are 0)) c.in-OpenOrder.is) c.without_dock.ensures c.in-OpenOrder.is (λ s m x. tt)
+returns-in-OpenOrder g c = seen_plain (view_with (λ f. f.orders) (reads_weaker c.view_to_open_order.ensures (λ db x it s h are. it s h are 0)) c.in-OpenOrder.is) c.without_dock-in-OpenOrder.ensures c.in-OpenOrder.is (λ s m x. tt)
 
 pub returns-in-Load : goal.returns-in-Load
-returns-in-Load g c = seen_plain (view_for c.view_to_load.ensures c.in-Load.is) c.without_dock.ensures c.in-Load.is (λ s m x. tt)
+returns-in-Load g c = seen_plain (view_for c.view_to_load.ensures c.in-Load.is) c.without_dock-in-Load.ensures c.in-Load.is (λ s m x. tt)
 
 pub returns-in-Unload : goal.returns-in-Unload
 returns-in-Unload g c = reads_weaker c.view_to_unload.ensures (λ db x it s h known. sight_for (it s h) c.in-Unload.is)
 
 pub returns-in-CloseOrder : goal.returns-in-CloseOrder
-returns-in-CloseOrder g c = seen_plain (view_for c.view_to_close_order.ensures c.in-CloseOrder.is) c.without_dock.ensures c.in-CloseOrder.is (λ s m x. tt)
+returns-in-CloseOrder g c = seen_plain (view_for c.view_to_close_order.ensures c.in-CloseOrder.is) c.without_dock-in-CloseOrder.ensures c.in-CloseOrder.is (λ s m x. tt)
 
 pub returns-in-AddRegion : goal.returns-in-AddRegion
-returns-in-AddRegion g c = seen_plain (view_for c.view_to_add_region.ensures c.in-AddRegion.is) c.without_dock.ensures c.in-AddRegion.is (λ s m x. tt)
+returns-in-AddRegion g c = seen_plain (view_for c.view_to_add_region.ensures c.in-AddRegion.is) c.without_dock-in-AddRegion.ensures c.in-AddRegion.is (λ s m x. tt)
 
 pub returns-in-SetRegion : goal.returns-in-SetRegion
-returns-in-SetRegion g c = seen_plain (view_for c.view_to_set_region.ensures c.in-SetRegion.is) c.without_dock.ensures c.in-SetRegion.is (λ s m x. tt)
+returns-in-SetRegion g c = seen_plain (view_for c.view_to_set_region.ensures c.in-SetRegion.is) c.without_dock-in-SetRegion.ensures c.in-SetRegion.is (λ s m x. tt)
 
 pub returns-in-AddName : goal.returns-in-AddName
-returns-in-AddName g c = seen_plain (view_for (reads_weaker c.view_to_add_name.ensures (λ db x it s h. it s h [])) c.in-AddName.is) c.without_dock.ensures c.in-AddName.is (λ s m x. tt)
+returns-in-AddName g c = seen_plain (view_for (reads_weaker c.view_to_add_name.ensures (λ db x it s h. it s h [])) c.in-AddName.is) c.without_dock-in-AddName.ensures c.in-AddName.is (λ s m x. tt)
