@@ -43,7 +43,7 @@ sight_for : {s : Operator} {m : Listed} {c d : Command} {x : Sight} → IsSight 
 sight_for {s = s} {m = m} {x = x} it is = subst (λ e. IsSight s m e x) (sym is) it
 
 pub returns-in-SetSystem : goal.returns-in-SetSystem
-returns-in-SetSystem g c = seen_plain (view_for (reads_weaker c.view_to_set_system.ensures (λ db x it s h. it s h c.in-SetSystem.field-0)) c.in-SetSystem.is) c.without_dock-in-SetSystem.ensures c.in-SetSystem.is (λ s m x. tt)
+returns-in-SetSystem g c = seen_plain (view_for (reads_weaker c.view_to_set_system.ensures (λ db x it s h. it s h c.in-SetSystem.field-0)) c.in-SetSystem.is) c.without_dock.ensures c.in-SetSystem.is (λ s m x. tt)
 
 pub returns-in-AddPlan : goal.returns-in-AddPlan
 returns-in-AddPlan g c = seen_plain (view_for c.view_to_add_plan.ensures c.in-AddPlan.is) c.without_dock-in-AddPlan.ensures c.in-AddPlan.is (λ s m x. tt)
