@@ -6,19 +6,14 @@ use Rattle.sqlite.specs.Held.{Held, state}
 use Rattle.sqlite.specs.State.{IsUnchanged}
 use Rattle.bike_operator.specs.Operator.{Operator}
 use Rattle.bike_schema.specs.Stands.{IsOf, Keeps, TreesStandFor}
-use Rattle.bike_command_line.specs.declared.task.Task.{Task}
-use Rattle.bike_command_line.specs.declared.task.Task.TheVariants.{Init, Check, Raise, Lines, Feed, Day, Import, Serve}
+use Rattle.bike_command_line.specs.declared.task.FileTask.{FileTask}
+use Rattle.bike_command_line.specs.declared.task.FileTask.TheVariants.{Init, Check, Raise, Lines, Feed, Day, Import}
 use Rattle.bike_console.specs.declared.end.Fault.{Fault}
 use Rattle.bike_app.specs.Program.{StandsAfterSome, Refuses, Serves, FailsToBegin, ServesInMemory}
 use Rattle.bike_app.specs.Feeds.{TellsPublished, PublishesInMemory, moment_of}
 use Rattle.bike_app.specs.Days.{TellsReported, ReportsInMemory}
 use Rattle.bike_app.specs.Imports.{TellsImported, ImportsInMemory}
 use Rattle.bike_app.specs.Raises.{WritesLine, TellsRaised, version_line}
-
--- the task that answers connections, which is done apart from the others
-abbrev pub ServesSockets : Task → Type 0
-ServesSockets (Serve port count) = Unit {0}
-ServesSockets _ = ⊥
 
 -- The database stood for an operator, or had none of the tables, and stands for him, with all that a crash may leave.
 pub record TakenUp {S : Type 0} (g : Ghosts S) (first last : Held S) : Type 0 where
@@ -43,7 +38,7 @@ module _ {S : Type 0} (g : Ghosts S) (input ahead old new : Option (List ℕ)) w
   TellsTakenUp first last line end = Refuses g input ahead old new first last end ⊎ (TakenUp g first last × WritesLine old new line end)
 
   -- WHAT A TASK DOES over this connection, which becomes that one, where the clock gave this moment
-  abbrev pub Does : Task → Option ℕ → Held S → Held S → Result ℕ Fault → Type 0
+  abbrev pub Does : FileTask → Option ℕ → Held S → Held S → Result ℕ Fault → Type 0
   Does Init clock first last end = TellsTakenUp first last (codes "ready\n") end
   Does Check clock first last end = TellsLookedAt first last (codes "sound\n") end
   Does Raise clock first last end = TellsRaised g input ahead old new first last end
@@ -51,24 +46,23 @@ module _ {S : Type 0} (g : Ghosts S) (input ahead old new : Option (List ℕ)) w
   Does (Feed f at) clock first last end = TellsPublished g input ahead old new first last f (moment_of at clock) end
   Does (Day table date zone) clock first last end = TellsReported table date.now zone.now g input ahead old new first last end
   Does (Import name at) clock first last end = TellsImported g input ahead old new name.now first last (moment_of at clock) end
-  Does (Serve port count) clock first last end = ⊥
 
 -- the words that only look
-abbrev pub Looks : Task → Type 0
+abbrev pub Looks : FileTask → Type 0
 Looks Check = Unit {0}
 Looks (Feed f at) = Unit {0}
 Looks (Day table date zone) = Unit {0}
 Looks _ = ⊥
 
 -- what a crash may leave of a database that stood for the operator
-abbrev pub MayStand : Task → Operator → Trees → Type 0
+abbrev pub MayStand : FileTask → Operator → Trees → Type 0
 MayStand Lines s trees = StandsAfterSome s trees
 MayStand (Import name at) s trees = StandsAfterSome s trees
 MayStand _ s trees = TreesStandFor s trees
 
 -- over a database in memory
 module _ (input ahead old new : Option (List ℕ)) where
-  abbrev pub DoesInMemory : Task → Option ℕ → Result ℕ Fault → Type 0
+  abbrev pub DoesInMemory : FileTask → Option ℕ → Result ℕ Fault → Type 0
   DoesInMemory Init clock end = FailsToBegin input ahead old new end ⊎ WritesLine old new (codes "ready\n") end
   DoesInMemory Check clock end = FailsToBegin input ahead old new end ⊎ WritesLine old new (codes "sound\n") end
   DoesInMemory Raise clock end = FailsToBegin input ahead old new end ⊎ WritesLine old new version_line end
@@ -76,4 +70,3 @@ module _ (input ahead old new : Option (List ℕ)) where
   DoesInMemory (Feed f at) clock end = PublishesInMemory input ahead old new f (moment_of at clock) end
   DoesInMemory (Day table date zone) clock end = ReportsInMemory table date.now zone.now input ahead old new end
   DoesInMemory (Import name at) clock end = ImportsInMemory input ahead old new name.now (moment_of at clock) end
-  DoesInMemory (Serve port count) clock end = ⊥
