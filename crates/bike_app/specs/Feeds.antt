@@ -55,12 +55,12 @@ pub record PublishesNobodys {S : Type 0} (g : Ghosts S) (first last : Held S) (f
   pub none : HasNone (state g first).now.schema
   pub told : TellsFeed no_operator f moment old new end
 
--- the input before and after, and what was written before and after
-module _ {S : Type 0} (g : Ghosts S) (input ahead old new : Option (List ℕ)) where
+-- what was written before and after
+module _ {S : Type 0} (g : Ghosts S) (old new : Option (List ℕ)) where
   -- the database isn't one that is served, or the feed is published
   abbrev pub TellsPublished : Held S → Held S → Feed → Option ℕ → Result ℕ Fault → Type 0
   TellsPublished first last f moment end =
-      Refuses g input ahead old new first last end ⊎ (Publishes g first last f moment old new end ⊎ PublishesNobodys g first last f moment old new end)
+      Refuses g old new first last end ⊎ (Publishes g first last f moment old new end ⊎ PublishesNobodys g first last f moment old new end)
 
 -- the moment that is asked for, or the clock's where none is
 abbrev pub moment_of : Option ℕ → Option ℕ → Option ℕ
@@ -68,6 +68,5 @@ moment_of None clock = clock
 moment_of (Some at) clock = Some at
 
 -- over a database in memory, where no system is set
-abbrev pub PublishesInMemory : Option (List ℕ) → Option (List ℕ) → Option (List ℕ) → Option (List ℕ) → Feed → Option ℕ → Result ℕ Fault
-    → Type 0
-PublishesInMemory input ahead old new f moment end = FailsToBegin input ahead old new end ⊎ TellsFeed no_operator f moment old new end
+abbrev pub PublishesInMemory : Option (List ℕ) → Option (List ℕ) → Feed → Option ℕ → Result ℕ Fault → Type 0
+PublishesInMemory old new f moment end = FailsToBegin old new end ⊎ TellsFeed no_operator f moment old new end
