@@ -12,7 +12,7 @@ use Rattle.bike_feeds.specs.declared.fault.FeedFault.{FeedFault}
 use Rattle.bike_feeds.specs.declared.fault.FeedFault.TheVariants as feed
 use Rattle.bike_feeds.specs.Publishing.{IsPublished, IsBegun}
 use Rattle.bike_console.specs.declared.end.Fault.{Fault}
-use Rattle.bike_console.specs.declared.end.Fault.TheVariants.{ReadFailed, StoreFailed}
+use Rattle.bike_console.specs.declared.end.Fault.TheVariants.{NoClock, StoreFailed}
 use Rattle.bike_console.specs.Ends.{feed_fault}
 use Rattle.bike_app.specs.Program.{Refuses, FailsToBegin}
 
@@ -30,7 +30,7 @@ pub record BreaksOff (s : Operator) (f : Feed) (moment : ℕ) (old new : Option 
 
 -- what was written of the operator's feed for the moment, as the end tells; nothing where the clock gave no moment
 abbrev pub TellsFeed : Operator → Feed → Option ℕ → Option (List ℕ) → Option (List ℕ) → Result ℕ Fault → Type 0
-TellsFeed s f None old new end = (end ≡ Err ReadFailed) × KeepsBytes old new
+TellsFeed s f None old new end = (end ≡ Err NoClock) × KeepsBytes old new
 TellsFeed s f (Some moment) old new (Ok count) = (count ≡ 0) × IsPublished s f moment old new
 TellsFeed s f (Some moment) old new (Err fault) = BreaksOff s f moment old new fault
 

@@ -11,7 +11,7 @@ use Rattle.bike_desk.specs.Desk.{DeskValue, IsAt}
 use Rattle.bike_imports.specs.declared.fault.ImportFault.{ImportFault}
 use Rattle.bike_imports.specs.Imports.{Imports}
 use Rattle.bike_console.specs.declared.end.Fault.{Fault}
-use Rattle.bike_console.specs.declared.end.Fault.TheVariants.{ReadFailed, WriteFailed}
+use Rattle.bike_console.specs.declared.end.Fault.TheVariants.{NoClock, WriteFailed}
 use Rattle.bike_console.specs.Pieces.{AppendsSome}
 use Rattle.bike_console.specs.Ends.{import_fault}
 use Rattle.bike_app.specs.Program.{Refuses, FailsToBegin}
@@ -36,7 +36,7 @@ module _ {S : Type 0} (g : Ghosts S) (input ahead old new : Option (List ℕ)) (
 
   -- so at the moment; nothing is read or written where the clock gave none
   abbrev pub TellsImport : Option ℕ → DeskValue S → Operator → Result ℕ Fault → Type 0
-  TellsImport None desk s end = (end ≡ Err ReadFailed) × IsAt g desk s × Keeps input ahead × Keeps old new
+  TellsImport None desk s end = (end ≡ Err NoClock) × IsAt g desk s × Keeps input ahead × Keeps old new
   TellsImport (Some moment) desk s end = ImportsAt desk s moment end
 
   -- The database stood for an operator, or had none of the tables, and the input was imported over a desk at him.

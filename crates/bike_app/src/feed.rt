@@ -58,7 +58,7 @@ fn publish_for<S: Alter, W: Write>(
     told(published)
 }
 
-/// Writes the feed of a desk for a moment; `ReadFailed` where the clock gave none.
+/// Writes the feed of a desk for a moment; `NoClock` where the clock gave none.
 fn publish_at<S: Alter, W: Write>(
     alloc: Global,
     desk: &mut Desk<S>,
@@ -74,18 +74,18 @@ fn publish_at<S: Alter, W: Write>(
 {
     match moment {
         Some(moment) => publish_for(alloc, desk, feed, moment, writer),
-        None => Err(Fault::ReadFailed),
+        None => Err(Fault::NoClock),
     }
 }
 
-/// What is told of a feed of a database that has none of the product's tables: no system is set. `ReadFailed` where the clock gave no
+/// What is told of a feed of a database that has none of the product's tables: no system is set. `NoClock` where the clock gave no
 /// moment.
 fn publish_nobodys(moment: Option<Moment>) -> Result<u64, Fault>
     ensures { (feed : Feed) (written : _) → TellsFeed no_operator feed moment written written result }
 {
     match moment {
         Some(_) => Err(Fault::SystemMissing),
-        None => Err(Fault::ReadFailed),
+        None => Err(Fault::NoClock),
     }
 }
 
