@@ -19,9 +19,8 @@ use bike_fixed::Moment;
 use sqlite::{Connection, FileFrom, FileStore, Start};
 use std::io::{Read, Write};
 
-/// Does the task over the database file at a path, as `run_words` does over the database that the file's
-/// bytes hold. Gives the connection back, none where the file couldn't be opened: then nothing was read, nothing written, and the fault
-/// is that of the opening.
+/// Does the task over the database file at a path, as `run_words` does over the database that the file's bytes hold. Gives the connection
+/// back, none where the file couldn't be opened: then nothing was read, nothing written, and the fault is that of the opening.
 pub fn run_file<F: Start, R: Read, W: Write, P: Watch>(
     rt: &HostRuntime,
     task: &FileTask<'_>,
@@ -53,7 +52,7 @@ pub fn run_file<F: Start, R: Read, W: Write, P: Watch>(
     }
 }
 
-/// Whether the words make the database file where there is none.
+/// Whether the task makes the database file where there is none.
 fn may_make(task: &FileTask<'_>) -> bool {
     match task {
         FileTask::Init | FileTask::Lines | FileTask::Import { .. } => true,
@@ -61,7 +60,7 @@ fn may_make(task: &FileTask<'_>) -> bool {
     }
 }
 
-/// Whether the log is brought into the file at the end of these words, so that the file is the whole database by itself.
+/// Whether the log is brought into the file at the end of the task, so that the file is the whole database by itself.
 fn settles(task: &FileTask<'_>) -> bool
     ensures { result ≡ settles task.now }
 {
@@ -71,12 +70,12 @@ fn settles(task: &FileTask<'_>) -> bool
     }
 }
 
-/// Does the task over the database file at a path, as `run_file` does, from the path on to the closing.
-/// Words that only look, and `Raise`, make no file: where there is none that is `StoreFailed`. A log that may hold commits and has no
-/// file, or an empty one, is `StoreFailed` for all words, and stays. Words that may change the database bring the log into the file at
-/// their end, so that after a number the file is the whole database by itself; where that fails, they end with `StoreFailed`, and the
-/// file and its log are the database together. Words that only look, and a file that is refused, leave no log where there was none. Gives
-/// back what is left of the connection, none where no file was opened, and how the words ended.
+/// Does the task over the database file at a path, as `run_file` does, from the path on to the closing. Tasks that only look, and
+/// `Raise`, make no file: where there is none that is `StoreFailed`. A log that may hold commits and has no file, or an empty one, is
+/// `StoreFailed` for all tasks, and stays. Tasks that may change the database bring the log into the file at their end, so that after a
+/// number the file is the whole database by itself; where that fails, they end with `StoreFailed`, and the file and its log are the
+/// database together. Tasks that only look, and a file that is refused, leave no log where there was none. Gives back what is left of the
+/// connection, none where no file was opened, and how the task ended.
 pub fn run_on_file<F: Start, R: Read, W: Write, P: Watch>(
     rt: &HostRuntime,
     task: &FileTask<'_>,
