@@ -6,14 +6,14 @@ use Rattle.sqlite_store.specs.declared.store.FileStore.{FileStore}
 use Rattle.sqlite.specs.Held.{Held}
 use Rattle.sqlite.specs.State.{HasCleanDisk}
 use Rattle.sqlite.specs.Files.{file_state}
-use Rattle.bike_command_line.specs.declared.task.Task.{Task}
+use Rattle.bike_command_line.specs.declared.task.FileTask.{FileTask}
 use Rattle.bike_console.specs.declared.end.Fault.{Fault}
 use Rattle.bike_console.specs.declared.closing.Remains.{Remains}
 use Rattle.bike_console.specs.declared.closing.Remains.TheVariants.{Open, Settled, Unsettled}
 use Rattle.bike_console.specs.Closing.{Closes, is_log_kept}
 use Rattle.bike_app.specs.Files.{DoesOverFile, EndsOnFile, IsAlone, settles}
 
-module _ {D : Type 0} {g : disk.Ghosts D} (image : Image) (input ahead old new : Option (List ℕ)) (task : Task) (clock : Option ℕ) (conn : Held (FileStore D g)) (end : Result ℕ Fault)
+module _ {D : Type 0} {g : disk.Ghosts D} (image : Image) (input ahead old new : Option (List ℕ)) (task : FileTask) (clock : Option ℕ) (conn : Held (FileStore D g)) (end : Result ℕ Fault)
     (does : HasCleanDisk (file_state conn) → DoesOverFile image input ahead old new task clock conn end) where
   -- a connection over which the task was done was closed, or its log stays
   pub closed_ends : (remains : Remains D g) (told : Result ℕ Fault) → Closes conn end remains told → EndsOnFile image input ahead old new task clock (Some remains) told

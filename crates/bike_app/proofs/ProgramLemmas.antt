@@ -81,14 +81,13 @@ module _ {S : Type 0} (g : Ghosts S) {first last : Held S} (fault : AdoptFault S
   still_clean : HasCleanDisk (state g (handed fault))
   still_clean = subst (λ (h : Held S). HasCleanDisk (state g h)) conn clean
 
-  pub refuses : {input old : Option (List ℕ)} (told : Fault) → told ≡ adopt_fault fault → Refuses g input input old old first last (Err told)
-  refuses {input} {old} told is = record {
+  pub refuses : {old : Option (List ℕ)} (told : Fault) → told ≡ adopt_fault fault → Refuses g old old first last (Err told)
+  refuses {old} told is = record {
     fault = fault;
     told = ap Err is;
     why = adopts.told still_clean;
     want = λ s stands. adopts.refused s stands still_clean;
     conn = conn;
-    read = Keeps-refl input;
     written = Keeps-refl old;
   }
 
@@ -116,31 +115,31 @@ memory_has_none h empty = subst HasNone (sym empty.2) none_in
 pub memory_begins : (h : Held MemStore) → IsEmpty (state over_memory h) → TreesStandFor no_operator (state over_memory h).now.trees
 memory_begins h empty = ((state over_memory h).now.schema, record { sound = (empty.1 empty.0.is_open).0; is = inl (memory_has_none h empty, refl) })
 
-pub not_begun : (fault : AdoptFault MemStore) → IsWant fault → (input ahead old new : Option (List ℕ)) → Keeps input ahead → Keeps old new → FailsToBegin input ahead old new (Err (adopt_fault fault))
-not_begun (adopt.Foreign c) want input ahead old new read written = absurd want
-not_begun (adopt.Unsound c bad) want input ahead old new read written = absurd want
-not_begun (adopt.Older c version) want input ahead old new read written = absurd want
-not_begun (adopt.Newer c version) want input ahead old new read written = absurd want
-not_begun (adopt.NoMemory c) want input ahead old new read written = record { told = inl refl; read = read; written = written }
-not_begun (adopt.StoreFailed c) want input ahead old new read written = record { told = inr refl; read = read; written = written }
+pub not_begun : (fault : AdoptFault MemStore) → IsWant fault → (old new : Option (List ℕ)) → Keeps old new → FailsToBegin old new (Err (adopt_fault fault))
+not_begun (adopt.Foreign c) want old new written = absurd want
+not_begun (adopt.Unsound c bad) want old new written = absurd want
+not_begun (adopt.Older c version) want old new written = absurd want
+not_begun (adopt.Newer c version) want old new written = absurd want
+not_begun (adopt.NoMemory c) want old new written = record { told = inl refl; written = written }
+not_begun (adopt.StoreFailed c) want old new written = record { told = inr refl; written = written }
 
 -- a database in memory is refused for memory or storage alone
-pub memory_refused : (first last : Held MemStore) → IsEmpty (state over_memory first) → (input ahead old new : Option (List ℕ)) (end : Result ℕ Fault) → Refuses over_memory input ahead old new first last end → FailsToBegin input ahead old new end
-memory_refused first last empty input ahead old new end r =
-    subst (FailsToBegin input ahead old new) (sym r.told) (not_begun r.fault (r.want no_operator (memory_begins first empty)) input ahead old new r.read r.written)
+pub memory_refused : (first last : Held MemStore) → IsEmpty (state over_memory first) → (old new : Option (List ℕ)) (end : Result ℕ Fault) → Refuses over_memory old new first last end → FailsToBegin old new end
+memory_refused first last empty old new end r =
+    subst (FailsToBegin old new) (sym r.told) (not_begun r.fault (r.want no_operator (memory_begins first empty)) old new r.written)
 
-not_raised : (fault : RaiseFault MemStore) → raising.IsWant fault → (input ahead old new : Option (List ℕ)) → Keeps input ahead → Keeps old new → FailsToBegin input ahead old new (Err (raise_fault fault))
-not_raised (raise.Foreign c) want input ahead old new read written = absurd want
-not_raised (raise.Unsound c bad) want input ahead old new read written = absurd want
-not_raised (raise.Newer c version) want input ahead old new read written = absurd want
-not_raised (raise.NoMemory c) want input ahead old new read written = record { told = inl refl; read = read; written = written }
-not_raised (raise.StoreFailed c) want input ahead old new read written = record { told = inr refl; read = read; written = written }
+not_raised : (fault : RaiseFault MemStore) → raising.IsWant fault → (old new : Option (List ℕ)) → Keeps old new → FailsToBegin old new (Err (raise_fault fault))
+not_raised (raise.Foreign c) want old new written = absurd want
+not_raised (raise.Unsound c bad) want old new written = absurd want
+not_raised (raise.Newer c version) want old new written = absurd want
+not_raised (raise.NoMemory c) want old new written = record { told = inl refl; written = written }
+not_raised (raise.StoreFailed c) want old new written = record { told = inr refl; written = written }
 
 -- nor is its raising refused otherwise
-pub raise_refused : (first last : Held MemStore) → IsEmpty (state over_memory first) → (input ahead old new : Option (List ℕ)) (end : Result ℕ Fault) → RefusesToRaise over_memory input ahead old new first last end → FailsToBegin input ahead old new end
-raise_refused first last empty input ahead old new end r =
-    subst (FailsToBegin input ahead old new) (sym r.told) (not_raised r.fault (r.want None no_operator (memory_begins first empty)) input ahead old new r.read r.written)
+pub raise_refused : (first last : Held MemStore) → IsEmpty (state over_memory first) → (old new : Option (List ℕ)) (end : Result ℕ Fault) → RefusesToRaise over_memory old new first last end → FailsToBegin old new end
+raise_refused first last empty old new end r =
+    subst (FailsToBegin old new) (sym r.told) (not_raised r.fault (r.want None no_operator (memory_begins first empty)) old new r.written)
 
 pub in_memory : (first last : Held MemStore) → IsEmpty (state over_memory first) → (input ahead old new : Option (List ℕ)) (end : Result ℕ Fault) → Serves over_memory input ahead old new first last end → ServesInMemory input ahead old new end
-in_memory first last empty input ahead old new end (inl r) = inl (memory_refused first last empty input ahead old new end r)
+in_memory first last empty input ahead old new end (inl (read, r)) = inl (read, memory_refused first last empty old new end r)
 in_memory first last empty input ahead old new end (inr r) = inr (last, r.served no_operator (memory_begins first empty))

@@ -42,18 +42,17 @@ module _ (table : DayTable) (date zone : List ℕ) where
       pub reported : (s : Operator) → TreesStandFor s (state g first).now.trees → ReportsAt desk s old new end
 
   -- over a database in memory, of which no operator was asked anything
-  abbrev pub ReportsInMemory : Option (List ℕ) → Option (List ℕ) → Option (List ℕ) → Option (List ℕ) → Result ℕ Fault → Type 0
-  ReportsInMemory input ahead old new end = FailsToBegin input ahead old new end ⊎ TellsTable no_operator old new end
+  abbrev pub ReportsInMemory : Option (List ℕ) → Option (List ℕ) → Result ℕ Fault → Type 0
+  ReportsInMemory old new end = FailsToBegin old new end ⊎ TellsTable no_operator old new end
 
   module _ {S : Type 0} (g : Ghosts S) where
     -- The database had none of the tables, and is as it was: the empty operator's table was written, over a database in memory.
-    pub record ReportsNobodys (first last : Held S) (input ahead old new : Option (List ℕ)) (end : Result ℕ Fault) : Type 0 where
+    pub record ReportsNobodys (first last : Held S) (old new : Option (List ℕ)) (end : Result ℕ Fault) : Type 0 where
       pub same : last ≡ first
       pub none : HasNone (state g first).now.schema
-      pub told : ReportsInMemory input ahead old new end
+      pub told : ReportsInMemory old new end
 
-    -- the database isn't one that is served, or the table is written; the input before and after, and what was written before and after
-    abbrev pub TellsReported : Option (List ℕ) → Option (List ℕ) → Option (List ℕ) → Option (List ℕ) → Held S → Held S → Result ℕ Fault
-        → Type 0
-    TellsReported input ahead old new first last end =
-        Refuses g input ahead old new first last end ⊎ (Reports g first last old new end ⊎ ReportsNobodys first last input ahead old new end)
+    -- the database isn't one that is served, or the table is written; what was written before and after
+    abbrev pub TellsReported : Option (List ℕ) → Option (List ℕ) → Held S → Held S → Result ℕ Fault → Type 0
+    TellsReported old new first last end =
+        Refuses g old new first last end ⊎ (Reports g first last old new end ⊎ ReportsNobodys first last old new end)

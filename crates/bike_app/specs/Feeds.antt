@@ -12,7 +12,7 @@ use Rattle.bike_feeds.specs.declared.fault.FeedFault.{FeedFault}
 use Rattle.bike_feeds.specs.declared.fault.FeedFault.TheVariants as feed
 use Rattle.bike_feeds.specs.Publishing.{IsPublished, IsBegun}
 use Rattle.bike_console.specs.declared.end.Fault.{Fault}
-use Rattle.bike_console.specs.declared.end.Fault.TheVariants.{ReadFailed, StoreFailed}
+use Rattle.bike_console.specs.declared.end.Fault.TheVariants.{NoClock, StoreFailed}
 use Rattle.bike_console.specs.Ends.{feed_fault}
 use Rattle.bike_app.specs.Program.{Refuses, FailsToBegin}
 
@@ -30,7 +30,7 @@ pub record BreaksOff (s : Operator) (f : Feed) (moment : ℕ) (old new : Option 
 
 -- what was written of the operator's feed for the moment, as the end tells; nothing where the clock gave no moment
 abbrev pub TellsFeed : Operator → Feed → Option ℕ → Option (List ℕ) → Option (List ℕ) → Result ℕ Fault → Type 0
-TellsFeed s f None old new end = (end ≡ Err ReadFailed) × KeepsBytes old new
+TellsFeed s f None old new end = (end ≡ Err NoClock) × KeepsBytes old new
 TellsFeed s f (Some moment) old new (Ok count) = (count ≡ 0) × IsPublished s f moment old new
 TellsFeed s f (Some moment) old new (Err fault) = BreaksOff s f moment old new fault
 
@@ -55,12 +55,12 @@ pub record PublishesNobodys {S : Type 0} (g : Ghosts S) (first last : Held S) (f
   pub none : HasNone (state g first).now.schema
   pub told : TellsFeed no_operator f moment old new end
 
--- the input before and after, and what was written before and after
-module _ {S : Type 0} (g : Ghosts S) (input ahead old new : Option (List ℕ)) where
+-- what was written before and after
+module _ {S : Type 0} (g : Ghosts S) (old new : Option (List ℕ)) where
   -- the database isn't one that is served, or the feed is published
   abbrev pub TellsPublished : Held S → Held S → Feed → Option ℕ → Result ℕ Fault → Type 0
   TellsPublished first last f moment end =
-      Refuses g input ahead old new first last end ⊎ (Publishes g first last f moment old new end ⊎ PublishesNobodys g first last f moment old new end)
+      Refuses g old new first last end ⊎ (Publishes g first last f moment old new end ⊎ PublishesNobodys g first last f moment old new end)
 
 -- the moment that is asked for, or the clock's where none is
 abbrev pub moment_of : Option ℕ → Option ℕ → Option ℕ
@@ -68,6 +68,5 @@ moment_of None clock = clock
 moment_of (Some at) clock = Some at
 
 -- over a database in memory, where no system is set
-abbrev pub PublishesInMemory : Option (List ℕ) → Option (List ℕ) → Option (List ℕ) → Option (List ℕ) → Feed → Option ℕ → Result ℕ Fault
-    → Type 0
-PublishesInMemory input ahead old new f moment end = FailsToBegin input ahead old new end ⊎ TellsFeed no_operator f moment old new end
+abbrev pub PublishesInMemory : Option (List ℕ) → Option (List ℕ) → Feed → Option ℕ → Result ℕ Fault → Type 0
+PublishesInMemory old new f moment end = FailsToBegin old new end ⊎ TellsFeed no_operator f moment old new end

@@ -12,8 +12,8 @@ use Rattle.sqlite.specs.State.{HasCleanDisk}
 use Rattle.sqlite.specs.Closing.{IsCopied}
 use Rattle.sqlite.specs.Files.{over_files, file_state, IsClosed, IsOpened}
 use Rattle.bike_recognition.specs.Added.{has_added_unique}
-use Rattle.bike_command_line.specs.declared.task.Task.{Task}
-use Rattle.bike_command_line.specs.declared.task.Task.TheVariants.{Init, Raise, Lines, Import}
+use Rattle.bike_command_line.specs.declared.task.FileTask.{FileTask}
+use Rattle.bike_command_line.specs.declared.task.FileTask.TheVariants.{Init, Raise, Lines, Import}
 use Rattle.bike_console.specs.declared.end.Fault.{Fault}
 use Rattle.bike_console.specs.declared.end.Fault.TheVariants.{StoreFailed}
 use Rattle.bike_console.specs.declared.closing.Remains.{Remains}
@@ -33,7 +33,7 @@ pub record IsUntouched {D : Type 0} {g : disk.Ghosts D} (image : Image) (conn : 
 -- WHAT THE PROGRAM DOES OVER A FILE: what its task does over a connection that was opened on what the bytes hold, where nobody added a UNIQUE index to a
 -- table of the product's
 pub record DoesOverFile {E : Type 0} {e : disk.Ghosts E} (image : Image) (input ahead old new : Option (List ℕ))
-    (task : Task) (clock : Option ℕ) (last : Held (FileStore E e)) (end : Result ℕ Fault) : Type 0 where
+    (task : FileTask) (clock : Option ℕ) (last : Held (FileStore E e)) (end : Result ℕ Fault) : Type 0 where
   pub first : Held (FileStore E e)
   pub opened : IsOpened first
   pub found : FindsIn image (file_state first)
@@ -43,7 +43,7 @@ pub record DoesOverFile {E : Type 0} {e : disk.Ghosts E} (image : Image) (input 
 -- ---- how a word over a file ends
 
 -- the words that may change a database, which is closed at their end
-abbrev pub settles : Task → Bool
+abbrev pub settles : FileTask → Bool
 settles Init = true
 settles Raise = true
 settles Lines = true
@@ -59,13 +59,13 @@ pub record IsNotThere (input ahead old new : Option (List ℕ)) (end : Result �
   pub is : IsOpeningFault fault
 
 -- The task was done over a connection, and the database file holds by itself what that committed last: as it reads now, and after a crash.
-pub record EndsSettled {D : Type 0} (g : disk.Ghosts D) (image : Image) (input ahead old new : Option (List ℕ)) (task : Task) (clock : Option ℕ)
+pub record EndsSettled {D : Type 0} (g : disk.Ghosts D) (image : Image) (input ahead old new : Option (List ℕ)) (task : FileTask) (clock : Option ℕ)
     (files : Files D) (end : Result ℕ Fault) : Type 0 where
   pub last : Held (FileStore D g)
   pub does : HasCleanDisk (file_state last) → DoesOverFile image input ahead old new task clock last end
   pub alone : AreClean g files.log files.db → IsCopied last files
 
-module _ {D : Type 0} {g : disk.Ghosts D} (image : Image) (input ahead old new : Option (List ℕ)) (task : Task) (clock : Option ℕ) where
+module _ {D : Type 0} {g : disk.Ghosts D} (image : Image) (input ahead old new : Option (List ℕ)) (task : FileTask) (clock : Option ℕ) where
   -- The task was done over a connection, and its log couldn't be brought into the file.
   pub record EndsUnsettled (store : FileStore D g) (end : Result ℕ Fault) : Type 0 where
     pub last : Held (FileStore D g)

@@ -11,7 +11,7 @@ use Rattle.bike_desk.specs.Desk.{DeskValue, IsAt}
 use Rattle.bike_imports.specs.declared.fault.ImportFault.{ImportFault}
 use Rattle.bike_imports.specs.Imports.{Imports}
 use Rattle.bike_console.specs.declared.end.Fault.{Fault}
-use Rattle.bike_console.specs.declared.end.Fault.TheVariants.{ReadFailed, WriteFailed}
+use Rattle.bike_console.specs.declared.end.Fault.TheVariants.{NoClock, WriteFailed}
 use Rattle.bike_console.specs.Pieces.{AppendsSome}
 use Rattle.bike_console.specs.Ends.{import_fault}
 use Rattle.bike_app.specs.Program.{Refuses, FailsToBegin}
@@ -36,7 +36,7 @@ module _ {S : Type 0} (g : Ghosts S) (input ahead old new : Option (List ℕ)) (
 
   -- so at the moment; nothing is read or written where the clock gave none
   abbrev pub TellsImport : Option ℕ → DeskValue S → Operator → Result ℕ Fault → Type 0
-  TellsImport None desk s end = (end ≡ Err ReadFailed) × IsAt g desk s × Keeps input ahead × Keeps old new
+  TellsImport None desk s end = (end ≡ Err NoClock) × IsAt g desk s × Keeps input ahead × Keeps old new
   TellsImport (Some moment) desk s end = ImportsAt desk s moment end
 
   -- The database stood for an operator, or had none of the tables, and the input was imported over a desk at him.
@@ -47,13 +47,13 @@ module _ {S : Type 0} (g : Ghosts S) (input ahead old new : Option (List ℕ)) (
     pub was : IsOf (state g first).now operator
     pub imported : (s : Operator) → TreesStandFor s (state g first).now.trees → TellsImport moment desk s end
 
-  -- the connection couldn't be adopted, or the input is imported
+  -- the connection couldn't be adopted, and nothing was read, or the input is imported
   abbrev pub TellsImported : Held S → Held S → Option ℕ → Result ℕ Fault → Type 0
-  TellsImported first last moment end = Refuses g input ahead old new first last end ⊎ ImportsOver first last moment end
+  TellsImported first last moment end = (Keeps input ahead × Refuses g old new first last end) ⊎ ImportsOver first last moment end
 
 -- over a database in memory, which begins with nothing
 abbrev pub ImportsInMemory : Option (List ℕ) → Option (List ℕ) → Option (List ℕ) → Option (List ℕ) → List ℕ → Option ℕ → Result ℕ Fault
     → Type 0
 ImportsInMemory input ahead old new name moment end =
-    FailsToBegin input ahead old new end
+    (Keeps input ahead × FailsToBegin old new end)
     ⊎ ((desk : DeskValue MemStore) × TellsImport over_memory input ahead old new name moment desk no_operator end)

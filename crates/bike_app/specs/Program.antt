@@ -25,18 +25,22 @@ use Rattle.bike_lines.specs.Runs.{RanLines}
 abbrev pub StandsAfterSome : Operator → Trees → Type 0
 StandsAfterSome s trees = (calls : List Call) × AreCalls calls × TreesStandFor (after s calls) trees
 
+-- The connection couldn't be adopted, for memory or storage alone where it stands for an operator, and nothing was written.
+pub record Refuses {S : Type 0} (g : Ghosts S) (old new : Option (List ℕ)) (first last : Held S) (end : Result ℕ Fault) : Type 0 where
+  pub fault : AdoptFault S
+  pub told : end ≡ Err (adopt_fault fault)
+  pub why : IsToldOf g first fault
+  pub want : (s : Operator) → TreesStandFor s (state g first).now.trees → IsWant fault
+  pub conn : last ≡ handed fault
+  pub written : Keeps old new
+
+-- There was no memory, or the tables couldn't be made, and nothing was written.
+pub record FailsToBegin (old new : Option (List ℕ)) (end : Result ℕ Fault) : Type 0 where
+  pub told : (end ≡ Err OutOfMemory) ⊎ (end ≡ Err StoreFailed)
+  pub written : Keeps old new
+
 -- the input before and after, and what was written before and after
 module _ {S : Type 0} (g : Ghosts S) (input ahead old new : Option (List ℕ)) where
-  -- the connection couldn't be adopted, for memory or storage alone where it stands for an operator; nothing was read or written
-  pub record Refuses (first last : Held S) (end : Result ℕ Fault) : Type 0 where
-    pub fault : AdoptFault S
-    pub told : end ≡ Err (adopt_fault fault)
-    pub why : IsToldOf g first fault
-    pub want : (s : Operator) → TreesStandFor s (state g first).now.trees → IsWant fault
-    pub conn : last ≡ handed fault
-    pub read : Keeps input ahead
-    pub written : Keeps old new
-
   -- the input was served over a desk at the operator
   pub record ServesLines (last : Held S) (s : Operator) (end : Result ℕ Fault) : Type 0 where
     pub desk : DeskValue S
@@ -51,20 +55,14 @@ module _ {S : Type 0} (g : Ghosts S) (input ahead old new : Option (List ℕ)) w
     pub was : IsOf (state g first).now operator
     pub served : (s : Operator) → TreesStandFor s (state g first).now.trees → ServesLines last s end
 
-  -- the connection couldn't be adopted, or the input was served
+  -- the connection couldn't be adopted, and nothing was read, or the input was served
   abbrev pub Serves : Held S → Held S → Result ℕ Fault → Type 0
-  Serves first last end = Refuses first last end ⊎ ServesOver first last end
+  Serves first last end = (Keeps input ahead × Refuses g old new first last end) ⊎ ServesOver first last end
 
-module _ (input ahead old new : Option (List ℕ)) where
-  -- there was no memory, or the tables couldn't be made, and nothing was read or written
-  pub record FailsToBegin (end : Result ℕ Fault) : Type 0 where
-    pub told : (end ≡ Err OutOfMemory) ⊎ (end ≡ Err StoreFailed)
-    pub read : Keeps input ahead
-    pub written : Keeps old new
-
-  -- a database in memory begins with nothing
-  abbrev pub ServesInMemory : Result ℕ Fault → Type 0
-  ServesInMemory end = FailsToBegin end ⊎ ((last : Held MemStore) × ServesLines over_memory input ahead old new last no_operator end)
+-- a database in memory begins with nothing
+abbrev pub ServesInMemory : Option (List ℕ) → Option (List ℕ) → Option (List ℕ) → Option (List ℕ) → Result ℕ Fault → Type 0
+ServesInMemory input ahead old new end =
+    (Keeps input ahead × FailsToBegin old new end) ⊎ ((last : Held MemStore) × ServesLines over_memory input ahead old new last no_operator end)
 
 -- The output grew by the answers to the lines of the input, which the operator gives from nothing on.
 pub record AnswersText (input old new : List ℕ) (count : ℕ) : Type 0 where

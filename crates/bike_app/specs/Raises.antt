@@ -29,16 +29,15 @@ pub record RaisedUp {S : Type 0} (g : Ghosts S) (first last : Held S) : Type 0 w
   pub was : StandsForAt version (state g first).now operator
   pub holds : Holds (state g last) operator
 
--- the input before and after, and what was written before and after
-module _ {S : Type 0} (g : Ghosts S) (input ahead old new : Option (List ℕ)) where
-  -- the database couldn't be raised, for memory or storage alone where it stands for an operator; nothing was read or written
+-- what was written before and after
+module _ {S : Type 0} (g : Ghosts S) (old new : Option (List ℕ)) where
+  -- the database couldn't be raised, for memory or storage alone where it stands for an operator; nothing was written
   pub record RefusesToRaise (first last : Held S) (end : Result ℕ Fault) : Type 0 where
     pub fault : RaiseFault S
     pub told : end ≡ Err (raise_fault fault)
     pub why : IsToldOf g first fault
     pub want : (v : Option Earlier) (s : Operator) → TreesStandForAt v s (state g first).now.trees → IsWant fault
     pub conn : last ≡ handed fault
-    pub read : Keeps input ahead
     pub written : Keeps old new
 
   -- it couldn't be raised, or it was and a line tells its version

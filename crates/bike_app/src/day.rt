@@ -16,7 +16,7 @@ use bike_days::{DayTable, DayTableFault, day_csv};
 use bike_desk::Desk;
 use sqlite::{Alter, Connection};
 use std::alloc::Global;
-use std::io::{Read, Write};
+use std::io::Write;
 
 /// What the program tells of a table that was asked for.
 fn told(written: Result<(), DayTableFault>) -> Result<u64, Fault>
@@ -56,7 +56,7 @@ fn report_nobodys<W: Write>(
     zone: &str,
     writer: &mut W,
 ) -> Result<u64, Fault>
-    ensures { (input : _) → ReportsInMemory table date.now zone.now input input (W.contents writer.old) (W.contents writer.new) result }
+    ensures { ReportsInMemory table date.now zone.now (W.contents writer.old) (W.contents writer.new) result }
 {
     let conn = Connection::open_in_memory(alloc)?;
     match adopt(alloc, conn) {
@@ -69,23 +69,21 @@ fn report_nobodys<W: Write>(
 }
 
 /// Looks at the database over a connection outside a transaction and writes a table of a day of it: the day of that date
-/// (`YYYY-MM-DD`) in that zone (POSIX's `TZ`). Nothing is read, and nothing of the database changes: what a crash may leave of it is what it
-/// could leave before. Gives the connection back with the number 0, or with the fault at which that ended: `BadDate`, `BadZone` and
+/// (`YYYY-MM-DD`) in that zone (POSIX's `TZ`). Nothing of the database changes: what a crash may leave of it is what it could leave
+/// before. Gives the connection back with the number 0, or with the fault at which that ended: `BadDate`, `BadZone` and
 /// `DayOutOfRange` come where there is no such day, and then nothing is written.
-pub fn report_day<S: Alter, R: Read, W: Write>(
+pub fn report_day<S: Alter, W: Write>(
     alloc: Global,
     table: DayTable,
     date: &str,
     zone: &str,
     conn: Connection<S>,
-    reader: &mut R,
     writer: &mut W,
 ) -> (Connection<S>, Result<u64, Fault>)
     requires { conn.in_transaction ≡ false }
     ensures clean { doubt (state S.Store conn).is_clean ≤ doubt (state S.Store result.0).is_clean }
     ensures told { HasCleanDisk (state S.Store result.0)
-        → TellsReported table date.now zone.now S.Store (R.remaining reader.old) (R.remaining reader.new)
-        (W.contents writer.old) (W.contents writer.new) conn result.0 result.1 }
+        → TellsReported table date.now zone.now S.Store (W.contents writer.old) (W.contents writer.new) conn result.0 result.1 }
     ensures kept { HasCleanDisk (state S.Store result.0) → (s : Operator)
         → TreesStandFor s (state S.Store conn).now.trees → IsTrue (state S.Store conn).is_open
         → AllLeft (state S.Store result.0) (TreesStandFor s) }

@@ -18,7 +18,7 @@ use bike_feeds::{Feed, FeedFault, write_feed};
 use bike_fixed::Moment;
 use sqlite::{Alter, Connection};
 use std::alloc::Global;
-use std::io::{Read, Write};
+use std::io::Write;
 
 /// The moment that is asked for, or the clock's where none is.
 pub(crate) fn moment_of(at: Option<Moment>, clock: Option<Moment>) -> Option<Moment>
@@ -58,7 +58,7 @@ fn publish_for<S: Alter, W: Write>(
     told(published)
 }
 
-/// Writes the feed of a desk for a moment; `ReadFailed` where the clock gave none.
+/// Writes the feed of a desk for a moment; `NoClock` where the clock gave none.
 fn publish_at<S: Alter, W: Write>(
     alloc: Global,
     desk: &mut Desk<S>,
@@ -74,37 +74,35 @@ fn publish_at<S: Alter, W: Write>(
 {
     match moment {
         Some(moment) => publish_for(alloc, desk, feed, moment, writer),
-        None => Err(Fault::ReadFailed),
+        None => Err(Fault::NoClock),
     }
 }
 
-/// What is told of a feed of a database that has none of the product's tables: no system is set. `ReadFailed` where the clock gave no
+/// What is told of a feed of a database that has none of the product's tables: no system is set. `NoClock` where the clock gave no
 /// moment.
 fn publish_nobodys(moment: Option<Moment>) -> Result<u64, Fault>
     ensures { (feed : Feed) (written : _) → TellsFeed no_operator feed moment written written result }
 {
     match moment {
         Some(_) => Err(Fault::SystemMissing),
-        None => Err(Fault::ReadFailed),
+        None => Err(Fault::NoClock),
     }
 }
 
-/// Looks at the database over a connection outside a transaction and writes a feed of it. Nothing is read, and nothing of the database
-/// changes: what a crash may leave of it is what it could leave before. Gives the connection back with the number 0, or with the fault at
-/// which that ended: of a database with none of the product's tables `SystemMissing`.
-pub fn publish<S: Alter, R: Read, W: Write>(
+/// Looks at the database over a connection outside a transaction and writes a feed of it. Nothing of the database changes: what a crash
+/// may leave of it is what it could leave before. Gives the connection back with the number 0, or with the fault at which that ended: of
+/// a database with none of the product's tables `SystemMissing`.
+pub fn publish<S: Alter, W: Write>(
     alloc: Global,
     feed: Feed,
     moment: Option<Moment>,
     conn: Connection<S>,
-    reader: &mut R,
     writer: &mut W,
 ) -> (Connection<S>, Result<u64, Fault>)
     requires { conn.in_transaction ≡ false }
     ensures clean { doubt (state S.Store conn).is_clean ≤ doubt (state S.Store result.0).is_clean }
     ensures told { HasCleanDisk (state S.Store result.0)
-        → TellsPublished S.Store (R.remaining reader.old) (R.remaining reader.new)
-        (W.contents writer.old) (W.contents writer.new) conn result.0 feed moment result.1 }
+        → TellsPublished S.Store (W.contents writer.old) (W.contents writer.new) conn result.0 feed moment result.1 }
     ensures kept { HasCleanDisk (state S.Store result.0) → (s : Operator)
         → TreesStandFor s (state S.Store conn).now.trees → IsTrue (state S.Store conn).is_open
         → AllLeft (state S.Store result.0) (TreesStandFor s) }

@@ -7,24 +7,23 @@ ghost use Rattle.sqlite_wal.specs.Files.{image_at};
 ghost use Rattle.bike_operator.specs.Operator.{Operator};
 ghost use Rattle.bike_schema.specs.Stands.{AllLeft};
 ghost use Rattle.bike_console.specs.Files.{HoldsOperator};
-ghost use Rattle.bike_command_line.specs.Program.{IsWithin};
-ghost use Rattle.bike_app.specs.Words.{MayStand, ServesSockets};
+ghost use Rattle.bike_command_line.specs.Program.{IsWithinOnFile};
+ghost use Rattle.bike_app.specs.Words.{MayStand};
 ghost use Rattle.bike_app.specs.Files.{DoesOverFile, EndsOnFile, IsAlone, IsUntouched, settles};
 
 use crate::words::run_words;
 use bike_adoption::Watch;
-use bike_command_line::Task;
+use bike_command_line::FileTask;
 use bike_console::{Fault, NewLog, Remains, open_file, prepare_file, settle};
 use bike_fixed::Moment;
 use sqlite::{Connection, FileFrom, FileStore, Start};
 use std::io::{Read, Write};
 
-/// Does what the words ask, but for `Serve`, over the database file at a path, as `run_words` does over the database that the file's
-/// bytes hold. Gives the connection back, none where the file couldn't be opened: then nothing was read, nothing written, and the fault
-/// is that of the opening.
+/// Does the task over the database file at a path, as `run_words` does over the database that the file's bytes hold. Gives the connection
+/// back, none where the file couldn't be opened: then nothing was read, nothing written, and the fault is that of the opening.
 pub fn run_file<F: Start, R: Read, W: Write, P: Watch>(
     rt: &HostRuntime,
-    task: &Task<'_>,
+    task: &FileTask<'_>,
     clock: Option<Moment>,
     path: &str,
     start: F,
@@ -35,8 +34,7 @@ pub fn run_file<F: Start, R: Read, W: Write, P: Watch>(
     Option<Connection<FileStore<FileFrom<F>>>>,
     Result<u64, Fault>,
 )
-    requires streams { ServesSockets task.now → ⊥ }
-    requires within { IsWithin task.now }
+    requires within { IsWithinOnFile task.now }
     ensures done { IfSome result.0 (λ last. HasCleanDisk (file_state last)
         → DoesOverFile (image_at F.Start) (R.remaining reader.old) (R.remaining reader.new)
         (W.contents writer.old) (W.contents writer.new) task.now clock last result.1) }
@@ -54,33 +52,33 @@ pub fn run_file<F: Start, R: Read, W: Write, P: Watch>(
     }
 }
 
-/// Whether the words make the database file where there is none.
-fn may_make(task: &Task<'_>) -> bool {
+/// Whether the task makes the database file where there is none.
+fn may_make(task: &FileTask<'_>) -> bool {
     match task {
-        Task::Init | Task::Lines | Task::Import { .. } | Task::Serve { .. } => true,
-        Task::Check | Task::Feed { .. } | Task::Day { .. } | Task::Raise => false,
+        FileTask::Init | FileTask::Lines | FileTask::Import { .. } => true,
+        FileTask::Check | FileTask::Feed { .. } | FileTask::Day { .. } | FileTask::Raise => false,
     }
 }
 
-/// Whether the log is brought into the file at the end of these words, so that the file is the whole database by itself.
-fn settles(task: &Task<'_>) -> bool
+/// Whether the log is brought into the file at the end of the task, so that the file is the whole database by itself.
+fn settles(task: &FileTask<'_>) -> bool
     ensures { result ≡ settles task.now }
 {
     match task {
-        Task::Init | Task::Raise | Task::Lines | Task::Import { .. } => true,
-        Task::Check | Task::Feed { .. } | Task::Day { .. } | Task::Serve { .. } => false,
+        FileTask::Init | FileTask::Raise | FileTask::Lines | FileTask::Import { .. } => true,
+        FileTask::Check | FileTask::Feed { .. } | FileTask::Day { .. } => false,
     }
 }
 
-/// Does what the words ask, but for `Serve`, over the database file at a path, as `run_file` does, from the path on to the closing.
-/// Words that only look, and `Raise`, make no file: where there is none that is `StoreFailed`. A log that may hold commits and has no
-/// file, or an empty one, is `StoreFailed` for all words, and stays. Words that may change the database bring the log into the file at
-/// their end, so that after a number the file is the whole database by itself; where that fails, they end with `StoreFailed`, and the
-/// file and its log are the database together. Words that only look, and a file that is refused, leave no log where there was none. Gives
-/// back what is left of the connection, none where no file was opened, and how the words ended.
+/// Does the task over the database file at a path, as `run_file` does, from the path on to the closing. Tasks that only look, and
+/// `Raise`, make no file: where there is none that is `StoreFailed`. A log that may hold commits and has no file, or an empty one, is
+/// `StoreFailed` for all tasks, and stays. Tasks that may change the database bring the log into the file at their end, so that after a
+/// number the file is the whole database by itself; where that fails, they end with `StoreFailed`, and the file and its log are the
+/// database together. Tasks that only look, and a file that is refused, leave no log where there was none. Gives back what is left of the
+/// connection, none where no file was opened, and how the task ended.
 pub fn run_on_file<F: Start, R: Read, W: Write, P: Watch>(
     rt: &HostRuntime,
-    task: &Task<'_>,
+    task: &FileTask<'_>,
     clock: Option<Moment>,
     path: &str,
     start: F,
@@ -88,8 +86,7 @@ pub fn run_on_file<F: Start, R: Read, W: Write, P: Watch>(
     writer: &mut W,
     watch: &mut P,
 ) -> (Option<Remains<FileFrom<F>>>, Result<u64, Fault>)
-    requires streams { ServesSockets task.now → ⊥ }
-    requires within { IsWithin task.now }
+    requires within { IsWithinOnFile task.now }
     ensures done { EndsOnFile (image_at F.Start) (R.remaining reader.old) (R.remaining reader.new)
         (W.contents writer.old) (W.contents writer.new) task.now clock result.0 result.1 }
     ensures alone { IfOk result.1 (λ count. settles task.now ≡ true → IsAlone result.0) }

@@ -67,7 +67,7 @@ fn import_named<S: Alter, R: Read>(
     import_stations(alloc, desk, moment, &name, reader)
 }
 
-/// Imports the input into a desk and tells that; `ReadFailed` where the clock gave no moment.
+/// Imports the input into a desk and tells that; `NoClock` where the clock gave no moment.
 fn import_at<S: Alter, R: Read, W: Write>(
     alloc: Global,
     desk: &mut Desk<S>,
@@ -87,14 +87,15 @@ fn import_at<S: Alter, R: Read, W: Write>(
             let imported = import_named(alloc, desk, name, moment, reader);
             tell_rows(imported, writer)
         }
-        None => Err(Fault::ReadFailed),
+        None => Err(Fault::NoClock),
     }
 }
 
 /// Takes the connection, which is outside a transaction, into service and imports the stations of the input, a CSV table, as the
 /// caller `import:NAME`. Where all its rows are accepted the line `rows N` tells their number, and at a fault there is no line. Gives
 /// the connection back with the number of rows, or with the fault at which that ended: `BadHeader`, `RowUnreadable` and `RowRefused`
-/// come for the table, whose rows before that stay, and `ReadFailed` also where the clock gave no moment.
+/// come for the table, whose rows before that stay, `ReadFailed` where the input fails or is too long, and `NoClock` where the clock
+/// gave no moment.
 pub fn import_from<S: Alter, R: Read, W: Write>(
     alloc: Global,
     name: &str,

@@ -16,22 +16,20 @@ use bike_console::Fault;
 use bike_migrate::raise_watched;
 use sqlite::{Alter, Connection};
 use std::alloc::Global;
-use std::io::{Read, Write};
+use std::io::Write;
 
 /// Raises the database to the newest version, as `raise` of `bike_migrate` does, and tells that by the line `version` with its number.
-/// Nothing is read. `watch` is told how far the audit is.
-pub fn raise_up<S: Alter, R: Read, W: Write, P: Watch>(
+/// `watch` is told how far the audit is.
+pub fn raise_up<S: Alter, W: Write, P: Watch>(
     alloc: Global,
     conn: Connection<S>,
-    reader: &mut R,
     writer: &mut W,
     watch: &mut P,
 ) -> (Connection<S>, Result<u64, Fault>)
     requires { conn.in_transaction ≡ false }
     ensures clean { doubt (state S.Store conn).is_clean ≤ doubt (state S.Store result.0).is_clean }
     ensures told { HasCleanDisk (state S.Store result.0)
-        → TellsRaised S.Store (R.remaining reader.old) (R.remaining reader.new)
-        (W.contents writer.old) (W.contents writer.new) conn result.0 result.1 }
+        → TellsRaised S.Store (W.contents writer.old) (W.contents writer.new) conn result.0 result.1 }
     ensures left { HasCleanDisk (state S.Store result.0) → (v : _) (s : Operator)
         → TreesStandForAt v s (state S.Store conn).now.trees → IsTrue (state S.Store conn).is_open
         → AllLeft (state S.Store result.0) (TreesStandSince v s) }

@@ -7,9 +7,9 @@ ghost use Rattle.sqlite_trees.specs.View.{doubt};
 ghost use Rattle.bike_operator.specs.Operator.{Operator};
 ghost use Rattle.bike_schema.specs.Stands.{AllLeft, TreesStandFor};
 ghost use Rattle.bike_adoption.specs.Adoption.{LeavesAll};
-ghost use Rattle.bike_command_line.specs.Program.{IsWithin};
+ghost use Rattle.bike_command_line.specs.Program.{IsWithinOnFile};
 ghost use Rattle.bike_app.specs.Raises.{WritesLine};
-ghost use Rattle.bike_app.specs.Words.{Does, DoesInMemory, Looks, MayStand, ServesSockets, TellsLookedAt, TellsTakenUp};
+ghost use Rattle.bike_app.specs.Words.{Does, DoesInMemory, Looks, MayStand, TellsLookedAt, TellsTakenUp};
 
 use crate::day::report_day;
 use crate::feed::{moment_of, publish};
@@ -17,7 +17,7 @@ use crate::import::import_from;
 use crate::program::serve;
 use crate::raise::raise_up;
 use bike_adoption::{Looked, Unwatched, Watch, adopt_watched, look};
-use bike_command_line::Task;
+use bike_command_line::FileTask;
 use bike_console::Fault;
 use bike_fixed::Moment;
 use bike_stream::write_whole;
@@ -36,19 +36,17 @@ pub(crate) fn write_line<W: Write>(writer: &mut W, line: &str) -> Result<u64, Fa
 }
 
 /// Takes the connection into service, and tells that by this line.
-fn take_up<S: Alter, R: Read, W: Write, P: Watch>(
+fn take_up<S: Alter, W: Write, P: Watch>(
     alloc: Global,
     line: &str,
     conn: Connection<S>,
-    reader: &mut R,
     writer: &mut W,
     watch: &mut P,
 ) -> (Connection<S>, Result<u64, Fault>)
     requires { conn.in_transaction ≡ false }
     ensures clean { doubt (state S.Store conn).is_clean ≤ doubt (state S.Store result.0).is_clean }
     ensures told { HasCleanDisk (state S.Store result.0)
-        → TellsTakenUp S.Store (R.remaining reader.old) (R.remaining reader.new)
-        (W.contents writer.old) (W.contents writer.new) conn result.0 line.now result.1 }
+        → TellsTakenUp S.Store (W.contents writer.old) (W.contents writer.new) conn result.0 line.now result.1 }
     ensures kept { HasCleanDisk (state S.Store result.0) → (s : Operator)
         → TreesStandFor s (state S.Store conn).now.trees → IsTrue (state S.Store conn).is_open
         → AllLeft (state S.Store result.0) (TreesStandFor s) }
@@ -63,19 +61,17 @@ fn take_up<S: Alter, R: Read, W: Write, P: Watch>(
 }
 
 /// Looks at the database, which stays as it is, and tells by this line that it may be served.
-fn look_over<S: Alter, R: Read, W: Write, P: Watch>(
+fn look_over<S: Alter, W: Write, P: Watch>(
     alloc: Global,
     line: &str,
     conn: Connection<S>,
-    reader: &mut R,
     writer: &mut W,
     watch: &mut P,
 ) -> (Connection<S>, Result<u64, Fault>)
     requires { conn.in_transaction ≡ false }
     ensures clean { doubt (state S.Store conn).is_clean ≤ doubt (state S.Store result.0).is_clean }
     ensures told { HasCleanDisk (state S.Store result.0)
-        → TellsLookedAt S.Store (R.remaining reader.old) (R.remaining reader.new)
-        (W.contents writer.old) (W.contents writer.new) conn result.0 line.now result.1 }
+        → TellsLookedAt S.Store (W.contents writer.old) (W.contents writer.new) conn result.0 line.now result.1 }
     ensures kept { HasCleanDisk (state S.Store result.0) → (s : Operator)
         → TreesStandFor s (state S.Store conn).now.trees → IsTrue (state S.Store conn).is_open
         → AllLeft (state S.Store result.0) (TreesStandFor s) }
@@ -91,15 +87,15 @@ fn look_over<S: Alter, R: Read, W: Write, P: Watch>(
     }
 }
 
-/// Does what the words ask, but for `Serve`, over the connection, which is outside a transaction: `Init` takes it into service and tells that
-/// by the line `ready`, `Raise` raises it to the newest version, as `raise_up` does, `Lines` serves the input, as `serve` does, and
-/// `Import` takes the input's stations in, as `import_from`. `Check` looks at it and tells by the line `sound` that it may be served, `Feed`
-/// writes a feed, as `publish` does, and `Day` a table, as `report_day`: these three change nothing, and make no tables. Where a feed or
-/// an import is asked for at no moment, it is the clock's. Gives the connection back with the number of lines or rows served, or with
-/// the fault at which that ended. `watch` is told how far `Init`, `Check` and `Raise` are.
+/// Does the task over the connection, which is outside a transaction: `Init` takes it into service and tells that by the line `ready`,
+/// `Raise` raises it to the newest version, as `raise_up` does, `Lines` serves the input, as `serve` does, and `Import` takes the input's
+/// stations in, as `import_from`. `Check` looks at it and tells by the line `sound` that it may be served, `Feed` writes a feed, as
+/// `publish` does, and `Day` a table, as `report_day`: these three change nothing, and make no tables. Only `Lines` and `Import` read the
+/// input. Where a feed or an import is asked for at no moment, it is the clock's. Gives the connection back with the number of lines or
+/// rows served, or with the fault at which that ended. `watch` is told how far `Init`, `Check` and `Raise` are.
 pub fn run_words<S: Alter, R: Read, W: Write, P: Watch>(
     alloc: Global,
-    task: &Task<'_>,
+    task: &FileTask<'_>,
     clock: Option<Moment>,
     conn: Connection<S>,
     reader: &mut R,
@@ -107,8 +103,7 @@ pub fn run_words<S: Alter, R: Read, W: Write, P: Watch>(
     watch: &mut P,
 ) -> (Connection<S>, Result<u64, Fault>)
     requires outside { conn.in_transaction ≡ false }
-    requires streams { ServesSockets task.now → ⊥ }
-    requires within { IsWithin task.now }
+    requires within { IsWithinOnFile task.now }
     ensures clean { doubt (state S.Store conn).is_clean ≤ doubt (state S.Store result.0).is_clean }
     ensures done { HasCleanDisk (state S.Store result.0)
         → Does S.Store (R.remaining reader.old) (R.remaining reader.new)
@@ -119,36 +114,33 @@ pub fn run_words<S: Alter, R: Read, W: Write, P: Watch>(
     ensures stays { Looks task.now → LeavesAll S.Store conn result.0 }
 {
     match task {
-        Task::Init => take_up(alloc, "ready\n", conn, reader, writer, watch),
-        Task::Check => look_over(alloc, "sound\n", conn, reader, writer, watch),
-        Task::Raise => raise_up(alloc, conn, reader, writer, watch),
-        Task::Lines => serve(alloc, conn, reader, writer),
-        Task::Feed { feed, at } => {
+        FileTask::Init => take_up(alloc, "ready\n", conn, writer, watch),
+        FileTask::Check => look_over(alloc, "sound\n", conn, writer, watch),
+        FileTask::Raise => raise_up(alloc, conn, writer, watch),
+        FileTask::Lines => serve(alloc, conn, reader, writer),
+        FileTask::Feed { feed, at } => {
             let moment = moment_of(*at, clock);
-            publish(alloc, *feed, moment, conn, reader, writer)
+            publish(alloc, *feed, moment, conn, writer)
         }
-        Task::Day { table, date, zone } => {
-            report_day(alloc, *table, date, zone, conn, reader, writer)
+        FileTask::Day { table, date, zone } => {
+            report_day(alloc, *table, date, zone, conn, writer)
         }
-        Task::Import { name, at } => {
+        FileTask::Import { name, at } => {
             let moment = moment_of(*at, clock);
             import_from(alloc, name, moment, conn, reader, writer)
         }
-        // No caller asks for it.
-        Task::Serve { port: _, count: _ } => (conn, Err(Fault::ReadFailed)),
     }
 }
 
-/// Does what the words ask, but for `Serve`, over a database in memory, which is made for it and let go at the end.
+/// Does the task over a database in memory, which is made for it and let go at the end.
 pub fn run_words_in_memory<R: Read, W: Write>(
     alloc: Global,
-    task: &Task<'_>,
+    task: &FileTask<'_>,
     clock: Option<Moment>,
     reader: &mut R,
     writer: &mut W,
 ) -> Result<u64, Fault>
-    requires streams { ServesSockets task.now → ⊥ }
-    requires within { IsWithin task.now }
+    requires within { IsWithinOnFile task.now }
     ensures { DoesInMemory (R.remaining reader.old) (R.remaining reader.new)
         (W.contents writer.old) (W.contents writer.new) task.now clock result }
 {

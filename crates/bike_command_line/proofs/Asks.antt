@@ -23,7 +23,8 @@ use Rattle.bike_command_line.specs.Names.{word_name}
 use Rattle.bike_command_line.specs.declared.word.Word.{Word}
 use Rattle.bike_command_line.specs.declared.word.Word.TheVariants as word
 use Rattle.bike_command_line.specs.declared.task.Task.{Task}
-use Rattle.bike_command_line.specs.declared.task.Task.TheVariants.{Init, Check, Raise, Lines, Feed, Day, Import, Serve}
+use Rattle.bike_command_line.specs.declared.task.Task.TheVariants.{OnFile, Serve}
+use Rattle.bike_command_line.specs.declared.task.FileTask.TheVariants.{Init, Check, Raise, Lines, Feed, Day, Import}
 use Rattle.bike_command_line.proofs.Entered.{Enters, fault_entered, subcommand_entered}
 use Rattle.bike_command_line.proofs.Numbers.{decimal_plain, read_back}
 use Rattle.bike_command_line.proofs.Plain.{ArePlain, Marked, fault_behind, level_marked, other, plain, rows_behind, rows_marked, text_of}
@@ -75,13 +76,13 @@ enters word.Import = record { bare = refl; stops = refl; finds = refl; named = r
 enters word.Serve = record { bare = refl; stops = refl; finds = refl; named = refl; turns = refl; ends = refl }
 
 task_enters : (task : Task) → Enters program (name_of task) (shape_of (name_of task))
-task_enters Init = enters word.Init
-task_enters Check = enters word.Check
-task_enters Raise = enters word.Raise
-task_enters Lines = enters word.Lines
-task_enters (Feed feed at) = enters word.Feed
-task_enters (Day table date zone) = enters word.Day
-task_enters (Import name at) = enters word.Import
+task_enters (OnFile Init) = enters word.Init
+task_enters (OnFile Check) = enters word.Check
+task_enters (OnFile Raise) = enters word.Raise
+task_enters (OnFile Lines) = enters word.Lines
+task_enters (OnFile (Feed feed at)) = enters word.Feed
+task_enters (OnFile (Day table date zone)) = enters word.Day
+task_enters (OnFile (Import name at)) = enters word.Import
 task_enters (Serve port count) = enters word.Serve
 
 -- what stands behind the task's word is this task on this file
@@ -109,23 +110,23 @@ import_by name at = option_and_then (λ name. option_map (λ at. want.Import nam
 abbrev pub serve_by : Option ℕ → Option ℕ → Option Wanted
 serve_by port count = option_and_then (λ port. option_map (λ count. want.Serve port count) (option_map (λ n. Some n) count)) port
 
-behind_init : (file : Text) → Behind Init file (plain file ∷ [])
+behind_init : (file : Text) → Behind (OnFile Init) file (plain file ∷ [])
 unfolding program clap_on_literals task_of
 behind_init file = record { free = refl; tells = refl; file_is = refl }
 
-behind_check : (file : Text) → Behind Check file (plain file ∷ [])
+behind_check : (file : Text) → Behind (OnFile Check) file (plain file ∷ [])
 unfolding program clap_on_literals task_of
 behind_check file = record { free = refl; tells = refl; file_is = refl }
 
-behind_raise : (file : Text) → Behind Raise file (plain file ∷ [])
+behind_raise : (file : Text) → Behind (OnFile Raise) file (plain file ∷ [])
 unfolding program clap_on_literals task_of
 behind_raise file = record { free = refl; tells = refl; file_is = refl }
 
-behind_lines : (file : Text) → Behind Lines file (plain file ∷ [])
+behind_lines : (file : Text) → Behind (OnFile Lines) file (plain file ∷ [])
 unfolding program clap_on_literals task_of
 behind_lines file = record { free = refl; tells = refl; file_is = refl }
 
-behind_feed : (feed : AnyFeed) (file name : Text) → feed_of name ≡ Some feed → Behind (Feed feed None) file (plain file ∷ plain name ∷ [])
+behind_feed : (feed : AnyFeed) (file name : Text) → feed_of name ≡ Some feed → Behind (OnFile (Feed feed None)) file (plain file ∷ plain name ∷ [])
 unfolding program clap_on_literals task_of
 behind_feed feed file name is = record {
   free = refl;
@@ -134,7 +135,7 @@ behind_feed feed file name is = record {
 }
 
 behind_feed_at : (feed : AnyFeed) (at : ℕ) (file name text : Text) → feed_of name ≡ Some feed → number_of 0 last_moment text ≡ Some at
-    → Behind (Feed feed (Some at)) file (plain file ∷ plain name ∷ other (codes "--at") ∷ plain text ∷ [])
+    → Behind (OnFile (Feed feed (Some at))) file (plain file ∷ plain name ∷ other (codes "--at") ∷ plain text ∷ [])
 unfolding program clap_on_literals task_of
 behind_feed_at feed at file name text is seconds = record {
   free = refl;
@@ -143,7 +144,7 @@ behind_feed_at feed at file name text is seconds = record {
 }
 
 behind_day : (table : DayTable) (date zone : Bor Text) (file name : Text) → table_of name ≡ Some table
-    → Behind (Day table date zone) file (plain file ∷ plain name ∷ plain date.now ∷ plain zone.now ∷ [])
+    → Behind (OnFile (Day table date zone)) file (plain file ∷ plain name ∷ plain date.now ∷ plain zone.now ∷ [])
 unfolding program clap_on_literals task_of
 behind_day table date zone file name is = record {
   free = refl;
@@ -153,7 +154,7 @@ behind_day table date zone file name is = record {
 
 -- all texts stand behind a `--`
 behind_day_all : (table : DayTable) (date zone : Bor Text) (file name : Text) → table_of name ≡ Some table
-    → Behind (Day table date zone) file (other (codes "--") ∷ other file ∷ other name ∷ other date.now ∷ other zone.now ∷ [])
+    → Behind (OnFile (Day table date zone)) file (other (codes "--") ∷ other file ∷ other name ∷ other date.now ∷ other zone.now ∷ [])
 unfolding program clap_on_literals task_of
 behind_day_all table date zone file name is = record {
   free = refl;
@@ -161,7 +162,7 @@ behind_day_all table date zone file name is = record {
   file_is = refl;
 }
 
-behind_import : (name : Bor Text) (file : Text) → ident_of name.now ≡ Some name.now → Behind (Import name None) file (plain file ∷ plain name.now ∷ [])
+behind_import : (name : Bor Text) (file : Text) → ident_of name.now ≡ Some name.now → Behind (OnFile (Import name None)) file (plain file ∷ plain name.now ∷ [])
 unfolding program clap_on_literals task_of
 behind_import name file is = record {
   free = refl;
@@ -170,12 +171,12 @@ behind_import name file is = record {
 }
 
 behind_import_at : (name : Bor Text) (at : ℕ) (file text : Text) → ident_of name.now ≡ Some name.now → number_of 0 last_moment text ≡ Some at
-    → Behind (Import name (Some at)) file (plain file ∷ plain name.now ∷ other (codes "--at") ∷ plain text ∷ [])
+    → Behind (OnFile (Import name (Some at))) file (plain file ∷ plain name.now ∷ other (codes "--at") ∷ plain text ∷ [])
 unfolding program clap_on_literals task_of
 behind_import_at name at file text is seconds = record { free = refl; tells = ap₂ import_by is seconds; file_is = refl }
 
 behind_import_all : (name : Bor Text) (file : Text) → ident_of name.now ≡ Some name.now
-    → Behind (Import name None) file (other (codes "--") ∷ other file ∷ other name.now ∷ [])
+    → Behind (OnFile (Import name None)) file (other (codes "--") ∷ other file ∷ other name.now ∷ [])
 unfolding program clap_on_literals task_of
 behind_import_all name file is = record {
   free = refl;
@@ -184,7 +185,7 @@ behind_import_all name file is = record {
 }
 
 behind_import_at_all : (name : Bor Text) (at : ℕ) (file text : Text) → ident_of name.now ≡ Some name.now → number_of 0 last_moment text ≡ Some at
-    → Behind (Import name (Some at)) file (other (codes "--at") ∷ plain text ∷ other (codes "--") ∷ other file ∷ other name.now ∷ [])
+    → Behind (OnFile (Import name (Some at))) file (other (codes "--at") ∷ plain text ∷ other (codes "--") ∷ other file ∷ other name.now ∷ [])
 unfolding program clap_on_literals task_of
 behind_import_at_all name at file text is seconds = record { free = refl; tells = ap₂ import_by is seconds; file_is = refl }
 
@@ -226,25 +227,25 @@ placed_asks : (task : Task) (file : Text) (texts options : List Text) (some : Bo
 placed_asks task file texts options true is usual all = all
 placed_asks task file texts options false is usual all = usual is
 
-day_asks : (table : DayTable) (date zone : Bor Text) (file : Text) → Ask (words_for (Day table date zone) file) (Day table date zone) file
+day_asks : (table : DayTable) (date zone : Bor Text) (file : Text) → Ask (words_for (OnFile (Day table date zone)) file) (OnFile (Day table date zone)) file
 day_asks table date zone file =
-    let task = Day table date zone in
+    let task = OnFile (Day table date zone) in
     let name = table_name table in
     let texts = file ∷ name ∷ date.now ∷ zone.now ∷ [] in
     placed_asks task file texts [] (list_any starts_with_minus texts) refl
     (λ none. asks_by task file (map plain texts) (all_plain texts none) (behind_day table date zone file name (table_named table)))
     (asks_by task file (other (codes "--") ∷ map other texts) tt (behind_day_all table date zone file name (table_named table)))
 
-import_asks : (name : Bor Text) (at : Option ℕ) (file : Text) → IsWithin (Import name at) → Ask (words_for (Import name at) file) (Import name at) file
+import_asks : (name : Bor Text) (at : Option ℕ) (file : Text) → IsWithin (OnFile (Import name at)) → Ask (words_for (OnFile (Import name at)) file) (OnFile (Import name at)) file
 import_asks name None file within =
-    let task = Import name None in
+    let task = OnFile (Import name None) in
     let texts = file ∷ name.now ∷ [] in
     let is = ident_named name.now within.0 in
     placed_asks task file texts [] (list_any starts_with_minus texts) refl
     (λ none. asks_by task file (map plain texts) (all_plain texts none) (behind_import name file is))
     (asks_by task file (other (codes "--") ∷ map other texts) tt (behind_import_all name file is))
 import_asks name (Some at) file within =
-    let task = Import name (Some at) in
+    let task = OnFile (Import name (Some at)) in
     let texts = file ∷ name.now ∷ [] in
     let option = other (codes "--at") ∷ plain (decimal at) ∷ [] in
     let is = ident_named name.now within.0 in
@@ -256,19 +257,19 @@ import_asks name (Some at) file within =
     (asks_by task file (option ++ other (codes "--") ∷ map other texts) (no_minus, tt) (behind_import_at_all name at file (decimal at) is seconds))
 
 pub word_asks : (task : Task) (file : Text) → starts_with_minus file ≡ false → IsWithin task → Ask (words_for task file) task file
-word_asks Init file no_minus within = asks_by Init file (plain file ∷ []) (no_minus, tt) (behind_init file)
-word_asks Check file no_minus within = asks_by Check file (plain file ∷ []) (no_minus, tt) (behind_check file)
-word_asks Raise file no_minus within = asks_by Raise file (plain file ∷ []) (no_minus, tt) (behind_raise file)
-word_asks Lines file no_minus within = asks_by Lines file (plain file ∷ []) (no_minus, tt) (behind_lines file)
-word_asks (Feed feed None) file no_minus within =
-    asks_by (Feed feed None) file (plain file ∷ plain (feed_name feed) ∷ []) (no_minus, (feed_plain feed, tt))
+word_asks (OnFile Init) file no_minus within = asks_by (OnFile Init) file (plain file ∷ []) (no_minus, tt) (behind_init file)
+word_asks (OnFile Check) file no_minus within = asks_by (OnFile Check) file (plain file ∷ []) (no_minus, tt) (behind_check file)
+word_asks (OnFile Raise) file no_minus within = asks_by (OnFile Raise) file (plain file ∷ []) (no_minus, tt) (behind_raise file)
+word_asks (OnFile Lines) file no_minus within = asks_by (OnFile Lines) file (plain file ∷ []) (no_minus, tt) (behind_lines file)
+word_asks (OnFile (Feed feed None)) file no_minus within =
+    asks_by (OnFile (Feed feed None)) file (plain file ∷ plain (feed_name feed) ∷ []) (no_minus, (feed_plain feed, tt))
     (behind_feed feed file (feed_name feed) (feed_named feed))
-word_asks (Feed feed (Some at)) file no_minus within =
-    asks_by (Feed feed (Some at)) file (plain file ∷ plain (feed_name feed) ∷ other (codes "--at") ∷ plain (decimal at) ∷ [])
+word_asks (OnFile (Feed feed (Some at))) file no_minus within =
+    asks_by (OnFile (Feed feed (Some at))) file (plain file ∷ plain (feed_name feed) ∷ other (codes "--at") ∷ plain (decimal at) ∷ [])
     (no_minus, (feed_plain feed, (decimal_plain at (omega (arith, within)), tt)))
     (behind_feed_at feed at file (feed_name feed) (decimal at) (feed_named feed) (read_back 0 last_moment at (omega arith) (omega arith) within))
-word_asks (Day table date zone) file no_minus within = day_asks table date zone file
-word_asks (Import name at) file no_minus within = import_asks name at file within
+word_asks (OnFile (Day table date zone)) file no_minus within = day_asks table date zone file
+word_asks (OnFile (Import name at)) file no_minus within = import_asks name at file within
 word_asks (Serve port None) file no_minus within =
     asks_by (Serve port None) file (plain file ∷ other (codes "--port") ∷ plain (decimal port) ∷ [])
     (no_minus, (decimal_plain port (omega (arith, within.0)), tt))

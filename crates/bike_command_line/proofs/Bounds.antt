@@ -12,6 +12,7 @@ use Rattle.bike_command_line.specs.Asked.{Found, count_in, day_task, feed_in, fe
 use Rattle.bike_command_line.specs.Asked.{Wanted, Feed, Day, Import, Serve, table_in, task_in, task_of, value_in, want_of}
 use Rattle.bike_command_line.specs.declared.task.Task.{Task}
 use Rattle.bike_command_line.specs.declared.task.Task.TheVariants as task
+use Rattle.bike_command_line.specs.declared.task.FileTask.TheVariants as file
 
 abbrev Lies : ℕ → ℕ → ℕ → Type 0
 Lies low high n = (low ≤ n) × (n ≤ high)
@@ -24,13 +25,13 @@ IsGood (Serve port count) = (port ≤ 65535) × IfSome count (λ n. (1 ≤ n) ×
 IsGood _ = Unit
 
 good_within : (task : Task) → IsGood (want_of task) → IsWithin task
-good_within task.Init good = tt
-good_within task.Check good = tt
-good_within task.Raise good = tt
-good_within task.Lines good = tt
-good_within (task.Feed feed at) good = good
-good_within (task.Day table date zone) good = tt
-good_within (task.Import name at) good = good
+good_within (task.OnFile file.Init) good = tt
+good_within (task.OnFile file.Check) good = tt
+good_within (task.OnFile file.Raise) good = tt
+good_within (task.OnFile file.Lines) good = tt
+good_within (task.OnFile (file.Feed feed at)) good = good
+good_within (task.OnFile (file.Day table date zone)) good = tt
+good_within (task.OnFile (file.Import name at)) good = good
 good_within (task.Serve port count) good = good
 
 if_some : {A : Type 0} (o : Option A) (P : A → Type 0) → ((a : A) → o ≡ Some a → P a) → IfSome o P

@@ -12,6 +12,7 @@ use Rattle.bike_command_line.specs.Program.{program}
 use Rattle.bike_command_line.specs.declared.task.TheConstants.{MOST_CONNECTIONS}
 use Rattle.bike_command_line.specs.declared.task.Task.{Task}
 use Rattle.bike_command_line.specs.declared.task.Task.TheVariants as task
+use Rattle.bike_command_line.specs.declared.task.FileTask.TheVariants as file
 use Rattle.bike_command_line.specs.declared.reading.Words.{Words}
 use Rattle.bike_command_line.specs.declared.reading.WordsFault.{WordsFault}
 use Rattle.bike_command_line.specs.declared.reading.WordsFault.TheVariants.{NoMemory}
@@ -28,13 +29,13 @@ pub data Wanted : Type 0 where
   Serve : ℕ → Option ℕ → Wanted
 
 abbrev pub want_of : Task → Wanted
-want_of task.Init = Init
-want_of task.Check = Check
-want_of task.Raise = Raise
-want_of task.Lines = Lines
-want_of (task.Feed feed at) = Feed feed at
-want_of (task.Day table date zone) = Day table date.now zone.now
-want_of (task.Import name at) = Import name.now at
+want_of (task.OnFile file.Init) = Init
+want_of (task.OnFile file.Check) = Check
+want_of (task.OnFile file.Raise) = Raise
+want_of (task.OnFile file.Lines) = Lines
+want_of (task.OnFile (file.Feed feed at)) = Feed feed at
+want_of (task.OnFile (file.Day table date zone)) = Day table date.now zone.now
+want_of (task.OnFile (file.Import name at)) = Import name.now at
 want_of (task.Serve port count) = Serve port count
 
 -- what clap finds: the name of a word, with what stands behind it

@@ -12,16 +12,18 @@ use Rattle.bike_command_line.specs.declared.task.TheConstants.{MOST_CONNECTIONS}
 use Rattle.bike_command_line.specs.declared.task.Task.{Task}
 use Rattle.bike_command_line.specs.declared.word.Word.{Word}
 use Rattle.bike_command_line.specs.declared.word.Word.TheVariants as word
-use Rattle.bike_command_line.specs.declared.task.Task.TheVariants.{Init, Check, Raise, Lines, Feed, Day, Import, Serve}
+use Rattle.bike_command_line.specs.declared.task.Task.TheVariants.{OnFile, Serve}
+use Rattle.bike_command_line.specs.declared.task.FileTask.{FileTask}
+use Rattle.bike_command_line.specs.declared.task.FileTask.TheVariants.{Init, Check, Raise, Lines, Feed, Day, Import}
 
 abbrev pub name_of : Task → Text
-name_of Init = codes "init"
-name_of Check = codes "check"
-name_of Raise = codes "raise"
-name_of Lines = codes "lines"
-name_of (Feed feed at) = codes "feed"
-name_of (Day table date zone) = codes "day"
-name_of (Import name at) = codes "import"
+name_of (OnFile Init) = codes "init"
+name_of (OnFile Check) = codes "check"
+name_of (OnFile Raise) = codes "raise"
+name_of (OnFile Lines) = codes "lines"
+name_of (OnFile (Feed feed at)) = codes "feed"
+name_of (OnFile (Day table date zone)) = codes "day"
+name_of (OnFile (Import name at)) = codes "import"
 name_of (Serve port count) = codes "serve"
 
 -- a value that is told by its place
@@ -75,38 +77,41 @@ words_in_order texts options = if list_any starts_with_minus texts then options 
 
 -- the words for a task on a file, in the usual order
 abbrev pub words_for : Task → Text → List Text
-words_for Init file = codes "init" ∷ file ∷ []
-words_for Check file = codes "check" ∷ file ∷ []
-words_for Raise file = codes "raise" ∷ file ∷ []
-words_for Lines file = codes "lines" ∷ file ∷ []
-words_for (Feed feed at) file = codes "feed" ∷ file ∷ feed_name feed ∷ option_words (codes "--at") at
-words_for (Day table date zone) file = codes "day" ∷ words_in_order (file ∷ table_name table ∷ date.now ∷ zone.now ∷ []) []
-words_for (Import name at) file = codes "import" ∷ words_in_order (file ∷ name.now ∷ []) (option_words (codes "--at") at)
+words_for (OnFile Init) file = codes "init" ∷ file ∷ []
+words_for (OnFile Check) file = codes "check" ∷ file ∷ []
+words_for (OnFile Raise) file = codes "raise" ∷ file ∷ []
+words_for (OnFile Lines) file = codes "lines" ∷ file ∷ []
+words_for (OnFile (Feed feed at)) file = codes "feed" ∷ file ∷ feed_name feed ∷ option_words (codes "--at") at
+words_for (OnFile (Day table date zone)) file = codes "day" ∷ words_in_order (file ∷ table_name table ∷ date.now ∷ zone.now ∷ []) []
+words_for (OnFile (Import name at)) file = codes "import" ∷ words_in_order (file ∷ name.now ∷ []) (option_words (codes "--at") at)
 words_for (Serve port count) file = codes "serve" ∷ file ∷ codes "--port" ∷ decimal port ∷ option_words (codes "--count") count
 
 -- its numbers lie within their bounds, and the name of an import is spelled as an identifier
+abbrev pub IsWithinOnFile : FileTask → Type 0
+IsWithinOnFile (Feed feed at) = IfSome at (λ seconds. seconds ≤ last_moment)
+IsWithinOnFile (Import name at) = (is_ident name.now ≡ true) × IfSome at (λ seconds. seconds ≤ last_moment)
+IsWithinOnFile _ = Unit
+
 abbrev pub IsWithin : Task → Type 0
-IsWithin (Feed feed at) = IfSome at (λ seconds. seconds ≤ last_moment)
-IsWithin (Import name at) = (is_ident name.now ≡ true) × IfSome at (λ seconds. seconds ≤ last_moment)
+IsWithin (OnFile task) = IsWithinOnFile task
 IsWithin (Serve port count) = (port ≤ 65535) × IfSome count (λ n. (1 ≤ n) × (n ≤ MOST_CONNECTIONS))
-IsWithin _ = Unit
 
 -- the word that asks for the task
 abbrev pub word_of : Task → Word
-word_of Init = word.Init
-word_of Check = word.Check
-word_of Raise = word.Raise
-word_of Lines = word.Lines
-word_of (Feed feed at) = word.Feed
-word_of (Day table date zone) = word.Day
-word_of (Import name at) = word.Import
+word_of (OnFile Init) = word.Init
+word_of (OnFile Check) = word.Check
+word_of (OnFile Raise) = word.Raise
+word_of (OnFile Lines) = word.Lines
+word_of (OnFile (Feed feed at)) = word.Feed
+word_of (OnFile (Day table date zone)) = word.Day
+word_of (OnFile (Import name at)) = word.Import
 word_of (Serve port count) = word.Serve
 
 -- the word with what it takes, as a user is told
 abbrev pub form_of : Task → Text
-form_of (Feed feed at) = codes "feed FILE NAME [--at M]"
-form_of (Day table date zone) = codes "day FILE WHICH DATE ZONE"
-form_of (Import name at) = codes "import FILE NAME [--at M]"
+form_of (OnFile (Feed feed at)) = codes "feed FILE NAME [--at M]"
+form_of (OnFile (Day table date zone)) = codes "day FILE WHICH DATE ZONE"
+form_of (OnFile (Import name at)) = codes "import FILE NAME [--at M]"
 form_of (Serve port count) = codes "serve FILE --port P [--count N]"
 form_of task = name_of task ++ codes " FILE"
 

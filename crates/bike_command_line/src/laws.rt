@@ -7,7 +7,7 @@ ghost use Rattle.clap.specs.Words.{Text};
 ghost use Rattle.bike_command_line.specs.Program.{IsWithin, name_of, words_for};
 ghost use Rattle.bike_command_line.specs.Asked.{Ask, AskNothing};
 
-use crate::task::Task;
+use crate::task::{FileTask, Task};
 use bike_day_texts::DayTable;
 use bike_feed_texts::Feed;
 
@@ -19,7 +19,7 @@ use bike_feed_texts::Feed;
 pub fn word_laws()
     ensures file { (task : Task) (file : Text) → starts_with_minus file ≡ false → IsWithin task → Ask (words_for task file) task file }
     ensures within { (texts : List Text) (task : Task) (file : Text) → Ask texts task file → IsWithin task }
-    ensures dashes { Ask (codes "init" ∷ codes "--" ∷ codes "-f" ∷ []) Task.Init (codes "-f") }
+    ensures dashes { Ask (codes "init" ∷ codes "--" ∷ codes "-f" ∷ []) (Task.OnFile FileTask.Init) (codes "-f") }
     ensures bare { (task : Task) → AskNothing (name_of task ∷ []) }
     ensures second { AskNothing (codes "check" ∷ codes "f" ∷ codes "g" ∷ []) }
     ensures flag { AskNothing (codes "init" ∷ codes "-f" ∷ []) }
@@ -27,22 +27,22 @@ pub fn word_laws()
     ensures help { AskNothing (codes "help" ∷ []) }
     ensures flag_help { AskNothing (codes "--help" ∷ []) }
     ensures word_help { AskNothing (codes "lines" ∷ codes "--help" ∷ []) }
-    ensures feed { Ask (codes "feed" ∷ codes "f" ∷ codes "station_status" ∷ []) (Task.Feed Feed.StationStatus None) (codes "f") }
+    ensures feed { Ask (codes "feed" ∷ codes "f" ∷ codes "station_status" ∷ []) (Task.OnFile (FileTask.Feed Feed.StationStatus None)) (codes "f") }
     ensures feed_at { Ask (codes "feed" ∷ codes "f" ∷ codes "station_status" ∷ codes "--at" ∷ codes "1700000000" ∷ [])
-        (Task.Feed Feed.StationStatus (Some 1700000000)) (codes "f") }
+        (Task.OnFile (FileTask.Feed Feed.StationStatus (Some 1700000000))) (codes "f") }
     ensures no_feed { AskNothing (codes "feed" ∷ codes "f" ∷ codes "nothing" ∷ []) }
     ensures no_name { AskNothing (codes "feed" ∷ codes "f" ∷ []) }
     ensures signed { AskNothing (codes "feed" ∷ codes "f" ∷ codes "gbfs" ∷ codes "--at" ∷ codes "-1" ∷ []) }
     ensures tied { AskNothing (codes "feed" ∷ codes "f" ∷ codes "gbfs" ∷ codes "--at=-1" ∷ []) }
     ensures late { AskNothing (codes "feed" ∷ codes "f" ∷ codes "gbfs" ∷ codes "--at" ∷ codes "253402300800" ∷ []) }
     ensures day { (date zone : Bor Text) → date.now ≡ codes "x" → zone.now ≡ codes "-1"
-        → Ask (codes "day" ∷ codes "--" ∷ codes "f" ∷ codes "rentals" ∷ codes "x" ∷ codes "-1" ∷ []) (Task.Day DayTable.Rentals date zone) (codes "f") }
+        → Ask (codes "day" ∷ codes "--" ∷ codes "f" ∷ codes "rentals" ∷ codes "x" ∷ codes "-1" ∷ []) (Task.OnFile (FileTask.Day DayTable.Rentals date zone)) (codes "f") }
     ensures no_table { AskNothing (codes "day" ∷ codes "f" ∷ codes "riders" ∷ codes "2024-03-31" ∷ codes "UTC0" ∷ []) }
     ensures no_zone { AskNothing (codes "day" ∷ codes "f" ∷ codes "entries" ∷ codes "2024-03-31" ∷ []) }
     ensures import { (name : Bor Text) → name.now ≡ codes "harbor-2"
-        → Ask (codes "import" ∷ codes "f" ∷ codes "harbor-2" ∷ []) (Task.Import name None) (codes "f") }
+        → Ask (codes "import" ∷ codes "f" ∷ codes "harbor-2" ∷ []) (Task.OnFile (FileTask.Import name None)) (codes "f") }
     ensures import_at { (name : Bor Text) → name.now ≡ codes "harbor-2"
-        → Ask (codes "import" ∷ codes "f" ∷ codes "harbor-2" ∷ codes "--at" ∷ codes "1700000000" ∷ []) (Task.Import name (Some 1700000000)) (codes "f") }
+        → Ask (codes "import" ∷ codes "f" ∷ codes "harbor-2" ∷ codes "--at" ∷ codes "1700000000" ∷ []) (Task.OnFile (FileTask.Import name (Some 1700000000))) (codes "f") }
     ensures no_ident { AskNothing (codes "import" ∷ codes "f" ∷ codes "Harbor" ∷ []) }
     ensures unnamed { AskNothing (codes "import" ∷ codes "f" ∷ []) }
     ensures serve { Ask (codes "serve" ∷ codes "f" ∷ codes "--port" ∷ codes "8080" ∷ []) (Task.Serve 8080 None) (codes "f") }

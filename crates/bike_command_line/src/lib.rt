@@ -19,6 +19,6 @@ pub use help::{usage, usage_of};
 pub use laws::word_laws;
 pub use mistake::Mistake;
 pub use reading::{Words, WordsFault, read_words};
-pub use task::Task;
+pub use task::{FileTask, Task};
 pub use value::Value;
 pub use word::Word;

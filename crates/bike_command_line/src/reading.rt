@@ -12,7 +12,7 @@ ghost use Rattle.bike_command_line.specs.Told.{Against, IsOfValue, IsSo, Leads};
 
 use crate::mistake::Mistake;
 use crate::parsing::{matches_of, offence};
-use crate::task::{Task, Wrong, task_of, wanted_in};
+use crate::task::{FileTask, Task, Wrong, task_of, wanted_in};
 use crate::value::Value;
 use crate::word::Word;
 use clap::ArgMatches;
@@ -122,7 +122,7 @@ fn fault_in<'a>(
 /// name is none, where an import's name is no identifier, and where a number isn't the decimal of one within its bounds. It tells which
 /// word or value is wrong. `NoMemory` comes where memory is refused.
 pub fn read_words<'a>(alloc: Global, words: &'a [&'a str]) -> Result<Words<'a>, WordsFault<'a>>
-    ensures none { words.entry.now ≡ [] → IsOkAnd result (λ asked. (asked.task ≡ Task.Lines) × (asked.file.now ≡ codes ":memory:")) }
+    ensures none { words.entry.now ≡ [] → IsOkAnd result (λ asked. (asked.task ≡ Task.OnFile FileTask.Lines) × (asked.file.now ≡ codes ":memory:")) }
     ensures some { 0 < length words.entry.now → IfOk result (λ asked. Ask (map (λ w. w.now) words.entry.now) asked.task asked.file.now) }
     ensures within { IfOk result (λ asked. IsWithin asked.task) }
     ensures refused { (mistake : Mistake) → result ≡ Err (WordsFault.Usage mistake) → AskNothing (map (λ w. w.now) words.entry.now) }
@@ -134,7 +134,7 @@ pub fn read_words<'a>(alloc: Global, words: &'a [&'a str]) -> Result<Words<'a>, 
 {
     if words.is_empty() {
         return Ok(Words {
-            task: Task::Lines,
+            task: Task::OnFile(FileTask::Lines),
             file: ":memory:",
         });
     }

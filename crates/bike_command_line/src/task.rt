@@ -18,9 +18,23 @@ use clap::ArgMatches;
 /// After how many connections the serving ends at most, where it has an end.
 pub const MOST_CONNECTIONS: u64 = 1_000_000_000;
 
-/// What the program does with its file.
+/// What the program does.
 #[derive(Clone, Copy)]
 pub enum Task<'a> {
+    /// Does a task over the database, and ends.
+    OnFile(FileTask<'a>),
+    /// Answers HTTP requests.
+    Serve {
+        /// The port that is listened on, or 0 for a free one.
+        port: u16,
+        /// After how many connections that ends, from 1 to `MOST_CONNECTIONS`, or none for no end.
+        count: Option<u32>,
+    },
+}
+
+/// What the program does with its file.
+#[derive(Clone, Copy)]
+pub enum FileTask<'a> {
     /// Makes the tables where there are none.
     Init,
     /// Checks that the database is sound.
@@ -51,13 +65,6 @@ pub enum Task<'a> {
         name: &'a str,
         /// The import's moment, or none for the clock's.
         at: Option<Moment>,
-    },
-    /// Answers HTTP requests.
-    Serve {
-        /// The port that is listened on, or 0 for a free one.
-        port: u16,
-        /// After how many connections that ends, from 1 to `MOST_CONNECTIONS`, or none for no end.
-        count: Option<u32>,
     },
 }
 
@@ -159,7 +166,7 @@ fn feed_task<'a>(matches: &ArgMatches<'a>) -> Result<Task<'a>, Wrong<'a>>
 {
     let feed = feed_in(matches)?;
     let at = moment_in(matches)?;
-    Ok(Task::Feed { feed, at })
+    Ok(Task::OnFile(FileTask::Feed { feed, at }))
 }
 
 /// The table and its day.
@@ -169,7 +176,7 @@ fn day_task<'a>(matches: &ArgMatches<'a>) -> Result<Task<'a>, Wrong<'a>>
     let table = table_in(matches)?;
     let date = wanted_in(matches, Value::Date)?;
     let zone = wanted_in(matches, Value::Zone)?;
-    Ok(Task::Day { table, date, zone })
+    Ok(Task::OnFile(FileTask::Day { table, date, zone }))
 }
 
 /// The import's name and its moment.
@@ -178,7 +185,7 @@ fn import_task<'a>(matches: &ArgMatches<'a>) -> Result<Task<'a>, Wrong<'a>>
 {
     let name = import_in(matches)?;
     let at = moment_in(matches)?;
-    Ok(Task::Import { name, at })
+    Ok(Task::OnFile(FileTask::Import { name, at }))
 }
 
 /// The port and the number of connections.
@@ -196,10 +203,10 @@ pub(crate) fn task_of<'a>(word: Word, matches: &ArgMatches<'a>) -> Result<Task<'
     ensures { let found = subcommand_rows_of matches.now in IsRead word found want_of (task_of (word_name word) found) result }
 {
     match word {
-        Word::Init => Ok(Task::Init),
-        Word::Check => Ok(Task::Check),
-        Word::Raise => Ok(Task::Raise),
-        Word::Lines => Ok(Task::Lines),
+        Word::Init => Ok(Task::OnFile(FileTask::Init)),
+        Word::Check => Ok(Task::OnFile(FileTask::Check)),
+        Word::Raise => Ok(Task::OnFile(FileTask::Raise)),
+        Word::Lines => Ok(Task::OnFile(FileTask::Lines)),
         Word::Feed => feed_task(matches),
         Word::Day => day_task(matches),
         Word::Import => import_task(matches),

@@ -25,10 +25,11 @@ use Rattle.bike_lines.specs.declared.fault.LinesFault.{LinesFault}
 use Rattle.bike_lines.specs.declared.fault.LinesFault.TheVariants as lines
 use Rattle.bike_console.specs.declared.end.Fault.{Fault}
 use Rattle.bike_console.specs.declared.end.Fault.TheVariants.{SystemMissing, RowRefused, RowUnreadable, BadHeader, BadDate, BadZone, DayOutOfRange}
-use Rattle.bike_console.specs.declared.end.Fault.TheVariants.{StoreFailed, OutOfMemory, Foreign, Unsound, Older, Newer, ReadFailed, WriteFailed}
+use Rattle.bike_console.specs.declared.end.Fault.TheVariants.{StoreFailed, OutOfMemory, Foreign, Unsound, Older, Newer}
+use Rattle.bike_console.specs.declared.end.Fault.TheVariants.{ReadFailed, TooManyReads, WriteFailed, NoClock, BindFailed, AcceptFailed}
 use Rattle.bike_console.specs.Pieces.{key_text}
 
--- the word that a fault is told by
+-- the word that a fault is told by: of a port, a connection, a clock and too many reads that of a read that failed
 abbrev pub word_of : Fault → List ℕ
 word_of SystemMissing = codes "system missing"
 word_of (RowRefused number refusal) = codes "row"
@@ -44,7 +45,11 @@ word_of (Unsound bad) = codes "unsound"
 word_of (Older version) = codes "older"
 word_of (Newer version) = codes "newer"
 word_of ReadFailed = codes "read failed"
+word_of TooManyReads = codes "read failed"
 word_of WriteFailed = codes "write failed"
+word_of NoClock = codes "read failed"
+word_of BindFailed = codes "read failed"
+word_of AcceptFailed = codes "read failed"
 
 -- a row's number, and what is wrong with it
 abbrev pub row_detail : ℕ → List ℕ → List ℕ
@@ -74,7 +79,11 @@ fault_status (Unsound bad) = 5
 fault_status (Older version) = 5
 fault_status (Newer version) = 5
 fault_status ReadFailed = 6
+fault_status TooManyReads = 6
 fault_status WriteFailed = 6
+fault_status NoClock = 6
+fault_status BindFailed = 6
+fault_status AcceptFailed = 6
 
 -- a desk that was stopped is one whose store failed
 abbrev pub fault_of_desk : DeskFault → Fault
@@ -84,7 +93,7 @@ fault_of_desk desk.Stopped = StoreFailed
 
 abbrev pub lines_fault : LinesFault → Fault
 lines_fault lines.Read = ReadFailed
-lines_fault lines.TooManyReads = ReadFailed
+lines_fault lines.TooManyReads = TooManyReads
 lines_fault lines.Write = WriteFailed
 lines_fault (lines.Desk fault) = fault_of_desk fault
 

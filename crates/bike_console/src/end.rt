@@ -58,12 +58,21 @@ pub enum Fault {
     Newer(u64),
     /// The input failed.
     ReadFailed,
+    /// The input takes more reads than there may be.
+    TooManyReads,
     /// The output failed.
     WriteFailed,
+    /// The clock gave no moment.
+    NoClock,
+    /// The port can't be listened on.
+    BindFailed,
+    /// No connection can be accepted.
+    AcceptFailed,
 }
 
 impl Fault {
-    /// The first words of its line on standard error.
+    /// The first words of its line on standard error. An input of too many reads, and a clock, a port and a connection that fail, are told
+    /// as a read that failed.
     pub fn word(&self) -> &'static str
         ensures { result.now ≡ word_of self.now }
     {
@@ -80,7 +89,8 @@ impl Fault {
             Fault::Unsound(_) => "unsound",
             Fault::Older(_) => "older",
             Fault::Newer(_) => "newer",
-            Fault::ReadFailed => "read failed",
+            Fault::ReadFailed | Fault::TooManyReads | Fault::NoClock => "read failed",
+            Fault::BindFailed | Fault::AcceptFailed => "read failed",
             Fault::WriteFailed => "write failed",
         }
     }
@@ -95,7 +105,8 @@ impl Fault {
             Fault::StoreFailed => 3,
             Fault::OutOfMemory => 4,
             Fault::Foreign | Fault::Unsound(_) | Fault::Older(_) | Fault::Newer(_) => 5,
-            Fault::ReadFailed | Fault::WriteFailed => 6,
+            Fault::ReadFailed | Fault::TooManyReads | Fault::WriteFailed => 6,
+            Fault::NoClock | Fault::BindFailed | Fault::AcceptFailed => 6,
         }
     }
 
@@ -222,7 +233,8 @@ impl From<LinesFault> for Fault {
 
     fn from(fault: LinesFault) -> Fault {
         match fault {
-            LinesFault::Read | LinesFault::TooManyReads => Fault::ReadFailed,
+            LinesFault::Read => Fault::ReadFailed,
+            LinesFault::TooManyReads => Fault::TooManyReads,
             LinesFault::Write => Fault::WriteFailed,
             LinesFault::Desk(fault) => Fault::of_desk(fault),
         }

@@ -9,15 +9,16 @@ use Rattle.bike_schema.specs.Stands.{TreesStandFor}
 use Rattle.bike_adoption.specs.declared.adoption.AdoptFault.{AdoptFault}
 use Rattle.bike_adoption.specs.Adoption.{handed, IsToldOf, IsWant}
 use Rattle.bike_console.specs.declared.end.Fault.{Fault}
-use Rattle.bike_console.specs.declared.end.Fault.TheVariants.{StoreFailed, OutOfMemory, ReadFailed, WriteFailed}
+use Rattle.bike_console.specs.declared.end.Fault.TheVariants.{StoreFailed, OutOfMemory, WriteFailed, BindFailed, AcceptFailed}
 use Rattle.bike_console.specs.Ends.{adopt_fault}
 
--- a fault of serving itself: the store failed, or memory, accepting or the line that tells the port
+-- a fault of serving itself: the store failed, or memory, the port, the line that tells it, or accepting
 abbrev pub IsOfServing : Fault → Type 0
 IsOfServing StoreFailed = Unit {0}
 IsOfServing OutOfMemory = Unit {0}
-IsOfServing ReadFailed = Unit {0}
 IsOfServing WriteFailed = Unit {0}
+IsOfServing BindFailed = Unit {0}
+IsOfServing AcceptFailed = Unit {0}
 IsOfServing _ = ⊥
 
 -- the connection before and after, and what was written before and after

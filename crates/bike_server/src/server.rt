@@ -96,7 +96,7 @@ fn serve_arrival<S: Alter, A: Arrivals>(
 }
 
 /// Accepts so many connections, or all where there are fewer, and serves one request of each, at the moment of its acceptance. It
-/// ends early where accepting fails (`ReadFailed`) and where the desk is stopped (`StoreFailed`); a connection that fails ends
+/// ends early where accepting fails (`AcceptFailed`) and where the desk is stopped (`StoreFailed`); a connection that fails ends
 /// nothing.
 ///
 /// Whatever clients send and whatever becomes of the connections, a desk at an operator is at him after some list of requests; or it
@@ -118,13 +118,13 @@ pub fn serve_count<S: Alter, A: Arrivals>(
     ensures serves { HasCleanDisk (desk_state S.Store desk.new) → (s : Operator) → IsAt S.Store desk.old s
         → IfSome (A.known arrivals.old) (λ before. IsSomeAnd (A.known arrivals.new)
         (λ after. ServesInOrder S.Store desk.new s count before after result)) }
-    ensures faults { IfErr result IsOfServing }
+    ensures faults { IfErr result (λ fault. (fault ≡ Fault.StoreFailed) ⊎ (fault ≡ Fault.AcceptFailed)) }
 {
     for _turn in 0..count {
         match arrivals.accept() {
             Ok(Some(arrival)) => serve_arrival(alloc, desk, routes, arrivals, arrival),
             Ok(None) => return Ok(()),
-            Err(AcceptFault) => return Err(Fault::ReadFailed),
+            Err(AcceptFault) => return Err(Fault::AcceptFailed),
         }
         if desk.stopped() {
             return Err(Fault::StoreFailed);
@@ -133,14 +133,14 @@ pub fn serve_count<S: Alter, A: Arrivals>(
     Ok(())
 }
 
-/// A listener on this port of 127.0.0.1.
+/// A listener on this port of 127.0.0.1; `BindFailed` where there can be none.
 fn bind(rt: &HostRuntime, port: u16) -> Result<TcpListener, Fault>
-    ensures faults { IfErr result IsOfServing }
+    ensures faults { IfErr result (λ fault. (fault ≡ Fault.OutOfMemory) ⊎ (fault ≡ Fault.BindFailed)) }
 {
     let address = format!(in rt.alloc(); "127.0.0.1:{port}")?;
     match TcpListener::bind(rt, address.as_str()) {
         Ok(listener) => Ok(listener),
-        Err(_) => Err(Fault::ReadFailed),
+        Err(_) => Err(Fault::BindFailed),
     }
 }
 
@@ -151,7 +151,7 @@ fn has_descriptors(listener: &TcpListener) -> bool {
     first.is_ok() && second.is_ok()
 }
 
-/// Tells the port.
+/// Tells the port; `BindFailed` where the listener has none, and `WriteFailed` where the output fails.
 fn tell_port<W: Write>(
     rt: &HostRuntime,
     listener: &TcpListener,
@@ -160,7 +160,7 @@ fn tell_port<W: Write>(
     ensures faults { IfErr result IsOfServing }
 {
     let Ok(bound) = listener.local_addr() else {
-        return Err(Fault::ReadFailed);
+        return Err(Fault::BindFailed);
     };
     let line = format!(in rt.alloc(); "listening {bound}\n")?;
     match write_whole(writer, line.as_bytes()) {
@@ -169,7 +169,7 @@ fn tell_port<W: Write>(
     }
 }
 
-/// Listens on this port of 127.0.0.1 and tells it, and serves so many connections, or without end. `ReadFailed` where the process may
+/// Listens on this port of 127.0.0.1 and tells it, and serves so many connections, or without end. `AcceptFailed` where the process may
 /// not have the descriptors that a connection takes: each would end without an answer.
 fn listen_at<S: Alter, W: Write>(
     rt: &HostRuntime,
@@ -186,7 +186,7 @@ fn listen_at<S: Alter, W: Write>(
 {
     let listener = bind(rt, port)?;
     if !has_descriptors(&listener) {
-        return Err(Fault::ReadFailed);
+        return Err(Fault::AcceptFailed);
     }
     tell_port(rt, &listener, writer)?;
     let count = match count {
@@ -223,7 +223,7 @@ fn listen_all<S: Alter, W: Write>(
 
 /// Takes the connection, which is outside a transaction, into service, listens on this port of 127.0.0.1 (0: a free one), tells that by
 /// the line `listening 127.0.0.1:PORT`, and serves so many connections, or without end. Gives the connection back, with the fault where
-/// one ended that: a port that can't be bound is `ReadFailed`. Where the connection can't be taken into service, the fault tells why,
+/// one ended that: a port that can't be bound is `BindFailed`. Where the connection can't be taken into service, the fault tells why,
 /// and nothing is written or listened to.
 ///
 /// Where the database stood for an operator, all that a crash may then leave stands for him after some list of requests.

@@ -1,11 +1,10 @@
 //! The program `bikeshare`: it makes, checks or serves the database of a bike share, as its words say.
 #![tactic(auto)]
 
-ghost use Rattle.bike_command_line.specs.Program.{IsWithin};
-ghost use Rattle.bike_app.specs.Words.{ServesSockets};
+ghost use Rattle.bike_command_line.specs.Program.{IsWithin, IsWithinOnFile};
 
 use bike_app::{Counted, Fault, Progress, exit_code, run_on_file, run_words_in_memory};
-use bike_command_line::{Mistake, Task, Words, WordsFault, read_words};
+use bike_command_line::{FileTask, Mistake, Task, Words, WordsFault, read_words};
 use bike_server::{clock_moment, listen, listen_on_file};
 use sqlite::{Connection, Unknown};
 use std::alloc::{AllocError, Global};
@@ -35,23 +34,24 @@ fn lent(alloc: Global, texts: &[String]) -> Result<Vec<&str>, AllocError> {
 }
 
 /// Whether a person looks on while the task is done: it is long work, and standard error is a terminal.
-fn is_looked_on(rt: &HostRuntime, task: &Task<'_>) -> bool {
+fn is_looked_on(rt: &HostRuntime, task: &FileTask<'_>) -> bool {
     match task {
-        Task::Check | Task::Raise | Task::Import { .. } => rt.stderr().is_terminal(),
-        Task::Init | Task::Lines | Task::Feed { .. } | Task::Day { .. } | Task::Serve { .. } => {
-            false
-        }
+        FileTask::Check | FileTask::Raise | FileTask::Import { .. } => rt.stderr().is_terminal(),
+        FileTask::Init | FileTask::Lines | FileTask::Feed { .. } | FileTask::Day { .. } => false,
     }
 }
 
 /// Does a task over the database, with this output.
-fn run_on<W: Write>(rt: &HostRuntime, words: &Words<'_>, out: &mut W) -> Result<u64, Fault>
-    requires streams { ServesSockets words.now.task → ⊥ }
-    requires within { IsWithin words.now.task }
+fn run_on<W: Write>(
+    rt: &HostRuntime,
+    task: &FileTask<'_>,
+    file: &str,
+    out: &mut W,
+) -> Result<u64, Fault>
+    requires { IsWithinOnFile task.now }
 {
     let clock = clock_moment(rt);
-    let task = &words.task;
-    if words.file == ":memory:" {
+    if file == ":memory:" {
         return run_words_in_memory(rt.alloc(), task, clock, &mut rt.stdin(), out);
     }
     let is_shown = is_looked_on(rt, task);
@@ -62,7 +62,7 @@ fn run_on<W: Write>(rt: &HostRuntime, words: &Words<'_>, out: &mut W) -> Result<
         rt,
         task,
         clock,
-        words.file,
+        file,
         Unknown,
         &mut input,
         out,
@@ -86,15 +86,14 @@ fn finish<W: Write + Drop>(mut out: BufWriter<W>, end: Result<u64, Fault>) -> Re
     told
 }
 
-/// Does the task of words that ask for a long text, and writes that in large pieces.
-fn publish(rt: &HostRuntime, words: &Words<'_>) -> Result<u64, Fault>
-    requires streams { ServesSockets words.now.task → ⊥ }
-    requires within { IsWithin words.now.task }
+/// Does a task that writes a long text over the database, and writes that in large pieces.
+fn publish(rt: &HostRuntime, task: &FileTask<'_>, file: &str) -> Result<u64, Fault>
+    requires { IsWithinOnFile task.now }
 {
     let Ok(mut out) = BufWriter::with_capacity(rt.alloc(), PIECE, rt.stdout()) else {
         return Err(Fault::OutOfMemory);
     };
-    let end = run_on(rt, words, &mut out);
+    let end = run_on(rt, task, file, &mut out);
     finish(out, end)
 }
 
@@ -109,18 +108,26 @@ fn answer(rt: &HostRuntime, file: &str, port: u16, count: Option<u32>) -> Result
     end
 }
 
+/// Does a task over the database, with standard output.
+fn run_task(rt: &HostRuntime, task: &FileTask<'_>, file: &str) -> Result<u64, Fault>
+    requires { IsWithinOnFile task.now }
+{
+    match task {
+        FileTask::Feed { .. } | FileTask::Day { .. } => publish(rt, task, file),
+        FileTask::Init
+        | FileTask::Check
+        | FileTask::Raise
+        | FileTask::Lines
+        | FileTask::Import { .. } => run_on(rt, task, file, &mut rt.stdout()),
+    }
+}
+
 /// Opens the database and does what the words ask.
 fn run(rt: &HostRuntime, words: &Words<'_>) -> Result<u64, Fault>
     requires { IsWithin words.now.task }
 {
     match words.task {
-        Task::Init => run_on(rt, words, &mut rt.stdout()),
-        Task::Check => run_on(rt, words, &mut rt.stdout()),
-        Task::Raise => run_on(rt, words, &mut rt.stdout()),
-        Task::Lines => run_on(rt, words, &mut rt.stdout()),
-        Task::Import { .. } => run_on(rt, words, &mut rt.stdout()),
-        Task::Feed { .. } => publish(rt, words),
-        Task::Day { .. } => publish(rt, words),
+        Task::OnFile(task) => run_task(rt, &task, words.file),
         Task::Serve { port, count } => answer(rt, words.file, port, count),
     }
 }

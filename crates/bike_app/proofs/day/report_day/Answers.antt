@@ -28,7 +28,7 @@ returns-in-Ok-Sound-clause-stays g c clean =
 pub returns-in-Ok-Empty-clause-told : goal.returns-in-Ok-Empty-clause-told
 returns-in-Ok-Empty-clause-told g c clean =
     let it = (matched c.in-Ok-Empty.field-0-is c.in-Ok-Empty.ensures).seen clean in
-    inr (inr (record { same = it.0; none = it.1; told = c.report_nobodys-end.ensures _ }))
+    inr (inr (record { same = it.0; none = it.1; told = c.report_nobodys-end.ensures }))
 
 pub returns-in-Ok-Empty-clause-kept : goal.returns-in-Ok-Empty-clause-kept
 returns-in-Ok-Empty-clause-kept g c clean s stands live = (matched c.in-Ok-Empty.field-0-is c.in-Ok-Empty.ensures).left s stands live clean

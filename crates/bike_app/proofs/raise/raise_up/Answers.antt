@@ -18,7 +18,6 @@ returns-in-Err-clause-told g c clean =
       why = c.in-Err.ensures.told now;
       want = λ v s stands. c.in-Err.ensures.refused v s stands now;
       conn = c.taken_from_raise-conn.ensures.conn;
-      read = search rules;
       written = search rules;
     })
 

@@ -23,7 +23,6 @@ returns-in-Err-clause-told g c clean =
       why = c.in-Err.ensures.adopts.told now;
       want = λ s stands. c.in-Err.ensures.adopts.refused s stands now;
       conn = c.taken_from-conn.ensures.conn;
-      read = search rules;
       written = search rules;
     })
 

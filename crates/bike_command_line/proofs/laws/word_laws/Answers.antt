@@ -13,7 +13,8 @@ use Rattle.bike_command_line.specs.Program.{name_of, program}
 use Rattle.bike_command_line.specs.Asked.{Wanted, task_of, value_in}
 use Rattle.bike_command_line.specs.Asked as want
 use Rattle.bike_command_line.specs.declared.task.Task.{Task}
-use Rattle.bike_command_line.specs.declared.task.Task.TheVariants.{Init, Check, Raise, Lines, Feed, Day, Import, Serve}
+use Rattle.bike_command_line.specs.declared.task.Task.TheVariants.{OnFile, Serve}
+use Rattle.bike_command_line.specs.declared.task.FileTask.TheVariants.{Init, Check, Raise, Lines, Feed, Day, Import}
 use Rattle.bike_command_line.proofs.Asks.{feed_by, import_by, serve_by, word_asks}
 use Rattle.bike_command_line.proofs.Bounds.{found_within}
 use Rattle.bike_command_line.proofs.Numbers.{no_number, number_read}
@@ -22,13 +23,13 @@ use Rattle.bike_command_line.proofs.laws.word_laws.Goals as goal
 
 bare : (task : Task) → value_in (subcommand_of program (name_of task ∷ [])) (codes "file") ≡ None
 unfolding program clap_on_literals
-bare Init = refl
-bare Check = refl
-bare Raise = refl
-bare Lines = refl
-bare (Feed feed at) = refl
-bare (Day table date zone) = refl
-bare (Import name at) = refl
+bare (OnFile Init) = refl
+bare (OnFile Check) = refl
+bare (OnFile Raise) = refl
+bare (OnFile Lines) = refl
+bare (OnFile (Feed feed at)) = refl
+bare (OnFile (Day table date zone)) = refl
+bare (OnFile (Import name at)) = refl
 bare (Serve port count) = refl
 
 port_zero : number_of 0 65535 (codes "0") ≡ Some 0
