@@ -1,6 +1,6 @@
 //! HTTP/1.1 on the loopback address: one request a connection, one connection after the other.
 
-ghost use Rattle.std.specs.Prelude.{◌≡◌, ◌≤◌, ℕ, List, [], Some, IfSome, IsSomeAnd, IfErr, MatchResult, false, IsTrue, Err};
+ghost use Rattle.std.specs.Prelude.{◌≡◌, ◌≤◌, ◌⊎◌, ℕ, List, [], Some, IfSome, IsSomeAnd, IfErr, MatchResult, false, IsTrue, Err};
 ghost use Rattle.sqlite.specs.State.{HasCleanDisk};
 ghost use Rattle.sqlite.specs.Held.{state};
 ghost use Rattle.sqlite_trees.specs.View.{doubt};
