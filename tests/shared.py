@@ -556,6 +556,16 @@ def disturbed(program, words, given=b"", file="city.db", **how):
     return counted(ended, program.folder, file)
 
 
+def faulty(program, words, given=b"", **faults):
+    """Runs the program under these faults, and returns its status, its output and what it says."""
+    return disturbed(program, words, given, **faults)[:3]
+
+
+def faulty_exchange(program, request, **faults):
+    """Sends a request to a server of one connection under these faults: its status, the answer and what it says."""
+    return exchanged(program, request, env=environment(program.folder, "city.db", **faults))
+
+
 # ---- Many turns
 
 FAULTS = (AssertionError, sqlite3.Error, subprocess.TimeoutExpired, OSError)

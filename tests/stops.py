@@ -30,7 +30,8 @@ from pathlib import Path
 import shared
 from shared import DISTURBED, EINTR, EIO, ENOSPC, FAULTS, KILLED, NO_SYSTEM, ROOM, SOUND, STORE_FAILED, TOP, UNAVAILABLE
 from shared import WANTS, Program
-from shared import at_once, counted, environment, exchanged, get_feed, held, nothing_is, post, put, removed, taken, tell
+from shared import at_once, city, counted, environment, exchanged, faulty, get_feed, held, is_sound, nothing_is, post, put, quickly, removed
+from shared import rows_of, taken, tell
 
 STRIDE = int(os.environ.get("BIKESHARE_STOPS", "0"))
 FIRST = int(os.environ.get("BIKESHARE_STOPS_FIRST", "0"))
@@ -528,3 +529,28 @@ def test_ends_that_fail(program):
     each_turn(program, "end of which each call moves a byte", loses_an_end, "calls", fails, {"": 101, "lines of a new file": 701}, ONLY_ENDS=1, SHORT_FROM=1)
     takes = {"takes nothing": lambda at: {"SHORT_AT": at, "SHORT_BYTES": 0}}
     each_turn(program, "end", loses_an_end, "calls", takes, long_runs(3, 11), ONLY_ENDS=2)
+
+
+@quickly
+def test_stops_in_an_end(program):
+    """The bicycle is in its rental and the balance is 25.00, or it is in dock 1 and a fare is booked; sent again the end has its answer."""
+    city(program)
+    assert program.run("lines", "city.db", given=b"1700000000\trider:17\ts1\tstart\t17\ta1\t1\n") == (0, b"rental\t1\t7\n", b"")
+    parts, end = taken(program.folder, "city.db"), b"1700000000\tdock:a1\te1\tend\t7\ta1\t1\n"
+    fares = "(SELECT count(*) FROM entries WHERE kind = 2)"
+    query = f"SELECT balance, rental, station_id, dock, {fares} FROM riders, bikes WHERE rider = 17 AND bike = 7"
+    before, after, seen, calls = (2500, 1, None, None, 0), (2400, None, "a1", 1, 1), set(), 0
+    while calls < 200:
+        put(parts, program.folder, "city.db")
+        calls += 1
+        status, out, said = faulty(program, ["lines", "city.db"], end, STOP_AT=calls, ONLY_CHANGES=1, ENDS=1)
+        (found,) = rows_of(query, program.folder, "city.db")
+        is_sound(program)
+        assert found in (before, after) and out in (b"", b"fare\t100\t2400\n"), (calls, found, out)
+        assert not out or found == after, calls
+        seen.add(found)
+        assert program.run("lines", "city.db", given=end) == (0, b"fare\t100\t2400\n", b"") and rows_of(query, program.folder, "city.db") == [after], calls
+        if status == 0:
+            break
+        assert (status, said) == (KILLED, b""), (calls, status, said)
+    assert seen == {before, after} and 5 < calls < 200, (calls, seen)

@@ -1,10 +1,17 @@
-"""The words of the program: what it does with a file, and what it says where the words are none of its own."""
+"""The words of the program: what it does with a file, also with one that it refuses or that isn't there, what it says where the words are none
+of its own, and what it does at a moment that its clock can't tell."""
 
 import contextlib
 import os
 import sqlite3
+from pathlib import Path
 
-from shared import READY, SOUND, STORE_FAILED, is_whole, tells_mistake
+import adoption
+import days
+import formats
+import imports
+from shared import DONE, HEADER, READ_FAILED, READY, SOUND, STORE_FAILED, Server
+from shared import ask, changed, faulty, faulty_exchange, get, held, is_sound, is_whole, office, quickly, removed, rows_of, tells_mistake
 
 ADD = b"1700000000\toffice\tk0\tadd-rider\t17\n"
 ADD_AGAIN = b"1700000000\toffice\tk1\tadd-rider\t17\n"
@@ -233,3 +240,88 @@ def test_what_was_typed_is_shown_on_one_line(program):
 def test_words_that_are_not_utf_8(program):
     said = refused(program, "init", b"\xff")
     assert said == f"bikeshare: a word isn't UTF-8; wanted is UTF-8\n{helped(program, '--help')}", said
+
+
+# ---- Every word over a file that is refused, that others have tables in, or that isn't there
+
+
+EVERY_WORD = [
+    ["init", "city.db"], ["check", "city.db"], ["lines", "city.db"], ["feed", "city.db", "gbfs"], imports.IMPORT,
+    ["feed", "city.db", "station_status", "--at", "0"], ["day", "city.db", "entries", "2023-11-14", "UTC0"],
+    ["day", "city.db", "rentals", "2023-02-29", "UTC0"],
+    ["serve", "city.db", "--port", "0", "--count", "1"],
+]
+
+
+@quickly
+def test_no_word_serves_a_file_that_is_refused(program):
+    """Each says of it what `check` says, reads nothing, and changes no byte."""
+    city = adoption.made(program, "city.db").read_bytes()
+    file = Path(program.folder, "city.db")
+    for change, wanted in (
+        ("UPDATE riders SET balance = balance + 1 WHERE rider = 17", "unsound riders 17"), ("DELETE FROM meta", "unsound meta 1"),
+        ("UPDATE kept SET reply = 'no' WHERE req_key = 'k2'", "unsound kept office/k2"), ("UPDATE meta SET app = 'other'", "foreign"),
+        ("DROP TABLE counts", "foreign"), ("UPDATE meta SET version = 9", "newer 9"), ("UPDATE meta SET version = 1", "older 1"),
+        ("UPDATE meta SET version = 2", "older 2"), ("UPDATE more_names SET id = 'zz' WHERE kind = 'region'", "unsound more_names region/zz/de"),
+    ):
+        file.write_bytes(city)
+        changed(file, change)
+        before = file.read_bytes()
+        for words in EVERY_WORD:
+            ended = program.run(*words, given=HEADER.encode() + b"c1,Canal,45,9.1,10\n")
+            assert ended == (5, b"", wanted.encode() + b"\n"), (change, words, ended)
+            assert file.read_bytes() == before, (change, words)
+
+
+@quickly
+def test_tables_of_others_stay(program):
+    """A table of another name stays as it is, whatever the word."""
+    file = adoption.made(program, "city.db")
+    changed(file, "CREATE TABLE notes (note TEXT); INSERT INTO notes VALUES ('x'), (NULL), (7)")
+    wanted = rows_of("SELECT * FROM notes", program.folder, "city.db")
+    for words in EVERY_WORD[:-1]:
+        program.run(*words, given=b"1700009000\toffice\tn1\ttop-up\t17\t5\n" if words[0] == "lines" else (HEADER + "c1,Canal,45,9.1,10\n").encode())
+        assert rows_of("SELECT * FROM notes", program.folder, "city.db") == wanted, words
+    with Server(program, 1) as server:
+        assert server.ask(office("o1", "add-rider\t40")) == DONE
+    assert rows_of("SELECT * FROM notes", program.folder, "city.db") == wanted
+    is_sound(program)
+
+
+@quickly
+def test_files_that_are_not_there(program):
+    """Words that may change a city make the tables first, also where nothing is taken."""
+    for words, ended in (
+        (["init", "city.db"], (0, b"ready\n", b"")), (["lines", "city.db"], (0, b"", b"")),
+        (["import", "city.db", "spring"], (1, b"", b"bad header\n")),
+    ):
+        assert program.run(*words) == ended, words
+        assert rows_of("SELECT * FROM meta", program.folder, "city.db") == [(1, "bikeshare", 3, 0, 0, 0)], words
+        removed(program.folder, "city.db")
+
+
+def test_numbers_among_the_words(program):
+    """Numbers are spelled as in request lines."""
+    ask(program, days.CITY)
+    for text in "01", "+1", "-1", " 1", "1 ", "1.0", "1e3", "0x1", "", "١", "253402300800", "9" * 40:
+        for word, *more in ["feed", "gbfs", "--at", text], ["feed", "gbfs", f"--at={text}"], ["import", "spring", "--at", text]:
+            status, out, said = program.run(word, "city.db", *more, given=HEADER.encode())
+            assert (status, out) == (2, b"") and tells_mistake(said), (word, more, status, out, said)
+    for text in "0", "253402300799":
+        assert program.run("feed", "city.db", "gbfs", f"--at={text}")[0] == 0, text
+
+
+@quickly
+def test_a_clock_without_a_moment(program):
+    """Beyond the last moment the clock gives none. Only what asks it fails, and changes nothing."""
+    ask(program, days.CITY)
+    before = held(program.folder, "city.db")
+    late, table = {"CLOCK": formats.LAST_MOMENT + 1}, (HEADER + "c1,Canal,45,9.1,10\n").encode()
+    for words in ["feed", "city.db", "gbfs"], ["import", "city.db", "spring"]:
+        assert faulty(program, words, table, **late) == READ_FAILED, words
+    assert faulty_exchange(program, get("/riders/17"), **late) == READ_FAILED
+    assert held(program.folder, "city.db") == before
+    for word, *more in ["check"], ["init"], ["lines"], ["day", "entries", "2023-11-14", "UTC0"], ["feed", "gbfs", "--at", imports.AT]:
+        assert faulty(program, [word, "city.db", *more], **late)[0] == 0, word
+    assert faulty(program, imports.IMPORT, table, **late) == (0, b"rows 1\n", b"")
+    assert faulty(program, ["feed", "city.db", "gbfs"], CLOCK=formats.LAST_MOMENT)[1].startswith(b'{"last_updated":"9999-12-31T23:59:59Z"')
