@@ -1,16 +1,16 @@
 """Hostile inputs from a seeded generator: request lines, HTTP requests and words of the command line.
 
-Whatever comes, the program neither crashes nor hangs. Each line is answered exactly once, as the operator in model.py answers it; each
-connection gets one well-formed response, the one that docs/FORMATS.md, section 6, and the same operator demand where this file can tell it,
-or is closed; words end with a status of docs/OPERATOR.md, section 12, and its line. Afterwards `check` says `sound`, and the feeds tell
-all names that the operator has.
+Whatever comes, the program neither crashes nor hangs. Each line is answered exactly once, as the operator in model.py
+answers it; each connection gets one well-formed response, the one that docs/FORMATS.md, section 6, and the same
+operator demand where this file can tell it, or is closed; words end with a status of docs/OPERATOR.md, section 12, and
+its line. Afterwards `check` says `sound`, and the feeds tell all names that the operator has.
 
 Some 2,000 inputs stand in the gate. By hand, from the environment:
 
     BIKESHARE_INPUTS=100000 BIKESHARE_SEED=7 tests/run hostile.
 
-BIKESHARE_INPUTS is how many inputs are made in all, six of ten lines, three HTTP requests and one a list of words; BIKESHARE_SEED is what they
-are made from. A failure tells the seed and the input.
+BIKESHARE_INPUTS is how many inputs are made in all, six of ten lines, three HTTP requests and one a list of words;
+BIKESHARE_SEED is what they are made from. A failure tells the seed and the input.
 """
 
 import contextlib
@@ -27,7 +27,9 @@ from pathlib import Path
 import feeds
 import formats
 import model
-from shared import FEEDS, Server, accepted, data_of, get, is_sound, line_of, requests_of, reset, rest, tells_mistake, told
+from shared import (
+    FEEDS, Server, accepted, data_of, get, is_sound, line_of, requests_of, reset, rest, tells_mistake, told,
+)
 
 INPUTS = int(os.environ.get("BIKESHARE_INPUTS", "2000"))
 SEED = int(os.environ.get("BIKESHARE_SEED", "1"))
@@ -36,18 +38,31 @@ SECONDS = 40
 
 # ---- what inputs are made of
 
-TYPES, PLANS, STATIONS, REGIONS = ["city", "cargo", "none"], ["basic", "day", "none"], ["a1", "b2", "c3", "zz"], ["north", "south", "a1", "zz"]
-NAMED = {"system": ["metro", "other"], "station": STATIONS, "type": TYPES, "plan": PLANS, "description": PLANS, "region": REGIONS}
+TYPES, PLANS, STATIONS, REGIONS = (
+    ["city", "cargo", "none"], ["basic", "day", "none"], ["a1", "b2", "c3", "zz"], ["north", "south", "a1", "zz"]
+)
+NAMED = {
+    "system": ["metro", "other"], "station": STATIONS, "type": TYPES, "plan": PLANS, "description": PLANS,
+    "region": REGIONS,
+}
 TEXTS = [
-    "Name", "Łódź 🚲", "a\\tb", "\\\\", "\\n\\r", "\\x", "\\", "", "é" * 60, "é" * 61, "n" * 120, "n" * 121, " ", "\x7f", "\x01", "\u0085", "\u2028",
-    "\ufeff", "\U0010ffff", "'; DROP TABLE bikes; --", "%s%n", "../..", '"', "\u202e",
+    "Name", "Łódź 🚲", "a\\tb", "\\\\", "\\n\\r", "\\x", "\\", "", "é" * 60, "é" * 61, "n" * 120, "n" * 121, " ", "\x7f",
+    "\x01", "\u0085", "\u2028", "\ufeff", "\U0010ffff", "'; DROP TABLE bikes; --", "%s%n", "../..", '"', "\u202e",
 ]
 DEGREES = "0 -0 45.5 -45.123456 007 90 180 90.000001 -180 180.000001 1. .5 +1 1.0000000 x 000.0 0000".split()
-SEGMENTS = ["-", "30:25:5:-", "0:-60:0:30;20:50:10:-", "1:2:3:1", "0:-0:1:-", ":::", "1:1:1:-;", "0:1:1:5;" * 8 + "0:1:1:5", "100000:-100000:100000:-", ""]
+SEGMENTS = [
+    "-", "30:25:5:-", "0:-60:0:30;20:50:10:-", "1:2:3:1", "0:-0:1:-", ":::", "1:1:1:-;", "0:1:1:5;" * 8 + "0:1:1:5",
+    "100000:-100000:100000:-", "",
+]
 LANGUAGES, CURRENCIES = ["en", "e", "x" * 35, "x" * 36, "e n"], ["EUR", "eur", "EURO"]
 FURTHER = ["en", "de", "DE", "fr", "it", "zh-Hant-TW", "00", "--", "x" * 35]
-FORMS, PROPULSIONS, RANGES = ["bicycle", "cargo_bicycle", "boat"], ["human", "electric_assist"], ["0", "60000", "1000001"]
-BIG = ["4294967296", "18446744073709551616", "9" * 30, "9" * 400, "-1", "+1", "01", "1.0", "1e3", "0x10", "٣", "¹", "", "١٢"]
+FORMS, PROPULSIONS, RANGES = (
+    ["bicycle", "cargo_bicycle", "boat"], ["human", "electric_assist"], ["0", "60000", "1000001"]
+)
+BIG = [
+    "4294967296", "18446744073709551616", "9" * 30, "9" * 400, "-1", "+1", "01", "1.0", "1e3", "0x10", "٣", "¹", "",
+    "١٢",
+]
 
 
 def numbers(pick, least, most):
@@ -87,13 +102,22 @@ def command(pick):
         return "*" if pick.random() < 0.4 else station()
 
     def region():
-        return pick.choice(REGIONS) if pick.random() < 0.9 else pick.choice(["North", "", "*", "**", "r" * 36, "r" * 37, "a b"])
+        return (
+            pick.choice(REGIONS)
+            if pick.random() < 0.9
+            else pick.choice(["North", "", "*", "**", "r" * 36, "r" * 37, "a b"])
+        )
 
     def named():
         what = pick.choice(list(NAMED))
         ident = pick.choice(NAMED[what]) if pick.random() < 0.9 else pick.choice([station(), region()])
         good = pick.random() < 0.9
-        return [what if good else pick.choice(["Station", "", "bike", "stations", "system "]), ident, pick.choice(FURTHER if good else LANGUAGES), text()]
+        return [
+            what if good else pick.choice(["Station", "", "bike", "stations", "system "]),
+            ident,
+            pick.choice(FURTHER if good else LANGUAGES),
+            text(),
+        ]
 
     def kind():
         return pick.choice(TYPES)
@@ -106,15 +130,21 @@ def command(pick):
 
     made = {
         "set-system": lambda: [
-            "metro", pick.choice(LANGUAGES), text(), text(), text(), text(), pick.choice(CURRENCIES), text(), numbers(pick, 0, 86_400)
+            "metro", pick.choice(LANGUAGES), text(), text(), text(), text(), pick.choice(CURRENCIES), text(),
+            numbers(pick, 0, 86_400),
         ],
-        "add-plan": lambda: [pick.choice(["basic", "day", f"p{pick.randint(0, 300)}"]), text(), numbers(pick, 0, 1_000_000), flag(), text(), segments()],
+        "add-plan": lambda: [
+            pick.choice(["basic", "day", f"p{pick.randint(0, 300)}"]), text(), numbers(pick, 0, 1_000_000), flag(),
+            text(), segments(),
+        ],
         "add-type": lambda: [
-            pick.choice(["city", "cargo", f"t{pick.randint(0, 40)}"]), text(), pick.choice(FORMS), pick.choice(PROPULSIONS), pick.choice(RANGES),
-            pick.choice(PLANS),
+            pick.choice(["city", "cargo", f"t{pick.randint(0, 40)}"]), text(), pick.choice(FORMS),
+            pick.choice(PROPULSIONS), pick.choice(RANGES), pick.choice(PLANS),
         ],
         "set-plan": lambda: [kind(), pick.choice(PLANS)],
-        "add-station": lambda: [pick.choice([station(), f"s{pick.randint(0, 500)}"]), text(), degrees(), degrees(), dock()],
+        "add-station": lambda: [
+            pick.choice([station(), f"s{pick.randint(0, 500)}"]), text(), degrees(), degrees(), dock()
+        ],
         "set-station": lambda: [station(), flag(), flag(), flag()],
         "add-region": lambda: [pick.choice([region(), f"r{pick.randint(0, 300)}"]), text()],
         "set-region": lambda: [station(), "*" if pick.random() < 0.3 else region()],
@@ -132,7 +162,10 @@ def command(pick):
         "add-truck": lambda: [pick.choice(["1", "2", "3", bike()]), numbers(pick, 1, 60)],
         "open-order": lambda: [pick.choice(["1", "2", "3", bike()]), end(), end(), kind(), numbers(pick, 1, 60)],
         "load": lambda: [pick.choice(["1", "2", "3", bike()]), serial(), bike()],
-        "unload": lambda: [pick.choice(["1", "2", "3", bike()]), serial(), bike(), pick.choice(["from", "to"]), pick.choice(["0", dock()])],
+        "unload": lambda: [
+            pick.choice(["1", "2", "3", bike()]), serial(), bike(), pick.choice(["from", "to"]),
+            pick.choice(["0", dock()]),
+        ],
         "close-order": lambda: [serial()],
         "add-name": named,
         "raise": lambda: [""],
@@ -145,7 +178,9 @@ def command(pick):
 def caller(pick):
     if pick.random() < 0.95:
         return pick.choice(["office", "office", "rider:17", "dock:a1", "crew:3", "import:first"])
-    return pick.choice(["rider:0", "rider:017", "dock:", "dock:A1", "crew:1000000", "Office", "office:1", "", "rider:1:2"])
+    return pick.choice([
+        "rider:0", "rider:017", "dock:", "dock:A1", "crew:1000000", "Office", "office:1", "", "rider:1:2"
+    ])
 
 
 def key(pick):
@@ -165,8 +200,9 @@ def good_line(pick):
 
 
 SPICE = [
-    b"\0", b"\t", b"\t\t", b"\r", b"\xff", b"\xc3", b"\xc0\xaf", b"\xed\xa0\x80", b"\xf4\x90\x80\x80", b"\xef\xbb\xbf", b" ", b"\\", b"\\\\", b"9" * 40,
-    b"a" * 5000, b"\x1b[2J", b"\x1a", b"\x7f", b";", b"'", b'"', b"{", b"\xe2\x80\xae", b"-", b"0",
+    b"\0", b"\t", b"\t\t", b"\r", b"\xff", b"\xc3", b"\xc0\xaf", b"\xed\xa0\x80", b"\xf4\x90\x80\x80", b"\xef\xbb\xbf",
+    b" ", b"\\", b"\\\\", b"9" * 40, b"a" * 5000, b"\x1b[2J", b"\x1a", b"\x7f", b";", b"'", b'"', b"{", b"\xe2\x80\xae",
+    b"-", b"0",
 ]
 
 
@@ -203,12 +239,16 @@ def mutated(pick, data, feeds=False):
 CITY = [
     "set-system\tmetro\ten\tMetro\t24/7\tfeeds@example.org\tEtc/UTC\tEUR\thttp://127.0.0.1:8080\t30",
     "add-plan\tbasic\tBasic\t100\tfalse\tBasic\t30:25:5:-", "add-plan\tday\tDay\t250\ttrue\tDay\t-",
-    "add-type\tcity\tCity\tbicycle\thuman\t0\tbasic", "add-type\tcargo\tCargo\tcargo_bicycle\telectric_assist\t60000\tday",
-    "add-station\ta1\tHarbour\t41.890169\t12.492269\t6", "add-station\tb2\tBridge\t-45\t9.1\t5", "add-truck\t3\t20", "add-truck\t1\t3",
-    "add-region\tnorth\tNorth", "set-region\tb2\tnorth", "add-name\tstation\ta1\tde\tHafen", "add-name\tdescription\tday\tfr\tJour",
+    "add-type\tcity\tCity\tbicycle\thuman\t0\tbasic",
+    "add-type\tcargo\tCargo\tcargo_bicycle\telectric_assist\t60000\tday",
+    "add-station\ta1\tHarbour\t41.890169\t12.492269\t6", "add-station\tb2\tBridge\t-45\t9.1\t5", "add-truck\t3\t20",
+    "add-truck\t1\t3",
+    "add-region\tnorth\tNorth", "set-region\tb2\tnorth", "add-name\tstation\ta1\tde\tHafen",
+    "add-name\tdescription\tday\tfr\tJour",
     *(f"add-bike\t{it}\t{'cargo' if it % 3 == 0 else 'city'}" for it in range(1, 9)),
     *(f"add-rider\t{it}" for it in range(1, 9)), *(f"top-up\t{it}\t10000" for it in range(1, 9)),
-    "open-order\t3\t*\ta1\tcity\t4", *(f"load\t3\t1\t{it}" for it in (1, 2, 4)), *(f"unload\t3\t1\t{it}\tto\t{it}" for it in (1, 2, 4)),
+    "open-order\t3\t*\ta1\tcity\t4", *(f"load\t3\t1\t{it}" for it in (1, 2, 4)),
+    *(f"unload\t3\t1\t{it}\tto\t{it}" for it in (1, 2, 4)),
 ]
 
 
@@ -230,7 +270,10 @@ def hostile_line(pick):
         return good_line(pick).ljust(pick.choice([4095, 4096, 4097, 4098, 9000, 70_000]), b"5")
     if kind < 0.96:
         return bytes(pick.randrange(256) for _ in range(pick.randrange(300))).replace(b"\n", b"")
-    return pick.choice([b"", b"\r", b"\t\t\t", b"\0", b"\t" * 5000, b"\xff" * 4096, good_line(pick) + b"\r", b"\xef\xbb\xbf" + good_line(pick), b"GET / HTTP/1.1\r"])
+    return pick.choice([
+        b"", b"\r", b"\t\t\t", b"\0", b"\t" * 5000, b"\xff" * 4096, good_line(pick) + b"\r",
+        b"\xef\xbb\xbf" + good_line(pick), b"GET / HTTP/1.1\r",
+    ])
 
 
 def fed(program, file, data, pick):
@@ -273,7 +316,10 @@ def test_lines(program):
         is_sound(program, where=f"seed {SEED}, batch {batch}")
     # Feeds tell all names, in all languages, that the operator has then.
     found, right = feeds.told_names(program), operator.told_names()
-    assert found == right, f"seed {SEED}: {[(it, found.get(it), right.get(it)) for it in found | right if found.get(it) != right.get(it)][:3]}"
+    assert found == right, (
+        f"seed {SEED}: "
+        f"{[(it, found.get(it), right.get(it)) for it in found | right if found.get(it) != right.get(it)][:3]}"
+    )
     found = data_of(program, "system_information")["languages"]
     assert found == operator.languages(), f"seed {SEED}: {found}, not {operator.languages()}"
 
@@ -287,25 +333,30 @@ def answered(program, operator, lines, data, pick, where):
     assert answers.pop() == b"" and len(answers) == len(lines), f"{where}: {len(answers)} answers to {len(lines)} lines"
     for line, found in zip(lines, answers):
         right = operator.answer(line)
-        assert formats.is_reply(found) and found == right, f"{where}: {told(line, 600)} is answered by {found!r}, not {right!r}"
+        assert formats.is_reply(found) and found == right, (
+            f"{where}: {told(line, 600)} is answered by {found!r}, not {right!r}"
+        )
 
 
 # ---- HTTP
 
 GETS = ["/riders/1", "/bikes/1", "/rentals/1", "/orders/1", "/riders/999999", *(f"/gbfs/3.0/{it}.json" for it in FEEDS)]
 ODD_TARGETS = [
-    "/", "*", "/office/", "//office", "/%6fffice", "/office%00", "/riders/%31", "/riders/01", "/riders/0", "/riders/+1", "/riders/1000000", "/riders/" + "9" * 400,
-    "/docks/A1/end", "/docks/a1", "/docks//end", "/gbfs/3.0/", "/gbfs/3.0/x.json", "/../etc/passwd", "/riders/1/start/", "http://127.0.0.1/office", "/office#x",
-    "/riders/1?x=%zz", "/?", "?", "/" + "a" * 7000, "/" + "a" * 9000, "/riders/" + "%41" * 2000, "/crews/1/load?" + "q" * 3000,
+    "/", "*", "/office/", "//office", "/%6fffice", "/office%00", "/riders/%31", "/riders/01", "/riders/0", "/riders/+1",
+    "/riders/1000000", "/riders/" + "9" * 400, "/docks/A1/end", "/docks/a1", "/docks//end", "/gbfs/3.0/",
+    "/gbfs/3.0/x.json", "/../etc/passwd", "/riders/1/start/", "http://127.0.0.1/office", "/office#x", "/riders/1?x=%zz",
+    "/?", "?", "/" + "a" * 7000, "/" + "a" * 9000, "/riders/" + "%41" * 2000, "/crews/1/load?" + "q" * 3000,
 ]
 
 
 ODD_VALUES = [
-    b"1e400", b"-1e400", b"1e-400", b"01", b"nan", b'"\\ud800"', b'"\\u0000"', b"tru", b"-", b"1.", b'"\xff"', b'"\t"', b"9" * 3000,
+    b"1e400", b"-1e400", b"1e-400", b"01", b"nan", b'"\\ud800"', b'"\\u0000"', b"tru", b"-", b"1.", b'"\xff"', b'"\t"',
+    b"9" * 3000,
 ]
 ODD_LENGTHS = ["0", "+5", "-1", "0x10", "", "1 2", "9" * 30, "16385", "16384", "18446744073709551616"]
 ODD_FIELDS = [
-    "X: " + "x" * 8100, "Expect: 100-continue", "Connection: keep-alive", "X: \x00", " X: folded", "X : 1", ": 1", "X", "X: \xff", "X:\x0b1", "X: \r 1",
+    "X: " + "x" * 8100, "Expect: 100-continue", "Connection: keep-alive", "X: \x00", " X: folded", "X : 1", ": 1", "X",
+    "X: \xff", "X:\x0b1", "X: \r 1",
 ]
 
 
@@ -314,10 +365,17 @@ def posted(pick):
     def one(good, bad):
         return pick.choice(good if pick.random() < 0.93 else bad)
 
-    dock, station = one([1, 2, 3, 4, 5, 1, 2, 3, 4, 5, 201, 500], [0, 501, "1", 1.0, None, -1, 2**64, [1]]), one(["a1", "b2", "zz"], ["A1", 5, ""])
-    bike, state = one([1, 2, 3, 4, 9], [0, 1_000_000, "1", True]), one(["disabled", "fit", "broken", "working"], ["Fit", True])
+    dock, station = (
+        one([1, 2, 3, 4, 5, 1, 2, 3, 4, 5, 201, 500], [0, 501, "1", 1.0, None, -1, 2**64, [1]]),
+        one(["a1", "b2", "zz"], ["A1", 5, ""]),
+    )
+    bike, state = (
+        one([1, 2, 3, 4, 9], [0, 1_000_000, "1", True]), one(["disabled", "fit", "broken", "working"], ["Fit", True])
+    )
     order, side = one([1, 2, 3], [0, 100_000_001]), one(["to", "from"], ["up", 1])
-    named = {"key": f"h{pick.randrange(10**6)}" if pick.random() < 0.96 else pick.choice(["", "k" * 65, 1, "é", "k 1", None])}
+    named = {
+        "key": f"h{pick.randrange(10**6)}" if pick.random() < 0.96 else pick.choice(["", "k" * 65, 1, "é", "k 1", None])
+    }
     rider, dock_at, truck = pick.randint(1, 9), pick.choice(["a1", "b2", "zz", "c-3"]), pick.choice([1, 3, 5])
     return pick.choice([
         (f"/riders/{rider}/start", {**named, "station": station, "dock": dock}),
@@ -329,7 +387,10 @@ def posted(pick):
         (f"/crews/{truck}/mark-bike", {**named, "bike": bike, "state": state}),
         ("/office", {**named, "command": "\t".join(command(pick))}),
         ("/office", {**named, "command": "\t".join(command(pick))}),
-        ("/office", {**named, "command": mutated(pick, "\t".join(command(pick)).encode(), True).decode(errors="replace")}),
+        (
+            "/office",
+            {**named, "command": mutated(pick, "\t".join(command(pick)).encode(), True).decode(errors="replace")},
+        ),
     ])
 
 
@@ -347,7 +408,8 @@ def json_text(pick, members):
         inside + b',"x":' + b'{"a":' * (n := pick.choice([1, 125, 126, 127])) + b"1" + b"}" * n + b"}",
         inside + b',"x":' + pick.choice(ODD_VALUES) + b"}",
         inside + b"," + text[1:], b"[" + text + b"]", text + text, b"\xef\xbb\xbf" + text, text + b"\0",
-        text.decode("utf-8", "replace").encode("utf-16"), b" \r\n\t" + text + b" \n", b"", b"null", b"[]", b"{}", b'"x"', b"[" * 8000,
+        text.decode("utf-8", "replace").encode("utf-16"), b" \r\n\t" + text + b" \n", b"", b"null", b"[]", b"{}",
+        b'"x"', b"[" * 8000,
         b"{" * 8000, text.ljust(16_384), text.ljust(16_385), inside,
     ])
 
@@ -369,23 +431,40 @@ def http_input(pick):
     fields = ["Host: 127.0.0.1"] if pick.random() < 0.8 else []
     length = str(len(body))
     if pick.random() < 0.12:
-        length = pick.choice([str(len(body) + 1), str(max(0, len(body) - 1)), "00" + length, length + " ", *ODD_LENGTHS])
+        length = pick.choice([
+            str(len(body) + 1), str(max(0, len(body) - 1)), "00" + length, length + " ", *ODD_LENGTHS
+        ])
     if method == "POST" or pick.random() < 0.2:
         fields.append(pick.choice(["Content-Length", "content-length", "CONTENT-LENGTH"]) + ": " + length)
     if pick.random() < 0.04:
-        fields.append(pick.choice(["Transfer-Encoding: chunked", "Transfer-Encoding: identity", "Content-Length: " + length, "transfer-encoding:"]))
+        fields.append(
+            pick.choice([
+                "Transfer-Encoding: chunked",
+                "Transfer-Encoding: identity",
+                "Content-Length: " + length,
+                "transfer-encoding:",
+            ])
+        )
     if pick.random() < 0.1:
-        fields += [f"X-{it}: {'v' * pick.choice([0, 1, 200])}" for it in range(pick.choice([1, 5, 29, 30, 31, 32, 33, 200]))]
+        fields += [
+            f"X-{it}: {'v' * pick.choice([0, 1, 200])}" for it in range(pick.choice([1, 5, 29, 30, 31, 32, 33, 200]))
+        ]
     if pick.random() < 0.05:
         fields.append(pick.choice(ODD_FIELDS))
-    version = "HTTP/1.1" if pick.random() < 0.95 else pick.choice(["HTTP/1.0", "HTTP/2.0", "HTTP/1.2", "http/1.1", "HTTP/1.1 ", ""])
+    version = (
+        "HTTP/1.1"
+        if pick.random() < 0.95
+        else pick.choice(["HTTP/1.0", "HTTP/2.0", "HTTP/1.2", "http/1.1", "HTTP/1.1 ", ""])
+    )
     ending = "\r\n" if pick.random() < 0.93 else pick.choice(["\n", "\r", "\r\r\n"])
     data = ending.join([f"{method} {target} {version}", *fields, "", ""]).encode("utf-8", "surrogatepass") + body
     last = pick.random()
     if last < 0.12:
         return mutated(pick, data, True)
     if last < 0.2:
-        return data + pick.choice([data, b"x", b"GET /riders/1 HTTP/1.1\r\n\r\n", b"\r\n" * 50, b"\0" * 1000, b"y" * 100_000])
+        return data + pick.choice([
+            data, b"x", b"GET /riders/1 HTTP/1.1\r\n\r\n", b"\r\n" * 50, b"\0" * 1000, b"y" * 100_000
+        ])
     if last < 0.25:
         return data[: pick.randrange(len(data) + 1)]
     if last < 0.27:
@@ -412,10 +491,18 @@ def plain_head(data):
 ROUTES = [
     (rb"/riders/(?P<rider>[^/]*)/start", "POST", {"station": "ident", "dock": (1, formats.MOST_DOCKS)}),
     (rb"/docks/(?P<station>[^/]*)/end", "POST", {"bike": (1, 999_999), "dock": (1, formats.MOST_DOCKS)}),
-    (rb"/docks/(?P<station>[^/]*)/mark-dock", "POST", {"dock": (1, formats.MOST_DOCKS), "state": ("broken", "working")}),
+    (
+        rb"/docks/(?P<station>[^/]*)/mark-dock",
+        "POST",
+        {"dock": (1, formats.MOST_DOCKS), "state": ("broken", "working")},
+    ),
     (rb"/docks/(?P<station>[^/]*)/mark-bike", "POST", {"bike": (1, 999_999), "state": ("disabled", "fit")}),
     (rb"/crews/(?P<truck>[^/]*)/load", "POST", {"order": (1, 100_000_000), "bike": (1, 999_999)}),
-    (rb"/crews/(?P<truck>[^/]*)/unload", "POST", {"order": (1, 100_000_000), "bike": (1, 999_999), "side": ("from", "to"), "dock": (0, formats.MOST_DOCKS)}),
+    (
+        rb"/crews/(?P<truck>[^/]*)/unload",
+        "POST",
+        {"order": (1, 100_000_000), "bike": (1, 999_999), "side": ("from", "to"), "dock": (0, formats.MOST_DOCKS)},
+    ),
     (rb"/crews/(?P<truck>[^/]*)/mark-bike", "POST", {"bike": (1, 999_999), "state": ("disabled", "fit")}),
     (rb"/office", "POST", {"command": "command"}),
     (rb"/riders/(?P<rider>[^/]*)", "GET", "row"), (rb"/bikes/(?P<rider>[^/]*)", "GET", "row"),
@@ -452,7 +539,13 @@ def json_object(body):
     try:
         if body.startswith(b"\xef\xbb\xbf"):
             return None
-        members = json.loads(body.decode("utf-8"), parse_constant=no_json, parse_int=whole, parse_float=floating, object_pairs_hook=paired)
+        members = json.loads(
+            body.decode("utf-8"),
+            parse_constant=no_json,
+            parse_int=whole,
+            parse_float=floating,
+            object_pairs_hook=paired,
+        )
     except (NoJson, ValueError, RecursionError):
         return None
     return members if isinstance(members, dict) else None
@@ -495,8 +588,8 @@ def is_good_member(kind, value):
 
 
 def wanted(data, operator):
-    """What section 6 demands of a response: its status, the name in its body and the method in Allow, or the whole body; or none where this
-    can't tell it."""
+    """What section 6 demands of a response: its status, the name in its body and the method in Allow, or the whole
+    body; or none where this can't tell it."""
     if not data:
         return "nothing"
     found = plain_head(data)
@@ -511,7 +604,11 @@ def wanted(data, operator):
 def measured(method, target, fields, rest, operator):
     """What is demanded of a request with a good head."""
     lengths = [value for name, value in fields if name == b"content-length"]
-    if any(name == b"transfer-encoding" for name, _ in fields) or len(lengths) > 1 or not all(re.fullmatch(rb"[0-9]+", it) for it in lengths):
+    if (
+        any(name == b"transfer-encoding" for name, _ in fields)
+        or len(lengths) > 1
+        or not all(re.fullmatch(rb"[0-9]+", it) for it in lengths)
+    ):
         return 400, "bad_request"
     digits = lengths[0].lstrip(b"0") if lengths else b""
     length = int(digits or b"0") if len(digits) < 10 else 10**9
@@ -527,7 +624,9 @@ def routed(method_given, path, body, operator):
         parts = re.fullmatch(pattern, path)
         if parts is None:
             continue
-        good = {"rider": formats.COUNTED, "truck": formats.COUNTED, "station": formats.is_ident, "serial": formats.SERIALS}
+        good = {
+            "rider": formats.COUNTED, "truck": formats.COUNTED, "station": formats.is_ident, "serial": formats.SERIALS
+        }
         if not all(good[name](value) for name, value in parts.groupdict().items()):
             return 404, "not_found"
         if method_given != method.encode():
@@ -556,23 +655,35 @@ def as_line(path, given):
     name, word = rest
     caller = f"{kind.removesuffix('s')}:{name}"
     fields = {
-        "start": [name, "station", "dock"], "end": ["bike", name, "dock"], "mark-dock": [name, "dock", "state"], "mark-bike": ["bike", "state"],
+        "start": [name, "station", "dock"], "end": ["bike", name, "dock"], "mark-dock": [name, "dock", "state"],
+        "mark-bike": ["bike", "state"],
         "load": [name, "order", "bike"], "unload": [name, "order", "bike", "side", "dock"],
     }[word]
-    return [caller, given["key"], "\t".join([word, *(str(given[it]) if it in given and it != name else it for it in fields)])]
+    return [
+        caller,
+        given["key"],
+        "\t".join([word, *(str(given[it]) if it in given and it != name else it for it in fields)]),
+    ]
 
 
 def body_of(line, operator):
     """The status and the body that tell the operator's reply."""
     word, *fields = operator.answer(line).decode().split("\t")
     if word == "refused":
-        return 400 if fields[0] == "11" else 409, f'{{"result":"refused","number":{fields[0]},"name":"{fields[1]}"}}'.encode()
-    names = {"ok": [], "balance": ["balance_cents"], "rental": ["rental", "bike"], "fare": ["fare_cents", "balance_cents"], "order": ["order"]}[word]
+        return (
+            400 if fields[0] == "11" else 409,
+            f'{{"result":"refused","number":{fields[0]},"name":"{fields[1]}"}}'.encode(),
+        )
+    names = {
+        "ok": [], "balance": ["balance_cents"], "rental": ["rental", "bike"], "fare": ["fare_cents", "balance_cents"],
+        "order": ["order"],
+    }[word]
     return 200, ('{"result":"ok"' + "".join(f',"{name}":{value}' for name, value in zip(names, fields)) + "}").encode()
 
 
 def loosely(data, operator):
-    """Tells the operator of a request whose head is spelled in a way that plain_head does not read, but that the program took."""
+    """Tells the operator of a request whose head is spelled in a way that plain_head does not read, but that the
+    program took."""
     head, rest = re.match(rb"(?s)[\r\n]*(.*?)\r?\n\r?\n(.*)", data).groups()
     first, *fields = re.split(rb"\r?\n", head)
     method, target, _ = first.split(b" ")
@@ -581,7 +692,8 @@ def loosely(data, operator):
 
 
 HEAD = re.compile(
-    rb"HTTP/1\.1 (200 OK|400 Bad Request|404 Not Found|405 Method Not Allowed|409 Conflict|413 Payload Too Large)\r\nContent-Type: application/json\r\n"
+    rb"HTTP/1\.1 (200 OK|400 Bad Request|404 Not Found|405 Method Not Allowed|409 Conflict|413 Payload Too Large)\r\n"
+    rb"Content-Type: application/json\r\n"
     rb"Content-Length: (0|[1-9][0-9]*)\r\nConnection: close\r\n(?:Allow: (GET|POST)\r\n)?\r\n"
 )
 
@@ -605,7 +717,10 @@ def judged(data, found, operator):
     if want == 200:
         return (status != 200 or members.get("version") != "3.0") and "wanted is a feed"
     if want == (200, 404):
-        return (status not in want or (status == 404) != (members == {"result": "error", "name": "not_found"})) and "wanted is a row or none"
+        return (
+            (status not in want or (status == 404) != (members == {"result": "error", "name": "not_found"}))
+            and "wanted is a row or none"
+        )
     if isinstance(want[1], bytes):
         return (status, body) != want and f"wanted is {want}"
     if len(want) > 2 and head[3].decode() != want[2]:
@@ -655,12 +770,18 @@ def test_http(program):
             try:
                 found = exchanged(server, data, pick)
                 if found is None:
-                    # Nobody knows whether that counted, so it is sent again whole: where it did, the answer is the kept one.
+                    # Nobody knows whether that counted, so it is sent again whole: where it did, the answer is the kept
+                    # one.
                     found = exchanged(server, data, None)
                 wrong = judged(data, found, operator)
             except (OSError, ValueError, AttributeError, KeyError, IndexError) as fault:
-                found, wrong = None, f"{type(fault).__name__}: {fault}, and the server's status is {server.child.poll()}"
-            assert not wrong, f"seed {SEED}, {left} inputs before the end: {wrong}: {told(data, 600)} is answered by {found and told(found, 600)}"
+                found, wrong = (
+                    None, f"{type(fault).__name__}: {fault}, and the server's status is {server.child.poll()}"
+                )
+            assert not wrong, (
+                f"seed {SEED}, {left} inputs before the end: {wrong}: {told(data, 600)} is answered by "
+                f"{found and told(found, 600)}"
+            )
             if left % 100 == 0:
                 found = server.ask(get("/bikes/1"))
                 assert found.startswith(b"HTTP/1.1 200 OK\r\n"), found
@@ -679,25 +800,35 @@ def test_http(program):
 # ---- words
 
 VOCABULARY = [
-    "init", "check", "lines", "feed", "serve", "day", "import", "raise", "help", "--port", "--count", "--at", "--", "-", "--help", "-h", "-V", "--version",
-    "--port=0", "--port=x", "--port=0=1", "--ports", "--por", "-p", "-p0", "--count=1", "--at=1", "--at=", "0", "1", "2", "65535", "65536", "-1", "+1", "00",
-    "1e3", "253402300799", "253402300800", "9" * 400, "", " ", "city.db", "new.db", ":memory:", "text.db", "no/such.db", ".", "file:city.db?mode=ro",
-    "gbfs", "station_status", "system_regions", "nothing", "é", "\udcff", "x" * 300, "x" * 100_000, "a\nb", "%s", "*", "~",
+    "init", "check", "lines", "feed", "serve", "day", "import", "raise", "help", "--port", "--count", "--at", "--", "-",
+    "--help", "-h", "-V", "--version", "--port=0", "--port=x", "--port=0=1", "--ports", "--por", "-p", "-p0",
+    "--count=1", "--at=1", "--at=", "0", "1", "2", "65535", "65536", "-1", "+1", "00", "1e3", "253402300799",
+    "253402300800", "9" * 400, "", " ", "city.db", "new.db", ":memory:", "text.db", "no/such.db", ".",
+    "file:city.db?mode=ro", "gbfs", "station_status", "system_regions", "nothing", "é", "\udcff", "x" * 300,
+    "x" * 100_000, "a\nb", "%s", "*", "~",
 ]
 ENDS = re.compile(
-    rb"system missing|bad header|bad date|bad zone|day out of range|row [0-9]+ [a-z_]+|store failed|out of memory|foreign|unsound [a-z0-9_]+ .*"
-    rb"|older [0-9]+|newer [0-9]+|read failed|write failed", re.S
+    (
+        rb"system missing|bad header|bad date|bad zone|day out of range|row [0-9]+ [a-z_]+|store failed|out of memory|"
+        rb"foreign|unsound [a-z0-9_]+ .*|older [0-9]+|newer [0-9]+|read failed|write failed"
+    ),
+    re.S,
 )
 OUTPUT = re.compile(rb"|ready\n|sound\n|version [0-9]+\n|rows [0-9]+\n|\{.*\}|number,[a-z0-9,\n.:TZ*-]*\n")
-STATUS_OF = {b"system": 1, b"bad": 1, b"day": 1, b"row": 1, b"store": 3, b"out": 4, b"foreign": 5, b"unsound": 5, b"older": 5, b"newer": 5, b"read": 6, b"write": 6}
+STATUS_OF = {
+    b"system": 1, b"bad": 1, b"day": 1, b"row": 1, b"store": 3, b"out": 4, b"foreign": 5, b"unsound": 5, b"older": 5,
+    b"newer": 5, b"read": 6, b"write": 6,
+}
 
 
 def some_words(pick):
     kind = pick.random()
     if kind < 0.5:
         base = pick.choice([
-            ["init", "city.db"], ["check", "city.db"], ["lines", "city.db"], ["feed", "city.db", "gbfs"], ["feed", "city.db", "station_status", "--at", "0"],
-            ["serve", "city.db", "--port", "0", "--count", "1"], ["import", "city.db", "spring"], ["day", "city.db", "entries", "2023-11-14", "CET-1CEST,M3.5.0,M10.5.0/3"],
+            ["init", "city.db"], ["check", "city.db"], ["lines", "city.db"], ["feed", "city.db", "gbfs"],
+            ["feed", "city.db", "station_status", "--at", "0"],
+            ["serve", "city.db", "--port", "0", "--count", "1"], ["import", "city.db", "spring"],
+            ["day", "city.db", "entries", "2023-11-14", "CET-1CEST,M3.5.0,M10.5.0/3"],
             ["check", "text.db"], ["lines", ":memory:"], ["feed", "new.db", "gbfs"], [],
         ])
         words = list(base)
@@ -749,11 +880,21 @@ def test_words(program):
             raise AssertionError(f"seed {SEED}: {words!r:.500}: it had not ended after {SECONDS} seconds") from None
         where = f"seed {SEED}: {words!r:.500}: {status, out[:200], said[:200]}"
         if status == 2:
-            assert not out and (said.startswith(b"usage: bikeshare ") or tells_mistake(said)) and set(os.listdir(program.folder)) == before, where
+            assert (
+                not out
+                and (said.startswith(b"usage: bikeshare ") or tells_mistake(said))
+                and set(os.listdir(program.folder)) == before
+            ), where
         elif status in (0, "listens"):
             assert not said and OUTPUT.fullmatch(out), where
         else:
-            assert status in (1, 3, 5, 6) and said.endswith(b"\n") and ENDS.fullmatch(said[:-1]) and STATUS_OF[said.split()[0]] == status and not out, where
+            assert (
+                status in (1, 3, 5, 6)
+                and said.endswith(b"\n")
+                and ENDS.fullmatch(said[:-1])
+                and STATUS_OF[said.split()[0]] == status
+                and not out
+            ), where
         for file in set(os.listdir(program.folder)) - {"city.db", "city.db-wal", "text.db"}:
             os.unlink(os.path.join(program.folder, file))
         assert Path(program.folder, "text.db").read_bytes() == b"no database\n" * 400, where

@@ -1,5 +1,5 @@
-"""Stations from CSV, as `import` reads them: the worked tables, what counts as the header and as a row, what is left after a fault,
-and tables from a seeded generator, of which the wanted answers are those of the operator in model.py.
+"""Stations from CSV, as `import` reads them: the worked tables, what counts as the header and as a row, what is left
+after a fault, and tables from a seeded generator, of which the wanted answers are those of the operator in model.py.
 
 A sample of made tables stands in the gate. By hand more, from the environment:
 
@@ -42,14 +42,20 @@ def load(program, table, name="spring", *words):
 
 def stations(program):
     """The stations in the file: identifier, name, latitude, longitude in microdegrees, docks."""
-    return rows_of("SELECT station_id, name, lat, lon, docks FROM stations_3 ORDER BY station_id", program.folder, "city.db")
+    return rows_of(
+        "SELECT station_id, name, lat, lon, docks FROM stations_3 ORDER BY station_id", program.folder, "city.db"
+    )
 
 
 def test_worked_tables(program):
     assert load(program, HEADER + ROWS.replace("45,9.3", "91,9.3")) == (1, "", "row 3 bad_field\n")
     assert [row[0] for row in stations(program)] == ["c1", "c2"]
     assert load(program, HEADER + ROWS) == (0, "rows 3\n", "")
-    wanted = [("c1", "Canal", 45000000, 9100000, 10), ("c2", "Corso, north", 45000001, 9200000, 12), ("c3", "Castle", 45000000, 9300000, 8)]
+    wanted = [
+        ("c1", "Canal", 45000000, 9100000, 10),
+        ("c2", "Corso, north", 45000001, 9200000, 12),
+        ("c3", "Castle", 45000000, 9300000, 8),
+    ]
     assert stations(program) == wanted, stations(program)
     before = (Path(program.folder) / "city.db").read_bytes()
     assert load(program, HEADER + ROWS) == (0, "rows 3\n", "")
@@ -65,13 +71,18 @@ def test_rows_are_kept_as_requests(program):
     assert load(program, HEADER + ROWS) == (0, "rows 3\n", "")
     kept = rows_of("SELECT caller, req_key, command, reply FROM kept ORDER BY req_key", program.folder, "city.db")
     assert [row[:2] for row in kept] == [("import:spring", f"row-{number}") for number in (1, 2, 3)], kept
-    assert kept[1][2] == "add-station\tc2\tCorso, north\t45.000001\t9.200000\t12" and {row[3] for row in kept} == {"ok"}, kept
+    assert (
+        kept[1][2] == "add-station\tc2\tCorso, north\t45.000001\t9.200000\t12" and {row[3] for row in kept} == {"ok"}
+    ), kept
     again = f"{AT}\timport:spring\trow-1\tadd-station\tc1\tCanal\t45\t9.1\t10\n".encode()
     assert program.run("lines", "city.db", given=again) == (0, b"ok\n", b"")
 
 
 def test_moment(program):
-    system = "1600000000\toffice\tk1\tset-system\tmetro\ten\tMetro\t24/7\tfeeds@example.org\tEtc/UTC\tEUR\thttp://127.0.0.1:8080\t30\n"
+    system = (
+        "1600000000\toffice\tk1\tset-system\tmetro\ten\tMetro\t24/7\tfeeds@example.org\tEtc/UTC\tEUR\thttp:"
+        "//127.0.0.1:8080\t30\n"
+    )
     assert program.run("lines", "city.db", given=system.encode()) == (0, b"ok\n", b"")
     assert load(program, HEADER + "c1,Canal,45,9.1,10\n", "spring", "--at", AT)[0] == 0
     (station,) = data_of(program, "station_status", at=AT)["stations"]
@@ -82,19 +93,30 @@ def test_moment(program):
 
 def test_headers(program):
     row = "c1,Canal,45,9.1,10\n"
-    for header in ("", "\n", "station_id,name,lat,lon\n", "name,station_id,lat,lon,docks\n", "station_id, name,lat,lon,docks\n", "Station_id,name,lat,lon,docks\n", "station_id,name,lat,lon,docks,\n", "station_id;name;lat;lon;docks\n"):
+    for header in (
+        "", "\n", "station_id,name,lat,lon\n", "name,station_id,lat,lon,docks\n", "station_id, name,lat,lon,docks\n",
+        "Station_id,name,lat,lon,docks\n", "station_id,name,lat,lon,docks,\n", "station_id;name;lat;lon;docks\n",
+    ):
         assert load(program, header + (row if header.strip() else "")) == (1, "", "bad header\n"), header
     assert load(program, row) == (1, "", "bad header\n")
     assert load(program, b"\xff,name,lat,lon,docks\n" + row.encode()) == (1, "", "bad header\n")
     assert stations(program) == []
-    for number, header in enumerate((HEADER.replace("\n", "\r\n"), '"station_id",name,"lat",lon,docks\n', "\n\n" + HEADER, "\ufeff" + HEADER)):
+    for number, header in enumerate((
+        HEADER.replace("\n", "\r\n"), '"station_id",name,"lat",lon,docks\n', "\n\n" + HEADER, "\ufeff" + HEADER
+    )):
         assert load(program, header + f"d{number},Canal,45,9.1,10\n", f"n{number}") == (0, "rows 1\n", ""), header
     for table in (HEADER, HEADER.rstrip("\n"), HEADER + "\n\n"):
         assert load(program, table, "none") == (0, "rows 0\n", ""), table
 
 
 def test_rows_of_every_form(program):
-    table = HEADER + 'q1,"He said ""ciao""",45,9.1,10\r\n' + '\nq2,"two\nlines",-0.000001,-180,1\n' + "q3,back\\tslash,90,180,500\n" + '"q4",Last,-90,"9.1","7"'
+    table = (
+        HEADER
+        + 'q1,"He said ""ciao""",45,9.1,10\r\n'
+        + '\nq2,"two\nlines",-0.000001,-180,1\n'
+        + "q3,back\\tslash,90,180,500\n"
+        + '"q4",Last,-90,"9.1","7"'
+    )
     assert load(program, table) == (0, "rows 4\n", ""), load(program, table)
     assert stations(program) == [
         ("q1", 'He said "ciao"', 45000000, 9100000, 10),
@@ -106,10 +128,14 @@ def test_rows_of_every_form(program):
 
 
 def test_500_docks_and_501(program):
-    assert load(program, HEADER + "c1,Canal,45,9.1,500\nc2,Corso,45,9.1,499\nc3,Castle,45,9.1,501\n") == (1, "", "row 3 bad_field\n")
+    assert load(program, HEADER + "c1,Canal,45,9.1,500\nc2,Corso,45,9.1,499\nc3,Castle,45,9.1,501\n") == (
+        1, "", "row 3 bad_field\n"
+    )
     assert [(row[0], row[4]) for row in stations(program)] == [("c1", 500), ("c2", 499)]
     is_sound(program)
-    lines = b"".join(b"%s\toffice\tk%d\tmark-dock\tc1\t%d\tbroken\n" % (AT.encode(), dock, dock) for dock in (499, 500, 501))
+    lines = b"".join(
+        b"%s\toffice\tk%d\tmark-dock\tc1\t%d\tbroken\n" % (AT.encode(), dock, dock) for dock in (499, 500, 501)
+    )
     assert program.run("lines", "city.db", given=lines) == (0, b"ok\nok\nrefused\t11\tbad_field\n", b"")
     lines = f"{AT}\toffice\tm\tmark-dock\tc2\t500\tbroken\n".encode()
     assert program.run("lines", "city.db", given=lines) == (0, b"refused\t2\tunknown_dock\n", b"")
@@ -153,7 +179,10 @@ def test_an_open_quote_takes_the_rest(program):
 
 
 def test_words_of_import(program):
-    for words in ([], ["no name"], ["spring", "--at"], ["spring", "--at", "-1"], ["spring", "--at", "01"], ["spring", "--at", "253402300800"], ["spring", "more"], [""], ["x" * 37]):
+    for words in (
+        [], ["no name"], ["spring", "--at"], ["spring", "--at", "-1"], ["spring", "--at", "01"],
+        ["spring", "--at", "253402300800"], ["spring", "more"], [""], ["x" * 37],
+    ):
         status, out, said = program.run("import", "city.db", *words, given=HEADER.encode())
         assert (status, out) == (2, b"") and said, (words, status, out, said)
     assert not (Path(program.folder) / "city.db").exists()
@@ -242,20 +271,33 @@ def test_many_stations(program):
 
 def kept(program, name):
     """The keys and commands that are kept of an import, by key."""
-    return rows_of(f"SELECT req_key, command FROM kept WHERE caller = 'import:{name}' ORDER BY length(req_key), req_key", program.folder, "city.db")
+    return rows_of(
+        f"SELECT req_key, command FROM kept WHERE caller = 'import:{name}' ORDER BY length(req_key), req_key",
+        program.folder,
+        "city.db",
+    )
 
 
 def test_row_numbers_count_records(program):
     """Not lines: a name may hold a line feed, and an empty line is no row."""
-    table = HEADER + 'c1,"two\nlines",45,9.1,10\n' + "\n\r\n" + 'c2,"a,""b""",45,9.2,12\r\n' + "c3,Castle,91,9.3,8\n" + "c4,Never,45,9.4,8\n"
+    table = (
+        HEADER
+        + 'c1,"two\nlines",45,9.1,10\n'
+        + "\n\r\n"
+        + 'c2,"a,""b""",45,9.2,12\r\n'
+        + "c3,Castle,91,9.3,8\n"
+        + "c4,Never,45,9.4,8\n"
+    )
     assert load(program, table) == (1, "", "row 3 bad_field\n")
     assert kept(program, "spring") == [
-        ("row-1", "add-station\tc1\ttwo\\nlines\t45.000000\t9.100000\t10"), ("row-2", 'add-station\tc2\ta,"b"\t45.000000\t9.200000\t12'),
+        ("row-1", "add-station\tc1\ttwo\\nlines\t45.000000\t9.100000\t10"),
+        ("row-2", 'add-station\tc2\ta,"b"\t45.000000\t9.200000\t12'),
     ], kept(program, "spring")
 
 
 def test_which_fault_of_a_row_comes_first(program):
-    """A row that is none, or has a bad field, is told as such though its key is kept; an equal row in another spelling is the kept one."""
+    """A row that is none, or has a bad field, is told as such though its key is kept; an equal row in another spelling
+    is the kept one."""
     assert load(program, HEADER + "c1,Canal,45,9.1,10\n") == (0, "rows 1\n", "")
     for row, ended in (
         ("c1,Canal,45.000000,009.10,10\n", (0, "rows 1\n", "")), ("c1,Canal,91,9.1,10\n", (1, "", "row 1 bad_field\n")),
@@ -263,7 +305,9 @@ def test_which_fault_of_a_row_comes_first(program):
         ("c2,Canal,45,9.1,10\n", (1, "", "row 1 key_reused\n")),
     ):
         assert load(program, HEADER + row) == ended, row
-    assert load(program, HEADER + "c2,Corso,45,9.1,10\nc1,Canal,45,9.1,10\n", "summer") == (1, "", "row 2 already_there\n")
+    assert load(program, HEADER + "c2,Corso,45,9.1,10\nc1,Canal,45,9.1,10\n", "summer") == (
+        1, "", "row 2 already_there\n"
+    )
     assert [it[0] for it in stations(program)] == ["c1", "c2"]
 
 
@@ -297,8 +341,8 @@ def limited():
 
 
 def test_a_longer_table_takes_no_more_memory(program):
-    """64 MB of empty lines, which are no rows and count to the record behind them, are too much for one: in the address space in
-    which a short table is read."""
+    """64 MB of empty lines, which are no rows and count to the record behind them, are too much for one: in the address
+    space in which a short table is read."""
     ends = (b"\n" * 1000, (0, b"rows 2\n", b"")), (b"\r\n" * 32_000_000, READ_FAILED)
     for between, wanted in ends:
         given = HEADER.encode() + b"c1,Canal,45,9.1,10\n" + between + b"c2,Corso,45,9.1,10\n"
@@ -340,8 +384,10 @@ def row_of(pick):
 
 
 HEADS = [
-    b"", b"\n\n", b"station_id,name,lat,lon\n", b"station_id,name,lon,lat,docks\n", b"Station_id,name,lat,lon,docks\n", b"s1,Canal,45,9,1\n",
-    b"station_id,name,lat,lon,docks,\n", b"station_id, name,lat,lon,docks\n", b"station_id;name;lat;lon;docks\n", b"\xff,name,lat,lon,docks\n",
+    b"", b"\n\n", b"station_id,name,lat,lon\n", b"station_id,name,lon,lat,docks\n", b"Station_id,name,lat,lon,docks\n",
+    b"s1,Canal,45,9,1\n",
+    b"station_id,name,lat,lon,docks,\n", b"station_id, name,lat,lon,docks\n", b"station_id;name;lat;lon;docks\n",
+    b"\xff,name,lat,lon,docks\n",
 ]
 
 
@@ -352,7 +398,9 @@ def answered(operator, number, name, fields):
     escaped = fields[1].replace(b"\\", b"\\\\").replace(b"\t", b"\\t").replace(b"\n", b"\\n").replace(b"\r", b"\\r")
     if any(b"\t" in it for it in (fields[0], *fields[2:])):
         return "bad_field"
-    line = b"\t".join([AT.encode(), b"import:" + name.encode(), b"row-%d" % number, b"add-station", fields[0], escaped, *fields[2:]])
+    line = b"\t".join([
+        AT.encode(), b"import:" + name.encode(), b"row-%d" % number, b"add-station", fields[0], escaped, *fields[2:]
+    ])
     word, *told = operator.answer(line).decode().split("\t")
     return told[1] if word == "refused" else None
 
@@ -363,7 +411,9 @@ def made_table(pick, operator, name):
         head = pick.choice(HEADS)
         return head + (record(pick, row_of(pick)) if head.strip() else b""), (1, "", "bad header\n")
     first = HEADER.encode()
-    head = pick.choice([first, first, first.replace(b"\n", b"\r\n"), b"\n\n" + first, b'station_id,"name",lat,lon,"docks"\n'])
+    head = pick.choice([
+        first, first, first.replace(b"\n", b"\r\n"), b"\n\n" + first, b'station_id,"name",lat,lon,"docks"\n'
+    ])
     rows = [row_of(pick) for _ in range(pick.choice([0, 1, 2, 5, 12]))]
     if rows and pick.random() < 0.3:
         at = pick.randrange(len(rows))
@@ -382,7 +432,8 @@ def made_table(pick, operator, name):
 
 @quickly
 def test_made_tables(program):
-    """Tables with quotes, line ends and faults of every kind, under names that come again: each ends as the operator says."""
+    """Tables with quotes, line ends and faults of every kind, under names that come again: each ends as the operator
+    says."""
     pick = random.Random(f"{SEED} tables")
     operator = model.Operator()
     for number in range(MADE):
@@ -403,9 +454,13 @@ def test_spoiled_tables(program):
         table = hostile.mutated(pick, HEADER.encode() + b"".join(record(pick, it) for it in rows), True)
         name, where = f"m{number}", f"seed {SEED}, table {number}: {table[:600]!r}"
         status, out, said = load(program, table, name)
-        whole, row = re.fullmatch("rows ([0-9]+)\n", out), re.fullmatch("row ([1-9][0-9]*) (unreadable|[a-z_]+)\n", said)
+        whole, row = (
+            re.fullmatch("rows ([0-9]+)\n", out), re.fullmatch("row ([1-9][0-9]*) (unreadable|[a-z_]+)\n", said)
+        )
         is_named = (status == 0 and whole and not said) or (status == 1 and not out and (row or said == "bad header\n"))
         assert is_named, f"{where}: {status, out, said}"
         count = int(whole[1]) if whole else int(row[1]) - 1 if row else 0
-        assert [it[0] for it in kept(program, name)] == [f"row-{it}" for it in range(1, count + 1)], f"{where}: {status, out, said}"
+        assert [it[0] for it in kept(program, name)] == [f"row-{it}" for it in range(1, count + 1)], (
+            f"{where}: {status, out, said}"
+        )
     is_sound(program, where=f"seed {SEED}")

@@ -86,7 +86,9 @@ def test_files_of_a_byte_or_none(program):
             file = Path(program.folder, "city.db")
             file.write_bytes(data)
             assert asks(program, words, file.name) == empty, (data, words)
-            assert set(os.listdir(program.folder)) <= {file.name, f"{file.name}-wal"}, (data, words, os.listdir(program.folder))
+            assert set(os.listdir(program.folder)) <= {file.name, f"{file.name}-wal"}, (
+                data, words, os.listdir(program.folder)
+            )
             assert not held(file), (data, words)
             removed(file)
 

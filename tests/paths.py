@@ -1,7 +1,8 @@
-"""Paths at which the program can't have its database: where none can be, where one may not be written, where a second program has it, and a
-file that is removed while it serves.
+"""Paths at which the program can't have its database: where none can be, where one may not be written, where a second
+program has it, and a file that is removed while it serves.
 
-Wanted are the one line on standard error and the exit status of docs/OPERATOR.md, section 12, and then a file that is as it was.
+Wanted are the one line on standard error and the exit status of docs/OPERATOR.md, section 12, and then a file that is
+as it was.
 """
 
 import os
@@ -14,7 +15,13 @@ from shared import DONE, STORE_FAILED, Program, Server, get, is_sound, office, t
 
 SECONDS = 30
 ASKED, TOLD = adoption.asked(), adoption.told()
-WORDS = [["init", "city.db"], ["check", "city.db"], ["lines", "city.db"], ["feed", "city.db", "gbfs"], ["serve", "city.db", "--port", "0", "--count", "1"]]
+WORDS = [
+    ["init", "city.db"],
+    ["check", "city.db"],
+    ["lines", "city.db"],
+    ["feed", "city.db", "gbfs"],
+    ["serve", "city.db", "--port", "0", "--count", "1"],
+]
 
 
 def goes_on(program, file="city.db"):
@@ -45,7 +52,9 @@ def test_paths_where_no_database_can_be(program):
             "n" * 256, "n/" * 3000 + "city.db", "/proc/version", "/proc/self/mem", "/dev/full",
         ):
             each_word(program, file, STORE_FAILED)
-    left = sorted(it.name for it in here.iterdir() if not it.name.startswith(("folder", "text", "loop", "dangling", "socket")))
+    left = sorted(
+        it.name for it in here.iterdir() if not it.name.startswith(("folder", "text", "loop", "dangling", "socket"))
+    )
     assert not left, left
     assert not list((here / "folder").iterdir()), list((here / "folder").iterdir())
 

@@ -1,8 +1,10 @@
-"""Standard streams and connections that fail: closed, full or left early, inputs that pause, come byte by byte or can't be read, outputs that
-take few bytes or none, and faults behind each byte of an answer, a feed, a table, a list of lines or a request.
+"""Standard streams and connections that fail: closed, full or left early, inputs that pause, come byte by byte or can't
+be read, outputs that take few bytes or none, and faults behind each byte of an answer, a feed, a table, a list of lines
+or a request.
 
-Wanted are the one line on standard error and the exit status of docs/OPERATOR.md, section 12, and then a file that is as it was before the
-request at which the program ended, or after it. Faults come from tests/stops/faults.c, as in stops.py.
+Wanted are the one line on standard error and the exit status of docs/OPERATOR.md, section 12, and then a file that is
+as it was before the request at which the program ended, or after it. Faults come from tests/stops/faults.c, as in
+stops.py.
 
 A sample of the bytes stands in the gate. By hand each of them, from the environment:
 
@@ -19,13 +21,18 @@ import days
 import imports
 import paths
 from shared import HEADER, READ_FAILED, SOUND, START, STARTED, STORE_FAILED, WRITE_FAILED
-from shared import ask, changed, city, error, exchanged, faulty, faulty_exchange, held, holds, put, quickly, removed, rows_of, taken
+from shared import (
+    ask, changed, city, error, exchanged, faulty, faulty_exchange, held, holds, put, quickly, removed, rows_of, taken,
+)
 
 SECONDS = 30
 ALL = os.environ.get("BIKESHARE_STREAMS") == "all"
 ASKED, TOLD = adoption.asked(), adoption.told()
 
-LINES = b"1700000000\toffice\tk1\tadd-rider\t17\n1700000001\toffice\tk2\ttop-up\t17\t2500\n1700000002\toffice\tk2\ttop-up\t17\t2500\n"
+LINES = (
+    b"1700000000\toffice\tk1\tadd-rider\t17\n1700000001\toffice\tk2\ttop-up\t17\t2500\n"
+    b"1700000002\toffice\tk2\ttop-up\t17\t2500\n"
+)
 ANSWERS = b"ok\nbalance\t2500\nbalance\t2500\n"
 # What a server says first is written byte by byte too; a free port has five digits.
 LISTENING = len(b"listening 127.0.0.1:65535\n")
@@ -169,11 +176,13 @@ BYTE_BY_BYTE = {"ONLY_ENDS": 1, "SHORT_FROM": 1}
 
 @quickly
 def test_reads_are_counted(program):
-    """An import ends after 1,000,000 reads, in a row without end too, and its rows stand; an exchange after 20,000, without an answer, and the next
-    one is served."""
+    """An import ends after 1,000,000 reads, in a row without end too, and its rows stand; an exchange after 20,000,
+    without an answer, and the next one is served."""
     rows = [b"\n" * 60_000 + b"c%d,Canal,45,9.1,10\n" % number for number in range(1, 18)]
     for count, wanted in (15, (0, b"rows 15\n", b"")), (17, READ_FAILED):
-        assert faulty(program, imports.IMPORT, b"".join([HEADER.encode(), *rows[:count]]), **BYTE_BY_BYTE) == wanted, count
+        assert faulty(program, imports.IMPORT, b"".join([HEADER.encode(), *rows[:count]]), **BYTE_BY_BYTE) == wanted, (
+            count
+        )
         assert len(imports.stations(program)) == min(count, 16), count
         removed(program.folder, "city.db")
     row = HEADER.encode() + b"c1,Canal,45,9.1,10\n"
@@ -208,7 +217,10 @@ def test_texts_that_come_byte_by_byte(program):
         behind = b"" if text.endswith(b"\n") or not text else b"\n"
         for given, answers in (text, b""), (text + behind + LINES, ANSWERS):
             wanted = (0, b"refused\t11\tbad_field\n" * count + answers, b"")
-            found = program.run("lines", ":memory:", given=given), faulty(program, ["lines", ":memory:"], given, **BYTE_BY_BYTE)
+            found = (
+                program.run("lines", ":memory:", given=given),
+                faulty(program, ["lines", ":memory:"], given, **BYTE_BY_BYTE),
+            )
             assert found == (wanted, wanted), (text[:20], found)
 
 
@@ -266,8 +278,8 @@ def test_answer_lines_that_fail_behind_each_byte(program):
 
 @quickly
 def test_ends_that_take_few_bytes_or_none(program):
-    """An output takes three bytes a write, or twenty, and then fails; or it takes all and then nothing, which is a failure too. What was taken is
-    a front of the answers."""
+    """An output takes three bytes a write, or twenty, and then fails; or it takes all and then nothing, which is a
+    failure too. What was taken is a front of the answers."""
     memory, answers = ["lines", ":memory:"], ANSWERS.splitlines(keepends=True)
     for step in 3, 20:
         pieces = [line[at : at + step] for line in answers for at in range(0, len(line), step)]
@@ -289,10 +301,13 @@ def test_ends_that_take_few_bytes_or_none(program):
 
 @quickly
 def test_texts_that_fail_behind_each_byte(program):
-    """So it is with a feed, a day's table, and the one line of other words: after one write that fails none comes. What stands doesn't depend on it."""
+    """So it is with a feed, a day's table, and the one line of other words: after one write that fails none comes. What
+    stands doesn't depend on it."""
     ask(program, [*days.CITY, "add-name\tsystem\tmetro\tde\tMetro", "add-name\tstation\ta1\tfr\tPort"])
     before = held(program.folder, "city.db")
-    feed, day = ["feed", "city.db", "station_status", "--at", imports.AT], ["day", "city.db", "entries", "2023-11-14", "UTC0"]
+    feed, day = (
+        ["feed", "city.db", "station_status", "--at", imports.AT], ["day", "city.db", "entries", "2023-11-14", "UTC0"]
+    )
     named = ["feed", "city.db", "system_information", "--at", imports.AT]
     for words, stride in (feed, 61), (named, 53), (day, 17), (["check", "city.db"], 2), (["init", "city.db"], 2):
         whole = program.run(*words)
@@ -303,14 +318,19 @@ def test_texts_that_fail_behind_each_byte(program):
         assert held(program.folder, "city.db") == before, words
     for size in range(len(b"rows 3\n")):
         removed(program.folder, "city.db")
-        found = faulty(program, imports.IMPORT, (HEADER + imports.ROWS).encode(), ONLY_ENDS=2, SHORT_FROM=1, FAIL_AT=size + 1)
+        found = faulty(
+            program, imports.IMPORT, (HEADER + imports.ROWS).encode(), ONLY_ENDS=2, SHORT_FROM=1, FAIL_AT=size + 1
+        )
         assert found == (6, b"rows 3\n"[:size], b"write failed\n"), (size, found)
-        assert len(imports.stations(program)) == 3 and imports.load(program, HEADER + imports.ROWS) == (0, "rows 3\n", ""), size
+        assert len(imports.stations(program)) == 3 and imports.load(program, HEADER + imports.ROWS) == (
+            0, "rows 3\n", ""
+        ), size
 
 
 @quickly
 def test_inputs_that_fail_at_each_read(program):
-    """The lines that were read whole are answered, and no other acts. Each call moves a byte, so that a fault comes behind each byte."""
+    """The lines that were read whole are answered, and no other acts. Each call moves a byte, so that a fault comes
+    behind each byte."""
     lines, wanted, seen = LINES.splitlines(keepends=True), ANSWERS.splitlines(keepends=True), 0
     for turn in some(len(LINES) + len(ANSWERS) + 1, 5):
         removed(program.folder, "city.db")
@@ -322,20 +342,25 @@ def test_inputs_that_fail_at_each_read(program):
         whole = LINES[: turn - len(out)].count(b"\n")
         assert (status, out, said) == (6, b"".join(wanted[:whole]), b"read failed\n"), (turn, status, out, said)
         assert rows_of("SELECT count(*) FROM kept", program.folder, "city.db") == [(min(whole, 2),)], turn
-        assert program.run("lines", "city.db", given=b"".join(lines[whole:])) == (0, b"".join(wanted[whole:]), b""), turn
+        assert program.run("lines", "city.db", given=b"".join(lines[whole:])) == (0, b"".join(wanted[whole:]), b""), (
+            turn
+        )
     assert seen > 10, seen
 
 
 @quickly
 def test_tables_that_fail_at_each_read(program):
-    """The rows that were read whole stand. A row is whole behind its line end, and nothing is told on standard output."""
+    """The rows that were read whole stand. A row is whole behind its line end, and nothing is told on standard
+    output."""
     table = (HEADER + imports.ROWS).encode()
     for turn in some(len(table) + 1, 7):
         removed(program.folder, "city.db")
         ended = faulty(program, imports.IMPORT, table, FAIL_AT=turn + 1, **BYTE_BY_BYTE)
         assert ended == READ_FAILED, (turn, ended)
         whole = max(0, table[:turn].count(b"\n") - 1)
-        assert [it[0] for it in imports.kept(program, "spring")] == [f"row-{it}" for it in range(1, whole + 1)], (turn, imports.kept(program, "spring"))
+        assert [it[0] for it in imports.kept(program, "spring")] == [f"row-{it}" for it in range(1, whole + 1)], (
+            turn, imports.kept(program, "spring")
+        )
         assert imports.load(program, table) == (0, "rows 3\n", ""), turn
 
 

@@ -1,5 +1,6 @@
-"""Limits that the system sets: a disk without room, the size of a file, a small stack, and how many files may be open. The program ends by the
-status of docs/OPERATOR.md, section 12, or by the system's signal, and the list of requests goes on where there is room.
+"""Limits that the system sets: a disk without room, the size of a file, a small stack, and how many files may be open.
+The program ends by the status of docs/OPERATOR.md, section 12, or by the system's signal, and the list of requests goes
+on where there is room.
 """
 
 import resource
@@ -24,12 +25,17 @@ def limited(limit):
 
 
 def test_a_disk_without_room(program):
-    """Wherever the room ends, the requests that were answered stand, at most one more, and the list goes on where there is room."""
+    """Wherever the room ends, the requests that were answered stand, at most one more, and the list goes on where there
+    is room."""
     answers = TOLD.splitlines(keepends=True)
     ends = set()
-    for limit in (0, 1, 41, 100, 4096, 5000, 40_000, 130_000, 262_144, 300_000, 400_000, 600_001, 999_999, 1_100_000, 4_000_000):
+    for limit in (
+        0, 1, 41, 100, 4096, 5000, 40_000, 130_000, 262_144, 300_000, 400_000, 600_001, 999_999, 1_100_000, 4_000_000
+    ):
         file = f"full{limit}.db"
-        status, out, said = program.run("lines", file, given=ASKED, timeout=SECONDS, preexec_fn=limited(limit), restore_signals=False)
+        status, out, said = program.run(
+            "lines", file, given=ASKED, timeout=SECONDS, preexec_fn=limited(limit), restore_signals=False
+        )
         found = out.splitlines(keepends=True)
         # Where all is answered, FILE may have no room for what the log holds.
         right = (status, said) == (3, b"store failed\n") or ((status, said) == (0, b"") and found == answers)
