@@ -320,6 +320,7 @@ def changed(name, key, value, at=0):
 
 def test_the_map_refuses_what_is_no_gbfs(program):
     count, moment = "a whole number from 0 to 1000000000", "a moment such as 2024-10-27T12:00:00Z"
+    docks, no_list = "num_docks_available", "is not a list of objects"
     cases = [
         ({}, {"station_status": {"version": "2.3"}}, "feeds/station_status.json: version is '2.3', not '3.0'"),
         ({}, {"gbfs": {"ttl": -1}}, f"feeds/gbfs.json: ttl is not {count}"),
@@ -330,18 +331,10 @@ def test_the_map_refuses_what_is_no_gbfs(program):
         ({"gbfs": {"feeds": PLAIN["gbfs"]["feeds"][:2]}}, {}, "gbfs names no station_status"),
         ({"gbfs": {"feeds": PLAIN["gbfs"]["feeds"][:1] * 2}}, {}, "gbfs: name system_information stands twice"),
         ({"gbfs": {"en": {"feeds": []}}}, {}, "gbfs has no feeds"),
-        (
-            {"system_information": {"languages": ["fr"], "name": "Vélos"}},
-            {},
-            "system_information: name is not a list of objects",
-        ),
+        ({"system_information": {"languages": ["fr"], "name": "Vélos"}}, {}, f"system_information: name {no_list}"),
         (changed("station_status", "num_vehicles_available", None), {}, "station A <1> has no num_vehicles_available"),
         (changed("station_status", "is_renting", 1), {}, "station A <1>: is_renting is not true or false"),
-        (
-            changed("station_status", "num_docks_available", 1.5),
-            {},
-            f"station A <1>: num_docks_available is not {count}",
-        ),
+        (changed("station_status", docks, 1.5), {}, f"station A <1>: {docks} is not {count}"),
         (changed("station_information", "lat", 91), {}, "station A <1>: lat is not from -90 to 90"),
         (changed("station_information", "lon", "x"), {}, "station A <1>: lon is not a number"),
         (changed("station_information", "station_id", "b"), {}, "station_information: station_id b stands twice"),
@@ -351,14 +344,12 @@ def test_the_map_refuses_what_is_no_gbfs(program):
         saved(program, {**PLAIN, **feeds}, heads)
         found = draw(program, "feeds", "--svg", "wrong.svg")
         assert found == (1, "", f"map.py: {wanted}\n"), (wanted, found)
-    for text, wanted in [
-        *((it, "no JSON") for it in (b"{", b"\xff", b'{"version":NaN}', b"[" * 200000)), (b"[]", "not an object")
-    ]:
+    bad = b"{", b"\xff", b'{"version":NaN}', b"[" * 200000
+    for text, wanted in [*((it, "no JSON") for it in bad), (b"[]", "not an object")]:
         Path(program.folder, "feeds/gbfs.json").write_bytes(text)
         status, out, said = draw(program, "feeds", "--svg", "wrong.svg")
-        assert (
-            (status, out, said.count("\n")) == (1, "", 1) and said.startswith(f"map.py: feeds/gbfs.json: {wanted}")
-        ), said
+        assert (status, out, said.count("\n")) == (1, "", 1), said
+        assert said.startswith(f"map.py: feeds/gbfs.json: {wanted}"), said
     for source in ("nowhere", "http://127.0.0.1:1/gbfs.json", "file:///etc/passwd"):
         status, out, said = draw(program, source, "--svg", "wrong.svg")
         assert (status, out, said.count("\n")) == (1, "", 1) and said.startswith("map.py: "), said
@@ -545,25 +536,21 @@ def served(feeds):
             server.shutdown()
 
 
-@needs("chromium")
-def test_the_live_page_of_hard_feeds(program):
-    """The page shows texts as they stand and in the browser's language, goes on without a feed that is missing, and
-    says which is late."""
-    evil = "<img src=x onerror=\"document.title='broken in'\"></title><script>document.title='broken in'</script>&amp;"
+EVIL = "<img src=x onerror=\"document.title='broken in'\"></title><script>document.title='broken in'</script>&amp;"
+
+
+def hard_feeds():
+    """Feeds with texts that look like a page's program, names in other languages or none, and counts that are none."""
     names = {
-        "A <1>": [{"text": evil, "language": "sv"}],
+        "A <1>": [{"text": EVIL, "language": "sv"}],
         "b": [{"text": "Bee", "language": "en"}, {"text": "Abeille", "language": "fr"}],
-        "c": [
-            {"text": "Drei", "language": "de"},
-            {"text": "Three", "language": "en-GB"},
-            {"text": "Tri", "language": "cy"},
-        ],
+        "c": [{"text": text, "language": tag} for text, tag in (("Drei", "de"), ("Three", "en-GB"), ("Tri", "cy"))],
         "d": [{"text": "  ", "language": "fr"}],
         "e": "no list",
     }
     places = [
-        {"station_id": it, "name": name, "lat": 10 + at / 100, "lon": 1.5}
-        for at, (it, name) in enumerate(names.items())
+        {"station_id": station, "name": name, "lat": 10 + at / 100, "lon": 1.5}
+        for at, (station, name) in enumerate(names.items())
     ]
     places += [{"station_id": "nowhere", "name": names["b"], "lat": None, "lon": 2}, None]
     now = datetime.datetime.now(datetime.timezone.utc)
@@ -572,32 +559,34 @@ def test_the_live_page_of_hard_feeds(program):
         {**PLAIN["station_status"]["stations"][0], "num_vehicles_available": -1},
         *PLAIN["station_status"]["stations"][1:],
     ]
-    feeds = {
+    return {
         "gbfs": dict(head),
-        "system_information": {**head, "data": {"name": [{"text": evil, "language": "en"}], "timezone": "No/Where"}},
+        "system_information": {**head, "data": {"name": [{"text": EVIL, "language": "en"}], "timezone": "No/Where"}},
         "station_information": {**head, "data": {"stations": places}},
         "station_status": {**head, "last_updated": "2024-10-27T12:00:00Z", "data": {"stations": states}},
     }
+
+
+@needs("chromium")
+def test_the_live_page_of_hard_feeds(program):
+    """The page shows texts as they stand and in the browser's language, goes on without a feed that is missing, and
+    says which is late."""
+    feeds, no_v3 = hard_feeds(), {"version": "2.3", "data": {}}
     with served(feeds) as address:
         page = Page(dumped(program, address, "fr-CA,de"))
         found = {station: cells[:2] for station, cells in table_of(page).items()}
         assert found == {
-            "A <1>": [evil, "0"], "b": ["Abeille", "0"], "c": ["Drei", "?"], "d": ["d", "9"], "e": ["e", "?"]
+            "A <1>": [EVIL, "0"], "b": ["Abeille", "0"], "c": ["Drei", "?"], "d": ["d", "9"], "e": ["e", "?"]
         }, found
-        assert (
-            (page.texts["name"], page.title) == (evil, evil) and not [it for it in page.elements if it[0] == "img"]
-        ), page.title
+        assert (page.texts["name"], page.title) == (EVIL, EVIL), page.title
+        assert not [it for it in page.elements if it[0] == "img"], page.title
         assert page.texts["notices"].startswith("Late: station_status, of 27 Oct 2024, 12:00:00 UTC, "), (
             page.texts["notices"]
         )
         for name, text, wanted in (
             ("station_status", None, "its site answers with 503; stations are shown without bicycles. Tried again "),
             ("station_status", '{"version":', "it is no JSON; stations are shown without bicycles. Tried again "),
-            (
-                "system_information",
-                {"version": "2.3", "data": {}},
-                "it is no feed of GBFS v3; the system has no name here. Tried again ",
-            ),
+            ("system_information", no_v3, "it is no feed of GBFS v3; the system has no name here. Tried again "),
         ):
             kept, feeds[name] = feeds[name], text
             page = Page(dumped(program, address))

@@ -631,6 +631,12 @@ def made_city(seed):
     for kind, ident in [*things, *(("station", it) for it in docks)]:
         for language in pick.sample(["de", "DE", "fr", "it", "zh-Hant", "-0", "En"], pick.randint(0, 3)):
             commands.append(f"add-name\t{kind}\t{ident}\t{language}\t{kind} {ident} in {language}")
+    return commands + docked(pick, docks, types)
+
+
+def docked(pick, docks, types):
+    """Commands that bring bicycles into some of the stations' docks; some bicycles and some docks are out of order."""
+    commands = []
     bike = order = 0
     for station, n in docks.items():
         for dock in pick.sample(range(1, n + 1), pick.randint(0, n)):
@@ -695,24 +701,38 @@ FROM stations_3 AS stations, types ORDER BY 1, 2
 """
 
 
+def counts_are_stored(program, db, seed):
+    """What the feed tells of each station is what SQL counts in the tables."""
+    found = {it["station_id"]: it for it in data_of(program, "station_status")["stations"]}
+    available = {}
+    for station, kind, count in db.execute(COUNTED):
+        available.setdefault(station, []).append({"vehicle_type_id": kind, "count": count})
+    in_docks = dict(
+        db.execute("SELECT station_id, count(*) FROM bikes WHERE station_id IS NOT NULL GROUP BY station_id")
+    )
+    broken = dict(db.execute("SELECT station_id, sum(broken) FROM docks GROUP BY station_id"))
+    both = dict(db.execute(
+        "SELECT bikes.station_id, count(*) FROM bikes JOIN docks USING (station_id, dock) "
+        "WHERE docks.broken = 1 GROUP BY 1"
+    ))
+    capacity = dict(db.execute("SELECT station_id, docks FROM stations_3"))
+    assert list(found) == sorted(capacity), list(found)
+    for station, shown in found.items():
+        total = sum(it["count"] for it in available[station])
+        assert shown["vehicle_types_available"] == available[station], (seed, station, shown)
+        assert shown["num_vehicles_available"] == total, (seed, station, shown)
+        assert shown["num_vehicles_disabled"] == in_docks.get(station, 0) - total, (seed, station, shown)
+        assert shown["num_docks_disabled"] == broken.get(station, 0), (seed, station, shown)
+        empty = capacity[station] - in_docks.get(station, 0) - broken.get(station, 0) + both.get(station, 0)
+        assert shown["num_docks_available"] == empty, (seed, station, shown)
+
+
 def test_a_made_city_is_counted_by_sql(program):
     for seed in range(3):
         removed(program.folder, "city.db")
         accepted(program, made_city(seed))
-        found = {it["station_id"]: it for it in data_of(program, "station_status")["stations"]}
         with copied(program.folder, "city.db") as db:
-            available = {}
-            for station, kind, count in db.execute(COUNTED):
-                available.setdefault(station, []).append({"vehicle_type_id": kind, "count": count})
-            in_docks = dict(
-                db.execute("SELECT station_id, count(*) FROM bikes WHERE station_id IS NOT NULL GROUP BY station_id")
-            )
-            broken = dict(db.execute("SELECT station_id, sum(broken) FROM docks GROUP BY station_id"))
-            both = dict(db.execute(
-                "SELECT bikes.station_id, count(*) FROM bikes JOIN docks USING (station_id, dock) "
-                "WHERE docks.broken = 1 GROUP BY 1"
-            ))
-            capacity = dict(db.execute("SELECT station_id, docks FROM stations_3"))
+            counts_are_stored(program, db, seed)
             region = dict(db.execute("SELECT station_id, region_id FROM stations_3 JOIN regions USING (region_id)"))
             names = db.execute("SELECT region_id, regions.name FROM regions ORDER BY region_id").fetchall()
             stored, languages = stored_names(db)
@@ -729,15 +749,6 @@ def test_a_made_city_is_counted_by_sql(program):
         assert [(it["region_id"], it["name"][0]["text"]) for it in regions] == names and len(names) == 5, (
             seed, regions
         )
-        assert list(found) == sorted(capacity), list(found)
-        for station, shown in found.items():
-            total = sum(it["count"] for it in available[station])
-            assert shown["vehicle_types_available"] == available[station], (seed, station, shown)
-            assert shown["num_vehicles_available"] == total, (seed, station, shown)
-            assert shown["num_vehicles_disabled"] == in_docks.get(station, 0) - total, (seed, station, shown)
-            assert shown["num_docks_disabled"] == broken.get(station, 0), (seed, station, shown)
-            empty = capacity[station] - in_docks.get(station, 0) - broken.get(station, 0) + both.get(station, 0)
-            assert shown["num_docks_available"] == empty, (seed, station, shown)
 
 
 def test_wrong_names_and_moments(program):

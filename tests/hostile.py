@@ -75,101 +75,126 @@ def numbers(pick, least, most):
     return pick.choice(BIG)
 
 
-def command(pick):
-    """The words of a command, mostly a good one."""
-    def bike():
-        return numbers(pick, 1, 999_999) if pick.random() < 0.1 else str(pick.randint(1, 20))
+class Fields:
+    """Draws the fields of commands, mostly good ones."""
 
-    def serial():
-        return numbers(pick, 1, 100_000_000)
+    def __init__(self, pick):
+        self.pick = pick
 
-    def text():
-        return pick.choice(TEXTS) if pick.random() < 0.2 else "Name"
+    def mostly(self, often, good, bad):
+        """One of the good ones so often, else one of the bad."""
+        return self.pick.choice(good) if self.pick.random() < often else self.pick.choice(bad)
 
-    def flag():
-        return pick.choice(["true", "false"]) if pick.random() < 0.95 else pick.choice(["True", "1", "", "yes"])
+    def number(self, least, most):
+        return numbers(self.pick, least, most)
 
-    def degrees():
-        return pick.choice(DEGREES)
+    def bike(self):
+        return self.number(1, 999_999) if self.pick.random() < 0.1 else str(self.pick.randint(1, 20))
 
-    def segments():
-        return pick.choice(SEGMENTS)
+    rider = bike
 
-    def station():
-        return pick.choice(STATIONS) if pick.random() < 0.9 else pick.choice(["A1", "", "*", "a" * 36, "a" * 37, "a b"])
+    def truck(self):
+        return self.pick.choice(["1", "2", "3", self.bike()])
 
-    def end():
-        return "*" if pick.random() < 0.4 else station()
+    def serial(self):
+        return self.number(1, 100_000_000)
 
-    def region():
-        return (
-            pick.choice(REGIONS)
-            if pick.random() < 0.9
-            else pick.choice(["North", "", "*", "**", "r" * 36, "r" * 37, "a b"])
-        )
+    def text(self):
+        return self.pick.choice(TEXTS) if self.pick.random() < 0.2 else "Name"
 
-    def named():
-        what = pick.choice(list(NAMED))
-        ident = pick.choice(NAMED[what]) if pick.random() < 0.9 else pick.choice([station(), region()])
-        good = pick.random() < 0.9
-        return [
-            what if good else pick.choice(["Station", "", "bike", "stations", "system "]),
-            ident,
-            pick.choice(FURTHER if good else LANGUAGES),
-            text(),
-        ]
+    def flag(self):
+        return self.mostly(0.95, ["true", "false"], ["True", "1", "", "yes"])
 
-    def kind():
-        return pick.choice(TYPES)
+    def degrees(self):
+        return self.pick.choice(DEGREES)
 
-    def dock():
-        return numbers(pick, 1, formats.MOST_DOCKS) if pick.random() < 0.2 else str(pick.randint(1, 6))
+    def segments(self):
+        return self.pick.choice(SEGMENTS)
 
-    def rider():
-        return bike()
+    def station(self):
+        return self.mostly(0.9, STATIONS, ["A1", "", "*", "a" * 36, "a" * 37, "a b"])
 
-    made = {
+    def end(self):
+        return "*" if self.pick.random() < 0.4 else self.station()
+
+    def region(self):
+        return self.mostly(0.9, REGIONS, ["North", "", "*", "**", "r" * 36, "r" * 37, "a b"])
+
+    def kind(self):
+        return self.pick.choice(TYPES)
+
+    def dock(self):
+        return self.number(1, formats.MOST_DOCKS) if self.pick.random() < 0.2 else str(self.pick.randint(1, 6))
+
+    def named(self):
+        """The fields of add-name."""
+        what = self.pick.choice(list(NAMED))
+        if self.pick.random() < 0.9:
+            ident = self.pick.choice(NAMED[what])
+        else:
+            ident = self.pick.choice([self.station(), self.region()])
+        good = self.pick.random() < 0.9
+        if not good:
+            what = self.pick.choice(["Station", "", "bike", "stations", "system "])
+        return [what, ident, self.pick.choice(FURTHER if good else LANGUAGES), self.text()]
+
+
+def of_the_catalogue(pick, some):
+    """How the fields are drawn of the commands that set up a city."""
+    return {
         "set-system": lambda: [
-            "metro", pick.choice(LANGUAGES), text(), text(), text(), text(), pick.choice(CURRENCIES), text(),
-            numbers(pick, 0, 86_400),
+            "metro", pick.choice(LANGUAGES), some.text(), some.text(), some.text(), some.text(),
+            pick.choice(CURRENCIES), some.text(), some.number(0, 86_400),
         ],
         "add-plan": lambda: [
-            pick.choice(["basic", "day", f"p{pick.randint(0, 300)}"]), text(), numbers(pick, 0, 1_000_000), flag(),
-            text(), segments(),
+            pick.choice(["basic", "day", f"p{pick.randint(0, 300)}"]), some.text(), some.number(0, 1_000_000),
+            some.flag(), some.text(), some.segments(),
         ],
         "add-type": lambda: [
-            pick.choice(["city", "cargo", f"t{pick.randint(0, 40)}"]), text(), pick.choice(FORMS),
+            pick.choice(["city", "cargo", f"t{pick.randint(0, 40)}"]), some.text(), pick.choice(FORMS),
             pick.choice(PROPULSIONS), pick.choice(RANGES), pick.choice(PLANS),
         ],
-        "set-plan": lambda: [kind(), pick.choice(PLANS)],
+        "set-plan": lambda: [some.kind(), pick.choice(PLANS)],
         "add-station": lambda: [
-            pick.choice([station(), f"s{pick.randint(0, 500)}"]), text(), degrees(), degrees(), dock()
+            pick.choice([some.station(), f"s{pick.randint(0, 500)}"]), some.text(), some.degrees(), some.degrees(),
+            some.dock(),
         ],
-        "set-station": lambda: [station(), flag(), flag(), flag()],
-        "add-region": lambda: [pick.choice([region(), f"r{pick.randint(0, 300)}"]), text()],
-        "set-region": lambda: [station(), "*" if pick.random() < 0.3 else region()],
-        "mark-dock": lambda: [station(), dock(), pick.choice(["broken", "working", "fit"])],
-        "add-bike": lambda: [bike(), kind()],
-        "mark-bike": lambda: [bike(), pick.choice(["disabled", "fit", "broken"])],
-        "retire-bike": lambda: [bike()],
-        "add-rider": lambda: [rider()],
-        "set-rider": lambda: [rider(), pick.choice(["open", "blocked", ""])],
-        "top-up": lambda: [rider(), numbers(pick, 1, 1_000_000)],
-        "refund": lambda: [serial(), numbers(pick, 1, 1_000_000)],
-        "start": lambda: [rider(), station(), dock()],
-        "end": lambda: [bike(), station(), dock()],
-        "recover": lambda: [serial()],
-        "add-truck": lambda: [pick.choice(["1", "2", "3", bike()]), numbers(pick, 1, 60)],
-        "open-order": lambda: [pick.choice(["1", "2", "3", bike()]), end(), end(), kind(), numbers(pick, 1, 60)],
-        "load": lambda: [pick.choice(["1", "2", "3", bike()]), serial(), bike()],
+        "set-station": lambda: [some.station(), some.flag(), some.flag(), some.flag()],
+        "add-region": lambda: [pick.choice([some.region(), f"r{pick.randint(0, 300)}"]), some.text()],
+        "set-region": lambda: [some.station(), "*" if pick.random() < 0.3 else some.region()],
+        "mark-dock": lambda: [some.station(), some.dock(), pick.choice(["broken", "working", "fit"])],
+        "add-bike": lambda: [some.bike(), some.kind()],
+    }
+
+
+def of_the_day(pick, some):
+    """How the fields are drawn of the others, and of one that there isn't."""
+    return {
+        "mark-bike": lambda: [some.bike(), pick.choice(["disabled", "fit", "broken"])],
+        "retire-bike": lambda: [some.bike()],
+        "add-rider": lambda: [some.rider()],
+        "set-rider": lambda: [some.rider(), pick.choice(["open", "blocked", ""])],
+        "top-up": lambda: [some.rider(), some.number(1, 1_000_000)],
+        "refund": lambda: [some.serial(), some.number(1, 1_000_000)],
+        "start": lambda: [some.rider(), some.station(), some.dock()],
+        "end": lambda: [some.bike(), some.station(), some.dock()],
+        "recover": lambda: [some.serial()],
+        "add-truck": lambda: [some.truck(), some.number(1, 60)],
+        "open-order": lambda: [some.truck(), some.end(), some.end(), some.kind(), some.number(1, 60)],
+        "load": lambda: [some.truck(), some.serial(), some.bike()],
         "unload": lambda: [
-            pick.choice(["1", "2", "3", bike()]), serial(), bike(), pick.choice(["from", "to"]),
-            pick.choice(["0", dock()]),
+            some.truck(), some.serial(), some.bike(), pick.choice(["from", "to"]), pick.choice(["0", some.dock()])
         ],
-        "close-order": lambda: [serial()],
-        "add-name": named,
+        "close-order": lambda: [some.serial()],
+        "add-name": some.named,
         "raise": lambda: [""],
     }
+
+
+def command(pick):
+    """The words of a command, mostly a good one."""
+    some = Fields(pick)
+    made = {**of_the_catalogue(pick, some), **of_the_day(pick, some)}
     often = ["start", "end", "load", "unload", "open-order", "add-bike", "top-up", "mark-bike", "mark-dock"]
     name = pick.choice(often if pick.random() < 0.6 else list(made))
     return [name, *made[name]()]
@@ -428,6 +453,17 @@ def http_input(pick):
         method = pick.choice(["HEAD", "OPTIONS", "PUT", "get", "POST", "GET", "X-Y", "DELETE"])
     if pick.random() < 0.1:
         target += pick.choice(["?", "?a=b", "?/../", "/", "%20"])
+    fields = fields_of(pick, method, body)
+    version = "HTTP/1.1"
+    if pick.random() >= 0.95:
+        version = pick.choice(["HTTP/1.0", "HTTP/2.0", "HTTP/1.2", "http/1.1", "HTTP/1.1 ", ""])
+    ending = "\r\n" if pick.random() < 0.93 else pick.choice(["\n", "\r", "\r\r\n"])
+    data = ending.join([f"{method} {target} {version}", *fields, "", ""]).encode("utf-8", "surrogatepass") + body
+    return spoiled(pick, data)
+
+
+def fields_of(pick, method, body):
+    """The fields of a request's head, mostly good ones."""
     fields = ["Host: 127.0.0.1"] if pick.random() < 0.8 else []
     length = str(len(body))
     if pick.random() < 0.12:
@@ -437,27 +473,18 @@ def http_input(pick):
     if method == "POST" or pick.random() < 0.2:
         fields.append(pick.choice(["Content-Length", "content-length", "CONTENT-LENGTH"]) + ": " + length)
     if pick.random() < 0.04:
-        fields.append(
-            pick.choice([
-                "Transfer-Encoding: chunked",
-                "Transfer-Encoding: identity",
-                "Content-Length: " + length,
-                "transfer-encoding:",
-            ])
-        )
+        coding = "Transfer-Encoding: chunked", "Transfer-Encoding: identity"
+        fields.append(pick.choice([*coding, "Content-Length: " + length, "transfer-encoding:"]))
     if pick.random() < 0.1:
-        fields += [
-            f"X-{it}: {'v' * pick.choice([0, 1, 200])}" for it in range(pick.choice([1, 5, 29, 30, 31, 32, 33, 200]))
-        ]
+        count = pick.choice([1, 5, 29, 30, 31, 32, 33, 200])
+        fields += [f"X-{number}: {'v' * pick.choice([0, 1, 200])}" for number in range(count)]
     if pick.random() < 0.05:
         fields.append(pick.choice(ODD_FIELDS))
-    version = (
-        "HTTP/1.1"
-        if pick.random() < 0.95
-        else pick.choice(["HTTP/1.0", "HTTP/2.0", "HTTP/1.2", "http/1.1", "HTTP/1.1 ", ""])
-    )
-    ending = "\r\n" if pick.random() < 0.93 else pick.choice(["\n", "\r", "\r\r\n"])
-    data = ending.join([f"{method} {target} {version}", *fields, "", ""]).encode("utf-8", "surrogatepass") + body
+    return fields
+
+
+def spoiled(pick, data):
+    """A request as it is, mostly; else with something behind or before it, cut, changed, or other bytes."""
     last = pick.random()
     if last < 0.12:
         return mutated(pick, data, True)
@@ -754,6 +781,20 @@ def exchanged(server, data, pick):
         return rest(client)
 
 
+def tries_one(server, operator, pick, where):
+    """Sends an input, and holds its answer to what is wanted."""
+    data = http_input(pick)
+    try:
+        found = exchanged(server, data, pick)
+        if found is None:
+            # Nobody knows whether that counted, so it is sent again whole: where it did, the answer is the kept one.
+            found = exchanged(server, data, None)
+        wrong = judged(data, found, operator)
+    except (OSError, ValueError, AttributeError, KeyError, IndexError) as fault:
+        found, wrong = None, f"{type(fault).__name__}: {fault}, and the server's status is {server.child.poll()}"
+    assert not wrong, f"{where}: {wrong}: {told(data, 600)} is answered by {found and told(found, 600)}"
+
+
 def test_http(program):
     pick = random.Random(f"{SEED} http")
     operator = make_city(program, "city.db")
@@ -766,22 +807,7 @@ def test_http(program):
         begun = time.monotonic()
         while left:
             left -= 1
-            data = http_input(pick)
-            try:
-                found = exchanged(server, data, pick)
-                if found is None:
-                    # Nobody knows whether that counted, so it is sent again whole: where it did, the answer is the kept
-                    # one.
-                    found = exchanged(server, data, None)
-                wrong = judged(data, found, operator)
-            except (OSError, ValueError, AttributeError, KeyError, IndexError) as fault:
-                found, wrong = (
-                    None, f"{type(fault).__name__}: {fault}, and the server's status is {server.child.poll()}"
-                )
-            assert not wrong, (
-                f"seed {SEED}, {left} inputs before the end: {wrong}: {told(data, 600)} is answered by "
-                f"{found and told(found, 600)}"
-            )
+            tries_one(server, operator, pick, f"seed {SEED}, {left} inputs before the end")
             if left % 100 == 0:
                 found = server.ask(get("/bikes/1"))
                 assert found.startswith(b"HTTP/1.1 200 OK\r\n"), found

@@ -124,11 +124,8 @@ def counted(program):
     return told
 
 
-def test_a_station_of_500_docks_in_use(program):
-    """A bicycle comes into each dock, every other dock breaks, each bicycle that may be ridden goes to the station
-    across, into the dock that has its number from the other end, and the docks are repaired; then a bicycle is carried
-    out of the last dock and back."""
-    docks, odd = range(1, 501), range(1, 501, 2)
+def full_station(program):
+    """Has a city made whose station a1 has a bicycle in each of 500 docks, and b2 none in as many."""
     rows = [
         (SYSTEM, "ok"),
         (PLAN.replace("100", "0"), "ok"),
@@ -139,7 +136,7 @@ def test_a_station_of_500_docks_in_use(program):
         ("add-station\ta1\tHarbour\t0\t0\t501", "refused\t11\tbad_field"), ("add-station\ta1\tHarbour\t0\t0\t500", "ok")
     ]
     rows += [("add-station\tb2\tBridge\t0\t0\t500", "ok"), ("add-rider\t17", "ok")]
-    rows += [(f"add-bike\t{dock}\tcity", "ok") for dock in docks]
+    rows += [(f"add-bike\t{dock}\tcity", "ok") for dock in range(1, 501)]
     for order, first in enumerate(range(1, 501, 60), 1):
         part = range(first, min(first + 60, 501))
         rows += [
@@ -148,6 +145,14 @@ def test_a_station_of_500_docks_in_use(program):
         ]
         rows += [*((f"unload\t3\t{order}\t{dock}\tto\t{dock}", "ok") for dock in part), (f"close-order\t{order}", "ok")]
     served(program, [(f"k{at}", *row) for at, row in enumerate(rows)])
+
+
+def test_a_station_of_500_docks_in_use(program):
+    """A bicycle comes into each dock, every other dock breaks, each bicycle that may be ridden goes to the station
+    across, into the dock that has its number from the other end, and the docks are repaired; then a bicycle is carried
+    out of the last dock and back."""
+    docks, odd = range(1, 501), range(1, 501, 2)
+    full_station(program)
     assert counted(program) == {"a1": (500, 0, 0, 0), "b2": (0, 0, 500, 0)}
     served(program, [(f"m{dock}", f"mark-dock\ta1\t{dock}\tbroken", "ok") for dock in docks if dock not in odd])
     assert counted(program) == {"a1": (250, 250, 0, 250), "b2": (0, 0, 500, 0)}

@@ -463,31 +463,25 @@ def test_a_station_of_more_docks(program):
     for name, version in ("every", 1), ("regions", 2):
         file = kept_files.unpacked(program, name)
         base = file.read_bytes()
-        (most,) = [it[0] for it in held(file).rows[OLD[version]] if it[4] == MOST_DOCKS_BEFORE]
-        more = f"UPDATE {OLD[version]} SET docks = docks + 1, free = free + 1 WHERE docks = {MOST_DOCKS_BEFORE}"
-        new = (
-            f"INSERT INTO {OLD[version]} SELECT {{}}, {', '.join(map(quoted, COLUMNS[version][1:]))} "
-            f"FROM {OLD[version]} WHERE docks = 201"
-        )
+        (most,) = [row[0] for row in held(file).rows[OLD[version]] if row[4] == MOST_DOCKS_BEFORE]
+        old, others = OLD[version], ", ".join(map(quoted, COLUMNS[version][1:]))
+        more = f"UPDATE {old} SET docks = docks + 1, free = free + 1 WHERE docks = {MOST_DOCKS_BEFORE}"
+        new = f"INSERT INTO {old} SELECT {{}}, {others} FROM {old} WHERE docks = 201"
         for change, wanted in (
             ("", None),
-            (more, unsound(OLD[version], most)),
-            (f"{more}; UPDATE counts SET available = available + 1", unsound(OLD[version], most)),
+            (more, unsound(old, most)),
+            (f"{more}; UPDATE counts SET available = available + 1", unsound(old, most)),
             (f"{more}; UPDATE meta SET cash = cash + 1", unsound("meta", b"1")),
             (
                 f"{more}; {new.format(quoted('-', chr(39)))}; "
-                f"UPDATE {OLD[version]} SET free = 201, broken = 0 WHERE station_id = '-'",
-                unsound(OLD[version], b"-"),
+                f"UPDATE {old} SET free = 201, broken = 0 WHERE station_id = '-'",
+                unsound(old, b"-"),
             ),
-            (f"{more}; {new.format(quoted('~', chr(39)))}", unsound(OLD[version], most)),
+            (f"{more}; {new.format(quoted('~', chr(39)))}", unsound(old, most)),
+            (f"{more}; UPDATE {old} SET name = '' WHERE station_id = (SELECT min(station_id) FROM {old})", None),
             (
-                f"{more}; UPDATE {OLD[version]} SET name = '' WHERE station_id = (SELECT min(station_id) "
-                f"FROM {OLD[version]})",
-                None,
-            ),
-            (
-                f"UPDATE {OLD[version]} SET docks = 501, free = free + 301 WHERE docks = {MOST_DOCKS_BEFORE}",
-                unsound(OLD[version], most),
+                f"UPDATE {old} SET docks = 501, free = free + 301 WHERE docks = {MOST_DOCKS_BEFORE}",
+                unsound(old, most),
             ),
         ):
             removed(file)

@@ -33,104 +33,106 @@ def seconds(moment):
     return int(datetime.strptime(moment, "%Y-%m-%dT%H:%M:%SZ").replace(tzinfo=timezone.utc).timestamp())
 
 
+WORKED_START = b'POST /riders/17/start HTTP/1.1\r\nContent-Length: 36\r\n\r\n{"key":"s1","station":"a1","dock":1}'
+WORKED_STARTED = (
+    b"HTTP/1.1 200 OK\r\nContent-Type: application/json\r\nContent-Length: 35\r\nConnection: close\r\n\r\n"
+    b'{"result":"ok","rental":1,"bike":7}'
+)
+# These answers, heads too, are written out whole.
+WORKED = [
+    (
+        b"GET /riders/17 HTTP/1.1\r\n\r\n",
+        b"HTTP/1.1 200 OK\r\nContent-Type: application/json\r\nContent-Length: 59\r\nConnection: close\r\n\r\n"
+        b'{"rider":17,"state":"open","balance_cents":2500,"rental":0}',
+    ),
+    (WORKED_START, WORKED_STARTED),
+    (WORKED_START, WORKED_STARTED),
+    (
+        b'POST /riders/17/start HTTP/1.1\r\nContent-Length: 36\r\n\r\n{"key":"s2","station":"a1","dock":1}',
+        (
+            b"HTTP/1.1 409 Conflict\r\nContent-Type: application/json\r\nContent-Length: 57\r\n"
+            b"Connection: close\r\n\r\n"
+            b'{"result":"refused","number":20,"name":"rider_is_riding"}'
+        ),
+    ),
+    (
+        b"GET /bikes/7 HTTP/1.1\r\n\r\n",
+        b"HTTP/1.1 200 OK\r\nContent-Type: application/json\r\nContent-Length: 66\r\nConnection: close\r\n\r\n"
+        b'{"bike":7,"type":"city","state":"fit","place":"rental","rental":1}',
+    ),
+    (
+        b"GET /orders/1 HTTP/1.1\r\n\r\n",
+        b"HTTP/1.1 200 OK\r\nContent-Type: application/json\r\nContent-Length: 96\r\nConnection: close\r\n\r\n"
+        b'{"order":1,"truck":3,"from":"*","to":"a1","type":"city","count":1,"delivered":1,"is_open":false}',
+    ),
+    (
+        b'POST /office HTTP/1.1\r\nContent-Length: 41\r\n\r\n{"key":"o1","command":"top-up\\t17\\t100"}',
+        (
+            b"HTTP/1.1 400 Bad Request\r\nContent-Type: application/json\r\nContent-Length: 39\r\n"
+            b"Connection: close\r\n\r\n"
+            b'{"result":"error","name":"bad_request"}'
+        ),
+    ),
+    (
+        b'POST /office HTTP/1.1\r\nContent-Length: 40\r\n\r\n{"key":"o1","command":"top-up\\t17\\t100"}',
+        b"HTTP/1.1 200 OK\r\nContent-Type: application/json\r\nContent-Length: 36\r\nConnection: close\r\n\r\n"
+        b'{"result":"ok","balance_cents":2600}',
+    ),
+    (
+        b'POST /riders/17/start HTTP/1.1\r\nContent-Length: 38\r\n\r\n{"key":"s1","station":"a1","dock":"1"}',
+        (
+            b"HTTP/1.1 400 Bad Request\r\nContent-Type: application/json\r\nContent-Length: 51\r\n"
+            b"Connection: close\r\n\r\n"
+            b'{"result":"refused","number":11,"name":"bad_field"}'
+        ),
+    ),
+    (
+        b"POST /riders/17/start HTTP/1.1\r\nContent-Length: 2\r\n\r\n[]",
+        (
+            b"HTTP/1.1 400 Bad Request\r\nContent-Type: application/json\r\nContent-Length: 39\r\n"
+            b"Connection: close\r\n\r\n"
+            b'{"result":"error","name":"bad_request"}'
+        ),
+    ),
+    (
+        b"GET /nowhere HTTP/1.1\r\n\r\n",
+        (
+            b"HTTP/1.1 404 Not Found\r\nContent-Type: application/json\r\nContent-Length: 37\r\n"
+            b"Connection: close\r\n\r\n"
+            b'{"result":"error","name":"not_found"}'
+        ),
+    ),
+    (
+        b"GET /riders/17/start HTTP/1.1\r\n\r\n",
+        (
+            b"HTTP/1.1 405 Method Not Allowed\r\nContent-Type: application/json\r\nContent-Length: 46\r\n"
+            b"Connection: close\r\n"
+            b'Allow: POST\r\n\r\n{"result":"error","name":"method_not_allowed"}'
+        ),
+    ),
+    (
+        b"POST /riders/17 HTTP/1.1\r\n\r\n",
+        (
+            b"HTTP/1.1 405 Method Not Allowed\r\nContent-Type: application/json\r\nContent-Length: 46\r\n"
+            b"Connection: close\r\n"
+            b'Allow: GET\r\n\r\n{"result":"error","name":"method_not_allowed"}'
+        ),
+    ),
+    (
+        b"POST /office HTTP/1.1\r\nContent-Length: 20000\r\n\r\n",
+        (
+            b"HTTP/1.1 413 Payload Too Large\r\nContent-Type: application/json\r\nContent-Length: 37\r\n"
+            b"Connection: close\r\n\r\n"
+            b'{"result":"error","name":"too_large"}'
+        ),
+    ),
+]
+
+
 def test_worked_answers(program):
-    """These answers, heads too, are written out whole."""
     city(program)
-    start = b'POST /riders/17/start HTTP/1.1\r\nContent-Length: 36\r\n\r\n{"key":"s1","station":"a1","dock":1}'
-    started = (
-        b"HTTP/1.1 200 OK\r\nContent-Type: application/json\r\nContent-Length: 35\r\nConnection: close\r\n\r\n"
-        b'{"result":"ok","rental":1,"bike":7}'
-    )
-    rows = [
-        (
-            b"GET /riders/17 HTTP/1.1\r\n\r\n",
-            b"HTTP/1.1 200 OK\r\nContent-Type: application/json\r\nContent-Length: 59\r\nConnection: close\r\n\r\n"
-            b'{"rider":17,"state":"open","balance_cents":2500,"rental":0}',
-        ),
-        (start, started),
-        (start, started),
-        (
-            b'POST /riders/17/start HTTP/1.1\r\nContent-Length: 36\r\n\r\n{"key":"s2","station":"a1","dock":1}',
-            (
-                b"HTTP/1.1 409 Conflict\r\nContent-Type: application/json\r\nContent-Length: 57\r\n"
-                b"Connection: close\r\n\r\n"
-                b'{"result":"refused","number":20,"name":"rider_is_riding"}'
-            ),
-        ),
-        (
-            b"GET /bikes/7 HTTP/1.1\r\n\r\n",
-            b"HTTP/1.1 200 OK\r\nContent-Type: application/json\r\nContent-Length: 66\r\nConnection: close\r\n\r\n"
-            b'{"bike":7,"type":"city","state":"fit","place":"rental","rental":1}',
-        ),
-        (
-            b"GET /orders/1 HTTP/1.1\r\n\r\n",
-            b"HTTP/1.1 200 OK\r\nContent-Type: application/json\r\nContent-Length: 96\r\nConnection: close\r\n\r\n"
-            b'{"order":1,"truck":3,"from":"*","to":"a1","type":"city","count":1,"delivered":1,"is_open":false}',
-        ),
-        (
-            b'POST /office HTTP/1.1\r\nContent-Length: 41\r\n\r\n{"key":"o1","command":"top-up\\t17\\t100"}',
-            (
-                b"HTTP/1.1 400 Bad Request\r\nContent-Type: application/json\r\nContent-Length: 39\r\n"
-                b"Connection: close\r\n\r\n"
-                b'{"result":"error","name":"bad_request"}'
-            ),
-        ),
-        (
-            b'POST /office HTTP/1.1\r\nContent-Length: 40\r\n\r\n{"key":"o1","command":"top-up\\t17\\t100"}',
-            b"HTTP/1.1 200 OK\r\nContent-Type: application/json\r\nContent-Length: 36\r\nConnection: close\r\n\r\n"
-            b'{"result":"ok","balance_cents":2600}',
-        ),
-        (
-            b'POST /riders/17/start HTTP/1.1\r\nContent-Length: 38\r\n\r\n{"key":"s1","station":"a1","dock":"1"}',
-            (
-                b"HTTP/1.1 400 Bad Request\r\nContent-Type: application/json\r\nContent-Length: 51\r\n"
-                b"Connection: close\r\n\r\n"
-                b'{"result":"refused","number":11,"name":"bad_field"}'
-            ),
-        ),
-        (
-            b"POST /riders/17/start HTTP/1.1\r\nContent-Length: 2\r\n\r\n[]",
-            (
-                b"HTTP/1.1 400 Bad Request\r\nContent-Type: application/json\r\nContent-Length: 39\r\n"
-                b"Connection: close\r\n\r\n"
-                b'{"result":"error","name":"bad_request"}'
-            ),
-        ),
-        (
-            b"GET /nowhere HTTP/1.1\r\n\r\n",
-            (
-                b"HTTP/1.1 404 Not Found\r\nContent-Type: application/json\r\nContent-Length: 37\r\n"
-                b"Connection: close\r\n\r\n"
-                b'{"result":"error","name":"not_found"}'
-            ),
-        ),
-        (
-            b"GET /riders/17/start HTTP/1.1\r\n\r\n",
-            (
-                b"HTTP/1.1 405 Method Not Allowed\r\nContent-Type: application/json\r\nContent-Length: 46\r\n"
-                b"Connection: close\r\n"
-                b'Allow: POST\r\n\r\n{"result":"error","name":"method_not_allowed"}'
-            ),
-        ),
-        (
-            b"POST /riders/17 HTTP/1.1\r\n\r\n",
-            (
-                b"HTTP/1.1 405 Method Not Allowed\r\nContent-Type: application/json\r\nContent-Length: 46\r\n"
-                b"Connection: close\r\n"
-                b'Allow: GET\r\n\r\n{"result":"error","name":"method_not_allowed"}'
-            ),
-        ),
-        (
-            b"POST /office HTTP/1.1\r\nContent-Length: 20000\r\n\r\n",
-            (
-                b"HTTP/1.1 413 Payload Too Large\r\nContent-Type: application/json\r\nContent-Length: 37\r\n"
-                b"Connection: close\r\n\r\n"
-                b'{"result":"error","name":"too_large"}'
-            ),
-        ),
-    ]
     # A length that is one too great waits for a byte that never comes, so each client ends its input.
-    holds(program, rows, ends=True)
+    holds(program, WORKED, ends=True)
 
 
 def test_every_post(program):
@@ -163,6 +165,7 @@ def test_every_post(program):
 def test_every_row_that_is_shown(program):
     city(program, "add-rider\t18", "set-rider\t18\tblocked")
     opened = f'{{"rental":1,"rider":17,"bike":7,"plan":"basic","from":"a1","start":"{MOMENT}","is_open":'
+    closed = opened + f'false,"to":"a1","end":"{MOMENT}","fare_cents":100,"refunded_cents":'
     holds(program, [
         (get("/riders/18"), answer(200, '{"rider":18,"state":"blocked","balance_cents":0,"rental":0}')),
         (get("/riders/17"), NOT_RIDING),
@@ -179,15 +182,9 @@ def test_every_row_that_is_shown(program):
             post("/docks/a1/end", '{"key":"e1","bike":7,"dock":1}'),
             answer(200, '{"result":"ok","fare_cents":100,"balance_cents":2400}'),
         ),
-        (
-            get("/rentals/1"),
-            answer(200, opened + f'false,"to":"a1","end":"{MOMENT}","fare_cents":100,"refunded_cents":0}}'),
-        ),
+        (get("/rentals/1"), answer(200, closed + "0}")),
         (office("o1", "refund\t1\t40"), answer(200, '{"result":"ok","balance_cents":2440}')),
-        (
-            get("/rentals/1"),
-            answer(200, opened + f'false,"to":"a1","end":"{MOMENT}","fare_cents":100,"refunded_cents":40}}'),
-        ),
+        (get("/rentals/1"), answer(200, closed + "40}")),
         (office("o2", "mark-bike\t7\tdisabled"), DONE),
         (office("o3", "open-order\t3\ta1\t*\tcity\t1"), answer(200, '{"result":"ok","order":2}')),
         (office("o4", "load\t3\t2\t7"), DONE),
@@ -328,24 +325,24 @@ def test_the_worked_regions(program):
     is_sound(program)
 
 
+# The feeds of the stations and of the system, for what stands behind the names in the system's own language.
+NAMED_PLACE = (
+    '{"stations":[{"station_id":"a1","name":[{"text":"Harbour","language":"en"}%s],"lat":41.890169,"lon":12.492269,'
+    '"capacity":2}]}}'
+)
+NAMED_SYSTEM = (
+    '{"system_id":"metro","languages":["en"%s],"name":[{"text":"Metro Bikes","language":"en"}%s],'
+    '"opening_hours":"24/7","feed_contact_email":"feeds@example.org","timezone":"Etc/UTC"}}'
+)
+
+
 def test_the_worked_names(program):
     """The feed of stations and the one of the system, whole, while names in further languages come."""
     city(program)
     head = f'{{"last_updated":"{MOMENT}","ttl":30,"version":"3.0","data":'
-    place = head + (
-        '{"stations":[{"station_id":"a1","name":[{"text":"Harbour","language":"en"}%s],"lat":41.890169,"lon":12.492269,'
-        '"capacity":2}]}}'
-    )
-    system = (
-        head + (
-            '{"system_id":"metro","languages":["en"%s],"name":[{"text":"Metro Bikes","language":"en"}%s],'
-            '"opening_hours":"24/7","feed_contact_email":"feeds@example.org","timezone":"Etc/UTC"}}'
-        )
-    )
-    harbour, port, porto = (
-        f',{{"text":"{text}","language":"{language}"}}'
-        for text, language in (("Hafen", "de"), ("Port", "fr"), ("Porto", "it"))
-    )
+    place, system = head + NAMED_PLACE, head + NAMED_SYSTEM
+    names = ("Hafen", "de"), ("Port", "fr"), ("Porto", "it")
+    harbour, port, porto = (f',{{"text":"{text}","language":"{language}"}}' for text, language in names)
     places, about = get_feed("station_information"), get_feed("system_information")
     there = refused(10, "already_there")
     holds(program, [

@@ -949,12 +949,8 @@ def test_logs_that_are_changed(program):
     used = 32 + (len(log) - 32) // 4120 * 4120
     changes = [(f"log cut to {it}", log[:it]) for it in sizes]
     for _ in range(count):
-        at, value = (
-            pick.choice([
-                pick.randrange(32), pick.randrange(used), 32 + 4120 * pick.randrange(used // 4120) + pick.randrange(24)
-            ]),
-            pick.randrange(256),
-        )
+        places = [pick.randrange(32), pick.randrange(used), pick.randrange(used // 4120) * 4120 + 32 + pick.randrange(24)]
+        at, value = pick.choice(places), pick.randrange(256)
         changes.append((f"byte {at} of the log = {value}", log[:at] + bytes([value]) + log[at + 1 :]))
     wrong = []
     for number, (name, bytes_of_log) in enumerate(changes):
@@ -964,9 +960,8 @@ def test_logs_that_are_changed(program):
         beside.write_bytes(bytes_of_log)
         ended = program.run("check", file.name)
         if ended not in (SOUND, STORE_FAILED) or file.read_bytes() != main:
-            wrong.append(
-                f"{name}: {ended}, {'the file stands' if file.read_bytes() == main else 'the file was changed'}"
-            )
+            stands = "the file stands" if file.read_bytes() == main else "the file was changed"
+            wrong.append(f"{name}: {ended}, {stands}")
         again = program.run("check", file.name)
         if again != ended:
             wrong.append(f"{name}: first {ended} and then {again}")

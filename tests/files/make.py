@@ -90,18 +90,12 @@ def main(words):
             if name == "city":
                 example(program, folder)
             elif name == "tour":
-                new = ["1700003000\trider:17\ts9\tstart\t17\ta1\t2"]
-                served(
-                    program, folder, name, (TOP / "docs/tour.txt").read_bytes(), 1700000600, [("2023-11-14", "UTC0")],
-                    new,
-                )
+                new, given = ["1700003000\trider:17\ts9\tstart\t17\ta1\t2"], (TOP / "docs/tour.txt").read_bytes()
+                served(program, folder, name, given, 1700000600, [("2023-11-14", "UTC0")], new)
             elif name == "regions":
                 new = ["1700100000\toffice\tn1\tset-region\ta1\t*", "1700100000\toffice\tn2\tset-region\tb2\twest"]
-                days = [("2023-11-15", "UTC0")]
-                served(
-                    program, folder, name, (HERE / "regions.in").read_bytes(), 1700050000, days, new,
-                    [*FEEDS, "system_regions"],
-                )
+                days, given = [("2023-11-15", "UTC0")], (HERE / "regions.in").read_bytes()
+                served(program, folder, name, given, 1700050000, days, new, [*FEEDS, "system_regions"])
             elif name == "names":
                 new = [
                     "1700100000\toffice\tn1\tadd-name\tstation\ta1\tes\tPuerto",
@@ -111,11 +105,8 @@ def main(words):
                     "1700100000\toffice\tn5\tmark-dock\te5\t499\tbroken",
                     "1700100000\toffice\tn6\tmark-dock\te5\t501\tbroken",
                 ]
-                days = [("2023-11-15", "UTC0")]
-                served(
-                    program, folder, name, (HERE / "names.in").read_bytes(), 1700050000, days, new,
-                    [*FEEDS, "system_regions"],
-                )
+                days, given = [("2023-11-15", "UTC0")], (HERE / "names.in").read_bytes()
+                served(program, folder, name, given, 1700050000, days, new, [*FEEDS, "system_regions"])
             else:
                 new = [
                     "1700100000\toffice\tn1\ttop-up\t17\t100", "1700100000\toffice\tn2\tadd-station\td4\tNew\t1\t2\t200"
