@@ -949,7 +949,8 @@ def test_logs_that_are_changed(program):
     used = 32 + (len(log) - 32) // 4120 * 4120
     changes = [(f"log cut to {it}", log[:it]) for it in sizes]
     for _ in range(count):
-        places = [pick.randrange(32), pick.randrange(used), pick.randrange(used // 4120) * 4120 + 32 + pick.randrange(24)]
+        places = [pick.randrange(32), pick.randrange(used)]
+        places.append(32 + 4120 * pick.randrange(used // 4120) + pick.randrange(24))
         at, value = pick.choice(places), pick.randrange(256)
         changes.append((f"byte {at} of the log = {value}", log[:at] + bytes([value]) + log[at + 1 :]))
     wrong = []
