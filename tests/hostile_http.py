@@ -1,5 +1,5 @@
-"""Hostile HTTP requests from a seeded generator. What they are made of, and by which variables more are made, hostile.py
-tells.
+"""Hostile HTTP requests from a seeded generator. What they are made of, and by which variables more are made, is told
+in hostile.py.
 
 Whatever comes, the server neither crashes nor hangs. Each connection gets one well-formed response, the one that
 docs/FORMATS.md, section 6, and the operator in model.py demand where this file can tell it, or is closed. Afterwards
