@@ -289,6 +289,23 @@ def test_examples_of_the_formats(program):
     assert f"`{HEADER.strip()}`" in documents()["docs/FORMATS.md"]
 
 
+def is_code(file):
+    """Whether a file is Python or C, by its name or by its first line."""
+    if not file.is_file():
+        return False
+    return file.suffix in (".py", ".c") or (not file.suffix and file.read_bytes().startswith(b"#!/usr/bin/env python3"))
+
+
+def test_lines_of_code_are_short(program):
+    """No line of Python or C has more than 120 characters."""
+    kinds = "tests/**/*", "bench/**/*", "tools/**/*", "examples/**/*"
+    files = [file for kind in kinds for file in TOP.glob(kind) if is_code(file)]
+    assert len(files) > 60, len(files)
+    lines = [(file, at, line) for file in files for at, line in enumerate(file.read_text("utf-8").split("\n"), 1)]
+    long = [f"{file.relative_to(TOP)}, line {at}: {len(line)}" for file, at, line in lines if len(line) > 120]
+    assert not long, "\n".join(sorted(long))
+
+
 def test_subcommands(program):
     """Wherever a document shows the program's command line, its first word is one of docs/FORMATS.md, section 9."""
     texts = documents()

@@ -1,5 +1,6 @@
 """A small model of the operator: what docs/OPERATOR.md has it answer to the requests that the tour sends, and what it
-then holds.
+then holds. It stands alone, beside the larger one of tests/model.py, since a release has these examples and not that
+file.
 
 It knows the commands and refusals that the tour uses, and keeps everything in dictionaries and lists. Money is in
 hundredths of the currency, moments are in seconds of UTC. Sections are those of docs/OPERATOR.md.
