@@ -1,5 +1,5 @@
-"""deploy/bikeshare-doctor on request lines and on tables of stations: what it calls bad the program refuses, and what it
-lets through the program takes. Its fields are those of the documents.
+"""deploy/bikeshare-doctor on request lines and on tables of stations: what it calls bad the program refuses, and what
+it lets through the program takes. Its fields are those of the documents.
 """
 
 import functools
