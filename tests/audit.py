@@ -132,20 +132,21 @@ def place_of(row):
     return first, len(named) == {"dock": 2, "rental": 1, "truck": 2, "depot": 0}[first[0]]
 
 
+def key_of(table, row):
+    """What a row has first: its key's one value, or all of them."""
+    values = list(row.values())
+    return tuple(values[: TABLES[table]]) if TABLES[table] > 1 else values[0]
+
+
 class Audit:
     """The first bad row of the tables, which are lists of rows by column."""
 
     def __init__(self, tables):
         self.rows = {name: sorted(rows, key=lambda it, keys=keys: [rank(value) for value in list(it.values())[:keys]])
                      for (name, keys), rows in zip(TABLES.items(), (tables[name] for name in TABLES))}
-        self.good = {name: [it for it in rows if self.keeps_bounds(name, it)] for name, rows in self.rows.items()}
+        self.good = {name: [row for row in rows if self.keeps_bounds(name, row)] for name, rows in self.rows.items()}
         self.good["bikes"] = [{**it, "place": place_of(it)} for it in self.good["bikes"]]
-        self.by = {
-            name: {
-                tuple(it.values())[: TABLES[name]] if TABLES[name] > 1 else next(iter(it.values())): it for it in rows
-            }
-            for name, rows in self.good.items()
-        }
+        self.by = {name: {key_of(name, row): row for row in rows} for name, rows in self.good.items()}
 
     def keeps_bounds(self, table, row):
         optional = MAY_BE_NULL.get(table, ())
@@ -156,9 +157,9 @@ class Audit:
 
     def sum(self, kind, **of):
         return sum(
-            it["amount"]
-            for it in self.good["entries"]
-            if it["kind"] == kind and all(it[name] == value for name, value in of.items())
+            entry["amount"]
+            for entry in self.good["entries"]
+            if entry["kind"] == kind and all(entry[name] == value for name, value in of.items())
         )
 
     def holds(self, station):
@@ -173,7 +174,7 @@ class Audit:
         """The table and key of the first bad row, or none."""
         for table, keys in TABLES.items():
             listed = [(list(it.values())[:keys], it) for it in self.rows[table]]
-            missing = [(key, None) for key in self.owed(table) if key not in [it for it, _ in listed]]
+            missing = [(key, None) for key in self.owed(table) if key not in [there for there, _ in listed]]
             for at, (key, row) in enumerate(sorted(listed + missing, key=lambda it: [rank(value) for value in it[0]])):
                 if row is None or not self.is_good(table, row, at):
                     return table, key

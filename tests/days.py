@@ -447,7 +447,7 @@ def test_made_zones(program):
     """Of made zones the bounds of days are those of Python's zoneinfo."""
     pick = random.Random(f"{SEED} zones")
     for _ in range(max(1, MADE // 120)):
-        found = [it for _ in range(14) for it in days_of(made_zone(pick), pick.randint(1971, 2120), 5)]
+        found = [day for _ in range(14) for day in days_of(made_zone(pick), pick.randint(1971, 2120), 5)]
         holds_days(program, found, f"seed {SEED}")
 
 

@@ -19,7 +19,7 @@ from shared import CITY, HEADER, TOP, requests_of
 @functools.cache
 def samples():
     """Texts at the bounds of all kinds of fields, and beside them."""
-    fields = [field for it in CITY for field in it.split("\t")]
+    fields = [field for command in CITY for field in command.split("\t")]
     numbers = [0, 1, 8, 9, 10, 59, 60, 61, 200, 201, 499, 500, 501, 86_400, 86_401, 100_000, 100_001, 999_999]
     numbers += [1_000_000, 1_000_001, 100_000_000, 100_000_001, formats.LAST_MOMENT, formats.LAST_MOMENT + 1, 2**63]
     numbers += [10**20, 10**40]
@@ -132,7 +132,7 @@ def test_lines_and_their_answers(program):
     for file in sorted((TOP / "tests/lines").glob("*.in")):
         tried += finds_the_refused(file.read_bytes(), file.with_suffix(".out").read_bytes(), file.name)
     city = [TOP / "examples/city" / it for it in ("setup", "regions", "names", "morning")]
-    given, wanted = (b"".join(it.with_suffix(suffix).read_bytes() for it in city) for suffix in (".in", ".out"))
+    given, wanted = (b"".join(file.with_suffix(suffix).read_bytes() for file in city) for suffix in (".in", ".out"))
     tried += finds_the_refused(given, wanted, "the example city")
     assert tried > 200, tried
 

@@ -209,10 +209,10 @@ def missing_in(text):
     """The files that a text names in backticks and that aren't there. They are named from the top, from docs, from
     crates or from a crate."""
     named = {
-        it.strip("/")
+        name.strip("/")
         for one in quoted(text)
-        for it in re.findall(r"[\w./@*-]+", one)
-        if IS_FILE.fullmatch(it) and not ELSEWHERE.fullmatch(it)
+        for name in re.findall(r"[\w./@*-]+", one)
+        if IS_FILE.fullmatch(name) and not ELSEWHERE.fullmatch(name)
     }
     folders = (
         "", "docs/", "deploy/", "tests/", "crates/", "crates/*/", "crates/*/specs/", "crates/*/src/", "crates/*/proofs/"
@@ -269,7 +269,7 @@ def test_links_and_sections(program):
     ]
     others = [
         TOP / "docs/openapi.yaml",
-        *(it for where in ("bench", "examples/*", "tests/files") for it in TOP.glob(f"{where}/README.md")),
+        *(file for where in ("bench", "examples/*", "tests/files") for file in TOP.glob(f"{where}/README.md")),
     ]
     assert len(others) == 5, others
     found = bad_links(documents() | {str(it.relative_to(TOP)): it.read_text(encoding="utf-8") for it in others})
@@ -413,9 +413,9 @@ def test_rules_have_their_names(program):
     }
     files = [it for kind in ("src/**/*.rt", "specs/**/*.antt") for it in TOP.glob(f"crates/*/{kind}")]
     named = {
-        it.lower()
+        rule.lower()
         for file in files
-        for it in re.findall(r"\bthe [a-z]+(?:-[a-z]+)* rule\b", file.read_text(encoding="utf-8"), re.I)
+        for rule in re.findall(r"\bthe [a-z]+(?:-[a-z]+)* rule\b", file.read_text(encoding="utf-8"), re.I)
     }
     assert len(named) > 15 and named <= bold, named - bold
 
@@ -442,9 +442,8 @@ def test_glossary(program):
 def unknown_in(text):
     """The crates, the variables and the tests that a text names and that there aren't."""
     crates = {it.name for it in TOP.glob("crates/*")} | set(formats.REFUSALS.values())
-    files = [
-        it for kind in ("tests/*", "tools/*", "deploy/*", "bench/*", "gate") for it in TOP.glob(kind) if it.is_file()
-    ]
+    kinds = "tests/*", "tools/*", "deploy/*", "bench/*", "gate"
+    files = [file for kind in kinds for file in TOP.glob(kind) if file.is_file()]
     scripts = [it for it in files if it.name != "documents.py"]
     variables = set(re.findall(r"BIKESHARE_[A-Z_]+", "".join(it.read_text(encoding="utf-8") for it in scripts)))
     tests = [f"{it.stem}." for it in TOP.glob("tests/*.py")] + [

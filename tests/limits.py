@@ -112,9 +112,8 @@ def counted(program):
     """Of each station: bicycles available and disabled, docks available and disabled, as the feed tells them and as the
     tables store them."""
     names = ["num_vehicles_available", "num_vehicles_disabled", "num_docks_available", "num_docks_disabled"]
-    told = {
-        it["station_id"]: tuple(it[name] for name in names) for it in data_of(program, "station_status")["stations"]
-    }
+    stations = data_of(program, "station_status")["stations"]
+    told = {station["station_id"]: tuple(station[name] for name in names) for station in stations}
     with copied(program.folder, "city.db") as base:
         rows = base.execute("SELECT station_id, free, broken FROM stations_3").fetchall()
         stored = {station: (0, 0, free, broken) for station, free, broken in rows}

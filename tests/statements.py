@@ -18,9 +18,9 @@ OF_A_DAY = {
 
 def test_the_engine_keeps_all(program):
     sources = [
-        it.read_text(encoding="utf-8")
+        file.read_text(encoding="utf-8")
         for crate in SERVING
-        for it in sorted((TOP / "crates" / crate / "src").rglob("*.rt"))
+        for file in sorted((TOP / "crates" / crate / "src").rglob("*.rt"))
     ]
     texts = {text for source in sources for text in TEXT.findall(source)}
     assert OF_A_DAY < texts, "the statements of a day's tables aren't those"

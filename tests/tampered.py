@@ -461,9 +461,8 @@ def readable(file):
             is_whole(base)
         tables = read(file)
         # A byte of a table's text may have changed the name of a column.
-        return (
-            tables if all(list(it) == list(BOUNDS[name]) for name, rows in tables.items() for it in rows[:1]) else None
-        )
+        are_ours = all(list(row) == list(BOUNDS[name]) for name, rows in tables.items() for row in rows[:1])
+        return tables if are_ours else None
     except (AssertionError, sqlite3.Error, UnicodeDecodeError):
         return None
 

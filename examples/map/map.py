@@ -392,7 +392,7 @@ def main():
         print("map.py:", " ".join(str(fault).split()), file=sys.stderr)
         return 1
     bicycles, docks = (
-        sum(it[name] for it in system.stations) for name in ("num_vehicles_available", "num_docks_available")
+        sum(station[name] for station in system.stations) for name in ("num_vehicles_available", "num_docks_available")
     )
     print(f"{len(system.stations)} stations, {bicycles} bicycles available, {docks} free docks")
     return 0
