@@ -202,9 +202,8 @@ def test_the_greatest_amount_and_the_least(program):
         0, "".join(f"{answer}\n" for _, _, answer in RIDES).encode(), b""
     )
     entries = ["2,fare,17,1,345618000.00", "3,refund,17,1,10000.00", "4,refund,17,1,0.01", "5,fare,18,2,0.00"]
-    assert table(program, "entries", "2023-12-14", "UTC0") == ENTRIES + "".join(
-        f"{it},2023-12-14T22:00:00Z\n" for it in entries
-    )
+    wanted = "".join(f"{entry},2023-12-14T22:00:00Z\n" for entry in entries)
+    assert table(program, "entries", "2023-12-14", "UTC0") == ENTRIES + wanted
     rentals = [
         "1,17,7,most,a1,2023-11-14T22:00:00Z,a1,2023-12-14T22:00:00Z,345618000.00\n",
         "2,18,7,gift,a1,2023-12-14T22:00:00Z,a1,2023-12-14T22:00:00Z,0.00\n",

@@ -290,9 +290,8 @@ def test_the_map_of_regions(program):
     status, out, said = draw(program, "feeds", "--svg", "regions.svg", "--html", "regions.html")
     assert (status, out, said) == (0, "2 stations, 3 bicycles available, 0 free docks\n", ""), (status, out, said)
     text = Path(program.folder, "regions.svg").read_text(encoding="utf-8")
-    assert {station: told[-1] for station, told in stations_of(text)} == {"A <1>": "L’est", "b": "x-9"}, stations_of(
-        text
-    )
+    regions = {station: told[-1] for station, told in stations_of(text)}
+    assert regions == {"A <1>": "L’est", "b": "x-9"}, stations_of(text)
     assert (
         text.count(">L’est</text>") == text.count(">x-9</text>") == 1
         and "No stations" not in text

@@ -435,9 +435,8 @@ NOT_RETURNING = (
 
 def test_texts_of_two_stations(program):
     assert ask(program, BARE, at=0) == ["ok"] * 3
-    assert feed(program, "station_status") == HEAD + '{"stations":[' + NOT_INSTALLED % "" + "]}}", feed(
-        program, "station_status"
-    )
+    wanted = HEAD + '{"stations":[' + NOT_INSTALLED % "" + "]}}"
+    assert feed(program, "station_status") == wanted, feed(program, "station_status")
     accepted(program, BRIDGE, at=253402300799, first=10)
     wanted = HEAD + '{"stations":[' + NOT_INSTALLED % NO_VEHICLES + "," + NOT_RETURNING + "]}}"
     assert feed(program, "station_status") == wanted, feed(program, "station_status")
