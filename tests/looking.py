@@ -10,8 +10,10 @@ from pathlib import Path
 
 import adoption
 from days import ENTRIES, RENTALS
-from shared import DONE, FOREIGN, HEADER, NO_SYSTEM, READY, SOUND, STORE_FAILED, Server
-from shared import changed, held, office, put, quickly, removed, taken, told_with
+from shared import (
+    DONE, FOREIGN, HEADER, NO_SYSTEM, READY, SOUND, STORE_FAILED, Server, changed, held, office, put, quickly, removed,
+    taken, told_with,
+)
 
 LOOKS = {
     "check": (["check", "FILE"], SOUND),

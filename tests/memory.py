@@ -26,10 +26,9 @@ import imports
 import streams
 from adoption import asked, told
 from shared import (
-    HEADER, JOBS, READY, UNAVAILABLE, WANTS, Program, at_once, counted, disturbed, ask, environment, exchanged, faulty,
-    get, get_feed, held, is_sound, office,
+    HEADER, JOBS, READY, UNAVAILABLE, WANTS, Program, ask, at_once, counted, disturbed, environment, exchanged, faulty,
+    get, get_feed, held, is_sound, office, post, put, quickly, removed, rows_of, taken, timeless,
 )
-from shared import post, put, quickly, removed, rows_of, taken, timeless
 
 TRIED = os.environ.get("BIKESHARE_MEMORY", "8")
 SEED = int(os.environ.get("BIKESHARE_SEED", "1"))

@@ -12,8 +12,9 @@ import re
 import time
 
 import formats
-from shared import CITY, FEEDS, TOP, Server, accepted, answer, city, get, holds, post, put, request, requests_of, taken
-from shared import timeless
+from shared import (
+    CITY, FEEDS, TOP, Server, accepted, answer, city, get, holds, post, put, request, requests_of, taken, timeless,
+)
 
 KEY = re.compile(r'("[^"\\]*"|[A-Za-z0-9_$./{}-]+):(?: (.+))?')
 PLAIN = re.compile(r"[A-Za-z0-9_][A-Za-z0-9_./-]*")

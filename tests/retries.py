@@ -31,9 +31,8 @@ import stored
 import traffic
 from shared import (
     EIO, ENOSPC, KILLED, START, STARTED, UNAVAILABLE, Server, counted, disturbed, environment, exchanged, held,
-    is_sound, nothing_is,
+    is_sound, nothing_is, post, put, quickly, removed, rows_of, taken, tell, told_with, wrong_of,
 )
-from shared import post, put, quickly, removed, rows_of, taken, tell, told_with, wrong_of
 from stops import as_line
 
 TRIED = os.environ.get("BIKESHARE_RETRIES", "30")

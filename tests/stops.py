@@ -31,13 +31,11 @@ import tempfile
 from pathlib import Path
 
 import shared
-from shared import DISTURBED, EINTR, EIO, ENOSPC, FAULTS, KILLED, NO_SYSTEM, ROOM, SOUND, STORE_FAILED, TOP, UNAVAILABLE
-from shared import WANTS, Program
 from shared import (
-    at_once, city, counted, environment, exchanged, faulty, get_feed, held, is_sound, nothing_is, post, put, quickly,
-    removed,
+    DISTURBED, EINTR, EIO, ENOSPC, FAULTS, KILLED, NO_SYSTEM, ROOM, SOUND, STORE_FAILED, TOP, UNAVAILABLE, WANTS,
+    Program, at_once, city, counted, environment, exchanged, faulty, get_feed, held, is_sound, nothing_is, post, put,
+    quickly, removed, rows_of, taken, tell,
 )
-from shared import rows_of, taken, tell
 
 STRIDE = int(os.environ.get("BIKESHARE_STOPS", "0"))
 FIRST = int(os.environ.get("BIKESHARE_STOPS_FIRST", "0"))

@@ -20,9 +20,9 @@ import adoption
 import days
 import imports
 import paths
-from shared import HEADER, READ_FAILED, SOUND, START, STARTED, STORE_FAILED, WRITE_FAILED
 from shared import (
-    ask, changed, city, error, exchanged, faulty, faulty_exchange, held, holds, put, quickly, removed, rows_of, taken,
+    HEADER, READ_FAILED, SOUND, START, STARTED, STORE_FAILED, WRITE_FAILED, ask, changed, city, error, exchanged,
+    faulty, faulty_exchange, held, holds, put, quickly, removed, rows_of, taken,
 )
 
 SECONDS = 30

@@ -10,10 +10,9 @@ import adoption
 import days
 import formats
 import imports
-from shared import DONE, HEADER, READ_FAILED, READY, SOUND, STORE_FAILED, Server
 from shared import (
-    ask, changed, faulty, faulty_exchange, get, held, is_sound, is_whole, office, quickly, removed, rows_of,
-    tells_mistake,
+    DONE, HEADER, READY, READ_FAILED, SOUND, STORE_FAILED, Server, ask, changed, faulty, faulty_exchange, get, held,
+    is_sound, is_whole, office, quickly, removed, rows_of, tells_mistake,
 )
 
 ADD = b"1700000000\toffice\tk0\tadd-rider\t17\n"
