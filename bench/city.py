@@ -1,19 +1,23 @@
 #!/usr/bin/env python3
 """Makes a city and its traffic as request lines (docs/FORMATS.md, section 1): the same ones for the same options.
 
-    bench/city.py DIR [--stations N] [--docks N] [--types N] [--bicycles N] [--riders N] [--trucks N] [--daily N] [--seed N]
-                      [--requests N] [--refused SHARE] [--repeated SHARE] [--rentals N] [--bad N] [--make FILE --program PROGRAM]
+    bench/city.py DIR [--stations N] [--docks N] [--types N] [--bicycles N] [--riders N] [--trucks N] [--daily N]
+                      [--seed N] [--requests N] [--refused SHARE] [--repeated SHARE] [--rentals N] [--bad N]
+                      [--make FILE --program PROGRAM]
 
 It writes into the folder DIR
 
-    setup.txt    the requests that build the city: catalogue, stations, bicycles in docks, trucks, riders with 20.00 each
-    traffic.txt  --requests requests that may follow: starts, ends, top-ups, refunds, marks, recovered bicycles, trucks on their
-                 rounds; a share is refused on purpose, a share is sent twice
-    history.txt  starts and ends of --rentals rentals that may follow the setup in place of the traffic, with the top-ups they need
+    setup.txt    the requests that build the city: catalogue, stations, bicycles in docks, trucks, riders with 20.00
+                 each
+    traffic.txt  --requests requests that may follow: starts, ends, top-ups, refunds, marks, recovered bicycles, trucks
+                 on their rounds; a share is refused on purpose, a share is sent twice
+    history.txt  starts and ends of --rentals rentals that may follow the setup in place of the traffic, with the
+                 top-ups they need
     bad.txt      --bad lines that spell no request
 
-With --make it has PROGRAM (by the words `lines FILE`) make a file of the setup and, where --rentals is given, the history.
-Places of bicycles and balances are simulated, so that what is meant to be accepted is. A moment never goes back.
+With --make it has PROGRAM (by the words `lines FILE`) make a file of the setup and, where --rentals is given, the
+history. Places of bicycles and balances are simulated, so that what is meant to be accepted is. A moment never goes
+back.
 """
 
 import argparse
@@ -88,8 +92,11 @@ def spelled(segment):
 class City:
     """A city whose requests are told one by one; what it holds is as if each that was told had been accepted."""
 
-    def __init__(self, stations=500, docks=20, types=2, bicycles=5000, riders=50000, trucks=20, daily=None, seed=1, **_):
-        """An empty city of these sizes; `daily` is how many trips begin a day, two for each bicycle if it isn't given."""
+    def __init__(
+        self, stations=500, docks=20, types=2, bicycles=5000, riders=50000, trucks=20, daily=None, seed=1, **_
+    ):
+        """An empty city of these sizes; `daily` is how many trips begin a day, two for each bicycle if it isn't
+        given."""
         assert 1 <= bicycles <= stations * docks * 3 // 4 and stations > 1 and types > 0 and trucks > 0 and riders > 1
         self.chance = random.Random(seed)
         self.moment, self.keys, self.turns, self.agenda = FIRST_MOMENT, itertools.count(1), itertools.count(), []
@@ -118,11 +125,19 @@ class City:
     def setup(self):
         """Tells the requests that build the city."""
         office = ["office"]
-        yield self.ask(*office, "set-system", "metro", "en", "Metro", "24/7", "feeds@example.org", "Etc/UTC", "EUR", "http://127.0.0.1:8080", 30)
+        yield self.ask(
+            *office, "set-system", "metro", "en", "Metro", "24/7", "feeds@example.org", "Etc/UTC", "EUR",
+            "http://127.0.0.1:8080", 30,
+        )
         for plan, (price, segments) in PLANS.items():
-            yield self.ask(*office, "add-plan", plan, plan.title(), price, "true", f"From {price} on", ";".join(map(spelled, segments)))
+            yield self.ask(
+                *office, "add-plan", plan, plan.title(), price, "true", f"From {price} on",
+                ";".join(map(spelled, segments)),
+            )
         for it in self.types:
-            kind = ("cargo_bicycle", "electric_assist", 60000) if self.plan_of(it) == "cargo" else ("bicycle", "human", 0)
+            kind = (
+                ("cargo_bicycle", "electric_assist", 60000) if self.plan_of(it) == "cargo" else ("bicycle", "human", 0)
+            )
             yield self.ask(*office, "add-type", it, it.title(), *kind, self.plan_of(it))
         for at, it in enumerate(self.stations):
             place = f"{45 + at // 70 * 0.003:.6f}", f"{9 + at % 70 * 0.004:.6f}"
@@ -142,7 +157,9 @@ class City:
             for type_id in self.types:
                 bikes = [it for it in own if self.type_of[it] == type_id]
                 for few in (bikes[it : it + 40] for it in range(0, len(bikes), 40)):
-                    yield from (it for it in self.carried(1 + at % len(self.trucks), "*", station, few) if isinstance(it, str))
+                    yield from (
+                        it for it in self.carried(1 + at % len(self.trucks), "*", station, few) if isinstance(it, str)
+                    )
 
     def joined(self, rider):
         """A rider is added, with a balance."""
@@ -210,7 +227,8 @@ class City:
         return self.ask("office", "top-up", rider, amount)
 
     def trip(self, plain=False):
-        """A rider takes a bicycle from one dock to another; a plain trip has nothing beside its start and end and what it needs."""
+        """A rider takes a bicycle from one dock to another; a plain trip has nothing beside its start and end and what
+        it needs."""
         if not len(self.idle) or not len(self.ready):
             return
         rider = self.idle.take(self.chance)
@@ -237,7 +255,8 @@ class City:
         self.idle.add(rider)
 
     def after_trip(self, place, rider, rental, price):
-        """What comes of some trips: a refund, a rider who is blocked for a while, a bicycle or a dock out of order for a while."""
+        """What comes of some trips: a refund, a rider who is blocked for a while, a bicycle or a dock out of order for
+        a while."""
         if price and self.chance.random() < REFUNDED:
             yield self.ask("office", "refund", rental, min(price, 100))
             self.balance[rider] += min(price, 100)
@@ -255,7 +274,11 @@ class City:
             return
         place = pool.take(self.chance)
         dock = f"dock:{place[0]}"
-        words = ("mark-bike", self.docked[place], "disabled", "fit") if pool is self.ready else ("mark-dock", *place, "broken", "working")
+        words = (
+            ("mark-bike", self.docked[place], "disabled", "fit")
+            if pool is self.ready
+            else ("mark-dock", *place, "broken", "working")
+        )
         yield self.ask(dock, *words[:-1])
         yield 1800
         yield self.ask(dock, *words[:-2], words[-1])
@@ -366,12 +389,17 @@ def post(line):
         "end": lambda: (f"/docks/{name}/end", {"bike": number[0], "dock": number[2]}),
         "mark-dock": lambda: (f"/docks/{name}/mark-dock", {"dock": number[1], "state": fields[2]}),
         "load": lambda: (f"/crews/{name}/load", {"order": number[1], "bike": number[2]}),
-        "unload": lambda: (f"/crews/{name}/unload", {"order": number[1], "bike": number[2], "side": fields[3], "dock": number[4]}),
+        "unload": lambda: (
+            f"/crews/{name}/unload", {"order": number[1], "bike": number[2], "side": fields[3], "dock": number[4]}
+        ),
     }.get(word, lambda: ("/office", {"command": command}))()
     if word == "mark-bike" and caller.startswith("dock:"):
         path, members = f"/docks/{name}/mark-bike", {"bike": number[0], "state": fields[1]}
     body = json.dumps({"key": key, **members}, separators=(",", ":"))
-    head = f"POST {path} HTTP/1.1\r\nHost: 127.0.0.1\r\nContent-Type: application/json\r\nContent-Length: {len(body)}\r\n\r\n"
+    head = (
+        f"POST {path} HTTP/1.1\r\nHost: 127.0.0.1\r\nContent-Type: application/json\r\n"
+        f"Content-Length: {len(body)}\r\n\r\n"
+    )
     return (head + body).encode()
 
 
@@ -379,7 +407,10 @@ def words(given):
     """What the command line asks for."""
     reader = argparse.ArgumentParser(description=__doc__, formatter_class=argparse.RawDescriptionHelpFormatter)
     reader.add_argument("folder", metavar="DIR")
-    sizes = {"stations": 500, "docks": 20, "types": 2, "bicycles": 5000, "riders": 50000, "trucks": 20, "daily": None, "seed": 1}
+    sizes = {
+        "stations": 500, "docks": 20, "types": 2, "bicycles": 5000, "riders": 50000, "trucks": 20, "daily": None,
+        "seed": 1,
+    }
     for name, size in {**sizes, "requests": 100_000, "rentals": 0, "bad": 0}.items():
         reader.add_argument(f"--{name}", type=int, default=size, metavar="N")
     reader.add_argument("--refused", type=float, default=0.02, metavar="SHARE")

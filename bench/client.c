@@ -1,6 +1,7 @@
-/* client PORT: sends each of the HTTP requests on standard input to 127.0.0.1:PORT, one after the other, a connection each. A request
-   ends with a NUL. For each it prints the nanoseconds from before the connection to the end of the response, the status, the length of
-   the response and a hash (FNV-1a) of its body. Its status is 1 where a call of the system fails. */
+/* client PORT: sends each of the HTTP requests on standard input to 127.0.0.1:PORT, one after the other, a connection
+   each. A request ends with a NUL. For each it prints the nanoseconds from before the connection to the end of the
+   response, the status, the length of the response and a hash (FNV-1a) of its body. Its status is 1 where a call of the
+   system fails. */
 
 #include <arpa/inet.h>
 #include <inttypes.h>
@@ -34,7 +35,8 @@ static ssize_t exchange(const struct sockaddr_in *server, const char *request, c
 {
     int connection = socket(AF_INET, SOCK_STREAM, 0);
     ssize_t length = strlen(request);
-    if (connection < 0 || connect(connection, (const void *)server, sizeof *server) || write(connection, request, length) != length)
+    if (connection < 0 || connect(connection, (const void *)server, sizeof *server) ||
+        write(connection, request, length) != length)
         return -1;
     length = read_all(connection, response);
     close(connection);
@@ -46,7 +48,8 @@ int main(int count, char **words)
     char *requests = calloc(1, MOST + 1), *response = calloc(1, MOST + 1);
     if (count != 2 || !requests || !response)
         return 2;
-    struct sockaddr_in server = {.sin_family = AF_INET, .sin_port = htons(atoi(words[1])), .sin_addr.s_addr = htonl(INADDR_LOOPBACK)};
+    struct sockaddr_in server = {
+        .sin_family = AF_INET, .sin_port = htons(atoi(words[1])), .sin_addr.s_addr = htonl(INADDR_LOOPBACK)};
     ssize_t all = read_all(0, requests);
     for (char *request = requests; request < requests + all; request += strlen(request) + 1) {
         int64_t begin = nanoseconds();

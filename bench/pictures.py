@@ -59,7 +59,8 @@ def curve(points, x, y, name, colour):
 
 
 def chart(title, across, curves, in_powers=False):
-    """The picture of curves, given as name and points; values across are drawn by their powers of ten, and so, if asked, those upwards."""
+    """The picture of curves, given as name and points; values across are drawn by their powers of ten, and so, if
+    asked, those upwards."""
     points = [it for _, some in curves for it in some]
     x = Axis([one for one, _ in points], LEFT, WIDTH - RIGHT, True)
     y = Axis([other for _, other in points], HEIGHT - BOTTOM, TOP, in_powers)
@@ -67,9 +68,14 @@ def chart(title, across, curves, in_powers=False):
     for mark in x.marks:
         drawn += [line(x.at(mark), y.begin, x.at(mark), y.begin + 5, 1), text(x.at(mark), y.begin + 20, short(mark))]
     for mark in y.marks:
-        drawn += [line(LEFT, y.at(mark), WIDTH - RIGHT, y.at(mark), 0.3), text(LEFT - 8, y.at(mark) + 4, short(mark), "end")]
+        drawn += [
+            line(LEFT, y.at(mark), WIDTH - RIGHT, y.at(mark), 0.3), text(LEFT - 8, y.at(mark) + 4, short(mark), "end")
+        ]
     drawn.append(line(LEFT, y.begin, WIDTH - RIGHT, y.begin, 1))
     for at, (name, some) in enumerate(curves):
         drawn += curve(some, x, y, name, COLOURS[at % len(COLOURS)])
-    head = f'<svg xmlns="http://www.w3.org/2000/svg" viewBox="0 0 {WIDTH} {HEIGHT}" width="{WIDTH}" height="{HEIGHT}" font-family="sans-serif">'
+    head = (
+        f'<svg xmlns="http://www.w3.org/2000/svg" viewBox="0 0 {WIDTH} {HEIGHT}" width="{WIDTH}" height="{HEIGHT}" '
+        'font-family="sans-serif">'
+    )
     return "\n".join([head, *drawn, "</svg>", ""])

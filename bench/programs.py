@@ -1,4 +1,5 @@
-"""Starts programs and takes their figures: processor and wall time in seconds, memory in bytes, and what they answer. Linux alone."""
+"""Starts programs and takes their figures: processor and wall time in seconds, memory in bytes, and what they answer.
+Linux alone."""
 
 import ctypes
 import fcntl
@@ -13,8 +14,9 @@ SUBREAPER = 36  # of prctl: this process becomes the parent of its children's ch
 PIPE_SIZE = 1 << 20  # bytes
 PAUSE = 0.002  # seconds between two looks at what was answered
 PATIENCE = 600  # seconds without an answer
-# A shell starts another, which tells its number and becomes the program; then the first ends, and the program is a child of this
-# process. So the greatest memory that the system tells of it is its own. Of a direct child it would be at least this process's.
+# A shell starts another, which tells its number and becomes the program; then the first ends, and the program is a
+# child of this process. So the greatest memory that the system tells of it is its own. Of a direct child it would be at
+# least this process's.
 START = """exec 3<&0; sh -c 'echo $$ >&2; exec "$@"' sh "$@" <&3 3<&- &"""
 
 
@@ -28,7 +30,9 @@ class Program:
     def __init__(self, text):
         """Reads NAME=COMMAND, or COMMAND alone."""
         name, named, command = text.partition("=")
-        self.words = [os.path.abspath(it) if os.path.exists(it) else it for it in shlex.split(command if named else text)]
+        self.words = [
+            os.path.abspath(it) if os.path.exists(it) else it for it in shlex.split(command if named else text)
+        ]
         self.name = name if named else os.path.basename(self.words[-1])
 
 
@@ -49,9 +53,12 @@ class Process:
     def __init__(self, words, given, taken):
         """Starts it with its input and output."""
         ctypes.CDLL(None).prctl(SUBREAPER, 1, 0, 0, 0)
-        environment = {**os.environ, "PYTHONUNBUFFERED": "1"}  # a program in Python too answers before it waits for more
+        # a program in Python too answers before it waits for more
+        environment = {**os.environ, "PYTHONUNBUFFERED": "1"}
         self.began = time.monotonic()
-        shell = subprocess.Popen(["sh", "-c", START, "sh", *words], stdin=given, stdout=taken, stderr=subprocess.PIPE, env=environment)
+        shell = subprocess.Popen(
+            ["sh", "-c", START, "sh", *words], stdin=given, stdout=taken, stderr=subprocess.PIPE, env=environment
+        )
         self.said, self.number = shell.stderr, int(shell.stderr.readline())
         Process.running.add(self)
         shell.wait()
@@ -111,7 +118,8 @@ def run(program, *words, given=b"", statuses=(0,)):
 
 
 def from_first_byte(program, *words):
-    """Runs a program on no input, and returns what it took, but the wall seconds are those behind the first byte of its output."""
+    """Runs a program on no input, and returns what it took, but the wall seconds are those behind the first byte of its
+    output."""
     reading, writing = os.pipe()
     process = Process([*program.words, *words], subprocess.DEVNULL, writing)
     os.close(writing)
@@ -128,10 +136,13 @@ def from_first_byte(program, *words):
 
 
 def by_table(program, file):
-    """Checks a file on a terminal, where the program tells of each table when it comes to it: pairs of what was told and the processor
-    seconds from there to the next, the last to the end. None are told by a program that says nothing."""
+    """Checks a file on a terminal, where the program tells of each table when it comes to it: pairs of what was told
+    and the processor seconds from there to the next, the last to the end. None are told by a program that says
+    nothing."""
     reading, writing = os.openpty()
-    process = subprocess.Popen([*program.words, "check", file], stdin=subprocess.DEVNULL, stdout=subprocess.DEVNULL, stderr=writing)
+    process = subprocess.Popen(
+        [*program.words, "check", file], stdin=subprocess.DEVNULL, stdout=subprocess.DEVNULL, stderr=writing
+    )
     os.close(writing)
     clock = ~process.pid << 3 | 2  # its processor time, all threads, as clock_getcpuclockid makes the number
     told, said = [("", 0.0)], b""
@@ -206,7 +217,9 @@ class Server:
         """Starts it for so many connections, and waits until it listens; `client` is the built client.c."""
         reading, writing = os.pipe()
         self.name, self.client, self.left, self.output = program.name, client, count, os.fdopen(reading, "rb")
-        self.process = Process([*program.words, "serve", file, "--port", "0", "--count", str(count)], subprocess.DEVNULL, writing)
+        self.process = Process(
+            [*program.words, "serve", file, "--port", "0", "--count", str(count)], subprocess.DEVNULL, writing
+        )
         os.close(writing)
         told = self.output.readline().decode()
         if not told.startswith("listening 127.0.0.1:"):
@@ -214,9 +227,12 @@ class Server:
         self.port = told.strip().rpartition(":")[2]
 
     def ask(self, requests):
-        """Sends requests in turn, and returns the server's processor seconds and the wall seconds, status, length and hash of each."""
+        """Sends requests in turn, and returns the server's processor seconds and the wall seconds, status, length and
+        hash of each."""
         processor = self.process.processor()
-        told = subprocess.run([self.client, self.port], input=b"\0".join(requests) + b"\0", capture_output=True, check=True).stdout
+        told = subprocess.run(
+            [self.client, self.port], input=b"\0".join(requests) + b"\0", capture_output=True, check=True
+        ).stdout
         self.left -= len(requests)
         rows = [it.split() for it in told.decode().splitlines()]
         used = self.process.processor() - processor if self.left else None

@@ -1,7 +1,8 @@
-"""Files that are opened again: what `check` finds of a small city whose rows were changed from outside, one change at a time.
+"""Files that are opened again: what `check` finds of a small city whose rows were changed from outside, one change at a
+time.
 
-The wanted words follow from the rules in docs/FORMATS.md, sections 10 and 11, by hand: the first row that is bad, by the order of
-the tables and of their keys, where a row out of its bounds counts as absent for the others.
+The wanted words follow from the rules in docs/FORMATS.md, sections 10 and 11, by hand: the first row that is bad, by
+the order of the tables and of their keys, where a row out of its bounds counts as absent for the others.
 """
 
 import sqlite3
@@ -55,10 +56,10 @@ ASKED = [
 # The numbers from 1 on, so many of them.
 COUNTED = "WITH RECURSIVE counted (n) AS (SELECT 1 UNION ALL SELECT n + 1 FROM counted WHERE n < {})"
 
-# In the end bicycle 7 is in rental 2, 8 in dock 1 of b2, 9 on truck 3 for order 3, 10 in the depot. Rental 1 is closed at
-# 125, of which 25 were refunded; entries 1 to 4 are a top-up of 17, that fare, that refund and a top-up of 18. Station b2
-# stands in region north, a1 in none, and no station in region south. The system, b2, the description of plan basic and region
-# south have names in further languages, b2 in two.
+# In the end bicycle 7 is in rental 2, 8 in dock 1 of b2, 9 on truck 3 for order 3, 10 in the depot. Rental 1 is closed
+# at 125, of which 25 were refunded; entries 1 to 4 are a top-up of 17, that fare, that refund and a top-up of 18.
+# Station b2 stands in region north, a1 in none, and no station in region south. The system, b2, the description of plan
+# basic and region south have names in further languages, b2 in two.
 CHANGES = [
     ("UPDATE meta SET cash = cash + 1", "unsound meta 1"),
     ("UPDATE meta SET revenue = revenue - 1", "unsound meta 1"),
@@ -93,7 +94,10 @@ CHANGES = [
     ("UPDATE system SET base_url = ''", 'unsound system 1'),
     ("UPDATE system SET one = 2", "unsound system 2"),
     ("DELETE FROM system", "unsound more_names description/basic/de"),
-    ("DELETE FROM system; DELETE FROM more_names WHERE kind IN ('description', 'system')", "unsound more_names region/south/de"),
+    (
+        "DELETE FROM system; DELETE FROM more_names WHERE kind IN ('description', 'system')",
+        "unsound more_names region/south/de",
+    ),
     ("DELETE FROM system; DELETE FROM more_names", None),
     ("UPDATE plans SET price = -1", "unsound plans basic"),
     ("UPDATE plans SET price = 1000001", "unsound plans basic"),
@@ -102,9 +106,13 @@ CHANGES = [
     ("UPDATE plans SET description = ''", 'unsound plans basic'),
     ("UPDATE plans SET plan_id = 'Basic'", "unsound plans Basic"),
     ("UPDATE plans SET plan_id = 'gold'", "unsound segments basic/1"),
-    ("UPDATE plans SET plan_id = 'gold'; UPDATE segments SET plan_id = 'gold'; UPDATE types SET plan_id = 'gold'", "unsound rentals 1"),
     (
-        "UPDATE plans SET plan_id = 'gold'; UPDATE segments SET plan_id = 'gold'; UPDATE types SET plan_id = 'gold'; UPDATE rentals SET plan_id = 'gold'",
+        "UPDATE plans SET plan_id = 'gold'; UPDATE segments SET plan_id = 'gold'; UPDATE types SET plan_id = 'gold'",
+        "unsound rentals 1",
+    ),
+    (
+        "UPDATE plans SET plan_id = 'gold'; UPDATE segments SET plan_id = 'gold'; UPDATE types SET plan_id = 'gold'; "
+        "UPDATE rentals SET plan_id = 'gold'",
         "unsound more_names description/basic/de",
     ),
     ("DELETE FROM plans", "unsound segments basic/1"),
@@ -135,7 +143,11 @@ CHANGES = [
     ("UPDATE regions SET region_id = '' WHERE region_id = 'south'", "unsound regions "),
     ("UPDATE regions SET region_id = 'x' WHERE region_id = 'north'", "unsound stations_3 b2"),
     ("UPDATE regions SET region_id = 'x' WHERE region_id = 'south'", "unsound more_names region/south/de"),
-    ("UPDATE regions SET region_id = 'x' WHERE region_id = 'south'; UPDATE more_names SET id = 'x' WHERE id = 'south'", None),
+    (
+        "UPDATE regions SET region_id = 'x' WHERE region_id = 'south'; "
+        "UPDATE more_names SET id = 'x' WHERE id = 'south'",
+        None,
+    ),
     ("DELETE FROM regions", "unsound stations_3 b2"),
     ("DELETE FROM regions WHERE region_id = 'north'", "unsound stations_3 b2"),
     ("DELETE FROM regions WHERE region_id = 'south'", "unsound more_names region/south/de"),
@@ -146,7 +158,11 @@ CHANGES = [
     (f"{COUNTED.format(254)} INSERT INTO regions SELECT 'r' || n, 'R' FROM counted", None),
     (f"{COUNTED.format(255)} INSERT INTO regions SELECT 'r' || n, 'R' FROM counted", "unsound regions south"),
     (f"{COUNTED.format(255)} INSERT INTO regions SELECT 'z' || n, 'R' FROM counted", "unsound regions z99"),
-    (f"{COUNTED.format(255)} INSERT INTO regions SELECT 'r' || n, 'R' FROM counted; UPDATE regions SET name = '' WHERE region_id = 'r7'", "unsound regions r7"),
+    (
+        f"{COUNTED.format(255)} INSERT INTO regions SELECT 'r' || n, 'R' FROM counted; "
+        "UPDATE regions SET name = '' WHERE region_id = 'r7'",
+        "unsound regions r7",
+    ),
     ("UPDATE stations_3 SET region_id = 'north'", None),
     ("UPDATE stations_3 SET region_id = 'south' WHERE station_id = 'b2'", None),
     ("UPDATE stations_3 SET region_id = NULL", None),
@@ -155,8 +171,15 @@ CHANGES = [
     ("UPDATE stations_3 SET region_id = 'North' WHERE station_id = 'b2'", "unsound stations_3 b2"),
     ("UPDATE stations_3 SET region_id = '*' WHERE station_id = 'b2'", "unsound stations_3 b2"),
     ("UPDATE stations_3 SET region_id = '' WHERE station_id = 'b2'", "unsound stations_3 b2"),
-    ("INSERT INTO regions VALUES ('*', 'None'); UPDATE stations_3 SET region_id = '*' WHERE station_id = 'a1'", "unsound regions *"),
-    ("UPDATE regions SET name = '' WHERE region_id = 'south'; UPDATE stations_3 SET region_id = 'east' WHERE station_id = 'a1'", "unsound regions south"),
+    (
+        "INSERT INTO regions VALUES ('*', 'None'); UPDATE stations_3 SET region_id = '*' WHERE station_id = 'a1'",
+        "unsound regions *",
+    ),
+    (
+        "UPDATE regions SET name = '' WHERE region_id = 'south'; "
+        "UPDATE stations_3 SET region_id = 'east' WHERE station_id = 'a1'",
+        "unsound regions south",
+    ),
     ("UPDATE stations_3 SET free = free + 1 WHERE station_id = 'a1'", "unsound stations_3 a1"),
     ("UPDATE stations_3 SET free = free + 1", "unsound stations_3 a1"),
     ("UPDATE stations_3 SET broken = broken + 1 WHERE station_id = 'b2'", "unsound stations_3 b2"),
@@ -166,9 +189,17 @@ CHANGES = [
     ("UPDATE stations_3 SET docks = 500, free = free + 497 WHERE station_id = 'b2'", None),
     ("UPDATE stations_3 SET docks = 500, free = free + 498 WHERE station_id = 'b2'", "unsound stations_3 b2"),
     ("UPDATE stations_3 SET docks = 501, free = free + 498 WHERE station_id = 'b2'", "unsound stations_3 b2"),
-    ("UPDATE stations_3 SET docks = 500, free = free + 496, broken = 1 WHERE station_id = 'b2'; INSERT INTO docks VALUES ('b2', 500, 1)", None),
-    ("UPDATE stations_3 SET docks = 500, free = free + 496 WHERE station_id = 'b2'; UPDATE bikes SET station_id = 'b2', dock = 500 WHERE bike = 10;"
-     " UPDATE counts SET available = 2 WHERE station_id = 'b2'", None),
+    (
+        "UPDATE stations_3 SET docks = 500, free = free + 496, broken = 1 WHERE station_id = 'b2'; "
+        "INSERT INTO docks VALUES ('b2', 500, 1)",
+        None,
+    ),
+    (
+        "UPDATE stations_3 SET docks = 500, free = free + 496 WHERE station_id = 'b2'; "
+        "UPDATE bikes SET station_id = 'b2', dock = 500 WHERE bike = 10;"
+        " UPDATE counts SET available = 2 WHERE station_id = 'b2'",
+        None,
+    ),
     ("UPDATE stations_3 SET reported = 1800000000 WHERE station_id = 'b2'", "unsound stations_3 b2"),
     ("UPDATE stations_3 SET renting = 2 WHERE station_id = 'b2'", "unsound stations_3 b2"),
     ("UPDATE stations_3 SET name = '' WHERE station_id = 'b2'", 'unsound stations_3 b2'),
@@ -271,7 +302,11 @@ CHANGES = [
     ("UPDATE rentals SET rider = 19 WHERE rental = 2", "unsound rentals 2"),
     ("UPDATE rentals SET rental = 3 WHERE rental = 2", "unsound bikes 7"),
     ("DELETE FROM rentals WHERE rental = 1", "unsound rentals 2"),
-    ("INSERT INTO rentals SELECT 3, 17, 10, plan_id, from_station, start, NULL, NULL, NULL, 0 FROM rentals WHERE rental = 2", "unsound riders 17"),
+    (
+        "INSERT INTO rentals SELECT 3, 17, 10, plan_id, from_station, start, NULL, NULL, NULL, 0 FROM rentals "
+        "WHERE rental = 2",
+        "unsound riders 17",
+    ),
     ("UPDATE orders SET quantity = 0 WHERE ord = 3", "unsound bikes 9"),
     ("UPDATE orders SET delivered = 2 WHERE ord = 3", "unsound orders 3"),
     ("UPDATE orders SET to_end = '*' WHERE ord = 1", "unsound orders 1"),
@@ -331,11 +366,29 @@ CHANGES = [
     ("INSERT INTO more_names VALUES ('bike', '7', 'de', 'Name')", "unsound more_names bike/7/de"),
     ("INSERT INTO more_names VALUES ('', '', '', '')", "unsound more_names //"),
     ("INSERT INTO more_names VALUES ('station', 'b2', 'it', 'Ponte')", None),
-    ("INSERT INTO more_names VALUES ('station', 'b2', 'it', 'Ponte'), ('station', 'b2', 'pt', 'Ponte')", "unsound more_names station/b2/pt"),
-    ("INSERT INTO more_names VALUES ('station', 'b2', 'aa', 'N'), ('station', 'b2', 'bb', 'N')", "unsound more_names station/b2/fr"),
-    ("INSERT INTO more_names VALUES ('station', 'b2', 'aa', 'N'), ('station', 'b2', 'bb', 'N'), ('station', 'b2', 'cc', 'N')", "unsound more_names station/b2/de"),
-    ("INSERT INTO more_names VALUES ('station', 'a1', 'aa', 'N'), ('station', 'a1', 'bb', 'N'), ('station', 'a1', 'cc', 'N')", None),
-    ("INSERT INTO more_names VALUES ('description', 'basic', 'aa', 'N'), ('description', 'basic', 'bb', 'N'), ('plan', 'basic', 'aa', 'N'), ('plan', 'basic', 'bb', 'N')", None),
+    (
+        "INSERT INTO more_names VALUES ('station', 'b2', 'it', 'Ponte'), ('station', 'b2', 'pt', 'Ponte')",
+        "unsound more_names station/b2/pt",
+    ),
+    (
+        "INSERT INTO more_names VALUES ('station', 'b2', 'aa', 'N'), ('station', 'b2', 'bb', 'N')",
+        "unsound more_names station/b2/fr",
+    ),
+    (
+        "INSERT INTO more_names VALUES ('station', 'b2', 'aa', 'N'), ('station', 'b2', 'bb', 'N'), "
+        "('station', 'b2', 'cc', 'N')",
+        "unsound more_names station/b2/de",
+    ),
+    (
+        "INSERT INTO more_names VALUES ('station', 'a1', 'aa', 'N'), ('station', 'a1', 'bb', 'N'), "
+        "('station', 'a1', 'cc', 'N')",
+        None,
+    ),
+    (
+        "INSERT INTO more_names VALUES ('description', 'basic', 'aa', 'N'), ('description', 'basic', 'bb', 'N'), "
+        "('plan', 'basic', 'aa', 'N'), ('plan', 'basic', 'bb', 'N')",
+        None,
+    ),
     ("INSERT INTO more_names VALUES ('station', 'b2', 'it', '')", "unsound more_names station/b2/it"),
     ("UPDATE more_names SET name = '' WHERE kind = 'system'", "unsound more_names system/metro/DE"),
     (f"UPDATE more_names SET name = '{'n' * 120}'", None),
@@ -344,7 +397,10 @@ CHANGES = [
     ("UPDATE more_names SET language = 'f' WHERE language = 'fr'", "unsound more_names station/b2/f"),
     ("UPDATE more_names SET language = 'fr_FR' WHERE language = 'fr'", "unsound more_names station/b2/fr_FR"),
     (f"UPDATE more_names SET language = '{'f' * 35}' WHERE language = 'fr'", None),
-    (f"UPDATE more_names SET language = '{'f' * 36}' WHERE language = 'fr'", f"unsound more_names station/b2/{'f' * 36}"),
+    (
+        f"UPDATE more_names SET language = '{'f' * 36}' WHERE language = 'fr'",
+        f"unsound more_names station/b2/{'f' * 36}",
+    ),
     ("UPDATE more_names SET language = 'en' WHERE kind = 'system'", "unsound more_names system/metro/en"),
     ("UPDATE more_names SET kind = 'plan' WHERE kind = 'description'", None),
     ("UPDATE more_names SET kind = 'type' WHERE kind = 'description'", "unsound more_names type/basic/de"),
@@ -364,7 +420,10 @@ CHANGES = [
     ("UPDATE kept SET command = 'add-name\tbike\tb2\tit\tPonte' WHERE req_key = 'k2'", "unsound kept office/k2"),
     ("UPDATE kept SET command = 'add-name\tstation\tb2\ti\tPonte' WHERE req_key = 'k2'", "unsound kept office/k2"),
     ("UPDATE kept SET command = 'add-station\tz9\tNew\t0.000000\t0.000000\t500' WHERE req_key = 'k2'", None),
-    ("UPDATE kept SET command = 'add-station\tz9\tNew\t0.000000\t0.000000\t501' WHERE req_key = 'k2'", "unsound kept office/k2"),
+    (
+        "UPDATE kept SET command = 'add-station\tz9\tNew\t0.000000\t0.000000\t501' WHERE req_key = 'k2'",
+        "unsound kept office/k2",
+    ),
     ("UPDATE kept SET reply = 'refused\t38\tsystem_missing' WHERE req_key = 'k2'", "unsound kept office/k2"),
     ("DROP TABLE counts", "foreign"),
     ("DROP TABLE more_names", "foreign"),
@@ -381,7 +440,12 @@ CHANGES = [
     ("CREATE TABLE helmets (rider INTEGER REFERENCES riders)", "foreign"),
     ("CREATE TABLE offices (region TEXT REFERENCES regions)", "foreign"),
     ("CREATE TABLE stations (station TEXT); CREATE TABLE stations_2 (station TEXT)", None),
-    ("DROP TABLE meta; CREATE TABLE meta (one INTEGER PRIMARY KEY, app TEXT NOT NULL, version TEXT NOT NULL, now INTEGER NOT NULL, cash INTEGER NOT NULL, revenue INTEGER NOT NULL) STRICT; INSERT INTO meta VALUES (1, 'bikeshare', 'x', 0, 0, 0)", 'foreign'),
+    (
+        "DROP TABLE meta; CREATE TABLE meta (one INTEGER PRIMARY KEY, app TEXT NOT NULL, version TEXT NOT NULL, now "
+        "INTEGER NOT NULL, cash INTEGER NOT NULL, revenue INTEGER NOT NULL) STRICT; "
+        "INSERT INTO meta VALUES (1, 'bikeshare', 'x', 0, 0, 0)",
+        'foreign',
+    ),
     ("CREATE TABLE notes (note TEXT); INSERT INTO notes VALUES ('x')", None),
     # Of a partial index, or one over an expression, it isn't known what it refuses.
     ("CREATE UNIQUE INDEX one_balance ON riders (balance) WHERE balance > 0", "foreign"),
@@ -417,7 +481,9 @@ EACH_WORD = [
 
 
 def asked():
-    return "".join(f"{at}\toffice\tk{n}\t{what.replace(' ', chr(9)).replace('_', ' ')}\n" for n, (at, what, _) in enumerate(ASKED)).encode()
+    return "".join(
+        f"{at}\toffice\tk{n}\t{what.replace(' ', chr(9)).replace('_', ' ')}\n" for n, (at, what, _) in enumerate(ASKED)
+    ).encode()
 
 
 def told():

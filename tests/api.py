@@ -43,16 +43,25 @@ def test_every_path_is_told(program):
 
 
 def test_refusals_are_those_of_the_rules(program):
-    """The names of refusals are those of docs/OPERATOR.md, section 6, and each route has those of its command's row in section 7, in order."""
+    """The names of refusals are those of docs/OPERATOR.md, section 6, and each route has those of its command's row in
+    section 7, in order."""
     rules, text = ((TOP / it).read_text(encoding="utf-8") for it in ("docs/OPERATOR.md", "docs/API.md"))
-    assert {int(number): name for number, name in re.findall(r"^\| (\d+) \| ([a-z_]+) \| ", rules, re.M)} == formats.REFUSALS
-    rows = {word: numbers for word, numbers in re.findall(r"^\| \*\*([a-z-]+)\*\* \| [^|]+ \| ([^|]+) \| ", rules, re.M)}
+    assert {
+        int(number): name for number, name in re.findall(r"^\| (\d+) \| ([a-z_]+) \| ", rules, re.M)
+    } == formats.REFUSALS
+    rows = {
+        word: numbers for word, numbers in re.findall(r"^\| \*\*([a-z-]+)\*\* \| [^|]+ \| ([^|]+) \| ", rules, re.M)
+    }
     told = re.findall(r"^\| `([a-z-]+)` \| `key`[^|]* \| [^|]+ \| ([^|]+) \|$", text, re.M)
     told.append(("start", text.split("### POST /riders/{rider}/start", 1)[1].split("409:", 1)[1].split("```", 1)[0]))
-    assert sorted(word for word, _ in told) == sorted(["start", "end", "mark-dock", "mark-bike", "load", "unload"]), told
+    assert sorted(word for word, _ in told) == sorted(["start", "end", "mark-dock", "mark-bike", "load", "unload"]), (
+        told
+    )
     for word, refusals in told:
         found = re.findall(r"(\d+)\s+`([a-z_]+)`", refusals)
         assert [number for number, _ in found] == rows[word].split(", "), (word, found, rows[word])
         assert all(formats.REFUSALS[int(number)] == name for number, name in found), (word, found)
-    for number, name in [*re.findall(r"\b(\d{1,2}) `([a-z_]+)`", text), *re.findall(r'"number":(\d+),"name":"([a-z_]+)"', text)]:
+    for number, name in [
+        *re.findall(r"\b(\d{1,2}) `([a-z_]+)`", text), *re.findall(r'"number":(\d+),"name":"([a-z_]+)"', text)
+    ]:
         assert formats.REFUSALS[int(number)] == name, (number, name)

@@ -30,8 +30,10 @@ import time
 from pathlib import Path
 
 from operating import DEPLOY, Sender, keys_in, top_ups
-from shared import CITY, EIO, ENOSPC, FAULTS, JOBS, Program, Server, at_once, can_mount, copied, disk, environment
-from shared import is_sound, is_whole, nothing_is, office, put, quickly, taken, tell, told_with
+from shared import (
+    CITY, EIO, ENOSPC, FAULTS, JOBS, Program, Server, at_once, can_mount, copied, disk, environment, is_sound, is_whole,
+    nothing_is, office, put, quickly, taken, tell, told_with,
+)
 
 STRIDE = int(os.environ.get("BIKESHARE_BACKUPS", "0"))
 SECONDS = 120

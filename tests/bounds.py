@@ -1,6 +1,6 @@
-"""The numbers of the bounds. Each is one constant of the source, which code, contracts and definitions cite, so a wrong number would be wrong in
-all of them and no proof would tell. Those here are from docs/OPERATOR.md, sections 2 and 11, and docs/FORMATS.md; the greatest fare is a price and
-eight segments' rates in each of 43,201 minutes."""
+"""The numbers of the bounds. Each is one constant of the source, which code, contracts and definitions cite, so a wrong
+number would be wrong in all of them and no proof would tell. Those here are from docs/OPERATOR.md, sections 2 and 11,
+and docs/FORMATS.md; the greatest fare is a price and eight segments' rates in each of 43,201 minutes."""
 
 import re
 

@@ -24,9 +24,10 @@ from pathlib import Path
 
 import adoption
 import raising
-from shared import DISTURBED, EIO, ENOSPC, FAULTS, HEADER, JOBS, READ_FAILED, READY, SOUND, STORE_FAILED, Program
-from shared import at_once, can_mount, counted, disk, environment, held, killed, nothing_is, put, quickly, removed
-from shared import rows_of, taken, tell
+from shared import (
+    DISTURBED, EIO, ENOSPC, FAULTS, HEADER, JOBS, READY, READ_FAILED, SOUND, STORE_FAILED, Program, at_once, can_mount,
+    counted, disk, environment, held, killed, nothing_is, put, quickly, removed, rows_of, taken, tell,
+)
 
 STRIDE = int(os.environ.get("BIKESHARE_CLOSING", "0"))
 PAGE = 4096

@@ -1,9 +1,22 @@
-"""A day's tables, as `day` writes them: the worked day, days of many time zones beside a table of facts that Python's zoneinfo made,
-a made city whose sums are those of plain SQL, and the days and zones that are refused."""
+"""A day's tables, as `day` writes them: the worked day, days of many time zones beside a table of facts that Python's
+zoneinfo made, a made city whose sums are those of plain SQL, the days and zones that are refused, and dates and time
+zones of every form.
+
+The bounds of days in made time zones are those of Python's zoneinfo; the other wanted answers follow from
+docs/OPERATOR.md and docs/FORMATS.md by hand.
+
+A sample of made time zones and dates stands in the gate. By hand more, from the environment:
+
+    BIKESHARE_MADE=2000 BIKESHARE_SEED=7 tests/run days.
+
+BIKESHARE_MADE is how many are made, BIKESHARE_SEED what they are made from; a failure tells the seed and the input.
+"""
 
 import csv
 import io
+import os
 import random
+import re
 import sqlite3
 import subprocess
 import sys
@@ -11,14 +24,18 @@ from datetime import date, datetime, timedelta, timezone
 from pathlib import Path
 
 import shared
-from shared import ask, changed, is_sound
+from shared import ask, changed, held, is_sound, quickly, removed
 
-ROME = "CET-1CEST,M3.5.0,M10.5.0/3"
+MADE = int(os.environ.get("BIKESHARE_MADE", "120"))
+SEED = int(os.environ.get("BIKESHARE_SEED", "1"))
+
+UTC, ROME = "UTC0", "CET-1CEST,M3.5.0,M10.5.0/3"
 ENTRIES = "number,kind,rider,rental,amount,at\n"
 RENTALS = "number,rider,bike,plan,from,start,to,end,fare\n"
 CITY = [it for it in shared.CITY if not it.startswith("mark-dock")]
 
-# Moments about the bounds of the first day of UTC and of the last, the hundredths that are paid in then, and how both are printed.
+# Moments about the bounds of the first day of UTC and of the last, the hundredths that are paid in then, and how both
+# are printed.
 BOUNDS = [
     (0, 1, "0.01,1970-01-01T00:00:00Z"),
     (86399, 7, "0.07,1970-01-01T23:59:59Z"),
@@ -30,6 +47,7 @@ BOUNDS = [
 ]
 
 FACTS = shared.HERE / "facts"
+day_bounds = shared.loaded(FACTS / "day_bounds.py")
 
 
 def table(program, which, day, zone):
@@ -67,7 +85,9 @@ def test_recovered_rental_ends_nowhere(program):
     ask(program, CITY)
     assert ask(program, ["start\t17\ta1\t1"], 1700000000, first=50) == ["rental\t1\t7"]
     assert ask(program, ["recover\t1"], 1700000060, first=51) == ["fare\t100\t2400"]
-    assert table(program, "rentals", "2023-11-14", "UTC0") == RENTALS + "1,17,7,basic,a1,2023-11-14T22:13:20Z,*,2023-11-14T22:14:20Z,1.00\n"
+    assert table(program, "rentals", "2023-11-14", "UTC0") == RENTALS + (
+        "1,17,7,basic,a1,2023-11-14T22:13:20Z,*,2023-11-14T22:14:20Z,1.00\n"
+    )
 
 
 def test_a_file_without_tables_has_an_empty_day(program):
@@ -100,7 +120,9 @@ def test_refused_days(program):
             assert ended == (1, b"", word.encode() + b"\n"), (day, zone, ended)
     for day in ("1970-01-01", "9998-12-31"):
         assert table(program, "entries", day, "UTC0") == ENTRIES
-    for words in (["fares", "2024-02-01", "UTC0"], ["entries", "2024-02-01"], ["entries"], ["Entries", "2024-02-01", "UTC0"]):
+    for words in (
+        ["fares", "2024-02-01", "UTC0"], ["entries", "2024-02-01"], ["entries"], ["Entries", "2024-02-01", "UTC0"]
+    ):
         status, out, said = program.run("day", "city.db", *words)
         assert (status, out) == (2, b"") and said, (words, status, out)
 
@@ -139,17 +161,23 @@ def test_days_whose_midnight_is_skipped_or_comes_twice(program):
 
 
 def test_the_first_day_and_the_last(program):
-    given = "0\toffice\tk\tadd-rider\t17\n" + "".join(f"{at}\toffice\tk{at}\ttop-up\t17\t{amount}\n" for at, amount, _ in BOUNDS)
+    given = "0\toffice\tk\tadd-rider\t17\n" + "".join(
+        f"{at}\toffice\tk{at}\ttop-up\t17\t{amount}\n" for at, amount, _ in BOUNDS
+    )
     status, out, said = program.run("lines", "city.db", given=given.encode())
-    assert (status, said) == (0, b"") and out.startswith(b"ok\n") and out.count(b"balance") == len(BOUNDS), (status, out, said)
+    assert (status, said) == (0, b"") and out.startswith(b"ok\n") and out.count(b"balance") == len(BOUNDS), (
+        status, out, said
+    )
     for day, rows in ("1970-01-01", 2), ("1970-01-02", 1), ("9998-12-30", 1), ("9998-12-31", 2):
-        wanted = [f"{number},topup,17,0,{told}\n" for number, (_, _, told) in enumerate(BOUNDS, 1) if f",{day}T" in told]
+        wanted = [
+            f"{number},topup,17,0,{told}\n" for number, (_, _, told) in enumerate(BOUNDS, 1) if f",{day}T" in told
+        ]
         found = table(program, "entries", day, "UTC0")
         assert len(wanted) == rows and found == ENTRIES + "".join(wanted), (day, found)
 
 
-# The greatest fare and one of nothing: rentals of 30 days and of no time, under a plan that costs as much as one may and under one that gives back more
-# than its price.
+# The greatest fare and one of nothing: rentals of 30 days and of no time, under a plan that costs as much as one may
+# and under one that gives back more than its price.
 RIDES = [
     (0, "add-plan\tmost\tMost\t1000000\tfalse\tMost\t" + ";".join(["0:100000:1:-"] * 8), "ok"),
     (0, "add-plan\tgift\tGift\t100\tfalse\tGift\t0:-200:0:-", "ok"),
@@ -170,9 +198,12 @@ def test_the_greatest_amount_and_the_least(program):
     """The city stands at 2023-11-14, 22 hours; 30 days later it is the 14th of December."""
     ask(program, CITY)
     given = "".join(f"{1699999200 + after}\toffice\tr{at}\t{command}\n" for at, (after, command, _) in enumerate(RIDES))
-    assert program.run("lines", "city.db", given=given.encode()) == (0, "".join(f"{answer}\n" for _, _, answer in RIDES).encode(), b"")
+    assert program.run("lines", "city.db", given=given.encode()) == (
+        0, "".join(f"{answer}\n" for _, _, answer in RIDES).encode(), b""
+    )
     entries = ["2,fare,17,1,345618000.00", "3,refund,17,1,10000.00", "4,refund,17,1,0.01", "5,fare,18,2,0.00"]
-    assert table(program, "entries", "2023-12-14", "UTC0") == ENTRIES + "".join(f"{it},2023-12-14T22:00:00Z\n" for it in entries)
+    wanted = "".join(f"{entry},2023-12-14T22:00:00Z\n" for entry in entries)
+    assert table(program, "entries", "2023-12-14", "UTC0") == ENTRIES + wanted
     rentals = [
         "1,17,7,most,a1,2023-11-14T22:00:00Z,a1,2023-12-14T22:00:00Z,345618000.00\n",
         "2,18,7,gift,a1,2023-12-14T22:00:00Z,a1,2023-12-14T22:00:00Z,0.00\n",
@@ -182,9 +213,15 @@ def test_the_greatest_amount_and_the_least(program):
 
 
 def made_city(program, seed):
-    """Plays some days of trips, top-ups and refunds, and returns a copy of its file, so that the file is free for the program."""
+    """Plays some days of trips, top-ups and refunds, and returns a copy of its file, so that the file is free for the
+    program."""
     draw = random.Random(seed)
-    ask(program, CITY + [f"add-rider\t{rider}" for rider in range(100, 120)] + [f"top-up\t{rider}\t100000" for rider in range(100, 120)])
+    ask(
+        program,
+        CITY + [f"add-rider\t{rider}" for rider in range(100, 120)] + [
+            f"top-up\t{rider}\t100000" for rider in range(100, 120)
+        ],
+    )
     at, key, rental, commands = 1711000000, 1000, 0, []
     for trip in range(140):
         at += draw.randrange(1, 4000)
@@ -213,7 +250,9 @@ def made_city(program, seed):
 
 def midnight(day):
     """When a day of March 2024 begins in Rome, whose summer time begins on the 31st at two."""
-    since = (datetime(day.year, day.month, day.day, tzinfo=timezone.utc) - datetime(1970, 1, 1, tzinfo=timezone.utc)).total_seconds()
+    since = (
+        datetime(day.year, day.month, day.day, tzinfo=timezone.utc) - datetime(1970, 1, 1, tzinfo=timezone.utc)
+    ).total_seconds()
     return int(since) - (3600 if day <= date(2024, 3, 31) else 7200)
 
 
@@ -233,19 +272,263 @@ def test_sums_are_those_of_plain_sql(program):
         end = midnight(day + timedelta(1))
         rows = list(csv.DictReader(io.StringIO(table(program, "entries", day.isoformat(), ROME))))
         for name, kind in kinds.items():
-            wanted = stored.execute("SELECT count(*), coalesce(sum(amount), 0) FROM entries WHERE kind = ? AND at >= ? AND at < ?", (kind, begin, end)).fetchone()
+            wanted = stored.execute(
+                "SELECT count(*), coalesce(sum(amount), 0) FROM entries WHERE kind = ? AND at >= ? AND at < ?",
+                (kind, begin, end),
+            ).fetchone()
             found = [hundredths(row["amount"]) for row in rows if row["kind"] == name]
             assert (len(found), sum(found)) == wanted, (day, name)
             seen += len(found)
         ended = list(csv.DictReader(io.StringIO(table(program, "rentals", day.isoformat(), ROME))))
         wanted = stored.execute(
-            "SELECT rental, rider, bike, plan_id, from_station, start, to_station, finish, fare FROM rentals WHERE finish >= ? AND finish < ? ORDER BY rental", (begin, end)
+            (
+                "SELECT rental, rider, bike, plan_id, from_station, start, to_station, finish, fare FROM rentals "
+                "WHERE finish >= ? AND finish < ? ORDER BY rental"
+            ),
+            (begin, end),
         ).fetchall()
         found = [
-            (int(row["number"]), int(row["rider"]), int(row["bike"]), row["plan"], row["from"], row["start"], None if row["to"] == "*" else row["to"], row["end"], hundredths(row["fare"]))
+            (
+                int(row["number"]), int(row["rider"]), int(row["bike"]), row["plan"], row["from"], row["start"],
+                None if row["to"] == "*" else row["to"], row["end"], hundredths(row["fare"]),
+            )
             for row in ended
         ]
         assert found == [(*row[:5], text_of(row[5]), row[6], text_of(row[7]), row[8]) for row in wanted], day
         numbers = [int(row["number"]) for row in rows]
         assert numbers == sorted(numbers)
     assert seen > 50
+
+
+# ---- Dates and time zones of every form
+
+
+def said_of(program, word, *words, given=b""):
+    """Runs a word with nothing on standard output wanted, and returns its status and what it says."""
+    status, out, said = program.run(word, *words, given=given)
+    assert out == b"", (word, words, out)
+    return status, said.decode()
+
+
+def test_dates_of_other_spellings(program):
+    """A date is YYYY-MM-DD in ASCII digits and stands in the calendar; one of the year 0 is, and lies out of range."""
+    bad = [
+        "20240101", "+002024-01-01", "02024-01-01", "2024-01-01T00:00", "2024-01-01Z", " 2024-01-01", "2024/01/01",
+        "2024-01", "2024-001", "2024-W01-1", "01-01-2024", "2024-1-01", "2024-01-1", "2024-00-01", "2024-13-01",
+        "2024-01-00", "2024-01-32", "2024-04-31", "2100-02-29", "1900-02-29", "0001-02-29", "٢٠٢٤-01-01", "２０２４-01-01",
+        "2024–01–01", "2024-01-0x", "today", "2024-01-01\n", "9999-02-29",
+    ]
+    out = [
+        "0000-01-01", "0000-02-29", "0001-01-01", "1600-02-29", "1900-02-28", "1969-12-31", "9999-01-01", "9999-12-31"
+    ]
+    for day in bad:
+        assert said_of(program, "day", ":memory:", "entries", day, UTC) == (1, "bad date\n"), day
+    for day in out:
+        assert said_of(program, "day", ":memory:", "rentals", day, UTC) == (1, "day out of range\n"), day
+    for day in "1970-01-01", "2000-02-29", "2024-02-29", "9998-12-31":
+        assert program.run("day", ":memory:", "rentals", day, UTC) == (0, RENTALS.encode(), b""), day
+
+
+def test_zones_that_are_none(program):
+    """POSIX has no such zones. A bad date is told before a bad zone, and that before a day out of range."""
+    rules = [
+        "M3.5.0", "M0.5.0,M10.5.0", "M13.5.0,M10.5.0", "M3.0.0,M10.5.0", "M3.6.0,M10.5.0", "M3.5.7,M10.5.0",
+        "M3.5,M10.5",
+    ]
+    rules += ["J0,J300", "J60,J366", "60,366", "M3.5.0,M10.5.0,", "M3.5.0;M10.5.0"]
+    names = [
+        "EST5EDT", "UTC", "UT0", "0", "+0", "A1B0", "CET-25", "CET-1:60", "CET-1:00:60", "CET--1", "CET-", "<CET-1",
+        "<C+>0", "<>0",
+    ]
+    names += ["Europe/Rome", "ÜTC0", " UTC0", "UTC0 ", "UTC0\n", "UTC0x", "CET-1CEST M3.5.0 M10.5.0"]
+    for zone in [*names, *(f"CET-1CEST,{it}" for it in rules)]:
+        assert said_of(program, "day", ":memory:", "entries", "2024-02-01", zone) == (1, "bad zone\n"), zone
+    for day, word in (
+        ("2024-02-30", "bad date\n"),
+        ("1969-12-31", "bad zone\n"),
+        ("0000-01-01", "bad zone\n"),
+        ("9999-12-31", "bad zone\n"),
+    ):
+        assert said_of(program, "day", ":memory:", "entries", day, "UTC") == (1, word), day
+
+
+def test_the_first_days_of_zones(program):
+    """A day that begins before moment 0 is out of range; 1969-12-31 is so too where it begins at moment 0."""
+    for day, zone in (
+        ("1970-01-01", "CET-1"), ("1970-01-01", "AAA-0:00:01"), ("1969-12-31", "AAA24"), ("1969-12-31", "AAA12")
+    ):
+        assert said_of(program, "day", ":memory:", "entries", day, zone) == (1, "day out of range\n"), (day, zone)
+    good = [
+        ("1970-01-01", "AAA24"), ("1970-01-01", "AAA0:00:01"), ("1970-01-02", "AAA-24"), ("9998-12-31", "AAA24"),
+        ("9998-12-31", "AAA-24"),
+    ]
+    for day, zone in good:
+        assert program.run("day", ":memory:", "entries", day, zone) == (0, ENTRIES.encode(), b""), (day, zone)
+
+
+def holds_days(program, found, where):
+    """Books a top-up just before and at each bound of these days, and holds each day's table to those that lie in it. A
+    day is a rule, a date and the moments of its begin and end."""
+    moments = sorted({at for _, _, begin, end in found for at in (begin - 1, begin, end - 1, end) if at >= 0})
+    booked = (f"{at}\toffice\tz{number}\ttop-up\t17\t1\n" for number, at in enumerate(moments))
+    given = "0\toffice\tz\tadd-rider\t17\n" + "".join(booked)
+    removed(program.folder, "city.db")
+    status, out, said = program.run("lines", "city.db", given=given.encode())
+    assert (status, said, out.count(b"balance")) == (0, b"", len(moments)), (status, said, out[:200])
+    for rule, day, begin, end in found:
+        rows = table(program, "entries", day.isoformat(), rule).splitlines()[1:]
+        wanted = [text_of(at) for at in moments if begin <= at < end]
+        assert [row.rpartition(",")[2] for row in rows] == wanted, (
+            f"{where}: {rule}, {day}, from {begin} to {end}: {rows}, not {wanted}"
+        )
+
+
+def days_of(rule, year, few):
+    """Days of a year in a zone, with their bounds: those that aren't 24 hours long, some of their neighbours, and
+    others up to the number."""
+    zone, found = day_bounds.zone_of(rule), set()
+    bounds = [day_bounds.begin_of(date(year, 1, 1) + timedelta(number), zone) for number in range(366)]
+    for number in range(1, 364):
+        if bounds[number + 1] - bounds[number] != 86400:
+            found |= {number, number + 1}
+    draw = random.Random(f"{SEED} {rule} {year}")
+    while len(found) < few:
+        found.add(draw.randrange(365))
+    return [
+        (rule, date(year, 1, 1) + timedelta(number), bounds[number], bounds[number + 1]) for number in sorted(found)
+    ]
+
+
+@quickly
+def test_zones_of_every_form(program):
+    """Names in angles, offsets to the second, days by their number in the year, changes at odd hours, and summer time
+    behind winter time."""
+    # Python counts days from 0 as if they were from 1: these bounds are by hand. Day 59 is the 29th of February, or the
+    # 1st of March.
+    found = [
+        ("CET-1CEST,59,299", date(2024, 2, 29), 1709161200, 1709244000),
+        ("CET-1CEST,59,299", date(2023, 3, 1), 1677625200, 1677708000),
+    ]
+    found += [
+        ("CET-1CEST,J59,J299", date(2024, 2, 28), 1709074800, 1709157600),
+        ("CET-1CEST,59,299", date(2023, 10, 27), 1698357600, 1698447600),
+    ]
+    for rule in (
+        "<-03>3", "<+0330>-3:30", "AAA+3", "AAA-14", "AAA12", "<LMT>-0:53:28", "NST3:30NDT,M3.2.0,M11.1.0",
+        "CET-1CEST,J60,J300", "CET-1CEST-2,J91/0,J299/24", "CET-1CEST,M3.5.0/2:30:15,M10.5.0/3:59:59",
+        "IST-1GMT0,M10.5.0,M3.5.0/1", "AAA0BBB-0:20,M2.1.1/0,M12.1.1/0:20", "LHST-10:30LHDT-11,M10.1.0/0,M4.1.0/0",
+        "AAAAAAAAAAAAAAA-2BBBBBBBBBBBBBBB,M3.5.4/24,M10.5.4/1",
+    ):
+        found += [*days_of(rule, 2024, 5), *days_of(rule, 2101, 4)]
+    holds_days(program, found, "zones by hand")
+
+
+def made_zone(pick):
+    """A POSIX time zone whose two changes are months apart."""
+    names = ["AAA", "CET", "Etcet", "<-03>", "<+0530>", "<A1b-2>"]
+    hours = f"{pick.choice(['', '-', '+'])}{pick.randint(0, 12)}"
+    standard = pick.choice(names) + hours + pick.choice(["", "", ":30", ":45:30"])
+    if pick.random() < 0.3:
+        return standard
+    dates = [
+        lambda low, high: f"M{pick.randint(low, high)}.{pick.randint(1, 5)}.{pick.randint(0, 6)}",
+        lambda low, high: f"J{pick.randint(30 * low, 30 * high)}",
+    ][pick.randrange(2)]
+    both = [dates(2, 4), dates(8, 10)]
+    if pick.random() < 0.4:
+        both.reverse()
+    times = [pick.choice(["", "/0", "/1", "/2:30", "/3", "/24", "/23:59:59"]) for _ in both]
+    return standard + pick.choice(names[:4]) + "," + ",".join(it + time for it, time in zip(both, times))
+
+
+@quickly
+def test_made_zones(program):
+    """Of made zones the bounds of days are those of Python's zoneinfo."""
+    pick = random.Random(f"{SEED} zones")
+    for _ in range(max(1, MADE // 120)):
+        found = [day for _ in range(14) for day in days_of(made_zone(pick), pick.randint(1971, 2120), 5)]
+        holds_days(program, found, f"seed {SEED}")
+
+
+def spoiled(pick, text):
+    """A text with a few characters changed, left out, doubled or put in. There is no U+0000, which no word can hold."""
+    letters = list(text)
+    for _ in range(pick.choice([1, 1, 2, 4])):
+        at = pick.randrange(len(letters) + 1)
+        kind = pick.randrange(4)
+        if kind == 0:
+            letters.insert(at, pick.choice("0123456789:,./<>+-MJZ aé\t\n\U0001f6b2٣"))
+        elif letters and kind == 1:
+            del letters[at % len(letters)]
+        elif letters and kind == 2:
+            letters[at % len(letters)] = pick.choice("0123456789:,./<>+-MJZ a")
+        elif letters:
+            letters[at:at] = letters[at : at + pick.choice([1, 3, 40])]
+    return "".join(letters)
+
+
+def fault_of_date(text):
+    """The fault of a date in UTC, or none."""
+    if re.fullmatch("[0-9]{4}-[0-9]{2}-[0-9]{2}", text) is None:
+        return "bad date\n"
+    year, month, day = map(int, text.split("-"))
+    try:
+        date(year or 400, month, day)
+    except ValueError:
+        return "bad date\n"
+    return None if 1970 <= year <= 9998 else "day out of range\n"
+
+
+def test_spoiled_dates_and_zones(program):
+    """Each is answered by a header alone or by a named fault; of dates it is known by which."""
+    pick = random.Random(f"{SEED} spoiled")
+    for _ in range(MADE // 2):
+        day, zone = (
+            spoiled(pick, pick.choice(["2024-03-31", "1970-01-01", "9998-12-31", "2024-02-29"])),
+            spoiled(pick, made_zone(pick)),
+        )
+        where = f"seed {SEED}: {day!r} in {zone!r}"
+        if not day.startswith("-"):
+            wanted = fault_of_date(day)
+            ended = program.run("day", ":memory:", "entries", day, UTC)
+            assert ended == ((1, b"", wanted.encode()) if wanted else (0, ENTRIES.encode(), b"")), (where, ended)
+        if not zone.startswith("-"):
+            ended = program.run("day", ":memory:", "rentals", "2024-03-31", zone)
+            assert ended in ((0, RENTALS.encode(), b""), (1, b"", b"bad zone\n")), (where, ended)
+
+
+@quickly
+def test_rows_by_number(program):
+    """A rental that began first and ended last stands first; one of no length lies in the day at whose begin it is."""
+    more = [
+        "add-bike\t8\tcity", "open-order\t3\t*\ta1\tcity\t1", "load\t3\t2\t8", "unload\t3\t2\t8\tto\t2",
+        "add-rider\t18", "top-up\t18\t1000",
+    ]
+    ask(program, [*CITY, *more])
+    begin, last = 1711839600, 1711922399
+    for number, (at, command, answer) in enumerate((
+        (begin, "start\t17\ta1\t1", "rental\t1\t7"), (begin, "start\t18\ta1\t2", "rental\t2\t8"),
+        (begin, "end\t8\ta1\t2", "fare\t100\t900"),
+        (last, "end\t7\ta1\t1", "fare\t6850\t-4350"),
+    )):
+        assert ask(program, [command], at, first=90 + number) == [answer], command
+    first = "1,17,7,basic,a1,2024-03-30T23:00:00Z,a1,2024-03-31T21:59:59Z,68.50\n"
+    second = "2,18,8,basic,a1,2024-03-30T23:00:00Z,a1,2024-03-30T23:00:00Z,1.00\n"
+    assert table(program, "rentals", "2024-03-31", ROME) == RENTALS + first + second
+    assert table(program, "rentals", "2024-03-30", ROME) == RENTALS
+    assert table(program, "rentals", "2024-03-30", UTC) == RENTALS + second
+    fares = "3,fare,18,2,1.00,2024-03-30T23:00:00Z\n", "4,fare,17,1,68.50,2024-03-31T21:59:59Z\n"
+    assert table(program, "entries", "2024-03-31", ROME) == ENTRIES + "".join(fares)
+    assert table(program, "entries", "2024-04-01", ROME) == ENTRIES
+
+
+@quickly
+def test_a_table_changes_nothing(program):
+    """Neither a day's table nor a day that is refused changes a byte of the file."""
+    ask(program, CITY)
+    file = Path(program.folder, "city.db")
+    before = file.read_bytes(), held(file)
+    for which in "entries", "rentals":
+        table(program, which, "2023-11-14", UTC)
+        said_of(program, "day", "city.db", which, "2023-02-29", UTC)
+    assert (file.read_bytes(), held(file)) == before

@@ -1,5 +1,5 @@
-"""The documents: the examples that they show, request lines with their answers beside them, quoted code, what they name and link to,
-counts, and words that are gone."""
+"""The documents: the examples that they show, request lines with their answers beside them, quoted code, what they name
+and link to, counts, and words that are gone."""
 
 import contextlib
 import csv
@@ -23,7 +23,9 @@ QUOTED = re.compile(r"(?<!`)`([^`]+)`(?!`)")
 
 def documents():
     """Each document with its text."""
-    found = [*(TOP / it for it in ("README.md", "CHANGELOG.md", "CONTRIBUTING.md")), *sorted((TOP / "docs").glob("*.md"))]
+    found = [
+        *(TOP / it for it in ("README.md", "CHANGELOG.md", "CONTRIBUTING.md")), *sorted((TOP / "docs").glob("*.md"))
+    ]
     assert len(found) > 12, found
     return {str(it.relative_to(TOP)): it.read_text(encoding="utf-8") for it in found}
 
@@ -68,7 +70,8 @@ def test_axes_of_pictures(program):
 
 
 def test_wrong_bodies(program):
-    """docs/GATE.md lists the must-fail edits that the gate tries, and says how many there are of them and in review/."""
+    """docs/GATE.md lists the must-fail edits that the gate tries, and says how many there are of them and in
+    review/."""
     text = (TOP / "docs/GATE.md").read_text(encoding="utf-8")
     tried = {f"{it.parts[-3]}/{it.stem}" for it in TOP.glob("crates/*/must-fail/*.edit")}
     listed = re.findall(r"^\| .* \| `(bike_\w+/\w+)` \|$", text, re.M)
@@ -80,12 +83,19 @@ def test_wrong_bodies(program):
 
 
 def test_costs(program):
-    """docs/costs.csv has the crates in the order of crates.txt, each with its edits and, to a thirtieth, its lines; of what is measured the day."""
-    crates = [it.split(":")[0] for it in (TOP / "crates.txt").read_text(encoding="utf-8").splitlines() if it and not it.startswith("#")]
+    """docs/costs.csv has the crates in the order of crates.txt, each with its edits and, to a thirtieth, its lines; of
+    what is measured the day."""
+    crates = [
+        it.split(":")[0]
+        for it in (TOP / "crates.txt").read_text(encoding="utf-8").splitlines()
+        if it and not it.startswith("#")
+    ]
     with open(TOP / "docs/costs.csv", encoding="utf-8", newline="") as file:
         rows = list(csv.DictReader(file))
     old = "tools/costs table writes docs/costs.csv anew"
-    assert sorted(crates) == sorted(it.name for it in TOP.glob("crates/*")) and [it["crate"] for it in rows] == crates, old
+    assert (
+        sorted(crates) == sorted(it.name for it in TOP.glob("crates/*")) and [it["crate"] for it in rows] == crates
+    ), old
     for row in rows:
         for name, place in ("must_fail", f"crates/{row['crate']}/must-fail"), ("review", f"review/{row['crate']}"):
             assert int(row[name]) == len(list(TOP.glob(f"{place}/*.edit"))), (row["crate"], name, old)
@@ -137,8 +147,8 @@ GONE = {
 
 
 def gone_in(text):
-    """The words of the list above that stand in a document's prose: code blocks and texts in backticks are left out, and a phrase may go
-    over the end of a line."""
+    """The words of the list above that stand in a document's prose: code blocks and texts in backticks are left out,
+    and a phrase may go over the end of a line."""
     prose = " ".join(re.sub(r"(`+)[^`]+\1", "`", BLOCK.sub("", text)).split())
     return [it for it in GONE if re.search(rf"\b{it}\b", prose, re.I)]
 
@@ -153,8 +163,8 @@ def test_words_that_are_gone(program):
 
 
 def misquoted(text, lines_of):
-    """The lines that a text quotes, below a line that names their file, and that don't stand so in it, and how many it quotes. Two dots stand
-    for what is left out."""
+    """The lines that a text quotes, below a line that names their file, and that don't stand so in it, and how many it
+    quotes. Two dots stand for what is left out."""
     wrong, count = [], 0
     for block in BLOCK.findall(text):
         lines = None
@@ -185,21 +195,37 @@ def test_quoted_code_stands_in_its_file(program):
 
 
 # What files of the toolchain, of a made program or of a configured machine are named by, and names that stand for many.
-ELSEWHERE = re.compile(r"sqlite\w*/specs/.*|std/specs/.*|crates/bikeshare/out/.*|(?:FIRST|SHORTER)_PROOFS\.md|/etc/.*|.*@.*|.*(?:CRATE|NAME)\b.*")
-IS_FILE = re.compile(r"(?:crates|tests|tools|docs|deploy|bench|examples|review)/.*|.*\w\.(?:py|rt|antt|md|sh|yaml|txt|edit|conf|svg|html)")
+ELSEWHERE = re.compile(
+    r"sqlite\w*/specs/.*|std/specs/.*|crates/bikeshare/out/.*|(?:FIRST|SHORTER)_PROOFS\.md|/etc/.*|.*@.*|"
+    r".*(?:CRATE|NAME)\b.*"
+)
+IS_FILE = re.compile(
+    r"(?:crates|tests|tools|docs|deploy|bench|examples|review)/.*|.*\w\.(?:py|rt|antt|md|sh|yaml|txt|edit|"
+    r"conf|svg|html)"
+)
 
 
 def missing_in(text):
-    """The files that a text names in backticks and that aren't there. They are named from the top, from docs, from crates or from a crate."""
-    named = {it.strip("/") for one in quoted(text) for it in re.findall(r"[\w./@*-]+", one) if IS_FILE.fullmatch(it) and not ELSEWHERE.fullmatch(it)}
-    folders = "", "docs/", "deploy/", "tests/", "crates/", "crates/*/", "crates/*/specs/", "crates/*/src/", "crates/*/proofs/"
+    """The files that a text names in backticks and that aren't there. They are named from the top, from docs, from
+    crates or from a crate."""
+    named = {
+        name.strip("/")
+        for one in quoted(text)
+        for name in re.findall(r"[\w./@*-]+", one)
+        if IS_FILE.fullmatch(name) and not ELSEWHERE.fullmatch(name)
+    }
+    folders = (
+        "", "docs/", "deploy/", "tests/", "crates/", "crates/*/", "crates/*/specs/", "crates/*/src/", "crates/*/proofs/"
+    )
     return sorted(it for it in named if not any(any(TOP.glob(f"{folder}{it}")) for folder in folders))
 
 
 def test_files_that_are_named_are_there(program):
     """Whatever a document names in backticks like a file of the repository is one."""
     assert missing_in("`tests/documents.py`, `docs/*.md`, `bike_core/src/lib.rt` and `sqlite/specs/State.antt`") == []
-    assert missing_in("`tests/document.py` and `bike_core/src/none.rt`") == ["bike_core/src/none.rt", "tests/document.py"]
+    assert missing_in("`tests/document.py` and `bike_core/src/none.rt`") == [
+        "bike_core/src/none.rt", "tests/document.py"
+    ]
     for name, text in documents().items():
         assert not missing_in(text), f"{name} names {missing_in(text)}"
 
@@ -211,14 +237,17 @@ def anchors_of(text):
 
 
 def bad_links(texts):
-    """The links of these documents that lead nowhere, and the sections and the titles of a document that it doesn't have."""
+    """The links of these documents that lead nowhere, and the sections and the titles of a document that it doesn't
+    have."""
     found = []
     for name, text in texts.items():
         for link in re.findall(r"\]\(([^)\s]+)\)", BLOCK.sub("", text)):
             place, _, anchor = link.partition("#")
             place = os.path.normpath(os.path.join(os.path.dirname(name), place)) if place else name
             page = f"{place}/README.md" if (TOP / place).is_dir() else place
-            if not re.match("https?:", link) and not ((TOP / place).exists() and (not anchor or anchor in anchors_of(texts[page]))):
+            if not re.match("https?:", link) and not (
+                (TOP / place).exists() and (not anchor or anchor in anchors_of(texts[page]))
+            ):
                 found.append(f"{name}: {link}")
         plain = " ".join(re.sub(r"\]\([^)]*\)|\[", "", text).split())
         for cited, one, other in re.findall(r"\b([A-Z]{3,})\.md, sections? (\d+)(?:(?: and | to )(\d+))?", plain):
@@ -232,19 +261,24 @@ def bad_links(texts):
 
 
 def test_links_and_sections(program):
-    """Each link leads to a file and a heading that are there, and each section that is cited, by its number or its title, too."""
+    """Each link leads to a file and a heading that are there, and each section that is cited, by its number or its
+    title, too."""
     text = "[a](docs/API.md#routes) [a](docs/none.md) API.md, \"Nothing\", FORMATS.md, section 99, [a](#none)\n# One\n"
     assert bad_links(documents() | {"README.md": text}) == [
         "README.md: docs/none.md", "README.md: #none", "README.md: FORMATS.md, section 99", "README.md: API.md, Nothing"
     ]
-    others = [TOP / "docs/openapi.yaml", *(it for where in ("bench", "examples/*", "tests/files") for it in TOP.glob(f"{where}/README.md"))]
+    others = [
+        TOP / "docs/openapi.yaml",
+        *(file for where in ("bench", "examples/*", "tests/files") for file in TOP.glob(f"{where}/README.md")),
+    ]
     assert len(others) == 5, others
     found = bad_links(documents() | {str(it.relative_to(TOP)): it.read_text(encoding="utf-8") for it in others})
     assert not found, found
 
 
 def test_examples_of_the_formats(program):
-    """The city, the feeds, the day table and the header that docs/FORMATS.md shows are those of the tests, which send them to the program."""
+    """The city, the feeds, the day table and the header that docs/FORMATS.md shows are those of the tests, which send
+    them to the program."""
     lines = "\n".join(BLOCK.findall(documents()["docs/FORMATS.md"])).replace("⇥", "\t").splitlines()
     begin = lines.index(CITY[0])
     assert lines[begin : begin + len(feeds.CITY)] == feeds.CITY, lines[begin:][: len(feeds.CITY)]
@@ -253,6 +287,23 @@ def test_examples_of_the_formats(program):
     table = lines.index(days.RENTALS.strip()) + 1
     assert f'"{lines[table]}\\n"' in (TOP / "tests/days.py").read_text(encoding="utf-8"), lines[table]
     assert f"`{HEADER.strip()}`" in documents()["docs/FORMATS.md"]
+
+
+def is_code(file):
+    """Whether a file is Python or C, by its name or by its first line."""
+    if not file.is_file():
+        return False
+    return file.suffix in (".py", ".c") or (not file.suffix and file.read_bytes().startswith(b"#!/usr/bin/env python3"))
+
+
+def test_lines_of_code_are_short(program):
+    """No line of Python or C has more than 120 characters."""
+    kinds = "tests/**/*", "bench/**/*", "tools/**/*", "examples/**/*"
+    files = [file for kind in kinds for file in TOP.glob(kind) if is_code(file)]
+    assert len(files) > 60, len(files)
+    lines = [(file, at, line) for file in files for at, line in enumerate(file.read_text("utf-8").split("\n"), 1)]
+    long = [f"{file.relative_to(TOP)}, line {at}: {len(line)}" for file, at, line in lines if len(line) > 120]
+    assert not long, "\n".join(sorted(long))
 
 
 def test_subcommands(program):
@@ -267,9 +318,13 @@ def test_subcommands(program):
 
 
 def test_names_of_contracts(program):
-    """Each name in backticks of docs/READING.md and of docs/PROVED.md stands in the code, its definitions or the tests."""
+    """Each name in backticks of docs/READING.md and of docs/PROVED.md stands in the code, its definitions or the
+    tests."""
     wanted = re.compile(r"[A-Za-z]\w*[_A-Z]\w*")
-    kinds = "crates/*/src/**/*.rt", "crates/*/specs/**/*.antt", "crates/*/proofs/*.antt", "crates.txt", "HANDLES", "tests/*", "tools/*"
+    kinds = (
+        "crates/*/src/**/*.rt", "crates/*/specs/**/*.antt", "crates/*/proofs/*.antt", "crates.txt", "HANDLES",
+        "tests/*", "tools/*",
+    )
     files = [it for kind in kinds for it in TOP.glob(kind) if it.is_file()]
     there = {it for file in files for it in wanted.findall(f"{file.stem} {file.read_text(encoding='utf-8')}")}
     there |= {it.parent.name for it in TOP.glob("crates/*/src")} | {it.stem for it in TOP.glob("crates/*/must-fail/*")}
@@ -288,15 +343,23 @@ def test_refusals_of_commands(program):
     steps, names = ((TOP / "crates" / it).read_text(encoding="utf-8") for it in files)
     number_of = {name: int(number) for name, number in re.findall(r"^number_of r\.(\w+) = (\d+)$", names, re.M)}
     named = {number_of[name]: word for name, word in re.findall(r'^name_of r\.(\w+) = codes "(\w+)"$', names, re.M)}
-    assert {int(number): word for number, word in re.findall(r"^\| (\d+) \| ([a-z_]+) \| ", text, re.M)} == named == formats.REFUSALS
+    assert {
+        int(number): word for number, word in re.findall(r"^\| (\d+) \| ([a-z_]+) \| ", text, re.M)
+    } == named == formats.REFUSALS
     wanted = {}
     for command, tried in re.findall(r"^tests v \(command\.(\w+).*?\) = *(.*?)∷ \[\]$", steps, re.M | re.S):
         word = re.sub(r"(?<!^)([A-Z])", r"-\1", command).lower()
-        wanted[word] = [number_of.get(it, "the kind's") for it in re.findall(r"(?:refusal\.|, )(\w+)(?: kind)?\)", tried)]
+        wanted[word] = [
+            number_of.get(it, "the kind's") for it in re.findall(r"(?:refusal\.|, )(\w+)(?: kind)?\)", tried)
+        ]
     rows = {}
     for word, refusals in re.findall(r"^\| \*\*([a-z-]+)\*\* \| [^|]+ \| ([^|]+) \| ", text, re.M):
-        rows[word] = [int(it) if it.isdigit() else "the kind's" for it in re.sub(r" \((?:from|to)\)", "", refusals).split(", ")]
-    assert len(rows) == 25 and rows == wanted, [(it, rows.get(it), wanted.get(it)) for it in wanted if rows.get(it) != wanted[it]]
+        rows[word] = [
+            int(it) if it.isdigit() else "the kind's" for it in re.sub(r" \((?:from|to)\)", "", refusals).split(", ")
+        ]
+    assert len(rows) == 25 and rows == wanted, [
+        (it, rows.get(it), wanted.get(it)) for it in wanted if rows.get(it) != wanted[it]
+    ]
     kinds = dict(re.findall(r"^unknown_of named\.(\w+) = refusal\.(\w+)$", steps, re.M))
     told = re.findall(r"^  \| `(\w+)` \| .* \| (\d+) (\w+) \|$", text, re.M)
     assert told == [(it.lower(), str(number_of[why]), named[number_of[why]]) for it, why in kinds.items()], told
@@ -305,19 +368,27 @@ def test_refusals_of_commands(program):
 def test_limits_of_the_rules(program):
     """The limits of docs/OPERATOR.md, section 11, are the constants, in their order."""
     rows = documents()["docs/OPERATOR.md"].split("## 11. Limits", 1)[1].split("\n## ", 1)[0]
-    limits = re.findall(r"^pub const \w+: u32 = ([\d_]+);$", (TOP / "crates/bike_operator/src/limits.rt").read_text(encoding="utf-8"), re.M)
+    limits = re.findall(
+        r"^pub const \w+: u32 = ([\d_]+);$",
+        (TOP / "crates/bike_operator/src/limits.rt").read_text(encoding="utf-8"),
+        re.M,
+    )
     found = [it.replace(",", "") for it in re.findall(r"^\| [^|]+ \| ([\d,]+) \| ", rows, re.M)]
     assert len(found) == 10 and found == [it.replace("_", "") for it in limits], (found, limits)
 
 
 def test_tables_of_the_formats(program):
-    """docs/FORMATS.md, section 10, has the tables of deploy/bikeshare-doctor, which tests/doctor.py holds to those that the program makes: their
-    columns in order, which of them may be NULL and which are the key, and which are texts."""
+    """docs/FORMATS.md, section 10, has the tables of deploy/bikeshare-doctor, which tests/doctor.py holds to those that
+    the program makes: their columns in order, which of them may be NULL and which are the key, and which are texts."""
     rows = documents()["docs/FORMATS.md"].split("## 10. Database", 1)[1].split("\n## ", 1)[0]
     found = {}
     for table, columns in re.findall(r"^\| ([a-z_0-9]+) \| ([^|;]+)[^|]*\| ", rows, re.M):
         found[table] = re.sub(r" \([^)]*\)", "", columns).strip().split(", ")
-    texts = set("app name description form propulsion caller req_key command reply from_station to_station from_end to_end".split())
+    texts = set(
+        (
+            "app name description form propulsion caller req_key command reply from_station to_station from_end to_end"
+        ).split()
+    )
     with contextlib.closing(sqlite3.connect(":memory:")) as db:
         db.executescript(loaded(TOP / "deploy/bikeshare-doctor").SCHEMA)
         wanted = {}
@@ -325,21 +396,33 @@ def test_tables_of_the_formats(program):
             wanted[table] = []
             for _, name, kind, is_wanted, _, key in db.execute(f"PRAGMA table_info({table})").fetchall():
                 wanted[table].append(f"{name}{'*' if key else '' if is_wanted else '?'}")
-                is_text = name in texts or name.endswith("_id") or table == "more_names" or (table == "system" and name not in ("one", "ttl"))
+                is_text = name in texts or name.endswith("_id") or table == "more_names" or (
+                    table == "system" and name not in ("one", "ttl")
+                )
                 assert kind == ("TEXT" if is_text else "INTEGER"), (table, name, kind)
-    assert len(found) == 17 and found == wanted, [(it, found.get(it), wanted[it]) for it in wanted if found.get(it) != wanted[it]]
+    assert len(found) == 17 and found == wanted, [
+        (it, found.get(it), wanted[it]) for it in wanted if found.get(it) != wanted[it]
+    ]
 
 
 def test_rules_have_their_names(program):
     """Each rule that a comment of the code names stands in bold in docs/OPERATOR.md."""
-    bold = {" ".join(it.lower().split()) for it in re.findall(r"\*\*(the [^*]+\srule)\b", documents()["docs/OPERATOR.md"], re.I)}
+    bold = {
+        " ".join(it.lower().split())
+        for it in re.findall(r"\*\*(the [^*]+\srule)\b", documents()["docs/OPERATOR.md"], re.I)
+    }
     files = [it for kind in ("src/**/*.rt", "specs/**/*.antt") for it in TOP.glob(f"crates/*/{kind}")]
-    named = {it.lower() for file in files for it in re.findall(r"\bthe [a-z]+(?:-[a-z]+)* rule\b", file.read_text(encoding="utf-8"), re.I)}
+    named = {
+        rule.lower()
+        for file in files
+        for rule in re.findall(r"\bthe [a-z]+(?:-[a-z]+)* rule\b", file.read_text(encoding="utf-8"), re.I)
+    }
     assert len(named) > 15 and named <= bold, named - bold
 
 
 def test_glossary(program):
-    """Each entry of docs/READING.md's glossary stands there once, and its words are defined in the files that it names."""
+    """Each entry of docs/READING.md's glossary stands there once, and its words are defined in the files that it
+    names."""
     section = documents()["docs/READING.md"].split("## 2. Glossary", 1)[1].split("\n## ", 1)[0]
     rows = re.findall(r"^\| ([^|]+) \| [^|]+ \| ([^|]*`) \|$", section, re.M)
     words = [word for row, _ in rows for word in row.split(", ")]
@@ -359,10 +442,13 @@ def test_glossary(program):
 def unknown_in(text):
     """The crates, the variables and the tests that a text names and that there aren't."""
     crates = {it.name for it in TOP.glob("crates/*")} | set(formats.REFUSALS.values())
-    files = [it for kind in ("tests/*", "tools/*", "deploy/*", "bench/*", "gate") for it in TOP.glob(kind) if it.is_file()]
+    kinds = "tests/*", "tools/*", "deploy/*", "bench/*", "gate"
+    files = [file for kind in kinds for file in TOP.glob(kind) if file.is_file()]
     scripts = [it for it in files if it.name != "documents.py"]
     variables = set(re.findall(r"BIKESHARE_[A-Z_]+", "".join(it.read_text(encoding="utf-8") for it in scripts)))
-    tests = [f"{it.stem}." for it in TOP.glob("tests/*.py")] + [f"lines/{it.name}" for it in TOP.glob("tests/lines/*.in")]
+    tests = [f"{it.stem}." for it in TOP.glob("tests/*.py")] + [
+        f"lines/{it.name}" for it in TOP.glob("tests/lines/*.in")
+    ]
     named = [it for it in re.findall(r"\bbike_[a-z_]+\b", text) if it not in crates]
     named += [it for it in re.findall(r"\bBIKESHARE_[A-Z_]+\b", text) if it not in variables]
     words = [word for it in re.findall(r"\btests/run ([a-z_.]+(?: [a-z_.]+)*)", text) for word in it.split()]
@@ -370,9 +456,12 @@ def unknown_in(text):
 
 
 def test_what_the_repository_has(program):
-    """Crates, variables and tests that a document names are there; and README.md tells the crates and, to a thirtieth, the lines."""
+    """Crates, variables and tests that a document names are there; and README.md tells the crates and, to a thirtieth,
+    the lines."""
     assert unknown_in("bike_core, BIKESHARE_SEED=7 tests/run kill. regions") == []
-    assert unknown_in("bike_kore, BIKESHARE_SEEDS=7 tests/run kills. regions") == ["bike_kore", "BIKESHARE_SEEDS", "kills."]
+    assert unknown_in("bike_kore, BIKESHARE_SEEDS=7 tests/run kills. regions") == [
+        "bike_kore", "BIKESHARE_SEEDS", "kills."
+    ]
     texts = documents()
     for name, text in texts.items():
         assert not unknown_in(text), (name, unknown_in(text))

@@ -1,4 +1,5 @@
-"""The database file that the program makes where there is none: the length of its pages, and what a stop leaves while it is made."""
+"""The database file that the program makes where there is none: the length of its pages, and what a stop leaves while
+it is made."""
 
 import os
 from pathlib import Path

@@ -1,4 +1,5 @@
-"""The texts of docs/FORMATS.md, sections 1 to 3, read by Python alone, with the bounds of docs/OPERATOR.md, section 2. It holds no test."""
+"""The texts of docs/FORMATS.md, sections 1 to 3, read by Python alone, with the bounds of docs/OPERATOR.md, section 2.
+It holds no test."""
 
 import re
 
@@ -9,10 +10,11 @@ MOST_DOCKS = 500
 NAMED = ("system", "station", "type", "plan", "description", "region")
 
 REFUSALS = dict(enumerate((
-    "unknown_station unknown_dock unknown_bike unknown_rider unknown_rental unknown_type unknown_plan unknown_truck unknown_order already_there "
-    "bad_field dock_empty dock_full dock_broken bike_disabled not_renting not_returning rider_blocked balance_negative rider_is_riding not_rented "
-    "not_in_depot bike_retired truck_too_small wrong_place wrong_type order_closed order_filled bikes_on_truck refund_too_large rental_open "
-    "limit_reached key_reused truck_full rental_closed wrong_truck_or_ends unknown_region system_missing"
+    "unknown_station unknown_dock unknown_bike unknown_rider unknown_rental unknown_type unknown_plan unknown_truck "
+    "unknown_order already_there bad_field dock_empty dock_full dock_broken bike_disabled not_renting not_returning "
+    "rider_blocked balance_negative rider_is_riding not_rented not_in_depot bike_retired truck_too_small wrong_place "
+    "wrong_type order_closed order_filled bikes_on_truck refund_too_large rental_open limit_reached key_reused "
+    "truck_full rental_closed wrong_truck_or_ends unknown_region system_missing"
 ).split(), 1))
 
 
@@ -121,12 +123,23 @@ def one_of(*words):
 FLAG = one_of("true", "false")
 COUNTED, SERIALS, DOCK, AMOUNT = within(*NUMBERED), within(*SERIAL), within(1, MOST_DOCKS), within(1, 1_000_000)
 COMMANDS = {
-    b"set-system": [is_ident, is_language, is_name, is_ascii, is_ascii, is_ascii, is_currency, is_ascii, within(0, 86_400)],
+    b"set-system": [
+        is_ident, is_language, is_name, is_ascii, is_ascii, is_ascii, is_currency, is_ascii, within(0, 86_400)
+    ],
     b"add-plan": [is_ident, is_name, within(0, 1_000_000), FLAG, is_name, is_segments],
-    b"add-type": [is_ident, is_name, one_of("bicycle", "cargo_bicycle"), one_of("human", "electric_assist"), within(0, 1_000_000), is_ident],
+    b"add-type": [
+        is_ident, is_name, one_of("bicycle", "cargo_bicycle"), one_of("human", "electric_assist"), within(0, 1_000_000),
+        is_ident,
+    ],
     b"set-plan": [is_ident, is_ident],
     b"add-region": [is_ident, is_name],
-    b"add-station": [is_ident, is_name, lambda it: coordinate(it, 90_000_000) is not None, lambda it: coordinate(it, 180_000_000) is not None, DOCK],
+    b"add-station": [
+        is_ident,
+        is_name,
+        lambda it: coordinate(it, 90_000_000) is not None,
+        lambda it: coordinate(it, 180_000_000) is not None,
+        DOCK,
+    ],
     b"set-region": [is_ident, is_end],
     b"set-station": [is_ident, FLAG, FLAG, FLAG],
     b"mark-dock": [is_ident, DOCK, one_of("broken", "working")],
@@ -153,7 +166,12 @@ def command_text(text):
     """The one text of the command that is spelled, or none where none is."""
     word, *fields = text.split(b"\t")
     wanted = COMMANDS.get(word)
-    if wanted is None or len(wanted) != len(fields) or not is_utf8(text) or not all(good(it) for good, it in zip(wanted, fields)):
+    if (
+        wanted is None
+        or len(wanted) != len(fields)
+        or not is_utf8(text)
+        or not all(good(it) for good, it in zip(wanted, fields))
+    ):
         return None
     if word == b"add-type" and (fields[3] == b"human") != (fields[4] == b"0"):
         return None
@@ -175,16 +193,24 @@ def spells_request(line):
     if len(line) > 4096 or len(parts) < 4 or not is_utf8(line):
         return False
     moment, caller, key, command = parts
-    return number(moment, 0, LAST_MOMENT) is not None and is_caller(caller) and is_key(key) and command_text(command) is not None
+    return (
+        number(moment, 0, LAST_MOMENT) is not None
+        and is_caller(caller)
+        and is_key(key)
+        and command_text(command) is not None
+    )
 
 
 def is_reply(text):
     """Whether the text is one of section 3."""
     word, *fields = text.split(b"\t")
     if word == b"refused":
-        return len(fields) == 2 and within(1, len(REFUSALS))(fields[0]) and REFUSALS[int(fields[0])].encode() == fields[1]
+        return (
+            len(fields) == 2 and within(1, len(REFUSALS))(fields[0]) and REFUSALS[int(fields[0])].encode() == fields[1]
+        )
     wanted = {
-        b"ok": [], b"balance": [is_balance], b"rental": [SERIALS, COUNTED], b"fare": [within(0, GREATEST_FARE), is_balance], b"order": [SERIALS],
+        b"ok": [], b"balance": [is_balance], b"rental": [SERIALS, COUNTED],
+        b"fare": [within(0, GREATEST_FARE), is_balance], b"order": [SERIALS],
     }.get(word)
     return wanted is not None and len(wanted) == len(fields) and all(good(it) for good, it in zip(wanted, fields))
 

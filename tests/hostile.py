@@ -1,33 +1,31 @@
-"""Hostile inputs from a seeded generator: request lines, HTTP requests and words of the command line.
+"""Hostile inputs from a seeded generator: request lines and words of the command line. HTTP requests that are made of
+the same have a file of their own, hostile_http.py.
 
-Whatever comes, the program neither crashes nor hangs. Each line is answered exactly once, as the operator in model.py answers it; each
-connection gets one well-formed response, the one that docs/FORMATS.md, section 6, and the same operator demand where this file can tell it,
-or is closed; words end with a status of docs/OPERATOR.md, section 12, and its line. Afterwards `check` says `sound`, and the feeds tell
-all names that the operator has.
+Whatever comes, the program neither crashes nor hangs. Each line is answered exactly once, as the operator in model.py
+answers it; words end with a status of docs/OPERATOR.md, section 12, and its line. Afterwards `check` says `sound`, and
+the feeds tell all names that the operator has.
 
 Some 2,000 inputs stand in the gate. By hand, from the environment:
 
-    BIKESHARE_INPUTS=100000 BIKESHARE_SEED=7 tests/run hostile.
+    BIKESHARE_INPUTS=100000 BIKESHARE_SEED=7 tests/run hostile
 
-BIKESHARE_INPUTS is how many inputs are made in all, six of ten lines, three HTTP requests and one a list of words; BIKESHARE_SEED is what they
-are made from. A failure tells the seed and the input.
+BIKESHARE_INPUTS is how many inputs are made in all, six of ten lines, three HTTP requests and one a list of words;
+BIKESHARE_SEED is what they are made from. A failure tells the seed and the input.
 """
 
 import contextlib
-import json
 import os
 import random
 import re
 import socket
 import subprocess
 import threading
-import time
 from pathlib import Path
 
 import feeds
 import formats
 import model
-from shared import FEEDS, Server, accepted, data_of, get, is_sound, line_of, requests_of, reset, rest, tells_mistake, told
+from shared import accepted, data_of, get, is_sound, line_of, requests_of, rest, tells_mistake, told
 
 INPUTS = int(os.environ.get("BIKESHARE_INPUTS", "2000"))
 SEED = int(os.environ.get("BIKESHARE_SEED", "1"))
@@ -36,18 +34,31 @@ SECONDS = 40
 
 # ---- what inputs are made of
 
-TYPES, PLANS, STATIONS, REGIONS = ["city", "cargo", "none"], ["basic", "day", "none"], ["a1", "b2", "c3", "zz"], ["north", "south", "a1", "zz"]
-NAMED = {"system": ["metro", "other"], "station": STATIONS, "type": TYPES, "plan": PLANS, "description": PLANS, "region": REGIONS}
+TYPES, PLANS, STATIONS, REGIONS = (
+    ["city", "cargo", "none"], ["basic", "day", "none"], ["a1", "b2", "c3", "zz"], ["north", "south", "a1", "zz"]
+)
+NAMED = {
+    "system": ["metro", "other"], "station": STATIONS, "type": TYPES, "plan": PLANS, "description": PLANS,
+    "region": REGIONS,
+}
 TEXTS = [
-    "Name", "Łódź 🚲", "a\\tb", "\\\\", "\\n\\r", "\\x", "\\", "", "é" * 60, "é" * 61, "n" * 120, "n" * 121, " ", "\x7f", "\x01", "\u0085", "\u2028",
-    "\ufeff", "\U0010ffff", "'; DROP TABLE bikes; --", "%s%n", "../..", '"', "\u202e",
+    "Name", "Łódź 🚲", "a\\tb", "\\\\", "\\n\\r", "\\x", "\\", "", "é" * 60, "é" * 61, "n" * 120, "n" * 121, " ", "\x7f",
+    "\x01", "\u0085", "\u2028", "\ufeff", "\U0010ffff", "'; DROP TABLE bikes; --", "%s%n", "../..", '"', "\u202e",
 ]
 DEGREES = "0 -0 45.5 -45.123456 007 90 180 90.000001 -180 180.000001 1. .5 +1 1.0000000 x 000.0 0000".split()
-SEGMENTS = ["-", "30:25:5:-", "0:-60:0:30;20:50:10:-", "1:2:3:1", "0:-0:1:-", ":::", "1:1:1:-;", "0:1:1:5;" * 8 + "0:1:1:5", "100000:-100000:100000:-", ""]
+SEGMENTS = [
+    "-", "30:25:5:-", "0:-60:0:30;20:50:10:-", "1:2:3:1", "0:-0:1:-", ":::", "1:1:1:-;", "0:1:1:5;" * 8 + "0:1:1:5",
+    "100000:-100000:100000:-", "",
+]
 LANGUAGES, CURRENCIES = ["en", "e", "x" * 35, "x" * 36, "e n"], ["EUR", "eur", "EURO"]
 FURTHER = ["en", "de", "DE", "fr", "it", "zh-Hant-TW", "00", "--", "x" * 35]
-FORMS, PROPULSIONS, RANGES = ["bicycle", "cargo_bicycle", "boat"], ["human", "electric_assist"], ["0", "60000", "1000001"]
-BIG = ["4294967296", "18446744073709551616", "9" * 30, "9" * 400, "-1", "+1", "01", "1.0", "1e3", "0x10", "٣", "¹", "", "١٢"]
+FORMS, PROPULSIONS, RANGES = (
+    ["bicycle", "cargo_bicycle", "boat"], ["human", "electric_assist"], ["0", "60000", "1000001"]
+)
+BIG = [
+    "4294967296", "18446744073709551616", "9" * 30, "9" * 400, "-1", "+1", "01", "1.0", "1e3", "0x10", "٣", "¹", "",
+    "١٢",
+]
 
 
 def numbers(pick, least, most):
@@ -60,83 +71,126 @@ def numbers(pick, least, most):
     return pick.choice(BIG)
 
 
-def command(pick):
-    """The words of a command, mostly a good one."""
-    def bike():
-        return numbers(pick, 1, 999_999) if pick.random() < 0.1 else str(pick.randint(1, 20))
+class Fields:
+    """Draws the fields of commands, mostly good ones."""
 
-    def serial():
-        return numbers(pick, 1, 100_000_000)
+    def __init__(self, pick):
+        self.pick = pick
 
-    def text():
-        return pick.choice(TEXTS) if pick.random() < 0.2 else "Name"
+    def mostly(self, often, good, bad):
+        """One of the good ones so often, else one of the bad."""
+        return self.pick.choice(good) if self.pick.random() < often else self.pick.choice(bad)
 
-    def flag():
-        return pick.choice(["true", "false"]) if pick.random() < 0.95 else pick.choice(["True", "1", "", "yes"])
+    def number(self, least, most):
+        return numbers(self.pick, least, most)
 
-    def degrees():
-        return pick.choice(DEGREES)
+    def bike(self):
+        return self.number(1, 999_999) if self.pick.random() < 0.1 else str(self.pick.randint(1, 20))
 
-    def segments():
-        return pick.choice(SEGMENTS)
+    rider = bike
 
-    def station():
-        return pick.choice(STATIONS) if pick.random() < 0.9 else pick.choice(["A1", "", "*", "a" * 36, "a" * 37, "a b"])
+    def truck(self):
+        return self.pick.choice(["1", "2", "3", self.bike()])
 
-    def end():
-        return "*" if pick.random() < 0.4 else station()
+    def serial(self):
+        return self.number(1, 100_000_000)
 
-    def region():
-        return pick.choice(REGIONS) if pick.random() < 0.9 else pick.choice(["North", "", "*", "**", "r" * 36, "r" * 37, "a b"])
+    def text(self):
+        return self.pick.choice(TEXTS) if self.pick.random() < 0.2 else "Name"
 
-    def named():
-        what = pick.choice(list(NAMED))
-        ident = pick.choice(NAMED[what]) if pick.random() < 0.9 else pick.choice([station(), region()])
-        good = pick.random() < 0.9
-        return [what if good else pick.choice(["Station", "", "bike", "stations", "system "]), ident, pick.choice(FURTHER if good else LANGUAGES), text()]
+    def flag(self):
+        return self.mostly(0.95, ["true", "false"], ["True", "1", "", "yes"])
 
-    def kind():
-        return pick.choice(TYPES)
+    def degrees(self):
+        return self.pick.choice(DEGREES)
 
-    def dock():
-        return numbers(pick, 1, formats.MOST_DOCKS) if pick.random() < 0.2 else str(pick.randint(1, 6))
+    def segments(self):
+        return self.pick.choice(SEGMENTS)
 
-    def rider():
-        return bike()
+    def station(self):
+        return self.mostly(0.9, STATIONS, ["A1", "", "*", "a" * 36, "a" * 37, "a b"])
 
-    made = {
+    def end(self):
+        return "*" if self.pick.random() < 0.4 else self.station()
+
+    def region(self):
+        return self.mostly(0.9, REGIONS, ["North", "", "*", "**", "r" * 36, "r" * 37, "a b"])
+
+    def kind(self):
+        return self.pick.choice(TYPES)
+
+    def dock(self):
+        return self.number(1, formats.MOST_DOCKS) if self.pick.random() < 0.2 else str(self.pick.randint(1, 6))
+
+    def named(self):
+        """The fields of add-name."""
+        what = self.pick.choice(list(NAMED))
+        if self.pick.random() < 0.9:
+            ident = self.pick.choice(NAMED[what])
+        else:
+            ident = self.pick.choice([self.station(), self.region()])
+        good = self.pick.random() < 0.9
+        if not good:
+            what = self.pick.choice(["Station", "", "bike", "stations", "system "])
+        return [what, ident, self.pick.choice(FURTHER if good else LANGUAGES), self.text()]
+
+
+def of_the_catalogue(pick, some):
+    """How the fields are drawn of the commands that set up a city."""
+    return {
         "set-system": lambda: [
-            "metro", pick.choice(LANGUAGES), text(), text(), text(), text(), pick.choice(CURRENCIES), text(), numbers(pick, 0, 86_400)
+            "metro", pick.choice(LANGUAGES), some.text(), some.text(), some.text(), some.text(),
+            pick.choice(CURRENCIES), some.text(), some.number(0, 86_400),
         ],
-        "add-plan": lambda: [pick.choice(["basic", "day", f"p{pick.randint(0, 300)}"]), text(), numbers(pick, 0, 1_000_000), flag(), text(), segments()],
+        "add-plan": lambda: [
+            pick.choice(["basic", "day", f"p{pick.randint(0, 300)}"]), some.text(), some.number(0, 1_000_000),
+            some.flag(), some.text(), some.segments(),
+        ],
         "add-type": lambda: [
-            pick.choice(["city", "cargo", f"t{pick.randint(0, 40)}"]), text(), pick.choice(FORMS), pick.choice(PROPULSIONS), pick.choice(RANGES),
-            pick.choice(PLANS),
+            pick.choice(["city", "cargo", f"t{pick.randint(0, 40)}"]), some.text(), pick.choice(FORMS),
+            pick.choice(PROPULSIONS), pick.choice(RANGES), pick.choice(PLANS),
         ],
-        "set-plan": lambda: [kind(), pick.choice(PLANS)],
-        "add-station": lambda: [pick.choice([station(), f"s{pick.randint(0, 500)}"]), text(), degrees(), degrees(), dock()],
-        "set-station": lambda: [station(), flag(), flag(), flag()],
-        "add-region": lambda: [pick.choice([region(), f"r{pick.randint(0, 300)}"]), text()],
-        "set-region": lambda: [station(), "*" if pick.random() < 0.3 else region()],
-        "mark-dock": lambda: [station(), dock(), pick.choice(["broken", "working", "fit"])],
-        "add-bike": lambda: [bike(), kind()],
-        "mark-bike": lambda: [bike(), pick.choice(["disabled", "fit", "broken"])],
-        "retire-bike": lambda: [bike()],
-        "add-rider": lambda: [rider()],
-        "set-rider": lambda: [rider(), pick.choice(["open", "blocked", ""])],
-        "top-up": lambda: [rider(), numbers(pick, 1, 1_000_000)],
-        "refund": lambda: [serial(), numbers(pick, 1, 1_000_000)],
-        "start": lambda: [rider(), station(), dock()],
-        "end": lambda: [bike(), station(), dock()],
-        "recover": lambda: [serial()],
-        "add-truck": lambda: [pick.choice(["1", "2", "3", bike()]), numbers(pick, 1, 60)],
-        "open-order": lambda: [pick.choice(["1", "2", "3", bike()]), end(), end(), kind(), numbers(pick, 1, 60)],
-        "load": lambda: [pick.choice(["1", "2", "3", bike()]), serial(), bike()],
-        "unload": lambda: [pick.choice(["1", "2", "3", bike()]), serial(), bike(), pick.choice(["from", "to"]), pick.choice(["0", dock()])],
-        "close-order": lambda: [serial()],
-        "add-name": named,
+        "set-plan": lambda: [some.kind(), pick.choice(PLANS)],
+        "add-station": lambda: [
+            pick.choice([some.station(), f"s{pick.randint(0, 500)}"]), some.text(), some.degrees(), some.degrees(),
+            some.dock(),
+        ],
+        "set-station": lambda: [some.station(), some.flag(), some.flag(), some.flag()],
+        "add-region": lambda: [pick.choice([some.region(), f"r{pick.randint(0, 300)}"]), some.text()],
+        "set-region": lambda: [some.station(), "*" if pick.random() < 0.3 else some.region()],
+        "mark-dock": lambda: [some.station(), some.dock(), pick.choice(["broken", "working", "fit"])],
+        "add-bike": lambda: [some.bike(), some.kind()],
+    }
+
+
+def of_the_day(pick, some):
+    """How the fields are drawn of the others, and of one that there isn't."""
+    return {
+        "mark-bike": lambda: [some.bike(), pick.choice(["disabled", "fit", "broken"])],
+        "retire-bike": lambda: [some.bike()],
+        "add-rider": lambda: [some.rider()],
+        "set-rider": lambda: [some.rider(), pick.choice(["open", "blocked", ""])],
+        "top-up": lambda: [some.rider(), some.number(1, 1_000_000)],
+        "refund": lambda: [some.serial(), some.number(1, 1_000_000)],
+        "start": lambda: [some.rider(), some.station(), some.dock()],
+        "end": lambda: [some.bike(), some.station(), some.dock()],
+        "recover": lambda: [some.serial()],
+        "add-truck": lambda: [some.truck(), some.number(1, 60)],
+        "open-order": lambda: [some.truck(), some.end(), some.end(), some.kind(), some.number(1, 60)],
+        "load": lambda: [some.truck(), some.serial(), some.bike()],
+        "unload": lambda: [
+            some.truck(), some.serial(), some.bike(), pick.choice(["from", "to"]), pick.choice(["0", some.dock()])
+        ],
+        "close-order": lambda: [some.serial()],
+        "add-name": some.named,
         "raise": lambda: [""],
     }
+
+
+def command(pick):
+    """The words of a command, mostly a good one."""
+    some = Fields(pick)
+    made = {**of_the_catalogue(pick, some), **of_the_day(pick, some)}
     often = ["start", "end", "load", "unload", "open-order", "add-bike", "top-up", "mark-bike", "mark-dock"]
     name = pick.choice(often if pick.random() < 0.6 else list(made))
     return [name, *made[name]()]
@@ -145,7 +199,9 @@ def command(pick):
 def caller(pick):
     if pick.random() < 0.95:
         return pick.choice(["office", "office", "rider:17", "dock:a1", "crew:3", "import:first"])
-    return pick.choice(["rider:0", "rider:017", "dock:", "dock:A1", "crew:1000000", "Office", "office:1", "", "rider:1:2"])
+    return pick.choice([
+        "rider:0", "rider:017", "dock:", "dock:A1", "crew:1000000", "Office", "office:1", "", "rider:1:2"
+    ])
 
 
 def key(pick):
@@ -165,8 +221,9 @@ def good_line(pick):
 
 
 SPICE = [
-    b"\0", b"\t", b"\t\t", b"\r", b"\xff", b"\xc3", b"\xc0\xaf", b"\xed\xa0\x80", b"\xf4\x90\x80\x80", b"\xef\xbb\xbf", b" ", b"\\", b"\\\\", b"9" * 40,
-    b"a" * 5000, b"\x1b[2J", b"\x1a", b"\x7f", b";", b"'", b'"', b"{", b"\xe2\x80\xae", b"-", b"0",
+    b"\0", b"\t", b"\t\t", b"\r", b"\xff", b"\xc3", b"\xc0\xaf", b"\xed\xa0\x80", b"\xf4\x90\x80\x80", b"\xef\xbb\xbf",
+    b" ", b"\\", b"\\\\", b"9" * 40, b"a" * 5000, b"\x1b[2J", b"\x1a", b"\x7f", b";", b"'", b'"', b"{", b"\xe2\x80\xae",
+    b"-", b"0",
 ]
 
 
@@ -203,12 +260,16 @@ def mutated(pick, data, feeds=False):
 CITY = [
     "set-system\tmetro\ten\tMetro\t24/7\tfeeds@example.org\tEtc/UTC\tEUR\thttp://127.0.0.1:8080\t30",
     "add-plan\tbasic\tBasic\t100\tfalse\tBasic\t30:25:5:-", "add-plan\tday\tDay\t250\ttrue\tDay\t-",
-    "add-type\tcity\tCity\tbicycle\thuman\t0\tbasic", "add-type\tcargo\tCargo\tcargo_bicycle\telectric_assist\t60000\tday",
-    "add-station\ta1\tHarbour\t41.890169\t12.492269\t6", "add-station\tb2\tBridge\t-45\t9.1\t5", "add-truck\t3\t20", "add-truck\t1\t3",
-    "add-region\tnorth\tNorth", "set-region\tb2\tnorth", "add-name\tstation\ta1\tde\tHafen", "add-name\tdescription\tday\tfr\tJour",
+    "add-type\tcity\tCity\tbicycle\thuman\t0\tbasic",
+    "add-type\tcargo\tCargo\tcargo_bicycle\telectric_assist\t60000\tday",
+    "add-station\ta1\tHarbour\t41.890169\t12.492269\t6", "add-station\tb2\tBridge\t-45\t9.1\t5", "add-truck\t3\t20",
+    "add-truck\t1\t3",
+    "add-region\tnorth\tNorth", "set-region\tb2\tnorth", "add-name\tstation\ta1\tde\tHafen",
+    "add-name\tdescription\tday\tfr\tJour",
     *(f"add-bike\t{it}\t{'cargo' if it % 3 == 0 else 'city'}" for it in range(1, 9)),
     *(f"add-rider\t{it}" for it in range(1, 9)), *(f"top-up\t{it}\t10000" for it in range(1, 9)),
-    "open-order\t3\t*\ta1\tcity\t4", *(f"load\t3\t1\t{it}" for it in (1, 2, 4)), *(f"unload\t3\t1\t{it}\tto\t{it}" for it in (1, 2, 4)),
+    "open-order\t3\t*\ta1\tcity\t4", *(f"load\t3\t1\t{it}" for it in (1, 2, 4)),
+    *(f"unload\t3\t1\t{it}\tto\t{it}" for it in (1, 2, 4)),
 ]
 
 
@@ -230,7 +291,10 @@ def hostile_line(pick):
         return good_line(pick).ljust(pick.choice([4095, 4096, 4097, 4098, 9000, 70_000]), b"5")
     if kind < 0.96:
         return bytes(pick.randrange(256) for _ in range(pick.randrange(300))).replace(b"\n", b"")
-    return pick.choice([b"", b"\r", b"\t\t\t", b"\0", b"\t" * 5000, b"\xff" * 4096, good_line(pick) + b"\r", b"\xef\xbb\xbf" + good_line(pick), b"GET / HTTP/1.1\r"])
+    return pick.choice([
+        b"", b"\r", b"\t\t\t", b"\0", b"\t" * 5000, b"\xff" * 4096, good_line(pick) + b"\r",
+        b"\xef\xbb\xbf" + good_line(pick), b"GET / HTTP/1.1\r",
+    ])
 
 
 def fed(program, file, data, pick):
@@ -273,7 +337,10 @@ def test_lines(program):
         is_sound(program, where=f"seed {SEED}, batch {batch}")
     # Feeds tell all names, in all languages, that the operator has then.
     found, right = feeds.told_names(program), operator.told_names()
-    assert found == right, f"seed {SEED}: {[(it, found.get(it), right.get(it)) for it in found | right if found.get(it) != right.get(it)][:3]}"
+    assert found == right, (
+        f"seed {SEED}: "
+        f"{[(it, found.get(it), right.get(it)) for it in found | right if found.get(it) != right.get(it)][:3]}"
+    )
     found = data_of(program, "system_information")["languages"]
     assert found == operator.languages(), f"seed {SEED}: {found}, not {operator.languages()}"
 
@@ -287,417 +354,43 @@ def answered(program, operator, lines, data, pick, where):
     assert answers.pop() == b"" and len(answers) == len(lines), f"{where}: {len(answers)} answers to {len(lines)} lines"
     for line, found in zip(lines, answers):
         right = operator.answer(line)
-        assert formats.is_reply(found) and found == right, f"{where}: {told(line, 600)} is answered by {found!r}, not {right!r}"
-
-
-# ---- HTTP
-
-GETS = ["/riders/1", "/bikes/1", "/rentals/1", "/orders/1", "/riders/999999", *(f"/gbfs/3.0/{it}.json" for it in FEEDS)]
-ODD_TARGETS = [
-    "/", "*", "/office/", "//office", "/%6fffice", "/office%00", "/riders/%31", "/riders/01", "/riders/0", "/riders/+1", "/riders/1000000", "/riders/" + "9" * 400,
-    "/docks/A1/end", "/docks/a1", "/docks//end", "/gbfs/3.0/", "/gbfs/3.0/x.json", "/../etc/passwd", "/riders/1/start/", "http://127.0.0.1/office", "/office#x",
-    "/riders/1?x=%zz", "/?", "?", "/" + "a" * 7000, "/" + "a" * 9000, "/riders/" + "%41" * 2000, "/crews/1/load?" + "q" * 3000,
-]
-
-
-ODD_VALUES = [
-    b"1e400", b"-1e400", b"1e-400", b"01", b"nan", b'"\\ud800"', b'"\\u0000"', b"tru", b"-", b"1.", b'"\xff"', b'"\t"', b"9" * 3000,
-]
-ODD_LENGTHS = ["0", "+5", "-1", "0x10", "", "1 2", "9" * 30, "16385", "16384", "18446744073709551616"]
-ODD_FIELDS = [
-    "X: " + "x" * 8100, "Expect: 100-continue", "Connection: keep-alive", "X: \x00", " X: folded", "X : 1", ": 1", "X", "X: \xff", "X:\x0b1", "X: \r 1",
-]
-
-
-def posted(pick):
-    """A target of a POST, and members that are mostly right."""
-    def one(good, bad):
-        return pick.choice(good if pick.random() < 0.93 else bad)
-
-    dock, station = one([1, 2, 3, 4, 5, 1, 2, 3, 4, 5, 201, 500], [0, 501, "1", 1.0, None, -1, 2**64, [1]]), one(["a1", "b2", "zz"], ["A1", 5, ""])
-    bike, state = one([1, 2, 3, 4, 9], [0, 1_000_000, "1", True]), one(["disabled", "fit", "broken", "working"], ["Fit", True])
-    order, side = one([1, 2, 3], [0, 100_000_001]), one(["to", "from"], ["up", 1])
-    named = {"key": f"h{pick.randrange(10**6)}" if pick.random() < 0.96 else pick.choice(["", "k" * 65, 1, "é", "k 1", None])}
-    rider, dock_at, truck = pick.randint(1, 9), pick.choice(["a1", "b2", "zz", "c-3"]), pick.choice([1, 3, 5])
-    return pick.choice([
-        (f"/riders/{rider}/start", {**named, "station": station, "dock": dock}),
-        (f"/docks/{dock_at}/end", {**named, "bike": bike, "dock": dock}),
-        (f"/docks/{dock_at}/mark-dock", {**named, "dock": dock, "state": state}),
-        (f"/docks/{dock_at}/mark-bike", {**named, "bike": bike, "state": state}),
-        (f"/crews/{truck}/load", {**named, "order": order, "bike": bike}),
-        (f"/crews/{truck}/unload", {**named, "order": order, "bike": bike, "side": side, "dock": dock}),
-        (f"/crews/{truck}/mark-bike", {**named, "bike": bike, "state": state}),
-        ("/office", {**named, "command": "\t".join(command(pick))}),
-        ("/office", {**named, "command": "\t".join(command(pick))}),
-        ("/office", {**named, "command": mutated(pick, "\t".join(command(pick)).encode(), True).decode(errors="replace")}),
-    ])
-
-
-def json_text(pick, members):
-    """A JSON text of the members, often spoiled or spelled oddly."""
-    kind = pick.random()
-    text = json.dumps(members, ensure_ascii=pick.random() < 0.5).encode("utf-8", "surrogatepass")
-    if kind < 0.7:
-        return text
-    if kind < 0.85:
-        return mutated(pick, text, True)
-    inside = text[:-1]
-    return pick.choice([
-        inside + b',"x":' + b"[" * (n := pick.choice([1, 126, 127, 128, 4000])) + b"]" * n + b"}",
-        inside + b',"x":' + b'{"a":' * (n := pick.choice([1, 125, 126, 127])) + b"1" + b"}" * n + b"}",
-        inside + b',"x":' + pick.choice(ODD_VALUES) + b"}",
-        inside + b"," + text[1:], b"[" + text + b"]", text + text, b"\xef\xbb\xbf" + text, text + b"\0",
-        text.decode("utf-8", "replace").encode("utf-16"), b" \r\n\t" + text + b" \n", b"", b"null", b"[]", b"{}", b'"x"', b"[" * 8000,
-        b"{" * 8000, text.ljust(16_384), text.ljust(16_385), inside,
-    ])
-
-
-def http_input(pick):
-    """A request, mostly one whose head is good."""
-    kind = pick.random()
-    if kind < 0.35:
-        method, target, body = "GET", pick.choice(GETS), b""
-    else:
-        target, members = posted(pick)
-        method, body = "POST", json_text(pick, members)
-    if pick.random() < 0.1:
-        target = pick.choice(ODD_TARGETS)
-    if pick.random() < 0.06:
-        method = pick.choice(["HEAD", "OPTIONS", "PUT", "get", "POST", "GET", "X-Y", "DELETE"])
-    if pick.random() < 0.1:
-        target += pick.choice(["?", "?a=b", "?/../", "/", "%20"])
-    fields = ["Host: 127.0.0.1"] if pick.random() < 0.8 else []
-    length = str(len(body))
-    if pick.random() < 0.12:
-        length = pick.choice([str(len(body) + 1), str(max(0, len(body) - 1)), "00" + length, length + " ", *ODD_LENGTHS])
-    if method == "POST" or pick.random() < 0.2:
-        fields.append(pick.choice(["Content-Length", "content-length", "CONTENT-LENGTH"]) + ": " + length)
-    if pick.random() < 0.04:
-        fields.append(pick.choice(["Transfer-Encoding: chunked", "Transfer-Encoding: identity", "Content-Length: " + length, "transfer-encoding:"]))
-    if pick.random() < 0.1:
-        fields += [f"X-{it}: {'v' * pick.choice([0, 1, 200])}" for it in range(pick.choice([1, 5, 29, 30, 31, 32, 33, 200]))]
-    if pick.random() < 0.05:
-        fields.append(pick.choice(ODD_FIELDS))
-    version = "HTTP/1.1" if pick.random() < 0.95 else pick.choice(["HTTP/1.0", "HTTP/2.0", "HTTP/1.2", "http/1.1", "HTTP/1.1 ", ""])
-    ending = "\r\n" if pick.random() < 0.93 else pick.choice(["\n", "\r", "\r\r\n"])
-    data = ending.join([f"{method} {target} {version}", *fields, "", ""]).encode("utf-8", "surrogatepass") + body
-    last = pick.random()
-    if last < 0.12:
-        return mutated(pick, data, True)
-    if last < 0.2:
-        return data + pick.choice([data, b"x", b"GET /riders/1 HTTP/1.1\r\n\r\n", b"\r\n" * 50, b"\0" * 1000, b"y" * 100_000])
-    if last < 0.25:
-        return data[: pick.randrange(len(data) + 1)]
-    if last < 0.27:
-        return bytes(pick.randrange(256) for _ in range(pick.choice([1, 10, 500, 9000])))
-    if last < 0.28:
-        return b"\r\n" * pick.choice([1, 10, 4096, 5000]) + data
-    return data
-
-
-PLAIN_LINE = re.compile(rb"([A-Za-z-]+) ([!-~]+) HTTP/1\.[01]")
-PLAIN_FIELD = re.compile(rb"([A-Za-z0-9-]+):([ -~]*)")
-
-
-def plain_head(data):
-    """The method, target, fields and length of a head that is spelled plainly, or none."""
-    head, end, _ = data.partition(b"\r\n\r\n")
-    first, *fields = head.split(b"\r\n")
-    line, found = PLAIN_LINE.fullmatch(first), [PLAIN_FIELD.fullmatch(it) for it in fields]
-    if not end or line is None or not all(found):
-        return None
-    return line[1], line[2], [(it[1].lower(), it[2].strip(b" ")) for it in found], len(head) + 4
-
-
-ROUTES = [
-    (rb"/riders/(?P<rider>[^/]*)/start", "POST", {"station": "ident", "dock": (1, formats.MOST_DOCKS)}),
-    (rb"/docks/(?P<station>[^/]*)/end", "POST", {"bike": (1, 999_999), "dock": (1, formats.MOST_DOCKS)}),
-    (rb"/docks/(?P<station>[^/]*)/mark-dock", "POST", {"dock": (1, formats.MOST_DOCKS), "state": ("broken", "working")}),
-    (rb"/docks/(?P<station>[^/]*)/mark-bike", "POST", {"bike": (1, 999_999), "state": ("disabled", "fit")}),
-    (rb"/crews/(?P<truck>[^/]*)/load", "POST", {"order": (1, 100_000_000), "bike": (1, 999_999)}),
-    (rb"/crews/(?P<truck>[^/]*)/unload", "POST", {"order": (1, 100_000_000), "bike": (1, 999_999), "side": ("from", "to"), "dock": (0, formats.MOST_DOCKS)}),
-    (rb"/crews/(?P<truck>[^/]*)/mark-bike", "POST", {"bike": (1, 999_999), "state": ("disabled", "fit")}),
-    (rb"/office", "POST", {"command": "command"}),
-    (rb"/riders/(?P<rider>[^/]*)", "GET", "row"), (rb"/bikes/(?P<rider>[^/]*)", "GET", "row"),
-    (rb"/rentals/(?P<serial>[^/]*)", "GET", "row"), (rb"/orders/(?P<serial>[^/]*)", "GET", "row"),
-    *((rb"/gbfs/3\.0/%s\.json" % it.encode(), "GET", "feed") for it in FEEDS),
-]
-
-
-class NoJson(Exception):
-    pass
-
-
-def no_json(*_):
-    raise NoJson
-
-
-def json_object(body):
-    """The members of a body, or none where it is no JSON object of the document."""
-    depth = most = 0
-    inside = escaped = False
-    for byte in body:
-        if inside:
-            inside, escaped = (escaped or byte != 0x22), (not escaped and byte == 0x5C)
-        elif byte == 0x22:
-            inside = True
-        elif byte in b"[{":
-            depth += 1
-            most = max(most, depth)
-        elif byte in b"]}":
-            depth -= 1
-    if most > 127:
-        return None
-
-    try:
-        if body.startswith(b"\xef\xbb\xbf"):
-            return None
-        members = json.loads(body.decode("utf-8"), parse_constant=no_json, parse_int=whole, parse_float=floating, object_pairs_hook=paired)
-    except (NoJson, ValueError, RecursionError):
-        return None
-    return members if isinstance(members, dict) else None
-
-
-def floating(text):
-    return float(text) if abs(float(text)) != float("inf") else no_json()
-
-
-def whole(text):
-    """A whole number; `-0` is none, and neither is one that only a float can hold."""
-    value = floating(text)
-    return value if text == "-0" or len(text) > 20 else int(text)
-
-
-def encodes(text):
-    try:
-        text.encode("utf-8")
-    except UnicodeEncodeError:
-        return False
-    return True
-
-
-def paired(pairs):
-    """Of equal members the last counts, but all have to be texts and values."""
-    for pair in pairs:
-        if not encodes(json.dumps(pair, ensure_ascii=False)):
-            no_json()
-    return dict(pairs)
-
-
-def is_good_member(kind, value):
-    if kind == "ident":
-        return isinstance(value, str) and formats.is_ident(value.encode())
-    if kind == "command":
-        return isinstance(value, str) and formats.command_text(value.encode()) is not None
-    if isinstance(kind[0], str):
-        return value in kind if isinstance(value, str) else False
-    return isinstance(value, int) and not isinstance(value, bool) and kind[0] <= value <= kind[1]
-
-
-def wanted(data, operator):
-    """What section 6 demands of a response: its status, the name in its body and the method in Allow, or the whole body; or none where this
-    can't tell it."""
-    if not data:
-        return "nothing"
-    found = plain_head(data)
-    if found is None:
-        return None
-    method_given, target, fields, size = found
-    if size > 8192 or len(fields) > 32:
-        return 400, "bad_request"
-    return measured(method_given, target, fields, data[size:], operator)
-
-
-def measured(method, target, fields, rest, operator):
-    """What is demanded of a request with a good head."""
-    lengths = [value for name, value in fields if name == b"content-length"]
-    if any(name == b"transfer-encoding" for name, _ in fields) or len(lengths) > 1 or not all(re.fullmatch(rb"[0-9]+", it) for it in lengths):
-        return 400, "bad_request"
-    digits = lengths[0].lstrip(b"0") if lengths else b""
-    length = int(digits or b"0") if len(digits) < 10 else 10**9
-    if length > 16_384:
-        return 413, "too_large"
-    if len(rest) < length:
-        return 400, "bad_request"
-    return routed(method, target.split(b"?", 1)[0], rest[:length], operator)
-
-
-def routed(method_given, path, body, operator):
-    for pattern, method, rest in ROUTES:
-        parts = re.fullmatch(pattern, path)
-        if parts is None:
-            continue
-        good = {"rider": formats.COUNTED, "truck": formats.COUNTED, "station": formats.is_ident, "serial": formats.SERIALS}
-        if not all(good[name](value) for name, value in parts.groupdict().items()):
-            return 404, "not_found"
-        if method_given != method.encode():
-            return 405, "method_not_allowed", method
-        return (200, 404) if rest == "row" else 200 if rest == "feed" else of_body(path.decode(), body, rest, operator)
-    return 404, "not_found"
-
-
-def of_body(path, body, members, operator):
-    given = json_object(body)
-    if given is None:
-        return 400, "bad_request"
-    if not isinstance(given.get("key"), str) or not formats.is_key(given["key"].encode()):
-        return 400, "bad_field"
-    if not all(it in given and is_good_member(kind, given[it]) for it, kind in members.items()):
-        return 400, "bad_field"
-    line = [str(int(time.time())), *as_line(path, given)]
-    return body_of("\t".join(line).encode(), operator)
-
-
-def as_line(path, given):
-    """The caller, key and command of a request over HTTP."""
-    _, kind, *rest = path.split("/")
-    if kind == "office":
-        return ["office", given["key"], given["command"]]
-    name, word = rest
-    caller = f"{kind.removesuffix('s')}:{name}"
-    fields = {
-        "start": [name, "station", "dock"], "end": ["bike", name, "dock"], "mark-dock": [name, "dock", "state"], "mark-bike": ["bike", "state"],
-        "load": [name, "order", "bike"], "unload": [name, "order", "bike", "side", "dock"],
-    }[word]
-    return [caller, given["key"], "\t".join([word, *(str(given[it]) if it in given and it != name else it for it in fields)])]
-
-
-def body_of(line, operator):
-    """The status and the body that tell the operator's reply."""
-    word, *fields = operator.answer(line).decode().split("\t")
-    if word == "refused":
-        return 400 if fields[0] == "11" else 409, f'{{"result":"refused","number":{fields[0]},"name":"{fields[1]}"}}'.encode()
-    names = {"ok": [], "balance": ["balance_cents"], "rental": ["rental", "bike"], "fare": ["fare_cents", "balance_cents"], "order": ["order"]}[word]
-    return 200, ('{"result":"ok"' + "".join(f',"{name}":{value}' for name, value in zip(names, fields)) + "}").encode()
-
-
-def loosely(data, operator):
-    """Tells the operator of a request whose head is spelled in a way that plain_head does not read, but that the program took."""
-    head, rest = re.match(rb"(?s)[\r\n]*(.*?)\r?\n\r?\n(.*)", data).groups()
-    first, *fields = re.split(rb"\r?\n", head)
-    method, target, _ = first.split(b" ")
-    named = [it.partition(b":") for it in fields]
-    return measured(method, target, [(name.lower(), value.strip(b" \t")) for name, _, value in named], rest, operator)
-
-
-HEAD = re.compile(
-    rb"HTTP/1\.1 (200 OK|400 Bad Request|404 Not Found|405 Method Not Allowed|409 Conflict|413 Payload Too Large)\r\nContent-Type: application/json\r\n"
-    rb"Content-Length: (0|[1-9][0-9]*)\r\nConnection: close\r\n(?:Allow: (GET|POST)\r\n)?\r\n"
-)
-
-
-def judged(data, found, operator):
-    """What is wrong with the response, or nothing."""
-    want = wanted(data, operator)
-    if want == "nothing":
-        return found and "an answer to nothing"
-    head = HEAD.match(found)
-    if head is None or len(found) - len(head[0]) != int(head[2]):
-        return "not a well-formed response"
-    status, body = int(head[1][:3]), found[len(head[0]) :]
-    members = json.loads(body)
-    if want is None and body != b'{"result":"error","name":"bad_request"}':
-        want = loosely(data, operator)
-    if (status == 405) != (head[3] is not None):
-        return "Allow without 405 or 405 without Allow"
-    if want is None:
-        return status != 400 and "a status of no table"
-    if want == 200:
-        return (status != 200 or members.get("version") != "3.0") and "wanted is a feed"
-    if want == (200, 404):
-        return (status not in want or (status == 404) != (members == {"result": "error", "name": "not_found"})) and "wanted is a row or none"
-    if isinstance(want[1], bytes):
-        return (status, body) != want and f"wanted is {want}"
-    if len(want) > 2 and head[3].decode() != want[2]:
-        return f"wanted is {want}"
-    kind = "refused" if want[1] == "bad_field" else "error"
-    return (status, members.get("name"), members.get("result")) != (*want[:2], kind) and f"wanted is {want}"
-
-
-def exchanged(server, data, pick):
-    """Sends the input in some manner, and returns all bytes that come back; none where nobody waits for them."""
-    manner = pick.random() if pick else 0
-    with server.connect() as client:
-        try:
-            if manner < 0.7:
-                client.sendall(data)
-            elif manner < 0.9:
-                cuts = sorted(pick.randrange(len(data) + 1) for _ in range(pick.choice([1, 2, 5])))
-                for begin, end in zip([0, *cuts], [*cuts, len(data)]):
-                    client.sendall(data[begin:end])
-                    time.sleep(0.001)
-            elif manner < 0.95:
-                client.sendall(data[: pick.randrange(len(data) + 1)])
-                return None if pick.random() < 0.5 else reset(client)
-            else:
-                client.sendall(data)
-                return None
-        except (BrokenPipeError, ConnectionResetError):
-            pass
-        with contextlib.suppress(OSError):
-            client.shutdown(socket.SHUT_WR)
-        return rest(client)
-
-
-def test_http(program):
-    pick = random.Random(f"{SEED} http")
-    operator = make_city(program, "city.db")
-    make_city(program, "idle.db")
-    left = INPUTS * 3 // 10
-    with Server(program, file="city.db") as server, Server(program, file="idle.db") as second:
-        # A client that says nothing is given up, and the next one is served.
-        idle = second.connect()
-        idle.sendall(b"GET /riders/1 HT")
-        begun = time.monotonic()
-        while left:
-            left -= 1
-            data = http_input(pick)
-            try:
-                found = exchanged(server, data, pick)
-                if found is None:
-                    # Nobody knows whether that counted, so it is sent again whole: where it did, the answer is the kept one.
-                    found = exchanged(server, data, None)
-                wrong = judged(data, found, operator)
-            except (OSError, ValueError, AttributeError, KeyError, IndexError) as fault:
-                found, wrong = None, f"{type(fault).__name__}: {fault}, and the server's status is {server.child.poll()}"
-            assert not wrong, f"seed {SEED}, {left} inputs before the end: {wrong}: {told(data, 600)} is answered by {found and told(found, 600)}"
-            if left % 100 == 0:
-                found = server.ask(get("/bikes/1"))
-                assert found.startswith(b"HTTP/1.1 200 OK\r\n"), found
-        assert server.child.poll() is None, server.child.poll()
-        with second.connect() as client:
-            client.settimeout(SECONDS)
-            client.sendall(get("/bikes/1"))
-            assert rest(client).startswith(b"HTTP/1.1 200 OK\r\n")
-        assert time.monotonic() - begun > 5, time.monotonic() - begun
-        assert rest(idle) == b"", "an idle client got an answer"
-        idle.close()
-    for file in "city.db", "idle.db":
-        is_sound(program, file, f"seed {SEED}, {file}")
+        assert formats.is_reply(found) and found == right, (
+            f"{where}: {told(line, 600)} is answered by {found!r}, not {right!r}"
+        )
 
 
 # ---- words
 
 VOCABULARY = [
-    "init", "check", "lines", "feed", "serve", "day", "import", "raise", "help", "--port", "--count", "--at", "--", "-", "--help", "-h", "-V", "--version",
-    "--port=0", "--port=x", "--port=0=1", "--ports", "--por", "-p", "-p0", "--count=1", "--at=1", "--at=", "0", "1", "2", "65535", "65536", "-1", "+1", "00",
-    "1e3", "253402300799", "253402300800", "9" * 400, "", " ", "city.db", "new.db", ":memory:", "text.db", "no/such.db", ".", "file:city.db?mode=ro",
-    "gbfs", "station_status", "system_regions", "nothing", "é", "\udcff", "x" * 300, "x" * 100_000, "a\nb", "%s", "*", "~",
+    "init", "check", "lines", "feed", "serve", "day", "import", "raise", "help", "--port", "--count", "--at", "--", "-",
+    "--help", "-h", "-V", "--version", "--port=0", "--port=x", "--port=0=1", "--ports", "--por", "-p", "-p0",
+    "--count=1", "--at=1", "--at=", "0", "1", "2", "65535", "65536", "-1", "+1", "00", "1e3", "253402300799",
+    "253402300800", "9" * 400, "", " ", "city.db", "new.db", ":memory:", "text.db", "no/such.db", ".",
+    "file:city.db?mode=ro", "gbfs", "station_status", "system_regions", "nothing", "é", "\udcff", "x" * 300,
+    "x" * 100_000, "a\nb", "%s", "*", "~",
 ]
 ENDS = re.compile(
-    rb"system missing|bad header|bad date|bad zone|day out of range|row [0-9]+ [a-z_]+|store failed|out of memory|foreign|unsound [a-z0-9_]+ .*"
-    rb"|older [0-9]+|newer [0-9]+|read failed|write failed", re.S
+    (
+        rb"system missing|bad header|bad date|bad zone|day out of range|row [0-9]+ [a-z_]+|store failed|out of memory|"
+        rb"foreign|unsound [a-z0-9_]+ .*|older [0-9]+|newer [0-9]+|read failed|write failed"
+    ),
+    re.S,
 )
 OUTPUT = re.compile(rb"|ready\n|sound\n|version [0-9]+\n|rows [0-9]+\n|\{.*\}|number,[a-z0-9,\n.:TZ*-]*\n")
-STATUS_OF = {b"system": 1, b"bad": 1, b"day": 1, b"row": 1, b"store": 3, b"out": 4, b"foreign": 5, b"unsound": 5, b"older": 5, b"newer": 5, b"read": 6, b"write": 6}
+STATUS_OF = {
+    b"system": 1, b"bad": 1, b"day": 1, b"row": 1, b"store": 3, b"out": 4, b"foreign": 5, b"unsound": 5, b"older": 5,
+    b"newer": 5, b"read": 6, b"write": 6,
+}
 
 
 def some_words(pick):
     kind = pick.random()
     if kind < 0.5:
         base = pick.choice([
-            ["init", "city.db"], ["check", "city.db"], ["lines", "city.db"], ["feed", "city.db", "gbfs"], ["feed", "city.db", "station_status", "--at", "0"],
-            ["serve", "city.db", "--port", "0", "--count", "1"], ["import", "city.db", "spring"], ["day", "city.db", "entries", "2023-11-14", "CET-1CEST,M3.5.0,M10.5.0/3"],
+            ["init", "city.db"], ["check", "city.db"], ["lines", "city.db"], ["feed", "city.db", "gbfs"],
+            ["feed", "city.db", "station_status", "--at", "0"],
+            ["serve", "city.db", "--port", "0", "--count", "1"], ["import", "city.db", "spring"],
+            ["day", "city.db", "entries", "2023-11-14", "CET-1CEST,M3.5.0,M10.5.0/3"],
             ["check", "text.db"], ["lines", ":memory:"], ["feed", "new.db", "gbfs"], [],
         ])
         words = list(base)
@@ -749,11 +442,21 @@ def test_words(program):
             raise AssertionError(f"seed {SEED}: {words!r:.500}: it had not ended after {SECONDS} seconds") from None
         where = f"seed {SEED}: {words!r:.500}: {status, out[:200], said[:200]}"
         if status == 2:
-            assert not out and (said.startswith(b"usage: bikeshare ") or tells_mistake(said)) and set(os.listdir(program.folder)) == before, where
+            assert (
+                not out
+                and (said.startswith(b"usage: bikeshare ") or tells_mistake(said))
+                and set(os.listdir(program.folder)) == before
+            ), where
         elif status in (0, "listens"):
             assert not said and OUTPUT.fullmatch(out), where
         else:
-            assert status in (1, 3, 5, 6) and said.endswith(b"\n") and ENDS.fullmatch(said[:-1]) and STATUS_OF[said.split()[0]] == status and not out, where
+            assert (
+                status in (1, 3, 5, 6)
+                and said.endswith(b"\n")
+                and ENDS.fullmatch(said[:-1])
+                and STATUS_OF[said.split()[0]] == status
+                and not out
+            ), where
         for file in set(os.listdir(program.folder)) - {"city.db", "city.db-wal", "text.db"}:
             os.unlink(os.path.join(program.folder, file))
         assert Path(program.folder, "text.db").read_bytes() == b"no database\n" * 400, where

@@ -1,7 +1,8 @@
-"""Files of schemas 1 and 2 that earlier programs wrote, as they stand in files/, with what these showed of each (files/README.md).
+"""Files of schemas 1 and 2 that earlier programs wrote, as they stand in files/, with what these showed of each
+(files/README.md).
 
-No word but `raise` takes such a file: each says `older 1` or `older 2` and leaves the file as it is. What a city shows that is made anew from
-the same request lines is what the earlier program showed of it.
+No word but `raise` takes such a file: each says `older 1` or `older 2` and leaves the file as it is. What a city shows
+that is made anew from the same request lines is what the earlier program showed of it.
 """
 
 import gzip
@@ -46,7 +47,9 @@ def shows(program, file, shown):
         assert found == (0, text.encode(), b""), (which, date, found)
     given, wanted = ("".join(f"{it[part]}\n" for it in shown["lines"]).encode() for part in (0, 1))
     status, found, said = program.run("lines", file, given=given)
-    assert (status, said) == (0, b"") and found == wanted, [it for it in zip(shown["lines"], found.decode().splitlines()) if it[0][1] != it[1]][:3]
+    assert (status, said) == (0, b"") and found == wanted, [
+        it for it in zip(shown["lines"], found.decode().splitlines()) if it[0][1] != it[1]
+    ][:3]
     is_sound(program, file)
 
 
@@ -58,14 +61,21 @@ def made_anew_shows(program, name, lines):
 
 
 def is_older(program, name, version):
-    """Every word says so of the file, reads nothing and writes nothing, and the file stays as it is, byte for byte and row for row."""
+    """Every word says so of the file, reads nothing and writes nothing, and the file stays as it is, byte for byte and
+    row for row."""
     file = unpacked(program, name)
     before, rows = file.read_bytes(), held(file, whole=False)
     for words in (
-        ["check"], ["init"], ["lines"], ["feed", "station_status", "--at", "1700000000"], ["feed", "system_regions", "--at", "0"],
-        ["day", "entries", "2023-11-14", "UTC0"], ["import", "spring", "--at", "1700000000"], ["serve", "--port", "0", "--count", "1"], ["check"],
+        ["check"], ["init"], ["lines"], ["feed", "station_status", "--at", "1700000000"],
+        ["feed", "system_regions", "--at", "0"],
+        ["day", "entries", "2023-11-14", "UTC0"], ["import", "spring", "--at", "1700000000"],
+        ["serve", "--port", "0", "--count", "1"], ["check"],
     ):
-        given = b"1700000000\toffice\tnew\tadd-region\tnorth\tNorth\n" if words[0] == "lines" else b"station_id,name,lat,lon,docks\nz9,New,0,0,1\n"
+        given = (
+            b"1700000000\toffice\tnew\tadd-region\tnorth\tNorth\n"
+            if words[0] == "lines"
+            else b"station_id,name,lat,lon,docks\nz9,New,0,0,1\n"
+        )
         found = program.run(words[0], file.name, *words[1:], given=given)
         assert found == (5, b"", b"older %d\n" % version), (words, found)
         assert file.read_bytes() == before and held(file, whole=False) == rows, (words, "the file was changed")
@@ -114,7 +124,9 @@ def test_an_older_file_whose_rows_are_bad(program):
 
 def test_an_older_file_that_calls_itself_newer(program):
     """The version alone makes no file of another schema: its tables are others."""
-    for name, versions in ("tour", {2: "older 2", 3: "foreign", 4: "newer 4"}), ("regions", {1: "older 1", 3: "foreign", 4: "newer 4"}):
+    for name, versions in (
+        ("tour", {2: "older 2", 3: "foreign", 4: "newer 4"}), ("regions", {1: "older 1", 3: "foreign", 4: "newer 4"})
+    ):
         file = unpacked(program, name)
         for version, wanted in versions.items():
             changed(file, f"UPDATE meta SET version = {version}")
@@ -123,16 +135,18 @@ def test_an_older_file_that_calls_itself_newer(program):
         checked(program, file, "foreign")
 
 
-# What schema 3 has more than schema 2, and schema 2 more than schema 1: a station's region, a table of regions, and one of further names.
+# What schema 3 has more than schema 2, and schema 2 more than schema 1: a station's region, a table of regions, and one
+# of further names.
 STATIONS = (
-    "CREATE TABLE stations_3 (station_id TEXT PRIMARY KEY NOT NULL, name TEXT NOT NULL, lat INTEGER NOT NULL, lon INTEGER NOT NULL,"
-    " docks INTEGER NOT NULL, installed INTEGER NOT NULL, renting INTEGER NOT NULL, \"returning\" INTEGER NOT NULL, reported INTEGER NOT NULL,"
-    " free INTEGER NOT NULL, broken INTEGER NOT NULL, region_id TEXT) STRICT;"
+    "CREATE TABLE stations_3 (station_id TEXT PRIMARY KEY NOT NULL, name TEXT NOT NULL, lat INTEGER NOT NULL, lon "
+    "INTEGER NOT NULL, docks INTEGER NOT NULL, installed INTEGER NOT NULL, renting INTEGER NOT NULL, \"returning\" "
+    "INTEGER NOT NULL, reported INTEGER NOT NULL, free INTEGER NOT NULL, broken INTEGER NOT NULL, region_id "
+    "TEXT) STRICT;"
 )
 MORE_NAMES = (
-    "CREATE TABLE more_names (kind TEXT NOT NULL, id TEXT NOT NULL, language TEXT NOT NULL, name TEXT NOT NULL, PRIMARY KEY (kind, id, language)) STRICT;"
-    "CREATE INDEX more_names_by_language ON more_names (language); CREATE INDEX more_names_by_thing ON more_names (kind, id, language, name);"
-    "UPDATE meta SET version = 3"
+    "CREATE TABLE more_names (kind TEXT NOT NULL, id TEXT NOT NULL, language TEXT NOT NULL, name TEXT NOT NULL, "
+    "PRIMARY KEY (kind, id, language)) STRICT;CREATE INDEX more_names_by_language ON more_names (language); "
+    "CREATE INDEX more_names_by_thing ON more_names (kind, id, language, name);UPDATE meta SET version = 3"
 )
 REGIONS = "CREATE TABLE regions (region_id TEXT PRIMARY KEY NOT NULL, name TEXT NOT NULL) STRICT;"
 RAISED = {

@@ -1,17 +1,18 @@
-"""The program is ended by `kill -9` at random moments, while it answers request lines over a file or serves HTTP from one.
+"""The program is ended by `kill -9` at random moments, while it answers request lines over a file or serves HTTP from
+one.
 
-After each kill SQLite's own integrity_check accepts the file, `check` says `sound`, and the file holds the city after some front of the
-list: every acknowledged request is in it, and at most one more. The list, sent again from its first request, has the answers of a run
-that nobody disturbed, and ends in the same city.
+After each kill SQLite's own integrity_check accepts the file, `check` says `sound`, and the file holds the city after
+some front of the list: every acknowledged request is in it, and at most one more. The list, sent again from its first
+request, has the answers of a run that nobody disturbed, and ends in the same city.
 
 A few kills stand in the gate. By hand, each of these from the environment:
 
     BIKESHARE_KILLS=1000 BIKESHARE_SEED=7 tests/run kill.
     BIKESHARE_KILLS=500 BIKESHARE_MORE=140 tests/run kill.
 
-BIKESHARE_KILLS is how many kills each of the two tests makes, BIKESHARE_SEED what they are drawn from; a failure tells both. With
-BIKESHARE_MORE so many requests more stand in the list: behind 140 the log has been copied into the file once, and a third of the kills
-come about there.
+BIKESHARE_KILLS is how many kills each of the two tests makes, BIKESHARE_SEED what they are drawn from; a failure tells
+both. With BIKESHARE_MORE so many requests more stand in the list: behind 140 the log has been copied into the file
+once, and a third of the kills come about there.
 """
 
 import contextlib
@@ -34,8 +35,9 @@ MORE = int(os.environ.get("BIKESHARE_MORE", "0"))
 SECONDS = 30
 
 
-# Each request has a caller and a command, and one that is refused is refused whatever comes behind it in the list. So all answers are
-# the same when the list is sent again. A number after a command is the key that it takes from an earlier request.
+# Each request has a caller and a command, and one that is refused is refused whatever comes behind it in the list. So
+# all answers are the same when the list is sent again. A number after a command is the key that it takes from an
+# earlier request.
 LIST = [
     ("office", "set-system metro en Metro 24/7 feeds@example.org Etc/UTC EUR http://127.0.0.1:8080 30"),
     ("office", "add-plan basic Basic 100 false Basic 30:25:5:-"),
@@ -48,7 +50,9 @@ LIST = [
     ("office", "add-truck 3 20"),
     *[
         each
-        for order, (bike, kind, station, dock) in enumerate([(7, "city", "a1", 1), (8, "cargo", "b2", 2), (9, "city", "a1", 3)], 1)
+        for order, (bike, kind, station, dock) in enumerate(
+            [(7, "city", "a1", 1), (8, "cargo", "b2", 2), (9, "city", "a1", 3)], 1
+        )
         for each in (
             ("office", f"add-bike {bike} {kind}"),
             ("office", f"open-order 3 * {station} {kind} 1"),
@@ -58,7 +62,11 @@ LIST = [
         )
     ],
     ("office", "top-up 99 100"),
-    *[each for rider in (17, 18, 19) for each in (("office", f"add-rider {rider}"), ("office", f"top-up {rider} 5000"))],
+    *[
+        each
+        for rider in (17, 18, 19)
+        for each in (("office", f"add-rider {rider}"), ("office", f"top-up {rider} 5000"))
+    ],
     ("office", "top-up 17 0"),
     *[
         each
@@ -108,14 +116,18 @@ def keyed():
 
 
 def as_lines():
-    return [f"{1700000000 + 60 * number}\t{caller}\t{key}\t{chr(9).join(words)}\n".encode() for number, (caller, key, words) in enumerate(keyed())]
+    return [
+        f"{1700000000 + 60 * number}\t{caller}\t{key}\t{chr(9).join(words)}\n".encode()
+        for number, (caller, key, words) in enumerate(keyed())
+    ]
 
 
 def as_posts():
     """The same list as HTTP requests: what a route offers goes by it."""
     names = {
         "start": ["", "station", "dock"], "end": ["bike", "", "dock"], "load": ["", "order", "bike"],
-        "unload": ["", "order", "bike", "side", "dock"], "mark-dock": ["", "dock", "state"], "mark-bike": ["bike", "state"],
+        "unload": ["", "order", "bike", "side", "dock"], "mark-dock": ["", "dock", "state"],
+        "mark-bike": ["bike", "state"],
     }
     posts = []
     for caller, key, (word, *fields) in keyed():
@@ -123,13 +135,16 @@ def as_posts():
             posts.append(office(key, "\t".join([word, *fields])))
             continue
         kind, name = caller.split(":")
-        members = {it: int(field) if field.isdigit() else field for it, field in zip(names[word], fields, strict=True) if it}
+        members = {
+            it: int(field) if field.isdigit() else field for it, field in zip(names[word], fields, strict=True) if it
+        }
         posts.append(post(f"/{kind}s/{name}/{word}".replace("/crew/", "/crews/"), json.dumps({"key": key, **members})))
     return posts
 
 
 def held(file, timeless=False):
-    """What a file holds and what SQLite's own test of it says, both read from a copy. It holds nothing where it isn't made yet."""
+    """What a file holds and what SQLite's own test of it says, both read from a copy. It holds nothing where it isn't
+    made yet."""
     with copied(file) as base:
         is_whole(base)
         names = [name for (name,) in base.execute("SELECT name FROM sqlite_schema WHERE type = 'table' ORDER BY name")]
@@ -138,12 +153,16 @@ def held(file, timeless=False):
             rows = base.execute(f"SELECT * FROM {name}")
             columns = [it[0] for it in rows.description]
             out = [columns.index(it) for it in MOMENTS.get(name, [])] if timeless else []
-            told[name] = sorted((tuple((value is not None) if at in out else value for at, value in enumerate(row)) for row in rows), key=repr)
+            told[name] = sorted(
+                (tuple((value is not None) if at in out else value for at, value in enumerate(row)) for row in rows),
+                key=repr,
+            )
         return told
 
 
 class Talk:
-    """A way to send the list: by lines or over HTTP. `begin` begins the program and `one` sends a request and returns its answer."""
+    """A way to send the list: by lines or over HTTP. `begin` begins the program and `one` sends a request and returns
+    its answer."""
 
     def __init__(self, program, file):
         self.program, self.file = program, file
@@ -308,7 +327,9 @@ def kills(program, kind):
         whole.begin()
         again = [whole.one(request) for request in kind.requests]
         said = whole.end()
-        assert again == wanted and not said, f"{told}: sent again: {[it for it in zip(kind.requests, again, wanted) if it[1] != it[2]][:3]}, {said!r}"
+        assert again == wanted and not said, (
+            f"{told}: sent again: {[it for it in zip(kind.requests, again, wanted) if it[1] != it[2]][:3]}, {said!r}"
+        )
         assert held(file, kind.timeless) == fronts[-1], f"{told}: the list, sent again, ends in another city"
         removed(file)
 
@@ -322,7 +343,9 @@ def stands(program, file, kind, fronts, least, told):
     except (AssertionError, sqlite3.Error) as fault:
         raise AssertionError(f"{told}: after {least} answers: {fault}") from fault
     fits = [it for it in (least, least + 1) if it < len(fronts) and fronts[it] == found]
-    assert fits or (least == 0 and not found), f"{told}: the file holds neither the first {least} requests nor one more: {found}"
+    assert fits or (least == 0 and not found), (
+        f"{told}: the file holds neither the first {least} requests nor one more: {found}"
+    )
     after = held(file, kind.timeless) if file.exists() else {}
     assert after == found, f"{told}: check changed the city"
     return fits[0] if fits else 0

@@ -1,15 +1,19 @@
-"""Texts of fields at their lengths and one past them. A length counts the bytes of the value, and not of its spelling."""
+"""Texts of fields at their lengths and one past them. A length counts the bytes of the value, and not of its
+spelling."""
 
 HEAD = b"0\toffice\t"
 OK = b"ok\n"
 BAD_FIELD = b"refused\t11\tbad_field\n"
-SYSTEM = [b"set-system", b"metro", b"en", b"Metro", b"24/7", b"a@example.org", b"Etc/UTC", b"EUR", b"http://127.0.0.1", b"30"]
+SYSTEM = [
+    b"set-system", b"metro", b"en", b"Metro", b"24/7", b"a@example.org", b"Etc/UTC", b"EUR", b"http://127.0.0.1", b"30"
+]
 REGION = [b"add-region", b"north", b"North"]
 NAME = [b"add-name", b"system", b"metro", b"de", b"Metro"]
 
 
 def is_read(program, fields, at, text):
-    """Whether the command is accepted with this text in the place of one field. A name in a further language wants a system."""
+    """Whether the command is accepted with this text in the place of one field. A name in a further language wants a
+    system."""
     command = b"\t".join([*fields[:at], text, *fields[at + 1 :]])
     before = [HEAD + b"k0\t" + b"\t".join(SYSTEM) + b"\n"] if fields is NAME else []
     status, found, said = program.run(given=b"".join([*before, HEAD + b"k1\t" + command + b"\n"]))
@@ -22,7 +26,9 @@ def is_read(program, fields, at, text):
 def has_lengths(program, fields, at, unit, least, most):
     for count in (least - 1, least, most, most + 1):
         found = is_read(program, fields, at, unit * count)
-        assert found == (least <= count <= most), f"{count} times {unit} at field {at}: {'read' if found else 'refused'}"
+        assert found == (least <= count <= most), (
+            f"{count} times {unit} at field {at}: {'read' if found else 'refused'}"
+        )
 
 
 def test_identifiers(program):

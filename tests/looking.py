@@ -10,8 +10,10 @@ from pathlib import Path
 
 import adoption
 from days import ENTRIES, RENTALS
-from shared import DONE, FOREIGN, HEADER, NO_SYSTEM, READY, SOUND, STORE_FAILED, Server
-from shared import changed, held, office, put, quickly, removed, taken, told_with
+from shared import (
+    DONE, FOREIGN, HEADER, NO_SYSTEM, READY, SOUND, STORE_FAILED, Server, changed, held, office, put, quickly, removed,
+    taken, told_with,
+)
 
 LOOKS = {
     "check": (["check", "FILE"], SOUND),
@@ -86,7 +88,9 @@ def test_files_of_a_byte_or_none(program):
             file = Path(program.folder, "city.db")
             file.write_bytes(data)
             assert asks(program, words, file.name) == empty, (data, words)
-            assert set(os.listdir(program.folder)) <= {file.name, f"{file.name}-wal"}, (data, words, os.listdir(program.folder))
+            assert set(os.listdir(program.folder)) <= {file.name, f"{file.name}-wal"}, (
+                data, words, os.listdir(program.folder)
+            )
             assert not held(file), (data, words)
             removed(file)
 

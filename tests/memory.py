@@ -1,17 +1,19 @@
-"""Each request for memory is refused in turn, alone or with all after it, while the program answers lines over a file, serves an HTTP
-request, writes a feed or checks a file.
+"""Each request for memory is refused in turn, alone or with all after it, while the program answers lines over a file,
+serves an HTTP request, writes a feed or the table of a day, imports stations or checks a file.
 
-Each answer is the one that it has where memory is there, or want of memory or storage is named; afterwards the file holds the city before
-the request or after it, and the same request, sent again, has its answer. tests/stops/faults.c refuses; cc builds it.
+Each answer is the one that it has where memory is there, or want of memory or storage is named; afterwards the file
+holds the city before the request or after it, and the same request, sent again, has its answer. tests/stops/faults.c
+refuses; cc builds it.
 
 A sample of the requests for memory stands in the gate. By hand more of them, from the environment:
 
     BIKESHARE_MEMORY=2500 BIKESHARE_SEED=7 tests/run memory.
     BIKESHARE_MEMORY=all BIKESHARE_JOBS=4 TMPDIR=/dev/shm tests/run memory.
 
-BIKESHARE_MEMORY is how many of them each test draws, and `all` are each one, alone and with all after it, where those of opening the file,
-which is alike for all words, are tried with `check` alone; BIKESHARE_SEED is what they are drawn from; BIKESHARE_JOBS is how many are tried at a
-time; BIKESHARE_MEMORY_TOLD names a file to which each test adds how many it tried.
+BIKESHARE_MEMORY is how many of them each test draws, and `all` are each one, alone and with all after it, where those
+of opening the file, which is alike for all words, are tried with `check` alone; BIKESHARE_SEED is what they are drawn
+from; BIKESHARE_JOBS is how many are tried at a time; BIKESHARE_MEMORY_TOLD names a file to which each test adds how
+many it tried.
 """
 
 import os
@@ -19,9 +21,14 @@ import random
 import tempfile
 from pathlib import Path
 
+import days
+import imports
+import streams
 from adoption import asked, told
-from shared import JOBS, READY, UNAVAILABLE, WANTS, Program, at_once, counted, disturbed, environment, exchanged, get, get_feed, held, is_sound, office
-from shared import post, put, removed, taken, timeless
+from shared import (
+    HEADER, JOBS, READY, UNAVAILABLE, WANTS, Program, ask, at_once, counted, disturbed, environment, exchanged, faulty,
+    get, get_feed, held, is_sound, office, post, put, quickly, removed, rows_of, taken, timeless,
+)
 
 TRIED = os.environ.get("BIKESHARE_MEMORY", "8")
 SEED = int(os.environ.get("BIKESHARE_SEED", "1"))
@@ -47,8 +54,8 @@ def turns(total, begin):
 
 
 def try_each(program, total, tried, begin=0):
-    """Tries the refusals of a run with so many requests for memory, JOBS at a time, each of these in a folder of its own. Where all are
-    tried, those up to `begin` are left to another test."""
+    """Tries the refusals of a run with so many requests for memory, JOBS at a time, each of these in a folder of its
+    own. Where all are tried, those up to `begin` are left to another test."""
     refusals = turns(total, begin)
 
     def work(job):
@@ -116,7 +123,9 @@ def test_a_new_file(program):
 def test_checks_and_feeds(program):
     state = fresh(program, len(LINES))
     parts, opens = taken(program.folder, "city.db"), opened(program)
-    feeds = ("station_status", "1700000000"), ("system_pricing_plans", "0"), ("system_regions", "0"), ("system_information", "0")
+    feeds = ("station_status", "1700000000"), ("system_pricing_plans", "0"), ("system_regions", "0"), (
+        "system_information", "0"
+    )
     for words in ["check", "city.db"], *(["feed", "city.db", name, "--at", at] for name, at in feeds):
         right = disturbed(program, words)
         assert right.status == 0 and right.out and not right.said, right
@@ -164,3 +173,88 @@ def test_http(program):
             assert timeless(again.out) == right and (again.status, again.said) == (0, b""), f"{where}: again {again}"
 
         try_each(program, right.memory, tried, opens)
+
+
+# ---- Behind the opening: days, feeds, imports and lines, and fields of every kind
+
+
+def requests_for_memory(program, words, given=b""):
+    """How many requests for memory a run makes that nobody disturbs, and what it writes."""
+    ran = disturbed(program, words, given)
+    assert (ran.status, ran.said) == (0, b""), (words, ran)
+    return ran.memory, ran.out
+
+
+def kept_of(program):
+    """How many requests are kept of a run over the city."""
+    ((count,),) = rows_of(
+        "SELECT count(*) FROM kept WHERE caller IN ('import:spring', 'crew:9')", program.folder, "city.db"
+    )
+    return count
+
+
+@quickly
+def test_memory_that_is_refused_behind_the_opening(program):
+    """Alone and with all after it: what is written is a front, whole lines of `lines` alone, and the want is named;
+    what stands are the requests that were answered or one more, of an import some rows; without the fault all is as
+    ever."""
+    ask(program, days.CITY)
+    ask(program, ["start\t17\ta1\t1"], 1711918800, first=70)
+    ask(program, ["end\t7\ta1\t1"], 1711922399, first=71)
+    parts = taken(program.folder, "city.db")
+    opening, _ = requests_for_memory(program, ["check", "city.db"])
+    lines = streams.LINES.replace(b"office", b"crew:9").replace(b"\t17", b"\t18")
+    for words, given, stride in (
+        (["day", "city.db", "rentals", "2024-03-31", days.ROME], b"", 29),
+        (["feed", "city.db", "station_status", "--at", imports.AT], b"", 29),
+        (imports.IMPORT, (HEADER + imports.ROWS).encode(), 173), (["lines", "city.db"], lines, 173),
+    ):
+        put(parts, program.folder, "city.db")
+        total, whole = requests_for_memory(program, words, given)
+        for turn in range(opening - 20, total + 1, 1 if TRIED == "all" else stride):
+            for how in {"REFUSE_AT": turn}, {"REFUSE_FROM": turn}:
+                put(parts, program.folder, "city.db")
+                status, out, said = faulty(program, words, given, **how)
+                front = whole.startswith(out) and said == WANTS.get(status)
+                assert front or (status, out, said) == (0, whole, b""), (words, how, status, out, said)
+                answers, count = out.count(b"\n"), kept_of(program)
+                wanted = (
+                    0, 1, 2, 3
+                ) if words is imports.IMPORT else (min(answers, 2), min(answers + 1, 2)) if given else (0,)
+                is_sound(program, where=f"{words}, {how}")
+                assert count in wanted, (words, how, out, count)
+                assert program.run(*words, given=given) == (0, whole, b""), (words, how)
+
+
+# A city whose records have every kind of field, asked for by every kind of caller that has a name.
+SET_UP = [
+    "office|k1|set-system|city|pt-BR|City|24/7|a@example.org|Europe/Rome|EUR|https://example.org|60",
+    "crew:7|k1|add-plan|day|Day|1000000|true|d|" + ";".join(["0:25:10:-"] * 8),
+    "dock:a1|k1|add-type|city|City|cargo_bicycle|human|0|day",
+    "import:csv|k1|add-station|a1|Main St|0|0|1",
+    "rider:7|k1|add-region|north|North",
+    "dock:a1|k2|set-region|a1|north",
+    "import:csv|k2|add-name|description|day|zh-Hant-TW|d",
+]
+
+
+@quickly
+def test_memory_that_is_refused_for_fields(program):
+    """A request for memory that is refused ends the program, whatever field it was for, and all is accepted when it is
+    sent again."""
+    lines = "".join(f"1700000000|{line}\n" for line in SET_UP).replace("|", "\t").encode()
+    program.run("init", "city.db")
+    parts, seen = taken(program.folder, "city.db"), set()
+    opening, _ = requests_for_memory(program, ["check", "city.db"])
+    total, whole = requests_for_memory(program, ["lines", "city.db"], lines)
+    assert whole == b"ok\n" * len(SET_UP), whole
+    for turn in range(opening - 20, total + 1, 1 if TRIED == "all" else 59):
+        put(parts, program.folder, "city.db")
+        status, out, said = faulty(program, ["lines", "city.db"], lines, REFUSE_AT=turn)
+        assert (whole.startswith(out) and said == WANTS.get(status)) or (status, out, said) == (0, whole, b""), (
+            turn, status, out, said
+        )
+        assert program.run("lines", "city.db", given=lines) == (0, whole, b""), turn
+        is_sound(program)
+        seen.add((status, len(out)))
+    assert len(seen) > 2, seen

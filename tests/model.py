@@ -32,7 +32,9 @@ class Operator:
     def __init__(self):
         self.now = 0
         self.system = None
-        self.plans, self.types, self.regions, self.stations, self.trucks, self.riders, self.bikes = {}, {}, {}, {}, {}, {}, {}
+        self.plans, self.types, self.regions, self.stations, self.trucks, self.riders, self.bikes = (
+            {}, {}, {}, {}, {}, {}, {}
+        )
         self.broken, self.rentals, self.orders, self.entries, self.kept = set(), [], [], [], {}
         # Names, as commands spell them: of a kind and an identifier, and the further ones of these by language.
         self.named, self.further = {}, {}
@@ -59,9 +61,15 @@ class Operator:
         return reply.encode()
 
     def told_names(self):
-        """What feeds tell of each kind and identifier: languages and texts, the system's own language first and then by their bytes."""
-        told = {key: [(self.system[1], own), *sorted(self.further.get(key, {}).items())] for key, own in self.named.items()}
-        return {key: [(language, formats.unescaped(text.encode()).decode()) for language, text in names] for key, names in told.items()}
+        """What feeds tell of each kind and identifier: languages and texts, the system's own language first and then by
+        their bytes."""
+        told = {
+            key: [(self.system[1], own), *sorted(self.further.get(key, {}).items())] for key, own in self.named.items()
+        }
+        return {
+            key: [(language, formats.unescaped(text.encode()).decode()) for language, text in names]
+            for key, names in told.items()
+        }
 
     def languages(self):
         """The system's own, and then each other once by their bytes."""
@@ -82,7 +90,10 @@ class Operator:
         return sum(-amount if kind == 2 else amount for kind, its, _, amount in self.entries if its == rider)
 
     def on_truck(self, truck, order=None):
-        return sum(it["place"][0] == "truck" and it["place"][1] == truck and order in (None, it["place"][2]) for it in self.bikes.values())
+        return sum(
+            it["place"][0] == "truck" and it["place"][1] == truck and order in (None, it["place"][2])
+            for it in self.bikes.values()
+        )
 
     def is_full_of_entries(self):
         return len(self.entries) + sum(it["finish"] is None for it in self.rentals) >= 100_000_000
@@ -96,7 +107,10 @@ class Operator:
         refuse(10, plan in self.plans)
         refuse(32, len(self.plans) >= 256)
         parts = [] if segments == "-" else [it.split(":") for it in segments.split(";")]
-        rows = [(int(start), int(rate), int(interval), None if end == "-" else int(end)) for start, rate, interval, end in parts]
+        rows = [
+            (int(start), int(rate), int(interval), None if end == "-" else int(end))
+            for start, rate, interval, end in parts
+        ]
         self.plans[plan] = {"price": int(price), "segments": rows}
         self.named["plan", plan], self.named["description", plan] = name, description
 
@@ -135,7 +149,8 @@ class Operator:
         """A plan has two lists, of its name and of its description. A language is another where one byte is."""
         refuse(38, self.system is None)
         there, unknown = {
-            "system": ([self.system[0]], 11), "station": (self.stations, 1), "type": (self.types, 6), "plan": (self.plans, 7),
+            "system": ([self.system[0]], 11), "station": (self.stations, 1), "type": (self.types, 6),
+            "plan": (self.plans, 7),
             "description": (self.plans, 7), "region": (self.regions, 37),
         }[kind]
         refuse(unknown, ident not in there)
@@ -214,7 +229,9 @@ class Operator:
         refuse(15, self.bikes[bike]["state"] != "fit")
         refuse(32, self.is_full_of_entries())
         plan = self.types[self.bikes[bike]["type"]]
-        self.rentals.append({"rider": rider, "bike": bike, "plan": plan, "start": self.later, "finish": None, "fare": None})
+        self.rentals.append({
+            "rider": rider, "bike": bike, "plan": plan, "start": self.later, "finish": None, "fare": None
+        })
         self.bikes[bike]["place"] = ("rental", len(self.rentals))
         self.report(station)
         return f"rental\t{len(self.rentals)}\t{bike}"
@@ -263,7 +280,9 @@ class Operator:
         refuse(6, kind not in self.types)
         refuse(24, int(count) > self.trucks[truck])
         refuse(32, len(self.orders) >= 10_000_000)
-        self.orders.append({"truck": truck, "from": begin, "to": end, "type": kind, "count": int(count), "delivered": 0, "open": True})
+        self.orders.append({
+            "truck": truck, "from": begin, "to": end, "type": kind, "count": int(count), "delivered": 0, "open": True
+        })
         return f"order\t{len(self.orders)}"
 
     def order_of(self, truck, order):

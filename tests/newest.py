@@ -1,8 +1,9 @@
 """What a rider's newest rental tells, and a rider who rides by one that is not the newest: no request makes such a
 city, and the rules of docs/FORMATS.md, section 11, allow its file.
 
-A desk asks the newest rental of a rider alone where every open rental is its rider's newest; in this file it may not. So what is refused, and
-what is allowed once the older rental is closed, is that of docs/OPERATOR.md, and not of a city in which the newest rental tells.
+A desk asks the newest rental of a rider alone where every open rental is its rider's newest; in this file it may not.
+So what is refused, and what is allowed once the older rental is closed, is that of docs/OPERATOR.md, and not of a city
+in which the newest rental tells.
 """
 
 from pathlib import Path
@@ -54,7 +55,10 @@ class City:
         for line in lines:
             caller, command = line.split(" ", 1)
             self.asked += 1
-            given.append(f"{1700000000 + self.asked}\t{caller}\tk{self.asked}\t{command.replace(' ', chr(9)).replace('_', ' ')}\n")
+            given.append(
+                f"{1700000000 + self.asked}\t{caller}\tk{self.asked}\t"
+                f"{command.replace(' ', chr(9)).replace('_', ' ')}\n"
+            )
         status, answers, said = self.program.run("lines", self.file.name, given="".join(given).encode())
         assert (status, said) == (0, b""), (status, said)
         return answers.decode().replace("\t", " ").splitlines()
@@ -75,8 +79,12 @@ def test_a_rider_of_an_older_rental_may_not_start(program):
     city = odd_city(program)
     before = rows_of("SELECT * FROM rentals", city.file)
     # A start of somebody else comes first, so that the desk has asked before.
-    answers = city.ask("rider:18 start 18 a1 3", "rider:17 start 17 a1 2", "rider:17 start 17 a1 2", "dock:a1 end 9 a1 3")
-    assert answers == ["rental 3 9", "refused 20 rider_is_riding", "refused 20 rider_is_riding", "fare 100 2400"], answers
+    answers = city.ask(
+        "rider:18 start 18 a1 3", "rider:17 start 17 a1 2", "rider:17 start 17 a1 2", "dock:a1 end 9 a1 3"
+    )
+    assert answers == ["rental 3 9", "refused 20 rider_is_riding", "refused 20 rider_is_riding", "fare 100 2400"], (
+        answers
+    )
     answers = city.ask("rider:17 start 17 a1 2")
     assert answers == ["refused 20 rider_is_riding"], answers
     assert rows_of("SELECT * FROM rentals WHERE rental < 3", city.file) == before
@@ -84,8 +92,16 @@ def test_a_rider_of_an_older_rental_may_not_start(program):
 
 def test_once_the_older_rental_is_closed_the_rider_starts(program):
     city = odd_city(program)
-    answers = city.ask("rider:17 start 17 a1 2", "dock:a1 end 7 a1 1", "rider:17 start 17 a1 1", "rider:17 start 17 a1 2", "dock:a1 end 7 a1 1")
-    assert answers == ["refused 20 rider_is_riding", "fare 100 2300", "rental 3 7", "refused 20 rider_is_riding", "fare 100 2200"], answers
+    answers = city.ask(
+        "rider:17 start 17 a1 2",
+        "dock:a1 end 7 a1 1",
+        "rider:17 start 17 a1 1",
+        "rider:17 start 17 a1 2",
+        "dock:a1 end 7 a1 1",
+    )
+    assert answers == [
+        "refused 20 rider_is_riding", "fare 100 2300", "rental 3 7", "refused 20 rider_is_riding", "fare 100 2200"
+    ], answers
     # Now the newest tells, and a start asks for it alone.
     answers = city.ask("rider:17 start 17 a1 2", "rider:17 start 17 a1 1", "office recover 4", "rider:17 start 17 a1 1")
     assert answers[:2] == ["rental 4 8", "refused 20 rider_is_riding"], answers
@@ -96,8 +112,16 @@ def test_once_the_older_rental_is_closed_the_rider_starts(program):
 def test_a_rider_of_the_newest_rental_may_not_start(program):
     city = City(program, "plain.db")
     city.ask(*CITY.strip().split("\n"))
-    answers = city.ask("rider:17 start 17 a1 2", "rider:18 start 18 a1 2", "rider:18 start 18 a1 3", "dock:a1 end 7 a1 1", "rider:17 start 17 a1 1")
-    assert answers == ["refused 20 rider_is_riding", "rental 3 8", "refused 20 rider_is_riding", "fare 100 2400", "rental 4 7"], answers
+    answers = city.ask(
+        "rider:17 start 17 a1 2",
+        "rider:18 start 18 a1 2",
+        "rider:18 start 18 a1 3",
+        "dock:a1 end 7 a1 1",
+        "rider:17 start 17 a1 1",
+    )
+    assert answers == [
+        "refused 20 rider_is_riding", "rental 3 8", "refused 20 rider_is_riding", "fare 100 2400", "rental 4 7"
+    ], answers
 
 
 def row(rider, balance, rental):

@@ -1,8 +1,10 @@
-"""The examples of docs/openapi.yaml, each sent to the program over a small city: the answer has to be the one that is shown.
+"""The examples of docs/openapi.yaml, each sent to the program over a small city: the answer has to be the one that is
+shown.
 
-No YAML reader comes with Python, so the file keeps to a part of YAML that `tree_of` reads: blocks by two spaces, lists of blocks or words
-with "- ", whole-line comments, and values that stand on one line. A value is JSON where it begins with a quote, a bracket or a brace,
-else a plain word or number. Values stay as they are written until they are loaded, so that an answer can be held to them byte for byte.
+No YAML reader comes with Python, so the file keeps to a part of YAML that `tree_of` reads: blocks by two spaces, lists
+of blocks or words with "- ", whole-line comments, and values that stand on one line. A value is JSON where it begins
+with a quote, a bracket or a brace, else a plain word or number. Values stay as they are written until they are loaded,
+so that an answer can be held to them byte for byte.
 """
 
 import json
@@ -10,8 +12,9 @@ import re
 import time
 
 import formats
-from shared import CITY, FEEDS, TOP, Server, accepted, answer, city, get, holds, post, put, request, requests_of, taken
-from shared import timeless
+from shared import (
+    CITY, FEEDS, TOP, Server, accepted, answer, city, get, holds, post, put, request, requests_of, taken, timeless,
+)
 
 KEY = re.compile(r'("[^"\\]*"|[A-Za-z0-9_$./{}-]+):(?: (.+))?')
 PLAIN = re.compile(r"[A-Za-z0-9_][A-Za-z0-9_./-]*")
@@ -20,7 +23,9 @@ LINES = (TOP / "docs/openapi.yaml").read_text(encoding="utf-8").splitlines()
 
 def tree_of(lines):
     """Returns the file as dicts and lists whose leaves are texts, as they are written."""
-    rows = [(len(it) - len(it.lstrip(" ")), it.strip()) for it in lines if it.strip() and not it.lstrip().startswith("#")]
+    rows = [
+        (len(it) - len(it.lstrip(" ")), it.strip()) for it in lines if it.strip() and not it.lstrip().startswith("#")
+    ]
     tree, rest = block(rows, 0)
     assert not rest, f"not read: {rest[0]}"
     return tree
@@ -89,7 +94,8 @@ def at(reference):
 
 
 def misfit(it, schema):
-    """Why the value doesn't fit the schema, or nothing. It knows the words that docs/openapi.yaml uses, and no others."""
+    """Why the value doesn't fit the schema, or nothing. It knows the words that docs/openapi.yaml uses, and no
+    others."""
     if "$ref" in schema:
         return misfit(it, at(schema["$ref"]))
     kinds = {"object": dict, "array": list, "string": str, "integer": int, "number": (int, float), "boolean": bool}
@@ -101,7 +107,9 @@ def misfit(it, schema):
         "maximum": lambda most: it > most,
         "pattern": lambda pattern: not re.search(pattern, it),
         "required": lambda names: [name for name in names if name not in it],
-        "properties": lambda members: [why for name in members if name in it for why in [misfit(it[name], members[name])] if why],
+        "properties": lambda members: [
+            why for name in members if name in it for why in [misfit(it[name], members[name])] if why
+        ],
         "items": lambda item: [why for each in it for why in [misfit(each, item)] if why],
         "oneOf": lambda those: sum(misfit(it, one) is None for one in those) != 1,
         "anyOf": lambda those: all(misfit(it, one) for one in those),
@@ -151,8 +159,10 @@ def exchanges():
 
 def test_every_route_is_there(program):
     wanted = {
-        "post": "/riders/{rider}/start /docks/{station}/end /docks/{station}/mark-dock /docks/{station}/mark-bike /crews/{truck}/load "
-        "/crews/{truck}/unload /crews/{truck}/mark-bike /office",
+        "post": (
+            "/riders/{rider}/start /docks/{station}/end /docks/{station}/mark-dock /docks/{station}/mark-bike "
+            "/crews/{truck}/load /crews/{truck}/unload /crews/{truck}/mark-bike /office"
+        ),
         "get": "/riders/{rider} /bikes/{bike} /rentals/{rental} /orders/{order} "
         + " ".join(f"/gbfs/3.0/{name}.json" for name in FEEDS),
     }
@@ -178,7 +188,9 @@ def test_bounds_are_those_of_the_formats(program):
     schemas = API["components"]["schemas"]
     numbers = schemas["Refused"]["properties"]["number"]
     assert (numbers["minimum"], numbers["maximum"]) == (1, len(formats.REFUSALS)), numbers
-    docks = [schemas["Dock"], *(it["properties"]["dock"] for it in schemas.values() if "dock" in it.get("properties", {}))]
+    docks = [
+        schemas["Dock"], *(it["properties"]["dock"] for it in schemas.values() if "dock" in it.get("properties", {}))
+    ]
     assert {it["maximum"] for it in docks if "maximum" in it} == {formats.MOST_DOCKS}, docks
 
 
@@ -187,7 +199,9 @@ def test_examples_fit_their_schemas(program):
     for path, _, operation in operations():
         operation = loaded(operation)
         unread = examples_of(operation["responses"]["400"])
-        holders = [*operation["responses"].values(), *([operation["requestBody"]] if "requestBody" in operation else [])]
+        holders = [
+            *operation["responses"].values(), *([operation["requestBody"]] if "requestBody" in operation else [])
+        ]
         for holder in holders:
             for name, example in examples_of(holder).items():
                 why = misfit(example["value"], holder["content"]["application/json"]["schema"])

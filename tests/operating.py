@@ -1,7 +1,8 @@
-"""What docs/OPERATING.md says of running the program: copies of a city's file while it is served and after, restoring, a standby, the exit
-statuses, a release, the unit files, and the gateway of deploy/nginx.conf.
+"""What docs/OPERATING.md says of running the program: copies of a city's file while it is served and after, restoring,
+a standby, the exit statuses, a release, the unit files, and the gateway of deploy/nginx.conf.
 
-The tests of the gateway need nginx, that of the unit files systemd-analyze. Where there is none a line says that they weren't tried.
+The tests of the gateway need nginx, that of the unit files systemd-analyze. Where there is none a line says that they
+weren't tried.
 """
 
 import contextlib
@@ -20,7 +21,10 @@ from email.utils import parsedate_to_datetime
 from pathlib import Path
 
 from serving import ended
-from shared import CITY, FEEDS, READY, STORE_FAILED, TOP, Server, body_of, city, get, is_sound, needs, office, put, ran, removed, rows_of, taken
+from shared import (
+    CITY, FEEDS, READY, STORE_FAILED, TOP, Server, body_of, city, get, is_sound, needs, office, put, ran, removed,
+    rows_of, taken,
+)
 
 DEPLOY = TOP / "deploy"
 SECONDS = 30
@@ -42,7 +46,8 @@ def keys_in(path):
 
 
 class Sender(threading.Thread):
-    """Sends top-ups in turn, so many seconds apart, until it is told to end. A request that has no answer is sent again, as a client does."""
+    """Sends top-ups in turn, so many seconds apart, until it is told to end. A request that has no answer is sent
+    again, as a client does."""
 
     def __init__(self, server, pause=0):
         super().__init__()
@@ -71,7 +76,8 @@ def backup(program, copy):
 
 
 def test_copies_while_it_serves(program):
-    """A copy holds what was answered before it was begun, nothing that was asked after its end, and is one sound file."""
+    """A copy holds what was answered before it was begun, nothing that was asked after its end, and is one sound
+    file."""
     city(program)
     here = Path(program.folder)
     with Server(program) as server, Sender(server) as sender:
@@ -82,7 +88,9 @@ def test_copies_while_it_serves(program):
             after = sender.answered + 1
             assert status == 0 and re.fullmatch(r"stopped for \d+ ms\n", said), (status, said)
             found = keys_in(here / f"copy{turn}.db")
-            assert found == list(range(1, len(found) + 1)) and before <= len(found) <= after, (before, len(found), after)
+            assert found == list(range(1, len(found) + 1)) and before <= len(found) <= after, (
+                before, len(found), after
+            )
     assert sender.answered > 0
     for turn in range(5):
         is_sound(program, f"copy{turn}.db")
@@ -101,7 +109,9 @@ def test_a_copy_that_is_killed(program):
     (slow / "cp").chmod(0o755)
     with Server(program) as server:
         told = {**os.environ, "BIKESHARE": program.file, "PATH": f"{slow}:{os.environ['PATH']}"}
-        copying = subprocess.Popen([DEPLOY / "backup", "city.db", "copy.db"], cwd=program.folder, env=told, stdout=subprocess.DEVNULL)
+        copying = subprocess.Popen(
+            [DEPLOY / "backup", "city.db", "copy.db"], cwd=program.folder, env=told, stdout=subprocess.DEVNULL
+        )
         status, until = Path(f"/proc/{server.child.pid}/status"), time.monotonic() + SECONDS
         while not re.search(r"^State:\s*T", status.read_text(), re.M):
             assert time.monotonic() < until and copying.poll() is None, "the program wasn't stopped"
@@ -112,7 +122,8 @@ def test_a_copy_that_is_killed(program):
 
 
 def test_the_newest_copies_are_kept(program):
-    """deploy/keep-copies makes a sound copy and then removes the oldest of this city; where the copy fails it removes none."""
+    """deploy/keep-copies makes a sound copy and then removes the oldest of this city; where the copy fails it removes
+    none."""
     city(program)
     kept = Path(program.folder, "kept")
     kept.mkdir()
@@ -183,7 +194,8 @@ def plain_copy(here, to, log=True):
 
 
 def test_plain_copies_after_the_end(program):
-    """After a list that ended the file alone is whole. After a kill file and log are, and the file alone is an older city."""
+    """After a list that ended the file alone is whole. After a kill file and log are, and the file alone is an older
+    city."""
     city(program)
     here = Path(program.folder)
     plain_copy(here, "ended.db", log=False)
@@ -203,7 +215,8 @@ def test_plain_copies_after_the_end(program):
 
 
 def test_restore(program):
-    """The log goes with the file that is replaced. What was accepted since the copy is gone, and is accepted when it is sent again."""
+    """The log goes with the file that is replaced. What was accepted since the copy is gone, and is accepted when it is
+    sent again."""
     city(program)
     here = Path(program.folder)
     with Server(program) as server:
@@ -220,7 +233,8 @@ def test_restore(program):
 
 
 def test_a_standby(program):
-    """A second program isn't let at the file. A copy elsewhere goes on from its moment, and knows the requests before it."""
+    """A second program isn't let at the file. A copy elsewhere goes on from its moment, and knows the requests before
+    it."""
     city(program)
     with Server(program) as server:
         first = server.ask(office("n1", "top-up\t17\t1"))
@@ -265,7 +279,9 @@ def test_release(program):
     assert listed == {str(it.relative_to(made)) for it in made.rglob("*") if it.is_file()} - {"SHA256SUMS"}
     assert {"bikeshare", "README.md", "LICENSE", "copyright", "CHANGELOG.md", "RELEASE"} <= listed
     assert {"docs/OPERATING.md", "deploy/nginx.conf", "deploy/bikeshare@.service", "deploy/begin.txt"} <= listed
-    assert re.fullmatch(r"version \S+\ncommit \w+\nchanged files \w+\n", (made / "RELEASE").read_text()), (made / "RELEASE").read_text()
+    assert re.fullmatch(r"version \S+\ncommit \w+\nchanged files \w+\n", (made / "RELEASE").read_text()), (
+        made / "RELEASE"
+    ).read_text()
     assert [it for it in sorted(listed) if os.access(made / it, os.X_OK) and (made / it).stat().st_mode & 0o111] == [
         "bikeshare",
         "deploy/backup",
@@ -275,15 +291,21 @@ def test_release(program):
         "examples/map/map.py",
         "examples/map/show",
     ]
-    assert ran(TOP / "tools/release", made, env={**os.environ, "BIKESHARE": program.file})[0] == 2, "a release was written over"
+    assert ran(TOP / "tools/release", made, env={**os.environ, "BIKESHARE": program.file})[0] == 2, (
+        "a release was written over"
+    )
     (made / "docs/tour.txt").write_text("other\n")
     assert ran("sha256sum", "-c", "--quiet", "SHA256SUMS", cwd=made)[0] == 1
     bad = {**os.environ, "BIKESHARE": shutil.which("false")}
-    assert ran(TOP / "tools/release", Path(program.folder, "bad"), env=bad)[0] == 1 and not Path(program.folder, "bad").exists()
+    assert (
+        ran(TOP / "tools/release", Path(program.folder, "bad"), env=bad)[0] == 1
+        and not Path(program.folder, "bad").exists()
+    )
 
 
 def test_release_in_an_empty_root(program):
-    """In a root that holds the release and the C library, which the system's loader names, and nothing else, the program serves the tour."""
+    """In a root that holds the release and the C library, which the system's loader names, and nothing else, the
+    program serves the tour."""
     root = Path(program.folder, "root")
     made = released(program, root)
     if os.geteuid() or ran("chroot", "/", "true")[0]:
@@ -316,7 +338,8 @@ def test_unit_files(program):
 
 
 def test_the_unit_starts_again_what_the_document_says(program):
-    """The unit starts the program again after the statuses and signals of which docs/OPERATING.md, section 3, says so."""
+    """The unit starts the program again after the statuses and signals of which docs/OPERATING.md, section 3, says
+    so."""
     unit = dict(re.findall(r"^(Restart\w*)=(.*)$", (DEPLOY / "bikeshare@.service").read_text(), re.M))
     assert unit["Restart"] == "on-failure", unit
     never, always = unit["RestartPreventExitStatus"].split(), unit["RestartForceExitStatus"].split()
@@ -347,12 +370,15 @@ def free_port():
 
 
 def configuration(port, cities, ttl):
-    """The text of deploy/nginx.conf on this port, with its city's lines once for each city, a name and its program's port."""
+    """The text of deploy/nginx.conf on this port, with its city's lines once for each city, a name and its program's
+    port."""
     text = (DEPLOY / "nginx.conf").read_text()
     for found, wanted in ("max-age=30", f"max-age={ttl}"), ("127.0.0.1:8079", f"127.0.0.1:{free_port()}"):
         assert found in text, found
         text = text.replace(found, wanted)
-    before, city, after = re.fullmatch(r"(.*?)(    # Begin of the city metro.*?    # End of the city metro\.\n)(.*)", text, re.S).groups()
+    before, city, after = re.fullmatch(
+        r"(.*?)(    # Begin of the city metro.*?    # End of the city metro\.\n)(.*)", text, re.S
+    ).groups()
     copies = [city.replace("metro", name).replace("127.0.0.1:8080", f"127.0.0.1:{at}") for name, at in cities.items()]
     return (before + "".join(copies) + after).replace("127.0.0.1:8081", f"127.0.0.1:{port}")
 
@@ -375,8 +401,12 @@ class Gateway:
                 os.chown(it, NOBODY, NOBODY)
             how = {"user": NOBODY, "group": NOBODY, "extra_groups": []}
         nginx = shutil.which("nginx") or "/usr/sbin/nginx"
-        words = [nginx, "-p", f"{self.folder}/", "-e", "error.log", "-c", self.folder / "nginx.conf", "-g", "daemon off;"]
-        self.child = subprocess.Popen(words, stdin=subprocess.DEVNULL, stdout=subprocess.PIPE, stderr=subprocess.STDOUT, **how)
+        words = [
+            nginx, "-p", f"{self.folder}/", "-e", "error.log", "-c", self.folder / "nginx.conf", "-g", "daemon off;"
+        ]
+        self.child = subprocess.Popen(
+            words, stdin=subprocess.DEVNULL, stdout=subprocess.PIPE, stderr=subprocess.STDOUT, **how
+        )
 
     def __enter__(self):
         until = time.monotonic() + SECONDS
@@ -397,7 +427,9 @@ class Gateway:
         token = {"Authorization": f"Bearer {TOKENS.get(caller, caller)}"} if caller else {}
         named = {name.replace("_", "-"): value for name, value in fields.items()}
         with contextlib.closing(http.client.HTTPConnection("127.0.0.1", self.port, timeout=SECONDS)) as client:
-            client.request(method, path, body, {"Host": host, **token, **named}, encode_chunked="Transfer-Encoding" in named)
+            client.request(
+                method, path, body, {"Host": host, **token, **named}, encode_chunked="Transfer-Encoding" in named
+            )
             answer = client.getresponse()
             text = answer.read()
         if text and answer.headers["Content-Encoding"] == "gzip":
@@ -411,8 +443,10 @@ class Gateway:
 
 
 ROUTES = [
-    ("POST", "/riders/17/start"), ("GET", "/riders/17"), ("POST", "/docks/a1/end"), ("POST", "/docks/a1/mark-dock"), ("POST", "/docks/a1/mark-bike"),
-    ("POST", "/crews/3/load"), ("POST", "/crews/3/unload"), ("POST", "/crews/3/mark-bike"), ("POST", "/office"), ("GET", "/bikes/7"),
+    ("POST", "/riders/17/start"), ("GET", "/riders/17"), ("POST", "/docks/a1/end"), ("POST", "/docks/a1/mark-dock"),
+    ("POST", "/docks/a1/mark-bike"),
+    ("POST", "/crews/3/load"), ("POST", "/crews/3/unload"), ("POST", "/crews/3/mark-bike"), ("POST", "/office"),
+    ("GET", "/bikes/7"),
     ("GET", "/orders/1"), ("GET", "/rentals/1"),
 ]
 MAY = {
@@ -423,8 +457,10 @@ MAY = {
     "office:anna": {"/riders/17", "/office", "/bikes/7", "/orders/1", "/rentals/1"},
 }
 NEVER = [
-    ("GET", "/riders/17/"), ("GET", "//riders/17"), ("GET", "/riders/17%0a"), ("GET", "/riders/1/../17/start"), ("PUT", "/office"),
-    ("GET", "/office"), ("GET", "/riders/17/start"), ("POST", "/docks/a1/start"), ("POST", "/docks/b2/end"), ("POST", "/crews/33/load"), ("GET", "/"),
+    ("GET", "/riders/17/"), ("GET", "//riders/17"), ("GET", "/riders/17%0a"), ("GET", "/riders/1/../17/start"),
+    ("PUT", "/office"),
+    ("GET", "/office"), ("GET", "/riders/17/start"), ("POST", "/docks/a1/start"), ("POST", "/docks/b2/end"),
+    ("POST", "/crews/33/load"), ("GET", "/"),
 ]
 
 
@@ -439,7 +475,11 @@ def test_gateway_callers(program):
             assert gateway.told(method, path, "f" * 32, body) == UNAUTHORIZED, (method, path)
             for caller, paths in MAY.items():
                 found = gateway.told(method, path, caller, body)
-                wanted = ({(400, "bad_field")} if body else {(200, ""), (404, "not_found")}) if path in paths else {FORBIDDEN}
+                wanted = (
+                    ({(400, "bad_field")} if body else {(200, ""), (404, "not_found")})
+                    if path in paths
+                    else {FORBIDDEN}
+                )
                 assert found in wanted, (caller, method, path, found)
         for method, path in NEVER:
             assert gateway.told(method, path) == UNAUTHORIZED, (method, path)
@@ -450,7 +490,8 @@ def test_gateway_callers(program):
 
 @needs("nginx")
 def test_gateway_requests(program):
-    """A request is done under its caller, and comes to the program with a length, whatever fields and pieces the client sent."""
+    """A request is done under its caller, and comes to the program with a length, whatever fields and pieces the client
+    sent."""
     city(program)
     with Server(program) as server, Gateway(program, {"metro": server.port}) as gateway:
         start = '{"key":"s1","station":"a1","dock":1}'
@@ -466,12 +507,16 @@ def test_gateway_requests(program):
         assert 200 in found and found[-1] == 429, found
         assert gateway.told("GET", "/bikes/7", "crew:3") == (200, "")
     log = [json.loads(it) for it in (gateway.folder / "access.log").read_text().splitlines()]
-    assert [it["caller"] for it in log[:3]] == ["rider:17"] * 3 and TOKENS["rider:17"] not in (gateway.folder / "access.log").read_text()
+    assert (
+        [it["caller"] for it in log[:3]] == ["rider:17"] * 3
+        and TOKENS["rider:17"] not in (gateway.folder / "access.log").read_text()
+    )
 
 
 @needs("nginx")
 def test_gateway_feeds(program):
-    """Everybody may read feeds, also while the program is down, and the program isn't asked for one again within its ttl."""
+    """Everybody may read feeds, also while the program is down, and the program isn't asked for one again within its
+    ttl."""
     city(program)
     with Server(program) as server, Gateway(program, {"metro": server.port}) as gateway:
         first = gateway.ask("GET", "/gbfs/3.0/station_status.json")
@@ -497,8 +542,14 @@ def test_gateway_slow_clients(program):
     city(program)
     with Server(program) as server, Gateway(program, {"metro": server.port}) as gateway, contextlib.ExitStack() as slow:
         body = b'{"key":"slow","command":"top-up\\t17\\t1"}'
-        head = f"POST /office HTTP/1.1\r\nHost: metro.example\r\nAuthorization: Bearer {TOKENS['office:anna']}\r\nContent-Length: {len(body)}\r\n\r\n"
-        clients = [slow.enter_context(socket.create_connection(("127.0.0.1", gateway.port), timeout=SECONDS)) for _ in range(20)]
+        head = (
+            f"POST /office HTTP/1.1\r\nHost: metro.example\r\nAuthorization: Bearer {TOKENS['office:anna']}\r\n"
+            f"Content-Length: {len(body)}\r\n\r\n"
+        )
+        clients = [
+            slow.enter_context(socket.create_connection(("127.0.0.1", gateway.port), timeout=SECONDS))
+            for _ in range(20)
+        ]
         for client in clients:
             client.sendall(head.encode() + body[:10])
         since = time.monotonic()
@@ -544,14 +595,22 @@ def test_gateway_feeds_for_pages_and_caches(program):
         time.sleep(1.1)
         for path, (status, head, body) in found.items():
             assert (status, readers(head), head["Vary"]) == (200, KEPT, "Accept-Encoding"), (path, status, head.items())
-            assert f"max-age={body['ttl']}" in head["Cache-Control"] and re.fullmatch('"[0-9a-f]{32}"', head["ETag"]), head.items()
-            assert head["Content-Type"] == "application/json" and "ETag" in head["Access-Control-Expose-Headers"], head.items()
+            assert f"max-age={body['ttl']}" in head["Cache-Control"] and re.fullmatch('"[0-9a-f]{32}"', head["ETag"]), (
+                head.items()
+            )
+            assert head["Content-Type"] == "application/json" and "ETag" in head["Access-Control-Expose-Headers"], (
+                head.items()
+            )
             # A cache counts from Date: that is when the program was asked, as the feed's own moment is.
             asked = parsedate_to_datetime(head["Date"]).timestamp()
-            assert 0 <= asked - datetime.fromisoformat(body["last_updated"].replace("Z", "+00:00")).timestamp() <= 1, (head["Date"], body)
+            assert 0 <= asked - datetime.fromisoformat(body["last_updated"].replace("Z", "+00:00")).timestamp() <= 1, (
+                head["Date"], body
+            )
             for method, wanted in ("GET", body), ("HEAD", None):
                 again = gateway.ask(method, path)
-                assert (again[0], sorted(again[1].items()), again[2]) == (200, sorted(head.items()), wanted), (path, method, again)
+                assert (again[0], sorted(again[1].items()), again[2]) == (200, sorted(head.items()), wanted), (
+                    path, method, again
+                )
         assert len({head["ETag"] for _, head, _ in found.values()}) == len(found)
 
 
@@ -563,7 +622,9 @@ def test_gateway_feeds_are_pressed(program):
         _, plain, body = gateway.ask("GET", FEED)
         for fields in {"Accept_Encoding": "gzip"}, {"Accept_Encoding": "br, gzip;q=0.5", "Via": "1.1 other"}:
             status, head, pressed = gateway.ask("GET", FEED, **fields)
-            assert (status, head["Content-Encoding"], pressed, readers(head)) == (200, "gzip", body, KEPT), (status, head.items())
+            assert (status, head["Content-Encoding"], pressed, readers(head)) == (200, "gzip", body, KEPT), (
+                status, head.items()
+            )
             assert (head["Vary"], head["ETag"]) == ("Accept-Encoding", f"W/{plain['ETag']}"), head.items()
         for fields in {"Accept_Encoding": "br"}, {"Accept_Encoding": "gzip;q=0"}, {}:
             _, head, same = gateway.ask("GET", FEED, **fields)
@@ -572,7 +633,8 @@ def test_gateway_feeds_are_pressed(program):
 
 @needs("nginx")
 def test_gateway_feeds_that_are_still_good(program):
-    """Who has a feed is told so until the program is asked anew. While that is away, the feed of before says how old it is."""
+    """Who has a feed is told so until the program is asked anew. While that is away, the feed of before says how old it
+    is."""
     city(program)
     with Server(program) as server, Gateway(program, {"metro": server.port}, ttl=2) as gateway:
         _, first, _ = gateway.ask("GET", FEED)
@@ -580,7 +642,9 @@ def test_gateway_feeds_that_are_still_good(program):
         for method in "GET", "HEAD":
             for has_it in tag, f"W/{tag}", f'"other", {tag}', "*":
                 status, head, body = gateway.ask(method, FEED, If_None_Match=has_it, Accept_Encoding="gzip")
-                assert (status, body, readers(head), head["ETag"], head["Vary"]) == (304, None, told, tag, "Accept-Encoding"), (has_it, status)
+                assert (status, body, readers(head), head["ETag"], head["Vary"]) == (
+                    304, None, told, tag, "Accept-Encoding"
+                ), (has_it, status)
                 assert "Content-Encoding" not in head, head.items()
         assert gateway.ask("GET", FEED, If_None_Match='"other"')[0] == 200
         # nginx counts whole seconds, and the last of them to its end.
@@ -590,20 +654,31 @@ def test_gateway_feeds_that_are_still_good(program):
         server.stop()
         time.sleep(3.2)
         status, head, _ = gateway.ask("GET", FEED)
-        assert (status, head["Date"], head["ETag"], readers(head)) == (200, second["Date"], second["ETag"], told), (status, head.items())
+        assert (status, head["Date"], head["ETag"], readers(head)) == (200, second["Date"], second["ETag"], told), (
+            status, head.items()
+        )
 
 
 @needs("nginx")
 def test_gateway_answers_preflights(program):
     """What a browser asks before a page's request is answered for feeds alone, and by the gateway itself."""
     city(program)
-    asked = {"Origin": "https://other.example", "Access_Control_Request_Method": "GET", "Access_Control_Request_Headers": "x-page"}
+    asked = {
+        "Origin": "https://other.example",
+        "Access_Control_Request_Method": "GET",
+        "Access_Control_Request_Headers": "x-page",
+    }
     with Server(program) as server, Gateway(program, {"metro": server.port}) as gateway:
         server.stop()
         for name in FEEDS:
             status, head, body = gateway.ask("OPTIONS", f"/gbfs/3.0/{name}.json", **asked)
-            found = [head[f"Access-Control-{it}"] for it in ("Allow-Origin", "Allow-Methods", "Allow-Headers", "Allow-Credentials")]
-            assert (status, found, head["Allow"], body) == (204, ["*", "GET, HEAD", "*", None], "GET, HEAD, OPTIONS", None), (name, head.items())
+            found = [
+                head[f"Access-Control-{it}"]
+                for it in ("Allow-Origin", "Allow-Methods", "Allow-Headers", "Allow-Credentials")
+            ]
+            assert (status, found, head["Allow"], body) == (
+                204, ["*", "GET, HEAD", "*", None], "GET, HEAD, OPTIONS", None
+            ), (name, head.items())
         for path in ("/gbfs/3.0/", "/gbfs/3.0/vehicle_status.json"):
             status, head, _ = gateway.ask("OPTIONS", path, **asked)
             assert (status, readers(head)) == (404, UNKEPT), (path, status, head.items())
@@ -616,36 +691,52 @@ def test_gateway_answers_preflights(program):
 
 @needs("nginx")
 def test_gateway_keeps_callers_answers_to_them(program):
-    """What the office, riders, docks and crews are answered, and errors there, no cache keeps and no page of another site reads."""
+    """What the office, riders, docks and crews are answered, and errors there, no cache keeps and no page of another
+    site reads."""
     city(program)
     origin = {"Origin": "https://other.example", "Accept_Encoding": "gzip"}
     with Server(program) as server, Gateway(program, {"metro": server.port}) as gateway:
         statuses = set()
         for method, path in [*ROUTES, ("GET", "/gbfs.json"), ("GET", "/riders/17/"), ("POST", "/riders/1/start")]:
             for caller in (None, *TOKENS):
-                body = "{" + " " * 16384 if caller == "office:anna" and path == "/docks/a1/end" else "{}" if method == "POST" else None
+                body = (
+                    "{" + " " * 16384
+                    if caller == "office:anna" and path == "/docks/a1/end"
+                    else "{}"
+                    if method == "POST"
+                    else None
+                )
                 status, head, _ = gateway.ask(method, path, caller, body, **origin)
                 statuses.add(status)
-                assert readers(head) == PRIVATE and not set(head) & {"ETag", "Vary", "Content-Encoding", "Age", "Expires"}, (path, head.items())
+                assert (
+                    readers(head) == PRIVATE and not set(head) & {"ETag", "Vary", "Content-Encoding", "Age", "Expires"}
+                ), (path, head.items())
                 assert head["WWW-Authenticate"] == ("Bearer" if status == 401 else None), (path, head.items())
         server.stop()
         for host in "metro.example", "other.example":
             status, head, _ = gateway.ask("GET", "/riders/17", "office:anna", host=host, **origin)
             statuses.add(status)
-            assert readers(head) == PRIVATE and head["Retry-After"] == ("5" if status == 503 else None), (status, head.items())
+            assert readers(head) == PRIVATE and head["Retry-After"] == ("5" if status == 503 else None), (
+                status, head.items()
+            )
         assert statuses == {200, 400, 401, 403, 404, 413, 421, 503}, statuses
 
 
 @needs("nginx")
 def test_gateway_errors_at_feeds(program):
-    """An error at a feed's path has the form of the program's, pages of every site may read it, and no cache keeps it."""
+    """An error at a feed's path has the form of the program's, pages of every site may read it, and no cache keeps
+    it."""
     assert program.run("init", "city.db") == READY
 
     def error(wanted, name, pause=None, **how):
         """Holds that a feed is answered by this error."""
         status, head, body = gateway.ask(**{"method": "GET", "path": FEED, **how})
-        assert (status, body, readers(head)) == (wanted, {"result": "error", "name": name}, UNKEPT), (status, body, head.items())
-        assert (head["Content-Type"], head["Retry-After"], head["ETag"]) == ("application/json", pause, None), head.items()
+        assert (status, body, readers(head)) == (wanted, {"result": "error", "name": name}, UNKEPT), (
+            status, body, head.items()
+        )
+        assert (head["Content-Type"], head["Retry-After"], head["ETag"]) == ("application/json", pause, None), (
+            head.items()
+        )
         assert pause is None or "Retry-After" in head["Access-Control-Expose-Headers"], head.items()
 
     with Server(program) as server, Gateway(program, {"metro": server.port}) as gateway:

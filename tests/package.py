@@ -1,8 +1,8 @@
-"""The Debian package that tools/release makes: what lies in it, and that its manual page and its completion tell what the program's usage
-text tells.
+"""The Debian package that tools/release makes: what lies in it, and that its manual page and its completion tell what
+the program's usage text tells.
 
-The tests of the package need dpkg-deb, that of the page's layout groff. Where there is none a line says so. That the package is installed,
-brought to a new version and removed is tried by hand (docs/OPERATING.md).
+The tests of the package need dpkg-deb, that of the page's layout groff. Where there is none a line says so. That the
+package is installed, brought to a new version and removed is tried by hand (docs/OPERATING.md).
 """
 
 import gzip
@@ -28,7 +28,9 @@ DOCUMENTS = "usr/share/doc/bikeshare"
 def released(program, folder, **how):
     """Makes a release in this folder, and returns its status, what it said, and its packages."""
     told = {**os.environ, "BIKESHARE": program.file, **how.pop("told", {})}
-    return *ran(TOP / "tools/release", folder / "release", env=told, timeout=SECONDS, **how), sorted(folder.glob("*.deb"))
+    return (
+        *ran(TOP / "tools/release", folder / "release", env=told, timeout=SECONDS, **how), sorted(folder.glob("*.deb"))
+    )
 
 
 def files_of(package, what):
@@ -82,7 +84,8 @@ def linked(text):
 
 
 def has_good_links(files):
-    """Holds that each link of the documents leads to a file or a folder of these, which are named from the documents' folder."""
+    """Holds that each link of the documents leads to a file or a folder of these, which are named from the documents'
+    folder."""
     places = set(files) | {str(it) for name in files for it in Path(name).parents}
     found = 0
     for name in files:
@@ -95,10 +98,13 @@ def has_good_links(files):
 
 
 def has_good_files(program, found):
-    """Holds a package to its list of files, their owner, modes and times, and to the bytes of those that are there as they are."""
+    """Holds a package to its list of files, their owner, modes and times, and to the bytes of those that are there as
+    they are."""
     wanted = wanted_files()
     assert {name for name, (_, data) in found.items() if data is not None} == wanted.keys(), sorted(found)
-    programs = {"usr/bin/bikeshare", "usr/bin/bikeshare-doctor", "usr/share/bikeshare/backup", "usr/share/bikeshare/keep-copies"}
+    programs = {
+        "usr/bin/bikeshare", "usr/bin/bikeshare-doctor", "usr/share/bikeshare/backup", "usr/share/bikeshare/keep-copies"
+    }
     programs |= {name for name, it in wanted.items() if "/examples/" in name and it.stat().st_mode & 0o100}
     for name, (it, data) in found.items():
         assert (it.uid, it.gid, it.uname, it.gname) == (0, 0, "root", "root"), name
@@ -117,7 +123,9 @@ def has_good_paths(found):
     units = "bikeshare@.service", "bikeshare-gateway.service", "bikeshare-backup@.service", "bikeshare-backup@.timer"
     for name in units:
         text = (DEPLOY / name).read_text()
-        text = text.replace("/opt/bikeshare/bikeshare", "/usr/bin/bikeshare").replace("/opt/bikeshare/docs", "/usr/share/doc/bikeshare/docs")
+        text = text.replace("/opt/bikeshare/bikeshare", "/usr/bin/bikeshare").replace(
+            "/opt/bikeshare/docs", "/usr/share/doc/bikeshare/docs"
+        )
         text = text.replace("/opt/bikeshare/deploy/", "/usr/share/bikeshare/")
         assert found[f"usr/lib/systemd/system/{name}"][1].decode() == text, name
         named = re.findall(r"^(?:ExecStart=|Documentation=file:)/(usr/\S+)", text, re.M)
@@ -126,7 +134,12 @@ def has_good_paths(found):
     backup = found["usr/share/bikeshare/backup"][1].decode()
     assert "\nprogram=${BIKESHARE:-/usr/bin/bikeshare}\n" in backup and "../" not in backup
     for name, (_, data) in found.items():
-        assert data is None or name.startswith(f"{DOCUMENTS}/docs/") or b"/opt/bikeshare" not in data or name == f"{DOCUMENTS}/README.md", name
+        assert (
+            data is None
+            or name.startswith(f"{DOCUMENTS}/docs/")
+            or b"/opt/bikeshare" not in data
+            or name == f"{DOCUMENTS}/README.md"
+        ), name
 
 
 def has_good_copyright(text):
@@ -149,13 +162,21 @@ def has_good_control(control, found):
     assert control.keys() - {"", "."} == {"control", "md5sums", "postinst", "prerm", "postrm"}, sorted(control)
     fields = fields_of(control["control"][1])
     told = dict(it.split(" ", 1) for it in found[f"{DOCUMENTS}/RELEASE"][1].decode().splitlines())
-    assert fields["Version"] == told["version"] and re.fullmatch(r"\d{4}\.\d\d\.\d\d\+\d{4}\.g[0-9a-f]{10}(\.changed)?|\d{4}\.\d\d\.\d\d", told["version"]), told
-    assert (fields["Package"], fields["Architecture"], fields["Depends"]) == ("bikeshare", "amd64", "libc6 (>= 2.34), adduser")
+    assert (
+        fields["Version"] == told["version"]
+        and re.fullmatch(r"\d{4}\.\d\d\.\d\d\+\d{4}\.g[0-9a-f]{10}(\.changed)?|\d{4}\.\d\d\.\d\d", told["version"])
+    ), told
+    assert (fields["Package"], fields["Architecture"], fields["Depends"]) == (
+        "bikeshare", "amd64", "libc6 (>= 2.34), adduser"
+    )
     sums = dict(reversed(it.split("  ", 1)) for it in control["md5sums"][1].decode().splitlines())
     assert sums == {name: hashlib.md5(data).hexdigest() for name, (_, data) in found.items() if data is not None}
     for name in ("postinst", "prerm", "postrm"):
         data = control[name][1]
-        assert control[name][0].mode == 0o755 and not re.search(rb"\b(start|restart|enable|deluser|userdel)\b *['\"a-z-]*bikeshare", data), name
+        assert (
+            control[name][0].mode == 0o755
+            and not re.search(rb"\b(start|restart|enable|deluser|userdel)\b *['\"a-z-]*bikeshare", data)
+        ), name
         assert subprocess.run(["sh", "-n"], input=data, timeout=SECONDS, check=False).returncode == 0, name
     return told
 
@@ -175,12 +196,16 @@ def has_good_changes(text, version):
     assert len(re.findall(r"^ -- .+ <\S+@\S+>  \w{3}, \d\d \w{3} \d{4} [\d:]{8} \+0000$", text, re.M)) == len(days)
     found = [" ".join(it.split()) for it in re.findall(r"^  \* (.*?)(?=^  \* |^$)", text, re.M | re.S)]
     assert found == [re.sub(r"\[([^]]*)\]\([^)]*\)", r"\1", it) for it in said]
-    assert max(map(len, text.splitlines())) <= 120 and all(len(it) <= 80 for it in text.splitlines() if it.startswith("  "))
+    assert (
+        max(map(len, text.splitlines())) <= 120
+        and all(len(it) <= 80 for it in text.splitlines() if it.startswith("  "))
+    )
 
 
 @needs("dpkg-deb")
 def test_package(program):
-    """It holds what it should and nothing else, all of it root's; and it has the same bytes whoever makes it, wherever, whenever."""
+    """It holds what it should and nothing else, all of it root's; and it has the same bytes whoever makes it, wherever,
+    whenever."""
     one, two = Path(program.folder, "one"), Path(program.folder, "two")
     status, said, packages = released(program, one)
     assert status == 0 and len(packages) == 1 and f"{packages[0]}: version " in said, (status, said, packages)
@@ -203,14 +228,19 @@ def test_package(program):
     os.rename(two / "release", two / "before")
     again[0].write_bytes(b"other")
     status, said, again = released(program, two)
-    assert (status, again[0].read_bytes()) == (2, b"other") and "there is another" in said and not (two / "release").exists(), (status, said)
+    assert (
+        (status, again[0].read_bytes()) == (2, b"other")
+        and "there is another" in said
+        and not (two / "release").exists()
+    ), (status, said)
 
 
 # ---- the manual page and the completion
 
 
 def usage_of(program):
-    """The parts of the usage text: its first line, the words and the options, each with what is said of it, and the lines behind them."""
+    """The parts of the usage text: its first line, the words and the options, each with what is said of it, and the
+    lines behind them."""
     status, _, said = program.run("--help")
     first, *lines = said.decode().splitlines()
     rows = [re.fullmatch(r"  (\S.*?)  +(\S.*)", it).groups() for it in lines if it.startswith(" ")]
@@ -231,7 +261,8 @@ def plain(text):
 
 
 def sections_of(page):
-    """The sections of a manual page: each a list of its paragraphs, of which each has its head, or an empty one, and its text."""
+    """The sections of a manual page: each a list of its paragraphs, of which each has its head, or an empty one, and
+    its text."""
     sections, is_head = {}, False
     for line in page.splitlines():
         macro, _, rest = line.partition(" ")
@@ -249,7 +280,8 @@ def sections_of(page):
 
 
 def test_the_manual_page_tells_the_usage_text(program):
-    """Its words, options and values are those of the usage text, in the same words; its statuses are those of docs/OPERATOR.md."""
+    """Its words, options and values are those of the usage text, in the same words; its statuses are those of
+    docs/OPERATOR.md."""
     first, words, options, values = usage_of(program)
     page = sections_of((DEPLOY / "bikeshare.1").read_text())
     assert page["SYNOPSIS"] == [("", first)], page["SYNOPSIS"]
@@ -271,7 +303,10 @@ def test_the_manual_page_is_laid_out(program):
 
 def completed(folder, *words):
     """What bash proposes in place of the last of these words."""
-    script = f'. {shlex.quote(str(DEPLOY / "bikeshare.bash"))}; COMP_WORDS=("$@"); COMP_CWORD=$(($# - 1)); _bikeshare; printf "%s\\n" "${{COMPREPLY[@]}}"'
+    script = (
+        f'. {shlex.quote(str(DEPLOY / "bikeshare.bash"))}; COMP_WORDS=("$@"); COMP_CWORD=$(($# - 1)); _bikeshare; '
+        'printf "%s\\n" "${COMPREPLY[@]}"'
+    )
     status, said = ran("bash", "-c", script, "bash", "bikeshare", *words, cwd=folder)
     assert status == 0, said
     return [it for it in said.splitlines() if it]
@@ -294,7 +329,17 @@ def test_completion(program):
         assert completed(folder, name, *behind, "-") == re.findall(r"--\w+", form), form
         for option in re.findall(r"--\w+", form):
             assert completed(folder, name, option, "") == completed(folder, name, option, "=", "1") == [], option
-            assert completed(folder, name, option, "1", "ro") == completed(folder, name, option, "=", "1", "ro") == ["rome.db"], option
+            assert completed(folder, name, option, "1", "ro") == completed(folder, name, option, "=", "1", "ro") == [
+                "rome.db"
+            ], option
     assert {it for form, _ in words for it in re.findall(r"--\w+", form)} == {form.split()[0] for form, _ in options}
-    assert len(feeds) == 7 and completed(folder, "feed", "x", "") == feeds and completed(folder, "feed", "x", "gb") == ["gbfs"]
-    assert len(tables) == 2 and completed(folder, "day", "x", "") == tables and completed(folder, "day", "x", "entries", "") == []
+    assert (
+        len(feeds) == 7
+        and completed(folder, "feed", "x", "") == feeds
+        and completed(folder, "feed", "x", "gb") == ["gbfs"]
+    )
+    assert (
+        len(tables) == 2
+        and completed(folder, "day", "x", "") == tables
+        and completed(folder, "day", "x", "entries", "") == []
+    )

@@ -1,20 +1,25 @@
-"""Requests that are sent again over stops: whatever stops the program and wherever, each has one effect, and the answer that it had first.
+"""Requests that are sent again over stops: whatever stops the program and wherever, each has one effect, and the answer
+that it had first.
 
-The program is stopped at its calls on the file of a city, from outside (tests/stops/faults.c): before a call, in its midst, or behind it with a
-disk that loses what was not flushed. Then it is started again on the same file.
+The program is stopped at its calls on the file of a city, from outside (tests/stops/faults.c): before a call, in its
+midst, or behind it with a disk that loses what was not flushed. Then it is started again on the same file.
 
   - Three sessions on one file: a start, stopped at a call; the start again and an end, stopped at a call; both again.
-  - A start over HTTP, whose server is stopped or whose store fails at a call; the same twice more to a server that goes on.
-  - Lists of 200 requests of a made city (tests/traffic.py) with ten stops. Each session goes on behind the last answer that came, and in the end the
-    whole list comes again. A request that is refused is asked anew each time, so what it is answered then is what the operator of model.py answers.
+  - A start over HTTP, whose server is stopped or whose store fails at a call; the same twice more to a server that goes
+    on.
+  - Lists of 200 requests of a made city (tests/traffic.py) with ten stops. Each session goes on behind the last answer
+    that came, and in the end the whole list comes again. A request that is refused is asked anew each time, so what it
+    is answered then is what the operator of model.py answers.
 
-A sample stands in the gate. By hand each pair of calls of the first two sessions and each call of the server, and more lists:
+A sample stands in the gate. By hand each pair of calls of the first two sessions and each call of the server, and more
+lists:
 
     BIKESHARE_RETRIES=all BIKESHARE_JOBS=4 tests/run retries.
     BIKESHARE_LISTS=500 BIKESHARE_SEED=7 BIKESHARE_JOBS=4 tests/run retries.
 
-BIKESHARE_RETRIES is how many pairs, and how many calls of the server, are drawn; BIKESHARE_LISTS is how many lists are made, each of a seed of its own,
-the first of which BIKESHARE_SEED is; BIKESHARE_JOBS is how many are tried at a time. A failure tells the draw.
+BIKESHARE_RETRIES is how many pairs, and how many calls of the server, are drawn; BIKESHARE_LISTS is how many lists are
+made, each of a seed of its own, the first of which BIKESHARE_SEED is; BIKESHARE_JOBS is how many are tried at a time. A
+failure tells the draw.
 """
 
 import collections
@@ -24,8 +29,10 @@ import random
 
 import stored
 import traffic
-from shared import EIO, ENOSPC, KILLED, START, STARTED, UNAVAILABLE, Server, counted, disturbed, environment, exchanged, held, is_sound, nothing_is
-from shared import post, put, quickly, removed, rows_of, taken, tell, told_with, wrong_of
+from shared import (
+    EIO, ENOSPC, KILLED, START, STARTED, UNAVAILABLE, Server, counted, disturbed, environment, exchanged, held,
+    is_sound, nothing_is, post, put, quickly, removed, rows_of, taken, tell, told_with, wrong_of,
+)
 from stops import as_line
 
 TRIED = os.environ.get("BIKESHARE_RETRIES", "30")
@@ -95,7 +102,9 @@ def has_ridden_once(program, file):
     is_sound(program, file)
     assert program.run("day", file, "entries", "2023-11-14", "UTC0") == (0, ENTRIES, b"")
     assert program.run("day", file, "rentals", "2023-11-14", "UTC0") == (0, RENTALS, b"")
-    assert rows_of("SELECT (SELECT count(*) FROM rentals), (SELECT count(*) FROM entries)", program.folder, file) == [(1, 2)]
+    assert rows_of("SELECT (SELECT count(*) FROM rentals), (SELECT count(*) FROM entries)", program.folder, file) == [
+        (1, 2)
+    ]
     place = rows_of("SELECT station_id, dock, rental, truck, ord FROM bikes WHERE bike = 7", program.folder, file)
     assert place == [("a1", 1, None, None, None)], place
 
@@ -155,7 +164,13 @@ def test_three_sessions(program):
         each(three.of_a_first, itertools.product(STOPS, range(1, calls + 1)))
     else:
         pick = random.Random(f"{SEED} sessions")
-        each(three.of_a_draw, [(pick.choice(list(STOPS)), pick.randint(1, calls), pick.choice(list(STOPS)), pick.random()) for _ in range(int(TRIED))])
+        each(
+            three.of_a_draw,
+            [
+                (pick.choice(list(STOPS)), pick.randint(1, calls), pick.choice(list(STOPS)), pick.random())
+                for _ in range(int(TRIED))
+            ],
+        )
     tell("retries", "three sessions", three.ends, sum(three.ends.values()))
 
 
@@ -190,7 +205,9 @@ def test_a_start_over_http(program):
         killed, failed = (status, said) == (KILLED, b""), (status, said) == (3, b"store failed\n")
         # Where the port can't be told, nobody is served.
         untold = (status, found, said) == (6, b"", b"write failed\n")
-        assert killed if how in STOPS else failed or untold or (status, said) == (0, b""), f"it ended with {status} and said {said!r}"
+        assert killed if how in STOPS else failed or untold or (status, said) == (0, b""), (
+            f"it ended with {status} and said {said!r}"
+        )
         assert found == UNAVAILABLE or STARTED.startswith(found), f"it answered {found!r}"
         sent_again(file, found)
 
@@ -208,7 +225,8 @@ def test_a_start_over_http(program):
 
 
 class Listed:
-    """A list of requests that a city's traffic has, and what the operator of model.py answers: to the list, and then to the same once more."""
+    """A list of requests that a city's traffic has, and what the operator of model.py answers: to the list, and then to
+    the same once more."""
 
     def __init__(self, seed):
         city = traffic.city.City(seed=seed, **traffic.SIZES)
@@ -240,7 +258,8 @@ class Lists:
         return ran.calls, whole
 
     def stopped(self, file, seed):
-        """Sends a list with ten stops. They are as far apart as calls that are drawn from the undisturbed run, so each of them comes in time."""
+        """Sends a list with ten stops. They are as far apart as calls that are drawn from the undisturbed run, so each
+        of them comes in time."""
         listed, pick = Listed(seed), random.Random(f"{SEED} {seed} list")
         assert listed.setup == self.setup
         calls, whole = self.undisturbed(file, listed)
@@ -269,7 +288,8 @@ def test_lists_with_ten_stops(program):
 
 @quickly
 def test_a_disk_that_lies_is_noticed(program):
-    """That the lists see a lost request: where flushes are answered and not done, the rest of a list goes on over a hole."""
+    """That the lists see a lost request: where flushes are answered and not done, the rest of a list goes on over a
+    hole."""
     lists = Lists(program, NO_FLUSH=1)
     try:
         each(lists.stopped, [(SEED + it,) for it in range(3)])

@@ -1,7 +1,8 @@
-"""What the files of tests have in common: the program and its server, requests over HTTP, a city's file and what it holds, faults from outside, and
-many turns at once. It holds no test.
+"""What the files of tests have in common: the program and its server, requests over HTTP, a city's file and what it
+holds, faults from outside, and many turns at once. It holds no test.
 
-BIKESHARE_JOBS is how many turns are tried at a time; BIKESHARE_STOPS_TOLD names a file to which tests add how many turns they tried and how they ended.
+BIKESHARE_JOBS is how many turns are tried at a time; BIKESHARE_STOPS_TOLD names a file to which tests add how many
+turns they tried and how they ended.
 """
 
 import collections
@@ -32,10 +33,13 @@ TOP = HERE.parent
 JOBS = int(os.environ.get("BIKESHARE_JOBS", "1"))
 BUILDING = threading.Lock()
 SHOWN = 5
-# How long the program may run, how long a client or a server may be waited for, and how long those may that faults disturb.
+# How long the program may run, how long a client or a server may be waited for, and how long those may that faults
+# disturb.
 LONGEST, SECONDS, DISTURBED = 120, 10, 60
 
-READY, SOUND, STORE_FAILED, FOREIGN = (0, b"ready\n", b""), (0, b"sound\n", b""), (3, b"", b"store failed\n"), (5, b"", b"foreign\n")
+READY, SOUND, STORE_FAILED, FOREIGN = (
+    (0, b"ready\n", b""), (0, b"sound\n", b""), (3, b"", b"store failed\n"), (5, b"", b"foreign\n")
+)
 WRITE_FAILED, READ_FAILED = (6, b"", b"write failed\n"), (6, b"", b"read failed\n")
 NO_SYSTEM = (1, b"", b"system missing\n")
 # What is said where a request for memory is refused, by the exit status.
@@ -62,10 +66,15 @@ def shown(line):
 
 
 def tells_mistake(said):
-    """Whether a mistake in the words is told: a line of characters that are seen, with what is wrong and what is wanted, and a usage below it."""
+    """Whether a mistake in the words is told: a line of characters that are seen, with what is wrong and what is
+    wanted, and a usage below it."""
     line, _, usage = said.decode().partition("\n")
     is_seen = len(line) < 1000 and not {"Cc", "Cf", "Zl", "Zp"} & {unicodedata.category(it) for it in line}
-    return is_seen and re.fullmatch("bikeshare: .+; wanted is .+", line) and re.fullmatch(r"usage: bikeshare .+\n\n(?:.*\n)+", usage)
+    return (
+        is_seen
+        and re.fullmatch("bikeshare: .+; wanted is .+", line)
+        and re.fullmatch(r"usage: bikeshare .+\n\n(?:.*\n)+", usage)
+    )
 
 
 def lines_of(data):
@@ -77,7 +86,11 @@ def lines_of(data):
 def unlike(given, wanted, found):
     """Tells the first answers that are not as wanted, each beside its request line."""
     rows = itertools.zip_longest(lines_of(given), lines_of(wanted), lines_of(found))
-    told = [f"line {at}, {shown(line)}: {shown(it)}, not {shown(want)}" for at, (line, want, it) in enumerate(rows, 1) if it != want]
+    told = [
+        f"line {at}, {shown(line)}: {shown(it)}, not {shown(want)}"
+        for at, (line, want, it) in enumerate(rows, 1)
+        if it != want
+    ]
     more = [f"and {len(told) - SHOWN} more"] if len(told) > SHOWN else []
     return "\n".join([*told[:SHOWN], *more]) or "the output differs only in its line feeds"
 
@@ -89,7 +102,8 @@ class Program:
         self.file, self.folder = file, folder
 
     def run(self, *words, given=b"", **how):
-        """Runs it with these words on this input, and returns its exit status, its output and what it says of faults."""
+        """Runs it with these words on this input, and returns its exit status, its output and what it says of
+        faults."""
         how = {"cwd": self.folder, "stdout": subprocess.PIPE, "stderr": subprocess.PIPE, "timeout": LONGEST, **how}
         ran = subprocess.run([self.file, *words], **({} if "stdin" in how else {"input": given}), **how)
         return ran.returncode, ran.stdout, ran.stderr
@@ -100,7 +114,9 @@ class Program:
 
     def start(self, *words, stdin=subprocess.DEVNULL, **how):
         """Starts it with these words."""
-        return subprocess.Popen([self.file, *words], cwd=self.folder, stdin=stdin, stdout=subprocess.PIPE, stderr=subprocess.PIPE, **how)
+        return subprocess.Popen(
+            [self.file, *words], cwd=self.folder, stdin=stdin, stdout=subprocess.PIPE, stderr=subprocess.PIPE, **how
+        )
 
     @contextlib.contextmanager
     def started(self, *words, **how):
@@ -167,14 +183,19 @@ CITY = [
     "add-rider\t17",
     "top-up\t17\t2500",
 ]
-FEEDS = ["gbfs", "system_information", "vehicle_types", "station_information", "station_status", "system_pricing_plans", "system_regions"]
+FEEDS = [
+    "gbfs", "system_information", "vehicle_types", "station_information", "station_status", "system_pricing_plans",
+    "system_regions",
+]
 HEAD = '{"last_updated":"2023-11-14T22:13:20Z","ttl":30,"version":"3.0","data":'
 HEADER = "station_id,name,lat,lon,docks\n"
 
 
 def requests_of(commands, at=1699999200, first=1, caller="office", key="k"):
     """Request lines of these commands, each under a key of its own."""
-    return "".join(f"{at}\t{caller}\t{key}{number}\t{command}\n" for number, command in enumerate(commands, first)).encode()
+    return "".join(
+        f"{at}\t{caller}\t{key}{number}\t{command}\n" for number, command in enumerate(commands, first)
+    ).encode()
 
 
 def ask(program, commands, at=1699999200, file="city.db", **how):
@@ -257,7 +278,10 @@ def office(key, command):
 
 def answer(status, body, allow=None):
     """The whole answer with this body."""
-    head = f"HTTP/1.1 {status} {REASONS[status]}\r\nContent-Type: application/json\r\nContent-Length: {len(body.encode())}\r\n"
+    head = (
+        f"HTTP/1.1 {status} {REASONS[status]}\r\nContent-Type: application/json\r\n"
+        f"Content-Length: {len(body.encode())}\r\n"
+    )
     return (head + "Connection: close\r\n" + (f"Allow: {allow}\r\n" if allow else "") + "\r\n" + body).encode()
 
 
@@ -306,7 +330,8 @@ def line_of(child, seconds=SECONDS):
 
 
 class Server:
-    """`serve` on a free port, for so many connections, or without end. Leaving it waits for its end, or stops the one that has none."""
+    """`serve` on a free port, for so many connections, or without end. Leaving it waits for its end, or stops the one
+    that has none."""
 
     def __init__(self, program, count=None, file="city.db", env=None, seconds=SECONDS):
         self.count, self.port, self.seconds = count, None, seconds
@@ -355,7 +380,8 @@ class Server:
         return client
 
     def ask(self, request, ends=False):
-        """Sends the bytes over a connection of their own, ends the input where told to, and returns all bytes that come back."""
+        """Sends the bytes over a connection of their own, ends the input where told to, and returns all bytes that come
+        back."""
         with self.connect() as client:
             client.sendall(request)
             if ends:
@@ -388,7 +414,8 @@ def reset(client):
 
 
 def holds(program, rows, ends=False, file="city.db"):
-    """Sends each request over a connection of its own, one after the other to one server, and holds each answer to what is wanted."""
+    """Sends each request over a connection of its own, one after the other to one server, and holds each answer to what
+    is wanted."""
     with Server(program, len(rows), file) as server:
         for asked, wanted in rows:
             found = timeless(server.ask(asked, ends))
@@ -396,7 +423,8 @@ def holds(program, rows, ends=False, file="city.db"):
 
 
 def exchanged(program, request, file="city.db", env=None):
-    """Sends a request to a server of one connection: how that ends, its answer, which is empty where it ends before, and what it says of faults."""
+    """Sends a request to a server of one connection: how that ends, its answer, which is empty where it ends before,
+    and what it says of faults."""
     server = Server(program, 1, file, env, DISTURBED)
     try:
         server.first_line()
@@ -437,7 +465,8 @@ def put(parts, *where):
 
 
 def killed(program, given, file="city.db"):
-    """Has lines answered and then kills the program, so that its log isn't brought into the file. Returns the answers."""
+    """Has lines answered and then kills the program, so that its log isn't brought into the file. Returns the
+    answers."""
     with program.started("lines", file, stdin=subprocess.PIPE) as child:
         child.stdin.write(given)
         child.stdin.flush()
@@ -469,7 +498,8 @@ def is_whole(base):
 
 
 def held(*where, whole=True):
-    """All that a file holds, as SQL, and nothing where there is no table. SQLite finds it whole, where that is wanted."""
+    """All that a file holds, as SQL, and nothing where there is no table. SQLite finds it whole, where that is
+    wanted."""
     with copied(*where) as base:
         if whole:
             is_whole(base)
@@ -531,7 +561,8 @@ def built():
 
 
 def faults():
-    """stops/faults.c, built once, whoever asks first. Not every RAM disk lets a library be loaded from it, so it stands elsewhere."""
+    """stops/faults.c, built once, whoever asks first. Not every RAM disk lets a library be loaded from it, so it stands
+    elsewhere."""
     with BUILDING:
         return built()
 
@@ -544,9 +575,14 @@ def environment(*where, **how):
 
 
 def counted(ended, *where):
-    """How the program ended under faults, with the calls and requests for memory that were counted, and the one that was hit."""
+    """How the program ended under faults, with the calls and requests for memory that were counted, and the one that
+    was hit."""
     told = Path(f"{Path(*where)}.told")
-    rows = dict(it.split(" ", 1) for it in told.read_text().splitlines()) if told.exists() else {"calls": -1, "memory": -1, "hit": "unknown"}
+    rows = (
+        dict(it.split(" ", 1) for it in told.read_text().splitlines())
+        if told.exists()
+        else {"calls": -1, "memory": -1, "hit": "unknown"}
+    )
     return Ran(*ended, int(rows["calls"]), int(rows["memory"]), rows["hit"])
 
 
@@ -554,6 +590,16 @@ def disturbed(program, words, given=b"", file="city.db", **how):
     """Runs the program under these faults."""
     ended = program.run(*words, given=given, env=environment(program.folder, file, **how), timeout=DISTURBED)
     return counted(ended, program.folder, file)
+
+
+def faulty(program, words, given=b"", **faults):
+    """Runs the program under these faults, and returns its status, its output and what it says."""
+    return disturbed(program, words, given, **faults)[:3]
+
+
+def faulty_exchange(program, request, **faults):
+    """Sends a request to a server of one connection under these faults: its status, the answer and what it says."""
+    return exchanged(program, request, env=environment(program.folder, "city.db", **faults))
 
 
 # ---- Many turns
@@ -610,4 +656,8 @@ def tell(kind, name, ends, tried):
     """Adds to BIKESHARE_STOPS_TOLD how many turns were tried, and how they ended."""
     if "BIKESHARE_STOPS_TOLD" in os.environ:
         with open(os.environ["BIKESHARE_STOPS_TOLD"], "a", encoding="ascii") as told:
-            told.write(f"{kind}; {name}: {tried} tried: " + ", ".join(f"{count} {end}" for end, count in sorted(ends.items())) + "\n")
+            told.write(
+                f"{kind}; {name}: {tried} tried: " + ", ".join(
+                    f"{count} {end}" for end, count in sorted(ends.items())
+                ) + "\n"
+            )

@@ -5,7 +5,10 @@ import re
 from shared import TOP
 
 # The crates whose statements are sent while requests and feeds are served, and what only the tables of a day ask.
-SERVING = "bike_office_reads", "bike_desk", "bike_feeds", "bike_fleet_reads", "bike_http", "bike_lines", "bike_queries", "bike_views", "bike_writes"
+SERVING = (
+    "bike_office_reads", "bike_desk", "bike_feeds", "bike_fleet_reads", "bike_http", "bike_lines", "bike_queries",
+    "bike_views", "bike_writes",
+)
 TEXT = re.compile(r'"((?:SELECT|INSERT|UPDATE|DELETE|REPLACE|WITH)\b(?:[^"\\]|\\.)*)"', re.S)
 OF_A_DAY = {
     "SELECT * FROM entries WHERE entry > ?1 AND at >= ?2 AND at < ?3 ORDER BY entry LIMIT 1",
@@ -14,7 +17,11 @@ OF_A_DAY = {
 
 
 def test_the_engine_keeps_all(program):
-    sources = [it.read_text(encoding="utf-8") for crate in SERVING for it in sorted((TOP / "crates" / crate / "src").rglob("*.rt"))]
+    sources = [
+        file.read_text(encoding="utf-8")
+        for crate in SERVING
+        for file in sorted((TOP / "crates" / crate / "src").rglob("*.rt"))
+    ]
     texts = {text for source in sources for text in TEXT.findall(source)}
     assert OF_A_DAY < texts, "the statements of a day's tables aren't those"
     assert len(texts - OF_A_DAY) <= 64, f"{len(texts - OF_A_DAY)} statement texts"

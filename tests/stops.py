@@ -1,22 +1,25 @@
-"""The program is stopped at every call that it makes on its files, its disk loses what was not flushed, fails, or moves bytes one by one,
-and it is refused every request for memory, each in its turn. tests/stops/faults.c does it from outside; cc builds it.
+"""The program is stopped at every call that it makes on its files, its disk loses what was not flushed, fails, or moves
+bytes one by one, and it is refused every request for memory, each in its turn. tests/stops/faults.c does it from
+outside; cc builds it.
 
-It does that while it makes a file, serves lines (of a new file, of one that is there, and over the moment at which the log is copied into
-the file), imports stations, checks a file, writes a feed and the table of a day, and answers HTTP. After each fault, without faults:
+It does that while it makes a file, serves lines (of a new file, of one that is there, and over the moment at which the
+log is copied into the file), imports stations, checks a file, writes a feed and the table of a day, and answers HTTP.
+After each fault, without faults:
 
-  - SQLite's own integrity_check finds nothing, and `check` says `sound`, or `store failed` of a file that isn't made yet;
+  - SQLite's own integrity_check finds nothing, and `check` says `sound`, or `store failed` of a file that isn't made
+    yet;
   - what was answered is a front of what a run that nobody disturbed answers;
-  - the file holds, table by table and row by row, what it held in that run after the answered requests or one more, and the feed
-    `station_status` is that one's;
+  - the file holds, table by table and row by row, what it held in that run after the answered requests or one more, and
+    the feed `station_status` is that one's;
   - the requests that were not answered, sent again, have that run's answers, and the file ends as that run's.
 
 Every turn of the short runs and some of the long ones stand in the gate. By hand, from the environment:
 
     BIKESHARE_STOPS=1 BIKESHARE_JOBS=4 tests/run stops.
 
-BIKESHARE_STOPS is the stride for all runs, so 1 tries each turn; BIKESHARE_STOPS_FIRST is how many turns are left out before the first;
-BIKESHARE_SEED is what the losses are drawn from; BIKESHARE_JOBS is how many programs run at a time; BIKESHARE_STOPS_TOLD names a file to which each
-test adds how many turns it tried and how they ended.
+BIKESHARE_STOPS is the stride for all runs, so 1 tries each turn; BIKESHARE_STOPS_FIRST is how many turns are left out
+before the first; BIKESHARE_SEED is what the losses are drawn from; BIKESHARE_JOBS is how many programs run at a time;
+BIKESHARE_STOPS_TOLD names a file to which each test adds how many turns it tried and how they ended.
 """
 
 import collections
@@ -28,9 +31,11 @@ import tempfile
 from pathlib import Path
 
 import shared
-from shared import DISTURBED, EINTR, EIO, ENOSPC, FAULTS, KILLED, NO_SYSTEM, ROOM, SOUND, STORE_FAILED, TOP, UNAVAILABLE
-from shared import WANTS, Program
-from shared import at_once, counted, environment, exchanged, get_feed, held, nothing_is, post, put, removed, taken, tell
+from shared import (
+    DISTURBED, EINTR, EIO, ENOSPC, FAULTS, KILLED, NO_SYSTEM, ROOM, SOUND, STORE_FAILED, TOP, UNAVAILABLE, WANTS,
+    Program, at_once, city, counted, environment, exchanged, faulty, get_feed, held, is_sound, nothing_is, post, put,
+    quickly, removed, rows_of, taken, tell,
+)
 
 STRIDE = int(os.environ.get("BIKESHARE_STOPS", "0"))
 FIRST = int(os.environ.get("BIKESHARE_STOPS_FIRST", "0"))
@@ -41,7 +46,8 @@ AT = "1700009000"
 
 TOUR = (TOP / "docs/tour.txt").read_bytes().splitlines(keepends=True)
 TOUR_ANSWERS = (
-    "ok|ok|ok|ok|ok|ok|order 1|ok|ok|ok|ok|balance 2500|balance 2500|refused 33 key_reused|rental 1 7|refused 20 rider_is_riding|fare 125 2375|fare 125 2375"
+    "ok|ok|ok|ok|ok|ok|order 1|ok|ok|ok|ok|balance 2500|balance 2500|refused 33 key_reused|rental 1 7|"
+    "refused 20 rider_is_riding|fare 125 2375|fare 125 2375"
 )
 MORE = [
     ("1700002400 office k11 refund 1 100", "balance 2475"),
@@ -94,7 +100,9 @@ START = post("/riders/17/start", '{"key":"h1","station":"a1","dock":1}')
 
 def top_ups(count):
     """So many requests more, that fill the log."""
-    told = [(as_line(f"1700004600 office t{it} top-up 17 1"), as_line(f"balance {2500 + it}")) for it in range(1, count + 1)]
+    told = [
+        (as_line(f"1700004600 office t{it} top-up 17 1"), as_line(f"balance {2500 + it}")) for it in range(1, count + 1)
+    ]
     return [line for line, _ in told], [answer for _, answer in told]
 
 
@@ -136,7 +144,8 @@ class Lines:
 
 
 class Import(Lines):
-    """Stations of a CSV table, a row each. What it answers tells of all rows or of none, so that any front of them may stand."""
+    """Stations of a CSV table, a row each. What it answers tells of all rows or of none, so that any front of them may
+    stand."""
 
     def given(self, folder, name, lines, env=None):
         return super().given(folder, name, [HEADER, *lines], env)
@@ -153,7 +162,8 @@ class Import(Lines):
 
 
 class Exchange(Lines):
-    """One HTTP request to a server of one connection. The clock stands still, so that the answer and the file are always the same."""
+    """One HTTP request to a server of one connection. The clock stands still, so that the answer and the file are
+    always the same."""
 
     def __init__(self, file, parts, request, env):
         super().__init__(file, parts, ["serve", "FILE", "--port", "0", "--count", "1"], [request], [])
@@ -233,7 +243,13 @@ def run_named(file, name):
     if name == "lines of a file":
         return Lines(file, made(file, 10), words, LINES[10:], ANSWERS[10:])
     if name == "lines of other commands":
-        return Lines(file, made(file, len(LINES)), words, [as_line(line) for line, _ in OTHERS], [as_line(answer) for _, answer in OTHERS])
+        return Lines(
+            file,
+            made(file, len(LINES)),
+            words,
+            [as_line(line) for line, _ in OTHERS],
+            [as_line(answer) for _, answer in OTHERS],
+        )
     if name == "lines while the log is copied":
         begun = before_the_copy(file)
         lines, answers = top_ups(begun + 3 - len(LINES))
@@ -248,7 +264,9 @@ def run_named(file, name):
         return Import(file, made(file, len(LINES)), ["import", "FILE", "spring", "--at", AT], ROWS, [])
     env = environment(tempfile.gettempdir(), "none.db")
     del env["TOLD_TO"]
-    return Exchange(file, made(file, len(LINES)), START if name == "a start over HTTP" else get_feed("station_status"), env)
+    return Exchange(
+        file, made(file, len(LINES)), START if name == "a start over HTTP" else get_feed("station_status"), env
+    )
 
 
 LONG = ["lines of a new file", "lines of a file", "lines of other commands", "lines while the log is copied"]
@@ -258,7 +276,8 @@ RUNS += ["check", "feed", "a table of a day", "a start over HTTP", "a feed over 
 
 @functools.cache
 def undisturbed(file, name):
-    """The run, what a file holds after each front of its requests, the feed then, and how many calls and requests for memory it makes."""
+    """The run, what a file holds after each front of its requests, the feed then, and how many calls and requests for
+    memory it makes."""
     run = run_named(file, name)
     fronts, feeds = [], []
     with tempfile.TemporaryDirectory(dir=ROOM) as folder:
@@ -275,7 +294,10 @@ def undisturbed(file, name):
             removed(folder, "front.db")
     told = {
         "import": b"rows 3\n",
-        "feed": b'"name":[{"text":"Harbour","language":"en"},{"text":"Hafen","language":"de"}],"lat":41.890169,"lon":12.492269,"capacity":2}]}}',
+        "feed": (
+            b'"name":[{"text":"Harbour","language":"en"},'
+            b'{"text":"Hafen","language":"de"}],"lat":41.890169,"lon":12.492269,"capacity":2}]}}'
+        ),
         "a table of a day": ENTRIES,
         "a start over HTTP": b'\r\n\r\n{"result":"ok","rental":3,"bike":7}',
         "a feed over HTTP": feeds[-1][1].partition(b'"ttl"')[2],
@@ -327,7 +349,8 @@ class Turns:
             return []
 
     def stands(self, file, answered, one_more=True):
-        """Holds what a fault left to a front of the requests. Where no request was answered there may be no tables yet."""
+        """Holds what a fault left to a front of the requests. Where no request was answered there may be no tables
+        yet."""
         begins = answered == 0 and self.run.is_new
         is_there = Path(self.folder, file).exists()
         found = self.holds(file, begins)
@@ -349,16 +372,20 @@ class Turns:
         file = f"turn{number}.db"
         try:
             ran = self.disturbed(file, **faults)
-            assert self.run.wanted.startswith(ran.out) or (ran.out == UNAVAILABLE and ran.status != KILLED), f"it answered {ran.out[-300:]}"
+            assert self.run.wanted.startswith(ran.out) or (ran.out == UNAVAILABLE and ran.status != KILLED), (
+                f"it answered {ran.out[-300:]}"
+            )
             answered = self.run.answered(ran.out)
             if ran.hit == "nothing":
                 assert (ran.status, ran.out, ran.said) == (0, self.run.wanted, b""), f"without a fault: {ran}"
             else:
                 self.judge(ran, self.run.wanted)
-            # Where memory is refused, nothing was changed by the request; and a 503 of a server that goes on is one of the city before.
+            # Where memory is refused, nothing was changed by the request; and a 503 of a server that goes on is one of
+            # the city before.
             exact = ran.status == 4 or (ran.out == UNAVAILABLE and ran.status == 0)
             self.stands(file, answered, one_more=not exact)
-            self.ends["no fault came" if ran.hit == "nothing" else {0: "all answered", KILLED: "killed"}.get(ran.status, ran.said.decode().strip())] += 1
+            end = {0: "all answered", KILLED: "killed"}.get(ran.status, ran.said.decode().strip())
+            self.ends["no fault came" if ran.hit == "nothing" else end] += 1
         except FAULTS as fault:
             hit = Path(self.folder, file + ".told")
             return f"{self.name}, {faults}, {hit.read_text().splitlines() if hit.exists() else 'nothing told'}: {fault}"
@@ -435,7 +462,9 @@ FAILURES = {
     "no room from then on": lambda at: {"FAIL_FROM": at, "FAIL_WITH": ENOSPC},
     "a byte and then no room": lambda at: {"SHORT_AT": at, "FAIL_FROM": at + 1, "FAIL_WITH": ENOSPC},
     "interrupted": lambda at: {"FAIL_AT": at, "FAIL_WITH": EINTR},
-    "what was not flushed is lost too": lambda at: {"FAIL_AT": at, "FAIL_WITH": EIO, "LOSE_AT_END": 1, "LOSE_SEED": at % 3 and SEED + at},
+    "what was not flushed is lost too": lambda at: {
+        "FAIL_AT": at, "FAIL_WITH": EIO, "LOSE_AT_END": 1, "LOSE_SEED": at % 3 and SEED + at
+    },
 }
 SHORT = {
     "a byte by the call alone": lambda at: {"SHORT_AT": at},
@@ -505,7 +534,10 @@ def test_writes_of_few_bytes(program):
 def test_reads_of_few_bytes(program):
     """A page that is read again has to come whole, else the store fails."""
     kinds = {"a byte by the call alone": SHORT["a byte by the call alone"]}
-    each_turn(program, "short call", fails_or_goes_on, "calls", kinds, {"": 211, "lines of a new file": 41, "lines while the log is copied": 1301})
+    each_turn(
+        program, "short call", fails_or_goes_on, "calls", kinds,
+        {"": 211, "lines of a new file": 41, "lines while the log is copied": 1301},
+    )
 
 
 def test_refused_memory(program):
@@ -515,7 +547,11 @@ def test_refused_memory(program):
         for first, (how, faults) in enumerate(REFUSALS.items()):
             turns = Turns(program, name, wants_memory)
             total, opened = turns.total("memory"), turns.opened()
-            asked = [*range(1 + first, opened, STRIDE or 9001), *range(opened + first, total + 1, STRIDE or max(1, (total - opened) // 5)), total + 1]
+            asked = [
+                *range(1 + first, opened, STRIDE or 9001),
+                *range(opened + first, total + 1, STRIDE or max(1, (total - opened) // 5)),
+                total + 1,
+            ]
             wrong += turns.at_once([(it, faults(it)) for it in asked])
             tell(f"memory, {how}", name, turns.ends, len(asked))
     nothing_is(wrong)
@@ -525,6 +561,40 @@ def test_ends_that_fail(program):
     """Standard input, standard output and sockets, at once and a byte a call."""
     fails = {"the call": lambda at: {"FAIL_AT": at, "FAIL_WITH": EIO}}
     each_turn(program, "end", loses_an_end, "calls", fails, long_runs(2, 9), ONLY_ENDS=1)
-    each_turn(program, "end of which each call moves a byte", loses_an_end, "calls", fails, {"": 101, "lines of a new file": 701}, ONLY_ENDS=1, SHORT_FROM=1)
+    each_turn(
+        program, "end of which each call moves a byte", loses_an_end, "calls", fails,
+        {"": 101, "lines of a new file": 701}, ONLY_ENDS=1, SHORT_FROM=1,
+    )
     takes = {"takes nothing": lambda at: {"SHORT_AT": at, "SHORT_BYTES": 0}}
     each_turn(program, "end", loses_an_end, "calls", takes, long_runs(3, 11), ONLY_ENDS=2)
+
+
+@quickly
+def test_stops_in_an_end(program):
+    """The bicycle is in its rental and the balance is 25.00, or it is in dock 1 and a fare is booked; sent again the
+    end has its answer."""
+    city(program)
+    assert program.run("lines", "city.db", given=b"1700000000\trider:17\ts1\tstart\t17\ta1\t1\n") == (
+        0, b"rental\t1\t7\n", b""
+    )
+    parts, end = taken(program.folder, "city.db"), b"1700000000\tdock:a1\te1\tend\t7\ta1\t1\n"
+    fares = "(SELECT count(*) FROM entries WHERE kind = 2)"
+    query = f"SELECT balance, rental, station_id, dock, {fares} FROM riders, bikes WHERE rider = 17 AND bike = 7"
+    before, after, seen, calls = (2500, 1, None, None, 0), (2400, None, "a1", 1, 1), set(), 0
+    while calls < 200:
+        put(parts, program.folder, "city.db")
+        calls += 1
+        status, out, said = faulty(program, ["lines", "city.db"], end, STOP_AT=calls, ONLY_CHANGES=1, ENDS=1)
+        (found,) = rows_of(query, program.folder, "city.db")
+        is_sound(program)
+        assert found in (before, after) and out in (b"", b"fare\t100\t2400\n"), (calls, found, out)
+        assert not out or found == after, calls
+        seen.add(found)
+        assert (
+            program.run("lines", "city.db", given=end) == (0, b"fare\t100\t2400\n", b"")
+            and rows_of(query, program.folder, "city.db") == [after]
+        ), calls
+        if status == 0:
+            break
+        assert (status, said) == (KILLED, b""), (calls, status, said)
+    assert seen == {before, after} and 5 < calls < 200, (calls, seen)

@@ -1,11 +1,16 @@
-"""The numbers that the tables store beside the rows that they follow from: a rider's balance, cash and revenue, a station's free and broken docks,
-the bicycles that are counted at it; the entries of each kind; the texts that are kept of commands and callers, and the values of their fields."""
+"""The numbers that the tables store beside the rows that they follow from: a rider's balance, cash and revenue, a
+station's free and broken docks, the bicycles that are counted at it; the entries of each kind; the texts that are kept
+of commands and callers, and the values of their fields."""
 
 from shared import copied, rows_of
 
 # One station of two docks, of which the second is broken, and bicycle 7 in the first; rider 17 has paid 25.00.
 CITY = [
-    ("1699999200|office|f1|set-system|metro|en|Metro Bikes|24/7|feeds@example.org|Etc/UTC|EUR|http://127.0.0.1:8080|30", "ok"),
+    (
+        "1699999200|office|f1|set-system|metro|en|Metro Bikes|24/7|feeds@example.org|Etc/UTC|EUR|"
+        "http://127.0.0.1:8080|30",
+        "ok",
+    ),
     ("1699999200|office|f2|add-plan|basic|Basic|100|false|One euro and then a quarter|30:25:5:-", "ok"),
     ("1699999200|office|f3|add-type|city|City|bicycle|human|0|basic", "ok"),
     ("1699999200|office|f4|add-station|a1|Harbour|41.890169|12.492269|2", "ok"),
@@ -30,7 +35,9 @@ END = [("1699990000|dock:a1|e1|end|7|a1|1", "fare|100|2400")]
 BREAK = [("1699999200|office|h1|mark-dock|a1|1|broken", "ok")]
 
 # It comes back after half an hour, and a part of the fare is paid back.
-REFUND = [*START, ("1700001800|dock:a1|e1|end|7|a1|1", "fare|125|2375"), ("1700001900|office|r1|refund|1|50", "balance|2425")]
+REFUND = [
+    *START, ("1700001800|dock:a1|e1|end|7|a1|1", "fare|125|2375"), ("1700001900|office|r1|refund|1|50", "balance|2425")
+]
 
 # Rider 18 has nothing: rides, gets a part back and pays in.
 DEBT = [
@@ -64,7 +71,10 @@ ENTRIES = [(1, 1, 17, 0, 2500, 1699999200), (2, 2, 17, 1, 125, 1700001800), (3, 
 OWN = [
     ("set-system|s|de|N|\\\\|f|t|EUR|u|86400", "set-system|s|de|N|\\\\|f|t|EUR|u|86400"),
     ('add-plan|p1|Q "1"\\t|1|true|D|-', 'add-plan|p1|Q "1"\\t|1|true|D|-'),
-    ("add-plan|p2|\\n\\r\\\\|1|true|D|0:-100000:0:1;99999:100000:100000:100000", "add-plan|p2|\\n\\r\\\\|1|true|D|0:-100000:0:1;99999:100000:100000:100000"),
+    (
+        "add-plan|p2|\\n\\r\\\\|1|true|D|0:-100000:0:1;99999:100000:100000:100000",
+        "add-plan|p2|\\n\\r\\\\|1|true|D|0:-100000:0:1;99999:100000:100000:100000",
+    ),
     ("add-plan|p3|Corso, nörd|1|true|\\\\n|-", "add-plan|p3|Corso, nörd|1|true|\\\\n|-"),
     ("add-station|a1|N|-0.000001|90|1", "add-station|a1|N|-0.000001|90.000000|1"),
     ("add-station|a2|N|-0|-180|1", "add-station|a2|N|0.000000|-180.000000|1"),
@@ -91,15 +101,19 @@ OWN = [
 VALUES = {
     "SELECT language, hours, ttl FROM system": [("de", "\\", 86400)],
     "SELECT name, description FROM plans ORDER BY plan_id": [('Q "1"\t', "D"), ("\n\r\\", "D"), ("Corso, nörd", "\\n")],
-    "SELECT plan_id, seq, start, rate, every, finish FROM segments": [("p2", 1, 0, -100000, 0, 1), ("p2", 2, 99999, 100000, 100000, 100000)],
+    "SELECT plan_id, seq, start, rate, every, finish FROM segments": [
+        ("p2", 1, 0, -100000, 0, 1), ("p2", 2, 99999, 100000, 100000, 100000)
+    ],
     "SELECT * FROM regions ORDER BY region_id": [("-r_2", "\n\r\\🚲"), ("r1", 'Q "1"\t')],
     "SELECT * FROM more_names ORDER BY kind, id, language": [
-        ("description", "p1", "fr", "\n\r🚲"), ("plan", "p1", "fr", "Q"), ("region", "-r_2", "zh-Hant-TW", "N"), ("station", "a1", "DE", "N"),
-        ("station", "a1", "en", 'Q "1"\t'), ("system", "s", "fr", "\\"),
+        ("description", "p1", "fr", "\n\r🚲"), ("plan", "p1", "fr", "Q"), ("region", "-r_2", "zh-Hant-TW", "N"),
+        ("station", "a1", "DE", "N"), ("station", "a1", "en", 'Q "1"\t'), ("system", "s", "fr", "\\"),
     ],
     "SELECT * FROM stations_3 ORDER BY station_id": [
-        ("a1", "N", -1, 90000000, 1, 1, 1, 1, 1700000000, 1, 0, None), ("a2", "N", 0, -180000000, 1, 1, 1, 1, 1700000000, 1, 0, "-r_2"),
-        ("a3", "N", 7000000, 180000000, 1, 1, 1, 1, 1700000000, 1, 0, None), ("a4", "N", 45500000, 9100000, 10, 1, 1, 1, 1700000000, 10, 0, None),
+        ("a1", "N", -1, 90000000, 1, 1, 1, 1, 1700000000, 1, 0, None),
+        ("a2", "N", 0, -180000000, 1, 1, 1, 1, 1700000000, 1, 0, "-r_2"),
+        ("a3", "N", 7000000, 180000000, 1, 1, 1, 1, 1700000000, 1, 0, None),
+        ("a4", "N", 45500000, 9100000, 10, 1, 1, 1, 1700000000, 10, 0, None),
         ("a5", "N", -90000000, 100000, 500, 1, 1, 1, 1700000000, 500, 0, "r1"),
     ],
 }
@@ -136,7 +150,9 @@ def test_kept_commands_and_their_values(program):
 def test_entries(program):
     asked, answers = (text(part) for part in zip(*CITY, *REFUND))
     assert program.run("lines", "city.db", given=asked) == (0, answers, b"")
-    found = rows_of("SELECT entry, kind, rider, rental, amount, at FROM entries ORDER BY entry", program.folder, "city.db")
+    found = rows_of(
+        "SELECT entry, kind, rider, rental, amount, at FROM entries ORDER BY entry", program.folder, "city.db"
+    )
     assert found == ENTRIES, found
 
 

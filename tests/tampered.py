@@ -1,14 +1,15 @@
-"""Database files that were changed from outside: each column of each table in turn, rows added and removed, tables and columns dropped,
-the file and its log cut, and bytes changed.
+"""Database files that were changed from outside: each column of each table in turn, rows added and removed, tables and
+columns dropped, the file and its log cut, and bytes changed.
 
-What `check` has to say of rows is worked out here by Python alone, from docs/FORMATS.md, sections 10 and 11. Of what is no database that
-SQLite could read it has to name a fault. It may neither crash nor hang nor change a byte, and `lines` has to say the same.
+What `check` has to say of rows is worked out in audit.py. Of what is no database that SQLite could read it has to name
+a fault. It may neither crash nor hang nor change a byte, and `lines` has to say the same.
 
 A sample stands in the gate. By hand, all of them from the environment:
 
     BIKESHARE_TAMPERED=all BIKESHARE_SEED=7 tests/run tampered.
 
-BIKESHARE_TAMPERED is how many changes each test draws, BIKESHARE_SEED what they are drawn from; a failure tells the seed and the change.
+BIKESHARE_TAMPERED is how many changes each test draws, BIKESHARE_SEED what they are drawn from; a failure tells the
+seed and the change.
 """
 
 import contextlib
@@ -21,6 +22,7 @@ import subprocess
 from pathlib import Path
 
 import formats
+from audit import BOUNDS, MAY_BE_NULL, TABLES, is_of_text, read, verdict
 from shared import FOREIGN, SOUND, STORE_FAILED, changed, is_whole, removed
 
 TRIED = os.environ.get("BIKESHARE_TAMPERED", "15")
@@ -41,8 +43,10 @@ ASKED = [
     "add-station c3 Closed 0 0 1",
     "add-region north North", "add-region south South_side", "add-region west West",
     "set-region a1 south", "set-region a1 north", "set-region b2 south", "set-region c3 west", "set-region c3 *",
-    "add-name system metro de Metro_Räder", "add-name station a1 it Porto", "add-name station a1 de Hafen", "add-name station a1 zh-Hant 港",
-    "add-name station b2 EN Bridge", "add-name type city fr Ville", "add-name plan day de Tag", "add-name description day de Ein_Tag",
+    "add-name system metro de Metro_Räder", "add-name station a1 it Porto", "add-name station a1 de Hafen",
+    "add-name station a1 zh-Hant 港",
+    "add-name station b2 EN Bridge", "add-name type city fr Ville", "add-name plan day de Tag",
+    "add-name description day de Ein_Tag",
     "add-name description zero fr Rien", "add-name region south de Süden",
     "add-truck 3 20",
     "add-truck 4 1",
@@ -65,13 +69,18 @@ ASKED = [
 
 def asked():
     callers = ["office", "rider:17", "dock:a1", "crew:3", "import:first"]
-    lines = (f"{1700000000 + 600 * at}\t{callers[at % 5]}\tk{at}\t{it.replace(' ', chr(9)).replace('_', ' ')}\n" for at, it in enumerate(ASKED))
-    return "".join(lines).replace("cargo bicycle", "cargo_bicycle").replace("electric assist", "electric_assist").encode()
+    lines = (
+        f"{1700000000 + 600 * at}\t{callers[at % 5]}\tk{at}\t{it.replace(' ', chr(9)).replace('_', ' ')}\n"
+        for at, it in enumerate(ASKED)
+    )
+    return "".join(lines).replace("cargo bicycle", "cargo_bicycle").replace(
+        "electric assist", "electric_assist"
+    ).encode()
 
 
 def made(program):
-    """Makes the city and returns the bytes of its file, in which all of its log is, and of the file and the log as the program left them when
-    it was killed: where it ends by itself it copies the log into the file."""
+    """Makes the city and returns the bytes of its file, in which all of its log is, and of the file and the log as the
+    program left them when it was killed: where it ends by itself it copies the log into the file."""
     with program.started("lines", "city.db", stdin=subprocess.PIPE) as running:
         running.stdin.write(asked())
         running.stdin.flush()
@@ -86,320 +95,6 @@ def made(program):
     return whole, left
 
 
-# ---- the audit, from the document
-
-NEWEST = 3
-TABLES = {
-    "meta": 1, "system": 1, "plans": 1, "segments": 2, "types": 1, "regions": 1, "stations_3": 1, "docks": 2, "bikes": 1, "trucks": 1, "riders": 1,
-    "rentals": 1, "orders": 1, "entries": 1, "kept": 2, "counts": 2, "more_names": 3,
-}
-TEXTS = {
-    "app", "system_id", "language", "name", "hours", "contact", "zone", "currency", "base_url", "plan_id", "description", "type_id", "form",
-    "propulsion", "region_id", "station_id", "from_station", "to_station", "from_end", "to_end", "caller", "req_key", "command", "reply", "id",
-}
-MAY_BE_NULL = {
-    "segments": {"finish"}, "stations_3": {"region_id"}, "bikes": {"station_id", "dock", "rental", "truck", "ord"}, "rentals": {"to_station", "finish", "fare"},
-}
-
-
-def is_of_text(table, column):
-    """Whether the column holds texts. An entry's kind is a number, and a name's a word."""
-    return column in TEXTS or (table, column) == ("more_names", "kind")
-
-
-def is_within(least, most):
-    return lambda it: isinstance(it, int) and least <= it <= most
-
-
-def is_text(good):
-    return lambda it: isinstance(it, bytes) and good(it)
-
-
-ANY = is_within(-(2**63), 2**63 - 1)
-FLAG, MOMENT = is_within(0, 1), is_within(0, formats.LAST_MOMENT)
-NUMBERED, SERIAL, DOCK = is_within(*formats.NUMBERED), is_within(*formats.SERIAL), is_within(1, formats.MOST_DOCKS)
-IDENT, NAME, ASCII, END = (is_text(it) for it in (formats.is_ident, formats.is_name_value, formats.is_ascii_value, formats.is_end))
-FARE = is_within(0, formats.GREATEST_FARE)
-
-
-def word(*words):
-    return lambda it: it in [word.encode() for word in words]
-
-
-BOUNDS = {
-    "meta": {"one": is_within(1, 1), "app": word("bikeshare"), "version": is_within(NEWEST, NEWEST), "now": MOMENT, "cash": ANY, "revenue": ANY},
-    "system": {
-        "one": is_within(1, 1), "system_id": IDENT, "language": is_text(formats.is_language), "name": NAME, "hours": ASCII, "contact": ASCII,
-        "zone": ASCII, "currency": is_text(formats.is_currency), "base_url": ASCII, "ttl": is_within(0, 86_400),
-    },
-    "plans": {"plan_id": IDENT, "name": NAME, "price": is_within(0, 1_000_000), "taxable": FLAG, "description": NAME},
-    "segments": {
-        "plan_id": IDENT, "seq": is_within(1, 8), "start": is_within(0, 100_000), "rate": is_within(-100_000, 100_000),
-        "every": is_within(0, 100_000), "finish": is_within(0, 100_000),
-    },
-    "types": {
-        "type_id": IDENT, "name": NAME, "form": word("bicycle", "cargo_bicycle"), "propulsion": word("human", "electric_assist"),
-        "range_m": is_within(0, 1_000_000), "plan_id": IDENT,
-    },
-    "regions": {"region_id": IDENT, "name": NAME},
-    "stations_3": {
-        "station_id": IDENT, "name": NAME, "lat": is_within(-90_000_000, 90_000_000), "lon": is_within(-180_000_000, 180_000_000), "docks": DOCK,
-        "installed": FLAG, "renting": FLAG, "returning": FLAG, "reported": MOMENT, "free": ANY, "broken": ANY,
-        "region_id": IDENT,
-    },
-    "docks": {"station_id": IDENT, "dock": DOCK, "broken": FLAG},
-    "bikes": {
-        "bike": NUMBERED, "type_id": IDENT, "state": is_within(0, 2), "station_id": IDENT, "dock": DOCK, "rental": SERIAL, "truck": NUMBERED,
-        "ord": SERIAL,
-    },
-    "trucks": {"truck": NUMBERED, "capacity": is_within(1, 60)},
-    "riders": {"rider": NUMBERED, "blocked": FLAG, "balance": ANY},
-    "rentals": {
-        "rental": SERIAL, "rider": NUMBERED, "bike": NUMBERED, "plan_id": IDENT, "from_station": IDENT, "start": MOMENT, "to_station": IDENT,
-        "finish": MOMENT, "fare": FARE, "refunded": ANY,
-    },
-    "orders": {
-        "ord": SERIAL, "truck": NUMBERED, "from_end": END, "to_end": END, "type_id": IDENT, "quantity": is_within(1, 60),
-        "delivered": is_within(0, 60), "is_open": FLAG,
-    },
-    "entries": {"entry": SERIAL, "kind": is_within(1, 3), "rider": NUMBERED, "rental": is_within(0, 100_000_000), "amount": ANY, "at": MOMENT},
-    "kept": {
-        "caller": is_text(formats.is_caller), "req_key": is_text(formats.is_key), "command": is_text(lambda it: formats.command_text(it) == it),
-        "reply": is_text(lambda it: formats.is_reply(it) and not it.startswith(b"refused")),
-    },
-    "counts": {"station_id": IDENT, "type_id": IDENT, "available": ANY, "disabled": ANY},
-    "more_names": {"kind": word(*formats.NAMED), "id": IDENT, "language": is_text(formats.is_language), "name": NAME},
-}
-
-
-def agree(table, row):
-    """Conditions within one row, which count as bounds of its fields."""
-    if table == "segments":
-        return row["finish"] is None or row["finish"] > row["start"]
-    if table == "types":
-        return (row["propulsion"] == b"human") == (row["range_m"] == 0)
-    if table == "entries":
-        least, most = (0, formats.GREATEST_FARE) if row["kind"] == 2 else (1, 1_000_000)
-        return least <= row["amount"] <= most and (row["rental"] == 0) == (row["kind"] == 1)
-    if table == "rentals":
-        return (row["finish"] is None) == (row["fare"] is None) and (row["finish"] is not None or row["to_station"] is None)
-    return True
-
-
-def place_of(row):
-    """The first whole place of a bicycle whose row keeps its bounds, and whether its row names no more than that."""
-    named = [it for it in ("station_id", "dock", "rental", "truck", "ord") if row[it] is not None]
-    dock = ("dock", row["station_id"], row["dock"]) if {"station_id", "dock"} <= set(named) else None
-    rental = ("rental", row["rental"]) if "rental" in named else None
-    truck = ("truck", row["truck"], row["ord"]) if {"truck", "ord"} <= set(named) else None
-    first = dock or rental or truck or ("depot",)
-    return first, len(named) == {"dock": 2, "rental": 1, "truck": 2, "depot": 0}[first[0]]
-
-
-class Audit:
-    """The first bad row of the tables, which are lists of rows by column."""
-
-    def __init__(self, tables):
-        self.rows = {name: sorted(rows, key=lambda it, keys=keys: [rank(value) for value in list(it.values())[:keys]])
-                     for (name, keys), rows in zip(TABLES.items(), (tables[name] for name in TABLES))}
-        self.good = {name: [it for it in rows if self.keeps_bounds(name, it)] for name, rows in self.rows.items()}
-        self.good["bikes"] = [{**it, "place": place_of(it)} for it in self.good["bikes"]]
-        self.by = {name: {tuple(it.values())[: TABLES[name]] if TABLES[name] > 1 else next(iter(it.values())): it for it in rows}
-                   for name, rows in self.good.items()}
-
-    def keeps_bounds(self, table, row):
-        optional = MAY_BE_NULL.get(table, ())
-        return all((row[it] is None and it in optional) or good(row[it]) for it, good in BOUNDS[table].items()) and agree(table, row)
-
-    def sum(self, kind, **of):
-        return sum(it["amount"] for it in self.good["entries"] if it["kind"] == kind and all(it[name] == value for name, value in of.items()))
-
-    def holds(self, station):
-        """Each dock of a station: whether it is broken, and the bicycle in it."""
-        bikes = {it["place"][0][1:]: it for it in reversed(self.good["bikes"]) if it["place"][0][0] == "dock"}
-        number = station["docks"]
-        for dock in range(1, number + 1):
-            broken = self.by["docks"].get((station["station_id"], dock), {"broken": 0})["broken"]
-            yield broken, bikes.get((station["station_id"], dock))
-
-    def first_bad(self):
-        """The table and key of the first bad row, or none."""
-        for table, keys in TABLES.items():
-            listed = [(list(it.values())[:keys], it) for it in self.rows[table]]
-            missing = [(key, None) for key in self.owed(table) if key not in [it for it, _ in listed]]
-            for at, (key, row) in enumerate(sorted(listed + missing, key=lambda it: [rank(value) for value in it[0]])):
-                if row is None or not self.is_good(table, row, at):
-                    return table, key
-        return None
-
-    def owed(self, table):
-        if table == "meta":
-            return [[1]]
-        if table != "counts":
-            return []
-        return [[station, kind] for station in self.by["stations_3"] for kind in self.by["types"] if self.counted(station, kind) != (0, 0)]
-
-    def counted(self, station, kind):
-        held = [(broken, it) for broken, it in self.holds(self.by["stations_3"][station]) if it and it["type_id"] == kind]
-        fit = [it for broken, it in held if not broken and it["state"] == 0]
-        return len(fit), len(held) - len(fit)
-
-    def is_good(self, table, row, at):
-        if table == "bikes":
-            found = self.by["bikes"].get(row["bike"])
-            return found is not None and found["place"][1] and self.bikes(found, at)
-        if not self.keeps_bounds(table, row):
-            return False
-        return getattr(self, table)(row, at)
-
-    def now(self):
-        return self.by["meta"][1]["now"]
-
-    def on_truck(self, truck, order=None):
-        places = [it["place"][0] for it in self.good["bikes"]]
-        return sum(it[0] == "truck" and it[1] == truck and order in (None, it[2]) for it in places)
-
-    def meta(self, row, at):
-        return row["cash"] == self.sum(1) and row["revenue"] == self.sum(2) - self.sum(3)
-
-    def system(self, row, at):
-        return True
-
-    def plans(self, row, at):
-        return at < 256
-
-    def segments(self, row, at):
-        before = sum(it["plan_id"] == row["plan_id"] and it["seq"] < row["seq"] for it in self.rows["segments"])
-        return row["plan_id"] in self.by["plans"] and row["seq"] == before + 1
-
-    def types(self, row, at):
-        return at < 32 and row["plan_id"] in self.by["plans"]
-
-    def regions(self, row, at):
-        return at < 256
-
-    def stations_3(self, row, at):
-        held = list(self.holds(row))
-        free = sum(not broken and it is None for broken, it in held)
-        counted = row["free"] == free and row["broken"] == sum(broken for broken, _ in held)
-        return row["reported"] <= self.now() and counted and (row["region_id"] is None or row["region_id"] in self.by["regions"])
-
-    def has_dock(self, station, dock):
-        return station in self.by["stations_3"] and dock <= self.by["stations_3"][station]["docks"]
-
-    def docks(self, row, at):
-        return self.has_dock(row["station_id"], row["dock"])
-
-    def bikes(self, row, at):
-        place = row["place"][0]
-        good = True
-        if place[0] == "dock":
-            good = self.has_dock(*place[1:])
-        elif place[0] == "rental":
-            rental = self.by["rentals"].get(place[1])
-            good = rental is not None and rental["finish"] is None and rental["bike"] == row["bike"]
-        elif place[0] == "truck":
-            order = self.by["orders"].get(place[2])
-            carried = order is not None and order["is_open"] == 1 and order["truck"] == place[1] and order["type_id"] == row["type_id"]
-            good = carried and place[1] in self.by["trucks"]
-        alone = place[0] != "dock" or not any(it["place"][0] == place and it["bike"] < row["bike"] for it in self.good["bikes"])
-        return good and alone and row["type_id"] in self.by["types"] and (row["state"] != 2 or place[0] == "depot")
-
-    def trucks(self, row, at):
-        return self.on_truck(row["truck"]) <= row["capacity"]
-
-    def riders(self, row, at):
-        riding = sum(it["rider"] == row["rider"] and it["finish"] is None for it in self.good["rentals"])
-        balance = self.sum(1, rider=row["rider"]) - self.sum(2, rider=row["rider"]) + self.sum(3, rider=row["rider"])
-        return row["balance"] == balance and riding <= 1
-
-    def rentals(self, row, at):
-        number = row["rental"]
-        named = row["rider"] in self.by["riders"] and row["plan_id"] in self.by["plans"] and row["from_station"] in self.by["stations_3"]
-        if number != at + 1 or not named or row["bike"] not in self.by["bikes"] or row["start"] > self.now():
-            return False
-        if row["refunded"] != self.sum(3, rental=number):
-            return False
-        if row["finish"] is None:
-            return row["refunded"] == 0 and self.by["bikes"][row["bike"]]["place"][0] == ("rental", number)
-        station = row["to_station"] is None or row["to_station"] in self.by["stations_3"]
-        has_fare = any(it["kind"] == 2 and it["rental"] == number for it in self.good["entries"])
-        return station and has_fare and row["start"] <= row["finish"] <= self.now() and row["refunded"] <= row["fare"]
-
-    def orders(self, row, at):
-        truck = self.by["trucks"].get(row["truck"])
-        ends = all(it == b"*" or it in self.by["stations_3"] for it in (row["from_end"], row["to_end"])) and row["from_end"] != row["to_end"]
-        if row["ord"] != at + 1 or truck is None or not ends or row["type_id"] not in self.by["types"] or row["quantity"] > truck["capacity"]:
-            return False
-        held = self.on_truck(row["truck"], row["ord"])
-        return row["delivered"] + held <= row["quantity"] and (row["is_open"] == 1 or held == 0)
-
-    def entries(self, row, at):
-        if row["entry"] != at + 1 or row["rider"] not in self.by["riders"] or row["at"] > self.now():
-            return False
-        if row["kind"] == 1:
-            return True
-        rental = self.by["rentals"].get(row["rental"])
-        if rental is None or rental["finish"] is None or rental["rider"] != row["rider"]:
-            return False
-        earlier = any(it["kind"] == 2 and it["rental"] == row["rental"] and it["entry"] < row["entry"] for it in self.good["entries"])
-        return row["kind"] == 3 or (not earlier and row["amount"] == rental["fare"])
-
-    def kept(self, row, at):
-        return True
-
-    def counts(self, row, at):
-        known = row["station_id"] in self.by["stations_3"] and row["type_id"] in self.by["types"]
-        return known and (row["available"], row["disabled"]) == self.counted(row["station_id"], row["type_id"])
-
-    def more_names(self, row, at):
-        system = self.by["system"].get(1)
-        if system is None:
-            return False
-        there = {
-            b"system": [system["system_id"]], b"station": self.by["stations_3"], b"type": self.by["types"], b"plan": self.by["plans"],
-            b"description": self.by["plans"], b"region": self.by["regions"],
-        }[row["kind"]]
-        before = sum((it["kind"], it["id"]) == (row["kind"], row["id"]) and it["language"] < row["language"] for it in self.good["more_names"])
-        return row["id"] in there and row["language"] != system["language"] and before < 3
-
-
-def rank(value):
-    """A value by the order of keys: nothing, numbers, texts, blobs."""
-    return (0, 0) if value is None else (1, value) if isinstance(value, (int, float)) else (2, value)
-
-
-def read(file, names=None):
-    """All rows of the product's tables by column, texts as bytes; a blob is told from a text by its class. A table may have another name in the file."""
-    with contextlib.closing(sqlite3.connect(f"file:{file}?immutable=1", uri=True)) as base:
-        base.text_factory = bytes
-        told = {}
-        for name, named in (names or dict(zip(TABLES, TABLES))).items():
-            rows = base.execute(f"SELECT * FROM {named}")
-            columns = [it[0] for it in rows.description]
-            told[name] = [dict(zip(columns, row)) for row in rows]
-        return told
-
-
-def shown(value):
-    if isinstance(value, int):
-        return str(value).encode()
-    return value if isinstance(value, bytes) and formats.is_utf8(value) else b"?"
-
-
-def verdict(tables):
-    """What `check` has to end with."""
-    row = next((it for it in tables["meta"] if it["one"] == 1), None)
-    if row is not None and (row["app"] != b"bikeshare" or row["version"] < 1):
-        return FOREIGN
-    if row is not None and row["version"] != NEWEST:
-        return 5, b"", b"%s %d\n" % (b"newer" if row["version"] > NEWEST else b"older", row["version"])
-    bad = Audit(tables).first_bad()
-    if bad is None:
-        return SOUND
-    return 5, b"", b"unsound %s %s\n" % (bad[0].encode(), b"/".join(shown(it) for it in bad[1]))
-
-
 # ---- changes
 
 def drawn(changes, salt):
@@ -411,7 +106,8 @@ def drawn(changes, salt):
     return [changes[at] for at in sorted(pick.sample(range(len(changes)), int(TRIED)))]
 
 
-# A log of fewer bytes holds nothing: no frame has room in it. Opening a file makes one of 41 bytes where there is none that holds something.
+# A log of fewer bytes holds nothing: no frame has room in it. Opening a file makes one of 41 bytes where there is none
+# that holds something.
 LEAST_LOG = 56
 
 
@@ -423,20 +119,26 @@ def parts(file):
 
 
 def says(program, file):
-    """What `check` says of a file, which it leaves as it is; `lines` has to say the same, and to answer nothing where that is a fault."""
+    """What `check` says of a file, which it leaves as it is; `lines` has to say the same, and to answer nothing where
+    that is a fault."""
     before = parts(file)
     ended = program.run("check", file.name)
-    assert parts(file) == before, f"check changed {[it for it in parts(file) if parts(file)[it] != before.get(it)]}, after {ended}"
+    assert parts(file) == before, (
+        f"check changed {[it for it in parts(file) if parts(file)[it] != before.get(it)]}, after {ended}"
+    )
     assert ended == SOUND or (ended[0] in (3, 5) and not ended[1] and ended[2].endswith(b"\n")), ended
     line = b"1700000000\toffice\tk0\tclose-order\t1\n"
     served = program.run("lines", file.name, given=b"" if ended == SOUND else line)
-    assert served == (ended[0], b"", ended[2]) or (ended == SOUND and served == (0, b"", b"")), f"lines says {served}, and check {ended}"
+    assert served == (ended[0], b"", ended[2]) or (ended == SOUND and served == (0, b"", b"")), (
+        f"lines says {served}, and check {ended}"
+    )
     assert parts(file) == before, f"lines changed the file, after {served}"
     return ended
 
 
 def holds(program, city, changes, wanted, salt):
-    """Applies each change of the sample to the city, and holds what the program says to what is wanted of the changed file."""
+    """Applies each change of the sample to the city, and holds what the program says to what is wanted of the changed
+    file."""
     wrong = []
     for number, (name, change) in enumerate(drawn(changes, salt)):
         file = Path(program.folder, f"changed{number}.db")
@@ -454,7 +156,8 @@ def holds(program, city, changes, wanted, salt):
 
 
 def by_sql(sql, values=(), loose=False):
-    """A change by SQL. A loose one passes by what the tables demand of their columns: they lose STRICT and NOT NULL for it."""
+    """A change by SQL. A loose one passes by what the tables demand of their columns: they lose STRICT and NOT NULL for
+    it."""
     return functools.partial(done_by_sql, sql, values, loose)
 
 
@@ -466,7 +169,10 @@ def done_by_sql(sql, values, loose, file):
         if loose:
             texts = base.execute("SELECT name, sql FROM sqlite_schema WHERE type = 'table'").fetchall()
             base.execute("PRAGMA writable_schema = ON")
-            base.execute("UPDATE sqlite_schema SET sql = replace(replace(sql, ' STRICT', ''), ' NOT NULL', '') WHERE type = 'table'")
+            base.execute(
+                "UPDATE sqlite_schema SET sql = replace(replace(sql, ' STRICT', ''), ' NOT NULL', '') "
+                "WHERE type = 'table'"
+            )
             base.execute("PRAGMA writable_schema = RESET")
     with contextlib.closing(sqlite3.connect(file, isolation_level=None)) as base:
         base.execute("PRAGMA synchronous = OFF")
@@ -479,13 +185,18 @@ def done_by_sql(sql, values, loose, file):
         base.execute("PRAGMA journal_mode = WAL").fetchall()
 
 
-NUMBERS = [-1, 0, 1, 2, 3, 4, 5, 7, 61, 201, 256, 500, 501, 60_000, 1_000_000, 1_000_001, 100_000_001, 2**31, 2**32 + 1, 2**53 + 1, 2**63 - 1, -(2**63)]
+NUMBERS = [
+    -1, 0, 1, 2, 3, 4, 5, 7, 61, 201, 256, 500, 501, 60_000, 1_000_000, 1_000_001, 100_000_001, 2**31, 2**32 + 1,
+    2**53 + 1, 2**63 - 1, -(2**63),
+]
 WORDS = [
-    "", "a1", "b2", "zz", "A1", "*", "city", "cargo", "basic", "day", "north", "south", "west", "a" * 36, "a" * 37, "é", "x\0y", "n" * 120, "n" * 121, "~" * 200, "~" * 201,
-    "two\nlines", "a\tb", " ", "true", "NULL", "0", "1", "-1", "bicycle", "human", "electric_assist", "EUR", "office", "rider:17", "rider:0",
-    "add-rider\t17", "ok", "balance\t5", "balance\t-0", "refused\t4\tunknown_rider", "rental\t1\t7", "fare\t1\t2", "order\t0", "x" * 9000, "k1",
-    "add-region\tnorth\tNorth", "set-region\ta1\t*", "set-region\ta1\t", "add-name\tstation\ta1\tde\tHafen", "add-name\tbike\t7\tde\tX",
-    "en", "de", "EN", "zz-Zzzz", "d_e", "-" * 35, "metro", "system", "station", "type", "plan", "description", "region", "Region", "names",
+    "", "a1", "b2", "zz", "A1", "*", "city", "cargo", "basic", "day", "north", "south", "west", "a" * 36, "a" * 37, "é",
+    "x\0y", "n" * 120, "n" * 121, "~" * 200, "~" * 201, "two\nlines", "a\tb", " ", "true", "NULL", "0", "1", "-1",
+    "bicycle", "human", "electric_assist", "EUR", "office", "rider:17", "rider:0", "add-rider\t17", "ok", "balance\t5",
+    "balance\t-0", "refused\t4\tunknown_rider", "rental\t1\t7", "fare\t1\t2", "order\t0", "x" * 9000, "k1",
+    "add-region\tnorth\tNorth", "set-region\ta1\t*", "set-region\ta1\t", "add-name\tstation\ta1\tde\tHafen",
+    "add-name\tbike\t7\tde\tX", "en", "de", "EN", "zz-Zzzz", "d_e", "-" * 35, "metro", "system", "station", "type",
+    "plan", "description", "region", "Region", "names",
 ]
 
 
@@ -547,10 +258,22 @@ def rows_added_and_removed(tables):
         keys = columns[: TABLES[name]]
         for row in rows:
             found = [row[it].decode() if isinstance(row[it], bytes) else row[it] for it in keys]
-            yield f"DELETE FROM {name} {found}", by_sql(f"DELETE FROM {name} WHERE {' AND '.join(f'{it} = ?' for it in keys)}", found)
-        for key in itertools.product(*([["a0", "zz", "city"] if is_of_text(name, it) else [0, 1, 2, 3, 4, 9, 100, 999_999, 1_000_000] for it in keys])):
+            yield (
+                f"DELETE FROM {name} {found}",
+                by_sql(f"DELETE FROM {name} WHERE {' AND '.join(f'{it} = ?' for it in keys)}", found),
+            )
+        for key in itertools.product(
+            *(
+                [
+                    ["a0", "zz", "city"] if is_of_text(name, it) else [0, 1, 2, 3, 4, 9, 100, 999_999, 1_000_000]
+                    for it in keys
+                ]
+            )
+        ):
             for row in rows[0], rows[-1]:
-                whole = [*key, *(row[it].decode() if isinstance(row[it], bytes) else row[it] for it in columns[len(keys) :])]
+                whole = [
+                    *key, *(row[it].decode() if isinstance(row[it], bytes) else row[it] for it in columns[len(keys) :])
+                ]
                 sql = f"INSERT OR IGNORE INTO {name} VALUES ({', '.join('?' * len(whole))})"
                 yield f"{sql} {whole!r:.200}", by_sql(sql, whole)
         yield f"DELETE FROM {name}", by_sql(f"DELETE FROM {name}")
@@ -580,7 +303,8 @@ def test_each_column_of_each_table(program):
 
 
 def test_regions(program):
-    """Each column of regions, the region of each station, and regions that are added or go. All of it in one sample of its own."""
+    """Each column of regions, the region of each station, and regions that are added or go. All of it in one sample of
+    its own."""
     city, _ = made(program)
     tables = tables_of(city, program)
     begins = ("UPDATE OR IGNORE regions ", 'UPDATE OR IGNORE stations_3 SET "region_id" ')
@@ -600,35 +324,47 @@ LANGUAGES = ["aa", "de", "en", "EN", "fr", "it", "zh-Hant", "zz", "e", "d_e", "x
 
 
 def test_names_in_further_languages(program):
-    """Each column of more_names; names added and gone, of what is there and of what isn't, in the system's language and in many; and the system
-    and the plans, types, regions and stations that are named under other identifiers or not at all."""
+    """Each column of more_names; names added and gone, of what is there and of what isn't, in the system's language and
+    in many; and the system and the plans, types, regions and stations that are named under other identifiers or not at
+    all."""
     city, _ = made(program)
     tables = tables_of(city, program)
     begins = (
-        "UPDATE OR IGNORE more_names ", 'UPDATE OR IGNORE system SET "system_id" ', 'UPDATE OR IGNORE system SET "language" ',
-        'UPDATE OR IGNORE system SET "one" ', *(f'UPDATE OR IGNORE {it}s SET "{it}_id" ' for it in ("plan", "type", "region")),
+        "UPDATE OR IGNORE more_names ", 'UPDATE OR IGNORE system SET "system_id" ',
+        'UPDATE OR IGNORE system SET "language" ',
+        'UPDATE OR IGNORE system SET "one" ',
+        *(f'UPDATE OR IGNORE {it}s SET "{it}_id" ' for it in ("plan", "type", "region")),
     )
     changes = [it for it in updates(tables) if it[0].startswith(begins)]
     changes += [it for it in rows_added_and_removed({it: tables[it] for it in ("more_names", "system", "regions")})]
     changes += [
-        with_names((kind, ident, language, "Name")) for kind in (*formats.NAMED, "bike") for ident in ("metro", "a1", "city", "day", "south", "zz")
+        with_names((kind, ident, language, "Name"))
+        for kind in (*formats.NAMED, "bike")
+        for ident in ("metro", "a1", "city", "day", "south", "zz")
         for language in LANGUAGES
     ]
     pick = random.Random(f"{SEED} names")
     for _ in range(200):
-        kind, ident = pick.choice([("station", "a1"), ("station", "c3"), ("system", "metro"), ("plan", "basic"), ("region", "south")])
-        names = [(kind, ident, it, pick.choice(["Name", "", "n" * 121]) if pick.random() < 0.3 else "Name") for it in pick.sample(LANGUAGES, pick.randint(2, 6))]
+        kind, ident = pick.choice([
+            ("station", "a1"), ("station", "c3"), ("system", "metro"), ("plan", "basic"), ("region", "south")
+        ])
+        names = [
+            (kind, ident, it, pick.choice(["Name", "", "n" * 121]) if pick.random() < 0.3 else "Name")
+            for it in pick.sample(LANGUAGES, pick.randint(2, 6))
+        ]
         changes.append(with_names(*names))
     assert len(changes) > 1000, len(changes)
     holds(program, city, changes, of_rows, "names")
 
 
 def test_columns_of_a_bicycles_place(program):
-    """A column out of its bounds beside a whole place, several whole places, and halves of one. All of it in one sample of its own."""
+    """A column out of its bounds beside a whole place, several whole places, and halves of one. All of it in one sample
+    of its own."""
     city, _ = made(program)
     tables = tables_of(city, program)
     odd = {
-        "station_id": ["a1", "b2", "zz", "A1", "", None], "dock": [1, 2, 3, 500, 501, 0, -1, None], "rental": [1, 4, 5, 0, 10**8, 10**12, None],
+        "station_id": ["a1", "b2", "zz", "A1", "", None], "dock": [1, 2, 3, 500, 501, 0, -1, None],
+        "rental": [1, 4, 5, 0, 10**8, 10**12, None],
         "truck": [3, 4, 5, 0, -1, 999_999, 1_000_000, None], "ord": [3, 4, 5, 0, -1, 10**8 + 1, None],
     }
     pick, changes = random.Random(f"{SEED} places"), []
@@ -639,8 +375,10 @@ def test_columns_of_a_bicycles_place(program):
             values = (*new.values(), bike["bike"])
             changes.append((f"{sql} {values!r}", by_sql(sql, values)))
     changes += [(it, by_sql(it)) for it in (
-        "DELETE FROM trucks", "DELETE FROM trucks WHERE truck = 3", "DELETE FROM trucks WHERE truck = 4", "UPDATE trucks SET truck = 7 WHERE truck = 3",
-        "UPDATE trucks SET capacity = 0 WHERE truck = 3", "UPDATE trucks SET capacity = 61", "UPDATE trucks SET capacity = 1 WHERE truck = 3",
+        "DELETE FROM trucks", "DELETE FROM trucks WHERE truck = 3", "DELETE FROM trucks WHERE truck = 4",
+        "UPDATE trucks SET truck = 7 WHERE truck = 3",
+        "UPDATE trucks SET capacity = 0 WHERE truck = 3", "UPDATE trucks SET capacity = 61",
+        "UPDATE trucks SET capacity = 1 WHERE truck = 3",
     )]
     holds(program, city, changes, of_rows, "places")
 
@@ -668,7 +406,11 @@ def test_tables_and_columns(program):
     foreign, sound = [], []
     for name, rows in tables.items():
         columns = list(rows[0])
-        foreign += [f"DROP TABLE {name}", f"ALTER TABLE {name} RENAME TO {name}_old", f"ALTER TABLE {name} ADD COLUMN more INTEGER"]
+        foreign += [
+            f"DROP TABLE {name}",
+            f"ALTER TABLE {name} RENAME TO {name}_old",
+            f"ALTER TABLE {name} ADD COLUMN more INTEGER",
+        ]
         foreign += [f'ALTER TABLE {name} RENAME COLUMN "{it}" TO other' for it in columns]
         last = columns[-1]
         # sqlite3 drops no column that an index has.
@@ -678,10 +420,19 @@ def test_tables_and_columns(program):
         named = [", ".join(f'"{it}"' for it in [*key, other]) for other in others]
         foreign += [f"CREATE UNIQUE INDEX one_{name} ON {name} ({it})" for it in named]
         sound += [f"CREATE INDEX more_{name} ON {name} ({columns[1]})"]
-    sound += ["DROP INDEX bikes_by_dock", "DROP INDEX rentals_by_rider", "DROP INDEX more_names_by_language", "DROP INDEX more_names_by_thing", "CREATE TABLE notes (note TEXT)", "CREATE VIEW seen AS SELECT bike FROM bikes"]
+    sound += [
+        "DROP INDEX bikes_by_dock", "DROP INDEX rentals_by_rider", "DROP INDEX more_names_by_language",
+        "DROP INDEX more_names_by_thing", "CREATE TABLE notes (note TEXT)",
+        "CREATE VIEW seen AS SELECT bike FROM bikes",
+    ]
     # The names of tables that other versions have are free here.
     sound += [f"CREATE TABLE {it} (note TEXT)" for it in ("stations", "stations_2")]
-    sound += ["CREATE TABLE helmets (helmet INTEGER PRIMARY KEY, size TEXT UNIQUE)", "PRAGMA user_version = 7", "PRAGMA application_id = 77", "VACUUM"]
+    sound += [
+        "CREATE TABLE helmets (helmet INTEGER PRIMARY KEY, size TEXT UNIQUE)",
+        "PRAGMA user_version = 7",
+        "PRAGMA application_id = 77",
+        "VACUUM",
+    ]
     holds(program, city, [(it, by_sql(it)) for it in foreign], lambda file, told: [FOREIGN, STORE_FAILED], "foreign")
     holds(program, city, [(it, by_sql(it)) for it in sound], lambda file, told: [SOUND], "sound")
 
@@ -710,13 +461,15 @@ def readable(file):
             is_whole(base)
         tables = read(file)
         # A byte of a table's text may have changed the name of a column.
-        return tables if all(list(it) == list(BOUNDS[name]) for name, rows in tables.items() for it in rows[:1]) else None
+        are_ours = all(list(row) == list(BOUNDS[name]) for name, rows in tables.items() for row in rows[:1])
+        return tables if are_ours else None
     except (AssertionError, sqlite3.Error, UnicodeDecodeError):
         return None
 
 
 def as_sqlite_reads(file, told):
-    """A fault of the store may always be named. What SQLite reads as whole may be judged by its rows, and nothing else may be called sound."""
+    """A fault of the store may always be named. What SQLite reads as whole may be judged by its rows, and nothing else
+    may be called sound."""
     tables = readable(file)
     if tables is None:
         return [STORE_FAILED, FOREIGN]
@@ -725,7 +478,11 @@ def as_sqlite_reads(file, told):
 
 def test_bytes_of_the_header(program):
     city, _ = made(program)
-    changes = [(f"byte {at} = {value}", set_byte(at, value)) for at in range(100) for value in {0, 1, 2, 127, 255, city[at] ^ 1, city[at] ^ 128} - {city[at]}]
+    changes = [
+        (f"byte {at} = {value}", set_byte(at, value))
+        for at in range(100)
+        for value in {0, 1, 2, 127, 255, city[at] ^ 1, city[at] ^ 128} - {city[at]}
+    ]
     holds(program, city, changes, as_sqlite_reads, "header")
 
 
@@ -736,7 +493,10 @@ def test_bytes_anywhere(program):
     changes = []
     for _ in range(count):
         # Most of a page is at its begin and its end.
-        page, at = pick.randrange(len(city) // 4096), pick.choice([pick.randrange(16), pick.randrange(200), 4095 - pick.randrange(400), pick.randrange(4096)])
+        page, at = (
+            pick.randrange(len(city) // 4096),
+            pick.choice([pick.randrange(16), pick.randrange(200), 4095 - pick.randrange(400), pick.randrange(4096)]),
+        )
         value = pick.choice([0, 1, 255, pick.randrange(256)])
         changes.append((f"byte {4096 * page + at} = {value}", set_byte(4096 * page + at, value)))
     holds(program, city, changes, as_sqlite_reads, "bytes")
@@ -744,16 +504,30 @@ def test_bytes_anywhere(program):
 
 def test_pages_that_are_cut(program):
     city, _ = made(program)
-    sizes = sorted({*range(0, len(city), 4096), *range(1, 200, 11), 100, 4095, 4097, len(city) - 1, len(city) - 4095, len(city) + 0} - {len(city)})
+    sizes = sorted(
+        {
+            *range(0, len(city), 4096), *range(1, 200, 11), 100, 4095, 4097, len(city) - 1, len(city) - 4095,
+            len(city) + 0,
+        } - {len(city)}
+    )
 
-    # A file of one byte or none is taken for one whose making was stopped: the tables are made, as where there is no file.
-    holds(program, city, [(f"cut to {it}", cut(it)) for it in sizes if it > 1], lambda file, told: [STORE_FAILED], "cut")
+    # A file of one byte or none is taken for one whose making was stopped: the tables are made, as where there is no
+    # file.
+    holds(
+        program, city, [(f"cut to {it}", cut(it)) for it in sizes if it > 1], lambda file, told: [STORE_FAILED], "cut"
+    )
     for size in 0, 1:
         file = Path(program.folder, f"begun{size}.db")
         file.write_bytes(city[:size])
         assert program.run("check", file.name) == SOUND and program.run("check", file.name) == SOUND, size
-    more = [(f"{count} bytes of {value} behind", with_bytes(lambda data, count=count, value=value: data + bytes([value]) * count))
-            for count in (1, 100, 4096, 8192) for value in (0, 255)]
+    more = [
+        (
+            f"{count} bytes of {value} behind",
+            with_bytes(lambda data, count=count, value=value: data + bytes([value]) * count),
+        )
+        for count in (1, 100, 4096, 8192)
+        for value in (0, 255)
+    ]
     holds(program, city, more, lambda file, told: [SOUND, STORE_FAILED], "more")
 
 
@@ -777,13 +551,17 @@ def test_pages_in_other_places(program):
 
         return with_bytes(edit)
 
-    changes = [(f"pages {one} and {other} swapped", swapped(one, other)) for one, other in (sorted(pick.sample(range(pages), 2)) for _ in range(40))]
+    changes = [
+        (f"pages {one} and {other} swapped", swapped(one, other))
+        for one, other in (sorted(pick.sample(range(pages), 2)) for _ in range(40))
+    ]
     changes += [(f"page {page} of {value}", filled(page, value)) for page in range(pages) for value in (0, 255)]
     holds(program, city, changes, as_sqlite_reads, "pages")
 
 
 def test_logs_that_are_changed(program):
-    """A log that is damaged ends where the damage is, so the city is that after a front of the requests; or a fault is named."""
+    """A log that is damaged ends where the damage is, so the city is that after a front of the requests; or a fault is
+    named."""
     _, (main, log) = made(program)
     pick = random.Random(f"{SEED} log")
     count = 400 if TRIED == "all" else int(TRIED) // 2
@@ -791,7 +569,9 @@ def test_logs_that_are_changed(program):
     used = 32 + (len(log) - 32) // 4120 * 4120
     changes = [(f"log cut to {it}", log[:it]) for it in sizes]
     for _ in range(count):
-        at, value = pick.choice([pick.randrange(32), pick.randrange(used), 32 + 4120 * pick.randrange(used // 4120) + pick.randrange(24)]), pick.randrange(256)
+        places = [pick.randrange(32), pick.randrange(used)]
+        places.append(32 + 4120 * pick.randrange(used // 4120) + pick.randrange(24))
+        at, value = pick.choice(places), pick.randrange(256)
         changes.append((f"byte {at} of the log = {value}", log[:at] + bytes([value]) + log[at + 1 :]))
     wrong = []
     for number, (name, bytes_of_log) in enumerate(changes):
@@ -801,7 +581,8 @@ def test_logs_that_are_changed(program):
         beside.write_bytes(bytes_of_log)
         ended = program.run("check", file.name)
         if ended not in (SOUND, STORE_FAILED) or file.read_bytes() != main:
-            wrong.append(f"{name}: {ended}, {'the file stands' if file.read_bytes() == main else 'the file was changed'}")
+            stands = "the file stands" if file.read_bytes() == main else "the file was changed"
+            wrong.append(f"{name}: {ended}, {stands}")
         again = program.run("check", file.name)
         if again != ended:
             wrong.append(f"{name}: first {ended} and then {again}")
@@ -820,8 +601,11 @@ def test_files_of_no_city(program):
     """Files that are no database, and databases of others."""
     pick = random.Random(f"{SEED} files")
     folder = Path(program.folder)
-    for number, data in enumerate([b"xx", b"SQ", b"SQLite format 3\0", b"SQLite format 3", bytes(100), bytes(4096), bytes(8192), pick.randbytes(4096),
-                                   b"SQLite format 3\0" + bytes(4080), b"SQLite format 3\0" + pick.randbytes(4080), b"text\n" * 1000]):
+    for number, data in enumerate([
+        b"xx", b"SQ", b"SQLite format 3\0", b"SQLite format 3", bytes(100), bytes(4096), bytes(8192),
+        pick.randbytes(4096), b"SQLite format 3\0" + bytes(4080), b"SQLite format 3\0" + pick.randbytes(4080),
+        b"text\n" * 1000,
+    ]):
         file = folder / f"no{number}.db"
         file.write_bytes(data)
         assert says(program, file) == STORE_FAILED, (data[:20], says(program, file))

@@ -10,7 +10,8 @@ SIZES = {"stations": 9, "docks": 8, "types": 3, "bicycles": 40, "riders": 60, "t
 
 
 def made(seed, requests, refused=0.1, repeated=0.05):
-    """The requests that build a small city, and those of its traffic, a share of them refused or sent twice, with their answers."""
+    """The requests that build a small city, and those of its traffic, a share of them refused or sent twice, with their
+    answers."""
     it = city.City(seed=seed, **SIZES)
     lines = [*it.setup(), *itertools.islice(it.traffic(refused, repeated), requests)]
     operator = model.Operator()
@@ -32,12 +33,15 @@ def test_three_cities_in_memory(program):
     for seed in (1, 2, 3):
         lines, answers = made(seed, 1200)
         wanted = {"start", "end", "top-up", "mark-dock", "mark-bike", "open-order", "load", "unload", "close-order"}
-        assert wanted <= told_apart(lines, answers), f"seed {seed} has no accepted {wanted - told_apart(lines, answers)}"
+        assert wanted <= told_apart(lines, answers), (
+            f"seed {seed} has no accepted {wanted - told_apart(lines, answers)}"
+        )
         program.answers("".join(lines).encode(), joined(answers))
 
 
 def test_the_same_in_a_file_in_parts(program):
-    """So they are over a file that is opened anew for each part, which stays sound; stored numbers are counts at the end."""
+    """So they are over a file that is opened anew for each part, which stays sound; stored numbers are counts at the
+    end."""
     lines, answers = made(4, 1200)
     for at in range(0, len(lines), 300):
         status, told, said = program.run("lines", "city.db", given="".join(lines[at : at + 300]).encode())
@@ -46,7 +50,10 @@ def test_the_same_in_a_file_in_parts(program):
     with copied(program.folder, "city.db") as base:
         found = base.execute("SELECT station_id, docks, free, broken FROM stations_3").fetchall()
         for station, docks, free, broken in found:
-            marked = {dock for (dock,) in base.execute("SELECT dock FROM docks WHERE station_id = ? AND broken = 1", (station,))}
+            marked = {
+                dock
+                for (dock,) in base.execute("SELECT dock FROM docks WHERE station_id = ? AND broken = 1", (station,))
+            }
             held = {dock for (dock,) in base.execute("SELECT dock FROM bikes WHERE station_id = ?", (station,))}
             assert (free, broken) == (docks - len(marked | held), len(marked)), station
     assert len(found) == SIZES["stations"]

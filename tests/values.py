@@ -1,5 +1,5 @@
-"""Known values from outside: fields at their bounds and past them, replies as they are kept, told in answer lines and over HTTP, and what is
-told of a small city over HTTP.
+"""Known values from outside: fields at their bounds and past them, replies as they are kept, told in answer lines and
+over HTTP, and what is told of a small city over HTTP.
 
 Each wanted answer is worked out by hand from docs/OPERATOR.md and docs/FORMATS.md. A TAB is written | here.
 """
@@ -14,7 +14,8 @@ from shared import Server, answer, city, error, get, holds, is_sound, office
 
 # ---- Fields
 
-# Over this city each command below is refused by a rule of its own where it is read: what it adds is there, or what it names first isn't.
+# Over this city each command below is refused by a rule of its own where it is read: what it adds is there, or what it
+# names first isn't.
 CITY = [
     "set-system|metro|en|Metro|24/7|feeds@example.org|Etc/UTC|EUR|http://127.0.0.1:8080|30",
     "add-plan|day|Day|0|true|Day|-",
@@ -26,10 +27,16 @@ THERE = "refused|10|already_there"
 BAD_FIELD = "refused|11|bad_field"
 
 NO_DEGREES = [
-    "180.000001", "-180.000001", "1000", "0001", ".5", "1.", "+1", "1.0000000", "", "-", "--1", "1 ", " 1", "1.5.5", "1e1", "-.5", "1,5", "0x1", "-180.0000000",
+    "180.000001", "-180.000001", "1000", "0001", ".5", "1.", "+1", "1.0000000", "", "-", "--1", "1 ", " 1", "1.5.5",
+    "1e1", "-.5", "1,5", "0x1", "-180.0000000",
 ]
-NO_NUMBERS = ["01", "007", "+1", "-1", "-0", "", " 1", "1 ", "1x", "1.0", "1e1", "0x1", "30000000000000000000000000000", "18446744073709551617"]
-NO_IDENTS = ["EUR", "de-AT", "", "a" * 37, "AZ", "@@@", "[[[", "``", "{{", "//", "::", " ~", "\x7f", "\x01", "été", "aa\0", "*"]
+NO_NUMBERS = [
+    "01", "007", "+1", "-1", "-0", "", " 1", "1 ", "1x", "1.0", "1e1", "0x1", "30000000000000000000000000000",
+    "18446744073709551617",
+]
+NO_IDENTS = [
+    "EUR", "de-AT", "", "a" * 37, "AZ", "@@@", "[[[", "``", "{{", "//", "::", " ~", "\x7f", "\x01", "été", "aa\0", "*"
+]
 NO_REGIONS = [it for it in NO_IDENTS if it != "*"]
 SYSTEM = "set-system|{}|{}|{}|{}|{}|{}|{}|{}|{}"
 GOOD = ["metro", "en", "Metro", "24/7", "feeds@example.org", "Etc/UTC", "EUR", "http://127.0.0.1:8080", "30"]
@@ -40,7 +47,8 @@ def system(at):
     return SYSTEM.format(*GOOD[:at], "{}", *GOOD[at + 1 :])
 
 
-# Of each field: a command with {} in its place, the answer where it is read, texts that are read, and texts that aren't.
+# Of each field: a command with {} in its place, the answer where it is read, texts that are read, and texts that
+# aren't.
 FIELDS = [
     ("mark-dock|zz|{}|broken", "refused|1|unknown_station", ["1", "17", "201", "500"], ["0", "501", *NO_NUMBERS]),
     ("add-station|a1|N|0|0|{}", THERE, ["1", "201", "500"], ["0", "501", *NO_NUMBERS]),
@@ -54,13 +62,33 @@ FIELDS = [
     ("open-order|9|*|a1|city|{}", "refused|8|unknown_truck", ["1", "60"], ["0", "61", *NO_NUMBERS]),
     ("add-plan|day|Day|{}|true|Day|-", THERE, ["0", "1000000"], ["1000001", "00", *NO_NUMBERS]),
     (system(8), THERE, ["0", "86400"], ["86401", "00", *NO_NUMBERS]),
-    ("add-station|a1|N|{}|0|1", THERE, ["0", "-0", "48.1", "048.100000", "-0.000001", "90", "-90", "90.000000"], ["90.000001", "-90.000001", "-180", *NO_DEGREES]),
-    ("add-station|a1|N|0|{}|1", THERE, ["-0", "007", "45.5", "90.000001", "-90.000001", "180", "-180", "-180.000000", "12.034567"], NO_DEGREES),
+    (
+        "add-station|a1|N|{}|0|1",
+        THERE,
+        ["0", "-0", "48.1", "048.100000", "-0.000001", "90", "-90", "90.000000"],
+        ["90.000001", "-90.000001", "-180", *NO_DEGREES],
+    ),
+    (
+        "add-station|a1|N|0|{}|1",
+        THERE,
+        ["-0", "007", "45.5", "90.000001", "-90.000001", "180", "-180", "-180.000000", "12.034567"],
+        NO_DEGREES,
+    ),
     ("add-type|city|N|bicycle|human|{}|day", THERE, ["0"], ["1", "1000000", "1000001", "00", *NO_NUMBERS]),
     ("add-type|city|N|bicycle|electric_assist|{}|day", THERE, ["1", "1000000"], ["0", "1000001", "00", *NO_NUMBERS]),
-    ("add-type|city|N|bicycle|{}|0|day", THERE, ["human"], ["electric_assist", "bicycle", "cargo_bicycle", "cargo", "Human", ""]),
+    (
+        "add-type|city|N|bicycle|{}|0|day",
+        THERE,
+        ["human"],
+        ["electric_assist", "bicycle", "cargo_bicycle", "cargo", "Human", ""],
+    ),
     ("add-type|city|N|bicycle|{}|1|day", THERE, ["electric_assist"], ["human", "bicycle", "electric", ""]),
-    ("add-type|city|N|{}|human|0|day", THERE, ["bicycle", "cargo_bicycle"], ["human", "electric_assist", "cargo", "tricycle", "Bicycle", ""]),
+    (
+        "add-type|city|N|{}|human|0|day",
+        THERE,
+        ["bicycle", "cargo_bicycle"],
+        ["human", "electric_assist", "cargo", "tricycle", "Bicycle", ""],
+    ),
     ("add-type|city|N|bicycle|human|0|{}", THERE, ["day", "gold"], NO_IDENTS),
     ("set-rider|1|{}", "refused|4|unknown_rider", ["open", "blocked"], ["ok", "Open", "from", "to", ""]),
     ("unload|9|1|7|{}|1", "refused|8|unknown_truck", ["from", "to"], ["ok", "blocked", "open", "Open", "From", ""]),
@@ -70,11 +98,36 @@ FIELDS = [
     ("open-order|9|{}|b2|city|1", "refused|8|unknown_truck", ["*", "a1", "a" * 36], ["A1", "**", "", "*a", "a" * 37]),
     ("set-plan|{}|day", "refused|6|unknown_type", ["az_09-", "a", "a0z9", "a" * 36], NO_IDENTS),
     ("set-region|{}|north", "refused|1|unknown_station", ["az_09-", "a", "a0z9", "a" * 36], NO_IDENTS),
-    ("set-region|zz|{}", "refused|1|unknown_station", ["*", "north", "south", "a" * 36], ["**", "*a", "a*", " *", *NO_REGIONS]),
-    ("set-region|a1|{}", "refused|37|unknown_region", ["az_09-", "-", "a0z9", "a" * 36, "a1"], ["**", "*a", "a*", " *", *NO_REGIONS]),
-    ("add-region|north|{}", THERE, ["Rue é", "a\\\\b", "\\t\\n\\r", "*", "-", "\\\\" * 120], ["a\rb", "a\\", "a\\x", "a\0", "", "\\\\" * 121]),
-    (system(1), THERE, ["en", "EUR", "de-AT", "pt-BR", "a0z9", "a" * 35], ["az_09-", "", "e", "a" * 36, "a" * 37, "aa\0"]),
-    ("add-name|{}|zz|de|N", "refused|1|unknown_station", ["station"], ["Station", "stations", "bike", "rider", "truck", "order", "system_regions", "*", ""]),
+    (
+        "set-region|zz|{}",
+        "refused|1|unknown_station",
+        ["*", "north", "south", "a" * 36],
+        ["**", "*a", "a*", " *", *NO_REGIONS],
+    ),
+    (
+        "set-region|a1|{}",
+        "refused|37|unknown_region",
+        ["az_09-", "-", "a0z9", "a" * 36, "a1"],
+        ["**", "*a", "a*", " *", *NO_REGIONS],
+    ),
+    (
+        "add-region|north|{}",
+        THERE,
+        ["Rue é", "a\\\\b", "\\t\\n\\r", "*", "-", "\\\\" * 120],
+        ["a\rb", "a\\", "a\\x", "a\0", "", "\\\\" * 121],
+    ),
+    (
+        system(1),
+        THERE,
+        ["en", "EUR", "de-AT", "pt-BR", "a0z9", "a" * 35],
+        ["az_09-", "", "e", "a" * 36, "a" * 37, "aa\0"],
+    ),
+    (
+        "add-name|{}|zz|de|N",
+        "refused|1|unknown_station",
+        ["station"],
+        ["Station", "stations", "bike", "rider", "truck", "order", "system_regions", "*", ""],
+    ),
     ("add-name|{}|day|en|N", THERE, ["plan", "description"], ["Plan", "plans", "names", "descriptions", " plan", ""]),
     ("add-name|station|{}|de|N", "refused|1|unknown_station", ["az_09-", "-", "a0z9", "a" * 36], NO_IDENTS),
     ("add-name|type|{}|de|N", "refused|6|unknown_type", ["az_09-", "-", "a0z9", "a" * 36], NO_IDENTS),
@@ -82,11 +135,31 @@ FIELDS = [
     ("add-name|description|{}|de|N", "refused|7|unknown_plan", ["az_09-", "-", "a0z9", "a" * 36], NO_IDENTS),
     ("add-name|region|{}|de|N", "refused|37|unknown_region", ["az_09-", "-", "a0z9", "a" * 36], NO_IDENTS),
     ("add-name|system|{}|de|N", BAD_FIELD, ["az_09-", "-", "a0z9", "a" * 36], NO_IDENTS),
-    ("add-name|station|zz|{}|N", "refused|1|unknown_station", ["en", "EUR", "de-AT", "--", "00", "a" * 35], ["az_09-", "", "e", "a" * 36, "aa\0", "e n"]),
-    ("add-name|station|a1|en|{}", THERE, ["Rue é", "a\\\\b", "\\t\\n\\r", "*", "-", "\\\\" * 120], ["a\rb", "a\\", "a\\x", "a\0", "", "\\\\" * 121]),
+    (
+        "add-name|station|zz|{}|N",
+        "refused|1|unknown_station",
+        ["en", "EUR", "de-AT", "--", "00", "a" * 35],
+        ["az_09-", "", "e", "a" * 36, "aa\0", "e n"],
+    ),
+    (
+        "add-name|station|a1|en|{}",
+        THERE,
+        ["Rue é", "a\\\\b", "\\t\\n\\r", "*", "-", "\\\\" * 120],
+        ["a\rb", "a\\", "a\\x", "a\0", "", "\\\\" * 121],
+    ),
     (system(6), THERE, ["EUR", "AMZ"], ["EU", "EURO", "eur", "az_09-", "de-AT", "", "a" * 36, "E R", "aa\0", "E0R"]),
-    (system(2), THERE, ["Rue é", "a\\\\b", "\\t\\n\\r", "Mo-Su 06:00", "a;b", "\\\\" * 120], ["a\rb", "a\\", "a\\x", "a\\0", "a\\T", "a\0", "", "\\\\" * 121]),
-    (system(3), THERE, ["a\\\\b", "Mo-Su 06:00", "a;b", "\\\\" * 121, "\\\\" * 200], ["Rue é", "\\t\\n\\r", "\\t", "a\rb", "a\\", "a\\x", "a\\0", "aa\0", "", "\\\\" * 201]),
+    (
+        system(2),
+        THERE,
+        ["Rue é", "a\\\\b", "\\t\\n\\r", "Mo-Su 06:00", "a;b", "\\\\" * 120],
+        ["a\rb", "a\\", "a\\x", "a\\0", "a\\T", "a\0", "", "\\\\" * 121],
+    ),
+    (
+        system(3),
+        THERE,
+        ["a\\\\b", "Mo-Su 06:00", "a;b", "\\\\" * 121, "\\\\" * 200],
+        ["Rue é", "\\t\\n\\r", "\\t", "a\rb", "a\\", "a\\x", "a\\0", "aa\0", "", "\\\\" * 201],
+    ),
 ]
 
 # Segments: the sign of a rate, their bounds, and an end behind the start in numbers and not in characters.
@@ -94,14 +167,24 @@ ONE = "0:25:10:-"
 FIELDS.append((
     "add-plan|day|Day|0|true|Day|{}", THERE,
     [
-        "-", ONE, "0:0:0:-", "0:0:0:1", "0:0:0:1;100000:-100000:100000:-", "100000:100000:100000:-", "99999:-100000:1:100000", "99999:100000:1:100000", "9:-25:9:10",
+        "-", ONE, "0:0:0:-", "0:0:0:1", "0:0:0:1;100000:-100000:100000:-", "100000:100000:100000:-",
+        "99999:-100000:1:100000", "99999:100000:1:100000", "9:-25:9:10",
         "0:-1:0:-", ";".join(["1:1:1:-"] * 8), "5:-25:10:60;7:0:0:-",
     ],
     [
-        "", ";".join(["1:1:1:-"] * 9), f"{ONE};", f";{ONE}", f"{ONE};;{ONE}", f"{ONE},{ONE}", "-;-", f"-;{ONE}", f"{ONE};-", "0:25:10", "0:25:10:-:1", "0:25:10:", ":::", "0:25::-",
-        "9:-25:9:9", "10:-25:10:9", "99999:25:1:100001", "5:0:0:5", "0:0:0:0", "0:0:100001:0", "100001:25:10:-", "100001:100001:0:-", "0:100001:100001:-", "0:-100001:0:-",
-        "0:25:100001:-", "0:25:10:100001", "-1:25:10:-", "0:25:-1:-", "0:25:10:-1", "00:25:10:-", "0:25:010:-", "0:25:10:010", " 0:25:10:-", "0:25:10:*",
-        *(f"0:{rate}:10:-" for rate in ("-0", "+1", "-01", "01", "007", "", "-", "--1", "100001", "1.0", "9223372036854775808", "-9223372036854775809")),
+        "", ";".join(["1:1:1:-"] * 9), f"{ONE};", f";{ONE}", f"{ONE};;{ONE}", f"{ONE},{ONE}", "-;-", f"-;{ONE}",
+        f"{ONE};-", "0:25:10", "0:25:10:-:1", "0:25:10:", ":::", "0:25::-",
+        "9:-25:9:9", "10:-25:10:9", "99999:25:1:100001", "5:0:0:5", "0:0:0:0", "0:0:100001:0", "100001:25:10:-",
+        "100001:100001:0:-", "0:100001:100001:-", "0:-100001:0:-",
+        "0:25:100001:-", "0:25:10:100001", "-1:25:10:-", "0:25:-1:-", "0:25:10:-1", "00:25:10:-", "0:25:010:-",
+        "0:25:10:010", " 0:25:10:-", "0:25:10:*",
+        *(
+            f"0:{rate}:10:-"
+            for rate in (
+                "-0", "+1", "-01", "01", "007", "", "-", "--1", "100001", "1.0", "9223372036854775808",
+                "-9223372036854775809",
+            )
+        ),
     ],
 ))
 
@@ -110,18 +193,24 @@ EIGHT, NINE = (";".join([ONE] * count) for count in (8, 9))
 FIELDS.append((
     "{}", THERE,
     [
-        "add-plan|day|Day|0|true|d|-", f"add-plan|day|Day|1000000|true|d|{EIGHT}", "add-station|a1|Main St|90|180|1", "add-station|a1|Main St|-90|-180|500",
+        "add-plan|day|Day|0|true|d|-", f"add-plan|day|Day|1000000|true|d|{EIGHT}", "add-station|a1|Main St|90|180|1",
+        "add-station|a1|Main St|-90|-180|500",
         "set-system|city|pt-BR|City|24/7|a@example.org|Europe/Rome|EUR|https://example.org|86400",
     ],
     [
-        f"add-plan|Day|Day|1000001|true||{NINE}", f"add-plan|day|Day|1000001|true||{NINE}", f"add-plan|day|Day|0|true||{NINE}", f"add-plan|day|Day|0|true|d|{NINE}",
-        "add-type|city|City|cargo_bicycle|human|1|", "add-type|city|City|cargo_bicycle|electric_assist|0|", "add-type|city|City|cargo_bicycle|electric_assist|1000001|",
-        "add-station|a1|Main St|90.000001|180.000001|0", "add-station|a1|Main St|0|180.000001|0", "set-system|city|e|City||a@example.org|Europe/Rome|eur|u|86401",
-        "set-system|city|en|City||a@example.org|Europe/Rome|eur|u|86401", "set-system|city|en|City|x|a@example.org|Europe/Rome|EU|u|86401",
+        f"add-plan|Day|Day|1000001|true||{NINE}", f"add-plan|day|Day|1000001|true||{NINE}",
+        f"add-plan|day|Day|0|true||{NINE}", f"add-plan|day|Day|0|true|d|{NINE}",
+        "add-type|city|City|cargo_bicycle|human|1|", "add-type|city|City|cargo_bicycle|electric_assist|0|",
+        "add-type|city|City|cargo_bicycle|electric_assist|1000001|",
+        "add-station|a1|Main St|90.000001|180.000001|0", "add-station|a1|Main St|0|180.000001|0",
+        "set-system|city|e|City||a@example.org|Europe/Rome|eur|u|86401",
+        "set-system|city|en|City||a@example.org|Europe/Rome|eur|u|86401",
+        "set-system|city|en|City|x|a@example.org|Europe/Rome|EU|u|86401",
     ],
 ))
 
-# Texts of many characters, and whether each is an identifier, a key, a language, a currency, a printable ASCII field and a name.
+# Texts of many characters, and whether each is an identifier, a key, a language, a currency, a printable ASCII field
+# and a name.
 KINDS = [
     ("az_09-", "yes yes no no yes yes"),
     ("AZ", "no yes yes no yes yes"),
@@ -135,7 +224,8 @@ KINDS = [
 
 
 def kinds():
-    """Each text of many characters as each of the six fields: the command and its key, the answer where it is read, and whether it is."""
+    """Each text of many characters as each of the six fields: the command and its key, the answer where it is read, and
+    whether it is."""
     for text, told in KINDS:
         for at, is_read in enumerate(told.split()):
             command, key = "recover|1", "k"
@@ -157,18 +247,25 @@ def sent(rows):
 
 def test_fields(program):
     city = [(command, f"c{at}", "ok") for at, command in enumerate(CITY)]
-    rows = [(line.replace("{}", text), "k", answer if text in read else BAD_FIELD) for line, answer, read, bad in FIELDS for text in [*read, *bad]]
+    rows = [
+        (line.replace("{}", text), "k", answer if text in read else BAD_FIELD)
+        for line, answer, read, bad in FIELDS
+        for text in [*read, *bad]
+    ]
     assert len(rows) > 400, len(rows)
     program.answers(*sent([*city, *rows, *city]))
 
 
 def test_characters(program):
     city = [(command, f"c{at}", "ok") for at, command in enumerate(CITY)]
-    program.answers(*sent([*city, *((command, key, answer if is_read else BAD_FIELD) for command, key, answer, is_read in kinds())]))
+    program.answers(
+        *sent([*city, *((command, key, answer if is_read else BAD_FIELD) for command, key, answer, is_read in kinds())])
+    )
 
 
 def test_line_ends_within_fields(program):
-    """A line feed ends a request line. In a text over HTTP, as in a line, neither it nor a carriage return stands for itself."""
+    """A line feed ends a request line. In a text over HTTP, as in a line, neither it nor a carriage return stands for
+    itself."""
     city(program)
     good, texts = "add-plan\tp\t{}\t0\ttrue\tD\t-", ("a\nb", "a\rb", "\n", "a\r\n", "a\0b")
     holds(program, [
@@ -193,15 +290,21 @@ REPLIES = [
     ("rental|1|7", '{"result":"ok","rental":1,"bike":7}'),
     ("rental|100000000|999999", '{"result":"ok","rental":100000000,"bike":999999}'),
     ("fare|0|-350", '{"result":"ok","fare_cents":0,"balance_cents":-350}'),
-    ("fare|34561800000|-9223372036854775808", '{"result":"ok","fare_cents":34561800000,"balance_cents":-9223372036854775808}'),
+    (
+        "fare|34561800000|-9223372036854775808",
+        '{"result":"ok","fare_cents":34561800000,"balance_cents":-9223372036854775808}',
+    ),
     ("order|1", '{"result":"ok","order":1}'),
     ("order|100000000", '{"result":"ok","order":100000000}'),
 ]
 BAD_NUMBERS = ["-0", "-01", "007", "+1", "", "9223372036854775808", "-9223372036854775809"]
 NO_REPLIES = [
-    "", "OK", "ok|", "blocked", "open", "Open", "from", "to", "balance", "balance|1|2", *(f"balance|{it}" for it in BAD_NUMBERS), "rental|1", "rental|0|7",
-    "rental|100000001|7", "rental|1|1000000", *(f"fare|{it}|0" for it in [*BAD_NUMBERS, "-1", "34561800001", "9223372036854775807", "-9223372036854775808"]),
-    "fare|0", "fare|0|-0", "order|0", "order|100000001", "refused|11", "refused|10|bad_field", "refused|0|bad_field", "refused|11|bad_field", "refused|37|unknown_region",
+    "", "OK", "ok|", "blocked", "open", "Open", "from", "to", "balance", "balance|1|2",
+    *(f"balance|{it}" for it in BAD_NUMBERS), "rental|1", "rental|0|7",
+    "rental|100000001|7", "rental|1|1000000",
+    *(f"fare|{it}|0" for it in [*BAD_NUMBERS, "-1", "34561800001", "9223372036854775807", "-9223372036854775808"]),
+    "fare|0", "fare|0|-0", "order|0", "order|100000001", "refused|11", "refused|10|bad_field", "refused|0|bad_field",
+    "refused|11|bad_field", "refused|37|unknown_region",
     "refused|38|system_missing", "refused|39|system_missing",
 ]
 
@@ -212,7 +315,10 @@ def replied(file, replies):
         base.execute("PRAGMA synchronous = OFF")
         base.execute("BEGIN")
         for at, reply in enumerate(replies):
-            done = base.execute("UPDATE kept SET reply = ? WHERE caller = 'office' AND req_key = ?", (reply.replace("|", "\t"), f"r{at}"))
+            done = base.execute(
+                "UPDATE kept SET reply = ? WHERE caller = 'office' AND req_key = ?",
+                (reply.replace("|", "\t"), f"r{at}"),
+            )
             assert done.rowcount == 1, at
         base.execute("COMMIT")
         base.execute("PRAGMA wal_checkpoint(TRUNCATE)").fetchall()
@@ -264,8 +370,8 @@ RENTED = '{"rental":1,"rider":17,"bike":7,"plan":"basic","from":"a1","start":"20
 CARRIED_OUT = '{"order":1,"truck":3,"from":"*","to":"a1","type":"city","count":1,"delivered":1,"is_open":false}'
 CARRIED = '{"order":2,"truck":3,"from":"a1","to":"*","type":"city","count":1,"delivered":0,"is_open":true}'
 
-# What is served after the city stands, and what is told then: of bicycle 7 its state and place; the station's bicycles available and disabled, its
-# docks available and disabled; rider 17's balance and open rental, or 0; rental 1; order 2.
+# What is served after the city stands, and what is told then: of bicycle 7 its state and place; the station's bicycles
+# available and disabled, its docks available and disabled; rider 17's balance and open rental, or 0; rental 1; order 2.
 TOLD = [
     ([], DOCKED, (1, 0, 0, 1), (2500, 0), None, None),
     (stored.START, '"fit","place":"rental","rental":1}', (0, 0, 1, 1), (2500, 1), RENTED + "true}", None),
@@ -297,14 +403,17 @@ def test_what_is_told_of_a_city(program):
         rows = {
             "/bikes/7": '{"bike":7,"type":"city","state":' + bike,
             "/riders/17": f'{{"rider":17,"state":"open","balance_cents":{balance},"rental":{rental}}}',
-            "/rentals/1": rented, "/orders/1": CARRIED_OUT, "/orders/2": carried, "/bikes/8": None, "/riders/18": None, "/rentals/2": None, "/orders/3": None,
+            "/rentals/1": rented, "/orders/1": CARRIED_OUT, "/orders/2": carried, "/bikes/8": None, "/riders/18": None,
+            "/rentals/2": None, "/orders/3": None,
         }
         with Server(program, len(rows) + 2, name) as server:
             for target, body in rows.items():
                 found = server.ask(get(target))
                 assert found == shown(body), (served, target, found)
             (station,) = server.told("/gbfs/3.0/station_status.json")["data"]["stations"]
-            assert station["vehicle_types_available"] == [{"vehicle_type_id": "city", "count": counts[0]}], (served, station)
+            assert station["vehicle_types_available"] == [{"vehicle_type_id": "city", "count": counts[0]}], (
+                served, station
+            )
             assert tuple(station[number] for number in NUMBERS) == counts, (served, station)
             plans = server.told("/gbfs/3.0/system_pricing_plans.json")["data"]["plans"]
             assert [plan["currency"] for plan in plans] == ["EUR"], served

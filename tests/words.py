@@ -1,21 +1,33 @@
-"""The words of the program: what it does with a file, and what it says where the words are none of its own."""
+"""The words of the program: what it does with a file, also with one that it refuses or that isn't there, what it says
+where the words are none of its own, and what it does at a moment that its clock can't tell."""
 
 import contextlib
 import os
 import sqlite3
+from pathlib import Path
 
-from shared import READY, SOUND, STORE_FAILED, is_whole, tells_mistake
+import adoption
+import days
+import formats
+import imports
+from shared import (
+    DONE, HEADER, READY, READ_FAILED, SOUND, STORE_FAILED, Server, ask, changed, faulty, faulty_exchange, get, held,
+    is_sound, is_whole, office, quickly, removed, rows_of, tells_mistake,
+)
 
 ADD = b"1700000000\toffice\tk0\tadd-rider\t17\n"
 ADD_AGAIN = b"1700000000\toffice\tk1\tadd-rider\t17\n"
 
 # Each word with what it takes, and what is wanted of its values.
 FORMS = (
-    "init FILE", "check FILE", "raise FILE", "lines FILE", "feed FILE NAME [--at M]", "day FILE WHICH DATE ZONE", "import FILE NAME [--at M]",
-    "serve FILE --port P [--count N]",
+    "init FILE", "check FILE", "raise FILE", "lines FILE", "feed FILE NAME [--at M]", "day FILE WHICH DATE ZONE",
+    "import FILE NAME [--at M]", "serve FILE --port P [--count N]",
 )
 FILE = "an SQLite database, or :memory:"
-FEEDS = "gbfs, system_information, vehicle_types, station_information, station_status, system_pricing_plans or system_regions"
+FEEDS = (
+    "gbfs, system_information, vehicle_types, station_information, station_status, system_pricing_plans or "
+    "system_regions"
+)
 ZONE = "a POSIX time zone as CET-1CEST,M3.5.0,M10.5.0/3"
 IDENT = "1 to 36 of a-z 0-9 _ -"
 MOMENT = "a whole number from 0 to 253402300799, with no leading zeros"
@@ -40,7 +52,8 @@ def helped(program, *words):
 
 
 def is_mistaken(program, line, *words):
-    """Holds the program to this mistake, and to the usage of the word, or to the whole usage where the first word is none."""
+    """Holds the program to this mistake, and to the usage of the word, or to the whole usage where the first word is
+    none."""
     names = [it.split()[0] for it in FORMS]
     usage = helped(program, words[0], "--help") if words[0] in names else helped(program, "--help")
     said = refused(program, *words)
@@ -150,7 +163,10 @@ def test_usage_of_a_word(program):
         assert set(lines) < set(whole.splitlines()), (form, said)
         for option in "--at M", "--port P", "--count N":
             assert (f"\n  {option}  " in said) == (option in form), (form, option, said)
-        assert ("A feed's NAME is " in said) == form.startswith("feed ") and ("An import's NAME is " in said) == form.startswith("import "), (form, said)
+        assert (
+            ("A feed's NAME is " in said) == form.startswith("feed ")
+            and ("An import's NAME is " in said) == form.startswith("import ")
+        ), (form, said)
         assert ("WHICH is " in said) == form.startswith("day ") and "\nFILE is " in said, (form, said)
 
 
@@ -165,7 +181,10 @@ def test_help(program):
 
 def test_first_words_that_are_none(program):
     wanted = "init, check, raise, lines, feed, day, import or serve"
-    for words in ["start", "city.db"], ["Init", "city.db"], ["city.db"], ["-x"], ["--"], ["--", "init", "city.db"], ["help", "nothing"]:
+    for words in (
+        ["start", "city.db"], ["Init", "city.db"], ["city.db"], ["-x"], ["--"], ["--", "init", "city.db"],
+        ["help", "nothing"],
+    ):
         is_mistaken(program, f"{words[0]} is no word of bikeshare; wanted is {wanted}", *words)
     is_mistaken(program, f"(empty) is no word of bikeshare; wanted is {wanted}", "")
 
@@ -184,16 +203,27 @@ def test_values_that_are_missing(program):
 
 
 def test_values_that_are_bad(program):
-    for text, shown in ("080", "080"), ("65536", "65536"), ("+80", "+80"), ("x", "x"), ("", "(empty)"), (" 1", " 1"), ("\u0661", "\u0661"):
+    for text, shown in (
+        ("080", "080"), ("65536", "65536"), ("+80", "+80"), ("x", "x"), ("", "(empty)"), (" 1", " 1"),
+        ("\u0661", "\u0661"),
+    ):
         is_mistaken(program, f"--port is {shown}; wanted is {PORT}", "serve", "city.db", "--port", text)
-        is_mistaken(program, f"--port is {shown}; wanted is {PORT}", "serve", f"--port={text}", "--count", "0", "city.db")
+        is_mistaken(
+            program, f"--port is {shown}; wanted is {PORT}", "serve", f"--port={text}", "--count", "0", "city.db"
+        )
     for text in "0", "01", "1000000001":
-        is_mistaken(program, f"--count is {text}; wanted is {COUNT}", "serve", "city.db", "--port", "0", "--count", text)
-    is_mistaken(program, f"--at is 253402300800; wanted is {MOMENT}", "import", "city.db", "spring", "--at", "253402300800")
+        is_mistaken(
+            program, f"--count is {text}; wanted is {COUNT}", "serve", "city.db", "--port", "0", "--count", text
+        )
+    is_mistaken(
+        program, f"--at is 253402300800; wanted is {MOMENT}", "import", "city.db", "spring", "--at", "253402300800"
+    )
     is_mistaken(program, f"--at is -1; wanted is {MOMENT}", "feed", "city.db", "gbfs", "--at=-1")
     is_mistaken(program, f"NAME is nothing; wanted is {FEEDS}", "feed", "city.db", "nothing", "--at", "x")
     is_mistaken(program, f"NAME is Spring; wanted is {IDENT}", "import", "city.db", "Spring")
-    is_mistaken(program, "WHICH is riders; wanted is entries or rentals", "day", "city.db", "riders", "2024-03-31", "UTC0")
+    is_mistaken(
+        program, "WHICH is riders; wanted is entries or rentals", "day", "city.db", "riders", "2024-03-31", "UTC0"
+    )
 
 
 def test_options_without_a_value_or_twice(program):
@@ -201,9 +231,13 @@ def test_options_without_a_value_or_twice(program):
         is_mistaken(program, f"--port has no value; wanted is {PORT}", "serve", "city.db", *words)
     is_mistaken(program, f"--count has no value; wanted is {COUNT}", "serve", "city.db", "--port", "1", "--count")
     is_mistaken(program, f"--at has no value; wanted is {MOMENT}", "feed", "city.db", "gbfs", "--at", "1", "--at")
-    for words in ["--port", "1", "--port", "2"], ["--port=1", "--port=1"], ["--port", "1", "--count", "2", "--port", "3"]:
+    for words in (
+        ["--port", "1", "--port", "2"], ["--port=1", "--port=1"], ["--port", "1", "--count", "2", "--port", "3"]
+    ):
         is_mistaken(program, "--port is given twice; wanted is one value", "serve", "city.db", *words)
-    is_mistaken(program, "--at is given twice; wanted is one value", "import", "city.db", "spring", "--at", "1", "--at=2")
+    is_mistaken(
+        program, "--at is given twice; wanted is one value", "import", "city.db", "spring", "--at", "1", "--at=2"
+    )
 
 
 def test_words_too_many(program):
@@ -215,7 +249,9 @@ def test_words_too_many(program):
     is_mistaken(program, "other.db is unexpected; wanted is init FILE", "init", "city.db", "other.db", "third.db")
     is_mistaken(program, "-city.db is unexpected; wanted is init FILE", "init", "-city.db")
     is_mistaken(program, "gbfs is unexpected; wanted is feed FILE NAME [--at M]", "feed", "city.db", "gbfs", "gbfs")
-    is_mistaken(program, "-1 is unexpected; wanted is day FILE WHICH DATE ZONE", "day", "city.db", "entries", "-1", "UTC0")
+    is_mistaken(
+        program, "-1 is unexpected; wanted is day FILE WHICH DATE ZONE", "day", "city.db", "entries", "-1", "UTC0"
+    )
     is_mistaken(program, "0 is unexpected; wanted is serve FILE --port P [--count N]", "serve", "city.db", "0")
     is_mistaken(program, "more is unexpected; wanted is init FILE", "init", "city.db", "more", *["word"] * 10_000)
 
@@ -223,13 +259,121 @@ def test_words_too_many(program):
 def test_what_was_typed_is_shown_on_one_line(program):
     """Nothing of it is taken by a terminal as a command, and a long word is cut."""
     for text, shown in (
-        ("st\x1b[31mart", r"st\u{1b}[31mart"), ("a\nb\r\tc", r"a\nb\r\tc"), ("\x7f\x9b2J", r"\u{7f}\u{9b}2J"), ("\u202egbfs", r"\u{202e}gbfs"),
-        ("back\\slash", r"back\\slash"), ("it's \"it\"", "it's \"it\""), ("Zürich", "Zürich"), ("x" * 60, "x" * 60), ("y" * 100_000, "y" * 60 + ".."),
+        ("st\x1b[31mart", r"st\u{1b}[31mart"), ("a\nb\r\tc", r"a\nb\r\tc"), ("\x7f\x9b2J", r"\u{7f}\u{9b}2J"),
+        ("\u202egbfs", r"\u{202e}gbfs"),
+        ("back\\slash", r"back\\slash"), ("it's \"it\"", "it's \"it\""), ("Zürich", "Zürich"), ("x" * 60, "x" * 60),
+        ("y" * 100_000, "y" * 60 + ".."),
     ):
         is_mistaken(program, f"NAME is {shown}; wanted is {FEEDS}", "feed", "city.db", text)
-        is_mistaken(program, f"{shown} is no word of bikeshare; wanted is init, check, raise, lines, feed, day, import or serve", text)
+        is_mistaken(
+            program,
+            f"{shown} is no word of bikeshare; wanted is init, check, raise, lines, feed, day, import or serve",
+            text,
+        )
 
 
 def test_words_that_are_not_utf_8(program):
     said = refused(program, "init", b"\xff")
     assert said == f"bikeshare: a word isn't UTF-8; wanted is UTF-8\n{helped(program, '--help')}", said
+
+
+# ---- Every word over a file that is refused, that others have tables in, or that isn't there
+
+
+EVERY_WORD = [
+    ["init", "city.db"], ["check", "city.db"], ["lines", "city.db"], ["feed", "city.db", "gbfs"], imports.IMPORT,
+    ["feed", "city.db", "station_status", "--at", "0"], ["day", "city.db", "entries", "2023-11-14", "UTC0"],
+    ["day", "city.db", "rentals", "2023-02-29", "UTC0"],
+    ["serve", "city.db", "--port", "0", "--count", "1"],
+]
+
+
+@quickly
+def test_no_word_serves_a_file_that_is_refused(program):
+    """Each says of it what `check` says, reads nothing, and changes no byte."""
+    city = adoption.made(program, "city.db").read_bytes()
+    file = Path(program.folder, "city.db")
+    for change, wanted in (
+        ("UPDATE riders SET balance = balance + 1 WHERE rider = 17", "unsound riders 17"),
+        ("DELETE FROM meta", "unsound meta 1"),
+        ("UPDATE kept SET reply = 'no' WHERE req_key = 'k2'", "unsound kept office/k2"),
+        ("UPDATE meta SET app = 'other'", "foreign"),
+        ("DROP TABLE counts", "foreign"), ("UPDATE meta SET version = 9", "newer 9"),
+        ("UPDATE meta SET version = 1", "older 1"),
+        ("UPDATE meta SET version = 2", "older 2"),
+        ("UPDATE more_names SET id = 'zz' WHERE kind = 'region'", "unsound more_names region/zz/de"),
+    ):
+        file.write_bytes(city)
+        changed(file, change)
+        before = file.read_bytes()
+        for words in EVERY_WORD:
+            ended = program.run(*words, given=HEADER.encode() + b"c1,Canal,45,9.1,10\n")
+            assert ended == (5, b"", wanted.encode() + b"\n"), (change, words, ended)
+            assert file.read_bytes() == before, (change, words)
+
+
+@quickly
+def test_tables_of_others_stay(program):
+    """A table of another name stays as it is, whatever the word."""
+    file = adoption.made(program, "city.db")
+    changed(file, "CREATE TABLE notes (note TEXT); INSERT INTO notes VALUES ('x'), (NULL), (7)")
+    wanted = rows_of("SELECT * FROM notes", program.folder, "city.db")
+    for words in EVERY_WORD[:-1]:
+        program.run(
+            *words,
+            given=(
+                b"1700009000\toffice\tn1\ttop-up\t17\t5\n"
+                if words[0] == "lines"
+                else (HEADER + "c1,Canal,45,9.1,10\n").encode()
+            ),
+        )
+        assert rows_of("SELECT * FROM notes", program.folder, "city.db") == wanted, words
+    with Server(program, 1) as server:
+        assert server.ask(office("o1", "add-rider\t40")) == DONE
+    assert rows_of("SELECT * FROM notes", program.folder, "city.db") == wanted
+    is_sound(program)
+
+
+@quickly
+def test_files_that_are_not_there(program):
+    """Words that may change a city make the tables first, also where nothing is taken."""
+    for words, ended in (
+        (["init", "city.db"], (0, b"ready\n", b"")), (["lines", "city.db"], (0, b"", b"")),
+        (["import", "city.db", "spring"], (1, b"", b"bad header\n")),
+    ):
+        assert program.run(*words) == ended, words
+        assert rows_of("SELECT * FROM meta", program.folder, "city.db") == [(1, "bikeshare", 3, 0, 0, 0)], words
+        removed(program.folder, "city.db")
+
+
+def test_numbers_among_the_words(program):
+    """Numbers are spelled as in request lines."""
+    ask(program, days.CITY)
+    for text in "01", "+1", "-1", " 1", "1 ", "1.0", "1e3", "0x1", "", "١", "253402300800", "9" * 40:
+        for word, *more in (
+            ["feed", "gbfs", "--at", text], ["feed", "gbfs", f"--at={text}"], ["import", "spring", "--at", text]
+        ):
+            status, out, said = program.run(word, "city.db", *more, given=HEADER.encode())
+            assert (status, out) == (2, b"") and tells_mistake(said), (word, more, status, out, said)
+    for text in "0", "253402300799":
+        assert program.run("feed", "city.db", "gbfs", f"--at={text}")[0] == 0, text
+
+
+@quickly
+def test_a_clock_without_a_moment(program):
+    """Beyond the last moment the clock gives none. Only what asks it fails, and changes nothing."""
+    ask(program, days.CITY)
+    before = held(program.folder, "city.db")
+    late, table = {"CLOCK": formats.LAST_MOMENT + 1}, (HEADER + "c1,Canal,45,9.1,10\n").encode()
+    for words in ["feed", "city.db", "gbfs"], ["import", "city.db", "spring"]:
+        assert faulty(program, words, table, **late) == READ_FAILED, words
+    assert faulty_exchange(program, get("/riders/17"), **late) == READ_FAILED
+    assert held(program.folder, "city.db") == before
+    for word, *more in (
+        ["check"], ["init"], ["lines"], ["day", "entries", "2023-11-14", "UTC0"], ["feed", "gbfs", "--at", imports.AT]
+    ):
+        assert faulty(program, [word, "city.db", *more], **late)[0] == 0, word
+    assert faulty(program, imports.IMPORT, table, **late) == (0, b"rows 1\n", b"")
+    assert faulty(program, ["feed", "city.db", "gbfs"], CLOCK=formats.LAST_MOMENT)[1].startswith(
+        b'{"last_updated":"9999-12-31T23:59:59Z"'
+    )

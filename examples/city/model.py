@@ -1,24 +1,29 @@
-"""A small model of the operator: what docs/OPERATOR.md has it answer to the requests that the tour sends, and what it then holds.
+"""A small model of the operator: what docs/OPERATOR.md has it answer to the requests that the tour sends, and what it
+then holds. It stands alone, beside the larger one of tests/model.py, since a release has these examples and not that
+file.
 
-It knows the commands and refusals that the tour uses, and keeps everything in dictionaries and lists. Money is in hundredths of the
-currency, moments are in seconds of UTC. Sections are those of docs/OPERATOR.md.
+It knows the commands and refusals that the tour uses, and keeps everything in dictionaries and lists. Money is in
+hundredths of the currency, moments are in seconds of UTC. Sections are those of docs/OPERATOR.md.
 """
 
 import re
 
 NAMES = {
-    1: "unknown_station", 2: "unknown_dock", 3: "unknown_bike", 4: "unknown_rider", 5: "unknown_rental", 6: "unknown_type",
-    7: "unknown_plan", 8: "unknown_truck", 9: "unknown_order", 10: "already_there", 11: "bad_field", 12: "dock_empty", 13: "dock_full",
-    14: "dock_broken", 15: "bike_disabled", 16: "not_renting", 17: "not_returning", 18: "rider_blocked", 19: "balance_negative",
-    20: "rider_is_riding", 21: "not_rented", 24: "truck_too_small", 25: "wrong_place", 26: "wrong_type", 27: "order_closed",
-    28: "order_filled", 29: "bikes_on_truck", 30: "refund_too_large", 31: "rental_open", 32: "limit_reached", 33: "key_reused",
-    34: "truck_full", 35: "rental_closed", 36: "wrong_truck_or_ends", 37: "unknown_region", 38: "system_missing",
+    1: "unknown_station", 2: "unknown_dock", 3: "unknown_bike", 4: "unknown_rider", 5: "unknown_rental",
+    6: "unknown_type", 7: "unknown_plan", 8: "unknown_truck", 9: "unknown_order", 10: "already_there", 11: "bad_field",
+    12: "dock_empty", 13: "dock_full", 14: "dock_broken", 15: "bike_disabled", 16: "not_renting", 17: "not_returning",
+    18: "rider_blocked", 19: "balance_negative", 20: "rider_is_riding", 21: "not_rented", 24: "truck_too_small",
+    25: "wrong_place", 26: "wrong_type", 27: "order_closed", 28: "order_filled", 29: "bikes_on_truck",
+    30: "refund_too_large", 31: "rental_open", 32: "limit_reached", 33: "key_reused", 34: "truck_full",
+    35: "rental_closed", 36: "wrong_truck_or_ends", 37: "unknown_region", 38: "system_missing",
 }
 NUMBER = re.compile("0|[1-9][0-9]*")
 # Which fields of a command are numbers: a command with another text there is unreadable.
 NUMBERS = {
-    "add-bike": [0], "mark-bike": [0], "mark-dock": [1], "add-rider": [0], "set-rider": [0], "top-up": [0, 1], "refund": [0, 1],
-    "start": [0, 2], "end": [0, 2], "recover": [0], "add-truck": [0, 1], "open-order": [0, 4], "load": [0, 1, 2], "unload": [0, 1, 2, 4],
+    "add-bike": [0], "mark-bike": [0], "mark-dock": [1], "add-rider": [0], "set-rider": [0], "top-up": [0, 1],
+    "refund": [0, 1],
+    "start": [0, 2], "end": [0, 2], "recover": [0], "add-truck": [0, 1], "open-order": [0, 4], "load": [0, 1, 2],
+    "unload": [0, 1, 2, 4],
     "close-order": [0], "add-station": [4],
 }
 REGION, LANGUAGE = re.compile("[a-z0-9_-]{1,36}|[*]"), re.compile("[A-Za-z0-9-]{2,35}")
@@ -53,7 +58,9 @@ class City:
     def __init__(self):
         """Begins with the empty operator."""
         self.now, self.system = 0, None
-        self.plans, self.types, self.regions, self.stations, self.bikes, self.riders, self.trucks = {}, {}, {}, {}, {}, {}, {}
+        self.plans, self.types, self.regions, self.stations, self.bikes, self.riders, self.trucks = (
+            {}, {}, {}, {}, {}, {}, {}
+        )
         self.docked, self.broken = {}, set()
         self.names = {}
         self.rentals, self.orders, self.entries, self.kept = [], [], [], {}
@@ -90,7 +97,10 @@ class City:
         """The plan is added; an end of a segment may be absent."""
         refuse(10, plan in self.plans)
         parts = [] if segments == "-" else [it.split(":") for it in segments.split(";")]
-        rows = [(int(start), int(rate), int(interval), None if end == "-" else int(end)) for start, rate, interval, end in parts]
+        rows = [
+            (int(start), int(rate), int(interval), None if end == "-" else int(end))
+            for start, rate, interval, end in parts
+        ]
         self.plans[plan] = {"price": int(price), "segments": rows}
 
     def add_type(self, kind, name, form, propulsion, reach, plan):
@@ -113,7 +123,9 @@ class City:
     def add_station(self, station, name, lat, lon, docks):
         """The station is added, installed, renting and returning, with working docks, in no region."""
         refuse(10, station in self.stations)
-        self.stations[station] = {"name": name, "lat": lat, "lon": lon, "docks": docks, "flags": (True, True, True), "region": None}
+        self.stations[station] = {
+            "name": name, "lat": lat, "lon": lon, "docks": docks, "flags": (True, True, True), "region": None
+        }
         self.report(station)
 
     def set_region(self, station, region):
@@ -126,7 +138,8 @@ class City:
         """The name is added in a further language. That is no report."""
         refuse(38, self.system is None)
         unknown, those = {
-            "system": (11, self.system[:1]), "station": (1, self.stations), "type": (6, self.types), "plan": (7, self.plans),
+            "system": (11, self.system[:1]), "station": (1, self.stations), "type": (6, self.types),
+            "plan": (7, self.plans),
             "description": (7, self.plans), "region": (37, self.regions),
         }[kind]
         refuse(unknown, key not in those)
@@ -219,7 +232,10 @@ class City:
         refuse(12, (station, dock) not in self.docked)
         bike = self.docked[station, dock]
         refuse(15, not self.bikes[bike]["fit"])
-        row = {"rider": rider, "bike": bike, "plan": self.types[self.bikes[bike]["type"]], "from": station, "start": self.now}
+        row = {
+            "rider": rider, "bike": bike, "plan": self.types[self.bikes[bike]["type"]], "from": station,
+            "start": self.now,
+        }
         self.rentals.append({**row, "to": None, "end": None, "fare": 0, "refunded": 0})
         number = self.riders[rider]["rental"] = len(self.rentals)
         self.put(bike, "rental", number)
@@ -271,7 +287,10 @@ class City:
         refuse(36, begin == end)
         refuse(6, kind not in self.types)
         refuse(24, count > self.trucks[truck]["capacity"])
-        row = {"truck": truck, "from": begin, "to": end, "type": kind, "count": count, "load": 0, "delivered": 0, "open": True}
+        row = {
+            "truck": truck, "from": begin, "to": end, "type": kind, "count": count, "load": 0, "delivered": 0,
+            "open": True,
+        }
         self.orders.append(row)
         return f"order\t{len(self.orders)}"
 
@@ -329,7 +348,9 @@ class City:
             available = bike is not None and not broken and self.bikes[bike]["fit"]
             if available:
                 kinds[self.bikes[bike]["type"]] += 1
-            for at, holds in enumerate((available, bike is not None and not available, bike is None and not broken, broken)):
+            for at, holds in enumerate((
+                available, bike is not None and not available, bike is None and not broken, broken
+            )):
                 found[at] += holds
         names = ("num_vehicles_available", "num_vehicles_disabled", "num_docks_available", "num_docks_disabled")
         return dict(zip(names, found)), kinds

@@ -1,7 +1,8 @@
 """The requests that the tour makes up: the fleet, the orders that bring it to the docks, and a day of trips.
 
-Every request is told to the model of the city as it is made, so its wanted answer stands beside it, and what riders and crews do next
-follows from it. Moments are in seconds of UTC. Chance comes from Random.random alone, which gives the same numbers in every Python.
+Every request is told to the model of the city as it is made, so its wanted answer stands beside it, and what riders and
+crews do next follows from it. Moments are in seconds of UTC. Chance comes from Random.random alone, which gives the
+same numbers in every Python.
 """
 
 import heapq
@@ -60,7 +61,8 @@ def fleet(city, at, trips):
 
 
 def orders(city, at):
-    """Brings the bicycles from the depot to the docks by an order for each station and type: docks 1 and up, lowest number first."""
+    """Brings the bicycles from the depot to the docks by an order for each station and type: docks 1 and up, lowest
+    number first."""
     asked, order = Requests(city, "docks"), 0
     waiting = {kind: [bike for bike, it in city.bikes.items() if it["type"] == kind] for kind in city.types}
     for station, row in city.stations.items():
@@ -125,7 +127,8 @@ class Day:
         return [it for it, bike in bikes.items() if bike is not None and self.city.bikes[bike]["fit"]]
 
     def some_station(self, at, going):
-        """A station to go to, or to come from, by chance and size: before 16:00 rather from home to town, afterwards home again."""
+        """A station to go to, or to come from, by chance and size: before 16:00 rather from home to town, afterwards
+        home again."""
         liked = IN_TOWN if going == (at < AFTERNOON) else AT_HOME
         sizes = [(it, row["docks"] * (1.2 if it[0] in liked else 1)) for it, row in self.city.stations.items()]
         left = self.draw.random() * sum(size for _, size in sizes)
@@ -147,16 +150,24 @@ class Day:
         station = self.some_station(at, going=False)
         riding = self.likely(0.02)
         some = (self.one_of(self.riders) for _ in range(50))
-        self.begin(at, next((it for it in some if bool(self.city.riders[it]["rental"]) == riding), self.riders[0]), station)
+        self.begin(
+            at, next((it for it in some if bool(self.city.riders[it]["rental"]) == riding), self.riders[0]), station
+        )
 
     def begin(self, at, rider, station):
         """The rider takes a bicycle and is to arrive somewhere, or tops up and tries once more, or goes away."""
         good = self.docks(station, with_bike=True)
-        dock = self.one_of(good) if good and not self.likely(0.03) else 1 + int(self.draw.random() * self.city.stations[station]["docks"])
+        dock = (
+            self.one_of(good)
+            if good and not self.likely(0.03)
+            else 1 + int(self.draw.random() * self.city.stations[station]["docks"])
+        )
         answer = self.asked.ask(at, f"rider:{rider}", "start", rider, station, dock)
         if answer[0] == "rental":
             to = self.some_station(at, going=True)
-            minutes = 2 + 6 * self.kilometres(station, to) * (1 + self.draw.random()) + (90 * self.draw.random() if self.likely(0.1) else 0)
+            minutes = 2 + 6 * self.kilometres(station, to) * (1 + self.draw.random()) + (
+                90 * self.draw.random() if self.likely(0.1) else 0
+            )
             self.plan(at + int(60 * minutes), self.arrive, rider, int(answer[2]), to)
         elif answer[-1] == "balance_negative":
             self.asked.ask(at, "office", "top-up", rider, 1000)
@@ -165,7 +176,11 @@ class Day:
     def arrive(self, at, rider, bike, station):
         """The rider brings the bicycle to a free dock, or finds none and goes to the nearest station that has one."""
         free = self.docks(station, with_bike=False)
-        dock = self.one_of(free) if free and not self.likely(0.03) else 1 + int(self.draw.random() * self.city.stations[station]["docks"])
+        dock = (
+            self.one_of(free)
+            if free and not self.likely(0.03)
+            else 1 + int(self.draw.random() * self.city.stations[station]["docks"])
+        )
         answer = self.asked.ask(at, f"dock:{station}", "end", bike, station, dock)
         if answer[0] == "fare":
             self.ended(at, station, dock, bike, int(answer[1]))
@@ -176,7 +191,8 @@ class Day:
         self.plan(at + 30 + int(360 * self.kilometres(station, next_one)), self.arrive, rider, bike, next_one)
 
     def ended(self, at, station, dock, bike, fare):
-        """What may follow: the dock asks again, is or becomes broken, the bicycle has a fault, the rider gets money back."""
+        """What may follow: the dock asks again, is or becomes broken, the bicycle has a fault, the rider gets money
+        back."""
         if self.likely(0.02):
             self.plan(at + 5, self.asked.again, self.asked.lines[-1])
         if self.likely(0.006):

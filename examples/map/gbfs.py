@@ -1,17 +1,18 @@
 """A reader of the GBFS v3.0 feeds of a station-based bike share system, as a trip planner's would be.
 
-It relies on these members, which GBFS v3.0 requires: of every feed `last_updated`, `ttl`, `version` ("3.0") and `data`; of gbfs `name`
-and `url` of `feeds`; of system_information `name` and `languages`; of station_information `station_id`, `name`, `lat` and `lon`; of
-station_status `station_id`, `num_vehicles_available`, `is_installed`, `is_renting`, `is_returning` and `last_reported`; where there is
-the feed vehicle_types, its `vehicle_type_id`; where there is the feed system_regions, its `region_id` and `name`; where there is the
-feed system_pricing_plans, its `plan_id`, `name`, `currency`, `price` and `description`, and of each segment `start`, `rate` and
-`interval`.
+It relies on these members, which GBFS v3.0 requires: of every feed `last_updated`, `ttl`, `version` ("3.0") and `data`;
+of gbfs `name` and `url` of `feeds`; of system_information `name` and `languages`; of station_information `station_id`,
+`name`, `lat` and `lon`; of station_status `station_id`, `num_vehicles_available`, `is_installed`, `is_renting`,
+`is_returning` and `last_reported`; where there is the feed vehicle_types, its `vehicle_type_id`; where there is the
+feed system_regions, its `region_id` and `name`; where there is the feed system_pricing_plans, its `plan_id`, `name`,
+`currency`, `price` and `description`, and of each segment `start`, `rate` and `interval`.
 
-It takes these where they are there: `capacity` and `region_id` of station_information; `num_docks_available`, `num_vehicles_disabled`,
-`num_docks_disabled` and `vehicle_types_available` (`vehicle_type_id`, `count`) of station_status; `name` and `default_pricing_plan_id`
-of vehicle_types; `per_min_pricing` and `per_km_pricing` of system_pricing_plans, and `end` of a segment. A count that is absent is 0, and
-a station without capacity is as large as its counts together. All other feeds and members are passed over, and so is a station that
-stands in only one of station_information and station_status.
+It takes these where they are there: `capacity` and `region_id` of station_information; `num_docks_available`,
+`num_vehicles_disabled`, `num_docks_disabled` and `vehicle_types_available` (`vehicle_type_id`, `count`) of
+station_status; `name` and `default_pricing_plan_id` of vehicle_types; `per_min_pricing` and `per_km_pricing` of
+system_pricing_plans, and `end` of a segment. A count that is absent is 0, and a station without capacity is as large as
+its counts together. All other feeds and members are passed over, and so is a station that stands in only one of
+station_information and station_status.
 """
 
 import datetime
@@ -118,7 +119,10 @@ def sources_of(source):
     folder = None if re.match("[a-z]+://", source) else Path(source)
     _, data = feed_of(folder / "gbfs.json" if folder else source)
     feeds = by_key(member(data, "feeds", ROWS, "gbfs"), "name", "gbfs")
-    return {name: folder / f"{name}.json" if folder else member(row, "url", TEXT, f"gbfs, {name}") for name, row in feeds.items()}
+    return {
+        name: folder / f"{name}.json" if folder else member(row, "url", TEXT, f"gbfs, {name}")
+        for name, row in feeds.items()
+    }
 
 
 def segment(row, unit, where):
@@ -141,10 +145,12 @@ class Text(str):
 
 
 class System:
-    """What the feeds say of a system: its name and languages, the moment of station_status, types, plans and stations."""
+    """What the feeds say of a system: its name and languages, the moment of station_status, types, plans and
+    stations."""
 
     def __init__(self, source, language=None):
-        """Reads the feeds from the URL of gbfs, or from a folder. Texts are taken in this language where they are there in it."""
+        """Reads the feeds from the URL of gbfs, or from a folder. Texts are taken in this language where they are there
+        in it."""
         self.sources = sources_of(source)
         _, about = self.feed("system_information")
         if not isinstance(about.get("languages"), list):
@@ -212,8 +218,8 @@ class System:
         return {**texts, "price": price, "charges": charges, "types": types}
 
     def station(self, key, place, state):
-        """Returns a station: its members by their names, but for counts (of each type), reported (its last report) and region (the
-        name of its region, or the identifier of one that has none, or nothing)."""
+        """Returns a station: its members by their names, but for counts (of each type), reported (its last report) and
+        region (the name of its region, or the identifier of one that has none, or nothing)."""
         where = f"station {key}"
         names = ("num_docks_available", "num_vehicles_disabled", "num_docks_disabled")
         found = {name: optional(state, name, WHOLE, where, 0) for name in names}
@@ -226,7 +232,9 @@ class System:
         for name in ("is_installed", "is_renting", "is_returning"):
             found[name] = member(state, name, FLAG, where)
         types = optional(state, "vehicle_types_available", ROWS, where, [])
-        found["counts"] = {member(it, "vehicle_type_id", TEXT, where): member(it, "count", WHOLE, where) for it in types}
+        found["counts"] = {
+            member(it, "vehicle_type_id", TEXT, where): member(it, "count", WHOLE, where) for it in types
+        }
         found["reported"] = moment_of(member(state, "last_reported", MOMENT, where))
         region = optional(place, "region_id", TEXT, where, "")
         found["region"] = self.regions.get(region, region)

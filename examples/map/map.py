@@ -1,11 +1,13 @@
 #!/usr/bin/env python3
-"""Draws a map of a bike share system from its GBFS v3.0 feeds, as one self-contained HTML page, an SVG picture, or both.
+"""Draws a map of a bike share system from its GBFS v3.0 feeds, as one self-contained HTML page, an SVG picture, or
+both.
 
     map.py SOURCE [--html FILE] [--svg FILE] [--language LANGUAGE]
 
-SOURCE is the URL of the feed gbfs, whose `feeds` are followed, or a folder that holds each feed as NAME.json. A line on standard output
-tells how many stations, bicycles and docks were found. What has a name in LANGUAGE, one of the system's, is named in it. Whatever is no GBFS v3.0 ends it with one line on standard error and status 1.
-It needs nothing but Python's standard library, 3.8 or later. Which members of the feeds it relies on is said in gbfs.py.
+SOURCE is the URL of the feed gbfs, whose `feeds` are followed, or a folder that holds each feed as NAME.json. A line on
+standard output tells how many stations, bicycles and docks were found. What has a name in LANGUAGE, one of the
+system's, is named in it. Whatever is no GBFS v3.0 ends it with one line on standard error and status 1. It needs
+nothing but Python's standard library, 3.8 or later. Which members of the feeds it relies on is said in gbfs.py.
 """
 
 import argparse
@@ -80,21 +82,28 @@ def sector(x, y, radius, begin, end, color):
     points = [(x + radius * math.sin(2 * math.pi * it), y - radius * math.cos(2 * math.pi * it)) for it in (begin, end)]
     (x1, y1), (x2, y2) = [[f"{it:.2f}" for it in point] for point in points]
     large = int(end - begin > 0.5)
-    return f'<path d="M{number(x)} {number(y)}L{x1} {y1}A{number(radius)} {number(radius)} 0 {large} 1 {x2} {y2}Z" fill="{color}"/>'
+    return (
+        f'<path d="M{number(x)} {number(y)}L{x1} {y1}A{number(radius)} {number(radius)} 0 {large} 1 {x2} {y2}Z" '
+        f'fill="{color}"/>'
+    )
 
 
 def disc(x, y, radius, shares, closed):
-    """A circle filled by shares of its turn: bicycles from the top clockwise, then free docks; broken ones before the top."""
+    """A circle filled by shares of its turn: bicycles from the top clockwise, then free docks; broken ones before the
+    top."""
     bicycles, docks, broken = shares
     parts = [sector(x, y, radius, 0, bicycles, BICYCLES), sector(x, y, radius, bicycles, bicycles + docks, DOCKS)]
     parts.append(sector(x, y, radius, 1 - broken, 1, BROKEN))
     ring = f'stroke="{INK}" stroke-width="1.4" stroke-dasharray="3 2"' if closed else f'stroke="{BICYCLES}"'
-    parts.append(f'<circle cx="{number(x)}" cy="{number(y)}" r="{number(radius)}" fill="none" pointer-events="all" {ring}/>')
+    parts.append(
+        f'<circle cx="{number(x)}" cy="{number(y)}" r="{number(radius)}" fill="none" pointer-events="all" {ring}/>'
+    )
     return "".join(parts)
 
 
 def shares_of(station):
-    """Which shares of a station are bicycles, free docks and broken ones. What it does not tell, such as absent counts, is none."""
+    """Which shares of a station are bicycles, free docks and broken ones. What it does not tell, such as absent counts,
+    is none."""
     bicycles, docks, disabled, broken = (station[f"num_{name}"] for name in COUNTED)
     whole = max(1, station["capacity"], bicycles + docks)
     # A broken dock with a bicycle in it counts as both.
@@ -103,7 +112,11 @@ def shares_of(station):
 
 def drawn_station(station, types, x, y, radius):
     """A station's circle, with what it holds shown where the pointer rests on it."""
-    kinds = ", ".join(f"{types[kind]['name'] if kind in types else kind} {count}" for kind, count in station["counts"].items() if count)
+    kinds = ", ".join(
+        f"{types[kind]['name'] if kind in types else kind} {count}"
+        for kind, count in station["counts"].items()
+        if count
+    )
     told_of = [
         " ".join(station["name"].split()),
         f"{station['num_vehicles_available']} bicycles available" + (f" ({kinds})" if kinds else ""),
@@ -147,15 +160,17 @@ class Picture:
         """The ground, the regions, the circles, as many names as there is room for, and a scale."""
         box = f'x="{MARGIN}" y="{MARGIN}" width="{self.width}" height="{self.height}"'
         parts = [f'<rect {box} rx="6" fill="{GROUND}" stroke="{FAINT}" stroke-width="0.8"/>']
-        placed = sorted(((it, *self.place(it), self.radius(it["capacity"])) for it in self.system.stations), key=lambda it: -it[3])
+        placed = sorted(
+            ((it, *self.place(it), self.radius(it["capacity"])) for it in self.system.stations), key=lambda it: -it[3]
+        )
         taken = [(x - radius, y - radius, x + radius, y + radius) for _, x, y, radius in placed]
         parts += self.regions(taken)
         parts += [drawn_station(it, self.system.types, x, y, radius) for it, x, y, radius in placed]
         return "\n".join([*parts, *self.names(placed, taken), self.ruler()])
 
     def regions(self, taken):
-        """The name of each region, pale and large, as near the middle of its stations as it touches nothing that is taken, and in
-        the very middle where there is no such place."""
+        """The name of each region, pale and large, as near the middle of its stations as it touches nothing that is
+        taken, and in the very middle where there is no such place."""
         places = {}
         for station in self.system.stations:
             if station["region"]:
@@ -187,14 +202,26 @@ class Picture:
         parts = []
         for station, x, y, radius in placed[:NAMED]:
             wide, aside, low = length(station["name"], 9), 0.7 * radius + 3, 0.7 * radius
-            spots = [(radius + 3, 3, "start"), (-radius - 3, 3, "end"), (0, radius + 10, "middle"), (0, -radius - 4, "middle")]
-            spots += [(aside, low + 8, "start"), (aside, -low - 1, "start"), (-aside, low + 8, "end"), (-aside, -low - 1, "end")]
+            spots = [
+                (radius + 3, 3, "start"),
+                (-radius - 3, 3, "end"),
+                (0, radius + 10, "middle"),
+                (0, -radius - 4, "middle"),
+            ]
+            spots += [
+                (aside, low + 8, "start"),
+                (aside, -low - 1, "start"),
+                (-aside, low + 8, "end"),
+                (-aside, -low - 1, "end"),
+            ]
             for left, base, anchor in ((x + right, y + down, it) for right, down, it in spots):
                 begin = left - {"start": 0, "middle": wide / 2, "end": wide}[anchor]
                 box = (begin, base - 8, begin + wide, base + 2)
                 if self.is_free(box, taken):
                     taken.append(box)
-                    parts.append(words(left, base, station["name"], 9, SOFT, f' text-anchor="{anchor}" pointer-events="none"'))
+                    parts.append(
+                        words(left, base, station["name"], 9, SOFT, f' text-anchor="{anchor}" pointer-events="none"')
+                    )
                     break
         return parts
 
@@ -209,7 +236,8 @@ class Picture:
 
 
 def panel(system, picture):
-    """The words beside the map: name, moment, sums, key, types and prices. Returns them with the height that they take."""
+    """The words beside the map: name, moment, sums, key, types and prices. Returns them with the height that they
+    take."""
     x, y = WIDTH - PANEL - MARGIN, MARGIN + 18
     bicycles, docks, disabled, broken = (sum(it[f"num_{name}"] for it in system.stations) for name in COUNTED)
     parts = [words(x, y, system.name, 20, INK, ' font-weight="600"'), words(x, y + 19, told(system.moment), 11, SOFT)]
@@ -218,7 +246,11 @@ def panel(system, picture):
         ((1, 0, 0), False, f"{bicycles} bicycles available"),
         ((0, 1, 0), False, f"{docks} free docks"),
         ((0, 0, 1), False, f"{disabled} disabled bicycles, {broken} broken docks"),
-        ((0, 1, 0), True, f"{sum(bool(state_of(it)) for it in system.stations)} of {len(system.stations)} stations closed"),
+        (
+            (0, 1, 0),
+            True,
+            f"{sum(bool(state_of(it)) for it in system.stations)} of {len(system.stations)} stations closed",
+        ),
     ]
     for shares, closed, text in rows:
         parts += [disc(x + 7, y - 4, 7, shares, closed), words(x + 22, y, text, 11)]
@@ -236,7 +268,10 @@ def key_of_sizes(system, picture, x, y):
     parts, left, tall = [], x, 2 * picture.radius(sizes[-1])
     for size in sizes:
         radius = picture.radius(size)
-        parts.append(f'<circle cx="{number(left + radius)}" cy="{number(y + tall / 2)}" r="{number(radius)}" fill="none" stroke="{SOFT}"/>')
+        parts.append(
+            f'<circle cx="{number(left + radius)}" cy="{number(y + tall / 2)}" r="{number(radius)}" fill="none" '
+            f'stroke="{SOFT}"/>'
+        )
         parts.append(words(left + 2 * radius + 4, y + tall / 2 + 4, str(size), 11, SOFT))
         left += 2 * radius + 10 + 7 * len(str(size)) + 8
     return [*parts, words(left, y + tall / 2 + 4, "docks", 11, SOFT)], y + tall + 26
@@ -318,7 +353,10 @@ td:last-child, td:nth-child(2) { white-space: nowrap; }
 
 def html_of(system):
     """The page: the picture, the prices and the stations. It loads nothing from elsewhere."""
-    plans = [(it["name"], it["price"], "; ".join(it["charges"]), it["description"], ", ".join(it["types"])) for it in system.plans]
+    plans = [
+        (it["name"], it["price"], "; ".join(it["charges"]), it["description"], ", ".join(it["types"]))
+        for it in system.plans
+    ]
     stations, has_regions = [], any(it["region"] for it in system.stations)
     for it in sorted(system.stations, key=lambda it: it["name"]):
         counts = [it[f"num_{name}"] for name in COUNTED]
@@ -353,7 +391,9 @@ def main():
     except (gbfs.NotGbfs, OSError) as fault:
         print("map.py:", " ".join(str(fault).split()), file=sys.stderr)
         return 1
-    bicycles, docks = (sum(it[name] for it in system.stations) for name in ("num_vehicles_available", "num_docks_available"))
+    bicycles, docks = (
+        sum(station[name] for station in system.stations) for name in ("num_vehicles_available", "num_docks_available")
+    )
     print(f"{len(system.stations)} stations, {bicycles} bicycles available, {docks} free docks")
     return 0
 

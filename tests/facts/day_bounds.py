@@ -3,9 +3,10 @@
 
     tests/facts/day_bounds.py > tests/facts/day_bounds.tsv
 
-A line is a zone (POSIX's TZ), a date, the moment at which that date begins there, and the one at which the next does, in seconds
-since 1970. A midnight that comes twice counts when it comes first; one that is skipped, as the clock before the gap would have it.
-The days are those that are no 24 hours long, their neighbours, and others drawn at random from a fixed seed.
+A line is a zone (POSIX's TZ), a date, the moment at which that date begins there, and the one at which the next does,
+in seconds since 1970. A midnight that comes twice counts when it comes first; one that is skipped, as the clock before
+the gap would have it. The days are those that are no 24 hours long, their neighbours, and others drawn at random from a
+fixed seed.
 """
 
 import io
@@ -16,7 +17,8 @@ from zoneinfo import ZoneInfo
 
 EACH = 34
 
-# Rules with a change of the clock at midnight, at other hours, over the new year, of half an hour, and with none; and the years.
+# Rules with a change of the clock at midnight, at other hours, over the new year, of half an hour, and with none; and
+# the years.
 ZONES = {
     "UTC0": (2024, 2023),
     "CET-1CEST,M3.5.0,M10.5.0/3": (2024, 2025),
@@ -34,7 +36,8 @@ ZONES = {
 
 
 def zone_of(rule):
-    """The time zone of a POSIX rule, by Python: a file of the tz database with no transition and this rule behind it."""
+    """The time zone of a POSIX rule, by Python: a file of the tz database with no transition and this rule behind
+    it."""
     counts = struct.pack(">6l", 0, 0, 0, 0, 1, 4)
     block = struct.pack(">lBB", 0, 0, 0) + b"UTC\0"
     head = b"TZif2" + bytes(15)
@@ -42,8 +45,13 @@ def zone_of(rule):
 
 
 def begin_of(day, zone):
-    """The moment of the local midnight: of two the earlier, and where there is none, as the offset before the gap has it."""
-    return int((datetime(day.year, day.month, day.day, tzinfo=zone) - datetime(1970, 1, 1, tzinfo=timezone.utc)).total_seconds())
+    """The moment of the local midnight: of two the earlier, and where there is none, as the offset before the gap has
+    it."""
+    return int(
+        (
+            datetime(day.year, day.month, day.day, tzinfo=zone) - datetime(1970, 1, 1, tzinfo=timezone.utc)
+        ).total_seconds()
+    )
 
 
 def days_of(zone, years):

@@ -3,8 +3,9 @@
 
     tests/files/make.py PROGRAM NAME ..
 
-Each city is served from its request lines, closed, and kept as NAME.db.gz; NAME.json tells what that program showed of it: its feeds for
-one moment, its day tables, the answers of `lines` to some lines sent to a copy, and `check`. README.md tells what a later program owes.
+Each city is served from its request lines, closed, and kept as NAME.db.gz; NAME.json tells what that program showed of
+it: its feeds for one moment, its day tables, the answers of `lines` to some lines sent to a copy, and `check`.
+README.md tells what a later program owes.
 """
 
 import gzip
@@ -30,7 +31,8 @@ class Made:
         self.program, self.folder = program, folder
 
     def run(self, *words, given=b""):
-        """Runs the program over a file of the folder, and returns its output; anything but status 0 in silence ends it all."""
+        """Runs the program over a file of the folder, and returns its output; anything but status 0 in silence ends it
+        all."""
         ran = subprocess.run([self.program, *words], input=given, cwd=self.folder, capture_output=True, timeout=300)
         assert not ran.returncode and not ran.stderr, (words, ran.returncode, ran.stderr)
         return ran.stdout
@@ -41,11 +43,20 @@ class Made:
         for copy in ("alone.db", "again.db"):
             (self.folder / copy).write_bytes(kept)
         feeds = {it: self.run("feed", "alone.db", it, "--at", str(moment)).decode() for it in feeds}
-        tables = [[which, date, zone, self.run("day", "alone.db", which, date, zone).decode()] for date, zone in days for which in ("entries", "rentals")]
+        tables = [
+            [which, date, zone, self.run("day", "alone.db", which, date, zone).decode()]
+            for date, zone in days
+            for which in ("entries", "rentals")
+        ]
         assert self.run("check", "alone.db") == b"sound\n"
         (HERE / f"{name}.db.gz").write_bytes(gzip.compress(kept, 9, mtime=0))
         answers = self.run("lines", "again.db", given="".join(f"{it}\n" for it in again).encode()).decode().splitlines()
-        shown = {"moment": moment, "feeds": feeds, "days": tables, "lines": [list(it) for it in zip(again, answers, strict=True)]}
+        shown = {
+            "moment": moment,
+            "feeds": feeds,
+            "days": tables,
+            "lines": [list(it) for it in zip(again, answers, strict=True)],
+        }
         (HERE / f"{name}.json").write_text(json.dumps(shown, ensure_ascii=False, indent=1) + "\n", encoding="utf-8")
 
 
@@ -79,22 +90,27 @@ def main(words):
             if name == "city":
                 example(program, folder)
             elif name == "tour":
-                new = ["1700003000\trider:17\ts9\tstart\t17\ta1\t2"]
-                served(program, folder, name, (TOP / "docs/tour.txt").read_bytes(), 1700000600, [("2023-11-14", "UTC0")], new)
+                new, given = ["1700003000\trider:17\ts9\tstart\t17\ta1\t2"], (TOP / "docs/tour.txt").read_bytes()
+                served(program, folder, name, given, 1700000600, [("2023-11-14", "UTC0")], new)
             elif name == "regions":
                 new = ["1700100000\toffice\tn1\tset-region\ta1\t*", "1700100000\toffice\tn2\tset-region\tb2\twest"]
-                days = [("2023-11-15", "UTC0")]
-                served(program, folder, name, (HERE / "regions.in").read_bytes(), 1700050000, days, new, [*FEEDS, "system_regions"])
+                days, given = [("2023-11-15", "UTC0")], (HERE / "regions.in").read_bytes()
+                served(program, folder, name, given, 1700050000, days, new, [*FEEDS, "system_regions"])
             elif name == "names":
                 new = [
-                    "1700100000\toffice\tn1\tadd-name\tstation\ta1\tes\tPuerto", "1700100000\toffice\tn2\tadd-name\tstation\te5\tfr\tHalle",
-                    "1700100000\toffice\tn3\tadd-name\tstation\te5\tes\tSala", "1700100000\toffice\tn4\tadd-name\tsystem\tother\tes\tOtro",
-                    "1700100000\toffice\tn5\tmark-dock\te5\t499\tbroken", "1700100000\toffice\tn6\tmark-dock\te5\t501\tbroken",
+                    "1700100000\toffice\tn1\tadd-name\tstation\ta1\tes\tPuerto",
+                    "1700100000\toffice\tn2\tadd-name\tstation\te5\tfr\tHalle",
+                    "1700100000\toffice\tn3\tadd-name\tstation\te5\tes\tSala",
+                    "1700100000\toffice\tn4\tadd-name\tsystem\tother\tes\tOtro",
+                    "1700100000\toffice\tn5\tmark-dock\te5\t499\tbroken",
+                    "1700100000\toffice\tn6\tmark-dock\te5\t501\tbroken",
                 ]
-                days = [("2023-11-15", "UTC0")]
-                served(program, folder, name, (HERE / "names.in").read_bytes(), 1700050000, days, new, [*FEEDS, "system_regions"])
+                days, given = [("2023-11-15", "UTC0")], (HERE / "names.in").read_bytes()
+                served(program, folder, name, given, 1700050000, days, new, [*FEEDS, "system_regions"])
             else:
-                new = ["1700100000\toffice\tn1\ttop-up\t17\t100", "1700100000\toffice\tn2\tadd-station\td4\tNew\t1\t2\t200"]
+                new = [
+                    "1700100000\toffice\tn1\ttop-up\t17\t100", "1700100000\toffice\tn2\tadd-station\td4\tNew\t1\t2\t200"
+                ]
                 days = [("2023-11-14", "UTC0"), ("2023-11-15", "CET-1CEST,M3.5.0,M10.5.0/3")]
                 served(program, folder, name, (HERE / "every.in").read_bytes(), 1700050000, days, new)
 

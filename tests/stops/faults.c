@@ -1,13 +1,15 @@
-/* Faults of a program that keeps a database, made from outside: built as a library and loaded before the C library (LD_PRELOAD).
+/* Faults of a program that keeps a database, made from outside: built as a library and loaded before the C library
+ * (LD_PRELOAD).
  *
- * Counted are the calls on the files of FAULT_FILE, which is the absolute path of the database: the file itself, those with -wal,
- * -journal and -shm behind its name, and the folder that holds it. Each of the environment's names has a number, 1 for the first call.
+ * Counted are the calls on the files of FAULT_FILE, which is the absolute path of the database: the file itself, those
+ * with -wal, -journal and -shm behind its name, and the folder that holds it. Each of the environment's names has a
+ * number, 1 for the first call.
  *
  *   STOP_AT=K      the process is killed (SIGKILL) before call K
  *   PART_AT=K      the same, but half of what call K writes is written first
- *   LOSE_AT=K      the same, behind call K where that writes, and what was written and not flushed since is lost: all of it where
- *                  LOSE_SEED is 0; else draws from the seed say of each file how much is lost, and of each sector, of its length and of
- *                  its name in the folder whether they are
+ *   LOSE_AT=K      the same, behind call K where that writes, and what was written and not flushed since is lost: all
+ *                  of it where LOSE_SEED is 0; else draws from the seed say of each file how much is lost, and of each
+ *                  sector, of its length and of its name in the folder whether they are
  *   LOSE_AT_END    where it is set, the same is lost where the process ends by itself
  *   FAIL_AT=K      call K fails with the error number FAIL_WITH (5, an error of the device, where that isn't given)
  *   FAIL_FROM=K    call K and all after it fail so
@@ -16,22 +18,25 @@
  *   REFUSE_AT=K    request K for memory is refused
  *   REFUSE_FROM=K  request K for memory and all after it are
  *
- *   ONLY_CHANGES   where it is set, calls that change nothing on the disk (reads, lengths, names, locks) are not counted
+ *   ONLY_CHANGES   where it is set, calls that change nothing on the disk (reads, lengths, names, locks) are not
+ *                  counted
  *   ENDS           where it is set, writes to standard output and to sockets are counted as well
- *   ONLY_ENDS=1    instead of calls on files, reads of standard input and of sockets and writes to standard output and to sockets are
- *                  counted; with ONLY_ENDS=2 the writes alone
+ *   ONLY_ENDS=1    instead of calls on files, reads of standard input and of sockets and writes to standard output and
+ *                  to sockets are counted; with ONLY_ENDS=2 the writes alone
  *   NO_FLUSH       where it is set, a flush is answered and not done: the disk lies
  *   CLOCK=S        the clock stands still at this second
- *   TOLD_TO=FILE   at the end FILE tells, a line each, how many calls and requests for memory were counted, and where the fault came
+ *   TOLD_TO=FILE   at the end FILE tells, a line each, how many calls and requests for memory were counted, and where
+ *                  the fault came
  *
  * A script that runs many programs is disturbed in one of them:
  *
- *   FAULT_FOLDER=F calls on the folder F (an absolute path) and on all that stands below it are counted as well, and with them the calls
- *                  by which other programs copy, list, measure, name, close and remove files
+ *   FAULT_FOLDER=F calls on the folder F (an absolute path) and on all that stands below it are counted as well, and
+ *                  with them the calls by which other programs copy, list, measure, name, close and remove files
  *   FAULT_IN=NAME  no call is counted in a program of another name
  *   COUNT_IN=FILE  the count of calls stands in the first eight bytes of FILE, and goes on from one process to the next
  *
- * All calls go to the kernel by syscall(2), and memory comes from the C library by its own names, so nothing is looked up.
+ * All calls go to the kernel by syscall(2), and memory comes from the C library by its own names, so nothing is looked
+ * up.
  */
 #define _GNU_SOURCE
 #include <dirent.h>
@@ -82,11 +87,11 @@ static char hit[200];
 static void tell(void)
 {
     char text[300];
-    const char *name = getenv("TOLD_TO");
+    const char *name = getenv("TOLD_TO"), *where = hit[0] ? hit : "nothing";
     int length, file;
     if (!name)
         return;
-    length = snprintf(text, sizeof text, "calls %ld\nmemory %ld\nhit %s\n", *counter, requests, hit[0] ? hit : "nothing");
+    length = snprintf(text, sizeof text, "calls %ld\nmemory %ld\nhit %s\n", *counter, requests, where);
     file = syscall(SYS_openat, AT_FDCWD, name, O_WRONLY | O_CREAT | O_TRUNC | O_CLOEXEC, 0600);
     if (file < 0 || syscall(SYS_write, file, text, length) != length)
         _exit(99);
@@ -292,7 +297,11 @@ static int opens(int folder, const char *path, int flags, int mode)
 int open(const char *path, int flags, ...) { MODE(flags, mode) return opens(AT_FDCWD, path, flags, mode); }
 int open64(const char *path, int flags, ...) { MODE(flags, mode) return opens(AT_FDCWD, path, flags, mode); }
 int openat(int folder, const char *path, int flags, ...) { MODE(flags, mode) return opens(folder, path, flags, mode); }
-int openat64(int folder, const char *path, int flags, ...) { MODE(flags, mode) return opens(folder, path, flags, mode); }
+int openat64(int folder, const char *path, int flags, ...)
+{
+    MODE(flags, mode)
+    return opens(folder, path, flags, mode);
+}
 int creat(const char *path, mode_t mode) { return opens(AT_FDCWD, path, O_WRONLY | O_CREAT | O_TRUNC, mode); }
 
 static int fails_below(const char *name, enum kind kind, int changes) { return below[0] && fails(name, kind, changes); }
@@ -337,11 +346,16 @@ int statx(int folder, const char *restrict path, int flags, unsigned int mask, s
 
 static int measures(int folder, const char *path, struct stat *found, int flags)
 {
-    return fails_below("measuring", kind_from(folder, path), READS) ? -1 : syscall(SYS_newfstatat, folder, path, found, flags);
+    if (fails_below("measuring", kind_from(folder, path), READS))
+        return -1;
+    return syscall(SYS_newfstatat, folder, path, found, flags);
 }
 
 int stat(const char *restrict path, struct stat *restrict found) { return measures(AT_FDCWD, path, found, 0); }
-int lstat(const char *restrict path, struct stat *restrict found) { return measures(AT_FDCWD, path, found, AT_SYMLINK_NOFOLLOW); }
+int lstat(const char *restrict path, struct stat *restrict found)
+{
+    return measures(AT_FDCWD, path, found, AT_SYMLINK_NOFOLLOW);
+}
 int fstat(int file, struct stat *found) { return measures(file, "", found, AT_EMPTY_PATH); }
 
 ssize_t readlink(const char *restrict path, char *restrict link, size_t size)
@@ -354,7 +368,10 @@ int fstatat(int folder, const char *restrict path, struct stat *restrict found, 
     return measures(folder, path, found, flags);
 }
 
-int fchmod(int file, mode_t mode) { return fails("setting the mode of", kind_of(file), CHANGES) ? -1 : syscall(SYS_fchmod, file, mode); }
+int fchmod(int file, mode_t mode)
+{
+    return fails("setting the mode of", kind_of(file), CHANGES) ? -1 : syscall(SYS_fchmod, file, mode);
+}
 
 int fchown(int file, uid_t owner, gid_t group)
 {
@@ -386,7 +403,9 @@ int mkdir(const char *path, mode_t mode)
 int renameat2(int from_folder, const char *from, int to_folder, const char *to, unsigned int flags)
 {
     enum kind kind = kind_from(from_folder, from) ? kind_from(from_folder, from) : kind_from(to_folder, to);
-    return fails_below("renaming", kind, CHANGES) ? -1 : syscall(SYS_renameat2, from_folder, from, to_folder, to, flags);
+    if (fails_below("renaming", kind, CHANGES))
+        return -1;
+    return syscall(SYS_renameat2, from_folder, from, to_folder, to, flags);
 }
 
 int renameat(int from_folder, const char *from, int to_folder, const char *to)
@@ -401,7 +420,8 @@ int __open_2(const char *path, int flags) { return opens(AT_FDCWD, path, flags, 
 FILE *fopen(const char *restrict path, const char *restrict how)
 {
     int more = strchr(how, '+') != NULL, file;
-    int flags = how[0] == 'r' ? (more ? O_RDWR : O_RDONLY) : (more ? O_RDWR : O_WRONLY) | O_CREAT | (how[0] == 'a' ? O_APPEND : O_TRUNC);
+    int made = (more ? O_RDWR : O_WRONLY) | O_CREAT | (how[0] == 'a' ? O_APPEND : O_TRUNC);
+    int flags = how[0] != 'r' ? made : more ? O_RDWR : O_RDONLY;
     file = opens(AT_FDCWD, path, flags | (strchr(how, 'e') ? O_CLOEXEC : 0), 0666);
     return file < 0 ? NULL : fdopen(file, how);
 }
@@ -570,7 +590,10 @@ ssize_t sendto(int file, const void *bytes, size_t count, int flags, const struc
     return put;
 }
 
-ssize_t send(int file, const void *bytes, size_t count, int flags) { return sendto(file, bytes, count, flags, NULL, 0); }
+ssize_t send(int file, const void *bytes, size_t count, int flags)
+{
+    return sendto(file, bytes, count, flags, NULL, 0);
+}
 
 static int cuts(int file, off_t length)
 {

@@ -1,11 +1,13 @@
-"""One exchange takes ten seconds at most, from its acceptance to its answer's last byte, whatever the client does: who comes next waits
-no longer for each client before it."""
+"""One exchange takes ten seconds at most, from its acceptance to its answer's last byte, whatever the client does: who
+comes next waits no longer for each client before it."""
 
 import socket
 import threading
 import time
 
-from shared import DONE, START, Server, ask, at_once, city, error, get, get_feed, is_sound, office, post, put, rest, rows_of, taken
+from shared import (
+    DONE, START, Server, ask, at_once, city, error, get, get_feed, is_sound, office, post, put, rest, rows_of, taken,
+)
 
 PATIENCE = 10
 # What a busy machine may take for the rest, in seconds.
@@ -26,8 +28,8 @@ def drip(client, pieces, gap, over):
 
 
 def waits(program, file, *holders):
-    """Lets clients come one after the other, each of which holds the server as long as it can, and returns for how many seconds one
-    that asks at once waits behind them."""
+    """Lets clients come one after the other, each of which holds the server as long as it can, and returns for how many
+    seconds one that asks at once waits behind them."""
     over, threads, held = threading.Event(), [], []
     with Server(program, file=file) as server:
         try:
@@ -41,7 +43,9 @@ def waits(program, file, *holders):
                 threads.append(threading.Thread(target=drip, args=(client, pieces, gap, over)))
                 threads[-1].start()
                 time.sleep(0.2)
-            with socket.create_connection(("127.0.0.1", server.port), timeout=PATIENCE * (len(holders) + 1) + SLACK) as client:
+            with socket.create_connection(
+                ("127.0.0.1", server.port), timeout=PATIENCE * (len(holders) + 1) + SLACK
+            ) as client:
                 client.sendall(get("/nowhere"))
                 found = rest(client)
             assert found == error(404), found
@@ -94,7 +98,9 @@ def test_slow_clients(program):
     for name, (_, *holders) in cases.items():
         took = found[name]
         assert not isinstance(took, AssertionError), f"{name}: {took}"
-        assert PATIENCE * len(holders) - 1 < took < PATIENCE * len(holders) + SLACK, f"{name}: the next one waited {took:.1f} seconds"
+        assert PATIENCE * len(holders) - 1 < took < PATIENCE * len(holders) + SLACK, (
+            f"{name}: the next one waited {took:.1f} seconds"
+        )
 
 
 def riders(program):

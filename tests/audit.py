@@ -1,0 +1,386 @@
+"""What `check` has to say of a database file, worked out by Python alone from docs/FORMATS.md, sections 10 and 11. It
+holds no test.
+"""
+
+import contextlib
+import sqlite3
+
+import formats
+from shared import FOREIGN, SOUND
+
+NEWEST = 3
+TABLES = {
+    "meta": 1, "system": 1, "plans": 1, "segments": 2, "types": 1, "regions": 1, "stations_3": 1, "docks": 2,
+    "bikes": 1, "trucks": 1, "riders": 1, "rentals": 1, "orders": 1, "entries": 1, "kept": 2, "counts": 2,
+    "more_names": 3,
+}
+TEXTS = {
+    "app", "system_id", "language", "name", "hours", "contact", "zone", "currency", "base_url", "plan_id",
+    "description", "type_id", "form", "propulsion", "region_id", "station_id", "from_station", "to_station", "from_end",
+    "to_end", "caller", "req_key", "command", "reply", "id",
+}
+MAY_BE_NULL = {
+    "segments": {"finish"}, "stations_3": {"region_id"}, "bikes": {"station_id", "dock", "rental", "truck", "ord"},
+    "rentals": {"to_station", "finish", "fare"},
+}
+
+
+def is_of_text(table, column):
+    """Whether the column holds texts. An entry's kind is a number, and a name's a word."""
+    return column in TEXTS or (table, column) == ("more_names", "kind")
+
+
+def is_within(least, most):
+    return lambda it: isinstance(it, int) and least <= it <= most
+
+
+def is_text(good):
+    return lambda it: isinstance(it, bytes) and good(it)
+
+
+ANY = is_within(-(2**63), 2**63 - 1)
+FLAG, MOMENT = is_within(0, 1), is_within(0, formats.LAST_MOMENT)
+NUMBERED, SERIAL, DOCK = is_within(*formats.NUMBERED), is_within(*formats.SERIAL), is_within(1, formats.MOST_DOCKS)
+IDENT, NAME, ASCII, END = (
+    is_text(it) for it in (formats.is_ident, formats.is_name_value, formats.is_ascii_value, formats.is_end)
+)
+FARE = is_within(0, formats.GREATEST_FARE)
+
+
+def word(*words):
+    return lambda it: it in [word.encode() for word in words]
+
+
+BOUNDS = {
+    "meta": {
+        "one": is_within(1, 1), "app": word("bikeshare"), "version": is_within(NEWEST, NEWEST), "now": MOMENT,
+        "cash": ANY, "revenue": ANY,
+    },
+    "system": {
+        "one": is_within(1, 1), "system_id": IDENT, "language": is_text(formats.is_language), "name": NAME,
+        "hours": ASCII, "contact": ASCII, "zone": ASCII, "currency": is_text(formats.is_currency), "base_url": ASCII,
+        "ttl": is_within(0, 86_400),
+    },
+    "plans": {"plan_id": IDENT, "name": NAME, "price": is_within(0, 1_000_000), "taxable": FLAG, "description": NAME},
+    "segments": {
+        "plan_id": IDENT, "seq": is_within(1, 8), "start": is_within(0, 100_000), "rate": is_within(-100_000, 100_000),
+        "every": is_within(0, 100_000), "finish": is_within(0, 100_000),
+    },
+    "types": {
+        "type_id": IDENT, "name": NAME, "form": word("bicycle", "cargo_bicycle"),
+        "propulsion": word("human", "electric_assist"), "range_m": is_within(0, 1_000_000), "plan_id": IDENT,
+    },
+    "regions": {"region_id": IDENT, "name": NAME},
+    "stations_3": {
+        "station_id": IDENT, "name": NAME, "lat": is_within(-90_000_000, 90_000_000),
+        "lon": is_within(-180_000_000, 180_000_000), "docks": DOCK, "installed": FLAG, "renting": FLAG,
+        "returning": FLAG, "reported": MOMENT, "free": ANY, "broken": ANY, "region_id": IDENT,
+    },
+    "docks": {"station_id": IDENT, "dock": DOCK, "broken": FLAG},
+    "bikes": {
+        "bike": NUMBERED, "type_id": IDENT, "state": is_within(0, 2), "station_id": IDENT, "dock": DOCK,
+        "rental": SERIAL, "truck": NUMBERED, "ord": SERIAL,
+    },
+    "trucks": {"truck": NUMBERED, "capacity": is_within(1, 60)},
+    "riders": {"rider": NUMBERED, "blocked": FLAG, "balance": ANY},
+    "rentals": {
+        "rental": SERIAL, "rider": NUMBERED, "bike": NUMBERED, "plan_id": IDENT, "from_station": IDENT, "start": MOMENT,
+        "to_station": IDENT, "finish": MOMENT, "fare": FARE, "refunded": ANY,
+    },
+    "orders": {
+        "ord": SERIAL, "truck": NUMBERED, "from_end": END, "to_end": END, "type_id": IDENT,
+        "quantity": is_within(1, 60), "delivered": is_within(0, 60), "is_open": FLAG,
+    },
+    "entries": {
+        "entry": SERIAL, "kind": is_within(1, 3), "rider": NUMBERED, "rental": is_within(0, 100_000_000), "amount": ANY,
+        "at": MOMENT,
+    },
+    "kept": {
+        "caller": is_text(formats.is_caller),
+        "req_key": is_text(formats.is_key),
+        "command": is_text(lambda it: formats.command_text(it) == it),
+        "reply": is_text(lambda it: formats.is_reply(it) and not it.startswith(b"refused")),
+    },
+    "counts": {"station_id": IDENT, "type_id": IDENT, "available": ANY, "disabled": ANY},
+    "more_names": {"kind": word(*formats.NAMED), "id": IDENT, "language": is_text(formats.is_language), "name": NAME},
+}
+
+
+def agree(table, row):
+    """Conditions within one row, which count as bounds of its fields."""
+    if table == "segments":
+        return row["finish"] is None or row["finish"] > row["start"]
+    if table == "types":
+        return (row["propulsion"] == b"human") == (row["range_m"] == 0)
+    if table == "entries":
+        least, most = (0, formats.GREATEST_FARE) if row["kind"] == 2 else (1, 1_000_000)
+        return least <= row["amount"] <= most and (row["rental"] == 0) == (row["kind"] == 1)
+    if table == "rentals":
+        return (row["finish"] is None) == (row["fare"] is None) and (
+            row["finish"] is not None or row["to_station"] is None
+        )
+    return True
+
+
+def place_of(row):
+    """The first whole place of a bicycle whose row keeps its bounds, and whether its row names no more than that."""
+    named = [it for it in ("station_id", "dock", "rental", "truck", "ord") if row[it] is not None]
+    dock = ("dock", row["station_id"], row["dock"]) if {"station_id", "dock"} <= set(named) else None
+    rental = ("rental", row["rental"]) if "rental" in named else None
+    truck = ("truck", row["truck"], row["ord"]) if {"truck", "ord"} <= set(named) else None
+    first = dock or rental or truck or ("depot",)
+    return first, len(named) == {"dock": 2, "rental": 1, "truck": 2, "depot": 0}[first[0]]
+
+
+def key_of(table, row):
+    """What a row has first: its key's one value, or all of them."""
+    values = list(row.values())
+    return tuple(values[: TABLES[table]]) if TABLES[table] > 1 else values[0]
+
+
+class Audit:
+    """The first bad row of the tables, which are lists of rows by column."""
+
+    def __init__(self, tables):
+        self.rows = {name: sorted(rows, key=lambda it, keys=keys: [rank(value) for value in list(it.values())[:keys]])
+                     for (name, keys), rows in zip(TABLES.items(), (tables[name] for name in TABLES))}
+        self.good = {name: [row for row in rows if self.keeps_bounds(name, row)] for name, rows in self.rows.items()}
+        self.good["bikes"] = [{**it, "place": place_of(it)} for it in self.good["bikes"]]
+        self.by = {name: {key_of(name, row): row for row in rows} for name, rows in self.good.items()}
+
+    def keeps_bounds(self, table, row):
+        optional = MAY_BE_NULL.get(table, ())
+        return (
+            all((row[it] is None and it in optional) or good(row[it]) for it, good in BOUNDS[table].items())
+            and agree(table, row)
+        )
+
+    def sum(self, kind, **of):
+        return sum(
+            entry["amount"]
+            for entry in self.good["entries"]
+            if entry["kind"] == kind and all(entry[name] == value for name, value in of.items())
+        )
+
+    def holds(self, station):
+        """Each dock of a station: whether it is broken, and the bicycle in it."""
+        bikes = {it["place"][0][1:]: it for it in reversed(self.good["bikes"]) if it["place"][0][0] == "dock"}
+        number = station["docks"]
+        for dock in range(1, number + 1):
+            broken = self.by["docks"].get((station["station_id"], dock), {"broken": 0})["broken"]
+            yield broken, bikes.get((station["station_id"], dock))
+
+    def first_bad(self):
+        """The table and key of the first bad row, or none."""
+        for table, keys in TABLES.items():
+            listed = [(list(it.values())[:keys], it) for it in self.rows[table]]
+            missing = [(key, None) for key in self.owed(table) if key not in [there for there, _ in listed]]
+            for at, (key, row) in enumerate(sorted(listed + missing, key=lambda it: [rank(value) for value in it[0]])):
+                if row is None or not self.is_good(table, row, at):
+                    return table, key
+        return None
+
+    def owed(self, table):
+        if table == "meta":
+            return [[1]]
+        if table != "counts":
+            return []
+        return [
+            [station, kind]
+            for station in self.by["stations_3"]
+            for kind in self.by["types"]
+            if self.counted(station, kind) != (0, 0)
+        ]
+
+    def counted(self, station, kind):
+        held = [
+            (broken, it) for broken, it in self.holds(self.by["stations_3"][station]) if it and it["type_id"] == kind
+        ]
+        fit = [it for broken, it in held if not broken and it["state"] == 0]
+        return len(fit), len(held) - len(fit)
+
+    def is_good(self, table, row, at):
+        if table == "bikes":
+            found = self.by["bikes"].get(row["bike"])
+            return found is not None and found["place"][1] and self.bikes(found, at)
+        if not self.keeps_bounds(table, row):
+            return False
+        return getattr(self, table)(row, at)
+
+    def now(self):
+        return self.by["meta"][1]["now"]
+
+    def on_truck(self, truck, order=None):
+        places = [it["place"][0] for it in self.good["bikes"]]
+        return sum(it[0] == "truck" and it[1] == truck and order in (None, it[2]) for it in places)
+
+    def meta(self, row, at):
+        return row["cash"] == self.sum(1) and row["revenue"] == self.sum(2) - self.sum(3)
+
+    def system(self, row, at):
+        return True
+
+    def plans(self, row, at):
+        return at < 256
+
+    def segments(self, row, at):
+        before = sum(it["plan_id"] == row["plan_id"] and it["seq"] < row["seq"] for it in self.rows["segments"])
+        return row["plan_id"] in self.by["plans"] and row["seq"] == before + 1
+
+    def types(self, row, at):
+        return at < 32 and row["plan_id"] in self.by["plans"]
+
+    def regions(self, row, at):
+        return at < 256
+
+    def stations_3(self, row, at):
+        held = list(self.holds(row))
+        free = sum(not broken and it is None for broken, it in held)
+        counted = row["free"] == free and row["broken"] == sum(broken for broken, _ in held)
+        return row["reported"] <= self.now() and counted and (
+            row["region_id"] is None or row["region_id"] in self.by["regions"]
+        )
+
+    def has_dock(self, station, dock):
+        return station in self.by["stations_3"] and dock <= self.by["stations_3"][station]["docks"]
+
+    def docks(self, row, at):
+        return self.has_dock(row["station_id"], row["dock"])
+
+    def bikes(self, row, at):
+        place = row["place"][0]
+        good = True
+        if place[0] == "dock":
+            good = self.has_dock(*place[1:])
+        elif place[0] == "rental":
+            rental = self.by["rentals"].get(place[1])
+            good = rental is not None and rental["finish"] is None and rental["bike"] == row["bike"]
+        elif place[0] == "truck":
+            order = self.by["orders"].get(place[2])
+            carried = (
+                order is not None
+                and order["is_open"] == 1
+                and order["truck"] == place[1]
+                and order["type_id"] == row["type_id"]
+            )
+            good = carried and place[1] in self.by["trucks"]
+        alone = (
+            place[0] != "dock"
+            or not any(it["place"][0] == place and it["bike"] < row["bike"] for it in self.good["bikes"])
+        )
+        return good and alone and row["type_id"] in self.by["types"] and (row["state"] != 2 or place[0] == "depot")
+
+    def trucks(self, row, at):
+        return self.on_truck(row["truck"]) <= row["capacity"]
+
+    def riders(self, row, at):
+        riding = sum(it["rider"] == row["rider"] and it["finish"] is None for it in self.good["rentals"])
+        balance = self.sum(1, rider=row["rider"]) - self.sum(2, rider=row["rider"]) + self.sum(3, rider=row["rider"])
+        return row["balance"] == balance and riding <= 1
+
+    def rentals(self, row, at):
+        number = row["rental"]
+        named = (
+            row["rider"] in self.by["riders"]
+            and row["plan_id"] in self.by["plans"]
+            and row["from_station"] in self.by["stations_3"]
+        )
+        if number != at + 1 or not named or row["bike"] not in self.by["bikes"] or row["start"] > self.now():
+            return False
+        if row["refunded"] != self.sum(3, rental=number):
+            return False
+        if row["finish"] is None:
+            return row["refunded"] == 0 and self.by["bikes"][row["bike"]]["place"][0] == ("rental", number)
+        station = row["to_station"] is None or row["to_station"] in self.by["stations_3"]
+        has_fare = any(it["kind"] == 2 and it["rental"] == number for it in self.good["entries"])
+        return station and has_fare and row["start"] <= row["finish"] <= self.now() and row["refunded"] <= row["fare"]
+
+    def orders(self, row, at):
+        truck = self.by["trucks"].get(row["truck"])
+        ends = (
+            all(it == b"*" or it in self.by["stations_3"] for it in (row["from_end"], row["to_end"]))
+            and row["from_end"] != row["to_end"]
+        )
+        if (
+            row["ord"] != at + 1
+            or truck is None
+            or not ends
+            or row["type_id"] not in self.by["types"]
+            or row["quantity"] > truck["capacity"]
+        ):
+            return False
+        held = self.on_truck(row["truck"], row["ord"])
+        return row["delivered"] + held <= row["quantity"] and (row["is_open"] == 1 or held == 0)
+
+    def entries(self, row, at):
+        if row["entry"] != at + 1 or row["rider"] not in self.by["riders"] or row["at"] > self.now():
+            return False
+        if row["kind"] == 1:
+            return True
+        rental = self.by["rentals"].get(row["rental"])
+        if rental is None or rental["finish"] is None or rental["rider"] != row["rider"]:
+            return False
+        earlier = any(
+            it["kind"] == 2 and it["rental"] == row["rental"] and it["entry"] < row["entry"]
+            for it in self.good["entries"]
+        )
+        return row["kind"] == 3 or (not earlier and row["amount"] == rental["fare"])
+
+    def kept(self, row, at):
+        return True
+
+    def counts(self, row, at):
+        known = row["station_id"] in self.by["stations_3"] and row["type_id"] in self.by["types"]
+        return known and (row["available"], row["disabled"]) == self.counted(row["station_id"], row["type_id"])
+
+    def more_names(self, row, at):
+        system = self.by["system"].get(1)
+        if system is None:
+            return False
+        there = {
+            b"system": [system["system_id"]], b"station": self.by["stations_3"], b"type": self.by["types"],
+            b"plan": self.by["plans"],
+            b"description": self.by["plans"], b"region": self.by["regions"],
+        }[row["kind"]]
+        before = sum(
+            (it["kind"], it["id"]) == (row["kind"], row["id"]) and it["language"] < row["language"]
+            for it in self.good["more_names"]
+        )
+        return row["id"] in there and row["language"] != system["language"] and before < 3
+
+
+def rank(value):
+    """A value by the order of keys: nothing, numbers, texts, blobs."""
+    return (0, 0) if value is None else (1, value) if isinstance(value, (int, float)) else (2, value)
+
+
+def read(file, names=None):
+    """All rows of the product's tables by column, texts as bytes; a blob is told from a text by its class. A table may
+    have another name in the file."""
+    with contextlib.closing(sqlite3.connect(f"file:{file}?immutable=1", uri=True)) as base:
+        base.text_factory = bytes
+        told = {}
+        for name, named in (names or dict(zip(TABLES, TABLES))).items():
+            rows = base.execute(f"SELECT * FROM {named}")
+            columns = [it[0] for it in rows.description]
+            told[name] = [dict(zip(columns, row)) for row in rows]
+        return told
+
+
+def shown(value):
+    if isinstance(value, int):
+        return str(value).encode()
+    return value if isinstance(value, bytes) and formats.is_utf8(value) else b"?"
+
+
+def verdict(tables):
+    """What `check` has to end with."""
+    row = next((it for it in tables["meta"] if it["one"] == 1), None)
+    if row is not None and (row["app"] != b"bikeshare" or row["version"] < 1):
+        return FOREIGN
+    if row is not None and row["version"] != NEWEST:
+        return 5, b"", b"%s %d\n" % (b"newer" if row["version"] > NEWEST else b"older", row["version"])
+    bad = Audit(tables).first_bad()
+    if bad is None:
+        return SOUND
+    return 5, b"", b"unsound %s %s\n" % (bad[0].encode(), b"/".join(shown(it) for it in bad[1]))

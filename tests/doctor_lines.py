@@ -1,0 +1,367 @@
+"""deploy/bikeshare-doctor on request lines and on tables of stations: what it calls bad the program refuses, and what
+it lets through the program takes. Its fields are those of the documents.
+"""
+
+import functools
+import os
+import random
+import re
+import time
+
+import formats
+from doctor import BAD_FIELD, FOR_GOOD, NOW, SYSTEM, doctor, number_in, place_of, system_line
+from shared import CITY, HEADER, TOP, requests_of
+
+
+# ---- the fields
+
+
+@functools.cache
+def samples():
+    """Texts at the bounds of all kinds of fields, and beside them."""
+    fields = [field for command in CITY for field in command.split("\t")]
+    numbers = [0, 1, 8, 9, 10, 59, 60, 61, 200, 201, 499, 500, 501, 86_400, 86_401, 100_000, 100_001, 999_999]
+    numbers += [1_000_000, 1_000_001, 100_000_000, 100_000_001, formats.LAST_MOMENT, formats.LAST_MOMENT + 1, 2**63]
+    numbers += [10**20, 10**40]
+    texts = ["", " ", "-", "*", "-0", "-1", "+1", "01", "00", "1.0", "1,5", "１", "1 ", " 1", "0x1", "1e3", "True"]
+    texts += "a A a1 true false broken working disabled fit open blocked from to bicycle cargo_bicycle human".split()
+    texts += "electric_assist system station type plan description region EUR eur EURO en de-CH ~".split()
+    texts += ["x" * length for length in (35, 36, 37, 64, 65, 120, 121, 200, 201)] + ["é" * 60, "é" * 61]
+    texts += ["\0", "a\0b", "\x1f", "\x7f", "\r", "a\n", "\\", "\\\\", "\\t", "\\n", "\\r", "\\x"]
+    texts += ["\\\\" * 120, "\\\\" * 121]
+    texts += "90 -90 90.000001 180 -180 180.000001 007 0.000001 1.0000000 .5 1. 1000 -0.000001 --1 45.1234567".split()
+    texts += "30:25:5:- 0:-60:0:30;20:50:10:60 1:1:1:1 1:1:1:0 2:1:1:1 ; 1:1:1 0:-0:0:- 0:-100000:0:-".split()
+    texts += "0:100001:0:- 100001:0:0:- 0:0:100000:100000".split()
+    texts += ["0:0:0:-;" * 7 + "0:0:0:-", "0:0:0:-;" * 8 + "0:0:0:-"]
+    return [*dict.fromkeys([*map(str, numbers), *texts, *fields])]
+
+
+def test_fields_have_the_bounds_of_the_documents(program):
+    """Of each field, and of moments, callers and keys, the same texts are good as in tests/formats.py."""
+    assert {it.encode() for it in doctor.COMMANDS} == formats.COMMANDS.keys()
+    for word, predicates in formats.COMMANDS.items():
+        fields = doctor.fields_of(word.decode())
+        assert len(fields) == len(predicates), word
+        for (name, kind), is_good in zip(fields, predicates):
+            for text in samples():
+                assert (kind.fault(text) is None) == bool(is_good(text.encode())), (word, name, text, kind.fault(text))
+    callers = "office office: rider:1 rider:0 rider:1000000 crew:999999 crew: dock:a1 dock:A import:x rider x:1".split()
+    is_moment = formats.within(0, formats.LAST_MOMENT)
+    for text in [*samples(), *callers, *(f"dock:{it}" for it in samples())]:
+        assert (doctor.caller_fault(text) is None) == bool(formats.is_caller(text.encode())), text
+        assert (doctor.KINDS["key"].fault(text) is None) == bool(formats.is_key(text.encode())), text
+        assert (doctor.KINDS["moment"].fault(text) is None) == bool(is_moment(text.encode())), text
+
+
+def test_fields_have_the_names_of_the_documents(program):
+    """docs/OPERATOR.md names the fields of each command in this order; it writes words in place of a state."""
+    rows = dict(re.findall(r"^\| \*\*([a-z-]+)\*\* \| (.*?) \| ", (TOP / "docs/OPERATOR.md").read_text(), re.M))
+    assert rows.keys() == doctor.COMMANDS.keys(), rows.keys() ^ doctor.COMMANDS.keys()
+    for word, row in rows.items():
+        wanted = ["side" if "/" in it and word == "unload" else "state" if "/" in it else it for it in row.split()]
+        assert [name for name, _ in doctor.fields_of(word)] == wanted, (word, wanted)
+
+
+# ---- request lines
+
+ASKED = b"1700000000\toffice\tk\t"
+# A line that is answered bad_field, and where that is found.
+BAD_LINES = (
+    (b"", ""),
+    (b"   ", ""),
+    (b"# a comment", ""),
+    (b"1700000000 office k add-rider 17", ""),
+    (b"1700000000\toffice\tk", ""),
+    (ASKED + b"add-rider\t17\r", ""),
+    (b"\xef\xbb\xbf1700000000\toffice\tk\tadd-rider\t17", ", moment"),
+    (ASKED + b"add-region\tnorth\tNor\xff", ""),
+    (ASKED + b"add-region\tnorth\t" + b"\\n" * 2100, ""),
+    (b"17000000000000\toffice\tk\tadd-rider\t17", ", moment"),
+    (b"01\toffice\tk\tadd-rider\t17", ", moment"),
+    (b"1700000000\tstaff\tk\tadd-rider\t17", ", caller"),
+    (b"1700000000\trider:0\tk\tadd-rider\t17", ", caller"),
+    (b"1700000000\toffice\ta b\tadd-rider\t17", ", key"),
+    (ASKED + b"add-staton\ta1\tHarbour\t41.8\t12.4\t2", ", command"),
+    (ASKED + b"add-station\ta1\tHarbour\t41.8\t12.4", ", command"),
+    (ASKED + b"add-station\tA1\tHarbour\t41.8\t12.4\t2", ", station"),
+    (ASKED + b"add-station\ta1\t\t41.8\t12.4\t2", ", name"),
+    (ASKED + b"add-station\ta1\tHar\\bour\t41.8\t12.4\t2", ", name"),
+    (ASKED + b"add-station\ta1\tHarbour\t91\t12.4\t2", ", lat"),
+    (ASKED + b"add-station\ta1\tHarbour\t41,8\t12.4\t2", ", lat"),
+    (ASKED + b"add-station\ta1\tHarbour\t41.8901691\t12.4\t2", ", lat"),
+    (ASKED + b"add-station\ta1\tHarbour\t41.8\t181\t2", ", lon"),
+    (ASKED + b"add-station\ta1\tHarbour\t41.8\t12.4\t501", ", docks"),
+    (ASKED + b"add-type\tcity\tCity\tbicycle\thuman\t5\tbasic", ", range"),
+    (ASKED + b"add-type\tcity\tCity\tbicycle\telectric_assist\t0\tbasic", ", range"),
+    (ASKED + b"add-type\tcity\tCity\ttandem\thuman\t0\tbasic", ", form"),
+    (ASKED + b"add-plan\tday\tDay\t2.50\tfalse\tBy day\t-", ", price"),
+    (ASKED + b"add-plan\tday\tDay\t250\tno\tBy day\t-", ", taxable"),
+    (ASKED + b"add-plan\tday\tDay\t250\tfalse\tBy day\t30:25:5:30", ", segments"),
+    (ASKED + b"set-system\tmetro\ten\tMetro\t24/7\tx@example.org\tEtc/UTC\tEuro\thttps://x.example\t30", ", currency"),
+    (ASKED + b"set-system\tmetro\ten\tMetro\t24/7\tx@example.org\tEtc/UTC\tEUR\thttps://x.example\t86401", ", ttl"),
+    (ASKED + b"set-system\tm\ten\tM\tt\xc3\xa4glich\tx@x.example\tEtc/UTC\tEUR\thttps://x.de\t1", ", opening_hours"),
+    (ASKED + b"add-name\tcolour\ta1\tde\tHafen", ", kind"),
+    (ASKED + b"add-name\tsystem\tother\tde\tRad", ", id"),
+    (ASKED + b"unload\t3\t1\t7\tto\t501", ", n"),
+    (ASKED + b"open-order\t3\t*\ta1\tcity\t61", ", count"),
+)
+
+
+def bad_lines(data):
+    """The numbers of the lines that are found to be bad_field."""
+    return {number_in(it.where) for it in doctor.findings_of_lines(data, NOW) if it.word == BAD_FIELD}
+
+
+def test_lines_that_are_answered_bad_field(program):
+    """Each is found, with its field, and the program answers it so."""
+    data = b"".join(line + b"\n" for line in [SYSTEM, *(line for line, _ in BAD_LINES)])
+    found = {place_of(it) for it in doctor.findings_of_lines(data, NOW)}
+    for number, (line, field) in enumerate(BAD_LINES, 2):
+        assert (f"line {number}{field}", BAD_FIELD) in found, (line, field, found)
+    status, answers, _ = program.run(given=data)
+    assert (status, set(answers.splitlines()[1:])) == (0, {b"refused\t11\tbad_field"}), answers
+    with_mark = b"\xef\xbb\xbf" + SYSTEM
+    assert [place_of(it) for it in doctor.findings_of_lines(with_mark, NOW)][0] == ("line 1", BAD_FIELD)
+    assert program.run(given=with_mark)[1] == b"refused\t11\tbad_field\n"
+
+
+def test_lines_and_their_answers(program):
+    """Of all lines beside these tests, and of the example city, those are found whose wanted answer is bad_field. No
+    others are, but ones that are refused for their key."""
+    tried = 0
+    for file in sorted((TOP / "tests/lines").glob("*.in")):
+        tried += finds_the_refused(file.read_bytes(), file.with_suffix(".out").read_bytes(), file.name)
+    city = [TOP / "examples/city" / it for it in ("setup", "regions", "names", "morning")]
+    given, wanted = (b"".join(file.with_suffix(suffix).read_bytes() for file in city) for suffix in (".in", ".out"))
+    tried += finds_the_refused(given, wanted, "the example city")
+    assert tried > 200, tried
+
+
+def finds_the_refused(given, answers, name):
+    """Holds what is found in lines to their answers, and returns how many of those are bad_field."""
+    answers = answers.splitlines()
+    wanted = {number for number, it in enumerate(answers, 1) if it == b"refused\t11\tbad_field"}
+    found = bad_lines(given)
+    assert wanted <= found, (name, sorted(wanted - found))
+    others = {answers[number - 1] for number in found - wanted}
+    assert others <= {b"refused\t33\tkey_reused"}, (name, sorted(found - wanted))
+    return len(wanted)
+
+
+def test_lines_that_are_changed_anywhere(program):
+    """Lines with a byte taken away, put in or changed: those are found that the program answers bad_field."""
+    rnd = random.Random(1)
+    good = requests_of([*CITY, "add-region\tnorth\tNor\\\\d", "add-name\tstation\ta1\tde\tHafen"]).splitlines()
+    put_in = [it.encode() for it in ("", "\t", "0", "-", " ", "A", "\\", "9", ".", "\r", ":", ";")] + [b"\xc3"]
+    lines = [SYSTEM]
+    while len(lines) < 600:
+        line = bytearray(rnd.choice(good))
+        for _ in range(rnd.choice((1, 1, 2))):
+            at = rnd.randrange(len(line))
+            line[at : at + rnd.choice((0, 1))] = rnd.choice(put_in)
+        lines.append(bytes(line))
+    data = b"".join(it + b"\n" for it in lines)
+    status, answers, _ = program.run(given=data)
+    refused = {number for number, it in enumerate(answers.splitlines(), 1) if it == b"refused\t11\tbad_field"}
+    found = bad_lines(data)
+    assert status == 0 and 200 < len(refused) < 600, len(refused)
+    assert found == refused, [(number, lines[number - 1]) for number in sorted(found ^ refused)[:5]]
+
+
+def station_lines(*places):
+    """Stations at these places, as lines."""
+    commands = [f"add-station\ts{at}\tStation\t{lat}\t{lon}\t5" for at, (lat, lon) in enumerate(places, 1)]
+    return "\n" + requests_of(commands, at=NOW, key="s").decode()
+
+
+# A field of set-system with a value that can't be taken back, and a word of what is said.
+DOUBTFUL = (
+    ("base_url", "foo", "http"), ("base_url", "BASE_URL", "http"), ("base_url", "ftp://x.example", "http"),
+    ("base_url", "https://x.example/", "ends in /"),
+    ("base_url", "https://x.example/gbfs/3.0", "put behind"), ("base_url", "https://x.example?a=1", "put behind"),
+    ("base_url", "https://", "ends in /"),
+    ("base_url", "http://127.0.0.1:8080", "this machine"), ("base_url", "http://localhost", "this machine"),
+    ("base_url", "http://[::1]:8080", "this machine"),
+    ("base_url", "https://:8080", "names no host"), ("language", "e-", "BCP 47"), ("language", "xx", "BCP 47"),
+    ("language", "english", "BCP 47"),
+    ("language", "EN", "only in its case"), ("language", "de-ch", "only in its case"),
+    ("language", "zh-hant", "only in its case"), ("name", " ", "spaces"),
+    ("name", "\\t", "spaces"), ("name", " Metro", "begins or ends"), ("opening_hours", "whenever", "opening_hours"),
+    ("opening_hours", "-", "opening_hours"),
+    ("feed_contact_email", "not-an-email", "address"), ("feed_contact_email", "a@b", "address"),
+    ("timezone", "Mars/Base", "time zone"),
+    ("timezone", "europe/rome", "Europe/Rome"), ("timezone", "CET-1CEST,M3.5.0,M10.5.0/3", "time zone"),
+    ("currency", "ZZZ", "ISO 4217"),
+)
+# And ones of which nothing is found.
+FREE_OF_DOUBT = (
+    ("base_url", "http://bikes.example:8080"), ("base_url", "https://example.org/bikes"), ("language", "de-CH"),
+    ("language", "zh-Hant"), ("language", "es-419"),
+    ("language", "de-CH-1996"), ("language", "haw"), ("name", "24"),
+    ("opening_hours", "Mo-Fr 06:00-22:00; Sa,Su,PH 08:00-20:00"),
+    ("opening_hours", "sunrise-sunset"), ("opening_hours", 'Apr-Oct 06:00-24:00 "in summer"'),
+    ("feed_contact_email", "o'neil+gbfs@mail.example.org"),
+    ("timezone", "Etc/UTC"), ("timezone", "America/Argentina/Buenos_Aires"), ("currency", "CHF"),
+)
+
+
+def test_lines_of_the_example(program):
+    """Nothing is found in the lines that the package gives as an example of a city's first ones."""
+    assert not doctor.findings_of_lines((TOP / "deploy/begin.txt").read_bytes(), int(time.time()))
+
+
+def test_lines_that_cannot_be_taken_back(program):
+    """Each is found with its field; so is no other; and the program accepts all of them."""
+    for field, value, word in DOUBTFUL:
+        found = doctor.findings_of_lines(system_line(**{field: value}).encode(), NOW)
+        assert [place_of(it) for it in found] == [(f"line 1, {field}", FOR_GOOD)], (field, value, found)
+        assert word in found[0].text, (field, value, found)
+    for field, value in FREE_OF_DOUBT:
+        found = doctor.findings_of_lines(system_line(**{field: value}).encode(), NOW)
+        assert not found, (field, value, found)
+    worst = {field: value for field, value, _ in reversed(DOUBTFUL)}
+    lines = system_line(**worst) + f"\n{NOW}\toffice\tk2\tadd-name\tsystem\tmetro\tDE\t  "
+    found = {place_of(it) for it in doctor.findings_of_lines(lines.encode(), NOW)}
+    wanted = [*(f"line 1, {it}" for it in worst), "line 2, language", "line 2, name"]
+    assert found == {(it, FOR_GOOD) for it in wanted}, found
+    assert program.run(given=lines.encode()) == (0, b"ok\nok\n", b"")
+
+
+def test_moments_of_lines(program):
+    """A moment more than a day ahead of the clock, or before the line above, is told. The program accepts both."""
+
+    def found_at(*moments):
+        data = "".join(f"{it}\toffice\tk{at}\tadd-rider\t{at}\n" for at, it in enumerate(moments, 1)).encode()
+        return data, [it.where for it in doctor.findings_of_lines(data, NOW) if it.word == FOR_GOOD]
+
+    assert found_at(NOW, NOW, NOW + 86_400)[1] == []
+    assert found_at(NOW, NOW + 86_401)[1] == ["line 2, moment"]
+    assert found_at(NOW, NOW - 1, NOW)[1] == ["line 2, moment"]
+    data, places = found_at(1_700_000_000, 17_000_000_300, 1_700_000_600, 1_700_000_700)
+    assert places == ["line 2, moment", "line 3, moment"], places
+    assert "2508-09-16T06:18:20Z" in doctor.findings_of_lines(data, NOW)[0].text
+    assert program.run(given=data) == (0, b"ok\n" * 4, b"")
+
+
+def test_places_of_lines(program):
+    """Coordinates at 0, 0, exchanged ones, and ones that are far away."""
+    rome = [(41.9, 12.5), (41.91, 12.49), (41.88, 12.52)]
+    for places, wanted, word in (
+        (rome, [], ""),
+        ([*rome, (0, 0)], ["line 5, lat and lon"], "0, 0"),
+        ([*rome, (12.5, 41.9)], ["line 5, lat and lon"], "exchanged"),
+        ([*rome, (14.9, 12.5)], ["line 5, lat and lon"], "km from"),
+        ([(lon, lat) for lat, lon in rome], ["line 2, lat and lon"], "exchanged"),
+        ([(lon, lat) for lat, lon in rome[:1]], ["line 2, lat and lon"], "exchanged"),
+        (rome[:1], [], ""),
+    ):
+        found = doctor.findings_of_lines((system_line() + station_lines(*places)).encode(), NOW)
+        assert [it.where for it in found] == wanted and all(word in it.text for it in found), (places, found)
+    exchanged = (system_line() + station_lines((41.9, 120.5), (120.5, 41.9))).encode()
+    found = doctor.findings_of_lines(exchanged, NOW)
+    assert [place_of(it) for it in found] == [("line 3, lat", BAD_FIELD)] and "exchanged" in found[0].text, found
+    assert program.run(given=exchanged)[1] == b"ok\nok\nrefused\t11\tbad_field\n"
+
+
+def test_keys_of_lines(program):
+    """A caller's key that comes again with another command is told, as the program refuses it. An equal one isn't."""
+    rows = (("office", 1), ("office", 1), ("rider:1", 2), ("office", 3))
+    data = "".join(f"{NOW}\t{caller}\tk\tadd-rider\t{rider}\n" for caller, rider in rows).encode()
+    assert [place_of(it) for it in doctor.findings_of_lines(data, NOW)] == [("line 4, key", "key_reused")]
+    assert program.run(given=data)[1] == b"ok\nok\nok\nrefused\t33\tkey_reused\n"
+
+
+# ---- tables of stations
+
+ROW = "c1,Canal,45.0,9.1,10\n"
+# A table, the row of its first fault that ends an import, and the program's word for it.
+TABLES = (
+    (HEADER, None), (HEADER + ROW, None), ("\ufeff" + HEADER + ROW, None), (HEADER.replace("\n", "\r\n") + ROW, None),
+    ("\n\n" + HEADER + "\n" + ROW, None),
+    (HEADER + 'q1,"He said ""ciao""",45,9.1,10\nq2,"two\nlines",-0.000001,-180,1\n', None),
+    (HEADER + '"q3",a"b,90,180,500\n"q4",Last,-90,"9.1","7"', None),
+    (HEADER + 'c1,Canal,45.0,9.1,"10', None), (HEADER + '"c1"x,Canal,45,9,1\n', None),
+    (HEADER + "c1,Canal,45.0,9.1,10\rc2,Corso,45,9.1,10", None),
+    ("", "bad header"), ("\n", "bad header"), (ROW, "bad header"),
+    (HEADER.replace(",", ";") + ROW.replace(",", ";"), "bad header"),
+    (HEADER.replace(",", "\t"), "bad header"), ("station_id, name,lat,lon,docks\n", "bad header"),
+    ("Station_id,name,lat,lon,docks\n", "bad header"),
+    ("station_id,name,lat,lon\n", "bad header"), ("station_id,name,lat,lon,docks,\n", "bad header"),
+    ("\ufeff\ufeff" + HEADER, "bad header"),
+    (HEADER.encode("utf-16"), "bad header"), (b"\xff,name,lat,lon,docks\n", "bad header"),
+    (HEADER + ROW + "c2,Corso,45,9.1\n", "row 2 unreadable"),
+    (HEADER + ROW + "c2,Corso, north,45,9.1,10\n", "row 2 unreadable"),
+    (HEADER + ROW + "c2;Corso;45;9,1;10\n", "row 2 unreadable"),
+    (HEADER.encode() + b"c2,Cors\xf6,45,9.1,10\n", "row 1 unreadable"),
+    (HEADER + ROW + 'c2,"Corso,45,9.1,10\n' + "c3,Castle,45,9.3,8\n" * 5, "row 2 unreadable"),
+    (HEADER + '""\n', "row 1 unreadable"),
+    (HEADER + ROW + "c2,Corso,45.1234567,9.1,10\n", "row 2 bad_field"),
+    (HEADER + ROW + "c2,Corso,45,9.1,501\n", "row 2 bad_field"),
+    (HEADER + ROW + 'c2,Corso,"45,5",9.1,10\n', "row 2 bad_field"),
+    (HEADER + ROW + "c2,Corso,91,9.1,10\n", "row 2 bad_field"),
+    (HEADER + ROW + "c2,Corso,45,9.1,x\n", "row 2 bad_field"),
+    (HEADER + ROW + "c2,Corso,45,9.1,0\n", "row 2 bad_field"),
+    (HEADER + ROW + "C2,Corso,45,9.1,10\n", "row 2 bad_field"), (HEADER + ROW + "c2,,45,9.1,10\n", "row 2 bad_field"),
+    (HEADER + ROW + f"c2,{'é' * 61},45,9.1,10\n", "row 2 bad_field"),
+    (HEADER + ROW + "c2,a\0b,45,9.1,10\n", "row 2 bad_field"),
+    (HEADER + ROW + ROW.replace("Canal", "Other"), "row 2 already_there"),
+    (HEADER + ROW + "\n" + ROW, "row 2 already_there"),
+)
+
+
+def first_refusal(data):
+    """What an import of the table says, by what is found in it: of what is only doubted it says nothing."""
+    for it in doctor.findings_of_table(data):
+        if it.word != FOR_GOOD:
+            return it.word if it.where == "header" else f"row {number_in(it.where)} {it.word}"
+    return None
+
+
+def test_tables_as_import_takes_them(program):
+    """The first row that ends an import is found, with the program's word for it. What is let through is imported."""
+    for table, wanted in TABLES:
+        data = table if isinstance(table, bytes) else table.encode()
+        assert first_refusal(data) == wanted, (table[:90], wanted, doctor.findings_of_table(data))
+        status, out, said = program.run("import", ":memory:", "x", "--at", "0", given=data)
+        ended = (1, f"{wanted}\n") if wanted else (0, "")
+        assert (status, said.decode()) == ended, (table[:90], status, out, said)
+
+
+def test_tables_that_are_changed_anywhere(program):
+    """Quotes, commas, line ends and other bytes put in or taken away: what is found first is what the import says. So
+    many tables are tried as BIKESHARE_TABLES says, or 25."""
+    rnd = random.Random(1)
+    put_in = [b'"', b'"', b",", b"\n", b"\r", b"\r\n", b'""', b" ", b";", b"\xc3", b"", b"", b"0", b"-"]
+    for _ in range(int(os.environ.get("BIKESHARE_TABLES", "25"))):
+        rows = b'c1,Canal,45,9,10\nc2,"Corso, north",45.5,9,1\r\n"c3","a ""b""",45,9.2,7\n'
+        table = bytearray(HEADER.encode() + rows)
+        begin = 0 if rnd.random() < 0.2 else len(HEADER)
+        for _ in range(rnd.choice((1, 1, 2, 3))):
+            at = rnd.randrange(begin, len(table))
+            table[at : at + rnd.choice((0, 1))] = rnd.choice(put_in)
+        status, _, said = program.run("import", ":memory:", "x", "--at", "0", given=bytes(table))
+        wanted = first_refusal(bytes(table))
+        assert (status, said.decode()) == ((1, f"{wanted}\n") if wanted else (0, "")), (bytes(table), wanted, said)
+
+
+def test_what_is_said_of_tables(program):
+    """The hints: where, and a word of what to do."""
+    for table, where, word in (
+        (HEADER.replace(",", ";"), "header", "semicolons"), (HEADER.encode("utf-16"), "header", "UTF-16"),
+        ("\ufeff\ufeff" + HEADER, "header", "byte order mark"),
+        (ROW, "header", "the first row is a station"),
+        (HEADER + "\n" + ROW + "c2,Corso,45.1234567,9.1,10\n", "row 2 (line 4), lat", "write 45.123456"),
+        (HEADER + "c2,Corso,95.5,9.1,10\n", "row 1 (line 2), lat", "exchanged"),
+        (HEADER + "c2,Corso,45,9.1,600\n", "row 1 (line 2), docks", "1 to 500"),
+        (HEADER + "c2,Corso, 45,9.1,10\n", "row 1 (line 2), lat", "isn't written so"),
+        (HEADER + ROW + ROW, "row 2 (line 3), station_id", "row 1 (line 2)"),
+        (HEADER + 'q1,"a\nb",45,9.1,10\nc2,"   ",45,9.1,10\n', "row 2 (line 4), name", "spaces"),
+        (HEADER + "c1,Canal,0,0,10\n", "row 1 (line 2), lat and lon", "0, 0"),
+        (HEADER + ROW + "c2,a,45,9.2,1\nc3,b,45.1,9,1\nc4,c,9.1,45,1\n", "row 4 (line 5), lat and lon", "exchanged"),
+    ):
+        found = doctor.findings_of_table(table if isinstance(table, bytes) else table.encode())
+        assert [it.where for it in found] == [where] and word in found[0].text, (table, found)
+    many = HEADER + "".join(f"s{number},Station,45,9,1\n" for number in range(1, 5002))
+    found = doctor.findings_of_table(many.encode())
+    assert [place_of(it) for it in found] == [("row 5001 (line 5002)", "limit_reached")], found
+    assert not doctor.findings_of_table((TOP / "examples/city/stations.csv").read_bytes())
