@@ -16,7 +16,7 @@ pub returns-in-Lines-clause-done : goal.returns-in-Lines-clause-done
 returns-in-Lines-clause-done g c clean = rw c.in-Lines.is (c.serve.ensures.served clean)
 
 pub returns-in-Feed-clause-done : goal.returns-in-Feed-clause-done
-returns-in-Feed-clause-done g c clean = rw (c.in-Feed.is, c.moment_of-moment.ensures) (Keeps-refl _, c.publish.ensures.told clean)
+returns-in-Feed-clause-done g c clean = rw (c.in-Feed.is, ← c.moment_of-moment.ensures) (Keeps-refl _, c.publish.ensures.told clean)
 
 -- (at the newest version already, these trees stand for him as they are and raised)
 pub returns-in-Raise-clause-kept : goal.returns-in-Raise-clause-kept
