@@ -4,7 +4,7 @@
 ghost use Rattle.bike_command_line.specs.Program.{IsWithin, IsWithinOnFile};
 
 use bike_app::{Counted, Fault, Progress, exit_code, run_on_file, run_words_in_memory};
-use bike_command_line::{FileTask, Mistake, Task, Words, WordsFault, read_words};
+use bike_command_line::{FileTask, Mistake, Task, WordsFault, read_words};
 use bike_server::{clock_moment, listen, listen_on_file};
 use sqlite::{Connection, Unknown};
 use std::alloc::{AllocError, Global};
@@ -122,13 +122,13 @@ fn run_task(rt: &HostRuntime, task: &FileTask<'_>, file: &str) -> Result<u64, Fa
     }
 }
 
-/// Opens the database and does what the words ask.
-fn run(rt: &HostRuntime, words: &Words<'_>) -> Result<u64, Fault>
-    requires { IsWithin words.now.task }
+/// Does what the words ask over the database.
+fn run(rt: &HostRuntime, task: &Task<'_>, file: &str) -> Result<u64, Fault>
+    requires { IsWithin task.now }
 {
-    match words.task {
-        Task::OnFile(task) => run_task(rt, &task, words.file),
-        Task::Serve { port, count } => answer(rt, words.file, port, count),
+    match task {
+        Task::OnFile(task) => run_task(rt, task, file),
+        Task::Serve { port, count } => answer(rt, file, *port, *count),
     }
 }
 
@@ -147,7 +147,7 @@ fn main(rt: HostRuntime) -> ExitCode {
         return exit_code(&mut rt.stderr(), &Err(Fault::OutOfMemory));
     };
     match read_words(rt.alloc(), words.as_slice()) {
-        Ok(words) => exit_code(&mut rt.stderr(), &run(&rt, &words)),
+        Ok(words) => exit_code(&mut rt.stderr(), &run(&rt, &words.task, words.file)),
         Err(WordsFault::Usage(mistake)) => tell_mistake(&rt, &mistake),
         Err(WordsFault::NoMemory) => exit_code(&mut rt.stderr(), &Err(Fault::OutOfMemory)),
     }
