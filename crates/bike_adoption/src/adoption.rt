@@ -138,7 +138,8 @@ pub fn adopt<S: Alter>(alloc: Global, conn: Connection<S>) -> Result<Desk<S>, Ad
     adopt_watched(alloc, conn, &mut Unwatched)
 }
 
-/// The same, and `watch` is told of each table before it is audited: for who shows how far that is.
+/// Takes a connection into service as `adopt` does, and tells `watch` of each table before it is audited, so that a caller can
+/// show how far the audit is.
 pub fn adopt_watched<S: Alter, P: Watch>(
     alloc: Global,
     mut conn: Connection<S>,

@@ -1,8 +1,8 @@
 //! The JSON bodies of answers.
 
 ghost use Rattle.std.specs.Prelude.{◌≡◌, ◌<◌, ◌++◌, IsTrue, length};
-ghost use Rattle.bike_json.specs.State.{Wrote, IsAt, takes_value, has_more, after_value};
-ghost use Rattle.bike_json.specs.Tree.{comma, text_of};
+ghost use Rattle.bike_json.specs.State.{WroteNext, IsAt, takes_value, after_value};
+ghost use Rattle.bike_json.specs.Tree.{text_of};
 ghost use Rattle.bike_answers.specs.Bodies.{error_tree, refused_tree, rejected_tree, replied_tree, body_of};
 
 use crate::answer::Answer;
@@ -15,7 +15,7 @@ use bike_json::{JsonState, Output};
 fn write_error<W: Output>(json: &mut JsonState, out: &mut W, name: &str)
     requires value { IsTrue (takes_value json.old.top) }
     requires room { length json.old.round < 16 }
-    ensures wrote { Wrote json.old json.new (W.contents out.old) (W.contents out.new) (comma (has_more json.old.top) ++ text_of (error_tree name.now)) }
+    ensures wrote { WroteNext json.old json.new (W.contents out.old) (W.contents out.new) (text_of (error_tree name.now)) }
     ensures place { IsAt json.new (after_value json.old.top) json.old.round }
 {
     write_object(
@@ -31,7 +31,7 @@ fn write_error<W: Output>(json: &mut JsonState, out: &mut W, name: &str)
 fn write_refused<W: Output>(json: &mut JsonState, out: &mut W, refusal: Refusal)
     requires value { IsTrue (takes_value json.old.top) }
     requires room { length json.old.round < 16 }
-    ensures wrote { Wrote json.old json.new (W.contents out.old) (W.contents out.new) (comma (has_more json.old.top) ++ text_of (refused_tree refusal)) }
+    ensures wrote { WroteNext json.old json.new (W.contents out.old) (W.contents out.new) (text_of (refused_tree refusal)) }
     ensures place { IsAt json.new (after_value json.old.top) json.old.round }
 {
     write_object(
@@ -48,7 +48,7 @@ fn write_refused<W: Output>(json: &mut JsonState, out: &mut W, refusal: Refusal)
 fn write_rejected<W: Output>(json: &mut JsonState, out: &mut W, rejection: Rejection)
     requires value { IsTrue (takes_value json.old.top) }
     requires room { length json.old.round < 16 }
-    ensures wrote { Wrote json.old json.new (W.contents out.old) (W.contents out.new) (comma (has_more json.old.top) ++ text_of (rejected_tree rejection)) }
+    ensures wrote { WroteNext json.old json.new (W.contents out.old) (W.contents out.new) (text_of (rejected_tree rejection)) }
     ensures place { IsAt json.new (after_value json.old.top) json.old.round }
 {
     match rejection {
@@ -63,7 +63,7 @@ fn write_rejected<W: Output>(json: &mut JsonState, out: &mut W, rejection: Rejec
 fn write_replied<W: Output>(json: &mut JsonState, out: &mut W, reply: &Reply)
     requires value { IsTrue (takes_value json.old.top) }
     requires room { length json.old.round < 16 }
-    ensures wrote { Wrote json.old json.new (W.contents out.old) (W.contents out.new) (comma (has_more json.old.top) ++ text_of (replied_tree reply.now)) }
+    ensures wrote { WroteNext json.old json.new (W.contents out.old) (W.contents out.new) (text_of (replied_tree reply.now)) }
     ensures place { IsAt json.new (after_value json.old.top) json.old.round }
 {
     let ok = ("result", Scalar::Text("ok"));
@@ -97,7 +97,7 @@ fn write_replied<W: Output>(json: &mut JsonState, out: &mut W, reply: &Reply)
 pub fn write_body<W: Output>(json: &mut JsonState, out: &mut W, answer: &Answer)
     requires value { IsTrue (takes_value json.old.top) }
     requires room { length json.old.round < 16 }
-    ensures wrote { Wrote json.old json.new (W.contents out.old) (W.contents out.new) (comma (has_more json.old.top) ++ text_of (body_of answer.now)) }
+    ensures wrote { WroteNext json.old json.new (W.contents out.old) (W.contents out.new) (text_of (body_of answer.now)) }
     ensures place { IsAt json.new (after_value json.old.top) json.old.round }
 {
     match answer {

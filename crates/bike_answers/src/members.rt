@@ -1,8 +1,8 @@
 //! JSON objects of named scalars.
 
 ghost use Rattle.std.specs.Prelude.{◌≡◌, ◌<◌, ◌++◌, IsTrue, length, map, pos, false};
-ghost use Rattle.bike_json.specs.State.{Wrote, IsAt, takes_value, takes_name, has_more, after_value};
-ghost use Rattle.bike_json.specs.Tree.{comma, text_of, members_text, object};
+ghost use Rattle.bike_json.specs.State.{Wrote, WroteNext, IsAt, takes_value, takes_name, has_more, after_value};
+ghost use Rattle.bike_json.specs.Tree.{text_of, members_text, object};
 ghost use Rattle.bike_answers.specs.Bodies.{scalar_tree, member_text, members};
 
 use bike_fixed::Within;
@@ -35,7 +35,7 @@ pub(crate) fn signed(number: i64) -> Scalar<'static>
 
 fn write_scalar<W: Output>(json: &mut JsonState, out: &mut W, scalar: Scalar)
     requires { IsTrue (takes_value json.old.top) }
-    ensures wrote { Wrote json.old json.new (W.contents out.old) (W.contents out.new) (comma (has_more json.old.top) ++ text_of (scalar_tree scalar.entry)) }
+    ensures wrote { WroteNext json.old json.new (W.contents out.old) (W.contents out.new) (text_of (scalar_tree scalar.entry)) }
     ensures place { IsAt json.new (after_value json.old.top) json.old.round }
 {
     let _ = match scalar {
@@ -69,8 +69,8 @@ fn write_members<W: Output>(json: &mut JsonState, out: &mut W, fields: &[(&str, 
 pub(crate) fn write_object<W: Output>(json: &mut JsonState, out: &mut W, fields: &[(&str, Scalar)])
     requires value { IsTrue (takes_value json.old.top) }
     requires room { length json.old.round < 16 }
-    ensures wrote { Wrote json.old json.new (W.contents out.old) (W.contents out.new)
-        (comma (has_more json.old.top) ++ text_of (object (members (map (λ m. (m.0.now, scalar_tree m.1)) fields.now)))) }
+    ensures wrote { WroteNext json.old json.new (W.contents out.old) (W.contents out.new)
+        (text_of (object (members (map (λ m. (m.0.now, scalar_tree m.1)) fields.now)))) }
     ensures place { IsAt json.new (after_value json.old.top) json.old.round }
 {
     let _ = json.begin_object(out);

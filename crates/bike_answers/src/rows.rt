@@ -1,8 +1,8 @@
 //! Riders, bicycles, rentals and orders as JSON.
 
 ghost use Rattle.std.specs.Prelude.{◌≡◌, ◌<◌, ◌++◌, IsTrue, length, pos};
-ghost use Rattle.bike_json.specs.State.{Wrote, IsAt, takes_value, has_more, after_value};
-ghost use Rattle.bike_json.specs.Tree.{comma, text_of};
+ghost use Rattle.bike_json.specs.State.{WroteNext, IsAt, takes_value, after_value};
+ghost use Rattle.bike_json.specs.Tree.{text_of};
 ghost use Rattle.bike_answers.specs.Bodies.{rider_state, open_rental, rider_tree, state_name, bike_tree, ended_at, rental_object, open_members, closed_members, rental_tree, end_name, order_tree};
 
 use crate::answer::RiderRow;
@@ -31,7 +31,7 @@ fn open_rental(rental: Option<RentalNumber>) -> Scalar<'static>
 pub(crate) fn write_rider<W: Output>(json: &mut JsonState, out: &mut W, row: &RiderRow)
     requires value { IsTrue (takes_value json.old.top) }
     requires room { length json.old.round < 16 }
-    ensures wrote { Wrote json.old json.new (W.contents out.old) (W.contents out.new) (comma (has_more json.old.top) ++ text_of (rider_tree row.now)) }
+    ensures wrote { WroteNext json.old json.new (W.contents out.old) (W.contents out.new) (text_of (rider_tree row.now)) }
     ensures place { IsAt json.new (after_value json.old.top) json.old.round }
 {
     write_object(
@@ -64,7 +64,7 @@ pub(crate) fn write_bike<W: Output>(
 )
     requires value { IsTrue (takes_value json.old.top) }
     requires room { length json.old.round < 16 }
-    ensures wrote { Wrote json.old json.new (W.contents out.old) (W.contents out.new) (comma (has_more json.old.top) ++ text_of (bike_tree number bike.now)) }
+    ensures wrote { WroteNext json.old json.new (W.contents out.old) (W.contents out.new) (text_of (bike_tree number bike.now)) }
     ensures place { IsAt json.new (after_value json.old.top) json.old.round }
 {
     let first = ("bike", whole(number));
@@ -141,8 +141,8 @@ fn write_open<'a, W: Output>(
 )
     requires value { IsTrue (takes_value json.old.top) }
     requires room { length json.old.round < 16 }
-    ensures wrote { Wrote json.old json.new (W.contents out.old) (W.contents out.new)
-        (comma (has_more json.old.top) ++ text_of (rental_object number rental.now start.now open_members)) }
+    ensures wrote { WroteNext json.old json.new (W.contents out.old) (W.contents out.new)
+        (text_of (rental_object number rental.now start.now open_members)) }
     ensures place { IsAt json.new (after_value json.old.top) json.old.round }
 {
     write_object(
@@ -170,9 +170,9 @@ fn write_closed<'a, W: Output>(
 )
     requires value { IsTrue (takes_value json.old.top) }
     requires room { length json.old.round < 16 }
-    ensures wrote { Wrote json.old json.new (W.contents out.old) (W.contents out.new) (comma (has_more json.old.top)
-        ++ text_of (rental_object number rental.now start.now
-        (closed_members closed.entry.to.now closed.entry.finish.now closed.entry.fare closed.entry.refunded))) }
+    ensures wrote { let members = closed_members closed.entry.to.now closed.entry.finish.now closed.entry.fare closed.entry.refunded in
+        WroteNext json.old json.new (W.contents out.old) (W.contents out.new)
+        (text_of (rental_object number rental.now start.now members)) }
     ensures place { IsAt json.new (after_value json.old.top) json.old.round }
 {
     write_object(
@@ -203,8 +203,7 @@ pub(crate) fn write_rental<W: Output>(
 )
     requires value { IsTrue (takes_value json.old.top) }
     requires room { length json.old.round < 16 }
-    ensures wrote { Wrote json.old json.new (W.contents out.old) (W.contents out.new)
-        (comma (has_more json.old.top) ++ text_of (rental_tree number rental.now refunded)) }
+    ensures wrote { WroteNext json.old json.new (W.contents out.old) (W.contents out.new) (text_of (rental_tree number rental.now refunded)) }
     ensures place { IsAt json.new (after_value json.old.top) json.old.round }
 {
     let start = rental.start.text();
@@ -240,7 +239,7 @@ pub(crate) fn write_order<W: Output>(
 )
     requires value { IsTrue (takes_value json.old.top) }
     requires room { length json.old.round < 16 }
-    ensures wrote { Wrote json.old json.new (W.contents out.old) (W.contents out.new) (comma (has_more json.old.top) ++ text_of (order_tree number order.now)) }
+    ensures wrote { WroteNext json.old json.new (W.contents out.old) (W.contents out.new) (text_of (order_tree number order.now)) }
     ensures place { IsAt json.new (after_value json.old.top) json.old.round }
 {
     write_object(

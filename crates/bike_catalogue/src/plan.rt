@@ -55,7 +55,6 @@ impl Plan {
         Ok(Plan::keep(alloc, plan_id, name, price, taxable, description, segments)?)
     }
 
-    // The bounds, and what is let go where memory is refused, stand in two functions: that is less to prove.
     /// The price, where all fields keep their bounds, else the first bad field; this needs no memory.
     #[tactic(auto, unfolding(crate::specs::RowFaults::plan_fault))]
     fn tested(

@@ -34,7 +34,6 @@ impl Region {
         Ok(Region::keep(alloc, region_id, name)?)
     }
 
-    // The bounds, and what is let go where memory is refused, stand in two functions: that is less to prove.
     /// Whether both fields keep their bounds, else the first bad field; this needs no memory.
     #[tactic(auto, unfolding(crate::specs::RowFaults::region_fault))]
     fn tested(region_id: &str, name: &str) -> Result<(), FieldFault>

@@ -50,7 +50,6 @@ impl Station {
         Ok(Station::keep(alloc, station_id, name, lat, lon, docks)?)
     }
 
-    // The bounds, and what is let go where memory is refused, stand in two functions: that is less to prove.
     /// The place and the docks, where all fields keep their bounds, else the first bad field; this needs no memory.
     #[tactic(auto, unfolding(crate::specs::RowFaults::station_fault))]
     fn tested(

@@ -76,7 +76,6 @@ impl VehicleType {
         Ok(VehicleType::keep(alloc, type_id, name, form, propulsion, max_range, plan_id)?)
     }
 
-    // The bounds, and what is let go where memory is refused, stand in two functions: that is less to prove.
     /// The greatest range, where all fields keep their bounds, else the first bad field; this needs no memory.
     #[tactic(auto, unfolding(crate::specs::RowFaults::type_fault))]
     fn tested(

@@ -165,7 +165,7 @@ fn is_place_there(kind: NameKind, line: &Row) -> bool
     }
 }
 
-/// Whether the vehicle type or the plan is there, in the same way.
+/// Whether the vehicle type or the plan is there that has the name, if it is a name of one.
 fn is_offer_there(kind: NameKind, line: &Row) -> bool
     ensures { result ≡ is_offer_there kind line.now }
 {

@@ -25,8 +25,7 @@ fn option<'a>(alloc: Global, id: &'a str) -> Arg<'a>
     Arg::new(alloc, id).long(id)
 }
 
-// What is let go where there is an error stands in these two, so that the words' own functions have no way out besides their
-// end: that is far less to prove.
+// These two take a result and give one, so that a subcommand's arguments read as one chain.
 /// The word with that value or option besides.
 fn with_arg<'a>(
     word: Result<Command<'a>, AllocError>,

@@ -142,7 +142,7 @@ pub fn read_words<'a>(alloc: Global, words: &'a [&'a str]) -> Result<Words<'a>, 
     match matches_of(alloc, words) {
         Ok(matches) => {
             let asked = words_in(&matches, first);
-            // let go by a call, and not at each way out: that is less to prove
+            // What is asked borrows nothing of it.
             drop(matches);
             match asked {
                 Ok(words) => Ok(words),

@@ -73,7 +73,8 @@ impl NewLog {
         }
     }
 
-    /// The same, where something stands at the path already: a file whose making was stopped is known by its log.
+    /// The log that an opening of this path would make, where a database stands there already. A file whose making was stopped
+    /// is known by its log, so that log stays.
     pub(crate) fn beside_database(rt: &HostRuntime, path: &str) -> NewLog {
         match fs::metadata(rt, path) {
             Ok(found) if found.len() > 1 => NewLog::beside(rt, path),

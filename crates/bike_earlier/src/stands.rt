@@ -38,7 +38,7 @@ fn has_stations(alloc: Global, schema: &Schema, earlier: Earlier) -> Result<bool
 {
     let wanted = define_stations(alloc, earlier)?;
     let is_there = has_wanted(schema, &wanted);
-    // At a way out of the function its letting go would be long to prove.
+    // It was made for the comparison alone.
     drop(wanted);
     Ok(is_there)
 }

@@ -1,5 +1,5 @@
 -- How many bicycles are on a truck for an order: in a sound operator all are on the order's own truck.
-use Rattle.std.proofs.Common.{◌≡◌, ℕ, List, [], ◌∷◌, length, map, filter, cond, Bool, true, false, ◌&&◌, Option, Some, None, option_map, refl, sym, ap, ap₂, ◌∙◌}
+use Rattle.std.proofs.Common.{◌≡◌, ℕ, List, [], ◌∷◌, length, map, filter, cond, Bool, true, false, ◌&&◌, Some, refl, sym, ap, ap₂, ◌∙◌}
 use Rattle.std.specs.FinMap as fin
 use Rattle.std.specs.Ordering.{nat_cmp, is_eq, ordering_then}
 use Rattle.std.specs.declared.cmp.Ordering.{Ordering}
@@ -10,7 +10,6 @@ use Rattle.std.proofs.lemmas.Bool.Decides.{Decides-eqb}
 use Rattle.sqlite_value.specs.Order.{Row, column, row_cmp}
 use Rattle.sqlite_value.proofs.OrderLemmas.{value_cmp-Null}
 use Rattle.sqlite_rules.specs.Lists.{Has}
-use Rattle.bike_rows.proofs.ListLemmas.{filter_none}
 use Rattle.bike_rows.proofs.RangeLaw.{filter_has_same}
 use Rattle.bike_operator.specs.declared.records.Place.{Place}
 use Rattle.bike_operator.specs.declared.records.Place.TheVariants as place
@@ -64,14 +63,6 @@ module _ (s : Operator) (sound : IsSound s) (order : ℕ) where
 
   carried_by : (e : ℕ × Bike) → Has (fin.entries s.bikes) e → is_for_order order e.1.place ≡ true → (row : Order) × (item_numbered order s.orders ≡ Some row) × (is_on_truck row.truck e.1.place ≡ true)
   carried_by e has for_it = carried e.0 e.1.type_id e.1.place (sound.bikes.bikes e.0 e.1 (has_get number_order.total s.bikes e has)).placed for_it
-
-  -- an order that isn't there has no bicycle
-  pub no_load : item_numbered order s.orders ≡ None → 0 ≡ order_load s order
-  no_load none = sym (ap length (filter_none _ (fin.entries s.bikes) (λ e has. by e has (is_for_order order e.1.place) refl)))
-    where
-      by : (e : ℕ × Bike) → Has (fin.entries s.bikes) e → (b : Bool) → is_for_order order e.1.place ≡ b → is_for_order order e.1.place ≡ false
-      by e has false is = is
-      by e has true is = absurd (let it = carried_by e has is in let found = it.1 in cc)
 
   -- the rows of the order's truck and of the order are those of its bicycles
   pub load_rows : (m : Listed) (row : Order) → item_numbered order s.orders ≡ Some row → length (rows_by s m Bikes (6 ∷ 7 ∷ []) (number_value row.truck ∷ number_value order ∷ [])) ≡ order_load s order

@@ -1,10 +1,8 @@
 //! The bicycles that the rows of lines count.
 
 ghost use Rattle.std.specs.Prelude.{◌≡◌, ◌+◌, ◌≤◌, option_map};
-ghost use Rattle.std.specs.List.{list_all};
 ghost use Rattle.sqlite_value.specs.Order.{column};
 ghost use Rattle.sqlite_sql.specs.Ops.{is_null};
-ghost use Rattle.bike_fields.specs.Bytes.{is_ident, is_ident_byte};
 ghost use Rattle.bike_schema.specs.Columns.{text_in, number_in, state_in, ident_in, or_none};
 ghost use Rattle.bike_readings.specs.ColumnReaders.{serial_in};
 ghost use Rattle.bike_readings.specs.ReadOff.{dock_place, truck_place, first_place};
@@ -17,7 +15,7 @@ use bike_book::columns::bikes;
 use bike_fields::{DockNumber, OrderNumber, RentalNumber, TruckNumber};
 use bike_fixed::Within;
 use bike_operator::BikeState;
-use bike_readings::{StoredBike, StoredPlace};
+use bike_readings::{StoredBike, StoredPlace, is_ident};
 use bike_schema::{number_at, optional_number_at, state_at};
 use sqlite::Row;
 use sqlite::types::ValueRef;
@@ -45,26 +43,6 @@ const TO_TRUCK: usize = bikes::TRUCK - bikes::STATION_ID;
 
 /// From there to the order.
 const TO_ORDER: usize = bikes::ORD - bikes::STATION_ID;
-
-/// a-z 0-9 _ -
-fn is_ident_byte(b: u8) -> bool
-    ensures { result ≡ is_ident_byte b }
-{
-    b.is_ascii_lowercase() || b.is_ascii_digit() || b == b'_' || b == b'-'
-}
-
-fn are_ident_bytes(text: &[u8]) -> bool
-    ensures { result ≡ list_all is_ident_byte text.now }
-{
-    text.iter().all(|b| is_ident_byte(*b))
-}
-
-/// Whether the text is an identifier.
-fn is_ident(text: &str) -> bool
-    ensures { result ≡ is_ident text.now }
-{
-    1 <= text.len() && text.len() <= 36 && are_ident_bytes(text.as_bytes())
-}
 
 /// The number in a column, where it lies from `LO` to `HI`.
 #[tactic(auto, using(bike_readings::proofs::ReadLemmas::read_some, bike_readings::proofs::ReadLemmas::read_none))]
@@ -152,7 +130,7 @@ fn ident_or_none(line: &Row, at: usize) -> Option<Option<&str>>
     Some(Some(ident))
 }
 
-/// The number in a column, in the same way.
+/// The number in a column, or `Some(None)` where the column is NULL.
 #[tactic(auto, using(bike_readings::proofs::ReadLemmas::read_some, bike_readings::proofs::ReadLemmas::read_none))]
 fn number_or_none<const LO: u32, const HI: u32, K>(
     line: &Row,
@@ -175,7 +153,7 @@ fn dock_place<'a>(station: Option<&'a str>, dock: Option<DockNumber>) -> Option<
     Some(StoredPlace::Dock { station, dock })
 }
 
-/// The place on a truck, in the same way.
+/// The place on a truck, where both parts are there.
 fn truck_place<'a>(
     truck: Option<TruckNumber>,
     order: Option<OrderNumber>,

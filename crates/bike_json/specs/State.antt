@@ -1,8 +1,9 @@
 -- Where a writer of JSON stands, and what a series of calls writes.
-use Rattle.std.specs.Prelude.{◌≡◌, ◌<◌, ◌⊎◌, ℕ, zero, suc, ◌+◌, List, [], ◌∷◌, length, Bool, true, false, IsTrue, get_or}
+use Rattle.std.specs.Prelude.{◌≡◌, ◌<◌, ◌⊎◌, ℕ, zero, suc, ◌+◌, List, [], ◌∷◌, ◌++◌, length, Bool, true, false, IsTrue, get_or}
 use Rattle.std.specs.Io.KnownBytes.{Keeps, Appends}
 use Rattle.bike_stream.specs.Writing.{AppendsFront}
 use Rattle.bike_json.specs.Outputs.{OutputState, IsSameOutput}
+use Rattle.bike_json.specs.Tree.{comma}
 use Rattle.bike_json.specs.declared.level.Level.{Level}
 use Rattle.bike_json.specs.declared.level.Level.TheVariants.{Start, Done, EmptyArray, FilledArray, EmptyObject, FilledObject, NamedObject}
 
@@ -96,6 +97,10 @@ Writes false false before after old new bytes = Appends old.bytes new.bytes byte
 pub record Wrote (from to : Place) (old new : OutputState) (bytes : List ℕ) : Type 0 where
   pub are : Writes from.failed to.failed from.count to.count old new bytes
   pub same : IsSameOutput old new
+
+-- the same of the next part, before which stands a comma where the open level holds something
+abbrev pub WroteNext : Place → Place → OutputState → OutputState → List ℕ → Type 0
+WroteNext from to old new text = Wrote from to old new (comma (has_more from.top) ++ text)
 
 -- the open level and those round it
 abbrev pub IsAt : Place → Level → List Level → Type 0

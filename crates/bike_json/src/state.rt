@@ -5,7 +5,7 @@ ghost use Rattle.std.specs.Fmt.{signed_decimal};
 ghost use Rattle.bike_fixed.specs.Text.{cents_text, micro_text};
 ghost use Rattle.bike_json.specs.Escapes.{json_escapes, string_text};
 ghost use Rattle.bike_json.specs.Tree.{comma, flag_text};
-ghost use Rattle.bike_json.specs.State.{Wrote, IsAt, outset, takes_value, takes_name, takes_array_end, has_more, after_value};
+ghost use Rattle.bike_json.specs.State.{Wrote, WroteNext, IsAt, outset, takes_value, takes_name, takes_array_end, has_more, after_value};
 
 use crate::escape::{escape, is_plain};
 use crate::level::Level;
@@ -75,7 +75,7 @@ impl JsonState {
     pub fn begin_object<W: Output>(&mut self, out: &mut W) -> Result<(), WriteFault>
         requires value { IsTrue (takes_value self.old.top) }
         requires room { length self.old.round < 16 }
-        ensures wrote { Wrote self.old self.new (W.contents out.old) (W.contents out.new) (comma (has_more self.old.top) ++ 123 ∷ []) }
+        ensures wrote { WroteNext self.old self.new (W.contents out.old) (W.contents out.new) (123 ∷ []) }
         ensures place { IsAt self.new Level.EmptyObject (after_value self.old.top ∷ self.old.round) }
         ensures count { self.new.failed ≡ true → self.new.count ≡ self.old.count }
         ensures outcome { is_ok result ≡ not self.new.failed }
@@ -99,7 +99,7 @@ impl JsonState {
     pub fn begin_array<W: Output>(&mut self, out: &mut W) -> Result<(), WriteFault>
         requires value { IsTrue (takes_value self.old.top) }
         requires room { length self.old.round < 16 }
-        ensures wrote { Wrote self.old self.new (W.contents out.old) (W.contents out.new) (comma (has_more self.old.top) ++ 91 ∷ []) }
+        ensures wrote { WroteNext self.old self.new (W.contents out.old) (W.contents out.new) (91 ∷ []) }
         ensures place { IsAt self.new Level.EmptyArray (after_value self.old.top ∷ self.old.round) }
         ensures count { self.new.failed ≡ true → self.new.count ≡ self.old.count }
         ensures outcome { is_ok result ≡ not self.new.failed }
@@ -122,8 +122,7 @@ impl JsonState {
     /// A member's name; its value comes next.
     pub fn name<W: Output>(&mut self, out: &mut W, name: &str) -> Result<(), WriteFault>
         requires name { IsTrue (takes_name self.old.top) }
-        ensures wrote { Wrote self.old self.new (W.contents out.old) (W.contents out.new)
-            (comma (has_more self.old.top) ++ string_text name.now ++ 58 ∷ []) }
+        ensures wrote { WroteNext self.old self.new (W.contents out.old) (W.contents out.new) (string_text name.now ++ 58 ∷ []) }
         ensures place { IsAt self.new Level.NamedObject self.old.round }
         ensures count { self.new.failed ≡ true → self.new.count ≡ self.old.count }
         ensures outcome { is_ok result ≡ not self.new.failed }
@@ -139,7 +138,7 @@ impl JsonState {
     /// A string.
     pub fn text<W: Output>(&mut self, out: &mut W, text: &str) -> Result<(), WriteFault>
         requires { IsTrue (takes_value self.old.top) }
-        ensures wrote { Wrote self.old self.new (W.contents out.old) (W.contents out.new) (comma (has_more self.old.top) ++ string_text text.now) }
+        ensures wrote { WroteNext self.old self.new (W.contents out.old) (W.contents out.new) (string_text text.now) }
         ensures place { IsAt self.new (after_value self.old.top) self.old.round }
         ensures count { self.new.failed ≡ true → self.new.count ≡ self.old.count }
         ensures outcome { is_ok result ≡ not self.new.failed }
@@ -155,7 +154,7 @@ impl JsonState {
     /// A whole number, with a `-` exactly below zero and no leading zero.
     pub fn whole<W: Output>(&mut self, out: &mut W, number: i64) -> Result<(), WriteFault>
         requires { IsTrue (takes_value self.old.top) }
-        ensures wrote { Wrote self.old self.new (W.contents out.old) (W.contents out.new) (comma (has_more self.old.top) ++ signed_decimal number) }
+        ensures wrote { WroteNext self.old self.new (W.contents out.old) (W.contents out.new) (signed_decimal number) }
         ensures place { IsAt self.new (after_value self.old.top) self.old.round }
         ensures count { self.new.failed ≡ true → self.new.count ≡ self.old.count }
         ensures outcome { is_ok result ≡ not self.new.failed }
@@ -168,7 +167,7 @@ impl JsonState {
     /// An amount, in units with two decimals.
     pub fn cents<W: Output>(&mut self, out: &mut W, amount: Cents) -> Result<(), WriteFault>
         requires { IsTrue (takes_value self.old.top) }
-        ensures wrote { Wrote self.old self.new (W.contents out.old) (W.contents out.new) (comma (has_more self.old.top) ++ cents_text amount) }
+        ensures wrote { WroteNext self.old self.new (W.contents out.old) (W.contents out.new) (cents_text amount) }
         ensures place { IsAt self.new (after_value self.old.top) self.old.round }
         ensures count { self.new.failed ≡ true → self.new.count ≡ self.old.count }
         ensures outcome { is_ok result ≡ not self.new.failed }
@@ -180,7 +179,7 @@ impl JsonState {
     /// A coordinate, in degrees with six decimals.
     pub fn micro<W: Output>(&mut self, out: &mut W, coordinate: Micro) -> Result<(), WriteFault>
         requires { IsTrue (takes_value self.old.top) }
-        ensures wrote { Wrote self.old self.new (W.contents out.old) (W.contents out.new) (comma (has_more self.old.top) ++ micro_text coordinate) }
+        ensures wrote { WroteNext self.old self.new (W.contents out.old) (W.contents out.new) (micro_text coordinate) }
         ensures place { IsAt self.new (after_value self.old.top) self.old.round }
         ensures count { self.new.failed ≡ true → self.new.count ≡ self.old.count }
         ensures outcome { is_ok result ≡ not self.new.failed }
@@ -192,7 +191,7 @@ impl JsonState {
     /// `true` or `false`.
     pub fn flag<W: Output>(&mut self, out: &mut W, flag: bool) -> Result<(), WriteFault>
         requires { IsTrue (takes_value self.old.top) }
-        ensures wrote { Wrote self.old self.new (W.contents out.old) (W.contents out.new) (comma (has_more self.old.top) ++ flag_text flag) }
+        ensures wrote { WroteNext self.old self.new (W.contents out.old) (W.contents out.new) (flag_text flag) }
         ensures place { IsAt self.new (after_value self.old.top) self.old.round }
         ensures count { self.new.failed ≡ true → self.new.count ≡ self.old.count }
         ensures outcome { is_ok result ≡ not self.new.failed }
@@ -202,7 +201,7 @@ impl JsonState {
 
     /// A value whose text needs no quotation marks.
     fn scalar<W: Output>(&mut self, out: &mut W, text: &str) -> Result<(), WriteFault>
-        ensures wrote { Wrote self.old self.new (W.contents out.old) (W.contents out.new) (comma (has_more self.old.top) ++ text.now) }
+        ensures wrote { WroteNext self.old self.new (W.contents out.old) (W.contents out.new) text.now }
         ensures place { IsAt self.new (after_value self.old.top) self.old.round }
         ensures count { self.new.failed ≡ true → self.new.count ≡ self.old.count }
         ensures outcome { is_ok result ≡ not self.new.failed }
@@ -216,7 +215,7 @@ impl JsonState {
 
     fn begin<W: Output>(&mut self, out: &mut W, token: &[u8], top: Level) -> Result<(), WriteFault>
         requires { length self.old.round < 16 }
-        ensures wrote { Wrote self.old self.new (W.contents out.old) (W.contents out.new) (comma (has_more self.old.top) ++ token.now) }
+        ensures wrote { WroteNext self.old self.new (W.contents out.old) (W.contents out.new) token.now }
         ensures place { IsAt self.new top (after_value self.old.top ∷ self.old.round) }
         ensures count { self.new.failed ≡ true → self.new.count ≡ self.old.count }
         ensures outcome { is_ok result ≡ not self.new.failed }
@@ -255,7 +254,7 @@ impl JsonState {
 
     /// The quotation mark that begins a string, behind the comma of a part that isn't the first.
     fn open_quote<W: Output>(&mut self, out: &mut W)
-        ensures wrote { Wrote self.old self.new (W.contents out.old) (W.contents out.new) (comma (has_more self.old.top) ++ 34 ∷ []) }
+        ensures wrote { WroteNext self.old self.new (W.contents out.old) (W.contents out.new) (34 ∷ []) }
         ensures place { IsAt self.new self.old.top self.old.round }
     {
         match self.top {
@@ -276,8 +275,8 @@ impl JsonState {
         }
     }
 
-    /// The same; the bytes that stand for themselves are written in as few runs as there are. Hardly a text has an escape, so this
-    /// is kept out of the way of those that have none.
+    /// The bytes with their escapes, in as few runs as there are. Hardly a text has an escape, so this is no part of the
+    /// function above, which is inlined.
     #[inline(never)]
     fn escaped_runs<W: Output>(&mut self, out: &mut W, bytes: &[u8])
         ensures wrote { Wrote self.old self.new (W.contents out.old) (W.contents out.new) (json_escapes bytes.now) }

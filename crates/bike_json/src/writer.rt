@@ -4,8 +4,8 @@ ghost use Rattle.std.specs.Prelude.{◌≡◌, ◌<◌, ◌++◌, ◌∷◌, [],
 ghost use Rattle.std.specs.Fmt.{signed_decimal};
 ghost use Rattle.bike_fixed.specs.Text.{cents_text, micro_text};
 ghost use Rattle.bike_json.specs.Escapes.{string_text};
-ghost use Rattle.bike_json.specs.Tree.{comma, flag_text};
-ghost use Rattle.bike_json.specs.State.{Wrote, IsAt, outset, takes_value, takes_name, takes_array_end, has_more, after_value};
+ghost use Rattle.bike_json.specs.Tree.{flag_text};
+ghost use Rattle.bike_json.specs.State.{Wrote, WroteNext, IsAt, outset, takes_value, takes_name, takes_array_end, after_value};
 
 use crate::level::Level;
 use crate::output::Output;
@@ -63,7 +63,7 @@ impl<W: Output + Drop> JsonWriter<W> {
     pub fn begin_object(&mut self) -> Result<(), WriteFault>
         requires value { IsTrue (takes_value self.old.place.top) }
         requires room { length self.old.place.round < 16 }
-        ensures wrote { Wrote self.old.place self.new.place self.old.contents self.new.contents (comma (has_more self.old.place.top) ++ 123 ∷ []) }
+        ensures wrote { WroteNext self.old.place self.new.place self.old.contents self.new.contents (123 ∷ []) }
         ensures place { IsAt self.new.place Level.EmptyObject (after_value self.old.place.top ∷ self.old.place.round) }
         ensures count { self.new.place.failed ≡ true → self.new.place.count ≡ self.old.place.count }
         ensures outcome { is_ok result ≡ not self.new.place.failed }
@@ -87,7 +87,7 @@ impl<W: Output + Drop> JsonWriter<W> {
     pub fn begin_array(&mut self) -> Result<(), WriteFault>
         requires value { IsTrue (takes_value self.old.place.top) }
         requires room { length self.old.place.round < 16 }
-        ensures wrote { Wrote self.old.place self.new.place self.old.contents self.new.contents (comma (has_more self.old.place.top) ++ 91 ∷ []) }
+        ensures wrote { WroteNext self.old.place self.new.place self.old.contents self.new.contents (91 ∷ []) }
         ensures place { IsAt self.new.place Level.EmptyArray (after_value self.old.place.top ∷ self.old.place.round) }
         ensures count { self.new.place.failed ≡ true → self.new.place.count ≡ self.old.place.count }
         ensures outcome { is_ok result ≡ not self.new.place.failed }
@@ -110,8 +110,7 @@ impl<W: Output + Drop> JsonWriter<W> {
     /// A member's name; its value comes next.
     pub fn name(&mut self, name: &str) -> Result<(), WriteFault>
         requires name { IsTrue (takes_name self.old.place.top) }
-        ensures wrote { Wrote self.old.place self.new.place self.old.contents self.new.contents
-            (comma (has_more self.old.place.top) ++ string_text name.now ++ 58 ∷ []) }
+        ensures wrote { WroteNext self.old.place self.new.place self.old.contents self.new.contents (string_text name.now ++ 58 ∷ []) }
         ensures place { IsAt self.new.place Level.NamedObject self.old.place.round }
         ensures count { self.new.place.failed ≡ true → self.new.place.count ≡ self.old.place.count }
         ensures outcome { is_ok result ≡ not self.new.place.failed }
@@ -122,7 +121,7 @@ impl<W: Output + Drop> JsonWriter<W> {
     /// A string.
     pub fn text(&mut self, text: &str) -> Result<(), WriteFault>
         requires { IsTrue (takes_value self.old.place.top) }
-        ensures wrote { Wrote self.old.place self.new.place self.old.contents self.new.contents (comma (has_more self.old.place.top) ++ string_text text.now) }
+        ensures wrote { WroteNext self.old.place self.new.place self.old.contents self.new.contents (string_text text.now) }
         ensures place { IsAt self.new.place (after_value self.old.place.top) self.old.place.round }
         ensures count { self.new.place.failed ≡ true → self.new.place.count ≡ self.old.place.count }
         ensures outcome { is_ok result ≡ not self.new.place.failed }
@@ -133,7 +132,7 @@ impl<W: Output + Drop> JsonWriter<W> {
     /// A whole number, with a `-` exactly below zero and no leading zero.
     pub fn whole(&mut self, number: i64) -> Result<(), WriteFault>
         requires { IsTrue (takes_value self.old.place.top) }
-        ensures wrote { Wrote self.old.place self.new.place self.old.contents self.new.contents (comma (has_more self.old.place.top) ++ signed_decimal number) }
+        ensures wrote { WroteNext self.old.place self.new.place self.old.contents self.new.contents (signed_decimal number) }
         ensures place { IsAt self.new.place (after_value self.old.place.top) self.old.place.round }
         ensures count { self.new.place.failed ≡ true → self.new.place.count ≡ self.old.place.count }
         ensures outcome { is_ok result ≡ not self.new.place.failed }
@@ -144,7 +143,7 @@ impl<W: Output + Drop> JsonWriter<W> {
     /// An amount, in units with two decimals.
     pub fn cents(&mut self, amount: Cents) -> Result<(), WriteFault>
         requires { IsTrue (takes_value self.old.place.top) }
-        ensures wrote { Wrote self.old.place self.new.place self.old.contents self.new.contents (comma (has_more self.old.place.top) ++ cents_text amount) }
+        ensures wrote { WroteNext self.old.place self.new.place self.old.contents self.new.contents (cents_text amount) }
         ensures place { IsAt self.new.place (after_value self.old.place.top) self.old.place.round }
         ensures count { self.new.place.failed ≡ true → self.new.place.count ≡ self.old.place.count }
         ensures outcome { is_ok result ≡ not self.new.place.failed }
@@ -155,7 +154,7 @@ impl<W: Output + Drop> JsonWriter<W> {
     /// A coordinate, in degrees with six decimals.
     pub fn micro(&mut self, coordinate: Micro) -> Result<(), WriteFault>
         requires { IsTrue (takes_value self.old.place.top) }
-        ensures wrote { Wrote self.old.place self.new.place self.old.contents self.new.contents (comma (has_more self.old.place.top) ++ micro_text coordinate) }
+        ensures wrote { WroteNext self.old.place self.new.place self.old.contents self.new.contents (micro_text coordinate) }
         ensures place { IsAt self.new.place (after_value self.old.place.top) self.old.place.round }
         ensures count { self.new.place.failed ≡ true → self.new.place.count ≡ self.old.place.count }
         ensures outcome { is_ok result ≡ not self.new.place.failed }
@@ -166,7 +165,7 @@ impl<W: Output + Drop> JsonWriter<W> {
     /// `true` or `false`.
     pub fn flag(&mut self, flag: bool) -> Result<(), WriteFault>
         requires { IsTrue (takes_value self.old.place.top) }
-        ensures wrote { Wrote self.old.place self.new.place self.old.contents self.new.contents (comma (has_more self.old.place.top) ++ flag_text flag) }
+        ensures wrote { WroteNext self.old.place self.new.place self.old.contents self.new.contents (flag_text flag) }
         ensures place { IsAt self.new.place (after_value self.old.place.top) self.old.place.round }
         ensures count { self.new.place.failed ≡ true → self.new.place.count ≡ self.old.place.count }
         ensures outcome { is_ok result ≡ not self.new.place.failed }

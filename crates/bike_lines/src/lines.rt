@@ -50,7 +50,7 @@ fn reply_to<S: Alter>(alloc: Global, desk: &mut Desk<S>, line: &[u8]) -> Result<
         return Ok(Reply::Refused(Refusal::BadField));
     };
     let reply = desk.apply(alloc, call.0, &call.1);
-    // At a way out of the function its letting go would be long to prove.
+    // The request's memory is freed before the next line is read.
     drop(call);
     reply
 }

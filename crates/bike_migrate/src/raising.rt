@@ -212,7 +212,8 @@ pub fn raise<S: Alter>(alloc: Global, conn: Connection<S>) -> Result<Connection<
     raise_watched(alloc, conn, &mut Unwatched)
 }
 
-/// The same, and `watch` is told of each table before it is audited: for who shows how far that is.
+/// Raises the database as `raise` does, and tells `watch` of each table before it is audited, so that a caller can show how far
+/// the audit is.
 pub fn raise_watched<S: Alter, P: Watch>(
     alloc: Global,
     mut conn: Connection<S>,

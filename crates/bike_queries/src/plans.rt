@@ -26,7 +26,7 @@ fn select_plan<S: Alter>(
     find_plan_row_from(conn, start.as_str())
 }
 
-/// The identifier of that plan.
+/// The identifier of the first plan after this one.
 fn find_next<S: Alter>(
     alloc: Global,
     conn: &mut Connection<S>,

@@ -123,7 +123,7 @@ fn select_ended<S: Alter>(
     )
 }
 
-/// The number of that rental.
+/// The number of the first rental after this one that was closed in this time.
 fn find_ended<S: Alter>(
     conn: &mut Connection<S>,
     number: u64,

@@ -55,7 +55,6 @@ fn one_command_of(alloc: Global, text: &str) -> Result<Option<Command>, AllocErr
 {
     let command = read_command(alloc, text)?;
     let is_own = is_own_text(alloc, &command, text);
-    // A closure, since a way out that lets the command go would be long to prove.
     is_own.map(move |is_own| command_where(command, is_own))
 }
 

@@ -41,3 +41,4 @@ pub use network::{
 };
 pub use part::Part;
 pub use rules::{rules_law, stored_law, verdict_law};
+pub use texts::is_ident;

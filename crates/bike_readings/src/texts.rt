@@ -61,7 +61,7 @@ fn are_uppercase(text: &[u8]) -> bool
 }
 
 /// Whether the text is an identifier.
-pub(crate) fn is_ident(text: &str) -> bool
+pub fn is_ident(text: &str) -> bool
     ensures { result ≡ is_ident text.now }
 {
     has_length(text, 1, LONGEST_IDENT) && are_ident_bytes(text.as_bytes())

@@ -73,7 +73,7 @@ pub(crate) fn has_table(
 {
     let wanted = table.defined(alloc)?;
     let is_there = has_wanted(schema, &wanted);
-    // At a way out of the function its letting go would be long to prove.
+    // It was made for the comparison alone.
     drop(wanted);
     Ok(is_there)
 }

@@ -82,7 +82,7 @@ pub fn find_version<S: Alter>(conn: &mut Connection<S>) -> Result<MetaVersion, S
 {
     let row = find_meta_row(conn)?;
     let version = version_in(&row);
-    // At a way out of the function its letting go would be long to prove.
+    // The version is a number, so the row isn't wanted any more.
     drop(row);
     Ok(version)
 }

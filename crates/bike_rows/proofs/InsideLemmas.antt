@@ -1,6 +1,6 @@
--- What the texts that begin and end a transaction do, and what a write inside one does.
-use Rattle.std.proofs.Common.{◌≡◌, inl, inr, ℕ, List, [], Bool, true, false, Option, Some, None, Ok, Err, Result, OnOk, OnErr, IsTrue, length, if◌then◌else◌, codes, refl, sym, ap, subst, ◌∙◌, arith}
-use Rattle.std.proofs.lemmas.Bool.{cases_Bool, both_ways}
+-- What the texts that begin and end a transaction do.
+use Rattle.std.proofs.Common.{◌≡◌, inl, inr, ℕ, List, [], true, false, Option, Some, None, Ok, Err, Result, OnOk, OnErr, length, codes, refl, sym, ap, subst, ◌∙◌, arith}
+use Rattle.std.proofs.lemmas.Bool.{cases_Bool}
 use Rattle.sqlite_value.specs.Order.{Row}
 use Rattle.sqlite_tied.specs.Compute.{everything}
 use Rattle.sqlite_trees.specs.Tree.{Trees}
@@ -18,11 +18,11 @@ use Rattle.sqlite.specs.Does.{Does, Tally}
 use Rattle.sqlite.specs.Effect.{Database}
 use Rattle.sqlite.specs.Given.{IsPlain}
 use Rattle.sqlite.specs.Listing.{understood}
-use Rattle.sqlite.specs.State.{State, mode_of, Shows, Survives, Runs, RunsCommand, ExecutesIn, Executes, IsNoStatement, IsNotRun, CommitsBy, MayCommit, shows_rows, text_of, IsRolledBack}
+use Rattle.sqlite.specs.State.{State, mode_of, Shows, Survives, RunsCommand, ExecutesIn, Executes, IsNoStatement, IsNotRun, CommitsBy, MayCommit, shows_rows, text_of, IsRolledBack}
 use Rattle.sqlite.proofs.Callers.{command_of, runs_as}
 use Rattle.sqlite.proofs.StateLemmas.{survives_weaker}
 use Rattle.bike_rows.specs.Outcome.{IsLeft}
-use Rattle.bike_rows.specs.Inside.{IsWriteIn, IsEnded}
+use Rattle.bike_rows.specs.Inside.{IsEnded}
 
 -- ---- the texts
 
@@ -185,44 +185,3 @@ commit_survives old new s =
 
 pub undo_survives : (old new : State) → Survives old new (CommitsBy (codes "ROLLBACK") [] old) → Survives old new (λ _. ⊥)
 undo_survives old new s = survives_weaker old new _ (λ _. ⊥) (λ clean db h. by_command (codes "ROLLBACK") old command.Rollback db ⊥ (rolls_back old.now.schema) (λ r t p m. rollback_may old r t p db m) h) s
-
--- ---- a write inside a transaction
-
-module _ (old : State) (inside : IsTrue old.in_transaction) where
-  write_may : (returning : Option Returning) (c : Command) (text : List ℕ) (params : Row) (db : Trees) → IsWrite c → MayCommit old returning c text params db → ⊥
-  write_may returning c text params db write (inl (inl is, same)) = subst IsWrite is write
-  write_may returning c text params db write (inl (inr release, same)) = subst IsWrite release.2 write
-  write_may returning c text params db write (inr wrote) = both_ways old.in_transaction wrote.0 inside
-
-  write_commits : (sql : List ℕ) (params : Row) (db : Trees) → IsWriteIn old.now.schema sql → CommitsBy sql params old db → ⊥
-  unfolding CommitsBy
-  write_commits sql params db write h = write_may h.0.returning h.0.command _ _ db (write h.0 h.1.is) h.2
-
-  pub write_survives : (new : State) (sql : List ℕ) (params : Row) → IsWriteIn old.now.schema sql → Survives old new (CommitsBy sql params old) → Survives old new (λ _. ⊥)
-  write_survives new sql params write s = survives_weaker old new _ (λ _. ⊥) (λ clean db h. write_commits sql params db write h) s
-
-  module _ (new : State) where
-    wrote : (returning : Option Returning) (c : Command) (text : List ℕ) (params : Row) (count : ℕ) → IsWrite c → Runs old new returning c text params count
-        → Shows old new new.now (if old.in_transaction then old.committed else new.now) old.in_transaction
-    wrote returning (command.Insert at from) text params count write h = h.shown
-    wrote returning (command.InsertOr at how from clauses) text params count write h = h.shown
-    wrote returning (command.Update at q) text params count write h = h.shown
-    wrote returning (command.Delete at q) text params count write h = h.shown
-    wrote returning command.CreateTable text params count write h = h.shown
-    wrote returning (command.CreateIndex at) text params count write h = h.shown
-    wrote returning command.CreateView text params count write h = h.shown
-    wrote returning (command.DropTable at) text params count write h = h.shown
-    wrote returning (command.DropIndex at) text params count write h = h.shown
-    wrote returning (command.DropView at) text params count write h = h.shown
-    wrote returning _ text params count write h = elim write [ ]
-
-    in_mode : (b : Bool) → IsTrue b → Shows old new new.now (if b then old.committed else new.now) b → Shows old new new.now old.committed true
-    in_mode true is h = h
-    in_mode false is h = absurd (both_ways false refl is)
-
-    pub write_shows : (sql : List ℕ) (params : Row) (count : ℕ) → IsWriteIn old.now.schema sql → Executes sql params old new (Ok count) → Shows old new new.now old.committed true
-    unfolding ExecutesIn
-    write_shows sql params count write h = elim (cases_Bool (shows_rows false h.0)) [
-      | inl shows ↦ absurd (let e = (rw shows at h.2).0 in cc)
-      | inr runs ↦ in_mode old.in_transaction inside (wrote h.0.returning h.0.command _ _ count (write h.0 h.1.is) (rw runs at h.2))
-    ]

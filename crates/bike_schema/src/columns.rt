@@ -101,7 +101,7 @@ pub fn number_at<const LO: u32, const HI: u32, K>(
     number_of(whole).ok_or(StatementFault::StoreFailed)
 }
 
-/// The column as a moment, in the same way.
+/// The column as a moment; any other column is `StoreFailed`.
 pub fn moment_at(row: &Row, at: usize) -> Result<Moment, StatementFault>
     ensures { result ≡ read_or_failed (moment_in (column row.now at)) }
 {

@@ -41,7 +41,6 @@ fn write_text(out: Vec<u8>) -> (bool, u64, Vec<u8>) {
     (last.is_ok(), count, json.into_inner())
 }
 
-// A value that owns memory is let go by a function of its own, which tells a `bool`: at each `?` of a test it would be followed anew.
 /// Whether every call goes well, and the text stands in the vector.
 fn is_written(alloc: Global) -> bool {
     let (is_well, count, out) = write_text(Vec::new(alloc));

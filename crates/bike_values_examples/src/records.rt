@@ -12,7 +12,7 @@ fn plan(alloc: Global) -> Result<Plan, FieldFault> {
     Plan::new(alloc, "basic", "Basic", 100, false, "Hourly", &[segment])
 }
 
-/// What half an hour costs by that plan, by division and minute by minute.
+/// What half an hour costs by the plan above, by division and minute by minute.
 fn fares(alloc: Global) -> Option<(Cents, Cents)> {
     let start = Moment::new(1_700_000_000)?;
     let end = Moment::new(1_700_001_800)?;

@@ -1,5 +1,4 @@
 mod LoadLemmas
-mod OpenLaws
+pub mod OpenLaws
 mod PartLemmas
 mod NameLemmas
-pub mod SightLemmas

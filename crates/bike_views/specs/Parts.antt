@@ -1,5 +1,5 @@
 -- Parts of a view that are read together.
-use Rattle.std.specs.Prelude.{ℕ, List, length, Bool, Option, Some, None}
+use Rattle.std.specs.Prelude.{ℕ, List, length, Bool}
 use Rattle.std.specs.List.{list_any}
 use Rattle.std.specs.Str.{bytes_eq}
 use Rattle.std.specs.FinMap as map
@@ -11,10 +11,6 @@ use Rattle.bike_operator.specs.declared.view.View.{View}
 use Rattle.bike_operator.specs.Operator.{Operator, item_numbered}
 use Rattle.bike_operator.specs.Counts.{is_riding, truck_load}
 use Rattle.bike_operator.specs.View.{bike_of, has_end, has_full_ledger, planned_rental, rental_at, rental_of, rider_at, side_view, truck_at}
-use Rattle.bike_booking.specs.declared.stored.StoredCounts.{StoredCounts}
-use Rattle.bike_booking.specs.declared.stored.StoredDock.{StoredDock}
-use Rattle.bike_fleet_reads.specs.declared.counts.TypeCounts.{TypeCounts}
-use Rattle.bike_fleet_reads.specs.declared.stations.DockNumbers.{DockNumbers}
 use Rattle.bike_views.specs.declared.rentals.StartView.{StartView}
 use Rattle.bike_views.specs.declared.rentals.RentalBike.{RentalBike}
 use Rattle.bike_views.specs.declared.orders.OrderNames.{OrderNames}
@@ -59,15 +55,6 @@ loaded_truck s truck = record { truck = truck_at s truck; loaded = truck_load s 
 -- an order, and the dock at a side of it
 abbrev pub delivery_view : Operator → ℕ → Side → ℕ → View
 delivery_view s order side dock = record (side_view s (item_numbered order s.orders) side dock) { order = item_numbered order s.orders }
-
--- the numbers of a station's docks as they were read, 0 where it has none
-abbrev pub dock_read : Option DockNumbers → Bool → StoredDock
-dock_read None listed = record { free = 0; broken = 0; is_listed = listed }
-dock_read (Some n) listed = record { free = n.free; broken = n.broken; is_listed = listed }
-
--- the counts of a type as they were read
-abbrev pub counts_read : TypeCounts → StoredCounts
-counts_read c = record { available = c.available; disabled = c.disabled }
 
 -- one of these names is in the language
 abbrev pub is_among : List ℕ → List MoreNameRow → Bool

@@ -166,7 +166,7 @@ pub(crate) fn view_to_load<S: Alter>(
 }
 
 /// The end of an order at a side.
-pub(crate) fn end_at(side: Side, order: &Order) -> &OrderEnd
+pub fn end_at(side: Side, order: &Order) -> &OrderEnd
     ensures { result.now ≡ end_of_order side order.now }
 {
     match side {

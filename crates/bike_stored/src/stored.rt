@@ -7,11 +7,9 @@ ghost use Rattle.bike_fleet_reads.specs.declared.stations.DockNumbers.{DockNumbe
 ghost use Rattle.bike_schema.specs.Answers.{Answers};
 ghost use Rattle.bike_booking.specs.Stored.{AreCountsStored, AreHeldStored, IsDockStored, IsListedAt, IsMovedStored};
 ghost use Rattle.bike_views.specs.Open.{AnswersOpen};
-ghost use Rattle.bike_views.specs.Parts.{counts_read, dock_read};
+ghost use Rattle.bike_stored.specs.Parts.{counts_read, dock_read};
 ghost use Rattle.bike_views.specs.Sight.{IsDockRead, IsSideRead, IsSight};
 
-use crate::orders::end_at;
-use crate::sight::Sight;
 use bike_accepted::{DockAt, Held, Moved};
 use bike_booking::{Stored, StoredCounts, StoredDock, Sums, Total};
 use bike_commands::Command;
@@ -20,6 +18,7 @@ use bike_fleet_reads::{DockNumbers, TypeCounts, find_counts, find_dock_numbers, 
 use bike_operator::Order;
 use bike_schema::StatementFault;
 use bike_texts::{OrderEnd, Side};
+use bike_views::{Sight, end_at};
 use sqlite::{Alter, Connection};
 
 /// A stored number. `StoreFailed` where it is above the most docks of a station: then it is nobody's.

@@ -1,7 +1,7 @@
 use Rattle.std.proofs.Common.{rules, sym, subst}
 use Rattle.bike_booking.specs.Stored.{IsMovedStored}
 use Rattle.bike_views.proofs.OpenLaws.{open_as, open_failed, open_none, open_of, open_then}
-use Rattle.bike_views.proofs.stored.find_moved.Goals as goal
+use Rattle.bike_stored.proofs.stored.find_moved.Goals as goal
 
 pub returns-in-Away-clause-stored : goal.returns-in-Away-clause-stored
 returns-in-Away-clause-stored g c = open_none _ (λ s m sight. subst (IsMovedStored s m c.untouched.result) (sym c.in-Away.is) tt)

@@ -1,8 +1,8 @@
 use Rattle.std.proofs.lemmas.Result.{IfOk-weaker}
 use Rattle.bike_schema.proofs.AnswerLemmas.{answers_made}
 use Rattle.bike_views.proofs.OpenLaws.{open_made, open_of}
-use Rattle.bike_views.proofs.PartLemmas.{dock_stored}
-use Rattle.bike_views.proofs.stored.find_dock.Goals as goal
+use Rattle.bike_stored.proofs.PartLemmas.{dock_stored}
+use Rattle.bike_stored.proofs.stored.find_dock.Goals as goal
 
 pub returns-then-is_read : goal.returns-then-is_read
 returns-then-is_read g c = open_made _ (λ s m. IfOk-weaker c.dock_of_sight.result _ _ (λ d is sight.

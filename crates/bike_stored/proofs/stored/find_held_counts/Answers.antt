@@ -2,7 +2,7 @@ use Rattle.std.proofs.Common.{None, sym, subst}
 use Rattle.bike_booking.specs.Stored.{AreHeldStored}
 use Rattle.bike_schema.proofs.AnswerLemmas.{reads_weaker}
 use Rattle.bike_views.proofs.OpenLaws.{open_none, open_of}
-use Rattle.bike_views.proofs.stored.find_held_counts.Goals as goal
+use Rattle.bike_stored.proofs.stored.find_held_counts.Goals as goal
 
 pub returns-in-None : goal.returns-in-None
 returns-in-None g c = open_none _ (λ s m. subst (λ o. AreHeldStored s m c.args.at.now o None) (sym c.in-None.is) tt)

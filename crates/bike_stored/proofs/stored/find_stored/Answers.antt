@@ -2,7 +2,7 @@ use Rattle.std.proofs.Common.{sym, subst}
 use Rattle.std.specs.Prelude.{IfSome}
 use Rattle.bike_booking.specs.Stored.{IsMovedStored}
 use Rattle.bike_views.proofs.OpenLaws.{open_none, open_weaker}
-use Rattle.bike_views.proofs.stored.find_stored.Goals as goal
+use Rattle.bike_stored.proofs.stored.find_stored.Goals as goal
 
 pub returns-in-None-clause-stored : goal.returns-in-None-clause-stored
 returns-in-None-clause-stored g c = open_none _ (λ s m sight. subst (λ o. IfSome o (IsMovedStored s m c.untouched.result)) (sym c.in-None.is) tt)

@@ -1,0 +1,2 @@
+mod PartLemmas
+pub mod SightLemmas
