@@ -122,7 +122,8 @@ impl JsonState {
     /// A member's name; its value comes next.
     pub fn name<W: Output>(&mut self, out: &mut W, name: &str) -> Result<(), WriteFault>
         requires name { IsTrue (takes_name self.old.top) }
-        ensures wrote { WroteNext self.old self.new (W.contents out.old) (W.contents out.new) (string_text name.now ++ 58 ∷ []) }
+        ensures wrote { Wrote self.old self.new (W.contents out.old) (W.contents out.new)
+            (comma (has_more self.old.top) ++ string_text name.now ++ 58 ∷ []) }
         ensures place { IsAt self.new Level.NamedObject self.old.round }
         ensures count { self.new.failed ≡ true → self.new.count ≡ self.old.count }
         ensures outcome { is_ok result ≡ not self.new.failed }

@@ -4,8 +4,8 @@ ghost use Rattle.std.specs.Prelude.{◌≡◌, ◌<◌, ◌++◌, ◌∷◌, [],
 ghost use Rattle.std.specs.Fmt.{signed_decimal};
 ghost use Rattle.bike_fixed.specs.Text.{cents_text, micro_text};
 ghost use Rattle.bike_json.specs.Escapes.{string_text};
-ghost use Rattle.bike_json.specs.Tree.{flag_text};
-ghost use Rattle.bike_json.specs.State.{Wrote, WroteNext, IsAt, outset, takes_value, takes_name, takes_array_end, after_value};
+ghost use Rattle.bike_json.specs.Tree.{comma, flag_text};
+ghost use Rattle.bike_json.specs.State.{Wrote, WroteNext, IsAt, outset, takes_value, takes_name, takes_array_end, has_more, after_value};
 
 use crate::level::Level;
 use crate::output::Output;
@@ -110,7 +110,8 @@ impl<W: Output + Drop> JsonWriter<W> {
     /// A member's name; its value comes next.
     pub fn name(&mut self, name: &str) -> Result<(), WriteFault>
         requires name { IsTrue (takes_name self.old.place.top) }
-        ensures wrote { WroteNext self.old.place self.new.place self.old.contents self.new.contents (string_text name.now ++ 58 ∷ []) }
+        ensures wrote { Wrote self.old.place self.new.place self.old.contents self.new.contents
+            (comma (has_more self.old.place.top) ++ string_text name.now ++ 58 ∷ []) }
         ensures place { IsAt self.new.place Level.NamedObject self.old.place.round }
         ensures count { self.new.place.failed ≡ true → self.new.place.count ≡ self.old.place.count }
         ensures outcome { is_ok result ≡ not self.new.place.failed }
