@@ -3,6 +3,7 @@ use Rattle.std.specs.Prelude.{◌≡◌, ℕ, ◌+◌, List, true, false, Option
 use Rattle.std.specs.FinMap as map
 use Rattle.std.specs.Borrow.{Bor}
 use Rattle.bike_ledger.specs.Entries.{Entry}
+use Rattle.bike_operator.specs.Rows.{moved_to, system_with}
 use Rattle.bike_commands.specs.declared.command.Command.{Command}
 use Rattle.bike_commands.specs.declared.refusal.Refusal.{Refusal}
 use Rattle.bike_operator.specs.declared.records.BikeState.TheVariants.{Fit}
@@ -49,6 +50,8 @@ after_change now (change.SetStation station installed renting returning) s =
 after_change now (change.AddRegion r) s = record s { regions = map.insert s.regions r.now.region_id r.now }
 after_change now (change.SetRegion station region) s = record s { stations = key_changed s.stations station.now (λ x. record x { region = text_in region }) }
 after_change now (change.AddName kind id language name) s = record s { more_names = map.insert s.more_names (name_key kind id.now language.now) name.now }
+after_change now (change.ChangeSystem x) s = record s { system = option_map (system_with x.now) s.system }
+after_change now (change.MoveStation station p) s = record s { stations = key_changed s.stations station.now (λ x. record x { row = moved_to p.now x.row }) }
 after_change now (change.AddBike bike type_id) s = record s { bikes = map.insert s.bikes bike (record { type_id = type_id.now; state = Fit; place = place.Depot }) }
 after_change now (change.AddTruck truck capacity) s = record s { trucks = map.insert s.trucks truck (record { capacity = capacity }) }
 after_change now (change.AddRider rider) s = record s { riders = map.insert s.riders rider (record { is_blocked = false }) }

@@ -1,7 +1,8 @@
 //! Records that are put or added, but for those of bicycles that are there and of docks.
 
 use bike_commands::{
-    Ident, Language, Name, NameKind, OrderEnd, Plan, Region, Station, System, VehicleType,
+    Ident, Language, Name, NameKind, OrderEnd, Plan, Position, Region, Settings, Station, System,
+    VehicleType,
 };
 use bike_operator::Order;
 
@@ -41,6 +42,13 @@ pub enum Change<'a> {
         id: &'a Ident,
         language: &'a Language,
         name: &'a Name,
+    },
+    /// The system gets other settings.
+    ChangeSystem(&'a Settings),
+    /// A station is moved to another position.
+    MoveStation {
+        station: &'a Ident,
+        position: &'a Position,
     },
     /// A bicycle is added, fit and in the depot.
     AddBike {

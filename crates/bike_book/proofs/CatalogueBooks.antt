@@ -1,14 +1,15 @@
 -- The row changes that book a system set, a type, region, station or further name added, and a type's default plan or a station's flags or region set.
 use Rattle.std.proofs.Common.{◌≡◌, ℕ, pos, List, [], ◌∷◌, true, Option, Some, None, refl, sym, ap, ap₂, ◌∙◌, arith}
-use Rattle.std.specs.Prelude.{map}
+use Rattle.std.specs.Prelude.{map, option_map}
 use Rattle.std.specs.Ordering.{nat_cmp}
 use Rattle.std.specs.declared.cmp.Ordering.TheVariants.{Equal}
 use Rattle.std.specs.Cmp.{eq_by_cmp_equiv, Equal-is}
 use Rattle.std.specs.FinMap as fin
 use Rattle.std.proofs.lemmas.Int.{ints}
+use Rattle.sqlite_value.specs.declared.value.Value.TheVariants.{Int, Text}
 use Rattle.sqlite_value.specs.Order.{Row, row_cmp}
-use Rattle.bike_rows.specs.View.{put_row_by}
-use Rattle.bike_operator.specs.Rows.{SystemRow}
+use Rattle.bike_rows.specs.View.{put_row_by, rows_after_update, with_values}
+use Rattle.bike_operator.specs.Rows.{SystemRow, SettingsRow, moved_to, system_with}
 use Rattle.bike_operator.specs.Operator.{Operator, Station, NameKey, name_key}
 use Rattle.bike_operator.specs.Steps.{key_changed, new_station}
 use Rattle.bike_operator.specs.Changes.{text_in}
@@ -17,10 +18,10 @@ use Rattle.bike_places.proofs.MapLemmas.{number_order, text_order, known_added, 
 use Rattle.bike_places.proofs.CatalogueLemmas.{same_docks, docks_changed, docks_added}
 use Rattle.bike_accepted.specs.declared.change.Change.TheVariants as change
 use Rattle.bike_accepted.specs.Effects.{after_change}
-use Rattle.bike_book.specs.Rows.{system_row, station_row}
+use Rattle.bike_book.specs.Rows.{number_value, system_row, station_row}
 use Rattle.bike_book.specs.Stored.{system_rows, stored_type, stored_region, stored_name}
 use Rattle.bike_book.specs.Between.{docks_left, counted_station, tables_between}
-use Rattle.bike_book.specs.ChangeLaws.{Everywhere, SetSystemLaw, AddTypeLaw, SetPlanLaw, AddRegionLaw, AddStationLaw, SetStationLaw, SetRegionLaw, AddNameLaw}
+use Rattle.bike_book.specs.ChangeLaws.{Everywhere, SetSystemLaw, AddTypeLaw, SetPlanLaw, AddRegionLaw, AddStationLaw, SetStationLaw, SetRegionLaw, AddNameLaw, ChangeSystemLaw, MoveStationLaw}
 use Rattle.bike_book.proofs.MapRows.{put_entries, changed_entries}
 use Rattle.bike_book.proofs.Keys.{numbers, number_key, texts, triples, name_triple, IsTriple}
 use Rattle.bike_book.proofs.ListingLemmas.{KeepsNames, names_same, listing_same}
@@ -39,6 +40,18 @@ pub set_system : Everywhere SetSystemLaw
 set_system s m now listing x = record {
   leads = λ i. record (tables_between s m) { system = system_put x.now s.system i };
   listing = listing_same s (after_change now (change.SetSystem x) s) m (names_same s (after_change now (change.SetSystem x) s) refl refl) refl refl listing;
+}
+
+settings_put : (x : SettingsRow) (o : Option SystemRow)
+    → rows_after_update 1 (Int (pos 1) ∷ []) (with_values ((3, Text x.name) ∷ (4, Text x.opening_hours) ∷ (5, Text x.feed_contact_email) ∷ (6, Text x.timezone)
+    ∷ (8, Text x.base_url) ∷ (9, number_value x.ttl) ∷ [])) (system_rows o) ≡ system_rows (option_map (system_with x) o)
+settings_put x None = refl
+settings_put x (Some y) = rw one_key refl
+
+pub change_system : Everywhere ChangeSystemLaw
+change_system s m now listing x = record {
+  leads = λ i. record (tables_between s m) { system = settings_put x.now s.system i };
+  listing = listing_same s (after_change now (change.ChangeSystem x) s) m (names_same s (after_change now (change.ChangeSystem x) s) refl refl) refl refl listing;
 }
 
 -- ---- types
@@ -90,10 +103,10 @@ add_station s m now listing x free none_taken none_broken =
       }) refl refl listing;
     }
 
--- a station's flags, report or region change, and not its record
-pub names_station : (s : Operator) (id : List ℕ) (f : Station → Station) → ((x : Station) → (f x).row ≡ x.row) → KeepsNames s (record s { stations = key_changed s.stations id f })
-names_station s id f rows = record {
-  docks = docks_changed s (record s { stations = key_changed s.stations id f }) id f rows refl;
+-- a station changes, and not how many docks it has
+pub names_station : (s : Operator) (id : List ℕ) (f : Station → Station) → ((x : Station) → (f x).row.docks ≡ x.row.docks) → KeepsNames s (record s { stations = key_changed s.stations id f })
+names_station s id f docks = record {
+  docks = docks_changed s (record s { stations = key_changed s.stations id f }) id f docks refl;
   stations = λ q h. known_changed text_order s.stations id f q h;
   types = λ q h. h;
 }
@@ -112,6 +125,16 @@ pub set_region : Everywhere SetRegionLaw
 set_region s m now listing station region =
     let n = after_change now (change.SetRegion station region) s in
     let f = λ (x : Station). record x { region = text_in region } in
+    let stations = changed_entries texts (counted_station s) (counted_station s) (λ e. refl) (λ e. refl) s.stations station.now tt _ f (λ v found. refl) (λ q y found. (tt, λ apart. refl)) in
+    record {
+      leads = λ i. record (tables_between s m) { stations = stations i };
+      listing = listing_same s n m (names_station s station.now f (λ x. refl)) refl refl listing;
+    }
+
+pub move_station : Everywhere MoveStationLaw
+move_station s m now listing station p =
+    let n = after_change now (change.MoveStation station p) s in
+    let f = λ (x : Station). record x { row = moved_to p.now x.row } in
     let stations = changed_entries texts (counted_station s) (counted_station s) (λ e. refl) (λ e. refl) s.stations station.now tt _ f (λ v found. refl) (λ q y found. (tt, λ apart. refl)) in
     record {
       leads = λ i. record (tables_between s m) { stations = stations i };

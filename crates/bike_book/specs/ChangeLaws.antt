@@ -3,7 +3,7 @@ use Rattle.std.specs.Prelude.{◌≡◌, ◌+◌, ℕ, suc, ℤ, pos, length, Li
 use Rattle.std.specs.Borrow.{Bor}
 use Rattle.std.specs.FinMap as fin
 use Rattle.bike_operator.specs.NameKind.{NameKind}
-use Rattle.bike_operator.specs.Rows.{SegmentRow, PlanRow, TypeRow, RegionRow, StationRow, SystemRow}
+use Rattle.bike_operator.specs.Rows.{SegmentRow, PlanRow, TypeRow, RegionRow, StationRow, PositionRow, SettingsRow, SystemRow}
 use Rattle.bike_ledger.specs.Ledger.{balance_of, refunded_of}
 use Rattle.bike_commands.specs.OrderEnd.{OrderEnd}
 use Rattle.bike_operator.specs.declared.records.Order.{Order}
@@ -38,6 +38,10 @@ module _ (s : Operator) (m : Listed) (now : ℕ) where
   abbrev pub SetSystemLaw : Type 0
   SetSystemLaw = (x : Bor SystemRow) → BooksChange (row.AddSystem x ∷ []) (change.SetSystem x)
 
+  -- other settings of the system, where it is set
+  abbrev pub ChangeSystemLaw : Type 0
+  ChangeSystemLaw = (x : Bor SettingsRow) → BooksChange (row.SetSettings x ∷ []) (change.ChangeSystem x)
+
   -- a plan that isn't there, with row changes that write its segments
   abbrev pub AddPlanLaw : Type 0
   AddPlanLaw =
@@ -67,6 +71,10 @@ module _ (s : Operator) (m : Listed) (now : ℕ) where
   SetStationLaw =
       (station : Bor (List ℕ)) (installed renting returning : Bool)
       → BooksChange (row.SetFlags station installed renting returning now ∷ []) (change.SetStation station installed renting returning)
+
+  -- another position of a station, where it is there
+  abbrev pub MoveStationLaw : Type 0
+  MoveStationLaw = (station : Bor (List ℕ)) (p : Bor PositionRow) → BooksChange (row.SetPosition station p ∷ []) (change.MoveStation station p)
 
   -- the region of a station, where it is there, or none
   abbrev pub SetRegionLaw : Type 0

@@ -49,6 +49,9 @@ columns_from at (v ∷ vs) = (at, v) ∷ columns_from (at + 1) vs
 -- THE TABLE: what each row change writes
 abbrev pub write_of : RowChange → RowWrite
 write_of (row.AddSystem x) = Add System (system_row x.now)
+write_of (row.SetSettings x) =
+    Set System (Int (pos 1) ∷ []) ((3, Text x.now.name) ∷ (4, Text x.now.opening_hours) ∷ (5, Text x.now.feed_contact_email) ∷ (6, Text x.now.timezone)
+    ∷ (8, Text x.now.base_url) ∷ (9, number_value x.now.ttl) ∷ [])
 write_of (row.AddPlan p) = Add Plans (plan_row p.now.plan_id p.now)
 write_of (row.AddSegment plan seq g) = Add Segments (segment_row plan.now seq g.now)
 write_of (row.AddType t) = Add Types (type_row t.now.type_id t.now)
@@ -57,6 +60,7 @@ write_of (row.AddRegion r) = Add Regions (region_row r.now.region_id r.now)
 write_of (row.AddStation x reported) = Add Stations (station_row x.now.station_id (new_station x.now reported) (pos x.now.docks) 0)
 write_of (row.SetFlags station installed renting returning reported) =
     Set Stations (Text station.now ∷ []) ((5, Int (truth installed)) ∷ (6, Int (truth renting)) ∷ (7, Int (truth returning)) ∷ (8, number_value reported) ∷ [])
+write_of (row.SetPosition station p) = Set Stations (Text station.now ∷ []) ((2, Int p.now.lat) ∷ (3, Int p.now.lon) ∷ [])
 write_of (row.SetRegion station region) = Set Stations (Text station.now ∷ []) ((11, or_null Text (text_in region)) ∷ [])
 write_of (row.SetReported station reported) = Set Stations (Text station.now ∷ []) ((8, number_value reported) ∷ [])
 write_of (row.SetDocks station free broken) = Set Stations (Text station.now ∷ []) ((9, number_value free) ∷ (10, number_value broken) ∷ [])

@@ -1,7 +1,8 @@
 //! Changes of one row each. Their numbers and texts are those of an operator's records.
 
 use bike_commands::{
-    Ident, Language, Name, NameKind, OrderEnd, Plan, Region, Segment, Station, System, VehicleType,
+    Ident, Language, Name, NameKind, OrderEnd, Plan, Position, Region, Segment, Settings, Station,
+    System, VehicleType,
 };
 use bike_fixed::{Cents, Moment};
 use bike_ledger::Entry;
@@ -13,6 +14,8 @@ use bike_operator::{BikeState, NewPlace};
 pub enum RowChange<'a> {
     /// Adds the one row of `system`.
     AddSystem(&'a System),
+    /// Sets the columns of `system` that may change.
+    SetSettings(&'a Settings),
     /// Adds a row to `plans`. Its segments are rows of their own.
     AddPlan(&'a Plan),
     /// Adds a row to `segments`, the `seq`-th of its plan from 1.
@@ -42,6 +45,11 @@ pub enum RowChange<'a> {
         is_renting: bool,
         is_returning: bool,
         reported: Moment,
+    },
+    /// Sets the position of a station.
+    SetPosition {
+        station: &'a Ident,
+        position: &'a Position,
     },
     /// Sets the region of a station, or that it is in none.
     SetRegion {

@@ -48,6 +48,8 @@ pub(crate) fn change_row<'a>(change: &Change<'a>, now: Moment) -> RowChange<'a>
             language,
             name,
         },
+        Change::ChangeSystem(settings) => RowChange::SetSettings(settings),
+        Change::MoveStation { station, position } => RowChange::SetPosition { station, position },
         Change::AddBike { bike, type_id } => RowChange::AddBike {
             bike: *bike,
             type_id,

@@ -38,6 +38,11 @@ pub record StationRow : Type 0 where
   pub lon : ℤ
   pub docks : ℕ
 
+-- where a station stands
+pub record PositionRow : Type 0 where
+  pub lat : ℤ
+  pub lon : ℤ
+
 pub record RegionRow : Type 0 where
   pub region_id : List ℕ
   pub name : List ℕ
@@ -55,6 +60,15 @@ pub record SystemRow : Type 0 where
   pub feed_contact_email : List ℕ
   pub timezone : List ℕ
   pub currency : List ℕ
+  pub base_url : List ℕ
+  pub ttl : ℕ
+
+-- what of a system may change
+pub record SettingsRow : Type 0 where
+  pub name : List ℕ
+  pub opening_hours : List ℕ
+  pub feed_contact_email : List ℕ
+  pub timezone : List ℕ
   pub base_url : List ℕ
   pub ttl : ℕ
 
@@ -86,6 +100,34 @@ system_of_fields system_id language name opening_hours feed_contact_email timezo
   currency = currency;
   base_url = base_url;
   ttl = ttl;
+}
+
+abbrev pub position_of_fields : ℤ → ℤ → PositionRow
+position_of_fields lat lon = record { lat = lat; lon = lon }
+
+abbrev pub settings_of_fields : List ℕ → List ℕ → List ℕ → List ℕ → List ℕ → ℕ → SettingsRow
+settings_of_fields name opening_hours feed_contact_email timezone base_url ttl = record {
+  name = name;
+  opening_hours = opening_hours;
+  feed_contact_email = feed_contact_email;
+  timezone = timezone;
+  base_url = base_url;
+  ttl = ttl;
+}
+
+-- the station at another position
+abbrev pub moved_to : PositionRow → StationRow → StationRow
+moved_to p s = record s { lat = p.lat; lon = p.lon }
+
+-- the system with other settings
+abbrev pub system_with : SettingsRow → SystemRow → SystemRow
+system_with x s = record s {
+  name = x.name;
+  opening_hours = x.opening_hours;
+  feed_contact_email = x.feed_contact_email;
+  timezone = x.timezone;
+  base_url = x.base_url;
+  ttl = x.ttl;
 }
 
 -- the bounds of each record
@@ -161,6 +203,14 @@ pub record IsStation (s : StationRow) : Type 0 where
   pub some_docks : 1 ≤ s.docks
   pub few_docks : s.docks ≤ MOST_DOCKS
 
+pub record IsPosition (p : PositionRow) : Type 0 where
+  pub lat : IsLatitude p.lat
+  pub lon : IsMicro p.lon
+
+-- the position, where its latitude is one
+abbrev pub position_within : PositionRow → Option PositionRow
+position_within p = if is_latitude p.lat then Some p else None
+
 pub record IsRegion (r : RegionRow) : Type 0 where
   pub region_id : is_ident r.region_id ≡ true
   pub name : is_name r.name ≡ true
@@ -177,5 +227,13 @@ pub record IsSystem (s : SystemRow) : Type 0 where
   pub feed_contact_email : is_ascii_field s.feed_contact_email ≡ true
   pub timezone : is_ascii_field s.timezone ≡ true
   pub currency : is_currency s.currency ≡ true
+  pub base_url : is_ascii_field s.base_url ≡ true
+  pub ttl : s.ttl ≤ LONGEST_TIME_TO_LIVE
+
+pub record IsSettings (s : SettingsRow) : Type 0 where
+  pub name : is_name s.name ≡ true
+  pub opening_hours : is_ascii_field s.opening_hours ≡ true
+  pub feed_contact_email : is_ascii_field s.feed_contact_email ≡ true
+  pub timezone : is_ascii_field s.timezone ≡ true
   pub base_url : is_ascii_field s.base_url ≡ true
   pub ttl : s.ttl ≤ LONGEST_TIME_TO_LIVE

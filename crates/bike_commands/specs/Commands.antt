@@ -36,6 +36,8 @@ word_of (command.CloseOrder order) = codes "close-order"
 word_of (command.AddRegion r) = codes "add-region"
 word_of (command.SetRegion station region) = codes "set-region"
 word_of (command.AddName kind id language name) = codes "add-name"
+word_of (command.ChangeSystem x) = codes "change-system"
+word_of (command.MoveStation station p) = codes "move-station"
 
 -- .. and its fields, in order
 abbrev pub fields_of : Command → List Field
@@ -68,6 +70,10 @@ fields_of (command.CloseOrder order) = Serial order ∷ []
 fields_of (command.AddRegion r) = Id r.region_id ∷ Name r.name ∷ []
 fields_of (command.SetRegion station region) = Id station ∷ IdOrNone region ∷ []
 fields_of (command.AddName kind id language name) = Fixed (kind_text kind) ∷ Id id ∷ Language language ∷ Name name ∷ []
+fields_of (command.ChangeSystem x) =
+    Name x.name ∷ Ascii x.opening_hours ∷ Ascii x.feed_contact_email ∷ Ascii x.timezone ∷ Ascii x.base_url
+    ∷ Number 0 LONGEST_TIME_TO_LIVE x.ttl ∷ []
+fields_of (command.MoveStation station p) = Id station ∷ Degrees GREATEST_LATITUDE p.lat ∷ Degrees GREATEST_COORDINATE p.lon ∷ []
 
 -- the fields keep their bounds, as those of every command of the program do
 abbrev pub IsCommand : Command → Type 0

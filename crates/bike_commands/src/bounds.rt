@@ -181,6 +181,11 @@ impl Command {
                 let _ = language.as_str();
                 let _ = name.as_str();
             }
+            Command::ChangeSystem(settings) => settings.bounds(),
+            Command::MoveStation { station, position } => {
+                let _ = station.as_str();
+                position.bounds();
+            }
         }
     }
 }

@@ -2,8 +2,8 @@
 
 use bike_texts::{
     BicycleNumber, DockNumber, Ident, Language, Name, NameKind, OrderEnd, OrderNumber,
-    OrderQuantity, Payment, Plan, Region, RentalNumber, RiderNumber, Side, Station, System,
-    TruckCapacity, TruckNumber, UnloadDock, VehicleType,
+    OrderQuantity, Payment, Plan, Position, Region, RentalNumber, RiderNumber, Settings, Side,
+    Station, System, TruckCapacity, TruckNumber, UnloadDock, VehicleType,
 };
 
 /// What a request asks for. Its fields keep their bounds by their types.
@@ -128,5 +128,12 @@ pub enum Command {
         id: Ident,
         language: Language,
         name: Name,
+    },
+    /// Changes what of the system may change.
+    ChangeSystem(Settings),
+    /// Moves a station to another position.
+    MoveStation {
+        station: Ident,
+        position: Position,
     },
 }

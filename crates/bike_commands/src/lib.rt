@@ -12,8 +12,8 @@ mod request;
 
 pub use bike_texts::{
     BicycleNumber, DockCount, DockNumber, Ident, Language, Name, NameKind, OrderEnd, OrderNumber,
-    OrderQuantity, Plan, Region, RentalNumber, RiderNumber, Segment, Station, System,
-    TruckCapacity, TruckNumber, UnloadDock, VehicleType,
+    OrderQuantity, Plan, Position, Region, RentalNumber, RiderNumber, Segment, Settings, Station,
+    System, TruckCapacity, TruckNumber, UnloadDock, VehicleType,
 };
 pub use command::Command;
 pub use refusal::Refusal;

@@ -7,7 +7,7 @@ ghost use Rattle.bike_accepted.specs.Found.{FindsOn};
 
 use crate::places::held_in;
 use bike_accepted::{Accepted, Change, Decision, DockAt, Moved};
-use bike_catalogue::{Plan, Station, System, VehicleType};
+use bike_catalogue::{Plan, Position, Settings, Station, System, VehicleType};
 use bike_commands::Refusal;
 use bike_fields::{DockNumber, Ident};
 use bike_operator::View;
@@ -21,6 +21,17 @@ pub(crate) fn decide_set_system<'a>(view: &View, system: &'a System) -> Decision
         return Err(Refusal::AlreadyThere);
     }
     Ok(Accepted::changed(Change::SetSystem(system)))
+}
+
+/// Decides on other settings of the system, which is set.
+pub(crate) fn decide_change_system<'a>(view: &View, settings: &'a Settings) -> Decision<'a>
+    ensures decides { DecidesOn view.now (command.ChangeSystem settings.now) result }
+    ensures found { IfOk result (FindsOn view.now (command.ChangeSystem settings.now)) }
+{
+    if !view.has_system {
+        return Err(Refusal::SystemMissing);
+    }
+    Ok(Accepted::changed(Change::ChangeSystem(settings)))
 }
 
 /// Decides on a new pricing plan.
@@ -80,6 +91,21 @@ pub(crate) fn decide_add_station<'a>(view: &View, station: &'a Station) -> Decis
         return Err(Refusal::LimitReached);
     }
     Ok(Accepted::changed(Change::AddStation(station)))
+}
+
+/// Decides on another position of a station.
+pub(crate) fn decide_move_station<'a>(
+    view: &View,
+    station: &'a Ident,
+    position: &'a Position,
+) -> Decision<'a>
+    ensures decides { DecidesOn view.now (command.MoveStation station.now position.now) result }
+    ensures found { IfOk result (FindsOn view.now (command.MoveStation station.now position.now)) }
+{
+    if view.station.is_none() {
+        return Err(Refusal::UnknownStation);
+    }
+    Ok(Accepted::changed(Change::MoveStation { station, position }))
 }
 
 /// Decides on the flags of a station.

@@ -168,3 +168,5 @@ reply_good s now (command.CloseOrder number) order good none later = done
 reply_good s now (command.AddRegion r) order good none later = done
 reply_good s now (command.SetRegion station region) order good none later = done
 reply_good s now (command.AddName kind id language name) order good none later = done
+reply_good s now (command.ChangeSystem x) order good none later = done
+reply_good s now (command.MoveStation station p) order good none later = done

@@ -217,3 +217,5 @@ view_bounded s now (command.CloseOrder order) sound later = record {
 view_bounded s now (command.AddRegion r) sound later = plain_bounded now (view_of s (command.AddRegion r)) refl refl refl refl refl
 view_bounded s now (command.SetRegion station region) sound later = plain_bounded now (view_of s (command.SetRegion station region)) refl refl refl refl refl
 view_bounded s now (command.AddName kind id language name) sound later = plain_bounded now (view_of s (command.AddName kind id language name)) refl refl refl refl refl
+view_bounded s now (command.ChangeSystem x) sound later = plain_bounded now (view_of s (command.ChangeSystem x)) refl refl refl refl refl
+view_bounded s now (command.MoveStation station p) sound later = plain_bounded now (view_of s (command.MoveStation station p)) refl refl refl refl refl

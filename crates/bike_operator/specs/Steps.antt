@@ -1,10 +1,10 @@
 -- What a command is refused, what it does, and what it is answered.
-use Rattle.std.specs.Prelude.{ℕ, ℤ, ◌+◌, ◌-ℤ◌, nat_le, nat_lt, int_lt, length, List, [], ◌∷◌, ◌++◌, Bool, true, false, not, ◌&&◌, ◌||◌, ◌==◌, Option, Some, None, is_some, is_none, pos, if◌then◌else◌}
+use Rattle.std.specs.Prelude.{ℕ, ℤ, ◌+◌, ◌-ℤ◌, nat_le, nat_lt, int_lt, length, List, [], ◌∷◌, ◌++◌, Bool, true, false, not, ◌&&◌, ◌||◌, ◌==◌, Option, Some, None, option_map, is_some, is_none, pos, if◌then◌else◌}
 use Rattle.std.specs.Str.{bytes_eq}
 use Rattle.std.specs.FinMap as map
 use Rattle.std.specs.FinSet as set
 use Rattle.std.specs.declared.cmp.Ordering.{Ordering}
-use Rattle.bike_commands.specs.Rows.{StationRow}
+use Rattle.bike_commands.specs.Rows.{StationRow, moved_to, system_with}
 use Rattle.bike_fares.specs.Pricing.{fare_of}
 use Rattle.bike_ledger.specs.declared.entry.EntryKind.{EntryKind}
 use Rattle.bike_ledger.specs.declared.entry.EntryKind.TheVariants as kind
@@ -150,6 +150,8 @@ tests v (command.AddRegion r) = (v.has_region, refusal.AlreadyThere) ∷ (v.is_f
 tests v (command.SetRegion station region) = (is_none v.station, refusal.UnknownStation) ∷ (not v.has_region, refusal.UnknownRegion) ∷ []
 tests v (command.AddName kind id language name) =
     (not v.has_system, refusal.SystemMissing) ∷ (not v.has_named, unknown_of kind) ∷ (v.has_language, refusal.AlreadyThere) ∷ (v.is_full, refusal.LimitReached) ∷ []
+tests v (command.ChangeSystem x) = (not v.has_system, refusal.SystemMissing) ∷ []
+tests v (command.MoveStation station p) = (is_none v.station, refusal.UnknownStation) ∷ []
 
 abbrev pub refusal_of : Operator → Command → Option Refusal
 refusal_of s c = first (tests (view_of s c) c)
@@ -283,6 +285,8 @@ effect s now (command.CloseOrder order) = order_changed order (λ o. record o { 
 effect s now (command.AddRegion r) = record s { regions = map.insert s.regions r.region_id r }
 effect s now (command.SetRegion station region) = record s { stations = key_changed s.stations station (λ x. record x { region = region }) }
 effect s now (command.AddName kind id language name) = record s { more_names = map.insert s.more_names (name_key kind id language) name }
+effect s now (command.ChangeSystem x) = record s { system = option_map (system_with x) s.system }
+effect s now (command.MoveStation station p) = record s { stations = key_changed s.stations station (λ x. record x { row = moved_to p x.row }) }
 
 -- ---- replies
 
@@ -326,3 +330,5 @@ reply_of s now (command.CloseOrder order) = Done
 reply_of s now (command.AddRegion r) = Done
 reply_of s now (command.SetRegion station region) = Done
 reply_of s now (command.AddName kind id language name) = Done
+reply_of s now (command.ChangeSystem x) = Done
+reply_of s now (command.MoveStation station p) = Done

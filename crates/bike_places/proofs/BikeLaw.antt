@@ -5,6 +5,7 @@ use Rattle.std.specs.FinMap as map
 use Rattle.std.specs.FinMap.{FinMap}
 use Rattle.std.proofs.lemmas.Bool.Decides.{nat_tests}
 use Rattle.std.proofs.Math.Dec.{eqb_refl}
+use Rattle.bike_operator.specs.Rows.{moved_to}
 use Rattle.bike_operator.specs.OrderEnd.{OrderEnd}
 use Rattle.bike_operator.specs.OrderEnd.TheVariants as end
 use Rattle.bike_operator.specs.Side.{Side}
@@ -254,3 +255,8 @@ bikes_law s now (command.SetRegion station region) k order good free late =
     let f : Station → Station = λ x. record x { region = region } in
     stations_bikes at (key_changed s.stations station f) (docks_changed at (record at { stations = key_changed s.stations station f }) station f (λ x. refl) refl) (later_bikes s now k order.bikes)
 bikes_law s now (command.AddName kind id language name) k order good free late = unchanged s now (command.AddName kind id language name) k refl order.bikes
+bikes_law s now (command.ChangeSystem x) k order good free late = unchanged s now (command.ChangeSystem x) k refl order.bikes
+bikes_law s now (command.MoveStation station p) k order good free late =
+    let at : Operator = at_moment s now k in
+    let f : Station → Station = λ x. record x { row = moved_to p x.row } in
+    stations_bikes at (key_changed s.stations station f) (docks_changed at (record at { stations = key_changed s.stations station f }) station f (λ x. refl) refl) (later_bikes s now k order.bikes)

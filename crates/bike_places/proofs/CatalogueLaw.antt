@@ -1,8 +1,10 @@
 -- An accepted command keeps the catalogue sound.
 use Rattle.std.proofs.Common.{◌≡◌, ℕ, ◌≤◌, List, true, Option, Some, None, refl, arith, if◌then◌else◌}
+use Rattle.std.specs.Prelude.{option_map}
 use Rattle.std.specs.Ordering.{nat_cmp}
 use Rattle.std.specs.FinMap as map
 use Rattle.std.specs.FinMap.{FinMap}
+use Rattle.bike_operator.specs.Rows.{IsSettings, moved_to, system_with}
 use Rattle.bike_operator.specs.OrderEnd.{OrderEnd}
 use Rattle.bike_operator.specs.OrderEnd.TheVariants as end
 use Rattle.bike_operator.specs.Side.{Side}
@@ -24,7 +26,7 @@ use Rattle.bike_operator.specs.Sound.{IsCatalogueSound}
 use Rattle.bike_places.specs.Accepted.{AcceptedKeeps}
 use Rattle.bike_places.proofs.Moment.{at_moment, reports}
 use Rattle.bike_places.proofs.TestLemmas.{none_holds, dock_of, no_station, holds}
-use Rattle.bike_places.proofs.CatalogueLemmas.{region_stands, catalogue_of, same_catalogue, system_set, plan_added, type_added, type_changed, region_added, station_added, station_changed, station_reported, dock_marked_catalogue}
+use Rattle.bike_places.proofs.CatalogueLemmas.{region_stands, catalogue_of, same_catalogue, system_set, settings_kept, plan_added, type_added, type_changed, region_added, station_added, station_changed, station_reported, dock_marked_catalogue}
 
 later_catalogue : (s : Operator) (now : ℕ) (k : FinMap texts_cmp Kept) → s.now ≤ now → IsCatalogueSound s → IsCatalogueSound (at_moment s now k)
 later_catalogue s now k late h = same_catalogue s (at_moment s now k) late refl h
@@ -83,7 +85,7 @@ unchanged s now c k late same h = same_catalogue s (at_moment (effect s now c) n
 
 pub catalogue_law : AcceptedKeeps IsCatalogueSound
 catalogue_law s now (command.SetSystem x) k order good free late =
-    system_set (at_moment s now k) x (record {
+    system_set (at_moment s now k) (Some x) (record {
       system_id = good.0;
       language = good.1.0;
       name = good.1.1.0;
@@ -120,8 +122,8 @@ catalogue_law s now (command.AddStation x) k order good free late =
       region = refl;
     }) (no_station (map.get s.stations x.station_id) no.0) no.1.0 (later_catalogue s now k late order.catalogue)
 catalogue_law s now (command.SetStation station installed renting returning) k order good free late =
-    station_changed (at_moment s now k) station (λ x. record x { is_installed = installed; is_renting = renting; is_returning = returning; reported = now }) (λ x. refl) (λ x old. omega arith) (λ x known. known)
-    (later_catalogue s now k late order.catalogue)
+    station_changed (at_moment s now k) station (λ x. record x { is_installed = installed; is_renting = renting; is_returning = returning; reported = now })
+    (record { id = λ x. refl; docks = λ x. refl; good = λ x good. good; by_now = λ x old. omega arith; region = λ x known. known }) (later_catalogue s now k late order.catalogue)
 catalogue_law s now (command.MarkDock station dock broken) k order good free late =
     let no = none_holds (tests (view_of s (command.MarkDock station dock broken)) (command.MarkDock station dock broken)) free in
     let has = dock_of (at_moment s now k) station dock (map.get s.stations station) refl no.0 no.1.0 good.1.0.0 in
@@ -154,5 +156,32 @@ catalogue_law s now (command.AddRegion r) k order good free late =
 catalogue_law s now (command.SetRegion station region) k order good free late =
     let no = none_holds (tests (view_of s (command.SetRegion station region)) (command.SetRegion station region)) free in
     let there : has_region (at_moment s now k) region ≡ true = region_stands s (at_moment s now k) (λ id known. known) region (holds (has_region s region) no.1.0) in
-    station_changed (at_moment s now k) station (λ x. record x { region = region }) (λ x. refl) (λ x old. old) (λ x known. there) (later_catalogue s now k late order.catalogue)
+    station_changed (at_moment s now k) station (λ x. record x { region = region })
+    (record { id = λ x. refl; docks = λ x. refl; good = λ x good. good; by_now = λ x old. old; region = λ x known. there }) (later_catalogue s now k late order.catalogue)
 catalogue_law s now (command.AddName kind id language name) k order good free late = unchanged s now (command.AddName kind id language name) k late refl order.catalogue
+catalogue_law s now (command.ChangeSystem x) k order good free late =
+    let settings : IsSettings x = record {
+      name = good.0;
+      opening_hours = good.1.0;
+      feed_contact_email = good.1.1.0;
+      timezone = good.1.1.1.0;
+      base_url = good.1.1.1.1.0;
+      ttl = good.1.1.1.1.1.0.1;
+    } in
+    system_set (at_moment s now k) (option_map (system_with x) s.system) (settings_kept x s.system settings order.catalogue.system) (later_catalogue s now k late order.catalogue)
+catalogue_law s now (command.MoveStation station p) k order good free late =
+    station_changed (at_moment s now k) station (λ x. record x { row = moved_to p x.row })
+    (record {
+      id = λ x. refl;
+      docks = λ x. refl;
+      good = λ x old. record {
+        station_id = old.station_id;
+        name = old.name;
+        lat = (good.1.0.0, good.1.0.1);
+        lon = (good.1.1.0.0, good.1.1.0.1);
+        some_docks = old.some_docks;
+        few_docks = old.few_docks;
+      };
+      by_now = λ x old. old;
+      region = λ x known. known;
+    }) (later_catalogue s now k late order.catalogue)

@@ -1,12 +1,13 @@
 -- What keeps the catalogue sound.
 use Rattle.std.proofs.Common.{◌≡◌, ℕ, ◌≤◌, List, Bool, true, false, Option, Some, None, refl, sym, ap, ◌∙◌, subst, arith, ◌||◌, ◌&&◌, not, leb}
+use Rattle.std.specs.Prelude.{option_map}
 use Rattle.std.specs.Ordering.{eq_by_cmp}
 use Rattle.std.specs.FinMap as map
 use Rattle.std.specs.FinMap.{FinMap}
 use Rattle.std.specs.FinSet as set
 use Rattle.std.specs.FinSet.{FinSet}
 use Rattle.bike_operator.specs.Bytes.{is_ident}
-use Rattle.bike_operator.specs.Rows.{PlanRow, TypeRow, RegionRow, StationRow, SystemRow, IsStation, IsSystem}
+use Rattle.bike_operator.specs.Rows.{PlanRow, TypeRow, RegionRow, StationRow, SystemRow, SettingsRow, IsStation, IsSettings, system_with}
 use Rattle.bike_operator.specs.Operator.{Operator, Station, text_cmp, texts_cmp, DockKey, dock_key}
 use Rattle.bike_operator.specs.declared.limits.TheConstants.{MOST_PLANS, MOST_TYPES, MOST_REGIONS, MOST_STATIONS}
 use Rattle.bike_operator.specs.View.{has_region}
@@ -19,16 +20,16 @@ use Rattle.bike_places.proofs.MapLemmas.{text_order, texts_order, tied, IsAdded,
 pub same_docks : (s n : Operator) → n.stations ≡ s.stations → (station : List ℕ) (dock : ℕ) → HasDock s station dock → HasDock n station dock
 same_docks s n e station dock h = record { row = h.row; found = ap (λ (m : FinMap text_cmp Station). map.get m station) e ∙ h.found; low = h.low; high = h.high }
 
-same_row : (f : Station → Station) → ((x : Station) → (f x).row ≡ x.row) → (x y : Station) → IsKept f x y → y.row ≡ x.row
-same_row f keeps x y (Same e) = ap (λ (z : Station). z.row) e
-same_row f keeps x y (Turned e) = ap (λ (z : Station). z.row) e ∙ keeps x
+as_many_docks : (f : Station → Station) → ((x : Station) → (f x).row.docks ≡ x.row.docks) → (x y : Station) → IsKept f x y → y.row.docks ≡ x.row.docks
+as_many_docks f keeps x y (Same e) = ap (λ (z : Station). z.row.docks) e
+as_many_docks f keeps x y (Turned e) = ap (λ (z : Station). z.row.docks) e ∙ keeps x
 
-pub docks_changed : (s n : Operator) (k : List ℕ) (f : Station → Station) → ((x : Station) → (f x).row ≡ x.row) → n.stations ≡ key_changed s.stations k f
+pub docks_changed : (s n : Operator) (k : List ℕ) (f : Station → Station) → ((x : Station) → (f x).row.docks ≡ x.row.docks) → n.stations ≡ key_changed s.stations k f
     → (station : List ℕ) (dock : ℕ) → HasDock s station dock → HasDock n station dock
 docks_changed s n k f keeps e station dock h =
     let r = kept_changed text_order s.stations k f station h.row h.found in
-    let is = same_row f keeps h.row r.row r.is in
-    record { row = r.row; found = ap (λ (m : FinMap text_cmp Station). map.get m station) e ∙ r.found; low = h.low; high = subst (λ (x : StationRow). dock ≤ x.docks) (sym is) h.high }
+    let is = as_many_docks f keeps h.row r.row r.is in
+    record { row = r.row; found = ap (λ (m : FinMap text_cmp Station). map.get m station) e ∙ r.found; low = h.low; high = subst (λ (docks : ℕ). dock ≤ docks) (sym is) h.high }
 
 pub docks_added : (s n : Operator) (k : List ℕ) (x : Station) → map.get s.stations k ≡ None → n.stations ≡ map.insert s.stations k x
     → (station : List ℕ) (dock : ℕ) → HasDock s station dock → HasDock n station dock
@@ -82,18 +83,33 @@ same_catalogue s n later e h =
 
 -- ---- the catalogue with one record set, added or changed
 
-pub system_set : (s : Operator) (x : SystemRow) → IsSystem x → IsCatalogueSound s → IsCatalogueSound (record s { system = Some x })
-system_set s x good h = record {
+pub system_set : (s : Operator) (o : Option SystemRow) → IsSetSystem o → IsCatalogueSound s → IsCatalogueSound (record s { system = o })
+system_set s o good h = record {
   system = good;
   plans = h.plans;
   types = λ id t found. let x = h.types id t found in record { id_is = x.id_is; good = x.good; plan = x.plan };
   regions = h.regions;
-  stations = λ id y found. station_stands s (record s { system = Some x }) (omega arith) (λ region known. known) id y (h.stations id y found);
-  broken = λ key found. broken_stand s (record s { system = Some x }) key (same_docks s (record s { system = Some x }) refl) (h.broken key found);
+  stations = λ id y found. station_stands s (record s { system = o }) (omega arith) (λ region known. known) id y (h.stations id y found);
+  broken = λ key found. broken_stand s (record s { system = o }) key (same_docks s (record s { system = o }) refl) (h.broken key found);
   few_plans = h.few_plans;
   few_types = h.few_types;
   few_regions = h.few_regions;
   few_stations = h.few_stations;
+}
+
+-- with other settings, where it is set
+pub settings_kept : (x : SettingsRow) (o : Option SystemRow) → IsSettings x → IsSetSystem o → IsSetSystem (option_map (system_with x) o)
+settings_kept x None good old = tt
+settings_kept x (Some y) good old = record {
+  system_id = old.system_id;
+  language = old.language;
+  name = good.name;
+  opening_hours = good.opening_hours;
+  feed_contact_email = good.feed_contact_email;
+  timezone = good.timezone;
+  currency = old.currency;
+  base_url = good.base_url;
+  ttl = good.ttl;
 }
 
 pub plan_added : (s : Operator) (p : PlanRow) → IsPlanAt p.plan_id p → leb MOST_PLANS (map.len s.plans) ≡ false → IsCatalogueSound s → IsCatalogueSound (record s { plans = map.insert s.plans p.plan_id p })
@@ -211,27 +227,34 @@ station_added s x good free full h =
     is_station id q (New same is) = rw (same, is) good
     is_station id q (Old apart found) = h.stations id q found
 
--- a station gets other flags or another region, or reports: its row stays
-pub station_changed : (s : Operator) (station : List ℕ) (f : Station → Station) → ((x : Station) → (f x).row ≡ x.row) → ((x : Station) → x.reported ≤ s.now → (f x).reported ≤ s.now)
-    → ((x : Station) → has_region s x.region ≡ true → has_region s (f x).region ≡ true) → IsCatalogueSound s → IsCatalogueSound (record s { stations = key_changed s.stations station f })
-station_changed s station f keeps by_now known h =
+-- What a station keeps that gets other flags, another region or another position, or reports: its identifier, its docks and its bounds.
+pub record IsKeptStation (s : Operator) (f : Station → Station) : Type 0 where
+  pub id : (x : Station) → (f x).row.station_id ≡ x.row.station_id
+  pub docks : (x : Station) → (f x).row.docks ≡ x.row.docks
+  pub good : (x : Station) → IsStation x.row → IsStation (f x).row
+  pub by_now : (x : Station) → x.reported ≤ s.now → (f x).reported ≤ s.now
+  pub region : (x : Station) → has_region s x.region ≡ true → has_region s (f x).region ≡ true
+
+pub station_changed : (s : Operator) (station : List ℕ) (f : Station → Station) → IsKeptStation s f → IsCatalogueSound s → IsCatalogueSound (record s { stations = key_changed s.stations station f })
+station_changed s station f keeps h =
     stations_changed s (key_changed s.stations station f) (λ id q found. is_station id q (changed_at text_order s.stations station f id q found))
-    (rw (len_changed text_order s.stations station f) h.few_stations) (docks_changed s (record s { stations = key_changed s.stations station f }) station f keeps refl) h
+    (rw (len_changed text_order s.stations station f) h.few_stations) (docks_changed s (record s { stations = key_changed s.stations station f }) station f keeps.docks refl) h
   where
     is_station : (id : List ℕ) (q : Station) → IsChanged s.stations station f id q → IsStationAt s id q
     is_station id q (Changed x same found is) =
         let old = h.stations station x found in
-        let row : q.row ≡ x.row = ap (λ (z : Station). z.row) is ∙ keeps x in
-        record {
-          id_is = same ∙ old.id_is ∙ ap (λ (r : StationRow). r.station_id) (sym row);
-          good = subst IsStation (sym row) old.good;
-          by_now = subst (λ (z : Station). z.reported ≤ s.now) (sym is) (by_now x old.by_now);
-          region = subst (λ (z : Station). has_region s z.region ≡ true) (sym is) (known x old.region);
-        }
+        subst (λ (z : Station). IsStationAt s id z) (sym is) (record {
+          id_is = same ∙ old.id_is ∙ sym (keeps.id x);
+          good = keeps.good x old.good;
+          by_now = keeps.by_now x old.by_now;
+          region = keeps.region x old.region;
+        })
     is_station id q (Other apart found) = h.stations id q found
 
 pub station_reported : (s : Operator) (station : List ℕ) (now : ℕ) → now ≤ s.now → IsCatalogueSound s → IsCatalogueSound (with_report station now s)
-station_reported s station now late h = station_changed s station (λ x. record x { reported = now }) (λ x. refl) (λ x old. late) (λ x known. known) h
+station_reported s station now late h =
+    station_changed s station (λ x. record x { reported = now })
+    (record { id = λ x. refl; docks = λ x. refl; good = λ x good. good; by_now = λ x old. late; region = λ x known. known }) h
 
 -- broken docks with another list of them
 broken_changed : (s : Operator) (broken : FinSet texts_cmp) → ((key : DockKey) → set.contains broken key ≡ true → IsBrokenDock s key) → IsCatalogueSound s → IsCatalogueSound (record s { broken = broken })

@@ -3,7 +3,7 @@ use Rattle.std.proofs.Common.{◌≡◌, ℕ, ◌+◌, ◌<◌, List, length, tr
 use Rattle.std.specs.FinMap as map
 use Rattle.std.specs.FinMap.{FinMap}
 use Rattle.std.proofs.lemmas.Bool.Decides.{nat_tests}
-use Rattle.bike_operator.specs.Rows.{PlanRow, TypeRow, RegionRow}
+use Rattle.bike_operator.specs.Rows.{PlanRow, TypeRow, RegionRow, moved_to}
 use Rattle.bike_operator.specs.OrderEnd.{OrderEnd}
 use Rattle.bike_operator.specs.OrderEnd.TheVariants as end
 use Rattle.bike_operator.specs.Side.{Side}
@@ -28,7 +28,7 @@ use Rattle.bike_places.specs.Accepted.{AcceptedKeeps}
 use Rattle.bike_places.proofs.Moment.{at_moment, reports}
 use Rattle.bike_places.proofs.MapLemmas.{text_order, known_added, known_changed}
 use Rattle.bike_places.proofs.TestLemmas.{none_holds, none_of, holds, neither}
-use Rattle.bike_places.proofs.NameLemmas.{KeepsNamed, named_parts, same_named, names_kept, system_set_names, name_added}
+use Rattle.bike_places.proofs.NameLemmas.{KeepsNamed, named_parts, same_named, names_kept, system_set_names, settings_changed_names, name_added}
 
 -- the further names are the same, and what has them goes on being there
 record KeepsNames (s n : Operator) : Type 0 where
@@ -199,3 +199,9 @@ names_law s now (command.AddName kind id language name) k order good free late =
       named = holds (has_named s kind id) no.1.0;
       further = new.0;
     }) (none_of (map.get s.more_names (name_key kind id language)) new.1) (room_left (length (further_names s kind id)) MOST_FURTHER_NAMES no.1.1.1.0) order.names)
+names_law s now (command.ChangeSystem x) k order good free late =
+    let n : Operator = effect s now (command.ChangeSystem x) in
+    kept_names n n now k (others n n refl refl) (settings_changed_names x s order.names)
+names_law s now (command.MoveStation station p) k order good free late =
+    let f : Station → Station = λ x. record x { row = moved_to p x.row } in
+    kept_names s (effect s now (command.MoveStation station p)) now k (with_stations s (key_changed s.stations station f) (known_changed text_order s.stations station f)) order.names

@@ -1,5 +1,6 @@
 -- What keeps names in further languages sound.
 use Rattle.std.proofs.Common.{◌≡◌, ℕ, ◌+◌, ◌≤◌, ◌<◌, List, [], ◌∷◌, length, filter, Bool, true, false, cond, ◌&&◌, Option, Some, None, is_some, refl, sym, ap, ◌∙◌, arith}
+use Rattle.std.specs.Prelude.{option_map}
 use Rattle.std.specs.Str.{bytes_eq}
 use Rattle.std.specs.Ordering.{is_eq}
 use Rattle.std.specs.declared.cmp.Ordering.{Ordering}
@@ -8,7 +9,7 @@ use Rattle.std.specs.FinMap as map
 use Rattle.std.specs.FinMap.{FinMap}
 use Rattle.std.specs.FinMap.Entries.{put, by_order}
 use Rattle.std.proofs.lemmas.List.{length-map}
-use Rattle.bike_operator.specs.Rows.{PlanRow, TypeRow, RegionRow, SystemRow}
+use Rattle.bike_operator.specs.Rows.{PlanRow, TypeRow, RegionRow, SystemRow, SettingsRow, system_with}
 use Rattle.bike_operator.specs.NameKinds.{kind_text}
 use Rattle.bike_operator.specs.NameKind.{NameKind}
 use Rattle.bike_operator.specs.NameKind.TheVariants as named
@@ -137,6 +138,44 @@ names_kept s n same keeps h = record {
 -- the system is set: there were no further names, since each stands beside a set system
 pub system_set_names : (s : Operator) (x : SystemRow) → is_some s.system ≡ false → AreNamesSound s → AreNamesSound (record s { system = Some x })
 system_set_names s x unset h = record { names = λ key name found. let set = (h.names key name found).set in absurd cc; few = h.few }
+
+-- the system gets other settings: it goes on being set, under its identifier and with its language
+module _ (x : SettingsRow) where
+  still_set : (o : Option SystemRow) → is_some (option_map (system_with x) o) ≡ is_some o
+  still_set None = refl
+  still_set (Some y) = refl
+
+  still_system : (o : Option SystemRow) (id : List ℕ) → is_system (option_map (system_with x) o) id ≡ is_system o id
+  still_system None id = refl
+  still_system (Some y) id = refl
+
+  still_own_language : (o : Option SystemRow) (language : List ℕ) → is_own_language (option_map (system_with x) o) language ≡ is_own_language o language
+  still_own_language None language = refl
+  still_own_language (Some y) language = refl
+
+  still_named : (s : Operator) (kind : NameKind) (id : List ℕ) → has_named s kind id ≡ true → has_named (record s { system = option_map (system_with x) s.system }) kind id ≡ true
+  still_named s named.System id h = still_system s.system id ∙ h
+  still_named s named.Station id h = h
+  still_named s named.Type id h = h
+  still_named s named.Plan id h = h
+  still_named s named.Description id h = h
+  still_named s named.Region id h = h
+
+  still_name : (s : Operator) (key : NameKey) (name : List ℕ) → IsNameAt s key name → IsNameAt (record s { system = option_map (system_with x) s.system }) key name
+  still_name s key name h = record {
+    kind = h.kind;
+    id = h.id;
+    language = h.language;
+    key_is = h.key_is;
+    good_id = h.good_id;
+    good = h.good;
+    set = still_set s.system ∙ h.set;
+    named = still_named s h.kind h.id h.named;
+    further = still_own_language s.system h.language ∙ h.further;
+  }
+
+  pub settings_changed_names : (s : Operator) → AreNamesSound s → AreNamesSound (record s { system = option_map (system_with x) s.system })
+  settings_changed_names s h = record { names = λ key name found. still_name s key name (h.names key name found); few = h.few }
 
 pub name_added : (s : Operator) (kind : NameKind) (id language name : List ℕ) → IsNameAt s (name_key kind id language) name → map.get s.more_names (name_key kind id language) ≡ None
     → length (further_names s kind id) < MOST_FURTHER_NAMES → AreNamesSound s → AreNamesSound (record s { more_names = map.insert s.more_names (name_key kind id language) name })

@@ -5,7 +5,7 @@ use Rattle.std.proofs.lemmas.Bool.{le-leb}
 use Rattle.std.proofs.lemmas.Int.{ints}
 use Rattle.std.proofs.lemmas.Option.{cond_some}
 use Rattle.bike_fixed.specs.Whole.{number_of}
-use Rattle.bike_catalogue.specs.Rows.{SystemRow, PlanRow, TypeRow, StationRow, RegionRow, IsRange, is_range, IsLatitude, is_latitude}
+use Rattle.bike_catalogue.specs.Rows.{SystemRow, PlanRow, TypeRow, StationRow, RegionRow, PositionRow, SettingsRow, IsRange, is_range, IsLatitude, is_latitude}
 use Rattle.bike_catalogue.specs.declared.name_kind.NameKind.{NameKind}
 use Rattle.bike_catalogue.specs.declared.vehicle.Propulsion.{Propulsion}
 use Rattle.bike_catalogue.specs.declared.vehicle.Propulsion.TheVariants.{Human, ElectricAssist}
@@ -15,9 +15,9 @@ use Rattle.bike_texts.specs.Reading.{◌>>=◌, no_more, degrees_of}
 use Rattle.bike_texts.proofs.TabFree.{AreRead}
 use Rattle.bike_texts.proofs.Chains.{IsReader, number_reader, ident_reader, language_reader, currency_reader, name_reader, ascii_reader, form_reader, kind_reader, propulsion_reader, metres_reader, degrees_reader, segments_reader, takes, ends, gives, given_all}
 use Rattle.bike_commands.specs.declared.command.Command.{Command}
-use Rattle.bike_commands.specs.declared.command.Command.TheVariants.{SetSystem, AddPlan, AddType, AddStation, AddRegion, AddName}
+use Rattle.bike_commands.specs.declared.command.Command.TheVariants.{SetSystem, AddPlan, AddType, AddStation, AddRegion, AddName, ChangeSystem, MoveStation}
 use Rattle.bike_commands.specs.Commands.{word_of, fields_of}
-use Rattle.bike_requests.specs.RecordReaders.{set_system_at, add_plan_at, add_type_at, add_station_at, add_region_at, add_name_at}
+use Rattle.bike_requests.specs.RecordReaders.{set_system_at, add_plan_at, add_type_at, add_station_at, add_region_at, add_name_at, change_system_at, move_station_at}
 use Rattle.bike_requests.proofs.KindLaws.{Left, dock_reader, flag_reader}
 
 price_reader : IsReader (number_of 0 1000000) (Number 0 1000000)
@@ -169,3 +169,39 @@ add_name_full kind id language name ps whole =
     gives _ id ps ident_reader read (λ ps read.
     gives _ language ps language_reader read (λ ps read.
     gives _ name ps name_reader read given_all)))
+
+pub change_system_sound : (ps : Parts) (c : Command) → change_system_at ps ≡ Some c → Left (codes "change-system") c [] ps
+unfolding change_system_at
+change_system_sound ps c e =
+    takes _ ps name_reader e (λ name ps e.
+    takes _ ps ascii_reader e (λ opening_hours ps e.
+    takes _ ps ascii_reader e (λ feed_contact_email ps e.
+    takes _ ps ascii_reader e (λ timezone ps e.
+    takes _ ps ascii_reader e (λ base_url ps e.
+    takes _ ps ttl_reader e (λ ttl ps e.
+    ends (ChangeSystem (record { name = name; opening_hours = opening_hours; feed_contact_email = feed_contact_email; timezone = timezone; base_url = base_url; ttl = ttl })) ps refl refl e))))))
+
+pub change_system_full : (row : SettingsRow) (ps : Parts) → AreRead (fields_of (ChangeSystem row)) ps → change_system_at ps ≡ Some (ChangeSystem row)
+unfolding change_system_at
+change_system_full row ps whole =
+    gives _ row.name ps name_reader whole (λ ps read.
+    gives _ row.opening_hours ps ascii_reader read (λ ps read.
+    gives _ row.feed_contact_email ps ascii_reader read (λ ps read.
+    gives _ row.timezone ps ascii_reader read (λ ps read.
+    gives _ row.base_url ps ascii_reader read (λ ps read.
+    gives _ row.ttl ps ttl_reader read given_all)))))
+
+pub move_station_sound : (ps : Parts) (c : Command) → move_station_at ps ≡ Some c → Left (codes "move-station") c [] ps
+unfolding move_station_at
+move_station_sound ps c e =
+    takes _ ps ident_reader e (λ station ps e.
+    takes _ ps latitude_reader e (λ lat ps e.
+    takes _ ps longitude_reader e (λ lon ps e.
+    ends_if (is_latitude lat) (MoveStation station (record { lat = lat; lon = lon })) ps refl refl e)))
+
+pub move_station_full : (station : List ℕ) (p : PositionRow) (ps : Parts) → AreRead (fields_of (MoveStation station p)) ps → move_station_at ps ≡ Some (MoveStation station p)
+unfolding move_station_at
+move_station_full station p ps whole =
+    gives _ station ps ident_reader whole (λ ps read.
+    gives _ p.lat ps latitude_reader read (λ ps read.
+    gives _ p.lon ps longitude_reader read (given_if (is_latitude p.lat) (latitude_holds p.lat (whole.good.1.0.0, whole.good.1.0.1)))))

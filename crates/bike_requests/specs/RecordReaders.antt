@@ -13,7 +13,7 @@ use Rattle.bike_texts.specs.Reading.{◌>>=◌, field_at, no_more, degrees_of, m
 use Rattle.bike_texts.specs.Escapes.{name_at, ascii_at}
 use Rattle.bike_texts.specs.SegmentReading.{segments_of}
 use Rattle.bike_commands.specs.declared.command.Command.{Command}
-use Rattle.bike_commands.specs.declared.command.Command.TheVariants.{SetSystem, AddPlan, AddType, AddStation, AddRegion, AddName}
+use Rattle.bike_commands.specs.declared.command.Command.TheVariants.{SetSystem, AddPlan, AddType, AddStation, AddRegion, AddName, ChangeSystem, MoveStation}
 
 unfoldable pub set_system_at : Parts → Option Command
 set_system_at ps = do
@@ -76,3 +76,22 @@ add_name_at ps = do
   name ← field_at name_at language.1
   end ← no_more name.1
   Some (AddName kind.0 id.0 language.0 name.0)
+
+unfoldable pub change_system_at : Parts → Option Command
+change_system_at ps = do
+  name ← field_at name_at ps
+  opening_hours ← field_at ascii_at name.1
+  feed_contact_email ← field_at ascii_at opening_hours.1
+  timezone ← field_at ascii_at feed_contact_email.1
+  base_url ← field_at ascii_at timezone.1
+  ttl ← field_at (number_of 0 LONGEST_TIME_TO_LIVE) base_url.1
+  end ← no_more ttl.1
+  Some (ChangeSystem (record { name = name.0; opening_hours = opening_hours.0; feed_contact_email = feed_contact_email.0; timezone = timezone.0; base_url = base_url.0; ttl = ttl.0 }))
+
+unfoldable pub move_station_at : Parts → Option Command
+move_station_at ps = do
+  station ← field_at ident_of ps
+  lat ← field_at (degrees_of GREATEST_LATITUDE) station.1
+  lon ← field_at (degrees_of GREATEST_COORDINATE) lat.1
+  end ← no_more lon.1
+  if is_latitude lat.0 then Some (MoveStation station.0 (record { lat = lat.0; lon = lon.0 })) else None

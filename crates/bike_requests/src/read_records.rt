@@ -1,9 +1,11 @@
 //! Reading the commands with a record of the catalogue, or with a name in a further language.
 
 ghost use Rattle.bike_fields.specs.Reads.{IsReadAs};
-ghost use Rattle.bike_requests.specs.RecordReaders.{set_system_at, add_plan_at, add_type_at, add_station_at, add_region_at, add_name_at};
+ghost use Rattle.bike_requests.specs.RecordReaders.{set_system_at, add_plan_at, add_type_at, add_station_at, add_region_at, add_name_at, change_system_at, move_station_at};
 
-use bike_catalogue::{GREATEST_LATITUDE, Plan, Region, Station, System, VehicleType};
+use bike_catalogue::{
+    GREATEST_LATITUDE, Plan, Position, Region, Settings, Station, System, VehicleType,
+};
 use bike_commands::Command;
 use bike_fields::{Ascii, Currency, GREATEST_COORDINATE, Ident, Language, Name};
 use bike_texts::Fields;
@@ -204,4 +206,67 @@ pub fn read_add_name(alloc: Global, mut fields: Fields) -> Result<Option<Command
         language,
         name,
     }))
+}
+
+#[tactic(auto, unfolding(crate::specs::RecordReaders::change_system_at))]
+pub fn read_change_system(alloc: Global, mut fields: Fields) -> Result<Option<Command>, AllocError>
+    ensures { IsReadAs (change_system_at fields.entry) result }
+{
+    let Some(name) = fields.name() else {
+        return Ok(None);
+    };
+    let Some(opening_hours) = fields.ascii() else {
+        return Ok(None);
+    };
+    let Some(feed_contact_email) = fields.ascii() else {
+        return Ok(None);
+    };
+    let Some(timezone) = fields.ascii() else {
+        return Ok(None);
+    };
+    let Some(base_url) = fields.ascii() else {
+        return Ok(None);
+    };
+    let Some(ttl) = fields.number() else {
+        return Ok(None);
+    };
+    let Some(()) = fields.end() else {
+        return Ok(None);
+    };
+    let name = Name::of(alloc, name.as_str())?;
+    let opening_hours = Ascii::of(alloc, opening_hours.as_str())?;
+    let feed_contact_email = Ascii::of(alloc, feed_contact_email.as_str())?;
+    let timezone = Ascii::of(alloc, timezone.as_str())?;
+    let base_url = Ascii::of(alloc, base_url.as_str())?;
+    Ok(Some(Command::ChangeSystem(Settings::from_fields(
+        name,
+        opening_hours,
+        feed_contact_email,
+        timezone,
+        base_url,
+        ttl,
+    ))))
+}
+
+#[tactic(auto, unfolding(crate::specs::RecordReaders::move_station_at))]
+pub fn read_move_station(alloc: Global, mut fields: Fields) -> Result<Option<Command>, AllocError>
+    ensures { IsReadAs (move_station_at fields.entry) result }
+{
+    let Some(station) = fields.ident() else {
+        return Ok(None);
+    };
+    let Some(lat) = fields.degrees(GREATEST_LATITUDE) else {
+        return Ok(None);
+    };
+    let Some(lon) = fields.degrees(GREATEST_COORDINATE) else {
+        return Ok(None);
+    };
+    let Some(()) = fields.end() else {
+        return Ok(None);
+    };
+    let Some(position) = Position::from_fields(lat, lon) else {
+        return Ok(None);
+    };
+    let station = Ident::of(alloc, station)?;
+    Ok(Some(Command::MoveStation { station, position }))
 }

@@ -3,13 +3,13 @@
 ghost use Rattle.std.specs.Prelude.{◌≡◌, ◌++◌, ◌∷◌, [], OnOk, string_bytes};
 ghost use Rattle.bike_fields.specs.declared.numbers.TheConstants.{LONGEST_TIME_TO_LIVE};
 ghost use Rattle.bike_texts.specs.Fields.{Number, Currency, Ascii, fields_text};
-ghost use Rattle.bike_commands.specs.declared.command.Command.TheVariants.{SetSystem, AddPlan, AddType, AddStation, AddRegion, AddName};
+ghost use Rattle.bike_commands.specs.declared.command.Command.TheVariants.{SetSystem, AddPlan, AddType, AddStation, AddRegion, AddName, ChangeSystem, MoveStation};
 ghost use Rattle.bike_commands.specs.Commands.{fields_of};
 
 use crate::write_fields::{
     put_choice, put_degrees, put_escaped, put_ident, put_number, put_segments, put_text,
 };
-use bike_catalogue::{NameKind, Plan, Region, Station, System, VehicleType};
+use bike_catalogue::{NameKind, Plan, Position, Region, Settings, Station, System, VehicleType};
 use bike_fields::{Ident, Language, Name};
 use std::alloc::AllocError;
 
@@ -101,4 +101,29 @@ pub fn put_name(
     put_ident(out, id)?;
     put_text(out, language.as_str())?;
     put_escaped(out, name.as_str())
+}
+
+#[tactic(auto, unfolding(bike_texts::specs::Fields::fields_text))]
+pub fn put_settings(out: &mut String, settings: &Settings) -> Result<(), AllocError>
+    ensures { OnOk result (string_bytes out.new ≡ string_bytes out.old ++ fields_text (fields_of (ChangeSystem settings.now))) }
+{
+    put_escaped(out, settings.name().as_str())?;
+    put_escaped(out, settings.opening_hours().as_str())?;
+    put_escaped(out, settings.feed_contact_email().as_str())?;
+    put_escaped(out, settings.timezone().as_str())?;
+    put_escaped(out, settings.base_url().as_str())?;
+    put_number(out, &settings.ttl())
+}
+
+#[tactic(auto, unfolding(bike_texts::specs::Fields::fields_text))]
+pub fn put_position(
+    out: &mut String,
+    station: &Ident,
+    position: &Position,
+) -> Result<(), AllocError>
+    ensures { OnOk result (string_bytes out.new ≡ string_bytes out.old ++ fields_text (fields_of (MoveStation station.now position.now))) }
+{
+    put_ident(out, station)?;
+    put_degrees(out, &position.lat())?;
+    put_degrees(out, &position.lon())
 }

@@ -9,7 +9,9 @@ ghost use Rattle.bike_commands.specs.Commands.{text_of, word_of, fields_of, IsCo
 use crate::write_fields::{
     put_choice, put_end, put_ident, put_ident_or_none, put_number, put_text,
 };
-use crate::write_records::{put_name, put_plan, put_region, put_station, put_system, put_type};
+use crate::write_records::{
+    put_name, put_plan, put_position, put_region, put_settings, put_station, put_system, put_type,
+};
 use bike_commands::Command;
 use bike_fields::{
     BicycleNumber, DockNumber, GREATEST_NUMBER, Ident, OrderNumber, OrderQuantity, TruckNumber,
@@ -47,6 +49,8 @@ fn word(command: &Command) -> &'static str
         Command::AddRegion(_) => "add-region",
         Command::SetRegion { .. } => "set-region",
         Command::AddName { .. } => "add-name",
+        Command::ChangeSystem(_) => "change-system",
+        Command::MoveStation { .. } => "move-station",
     }
 }
 
@@ -243,6 +247,8 @@ fn put_fields(out: &mut String, command: &Command) -> Result<(), AllocError>
             language,
             name,
         } => put_name(out, *kind, id, language, name),
+        Command::ChangeSystem(settings) => put_settings(out, settings),
+        Command::MoveStation { station, position } => put_position(out, station, position),
     }
 }
 

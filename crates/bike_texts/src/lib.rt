@@ -14,7 +14,9 @@ mod fields;
 mod segments;
 mod values;
 
-pub use bike_catalogue::{NameKind, Plan, Region, Segment, Station, System, VehicleType};
+pub use bike_catalogue::{
+    NameKind, Plan, Position, Region, Segment, Settings, Station, System, VehicleType,
+};
 pub use bike_fields::{
     BicycleNumber, Caller, DockCount, DockNumber, Ident, Language, Name, OrderNumber,
     OrderQuantity, Payment, RentalNumber, RequestKey, RiderNumber, TruckCapacity, TruckNumber,

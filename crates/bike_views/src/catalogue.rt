@@ -1,7 +1,7 @@
 //! What the commands on the system, pricing plans, vehicle types and new regions name.
 
 ghost use Rattle.std.specs.Prelude.{◌≡◌};
-ghost use Rattle.bike_catalogue.specs.Rows.{SystemRow};
+ghost use Rattle.bike_catalogue.specs.Rows.{SettingsRow, SystemRow};
 ghost use Rattle.bike_commands.specs.declared.command.Command.TheVariants as command;
 ghost use Rattle.bike_operator.specs.View.{type_view, view_of};
 ghost use Rattle.bike_schema.specs.Answers.{Answers};
@@ -19,6 +19,20 @@ use sqlite::{Alter, Connection};
 pub(crate) fn view_to_set_system<S: Alter>(conn: &mut Connection<S>) -> Result<View, StatementFault>
     ensures { Answers S.Store conn.old conn.new result
         (λ s m view. (x : SystemRow) → view ≡ view_of s (command.SetSystem x)) }
+{
+    let has_system = has_system(conn)?;
+    Ok(View {
+        has_system,
+        ..empty_view()
+    })
+}
+
+/// The view for other settings of the system.
+pub(crate) fn view_to_change_system<S: Alter>(
+    conn: &mut Connection<S>,
+) -> Result<View, StatementFault>
+    ensures { Answers S.Store conn.old conn.new result
+        (λ s m view. (x : SettingsRow) → view ≡ view_of s (command.ChangeSystem x)) }
 {
     let has_system = has_system(conn)?;
     Ok(View {

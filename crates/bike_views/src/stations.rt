@@ -1,6 +1,7 @@
 //! What the commands on stations and their docks name.
 
 ghost use Rattle.std.specs.Prelude.{◌≡◌, Bool};
+ghost use Rattle.bike_catalogue.specs.Rows.{PositionRow};
 ghost use Rattle.bike_commands.specs.declared.command.Command.TheVariants as command;
 ghost use Rattle.bike_operator.specs.View.{has_region, view_of};
 ghost use Rattle.bike_schema.specs.Answers.{Answers};
@@ -61,6 +62,21 @@ pub(crate) fn view_to_mark_dock<S: Alter>(
         (λ s m x. (broken : Bool) → IsSight s m (command.MarkDock station.now dock broken) x) }
 {
     find_dock_view(alloc, conn, station, dock.get())
+}
+
+/// The view for another position of a station.
+pub(crate) fn view_to_move_station<S: Alter>(
+    conn: &mut Connection<S>,
+    station: &Ident,
+) -> Result<View, StatementFault>
+    ensures { Answers S.Store conn.old conn.new result
+        (λ s m view. (p : PositionRow) → view ≡ view_of s (command.MoveStation station.now p)) }
+{
+    let station = find_station(conn, station)?;
+    Ok(View {
+        station,
+        ..empty_view()
+    })
 }
 
 /// Whether the region is there, or none is named.

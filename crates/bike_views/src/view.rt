@@ -6,7 +6,8 @@ ghost use Rattle.bike_views.specs.Sight.{IsSight};
 
 use crate::bikes::{view_to_add_bike, view_to_mark_bike, view_to_retire_bike};
 use crate::catalogue::{
-    view_to_add_plan, view_to_add_region, view_to_add_type, view_to_set_plan, view_to_set_system,
+    view_to_add_plan, view_to_add_region, view_to_add_type, view_to_change_system,
+    view_to_set_plan, view_to_set_system,
 };
 use crate::figures::Known;
 use crate::names::view_to_add_name;
@@ -17,7 +18,8 @@ use crate::rentals::{view_to_end, view_to_recover, view_to_refund, view_to_start
 use crate::riders::{view_to_add_rider, view_to_set_rider, view_to_top_up};
 use crate::sight::{Sight, without_dock};
 use crate::stations::{
-    view_to_add_station, view_to_mark_dock, view_to_set_region, view_to_set_station,
+    view_to_add_station, view_to_mark_dock, view_to_move_station, view_to_set_region,
+    view_to_set_station,
 };
 use bike_commands::Command;
 use bike_schema::StatementFault;
@@ -114,5 +116,7 @@ pub fn find_view<S: Alter>(
             language,
             ..
         } => without_dock(view_to_add_name(alloc, conn, *kind, id, language)),
+        Command::ChangeSystem(_) => without_dock(view_to_change_system(conn)),
+        Command::MoveStation { station, .. } => without_dock(view_to_move_station(conn, station)),
     }
 }

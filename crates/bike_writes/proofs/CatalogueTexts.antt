@@ -1,12 +1,12 @@
 -- The statements on the catalogue.
-use Rattle.std.proofs.Common.{List, ℕ, [], ◌∷◌, codes, refl}
+use Rattle.std.proofs.Common.{List, ℕ, pos, [], ◌∷◌, codes, refl}
 use Rattle.std.specs.Borrow.{Bor}
-use Rattle.sqlite_value.specs.declared.value.Value.TheVariants.{Text}
-use Rattle.bike_catalogue.specs.Rows.{SegmentRow, PlanRow, TypeRow, RegionRow, SystemRow}
+use Rattle.sqlite_value.specs.declared.value.Value.TheVariants.{Int, Text}
+use Rattle.bike_catalogue.specs.Rows.{SegmentRow, PlanRow, TypeRow, RegionRow, SettingsRow, SystemRow}
 use Rattle.bike_catalogue.specs.declared.name_kind.NameKind.{NameKind}
 use Rattle.bike_operator.specs.Operator.{name_key}
 use Rattle.bike_book.specs.Tables.{System, Plans, Segments, Types, Regions, MoreNames}
-use Rattle.bike_book.specs.Rows.{system_row, plan_row, segment_row, type_row, region_row, name_row}
+use Rattle.bike_book.specs.Rows.{number_value, system_row, plan_row, segment_row, type_row, region_row, name_row}
 use Rattle.bike_writes.proofs.TextLemmas.{Makes, number_suits}
 use Rattle.sqlite_tied.specs.Compute.{everything}
 use Rattle.bike_rows.proofs.WriteLaws.{row_put, row_updated}
@@ -17,6 +17,11 @@ use Rattle.bike_schema.proofs.MakesLemmas.{adds_row, sets_columns}
 pub adds_system : (x : Bor SystemRow) → Makes (codes "INSERT INTO system VALUES (?1, ?2, ?3, ?4, ?5, ?6, ?7, ?8, ?9, ?10)") (system_row x.now) (row.AddSystem x)
 unfolding everything
 adds_system x = adds_row System (row_put (table_key System) (λ s tree. (refl, refl, refl, λ base. refl)) refl refl (λ rows. refl))
+
+pub sets_settings : (x : Bor SettingsRow) → Makes (codes "UPDATE system SET name = ?2, hours = ?3, contact = ?4, zone = ?5, base_url = ?6, ttl = ?7 WHERE one = ?1")
+    (Int (pos 1) ∷ Text x.now.name ∷ Text x.now.opening_hours ∷ Text x.now.feed_contact_email ∷ Text x.now.timezone ∷ Text x.now.base_url ∷ number_value x.now.ttl ∷ []) (row.SetSettings x)
+unfolding everything
+sets_settings x = sets_columns System _ _ (row_updated (table_key System) 0 ((3, 1) ∷ (4, 2) ∷ (5, 3) ∷ (6, 4) ∷ (8, 5) ∷ (9, 6) ∷ []) _ (λ tree. (refl, refl, refl), refl) refl refl refl (λ r. refl) (λ r. refl))
 
 pub adds_plan : (p : Bor PlanRow) → Makes (codes "INSERT INTO plans VALUES (?1, ?2, ?3, ?4, ?5)") (plan_row p.now.plan_id p.now) (row.AddPlan p)
 unfolding everything

@@ -4,7 +4,7 @@ use Rattle.std.specs.Borrow.{Bor}
 use Rattle.sqlite_value.specs.declared.value.Value.TheVariants.{Int, Text}
 use Rattle.sqlite.specs.Values.{or_null}
 use Rattle.bike_rows.proofs.ParamLemmas.{text_suits}
-use Rattle.bike_catalogue.specs.Rows.{StationRow}
+use Rattle.bike_catalogue.specs.Rows.{StationRow, PositionRow}
 use Rattle.bike_operator.specs.Steps.{new_station}
 use Rattle.bike_operator.specs.Changes.{text_in}
 use Rattle.bike_book.specs.Tables.{Stations, Docks, Counts}
@@ -35,6 +35,10 @@ sets_docks station free broken = sets_columns Stations _ _ (row_updated (table_k
 pub sets_docks_reported : (station : Bor (List ℕ)) (free broken reported : ℕ) → Makes (codes "UPDATE stations_3 SET free = ?2, broken = ?3, reported = ?4 WHERE station_id = ?1") (Text station.now ∷ number_value free ∷ number_value broken ∷ number_value reported ∷ []) (row.SetDocksReported station free broken reported)
 unfolding everything
 sets_docks_reported station free broken reported = sets_columns Stations _ _ (row_updated (table_key Stations) 0 ((9, 1) ∷ (10, 2) ∷ (8, 3) ∷ []) _ (λ tree. (refl, refl, refl), refl) refl refl refl (λ r. refl) (λ r. refl))
+
+pub sets_position : (station : Bor (List ℕ)) (p : Bor PositionRow) → Makes (codes "UPDATE stations_3 SET lat = ?2, lon = ?3 WHERE station_id = ?1") (Text station.now ∷ Int p.now.lat ∷ Int p.now.lon ∷ []) (row.SetPosition station p)
+unfolding everything
+sets_position station p = sets_columns Stations _ _ (row_updated (table_key Stations) 0 ((2, 1) ∷ (3, 2) ∷ []) _ (λ tree. (refl, refl, refl), refl) refl refl refl (λ r. refl) (λ r. refl))
 
 pub sets_region : (station : Bor (List ℕ)) (region : Option (Bor (List ℕ))) → Makes (codes "UPDATE stations_3 SET region_id = ?2 WHERE station_id = ?1") (Text station.now ∷ or_null Text (text_in region) ∷ []) (row.SetRegion station region)
 unfolding everything

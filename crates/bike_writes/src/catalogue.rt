@@ -4,7 +4,7 @@ ghost use Rattle.bike_book.specs.declared.row_change.RowChange.TheVariants as ro
 ghost use Rattle.bike_book.specs.Writes.{write_of};
 ghost use Rattle.bike_schema.specs.Calls.{Writes};
 
-use bike_catalogue::{NameKind, Plan, Region, Segment, System, VehicleType};
+use bike_catalogue::{NameKind, Plan, Region, Segment, Settings, System, VehicleType};
 use bike_fields::{Ident, Language, Name};
 use bike_rows::write::run;
 use bike_schema::{Staged, StatementFault};
@@ -31,6 +31,28 @@ pub(crate) fn add_system<S: Alter>(
             system.currency().as_str(),
             system.base_url().as_str(),
             system.ttl().get()
+        ],
+    )
+}
+
+/// Sets the columns of `system` that may change.
+pub(crate) fn set_settings<S: Alter>(
+    tx: &mut Staged<'_, S>,
+    settings: &Settings,
+) -> Result<(), StatementFault>
+    ensures { Writes S.Store tx.old.conn tx.new.conn result (write_of (row.SetSettings settings.entry)) }
+{
+    run(
+        tx,
+        "UPDATE system SET name = ?2, hours = ?3, contact = ?4, zone = ?5, base_url = ?6, ttl = ?7 WHERE one = ?1",
+        params![
+            1_i64,
+            settings.name().as_str(),
+            settings.opening_hours().as_str(),
+            settings.feed_contact_email().as_str(),
+            settings.timezone().as_str(),
+            settings.base_url().as_str(),
+            settings.ttl().get()
         ],
     )
 }

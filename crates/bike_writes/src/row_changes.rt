@@ -5,6 +5,7 @@ ghost use Rattle.bike_schema.specs.Calls.{Writes};
 
 use crate::catalogue::{
     add_name, add_plan, add_region, add_segment, add_system, add_type, set_default_plan,
+    set_settings,
 };
 use crate::fleet::{add_bike, add_truck, set_bike};
 use crate::ledger::{add_entry, add_kept, set_meta};
@@ -13,7 +14,7 @@ use crate::rentals::{add_rental, close_rental, set_refunded};
 use crate::riders::{add_rider, set_balance, set_blocked};
 use crate::stations::{
     add_count, add_dock, add_station, set_count, set_dock, set_docks, set_docks_reported,
-    set_flags, set_region, set_reported,
+    set_flags, set_position, set_region, set_reported,
 };
 use bike_book::RowChange;
 use bike_schema::{Staged, StatementFault};
@@ -28,6 +29,7 @@ pub fn put<S: Alter>(tx: &mut Staged<'_, S>, change: &RowChange<'_>) -> Result<(
 {
     match *change {
         RowChange::AddSystem(system) => add_system(tx, system),
+        RowChange::SetSettings(settings) => set_settings(tx, settings),
         RowChange::AddPlan(plan) => add_plan(tx, plan),
         RowChange::AddSegment { plan, seq, segment } => add_segment(tx, plan, seq, segment),
         RowChange::AddType(vehicle_type) => add_type(tx, vehicle_type),
@@ -60,6 +62,7 @@ pub fn put<S: Alter>(tx: &mut Staged<'_, S>, change: &RowChange<'_>) -> Result<(
             broken,
             reported,
         } => set_docks_reported(tx, station, free, broken, reported),
+        RowChange::SetPosition { station, position } => set_position(tx, station, position),
         RowChange::SetRegion { station, region } => set_region(tx, station, region),
         RowChange::AddDock {
             station,

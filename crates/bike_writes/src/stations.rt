@@ -5,7 +5,7 @@ ghost use Rattle.bike_book.specs.Writes.{write_of};
 ghost use Rattle.bike_schema.specs.Calls.{Writes};
 
 use crate::columns::{seconds_of, text_in};
-use bike_catalogue::Station;
+use bike_catalogue::{Position, Station};
 use bike_fields::Ident;
 use bike_fixed::Moment;
 use bike_rows::write::run;
@@ -110,6 +110,25 @@ pub(crate) fn set_docks_reported<S: Alter>(
         tx,
         "UPDATE stations_3 SET free = ?2, broken = ?3, reported = ?4 WHERE station_id = ?1",
         params![station.as_str(), free, broken, seconds_of(reported)],
+    )
+}
+
+/// Sets the position of a station, in microdegrees.
+pub(crate) fn set_position<S: Alter>(
+    tx: &mut Staged<'_, S>,
+    station: &Ident,
+    position: &Position,
+) -> Result<(), StatementFault>
+    ensures { Writes S.Store tx.old.conn tx.new.conn result (write_of (row.SetPosition station.entry position.entry)) }
+{
+    run(
+        tx,
+        "UPDATE stations_3 SET lat = ?2, lon = ?3 WHERE station_id = ?1",
+        params![
+            station.as_str(),
+            position.lat().microdegrees(),
+            position.lon().microdegrees()
+        ],
     )
 }
 

@@ -1,4 +1,4 @@
-use Rattle.bike_book.proofs.CatalogueBooks.{set_system, add_type, set_plan, add_region, add_station, set_station, set_region, add_name}
+use Rattle.bike_book.proofs.CatalogueBooks.{set_system, add_type, set_plan, add_region, add_station, set_station, set_region, add_name, change_system, move_station}
 use Rattle.bike_book.proofs.PlanBooks.{add_plan}
 use Rattle.bike_book.proofs.laws.books_catalogue.Goals as goal
 
@@ -28,3 +28,9 @@ returns-clause-set_region c = set_region
 
 pub returns-clause-add_name : goal.returns-clause-add_name
 returns-clause-add_name c = add_name
+
+pub returns-clause-change_system : goal.returns-clause-change_system
+returns-clause-change_system c = change_system
+
+pub returns-clause-move_station : goal.returns-clause-move_station
+returns-clause-move_station c = move_station

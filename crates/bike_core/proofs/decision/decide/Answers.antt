@@ -120,3 +120,15 @@ returns-in-AddName-clause-decides c = rw c.in-AddName.is (λ s e. c.decide_add_n
 
 pub returns-in-AddName-clause-found : goal.returns-in-AddName-clause-found
 returns-in-AddName-clause-found c = finds_at c.args.view.now c.args.now c.args.command.now c.decide_add_name.result (rw c.in-AddName.is c.decide_add_name.ensures.found)
+
+pub returns-in-ChangeSystem-clause-decides : goal.returns-in-ChangeSystem-clause-decides
+returns-in-ChangeSystem-clause-decides c = rw c.in-ChangeSystem.is (λ s e. c.decide_change_system.ensures.decides s c.args.now e)
+
+pub returns-in-ChangeSystem-clause-found : goal.returns-in-ChangeSystem-clause-found
+returns-in-ChangeSystem-clause-found c = finds_at c.args.view.now c.args.now c.args.command.now c.decide_change_system.result (rw c.in-ChangeSystem.is c.decide_change_system.ensures.found)
+
+pub returns-in-MoveStation-clause-decides : goal.returns-in-MoveStation-clause-decides
+returns-in-MoveStation-clause-decides c = rw c.in-MoveStation.is (λ s e. c.decide_move_station.ensures.decides s c.args.now e)
+
+pub returns-in-MoveStation-clause-found : goal.returns-in-MoveStation-clause-found
+returns-in-MoveStation-clause-found c = finds_at c.args.view.now c.args.now c.args.command.now c.decide_move_station.result (rw c.in-MoveStation.is c.decide_move_station.ensures.found)
