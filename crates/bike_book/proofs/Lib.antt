@@ -2,8 +2,6 @@ pub mod MapRows
 pub mod Keys
 pub mod NumberRows
 pub mod ListingLemmas
-pub mod BooksLemmas
-pub mod MergeLemmas
 pub mod CatalogueBooks
 pub mod FleetBooks
 pub mod RentalBooks

@@ -1,5 +1,5 @@
 -- The row changes that book each record that an accepted command puts or adds.
-use Rattle.std.specs.Prelude.{◌≡◌, ◌+◌, ℕ, suc, ℤ, pos, length, List, [], ◌∷◌, ◌++◌, Bool, true, false, Option, Some, None}
+use Rattle.std.specs.Prelude.{◌≡◌, ◌+◌, ℕ, suc, ℤ, pos, length, List, [], ◌∷◌, Bool, true, false, Option, Some, None}
 use Rattle.std.specs.Borrow.{Bor}
 use Rattle.std.specs.FinMap as fin
 use Rattle.bike_operator.specs.NameKind.{NameKind}
@@ -139,8 +139,3 @@ module _ (s : Operator) (m : Listed) (now : ℕ) where
 -- The law holds of each operator whose rows are listed right, at each moment.
 abbrev pub Everywhere : (Operator → Listed → ℕ → Type 0) → Type 0
 Everywhere Law = (s : Operator) (m : Listed) (now : ℕ) → IsListing s m → Law s m now
-
--- the row changes of two steps, one after the other, lead through both
-abbrev pub BothInTurn : Type 0
-BothInTurn =
-    (cs ds : List RowChange) (s n o : Operator) (m w v : Listed) → Books cs s m n w → Books ds n w o v → Books (cs ++ ds) s m o v

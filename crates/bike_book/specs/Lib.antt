@@ -3,7 +3,6 @@ pub mod Rows
 pub mod Stored
 pub mod Writes
 pub mod Leads
-pub mod Merges
 pub mod Between
 pub mod ChangeLaws
 pub mod CloseLaws

@@ -62,8 +62,6 @@ write_of (row.SetFlags station installed renting returning reported) =
     Set Stations (Text station.now ∷ []) ((5, Int (truth installed)) ∷ (6, Int (truth renting)) ∷ (7, Int (truth returning)) ∷ (8, number_value reported) ∷ [])
 write_of (row.SetPosition station p) = Set Stations (Text station.now ∷ []) ((2, Int p.now.lat) ∷ (3, Int p.now.lon) ∷ [])
 write_of (row.SetRegion station region) = Set Stations (Text station.now ∷ []) ((11, or_null Text (text_in region)) ∷ [])
-write_of (row.SetReported station reported) = Set Stations (Text station.now ∷ []) ((8, number_value reported) ∷ [])
-write_of (row.SetDocks station free broken) = Set Stations (Text station.now ∷ []) ((9, number_value free) ∷ (10, number_value broken) ∷ [])
 write_of (row.SetDocksReported station free broken reported) =
     Set Stations (Text station.now ∷ []) ((9, number_value free) ∷ (10, number_value broken) ∷ (8, number_value reported) ∷ [])
 write_of (row.AddDock station dock broken) = Add Docks (dock_row station.now dock broken)

@@ -1,12 +1,11 @@
 //! The laws: which row changes book each record that an accepted command puts or adds, and the close of its request.
 
-ghost use Rattle.bike_book.specs.ChangeLaws.{Everywhere, BothInTurn};
+ghost use Rattle.bike_book.specs.ChangeLaws.{Everywhere};
 ghost use Rattle.bike_book.specs.ChangeLaws.{SetSystemLaw, AddPlanLaw, AddTypeLaw, SetPlanLaw, AddRegionLaw, AddStationLaw, SetStationLaw, SetRegionLaw, AddNameLaw, ChangeSystemLaw, MoveStationLaw};
 ghost use Rattle.bike_book.specs.ChangeLaws.{AddBikeLaw, AddTruckLaw, AddRiderLaw, SetRiderLaw};
 ghost use Rattle.bike_book.specs.ChangeLaws.{AddRentalLaw, CloseRentalLaw, AddOrderLaw, DeliverLaw, CloseOrderLaw};
 ghost use Rattle.bike_book.specs.CloseLaws.{AtEachClose, QuietCloseLaw, EntryCloseLaw, RefundCloseLaw};
 ghost use Rattle.bike_book.specs.Found.{WhereListed, FoundByKey, FoundListed, FoundByColumns, FoundNumbers};
-ghost use Rattle.bike_book.specs.Merges.{ReportMergesLaw, ReportMergesBeforeLaw, SameBehindLaw};
 ghost use Rattle.bike_book.specs.NotThere.{WhereSound, NoRefundsYet, NoBalanceYet, NoneDockedYet, NoneBrokenYet};
 
 /// The laws of the changes of the catalogue.
@@ -46,18 +45,6 @@ pub fn books_close()
     ensures quiet { AtEachClose QuietCloseLaw }
     ensures entry { AtEachClose EntryCloseLaw }
     ensures refund { AtEachClose RefundCloseLaw }
-{}
-
-/// The law of row changes one after the other.
-pub fn books_in_turn()
-    ensures { BothInTurn }
-{}
-
-/// The law of a station's docks and its report, which are set as one, also where counts are written between.
-pub fn merges_report()
-    ensures at_once { ReportMergesLaw }
-    ensures before { ReportMergesBeforeLaw }
-    ensures behind { SameBehindLaw }
 {}
 
 /// What soundness says of a rental, a rider and a station that isn't there: its numbers are 0.

@@ -11,8 +11,7 @@ mod row_change;
 mod version;
 
 pub use laws::{
-    books_catalogue, books_close, books_fleet, books_in_turn, books_rentals, finds_rows,
-    merges_report, starts_at_zero,
+    books_catalogue, books_close, books_fleet, books_rentals, finds_rows, starts_at_zero,
 };
 pub use row_change::RowChange;
 pub use version::NEWEST;

@@ -56,18 +56,7 @@ pub enum RowChange<'a> {
         station: &'a Ident,
         region: Option<&'a Ident>,
     },
-    /// Sets when a station reported last.
-    SetReported {
-        station: &'a Ident,
-        reported: Moment,
-    },
-    /// Sets how many docks of a station are available, and how many are broken.
-    SetDocks {
-        station: &'a Ident,
-        free: u32,
-        broken: u32,
-    },
-    /// Sets the same, and when the station reported last.
+    /// Sets how many docks of a station are available, how many are broken, and when it reported last.
     SetDocksReported {
         station: &'a Ident,
         free: u32,

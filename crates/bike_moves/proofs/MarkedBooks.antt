@@ -1,29 +1,24 @@
 -- A dock marked, with its station's report, as row changes.
-use Rattle.std.proofs.Common.{◌≡◌, ℕ, ◌+◌, ◌≤◌, List, [], ◌∷◌, Bool, not, None, Some, refl, ap, ◌∙◌, arith}
+use Rattle.std.proofs.Common.{◌≡◌, ℕ, ◌+◌, ◌≤◌, List, Bool, not, None, Some, refl, ap, arith}
 use Rattle.std.proofs.lemmas.Int.{ints}
 use Rattle.bike_operator.specs.declared.records.Bike.{Bike}
 use Rattle.bike_operator.specs.Operator.{Operator}
 use Rattle.bike_operator.specs.Counts.{is_broken, docked_at}
-use Rattle.bike_operator.specs.Steps.{with_report, dock_marked}
+use Rattle.bike_operator.specs.Steps.{dock_marked}
 use Rattle.bike_operator.specs.Sound.{AreBikesSound}
 use Rattle.bike_places.specs.Laws.{one, IsMoved, dock_shares, MarkLaw, is_free}
 use Rattle.bike_places.proofs.MarkLaw.{mark_law}
 use Rattle.bike_book.specs.declared.row_change.RowChange.TheVariants as row
 use Rattle.bike_book.specs.ChangeLaws.{Everywhere}
-use Rattle.bike_book.specs.Between.{tables_between}
-use Rattle.bike_book.proofs.BooksLemmas.{books_then}
-use Rattle.bike_book.proofs.MergeLemmas.{report_merges, same_behind}
 use Rattle.bike_moves.specs.Facts.{DockTotals, BikeTotals, HasDockTotals, HasBikeTotals}
-use Rattle.bike_moves.specs.AddedOrSet.{count_change, dock_change, with_count, with_dock}
 use Rattle.bike_moves.specs.Put.{IsDockAt, moved_by, Adds, adds_marked, bikes_by, docks_marked_empty, docks_marked_held}
-use Rattle.bike_moves.specs.PutLaws.{docks_reported, MarkedEmptyLaw, MarkedHeldLaw}
+use Rattle.bike_moves.specs.PutLaws.{MarkedEmptyLaw, MarkedHeldLaw}
 use Rattle.bike_moves.proofs.NumbersMove.{IsMarkedEmpty, IsMarkedHeld, BikesMove}
 use Rattle.bike_moves.proofs.TotalsRows.{totals_at}
-use Rattle.bike_moves.proofs.ReportBooks.{report}
 use Rattle.bike_moves.proofs.DockMarks.{broken_or_not, has_marked, available_held, disabled_held}
 use Rattle.bike_moves.proofs.MarkBooks.{empty_books, held_books}
 use Rattle.bike_moves.proofs.Ends.{left_is}
-use Rattle.bike_moves.proofs.PutBooks.{moved_is, counts_row, reported}
+use Rattle.bike_moves.proofs.PutBooks.{moved_is}
 
 module _ (s : Operator) (station : List ℕ) (dock : ℕ) (was broken : Bool) (d : DockTotals) (sound : AreBikesSound s) (found : IsDockAt s station dock was) (docks : HasDockTotals s station d) where
   abbrev next : Operator
@@ -89,18 +84,11 @@ module _ (s : Operator) (station : List ℕ) (dock : ℕ) (was broken : Bool) (d
 pub marked_empty : Everywhere MarkedEmptyLaw
 marked_empty s m now listing station dock was broken d sound found empty docks =
     let e = docks_marked_empty was broken d in
-    let n : Operator = dock_marked station.now dock broken s in
-    let w = with_dock station.now dock m in
-    let mark = dock_change m station dock broken in
-    let plain = empty_books s m listing sound station dock broken d e (is_empty s station.now dock was broken d sound found docks empty) in
-    let both = books_then (mark ∷ row.SetDocks station e.free e.broken ∷ []) (row.SetReported station now ∷ []) s n (with_report station.now now n) m w w plain (report n w now plain.listing station) in
-    let does = same_behind (mark ∷ []) (docks_reported now station e ∷ []) (row.SetDocks station e.free e.broken ∷ row.SetReported station now ∷ []) (report_merges station station e.free e.broken now refl) in
-    record { leads = does (tables_between s m) ∙ both.leads; listing = both.listing }
+    empty_books s m listing sound station dock broken now d e (is_empty s station.now dock was broken d sound found docks empty)
 
 pub marked_held : Everywhere MarkedHeldLaw
 marked_held s m now listing station type_id dock was broken bike b d n sound type_is found held docks bikes =
     let e = docks_marked_held was broken d in
     let o = bikes_by (adds_marked was broken b.state) n in
     let h = is_held s station.now dock was broken d sound found docks bike b n held bikes in
-    reported s (dock_marked station.now dock broken s) m (with_count station.now type_id.now (with_dock station.now dock m)) now (dock_change m station dock broken) (count_change m station type_id o) station e
-    (counts_row m station type_id o) (held_books s m listing sound station dock broken type_id bike b d e n o type_is h)
+    held_books s m listing sound station dock broken now type_id bike b d e n o type_is h

@@ -1,6 +1,6 @@
 -- A bicycle's record put, with the report of its dock's station, as row changes.
 use Rattle.std.proofs.Common.{◌≡◌, ℕ, ◌+◌, ◌≤◌, List, [], ◌∷◌, Bool, true, false, not, Some, None, is_none, ◌&&◌, refl, ap, ◌∙◌, subst, arith}
-use Rattle.std.specs.Prelude.{map, if◌then◌else◌}
+use Rattle.std.specs.Prelude.{map}
 use Rattle.std.specs.Ordering.{nat_cmp}
 use Rattle.std.specs.FinMap as fin
 use Rattle.std.specs.FinMap.{FinMap}
@@ -11,29 +11,25 @@ use Rattle.bike_operator.specs.declared.records.Place.{Place}
 use Rattle.bike_operator.specs.declared.records.Place.TheVariants as place
 use Rattle.bike_operator.specs.declared.records.Bike.{Bike}
 use Rattle.bike_operator.specs.declared.change.NewPlace.{NewPlace}
-use Rattle.bike_operator.specs.Operator.{Operator, key_of}
+use Rattle.bike_operator.specs.Operator.{Operator}
 use Rattle.bike_operator.specs.Counts.{is_broken, docked_at}
 use Rattle.bike_operator.specs.Steps.{with_report, dock_marked}
 use Rattle.bike_operator.specs.Changes.{place_of}
 use Rattle.bike_operator.specs.Sound.{HasDock, AreBikesSound}
 use Rattle.bike_places.specs.Laws.{one, IsMoved, place_shares, IsAway, IsMarkedAt, MarkLaw, is_free}
 use Rattle.bike_places.proofs.MarkLaw.{mark_law}
-use Rattle.bike_book.specs.declared.row_change.RowChange.{RowChange}
 use Rattle.bike_book.specs.declared.row_change.RowChange.TheVariants as row
-use Rattle.bike_book.specs.Tables.{Counts}
 use Rattle.bike_book.specs.Stored.{Listed, IsListing, stored_count}
-use Rattle.bike_book.specs.Writes.{write_of, writes_of, table_of_write, tables_after_all}
+use Rattle.bike_book.specs.Writes.{writes_of, tables_after_all}
 use Rattle.bike_book.specs.Between.{tables_between, Books}
 use Rattle.bike_book.specs.ChangeLaws.{Everywhere}
-use Rattle.bike_book.proofs.BooksLemmas.{books_then}
-use Rattle.bike_book.proofs.MergeLemmas.{report_merges_before, same_behind}
 use Rattle.bike_moves.specs.Facts.{DockTotals, BikeTotals, HasDockTotals, HasBikeTotals}
 use Rattle.bike_moves.specs.AddedOrSet.{count_change, with_count}
 use Rattle.bike_moves.specs.Put.{standing, bike_put, IsNoOtherDock, IsPutAtDock, moved_by, Adds, adds_put, docks_by, bikes_by}
 use Rattle.bike_moves.specs.PutLaws.{docks_reported, AwayLaw, AtDockLaw}
 use Rattle.bike_moves.proofs.NumbersMove.{DocksMove, BikesMove}
 use Rattle.bike_moves.proofs.TotalsRows.{totals_at, stations_set}
-use Rattle.bike_moves.proofs.ReportBooks.{report}
+use Rattle.bike_moves.proofs.ReportBooks.{report_listed}
 use Rattle.bike_moves.proofs.BikeMoves.{bike_changed, key_found, moves_by, MovesAt, bikes_set, docks_elsewhere, bikes_elsewhere, docks_here, available_here, disabled_here, before, after, available_moves, disabled_moves}
 use Rattle.bike_moves.proofs.BikeBooks.{away, counts_at, listing_at}
 use Rattle.bike_moves.proofs.DockMarks.{has_marked}
@@ -93,23 +89,6 @@ marked_at s at dock broken mark place.Depot h = tt
 put_is : (s : Operator) (bike : ℕ) (b : Bike) (f : Bike → Bike) → fin.get s.bikes bike ≡ Some b → bike_changed bike f s ≡ bike_put bike (f b) s
 put_is s bike b f found = ap (λ (z : FinMap nat_cmp Bike). record s { bikes = z }) (key_found s.bikes bike f b found)
 
--- the row change of a count is one of the counts
-pub counts_row : (m : Listed) (station type_id : Bor (List ℕ)) (n : BikeTotals) → table_of_write (write_of (count_change m station type_id n)) ≡ Counts
-counts_row m station type_id n = on (fin.contains_key m.counts (key_of station.now type_id.now)) where
-  on : (has : Bool) → table_of_write (write_of (if has then row.SetCount station type_id n.available n.disabled else row.AddCount station type_id n.available n.disabled)) ≡ Counts
-  on true = refl
-  on false = refl
-
--- docks, counts and the report of one station, one after the other behind what comes before, are made as two
-pub reported : (s n : Operator) (m w : Listed) (now : ℕ) (first c : RowChange) (station : Bor (List ℕ)) (d : DockTotals) → table_of_write (write_of c) ≡ Counts
-    → Books (first ∷ row.SetDocks station d.free d.broken ∷ c ∷ []) s m n w → Books (first ∷ docks_reported now station d ∷ c ∷ []) s m (with_report station.now now n) w
-reported s n m w now first c station d counts books =
-    let plain = first ∷ row.SetDocks station d.free d.broken ∷ c ∷ [] in
-    let both = books_then plain (row.SetReported station now ∷ []) s n (with_report station.now now n) m w w books (report n w now books.listing station) in
-    let does = same_behind (first ∷ []) (docks_reported now station d ∷ c ∷ []) (row.SetDocks station d.free d.broken ∷ c ∷ row.SetReported station now ∷ [])
-    (report_merges_before station station d.free d.broken now c refl counts) in
-    record { leads = does (tables_between s m) ∙ both.leads; listing = both.listing }
-
 -- ---- the laws
 
 pub put_away : Everywhere AwayLaw
@@ -157,16 +136,18 @@ module _ (s : Operator) (m : Listed) (listing : IsListing s m) (bike : ℕ) (b :
         disabled = moved_is n.disabled adds.less.disabled adds.more.disabled (omega (arith, z, z_was, z_is, z_has));
       }
 
-  put_plain : Books (row.SetBike bike state p ∷ row.SetDocks station (docks_by adds d).free d.broken ∷ count_change m station type_id (bikes_by adds n) ∷ []) s m next (with_count station.now type_id.now m)
-  put_plain =
+  put : (now : ℕ) → Books (row.SetBike bike state p ∷ docks_reported now station (docks_by adds d) ∷ count_change m station type_id (bikes_by adds n) ∷ []) s m (with_report station.now now next)
+      (with_count station.now type_id.now m)
+  put now =
       let o = bikes_by adds n in
       let rows = bikes_set s.bikes bike f b state (place_of p) h.found refl in
-      let stations = stations_set s next station.now (docks_by adds d) (docks_elsewhere moves) (docks_here moves d (docks_by adds d) docks docks_move) in
+      let stations = stations_set s next station.now (docks_by adds d) now (docks_elsewhere moves) (docks_here moves d (docks_by adds d) docks docks_move) in
       let counts = counts_at s m listing bike f station type_id b type_is (bikes_elsewhere moves) o (available_here moves n o bikes bikes_move) (disabled_here moves n o bikes bikes_move) in
       record {
-        leads = counts (tables_after_all (writes_of (row.SetBike bike state p ∷ row.SetDocks station (docks_by adds d).free d.broken ∷ [])) (tables_between s m)) refl
+        leads = counts (tables_after_all (writes_of (row.SetBike bike state p ∷ docks_reported now station (docks_by adds d) ∷ [])) (tables_between s m)) refl
             ∙ (λ i. record (tables_between s m) { bikes = rows i; stations = stations i; counts = map (stored_count next) (fin.entries (with_count station.now type_id.now m).counts) });
-        listing = listing_at s m listing bike f station type_id b type_is (bikes_elsewhere moves) bikes.station_is bikes.type_is;
+        listing = report_listed next (with_count station.now type_id.now m) now station.now
+            (listing_at s m listing bike f station type_id b type_is (bikes_elsewhere moves) bikes.station_is bikes.type_is);
       }
 
 pub put_at_dock : Everywhere AtDockLaw
@@ -175,7 +156,6 @@ put_at_dock s m now listing bike b state p station type_id dock broken d n sound
     let o = bikes_by (adds_put broken b state p) n in
     let e = docks_by (adds_put broken b state p) d in
     let w = with_count station.now type_id.now m in
-    let plain = put_plain s m listing bike b state p station type_id dock broken d n sound type_is h docks bikes in
     let rows = row.SetBike bike state p ∷ docks_reported now station e ∷ count_change m station type_id o ∷ [] in
     subst (λ (next : Operator). Books rows s m (with_report station.now now next) w) (put_is s bike b f h.found)
-    (reported s (bike_changed bike f s) m w now (row.SetBike bike state p) (count_change m station type_id o) station e (counts_row m station type_id o) plain)
+    (put s m listing bike b state p station type_id dock broken d n sound type_is h docks bikes now)

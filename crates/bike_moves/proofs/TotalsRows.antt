@@ -10,6 +10,7 @@ use Rattle.sqlite_value.specs.declared.value.Value.TheVariants.{Int, Text}
 use Rattle.bike_rows.specs.View.{put_row_by, rows_after_update, with_values}
 use Rattle.bike_operator.specs.Operator.{Operator, Station, Key, DockKey, text_cmp, texts_cmp, key_of, dock_key}
 use Rattle.bike_operator.specs.Counts.{is_broken, available_of, docks_broken}
+use Rattle.bike_operator.specs.Steps.{key_changed}
 use Rattle.bike_places.proofs.MapLemmas.{text_order, texts_order, there_of}
 use Rattle.bike_places.specs.Numbers.{disabled_of}
 use Rattle.bike_book.specs.declared.row_change.RowChange.TheVariants as row
@@ -18,7 +19,7 @@ use Rattle.bike_book.specs.Rows.{truth, number_value, station_row, dock_row, cou
 use Rattle.bike_book.specs.Stored.{Listed, IsListing, stored_dock, stored_count}
 use Rattle.bike_book.specs.Writes.{write_of, tables_after}
 use Rattle.bike_book.specs.Between.{docks_left, counted_station}
-use Rattle.bike_book.proofs.MapRows.{same_entries, put_entries, set_entries, kept_entries}
+use Rattle.bike_book.proofs.MapRows.{same_entries, put_entries, set_entries, changed_entries}
 use Rattle.bike_book.proofs.Keys.{texts, pairs, docks, IsPair, IsDockPair}
 use Rattle.bike_book.proofs.FoundKeys.{count_pair, dock_pair}
 use Rattle.bike_moves.specs.Facts.{DockTotals, BikeTotals, HasDockTotals}
@@ -60,13 +61,14 @@ module _ (s n : Operator) where
   pub stations_same : ((station : List ℕ) → SameDocks station) → map (counted_station s) (fin.entries s.stations) ≡ map (counted_station n) (fin.entries s.stations)
   stations_same same = same_entries texts (counted_station s) (counted_station n) s.stations (λ q y there. let e = same q y.row.docks in ap₂ (station_row q y) e.0 e.1)
 
-  -- the numbers of one station are set
-  pub stations_set : (station : List ℕ) (e : DockTotals) → ((other : List ℕ) → other ≢ station → SameDocks other)
+  -- the numbers of one station are set, and it reports
+  pub stations_set : (station : List ℕ) (e : DockTotals) (now : ℕ) → ((other : List ℕ) → other ≢ station → SameDocks other)
       → ((x : Station) → fin.get s.stations station ≡ Some x → HasTotalsAt n station x e)
-      → rows_after_update 1 (Text station ∷ []) (with_values ((9, number_value e.free) ∷ (10, number_value e.broken) ∷ [])) (map (counted_station s) (fin.entries s.stations)) ≡ map (counted_station n) (fin.entries s.stations)
-  stations_set station e others here =
-      kept_entries texts (counted_station s) (counted_station n) (λ x. refl) (λ x. refl) s.stations station tt (with_values ((9, number_value e.free) ∷ (10, number_value e.broken) ∷ []))
-      (λ x found. let e = here x found in sym (ap₂ (station_row station x) e.0 e.1))
+      → rows_after_update 1 (Text station ∷ []) (with_values ((9, number_value e.free) ∷ (10, number_value e.broken) ∷ (8, number_value now) ∷ [])) (map (counted_station s) (fin.entries s.stations))
+      ≡ map (counted_station n) (fin.entries (key_changed s.stations station (λ x. record x { reported = now })))
+  stations_set station e now others here =
+      changed_entries texts (counted_station s) (counted_station n) (λ x. refl) (λ x. refl) s.stations station tt (with_values ((9, number_value e.free) ∷ (10, number_value e.broken) ∷ (8, number_value now) ∷ []))
+      (λ x. record x { reported = now }) (λ x found. let e = here x found in sym (ap₂ (station_row station (record x { reported = now })) e.0 e.1))
       (λ q y there. (tt, λ apart. let e = others q (apart_texts station q apart) y.row.docks in ap₂ (station_row q y) e.0 e.1))
 
   -- ---- counts

@@ -24,14 +24,6 @@ pub sets_flags : (station : Bor (List ℕ)) (installed renting returning : Bool)
 unfolding everything
 sets_flags station installed renting returning reported = sets_columns Stations _ _ (row_updated (table_key Stations) 0 ((5, 1) ∷ (6, 2) ∷ (7, 3) ∷ (8, 4) ∷ []) _ (λ tree. (refl, refl, refl), refl) refl refl refl (λ r. refl) (λ r. refl))
 
-pub sets_reported : (station : Bor (List ℕ)) (reported : ℕ) → Makes (codes "UPDATE stations_3 SET reported = ?2 WHERE station_id = ?1") (Text station.now ∷ number_value reported ∷ []) (row.SetReported station reported)
-unfolding everything
-sets_reported station reported = sets_columns Stations _ _ (row_updated (table_key Stations) 0 ((8, 1) ∷ []) _ (λ tree. (refl, refl, refl), refl) refl refl refl (λ r. refl) (λ r. refl))
-
-pub sets_docks : (station : Bor (List ℕ)) (free broken : ℕ) → Makes (codes "UPDATE stations_3 SET free = ?2, broken = ?3 WHERE station_id = ?1") (Text station.now ∷ number_value free ∷ number_value broken ∷ []) (row.SetDocks station free broken)
-unfolding everything
-sets_docks station free broken = sets_columns Stations _ _ (row_updated (table_key Stations) 0 ((9, 1) ∷ (10, 2) ∷ []) _ (λ tree. (refl, refl, refl), refl) refl refl refl (λ r. refl) (λ r. refl))
-
 pub sets_docks_reported : (station : Bor (List ℕ)) (free broken reported : ℕ) → Makes (codes "UPDATE stations_3 SET free = ?2, broken = ?3, reported = ?4 WHERE station_id = ?1") (Text station.now ∷ number_value free ∷ number_value broken ∷ number_value reported ∷ []) (row.SetDocksReported station free broken reported)
 unfolding everything
 sets_docks_reported station free broken reported = sets_columns Stations _ _ (row_updated (table_key Stations) 0 ((9, 1) ∷ (10, 2) ∷ (8, 3) ∷ []) _ (λ tree. (refl, refl, refl), refl) refl refl refl (λ r. refl) (λ r. refl))

@@ -13,8 +13,8 @@ use crate::orders::{add_order, set_order};
 use crate::rentals::{add_rental, close_rental, set_refunded};
 use crate::riders::{add_rider, set_balance, set_blocked};
 use crate::stations::{
-    add_count, add_dock, add_station, set_count, set_dock, set_docks, set_docks_reported,
-    set_flags, set_position, set_region, set_reported,
+    add_count, add_dock, add_station, set_count, set_dock, set_docks_reported, set_flags,
+    set_position, set_region,
 };
 use bike_book::RowChange;
 use bike_schema::{Staged, StatementFault};
@@ -50,12 +50,6 @@ pub fn put<S: Alter>(tx: &mut Staged<'_, S>, change: &RowChange<'_>) -> Result<(
             is_returning,
             reported,
         ),
-        RowChange::SetReported { station, reported } => set_reported(tx, station, reported),
-        RowChange::SetDocks {
-            station,
-            free,
-            broken,
-        } => set_docks(tx, station, free, broken),
         RowChange::SetDocksReported {
             station,
             free,

@@ -65,37 +65,6 @@ pub(crate) fn set_flags<S: Alter>(
     )
 }
 
-/// Sets when a station reported last.
-pub(crate) fn set_reported<S: Alter>(
-    tx: &mut Staged<'_, S>,
-    station: &Ident,
-    reported: Moment,
-) -> Result<(), StatementFault>
-    ensures { Writes S.Store tx.old.conn tx.new.conn result (write_of (row.SetReported station.entry reported)) }
-{
-    run(
-        tx,
-        "UPDATE stations_3 SET reported = ?2 WHERE station_id = ?1",
-        params![station.as_str(), seconds_of(reported)],
-    )
-}
-
-/// Sets how many docks of a station are available, and how many are broken.
-pub(crate) fn set_docks<S: Alter>(
-    tx: &mut Staged<'_, S>,
-    station: &Ident,
-    free: u32,
-    broken: u32,
-) -> Result<(), StatementFault>
-    ensures { Writes S.Store tx.old.conn tx.new.conn result (write_of (row.SetDocks station.entry free broken)) }
-{
-    run(
-        tx,
-        "UPDATE stations_3 SET free = ?2, broken = ?3 WHERE station_id = ?1",
-        params![station.as_str(), free, broken],
-    )
-}
-
 /// Sets how many docks of a station are available, how many are broken, and when the station reported last.
 pub(crate) fn set_docks_reported<S: Alter>(
     tx: &mut Staged<'_, S>,
