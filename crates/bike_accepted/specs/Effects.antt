@@ -3,7 +3,7 @@ use Rattle.std.specs.Prelude.{◌≡◌, ℕ, ◌+◌, List, true, false, Option
 use Rattle.std.specs.FinMap as map
 use Rattle.std.specs.Borrow.{Bor}
 use Rattle.bike_ledger.specs.Entries.{Entry}
-use Rattle.bike_operator.specs.Rows.{moved_to, system_with}
+use Rattle.bike_operator.specs.Rows.{moved_to, more_docks, system_with}
 use Rattle.bike_commands.specs.declared.command.Command.{Command}
 use Rattle.bike_commands.specs.declared.refusal.Refusal.{Refusal}
 use Rattle.bike_operator.specs.declared.records.BikeState.TheVariants.{Fit}
@@ -35,6 +35,7 @@ bike_put bike b s = record s { bikes = map.insert s.bikes bike b }
 abbrev pub after_moved : ℕ → Moved → Operator → Operator
 after_moved now (moved.Away bike type_id was becomes) s = bike_put bike (bike_in type_id becomes) s
 after_moved now (moved.AtDock at bike type_id was becomes) s = with_report at.station.now now (bike_put bike (bike_in type_id becomes) s)
+after_moved now (moved.Grown station was count) s = record s { stations = key_changed s.stations station.now (λ x. record x { row = more_docks count.now x.row }) }
 after_moved now (moved.Marked at held broken) s = with_report at.station.now now (dock_marked at.station.now at.dock broken s)
 
 -- ---- one other record

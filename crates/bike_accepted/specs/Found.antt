@@ -9,7 +9,7 @@ use Rattle.bike_operator.specs.declared.records.Place.{Place}
 use Rattle.bike_operator.specs.declared.records.Place.TheVariants as place
 use Rattle.bike_operator.specs.declared.records.Bike.{Bike}
 use Rattle.bike_operator.specs.declared.view.View.{View}
-use Rattle.bike_operator.specs.Operator.{Operator, item_numbered}
+use Rattle.bike_operator.specs.Operator.{Operator, Station, item_numbered}
 use Rattle.bike_operator.specs.Counts.{is_broken, docked_at, docks_broken}
 use Rattle.bike_operator.specs.View.{view_of}
 use Rattle.bike_operator.specs.Changes.{place_of}
@@ -64,9 +64,16 @@ pub record IsMarkFound (s : Operator) (at : DockAt) (held : Option Held) : Type 
   pub dock : IsDockFound s at
   pub held_is : docked_at s at.station.now at.dock ≡ option_map (held_bike at) held
 
+-- the station is there, and has so many docks
+pub record IsStationFound (s : Operator) (station : List ℕ) (docks : ℕ) : Type 0 where
+  pub row : Station
+  pub found : map.get s.stations station ≡ Some row
+  pub docks_are : row.row.docks ≡ docks
+
 abbrev pub IsMovedFound : Operator → Moved → Type 0
 IsMovedFound s (moved.Away bike type_id was becomes) = IsAwayFound s bike type_id was becomes
 IsMovedFound s (moved.AtDock at bike type_id was becomes) = IsAtDockFound s at bike type_id was becomes
+IsMovedFound s (moved.Grown station was count) = IsStationFound s station.now was.now
 IsMovedFound s (moved.Marked at held broken) = IsMarkFound s at held
 
 -- ---- one other record

@@ -1,6 +1,6 @@
-//! What is put or marked at a dock.
+//! What is put or marked at a dock, and docks that a station gets.
 
-use bike_fields::Ident;
+use bike_fields::{DockCount, Ident};
 use bike_operator::{BikeState, NewPlace};
 
 /// What a bicycle is good for and where it is: what of its record changes.
@@ -34,7 +34,8 @@ pub struct Held<'a> {
     pub state: BikeState,
 }
 
-/// A bicycle's record that is put, or a dock that is marked. By the report rule the dock's station reports.
+/// What touches the numbers that are stored of a station: a bicycle's record that is put, docks that a station gets, or a dock
+/// that is marked. By the report rule the station of a dock that is named reports.
 #[derive(Clone, Copy)]
 pub enum Moved<'a> {
     /// A bicycle is put from no dock to none.
@@ -51,6 +52,12 @@ pub enum Moved<'a> {
         type_id: &'a Ident,
         was: Standing<'a>,
         becomes: Standing<'a>,
+    },
+    /// A station that has so many docks gets more of them. It doesn't report.
+    Grown {
+        station: &'a Ident,
+        was: &'a DockCount,
+        count: &'a DockCount,
     },
     /// A dock is marked, with what is in it.
     Marked {

@@ -1,5 +1,5 @@
 -- The row changes that book a system set, a type, region, station or further name added, and a type's default plan or a station's flags or region set.
-use Rattle.std.proofs.Common.{◌≡◌, ℕ, pos, List, [], ◌∷◌, true, Option, Some, None, refl, sym, ap, ap₂, ◌∙◌, arith}
+use Rattle.std.proofs.Common.{◌≡◌, ◌≤◌, ℕ, pos, List, [], ◌∷◌, true, Option, Some, None, refl, sym, ap, ap₂, ◌∙◌, arith}
 use Rattle.std.specs.Prelude.{map, option_map}
 use Rattle.std.specs.Ordering.{nat_cmp}
 use Rattle.std.specs.declared.cmp.Ordering.TheVariants.{Equal}
@@ -103,8 +103,8 @@ add_station s m now listing x free none_taken none_broken =
       }) refl refl listing;
     }
 
--- a station changes, and not how many docks it has
-pub names_station : (s : Operator) (id : List ℕ) (f : Station → Station) → ((x : Station) → (f x).row.docks ≡ x.row.docks) → KeepsNames s (record s { stations = key_changed s.stations id f })
+-- a station changes, and loses no dock
+pub names_station : (s : Operator) (id : List ℕ) (f : Station → Station) → ((x : Station) → x.row.docks ≤ (f x).row.docks) → KeepsNames s (record s { stations = key_changed s.stations id f })
 names_station s id f docks = record {
   docks = docks_changed s (record s { stations = key_changed s.stations id f }) id f docks refl;
   stations = λ q h. known_changed text_order s.stations id f q h;
@@ -118,7 +118,7 @@ set_station s m now listing station installed renting returning =
     let stations = changed_entries texts (counted_station s) (counted_station s) (λ e. refl) (λ e. refl) s.stations station.now tt _ f (λ v found. refl) (λ q y found. (tt, λ apart. refl)) in
     record {
       leads = λ i. record (tables_between s m) { stations = stations i };
-      listing = listing_same s n m (names_station s station.now f (λ x. refl)) refl refl listing;
+      listing = listing_same s n m (names_station s station.now f (λ x. omega arith)) refl refl listing;
     }
 
 pub set_region : Everywhere SetRegionLaw
@@ -128,7 +128,7 @@ set_region s m now listing station region =
     let stations = changed_entries texts (counted_station s) (counted_station s) (λ e. refl) (λ e. refl) s.stations station.now tt _ f (λ v found. refl) (λ q y found. (tt, λ apart. refl)) in
     record {
       leads = λ i. record (tables_between s m) { stations = stations i };
-      listing = listing_same s n m (names_station s station.now f (λ x. refl)) refl refl listing;
+      listing = listing_same s n m (names_station s station.now f (λ x. omega arith)) refl refl listing;
     }
 
 pub move_station : Everywhere MoveStationLaw
@@ -138,7 +138,7 @@ move_station s m now listing station p =
     let stations = changed_entries texts (counted_station s) (counted_station s) (λ e. refl) (λ e. refl) s.stations station.now tt _ f (λ v found. refl) (λ q y found. (tt, λ apart. refl)) in
     record {
       leads = λ i. record (tables_between s m) { stations = stations i };
-      listing = listing_same s n m (names_station s station.now f (λ x. refl)) refl refl listing;
+      listing = listing_same s n m (names_station s station.now f (λ x. omega arith)) refl refl listing;
     }
 
 -- ---- names in further languages

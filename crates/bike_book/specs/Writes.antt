@@ -61,6 +61,7 @@ write_of (row.AddStation x reported) = Add Stations (station_row x.now.station_i
 write_of (row.SetFlags station installed renting returning reported) =
     Set Stations (Text station.now ∷ []) ((5, Int (truth installed)) ∷ (6, Int (truth renting)) ∷ (7, Int (truth returning)) ∷ (8, number_value reported) ∷ [])
 write_of (row.SetPosition station p) = Set Stations (Text station.now ∷ []) ((2, Int p.now.lat) ∷ (3, Int p.now.lon) ∷ [])
+write_of (row.SetDockCount station docks free) = Set Stations (Text station.now ∷ []) ((4, number_value docks) ∷ (9, number_value free) ∷ [])
 write_of (row.SetRegion station region) = Set Stations (Text station.now ∷ []) ((11, or_null Text (text_in region)) ∷ [])
 write_of (row.SetDocksReported station free broken reported) =
     Set Stations (Text station.now ∷ []) ((9, number_value free) ∷ (10, number_value broken) ∷ (8, number_value reported) ∷ [])

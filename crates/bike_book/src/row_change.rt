@@ -51,6 +51,12 @@ pub enum RowChange<'a> {
         station: &'a Ident,
         position: &'a Position,
     },
+    /// Sets how many docks a station has, and how many of them are available.
+    SetDockCount {
+        station: &'a Ident,
+        docks: u32,
+        free: u32,
+    },
     /// Sets the region of a station, or that it is in none.
     SetRegion {
         station: &'a Ident,

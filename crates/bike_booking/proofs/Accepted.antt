@@ -15,9 +15,10 @@ use Rattle.bike_commands.specs.Replies.{reply_text}
 use Rattle.bike_operator.specs.declared.records.Bike.{Bike}
 use Rattle.bike_operator.specs.declared.records.Order.{Order}
 use Rattle.bike_operator.specs.declared.records.Rental.{Rental}
-use Rattle.bike_operator.specs.Operator.{Operator, Rider, Kept, texts_cmp}
+use Rattle.bike_catalogue.specs.Rows.{more_docks}
+use Rattle.bike_operator.specs.Operator.{Operator, Station, Rider, Kept, texts_cmp}
 use Rattle.bike_operator.specs.Changes.{entry_added}
-use Rattle.bike_operator.specs.Steps.{with_report, dock_marked}
+use Rattle.bike_operator.specs.Steps.{key_changed, with_report, dock_marked}
 use Rattle.bike_operator.specs.Runs.{key_in, after_acceptance}
 use Rattle.bike_operator.specs.Sound.{IsSound}
 use Rattle.bike_places.proofs.ItemLemmas.{length-number_changed}
@@ -75,6 +76,17 @@ bike_left s bikes = record { entries = refl; kept = refl; riders = refl; rentals
 mark_left : (s : Operator) (broken : FinSet texts_cmp) → Leaves s (record s { broken = broken })
 mark_left s broken = record { entries = refl; kept = refl; riders = refl; rentals = refl; orders = refl; more_names = refl; named = same_named s (record s { broken = broken }) refl }
 
+station_left : (s : Operator) (station : List ℕ) (f : Station → Station) → Leaves s (record s { stations = key_changed s.stations station f })
+station_left s station f = record {
+  entries = refl;
+  kept = refl;
+  riders = refl;
+  rentals = refl;
+  orders = refl;
+  more_names = refl;
+  named = record { system = refl; plans = λ id there. there; types = λ id there. there; regions = λ id there. there; stations = λ id there. known_changed text_order s.stations station f id there };
+}
+
 reported : (now : ℕ) (station : List ℕ) (s n : Operator) → Leaves s n → Leaves s (with_report station now n)
 reported now station s n h = record {
   entries = h.entries;
@@ -97,6 +109,7 @@ moved_left now None s = none_left s
 moved_left now (Some (moved.Away bike type_id was becomes)) s = bike_left s (fin.insert s.bikes bike (bike_in type_id becomes))
 moved_left now (Some (moved.AtDock at bike type_id was becomes)) s =
     let bikes = fin.insert s.bikes bike (bike_in type_id becomes) in reported now at.station.now s (record s { bikes = bikes }) (bike_left s bikes)
+moved_left now (Some (moved.Grown station was count)) s = station_left s station.now (λ x. record x { row = more_docks count.now x.row })
 moved_left now (Some (moved.Marked at held broken)) s =
     let n = dock_marked at.station.now at.dock broken s in reported now at.station.now s n (mark_left s n.broken)
 
@@ -122,7 +135,7 @@ leads_moved : (s : Operator) (m : Listed) (now : ℕ) (n : Stored) → IsSound s
     → (w : Listed) × Leads (where_moved_writes now n mo) s m (where_moved now mo s) w
 leads_moved s m now n sound listing None found stored = (m, leads_none s m listing)
 leads_moved s m now n sound listing (Some mo) found stored =
-    let b = books_moved s m now n sound.bikes listing mo found stored in (b.0, of_books (moved_rows now n mo) s (after_moved now mo s) m b.0 b.1)
+    let b = books_moved s m now n sound.catalogue sound.bikes listing mo found stored in (b.0, of_books (moved_rows now n mo) s (after_moved now mo s) m b.0 b.1)
 
 leads_changed : (s : Operator) (m : Listed) (now : ℕ) → IsReady s → IsListing s m → (co : Option Change) → IfSome co (IsFound s) → Leads (where_changed_writes now co) s m (where_changed now co s) m
 leads_changed s m now is_ready listing None found = leads_none s m listing

@@ -1,5 +1,5 @@
 -- What is put or marked at a dock, as row changes.
-use Rattle.std.proofs.Common.{◌≡◌, ℕ, pos, List, [], ◌∷◌, Bool, Option, Some, None, is_some, refl, sym, ap, ◌∙◌, subst}
+use Rattle.std.proofs.Common.{◌≡◌, ◌+◌, ℕ, pos, List, [], ◌∷◌, Bool, Option, Some, None, is_some, refl, sym, ap, ◌∙◌, subst}
 use Rattle.std.specs.Prelude.{if◌then◌else◌}
 use Rattle.std.specs.Borrow.{Bor}
 use Rattle.std.specs.FinMap as fin
@@ -7,7 +7,7 @@ use Rattle.bike_operator.specs.declared.records.Bike.{Bike}
 use Rattle.bike_operator.specs.Operator.{Operator, Station, dock_key, key_of}
 use Rattle.bike_operator.specs.Counts.{is_dock}
 use Rattle.bike_operator.specs.Changes.{place_of}
-use Rattle.bike_operator.specs.Sound.{AreBikesSound}
+use Rattle.bike_operator.specs.Sound.{AreBikesSound, IsCatalogueSound}
 use Rattle.bike_places.proofs.MapLemmas.{number_order}
 use Rattle.bike_places.proofs.CountLemmas.{found_by}
 use Rattle.bike_book.specs.declared.row_change.RowChange.{RowChange}
@@ -20,6 +20,7 @@ use Rattle.bike_moves.specs.Put.{IsDockAt, IsPutAtDock, adds_put, adds_marked, d
 use Rattle.bike_moves.specs.PutLaws.{docks_reported}
 use Rattle.bike_moves.proofs.Ends.{left_is}
 use Rattle.bike_moves.proofs.PutBooks.{put_away, put_at_dock}
+use Rattle.bike_moves.proofs.GrownBooks.{grown}
 use Rattle.bike_moves.proofs.MarkedBooks.{marked_empty, marked_held}
 use Rattle.bike_accepted.specs.declared.moved.DockAt.{DockAt}
 use Rattle.bike_accepted.specs.declared.moved.Moved.{Moved}
@@ -43,10 +44,10 @@ count_is m station type_id (Some c) n has =
 dock_is_row : (m : Listed) (at : DockAt) (listed broken : Bool) → listed ≡ fin.contains_key m.docks (dock_key at.station.now at.dock) → dock_change m at.station at.dock broken ≡ dock_row listed at broken
 dock_is_row m at listed broken has = ap (λ (b : Bool). if b then row.SetDock at.station at.dock broken else row.AddDock at.station at.dock broken) (sym has)
 
-module _ (s : Operator) (m : Listed) (now : ℕ) (n : Stored) (sound : AreBikesSound s) (listing : IsListing s m) where
+module _ (s : Operator) (m : Listed) (now : ℕ) (n : Stored) (catalogue : IsCatalogueSound s) (sound : AreBikesSound s) (listing : IsListing s m) where
   -- ---- the stored numbers are those that the row changes start from
 
-  docks_of : (at : DockAt) → IsDockFound s at → IsDockStored s m at n.dock → HasDockTotals s at.station.now (docks_in n.dock)
+  docks_of : (at : DockAt) → IsDockFound s at → IsDockStored s m at.station.now n.dock → HasDockTotals s at.station.now (docks_in n.dock)
   docks_of at found stored = record {
     row = found.has.row;
     found = found.has.found;
@@ -82,6 +83,13 @@ module _ (s : Operator) (m : Listed) (now : ℕ) (n : Stored) (sound : AreBikesS
         subst (λ (c : RowChange). Books (row.SetBike bike becomes.state becomes.place ∷ docks_reported now at.station (docks_by adds (docks_in n.dock)) ∷ c ∷ []) s m (after_moved now (moved.AtDock at bike type_id was becomes) s) w)
             (count_is m at.station type_id n.counts o stored.1.has_row)
             (put_at_dock s m now listing bike b becomes.state becomes.place at.station type_id at.dock at.is_broken (docks_in n.dock) (counts_in n.counts) sound refl h docks bikes),
+      )
+  books_moved (moved.Grown station was count) found stored =
+      let d = docks_in n.dock in
+      let free = left_is s sound station.now found.row found.found ∙ ap (λ (k : ℕ). pos k) (sym (stored.free found.row found.found)) in (
+        m,
+        subst (λ (docks : ℕ). Books (row.SetDockCount station (docks + count.now) (d.free + count.now) ∷ []) s m (after_moved now (moved.Grown station was count) s) m) found.docks_are
+            (grown s m now listing station found.row count.now d catalogue found.found free),
       )
   books_moved (moved.Marked at None broken) found stored =
       let w = with_dock at.station.now at.dock m in

@@ -26,10 +26,10 @@ counts_in None = record { available = 0; disabled = 0 }
 counts_in (Some c) = record { available = c.available; disabled = c.disabled }
 
 module _ (s : Operator) (m : Listed) where
-  -- what the tables store of a dock and of its station
-  pub record IsDockStored (at : DockAt) (d : StoredDock) : Type 0 where
-    pub free : (x : Station) → map.get s.stations at.station.now ≡ Some x → d.free ≡ docks_available s at.station.now x.row.docks
-    pub broken : (x : Station) → map.get s.stations at.station.now ≡ Some x → d.broken ≡ docks_broken s at.station.now x.row.docks
+  -- what the tables store of the docks of a station
+  pub record IsDockStored (station : List ℕ) (d : StoredDock) : Type 0 where
+    pub free : (x : Station) → map.get s.stations station ≡ Some x → d.free ≡ docks_available s station x.row.docks
+    pub broken : (x : Station) → map.get s.stations station ≡ Some x → d.broken ≡ docks_broken s station x.row.docks
 
   -- whether the dock has a row
   abbrev pub IsListedAt : DockAt → StoredDock → Type 0
@@ -48,8 +48,9 @@ module _ (s : Operator) (m : Listed) where
   -- THE TABLE: what is stored of the dock that is touched, and of the type of its bicycle
   abbrev pub IsMovedStored : Stored → Moved → Type 0
   IsMovedStored n (moved.Away bike type_id was becomes) = Unit {0}
-  IsMovedStored n (moved.AtDock at bike type_id was becomes) = IsDockStored at n.dock × AreCountsStored at type_id.now n.counts
-  IsMovedStored n (moved.Marked at held broken) = IsDockStored at n.dock × IsListedAt at n.dock × AreHeldStored at held n.counts
+  IsMovedStored n (moved.AtDock at bike type_id was becomes) = IsDockStored at.station.now n.dock × AreCountsStored at type_id.now n.counts
+  IsMovedStored n (moved.Grown station was count) = IsDockStored station.now n.dock
+  IsMovedStored n (moved.Marked at held broken) = IsDockStored at.station.now n.dock × IsListedAt at n.dock × AreHeldStored at held n.counts
 
   -- that, and the operator's sums with the entry
   pub record IsStored (a : Accepted) (n : Stored) : Type 0 where

@@ -1,5 +1,5 @@
 -- What an accepted command writes, as a table.
-use Rattle.std.specs.Prelude.{◌≡◌, ◌++◌, ℕ, ℤ, List, [], ◌∷◌, Bool, false, Option, Some, None, if◌then◌else◌}
+use Rattle.std.specs.Prelude.{◌≡◌, ◌+◌, ◌++◌, ℕ, ℤ, List, [], ◌∷◌, Bool, false, Option, Some, None, if◌then◌else◌}
 use Rattle.std.specs.Borrow.{Bor}
 use Rattle.bike_book.specs.declared.row_change.RowChange.{RowChange}
 use Rattle.bike_book.specs.declared.row_change.RowChange.TheVariants as row
@@ -41,6 +41,7 @@ moved_rows now n (moved.AtDock at bike type_id was becomes) =
     row.SetBike bike becomes.state becomes.place
     ∷ docks_reported now at.station (docks_by (adds_put at.is_broken (bike_in type_id was) becomes.state becomes.place) (docks_in n.dock))
     ∷ count_row n.counts at.station type_id (bikes_by (adds_put at.is_broken (bike_in type_id was) becomes.state becomes.place) (counts_in n.counts)) ∷ []
+moved_rows now n (moved.Grown station was count) = row.SetDockCount station (was.now + count.now) (n.dock.free + count.now) ∷ []
 moved_rows now n (moved.Marked at None broken) =
     dock_row n.dock.is_listed at broken ∷ docks_reported now at.station (docks_marked_empty at.is_broken broken (docks_in n.dock)) ∷ []
 moved_rows now n (moved.Marked at (Some h) broken) =

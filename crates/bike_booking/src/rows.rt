@@ -1,6 +1,6 @@
 //! The row changes of an accepted command.
 
-ghost use Rattle.std.specs.Prelude.{◌≡◌, ◌++◌, ◌≤◌, length, Some, None};
+ghost use Rattle.std.specs.Prelude.{◌≡◌, ◌+◌, ◌++◌, ◌≤◌, length, Some, None};
 ghost use Rattle.bike_book.specs.declared.row_change.RowChange.TheVariants as row;
 ghost use Rattle.bike_book.specs.ChangeLaws.{segment_writes};
 ghost use Rattle.bike_book.specs.Writes.{writes_of};
@@ -12,13 +12,13 @@ ghost use Rattle.bike_booking.specs.Writes.{count_row, dock_row, moved_rows, cha
 
 use crate::change_row::change_row;
 use crate::shares::{BikeShares, moved_by, one};
-use crate::stored::{Stored, StoredCounts, Sums};
+use crate::stored::{Stored, StoredCounts, StoredDock, Sums};
 use crate::texts::KeptTexts;
 use arrayvec::ArrayVec;
 use bike_accepted::{Accepted, Booked, Change, DockAt, Held, Moved, Standing};
 use bike_book::RowChange;
 use bike_catalogue::Segment;
-use bike_fields::Ident;
+use bike_fields::{DockCount, Ident};
 use bike_fixed::Moment;
 
 /// A request makes at most this many row changes: 3 of what is put or marked, a record and 8 segments of a plan, 3 of an
@@ -85,6 +85,22 @@ fn docks_row<'a>(at: &DockAt<'a>, free: u32, broken: u32, now: Moment) -> RowCha
         free,
         broken,
         reported: now,
+    }
+}
+
+/// The docks of a station that has so many and gets more, which are available.
+fn grown_row<'a>(
+    station: &'a Ident,
+    was: &DockCount,
+    count: &DockCount,
+    stored: &StoredDock,
+) -> RowChange<'a>
+    ensures { result ≡ row.SetDockCount station.entry (was.now + count.now) (stored.now.free + count.now) }
+{
+    RowChange::SetDockCount {
+        station,
+        docks: was.get() + count.get(),
+        free: stored.free.get() + count.get(),
     }
 }
 
@@ -176,6 +192,11 @@ fn push_moved<'a>(rows: &mut Rows<'a>, moved: &Moved<'a>, stored: &Stored, now: 
             let count = count_row(&stored.counts, at.station, type_id, less, more);
             add(rows, &[bike_row(*bike, becomes), docks, count]);
         }
+        Moved::Grown {
+            station,
+            was,
+            count,
+        } => add(rows, &[grown_row(station, was, count, &stored.dock)]),
         Moved::Marked {
             at,
             held: None,

@@ -1,5 +1,5 @@
 -- The records of the catalogue, as contracts see them.
-use Rattle.std.specs.Prelude.{◌≡◌, ℕ, ℤ, pos, neg_ℤ, ◌≤◌, ◌<◌, ◌≤ℤ◌, List, length, Bool, true, Option, None, Some, nat_lt, nat_le, int_le, ◌==◌, ◌&&◌, if◌then◌else◌}
+use Rattle.std.specs.Prelude.{◌≡◌, ℕ, ℤ, pos, neg_ℤ, ◌+◌, ◌≤◌, ◌<◌, ◌≤ℤ◌, List, length, Bool, true, Option, None, Some, nat_lt, nat_le, int_le, ◌==◌, ◌&&◌, if◌then◌else◌}
 use Rattle.bike_fields.specs.Coordinate.{IsMicro}
 use Rattle.bike_catalogue.specs.declared.vehicle.Form.{Form}
 use Rattle.bike_catalogue.specs.declared.vehicle.Propulsion.{Propulsion}
@@ -118,6 +118,10 @@ settings_of_fields name opening_hours feed_contact_email timezone base_url ttl =
 -- the station at another position
 abbrev pub moved_to : PositionRow → StationRow → StationRow
 moved_to p s = record s { lat = p.lat; lon = p.lon }
+
+-- the station with so many docks more
+abbrev pub more_docks : ℕ → StationRow → StationRow
+more_docks count s = record s { docks = s.docks + count }
 
 -- the system with other settings
 abbrev pub system_with : SettingsRow → SystemRow → SystemRow

@@ -38,6 +38,7 @@ word_of (command.SetRegion station region) = codes "set-region"
 word_of (command.AddName kind id language name) = codes "add-name"
 word_of (command.ChangeSystem x) = codes "change-system"
 word_of (command.MoveStation station p) = codes "move-station"
+word_of (command.AddDocks station count) = codes "add-docks"
 
 -- .. and its fields, in order
 abbrev pub fields_of : Command → List Field
@@ -74,6 +75,7 @@ fields_of (command.ChangeSystem x) =
     Name x.name ∷ Ascii x.opening_hours ∷ Ascii x.feed_contact_email ∷ Ascii x.timezone ∷ Ascii x.base_url
     ∷ Number 0 LONGEST_TIME_TO_LIVE x.ttl ∷ []
 fields_of (command.MoveStation station p) = Id station ∷ Degrees GREATEST_LATITUDE p.lat ∷ Degrees GREATEST_COORDINATE p.lon ∷ []
+fields_of (command.AddDocks station count) = Id station ∷ Dock count ∷ []
 
 -- the fields keep their bounds, as those of every command of the program do
 abbrev pub IsCommand : Command → Type 0

@@ -186,6 +186,10 @@ impl Command {
                 let _ = station.as_str();
                 position.bounds();
             }
+            Command::AddDocks { station, count } => {
+                let _ = station.as_str();
+                let _ = count.get();
+            }
         }
     }
 }

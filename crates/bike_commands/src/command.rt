@@ -1,7 +1,7 @@
 //! Commands: what a request asks the operator to do.
 
 use bike_texts::{
-    BicycleNumber, DockNumber, Ident, Language, Name, NameKind, OrderEnd, OrderNumber,
+    BicycleNumber, DockCount, DockNumber, Ident, Language, Name, NameKind, OrderEnd, OrderNumber,
     OrderQuantity, Payment, Plan, Position, Region, RentalNumber, RiderNumber, Settings, Side,
     Station, System, TruckCapacity, TruckNumber, UnloadDock, VehicleType,
 };
@@ -135,5 +135,10 @@ pub enum Command {
     MoveStation {
         station: Ident,
         position: Position,
+    },
+    /// Adds docks to a station, which are empty and work, numbered on from those that it has.
+    AddDocks {
+        station: Ident,
+        count: DockCount,
     },
 }

@@ -25,7 +25,7 @@ use Rattle.bike_accepted.specs.declared.moved.Standing.{Standing}
 use Rattle.bike_accepted.specs.declared.moved.DockAt.{DockAt}
 use Rattle.bike_accepted.specs.declared.moved.Held.{Held}
 use Rattle.bike_accepted.specs.Effects.{bike_in, bike_put, after_moved}
-use Rattle.bike_accepted.specs.Found.{IsNoOtherDock, held_bike, IsMovedFound}
+use Rattle.bike_accepted.specs.Found.{IsStationFound, IsNoOtherDock, held_bike, IsMovedFound}
 use Rattle.bike_core.specs.Moves.{IsShown, put_from, IsHeldShown}
 use Rattle.bike_core.proofs.Views.{shown_bike, empty_dock}
 
@@ -80,6 +80,14 @@ module _ (s : Operator) (bike : ℕ) (b : Bike) (type_id : Bor (List ℕ)) (was 
 -- ---- a dock
 
 -- the station that a view shows has a dock of this number
+-- a station that the view shows
+pub station_shown : (s : Operator) (station : List ℕ) (o : Option Station) (x : StationView) → map.get s.stations station ≡ o → station_view o ≡ Some x → IsStationFound s station x.docks
+station_shown s station None x e shown = absurd cc
+station_shown s station (Some y) x e shown = record { row = y; found = e; docks_are = ap docks_in shown } where
+  docks_in : Option StationView → ℕ
+  docks_in None = 0
+  docks_in (Some v) = v.docks
+
 pub dock_shown : (s : Operator) (station : List ℕ) (dock : ℕ) (o : Option Station) (x : StationView) → map.get s.stations station ≡ o → station_view o ≡ Some x → 1 ≤ dock → dock ≤ x.docks → HasDock s station dock
 dock_shown s station dock None x e shown low high = absurd cc
 dock_shown s station dock (Some y) x e shown low high = record { row = y; found = e; low = low; high = (let docks : y.row.docks ≡ x.docks = docks_same y x shown in subst (λ (n : ℕ). dock ≤ n) (sym docks) high) } where

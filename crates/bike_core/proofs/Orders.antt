@@ -190,6 +190,7 @@ module _ (v : View) (now truck order bike : ℕ) (side : Side) (dock : ℕ) wher
           orders_left : (n : Moved) → item_numbered order (after_moved now n s).orders ≡ item_numbered order s.orders
           orders_left (moved.Away k t w z) = refl
           orders_left (moved.AtDock at k t w z) = refl
+          orders_left (moved.Grown station was count) = refl
           orders_left (moved.Marked at held broken) = refl
 
           delivered : (d : Side) → IsDelivery d order o co → IfSome co (IsFound (after_moved now m s))

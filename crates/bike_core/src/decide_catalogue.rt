@@ -9,7 +9,7 @@ use crate::places::held_in;
 use bike_accepted::{Accepted, Change, Decision, DockAt, Moved};
 use bike_catalogue::{Plan, Position, Settings, Station, System, VehicleType};
 use bike_commands::Refusal;
-use bike_fields::{DockNumber, Ident};
+use bike_fields::{DockCount, DockNumber, Ident, MOST_DOCKS};
 use bike_operator::View;
 
 /// Decides on setting the system: it is set once.
@@ -106,6 +106,29 @@ pub(crate) fn decide_move_station<'a>(
         return Err(Refusal::UnknownStation);
     }
     Ok(Accepted::changed(Change::MoveStation { station, position }))
+}
+
+/// Decides on docks that a station gets: it has at most `MOST_DOCKS` then.
+pub(crate) fn decide_add_docks<'a>(
+    view: &'a View,
+    station: &'a Ident,
+    count: &'a DockCount,
+) -> Decision<'a>
+    ensures decides { DecidesOn view.now (command.AddDocks station.now count.now) result }
+    ensures found { IfOk result (FindsOn view.now (command.AddDocks station.now count.now)) }
+{
+    let Some(row) = &view.station else {
+        return Err(Refusal::UnknownStation);
+    };
+    let was = &row.docks;
+    if was.get() + count.get() > MOST_DOCKS {
+        return Err(Refusal::LimitReached);
+    }
+    Ok(Accepted::moved(Moved::Grown {
+        station,
+        was,
+        count,
+    }))
 }
 
 /// Decides on the flags of a station.

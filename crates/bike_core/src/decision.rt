@@ -7,8 +7,8 @@ ghost use Rattle.bike_operator.specs.Bounds.{IsBounded};
 
 use crate::decide_bikes::{decide_add_bike, decide_mark_bike, decide_retire_bike};
 use crate::decide_catalogue::{
-    decide_add_plan, decide_add_station, decide_add_type, decide_change_system, decide_mark_dock,
-    decide_move_station, decide_set_plan, decide_set_station, decide_set_system,
+    decide_add_docks, decide_add_plan, decide_add_station, decide_add_type, decide_change_system,
+    decide_mark_dock, decide_move_station, decide_set_plan, decide_set_station, decide_set_system,
 };
 use crate::decide_names::decide_add_name;
 use crate::decide_orders::{
@@ -94,5 +94,6 @@ pub fn decide<'a>(view: &'a View, now: Moment, command: &'a Command) -> Decision
         } => decide_add_name(view, *kind, id, language, name),
         Command::ChangeSystem(settings) => decide_change_system(view, settings),
         Command::MoveStation { station, position } => decide_move_station(view, station, position),
+        Command::AddDocks { station, count } => decide_add_docks(view, station, count),
     }
 }

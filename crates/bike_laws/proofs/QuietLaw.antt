@@ -3,7 +3,7 @@ use Rattle.std.proofs.Common.{◌≡◌, ℕ, Bool, true, false, cond, Option, S
 use Rattle.std.specs.FinMap as finmap
 use Rattle.std.specs.Cmp.{nat_cmp_total}
 use Rattle.std.specs.Cmp.Lexicographic.{nat_list_cmp_total}
-use Rattle.bike_catalogue.specs.Rows.{moved_to}
+use Rattle.bike_catalogue.specs.Rows.{moved_to, more_docks}
 use Rattle.bike_texts.specs.declared.ends.OrderEnd.{OrderEnd}
 use Rattle.bike_texts.specs.declared.ends.OrderEnd.TheVariants as end
 use Rattle.bike_texts.specs.declared.ends.Side.{Side}
@@ -114,6 +114,15 @@ quiet_kind s now (command.MoveStation station p) free none = record {
   bikes = λ id h. h;
   plans = λ id h. h;
   stations = λ id h. changed_keeps nat_list_cmp_total s.stations station (λ x. record x { row = moved_to p x.row }) id h;
+  out = λ number bike o. record { row = o.row; found = o.found; place_is = o.place_is };
+}
+quiet_kind s now (command.AddDocks station count) free none = record {
+  rentals = refl;
+  entries = refl;
+  riders = λ id h. h;
+  bikes = λ id h. h;
+  plans = λ id h. h;
+  stations = λ id h. changed_keeps nat_list_cmp_total s.stations station (λ x. record x { row = more_docks count x.row }) id h;
   out = λ number bike o. record { row = o.row; found = o.found; place_is = o.place_is };
 }
 quiet_kind s now c free none = quiet_fields s (effect s now c) refl refl refl refl refl refl

@@ -170,3 +170,4 @@ reply_good s now (command.SetRegion station region) order good none later = done
 reply_good s now (command.AddName kind id language name) order good none later = done
 reply_good s now (command.ChangeSystem x) order good none later = done
 reply_good s now (command.MoveStation station p) order good none later = done
+reply_good s now (command.AddDocks station count) order good none later = done

@@ -219,3 +219,4 @@ view_bounded s now (command.SetRegion station region) sound later = plain_bounde
 view_bounded s now (command.AddName kind id language name) sound later = plain_bounded now (view_of s (command.AddName kind id language name)) refl refl refl refl refl
 view_bounded s now (command.ChangeSystem x) sound later = plain_bounded now (view_of s (command.ChangeSystem x)) refl refl refl refl refl
 view_bounded s now (command.MoveStation station p) sound later = plain_bounded now (view_of s (command.MoveStation station p)) refl refl refl refl refl
+view_bounded s now (command.AddDocks station count) sound later = plain_bounded now (view_of s (command.AddDocks station count)) refl refl refl refl refl

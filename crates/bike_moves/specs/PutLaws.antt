@@ -1,20 +1,21 @@
 -- The row changes of a bicycle's record put and of a dock marked, where the station of the dock reports with it.
-use Rattle.std.specs.Prelude.{◌≡◌, ℕ, List, [], ◌∷◌, Bool, Some, None}
+use Rattle.std.specs.Prelude.{◌≡◌, ◌+◌, ℕ, pos, List, [], ◌∷◌, Bool, Some, None}
 use Rattle.std.specs.Borrow.{Bor}
 use Rattle.std.specs.FinMap as map
 use Rattle.bike_operator.specs.declared.records.BikeState.{BikeState}
 use Rattle.bike_operator.specs.declared.records.Bike.{Bike}
 use Rattle.bike_operator.specs.declared.change.NewPlace.{NewPlace}
-use Rattle.bike_operator.specs.Operator.{Operator}
+use Rattle.bike_catalogue.specs.Rows.{more_docks}
+use Rattle.bike_operator.specs.Operator.{Operator, Station}
 use Rattle.bike_operator.specs.Counts.{docked_at}
-use Rattle.bike_operator.specs.Steps.{with_report, dock_marked}
+use Rattle.bike_operator.specs.Steps.{key_changed, with_report, dock_marked}
 use Rattle.bike_operator.specs.Changes.{place_of}
-use Rattle.bike_operator.specs.Sound.{AreBikesSound}
+use Rattle.bike_operator.specs.Sound.{AreBikesSound, IsCatalogueSound}
 use Rattle.bike_places.specs.Laws.{IsAway}
 use Rattle.bike_book.specs.declared.row_change.RowChange.{RowChange}
 use Rattle.bike_book.specs.declared.row_change.RowChange.TheVariants as row
 use Rattle.bike_book.specs.Stored.{Listed}
-use Rattle.bike_book.specs.Between.{Books}
+use Rattle.bike_book.specs.Between.{docks_left, Books}
 use Rattle.bike_moves.specs.Facts.{DockTotals, BikeTotals, HasDockTotals, HasBikeTotals}
 use Rattle.bike_moves.specs.AddedOrSet.{count_change, dock_change, with_count, with_dock}
 use Rattle.bike_moves.specs.Put.{standing, bike_put, IsDockAt, IsPutAtDock, adds_put, adds_marked, docks_by, bikes_by, docks_marked_empty, docks_marked_held}
@@ -57,3 +58,11 @@ module _ (s : Operator) (m : Listed) (now : ℕ) where
       → Books (dock_change m station dock broken ∷ docks_reported now station (docks_marked_held was broken d)
       ∷ count_change m station type_id (bikes_by (adds_marked was broken b.state) n) ∷ []) s m
       (with_report station.now now (dock_marked station.now dock broken s)) (with_count station.now type_id.now (with_dock station.now dock m))
+
+  -- docks that a station gets, which are empty and work
+  abbrev pub GrownLaw : Type 0
+  GrownLaw =
+      (station : Bor (List ℕ)) (x : Station) (count : ℕ) (d : DockTotals)
+      → IsCatalogueSound s → map.get s.stations station.now ≡ Some x → docks_left s station.now x.row.docks ≡ pos d.free
+      → Books (row.SetDockCount station (x.row.docks + count) (d.free + count) ∷ []) s m
+      (record s { stations = key_changed s.stations station.now (λ y. record y { row = more_docks count y.row }) }) m

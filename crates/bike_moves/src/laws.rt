@@ -2,7 +2,7 @@
 
 ghost use Rattle.bike_book.specs.ChangeLaws.{Everywhere};
 ghost use Rattle.bike_moves.specs.Ends.{StoredDocksLaw, SoundEndsLaw};
-ghost use Rattle.bike_moves.specs.PutLaws.{AwayLaw, AtDockLaw, MarkedEmptyLaw, MarkedHeldLaw};
+ghost use Rattle.bike_moves.specs.PutLaws.{AwayLaw, AtDockLaw, MarkedEmptyLaw, MarkedHeldLaw, GrownLaw};
 
 /// The laws of a bicycle's record put, in another state or place or both: from no dock to no dock, and from, into or in
 /// a dock, whose station reports. The numbers to write follow from those stored.
@@ -16,6 +16,11 @@ pub fn books_put()
 pub fn books_marked()
     ensures empty { Everywhere MarkedEmptyLaw }
     ensures held { Everywhere MarkedHeldLaw }
+{}
+
+/// The law of docks that a station gets, which are empty and work. It doesn't report.
+pub fn books_grown()
+    ensures { Everywhere GrownLaw }
 {}
 
 /// The law of both ends of a request: between two sound operators, row changes that book what lies between lead

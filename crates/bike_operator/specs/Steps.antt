@@ -4,7 +4,8 @@ use Rattle.std.specs.Str.{bytes_eq}
 use Rattle.std.specs.FinMap as map
 use Rattle.std.specs.FinSet as set
 use Rattle.std.specs.declared.cmp.Ordering.{Ordering}
-use Rattle.bike_commands.specs.Rows.{StationRow, moved_to, system_with}
+use Rattle.bike_commands.specs.Rows.{StationRow, moved_to, more_docks, system_with}
+use Rattle.bike_fields.specs.declared.numbers.TheConstants.{MOST_DOCKS}
 use Rattle.bike_fares.specs.Pricing.{fare_of}
 use Rattle.bike_ledger.specs.declared.entry.EntryKind.{EntryKind}
 use Rattle.bike_ledger.specs.declared.entry.EntryKind.TheVariants as kind
@@ -152,6 +153,7 @@ tests v (command.AddName kind id language name) =
     (not v.has_system, refusal.SystemMissing) ∷ (not v.has_named, unknown_of kind) ∷ (v.has_language, refusal.AlreadyThere) ∷ (v.is_full, refusal.LimitReached) ∷ []
 tests v (command.ChangeSystem x) = (not v.has_system, refusal.SystemMissing) ∷ []
 tests v (command.MoveStation station p) = (is_none v.station, refusal.UnknownStation) ∷ []
+tests v (command.AddDocks station count) = (is_none v.station, refusal.UnknownStation) ∷ (on v.station (λ x. nat_lt MOST_DOCKS (x.docks + count)), refusal.LimitReached) ∷ []
 
 abbrev pub refusal_of : Operator → Command → Option Refusal
 refusal_of s c = first (tests (view_of s c) c)
@@ -287,6 +289,7 @@ effect s now (command.SetRegion station region) = record s { stations = key_chan
 effect s now (command.AddName kind id language name) = record s { more_names = map.insert s.more_names (name_key kind id language) name }
 effect s now (command.ChangeSystem x) = record s { system = option_map (system_with x) s.system }
 effect s now (command.MoveStation station p) = record s { stations = key_changed s.stations station (λ x. record x { row = moved_to p x.row }) }
+effect s now (command.AddDocks station count) = record s { stations = key_changed s.stations station (λ x. record x { row = more_docks count x.row }) }
 
 -- ---- replies
 
@@ -332,3 +335,4 @@ reply_of s now (command.SetRegion station region) = Done
 reply_of s now (command.AddName kind id language name) = Done
 reply_of s now (command.ChangeSystem x) = Done
 reply_of s now (command.MoveStation station p) = Done
+reply_of s now (command.AddDocks station count) = Done

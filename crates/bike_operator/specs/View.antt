@@ -211,3 +211,4 @@ view_of s (command.AddName kind id language name) =
     record empty_view { has_system = is_some s.system; has_named = has_named s kind id; has_language = has_language s kind id language; is_full = has_all_names s kind id }
 view_of s (command.ChangeSystem x) = record empty_view { has_system = is_some s.system }
 view_of s (command.MoveStation station p) = record empty_view { station = station_at s station }
+view_of s (command.AddDocks station count) = record empty_view { station = station_at s station }

@@ -5,7 +5,7 @@ use Rattle.std.specs.FinMap as map
 use Rattle.std.specs.FinMap.{FinMap}
 use Rattle.std.proofs.lemmas.Bool.Decides.{nat_tests}
 use Rattle.std.proofs.Math.Dec.{eqb_refl}
-use Rattle.bike_operator.specs.Rows.{moved_to}
+use Rattle.bike_operator.specs.Rows.{moved_to, more_docks}
 use Rattle.bike_operator.specs.OrderEnd.{OrderEnd}
 use Rattle.bike_operator.specs.OrderEnd.TheVariants as end
 use Rattle.bike_operator.specs.Side.{Side}
@@ -44,7 +44,7 @@ later_bikes s now k h = same_bikes s (at_moment s now k) refl h
 
 reported_bikes : (s : Operator) (now : ℕ) (k : FinMap texts_cmp Kept) (station : List ℕ) → AreBikesSound (at_moment s now k) → AreBikesSound (at_moment (with_report station now s) now k)
 reported_bikes s now k station h =
-    stations_bikes (at_moment s now k) (key_changed s.stations station (reports now)) (docks_changed (at_moment s now k) (at_moment (with_report station now s) now k) station (reports now) (λ x. refl) refl) h
+    stations_bikes (at_moment s now k) (key_changed s.stations station (reports now)) (docks_changed (at_moment s now k) (at_moment (with_report station now s) now k) station (reports now) (λ x. omega arith) refl) h
 
 place_reported_bikes : (s : Operator) (now : ℕ) (k : FinMap texts_cmp Kept) (p : Place) → AreBikesSound (at_moment s now k) → AreBikesSound (at_moment (place_reported p now s) now k)
 place_reported_bikes s now k (place.Dock station dock) h = reported_bikes s now k station h
@@ -193,7 +193,7 @@ bikes_law s now (command.AddStation x) k order good free late =
 bikes_law s now (command.SetStation station installed renting returning) k order good free late =
     let at : Operator = at_moment s now k in
     let f : Station → Station = λ x. record x { is_installed = installed; is_renting = renting; is_returning = returning; reported = now } in
-    stations_bikes at (key_changed s.stations station f) (docks_changed at (record at { stations = key_changed s.stations station f }) station f (λ x. refl) refl) (later_bikes s now k order.bikes)
+    stations_bikes at (key_changed s.stations station f) (docks_changed at (record at { stations = key_changed s.stations station f }) station f (λ x. omega arith) refl) (later_bikes s now k order.bikes)
 bikes_law s now (command.MarkDock station dock broken) k order good free late =
     reported_bikes (dock_marked station dock broken s) now k station (same_bikes s (at_moment (dock_marked station dock broken s) now k) refl order.bikes)
 bikes_law s now (command.AddBike bike type_id) k order good free late =
@@ -253,10 +253,14 @@ bikes_law s now (command.AddRegion r) k order good free late = unchanged s now (
 bikes_law s now (command.SetRegion station region) k order good free late =
     let at : Operator = at_moment s now k in
     let f : Station → Station = λ x. record x { region = region } in
-    stations_bikes at (key_changed s.stations station f) (docks_changed at (record at { stations = key_changed s.stations station f }) station f (λ x. refl) refl) (later_bikes s now k order.bikes)
+    stations_bikes at (key_changed s.stations station f) (docks_changed at (record at { stations = key_changed s.stations station f }) station f (λ x. omega arith) refl) (later_bikes s now k order.bikes)
 bikes_law s now (command.AddName kind id language name) k order good free late = unchanged s now (command.AddName kind id language name) k refl order.bikes
 bikes_law s now (command.ChangeSystem x) k order good free late = unchanged s now (command.ChangeSystem x) k refl order.bikes
 bikes_law s now (command.MoveStation station p) k order good free late =
     let at : Operator = at_moment s now k in
     let f : Station → Station = λ x. record x { row = moved_to p x.row } in
-    stations_bikes at (key_changed s.stations station f) (docks_changed at (record at { stations = key_changed s.stations station f }) station f (λ x. refl) refl) (later_bikes s now k order.bikes)
+    stations_bikes at (key_changed s.stations station f) (docks_changed at (record at { stations = key_changed s.stations station f }) station f (λ x. omega arith) refl) (later_bikes s now k order.bikes)
+bikes_law s now (command.AddDocks station count) k order good free late =
+    let at : Operator = at_moment s now k in
+    let f : Station → Station = λ x. record x { row = more_docks count x.row } in
+    stations_bikes at (key_changed s.stations station f) (docks_changed at (record at { stations = key_changed s.stations station f }) station f (λ x. omega arith) refl) (later_bikes s now k order.bikes)

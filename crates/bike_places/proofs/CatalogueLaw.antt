@@ -1,10 +1,11 @@
 -- An accepted command keeps the catalogue sound.
-use Rattle.std.proofs.Common.{◌≡◌, ℕ, ◌≤◌, List, true, Option, Some, None, refl, arith, if◌then◌else◌}
-use Rattle.std.specs.Prelude.{option_map}
+use Rattle.std.proofs.Common.{◌≡◌, ℕ, ◌≤◌, List, true, false, ltb, Option, Some, None, refl, subst, arith, if◌then◌else◌}
+use Rattle.std.specs.Prelude.{option_map, nat_lt, ◌+◌}
+use Rattle.std.proofs.lemmas.Bool.Decides.{nat_tests}
 use Rattle.std.specs.Ordering.{nat_cmp}
 use Rattle.std.specs.FinMap as map
 use Rattle.std.specs.FinMap.{FinMap}
-use Rattle.bike_operator.specs.Rows.{IsSettings, moved_to, system_with}
+use Rattle.bike_operator.specs.Rows.{IsSettings, moved_to, more_docks, system_with}
 use Rattle.bike_operator.specs.OrderEnd.{OrderEnd}
 use Rattle.bike_operator.specs.OrderEnd.TheVariants as end
 use Rattle.bike_operator.specs.Side.{Side}
@@ -18,10 +19,11 @@ use Rattle.bike_operator.specs.declared.records.Bike.{Bike}
 use Rattle.bike_operator.specs.declared.records.Order.{Order}
 use Rattle.bike_operator.specs.declared.view.DockedBike.{DockedBike}
 use Rattle.bike_operator.specs.declared.view.RentalView.{RentalView}
-use Rattle.bike_operator.specs.Operator.{Operator, Kept, texts_cmp, item_numbered}
+use Rattle.bike_fields.specs.declared.numbers.TheConstants.{MOST_DOCKS}
+use Rattle.bike_operator.specs.Operator.{Operator, Station, Kept, texts_cmp, item_numbered}
 use Rattle.bike_operator.specs.Counts.{docked_at}
-use Rattle.bike_operator.specs.View.{view_of, docked_view, rental_of, rental_view, has_region}
-use Rattle.bike_operator.specs.Steps.{tests, effect, key_changed, place_reported, bike_reported, bike_marked, bike_placed, after_start, after_end, after_recovery, refunded_by, placed_at_end, after_unload, new_station, dock_marked}
+use Rattle.bike_operator.specs.View.{view_of, station_view, docked_view, rental_of, rental_view, has_region}
+use Rattle.bike_operator.specs.Steps.{on, tests, effect, key_changed, place_reported, bike_reported, bike_marked, bike_placed, after_start, after_end, after_recovery, refunded_by, placed_at_end, after_unload, new_station, dock_marked}
 use Rattle.bike_operator.specs.Sound.{IsCatalogueSound}
 use Rattle.bike_places.specs.Accepted.{AcceptedKeeps}
 use Rattle.bike_places.proofs.Moment.{at_moment, reports}
@@ -76,6 +78,10 @@ module _ (s : Operator) (now : ℕ) (k : FinMap texts_cmp Kept) (h : IsCatalogue
   unloaded_catalogue order bike From dock (Some o) = placed_catalogue bike o.from_end dock (after_unload order bike From dock now (Some o) s).orders
   unloaded_catalogue order bike To dock (Some o) = placed_catalogue bike o.to_end dock (after_unload order bike To dock now (Some o) s).orders
 
+-- a number that isn't above the most there may be
+not_above : (n most : ℕ) → ltb most n ≡ false → n ≤ most
+not_above n most few = grind (arith, nat_tests, few)
+
 -- ---- all commands
 
 -- a command that leaves the catalogue alone
@@ -123,7 +129,7 @@ catalogue_law s now (command.AddStation x) k order good free late =
     }) (no_station (map.get s.stations x.station_id) no.0) no.1.0 (later_catalogue s now k late order.catalogue)
 catalogue_law s now (command.SetStation station installed renting returning) k order good free late =
     station_changed (at_moment s now k) station (λ x. record x { is_installed = installed; is_renting = renting; is_returning = returning; reported = now })
-    (record { id = λ x. refl; docks = λ x. refl; good = λ x good. good; by_now = λ x old. omega arith; region = λ x known. known }) (later_catalogue s now k late order.catalogue)
+    (record { id = λ x. refl; docks = λ x. omega arith; good = λ x found good. good; by_now = λ x old. omega arith; region = λ x known. known }) (later_catalogue s now k late order.catalogue)
 catalogue_law s now (command.MarkDock station dock broken) k order good free late =
     let no = none_holds (tests (view_of s (command.MarkDock station dock broken)) (command.MarkDock station dock broken)) free in
     let has = dock_of (at_moment s now k) station dock (map.get s.stations station) refl no.0 no.1.0 good.1.0.0 in
@@ -157,7 +163,7 @@ catalogue_law s now (command.SetRegion station region) k order good free late =
     let no = none_holds (tests (view_of s (command.SetRegion station region)) (command.SetRegion station region)) free in
     let there : has_region (at_moment s now k) region ≡ true = region_stands s (at_moment s now k) (λ id known. known) region (holds (has_region s region) no.1.0) in
     station_changed (at_moment s now k) station (λ x. record x { region = region })
-    (record { id = λ x. refl; docks = λ x. refl; good = λ x good. good; by_now = λ x old. old; region = λ x known. there }) (later_catalogue s now k late order.catalogue)
+    (record { id = λ x. refl; docks = λ x. omega arith; good = λ x found good. good; by_now = λ x old. old; region = λ x known. there }) (later_catalogue s now k late order.catalogue)
 catalogue_law s now (command.AddName kind id language name) k order good free late = unchanged s now (command.AddName kind id language name) k late refl order.catalogue
 catalogue_law s now (command.ChangeSystem x) k order good free late =
     let settings : IsSettings x = record {
@@ -173,8 +179,8 @@ catalogue_law s now (command.MoveStation station p) k order good free late =
     station_changed (at_moment s now k) station (λ x. record x { row = moved_to p x.row })
     (record {
       id = λ x. refl;
-      docks = λ x. refl;
-      good = λ x old. record {
+      docks = λ x. omega arith;
+      good = λ x found old. record {
         station_id = old.station_id;
         name = old.name;
         lat = (good.1.0.0, good.1.0.1);
@@ -182,6 +188,19 @@ catalogue_law s now (command.MoveStation station p) k order good free late =
         some_docks = old.some_docks;
         few_docks = old.few_docks;
       };
+      by_now = λ x old. old;
+      region = λ x known. known;
+    }) (later_catalogue s now k late order.catalogue)
+catalogue_law s now (command.AddDocks station count) k order good free late =
+    let no = none_holds (tests (view_of s (command.AddDocks station count)) (command.AddDocks station count)) free in
+    station_changed (at_moment s now k) station (λ x. record x { row = more_docks count x.row })
+    (record {
+      id = λ x. refl;
+      docks = λ x. omega arith;
+      good = λ x found old.
+          let few : x.row.docks + count ≤ MOST_DOCKS = not_above (x.row.docks + count) MOST_DOCKS (subst (λ (o : Option Station). on (station_view o) (λ y. nat_lt MOST_DOCKS (y.docks + count)) ≡ false) found no.1.0) in
+          let some = old.some_docks in
+          record { station_id = old.station_id; name = old.name; lat = old.lat; lon = old.lon; some_docks = omega (arith, some); few_docks = few };
       by_now = λ x old. old;
       region = λ x known. known;
     }) (later_catalogue s now k late order.catalogue)

@@ -20,16 +20,17 @@ use Rattle.bike_places.proofs.MapLemmas.{text_order, texts_order, tied, IsAdded,
 pub same_docks : (s n : Operator) → n.stations ≡ s.stations → (station : List ℕ) (dock : ℕ) → HasDock s station dock → HasDock n station dock
 same_docks s n e station dock h = record { row = h.row; found = ap (λ (m : FinMap text_cmp Station). map.get m station) e ∙ h.found; low = h.low; high = h.high }
 
-as_many_docks : (f : Station → Station) → ((x : Station) → (f x).row.docks ≡ x.row.docks) → (x y : Station) → IsKept f x y → y.row.docks ≡ x.row.docks
-as_many_docks f keeps x y (Same e) = ap (λ (z : Station). z.row.docks) e
-as_many_docks f keeps x y (Turned e) = ap (λ (z : Station). z.row.docks) e ∙ keeps x
+no_fewer_docks : (f : Station → Station) → ((x : Station) → x.row.docks ≤ (f x).row.docks) → (x y : Station) → IsKept f x y → x.row.docks ≤ y.row.docks
+no_fewer_docks f more x y (Same e) = let same = ap (λ (z : Station). z.row.docks) e in omega (arith, same)
+no_fewer_docks f more x y (Turned e) = let same = ap (λ (z : Station). z.row.docks) e in let few = more x in omega (arith, same, few)
 
-pub docks_changed : (s n : Operator) (k : List ℕ) (f : Station → Station) → ((x : Station) → (f x).row.docks ≡ x.row.docks) → n.stations ≡ key_changed s.stations k f
+pub docks_changed : (s n : Operator) (k : List ℕ) (f : Station → Station) → ((x : Station) → x.row.docks ≤ (f x).row.docks) → n.stations ≡ key_changed s.stations k f
     → (station : List ℕ) (dock : ℕ) → HasDock s station dock → HasDock n station dock
-docks_changed s n k f keeps e station dock h =
+docks_changed s n k f more e station dock h =
     let r = kept_changed text_order s.stations k f station h.row h.found in
-    let is = as_many_docks f keeps h.row r.row r.is in
-    record { row = r.row; found = ap (λ (m : FinMap text_cmp Station). map.get m station) e ∙ r.found; low = h.low; high = subst (λ (docks : ℕ). dock ≤ docks) (sym is) h.high }
+    let few = no_fewer_docks f more h.row r.row r.is in
+    let high = h.high in
+    record { row = r.row; found = ap (λ (m : FinMap text_cmp Station). map.get m station) e ∙ r.found; low = h.low; high = omega (arith, few, high) }
 
 pub docks_added : (s n : Operator) (k : List ℕ) (x : Station) → map.get s.stations k ≡ None → n.stations ≡ map.insert s.stations k x
     → (station : List ℕ) (dock : ℕ) → HasDock s station dock → HasDock n station dock
@@ -227,15 +228,15 @@ station_added s x good free full h =
     is_station id q (New same is) = rw (same, is) good
     is_station id q (Old apart found) = h.stations id q found
 
--- What a station keeps that gets other flags, another region or another position, or reports: its identifier, its docks and its bounds.
-pub record IsKeptStation (s : Operator) (f : Station → Station) : Type 0 where
+-- What a station keeps that changes or reports: its identifier, the docks that it has, and its bounds.
+pub record IsKeptStation (s : Operator) (station : List ℕ) (f : Station → Station) : Type 0 where
   pub id : (x : Station) → (f x).row.station_id ≡ x.row.station_id
-  pub docks : (x : Station) → (f x).row.docks ≡ x.row.docks
-  pub good : (x : Station) → IsStation x.row → IsStation (f x).row
+  pub docks : (x : Station) → x.row.docks ≤ (f x).row.docks
+  pub good : (x : Station) → map.get s.stations station ≡ Some x → IsStation x.row → IsStation (f x).row
   pub by_now : (x : Station) → x.reported ≤ s.now → (f x).reported ≤ s.now
   pub region : (x : Station) → has_region s x.region ≡ true → has_region s (f x).region ≡ true
 
-pub station_changed : (s : Operator) (station : List ℕ) (f : Station → Station) → IsKeptStation s f → IsCatalogueSound s → IsCatalogueSound (record s { stations = key_changed s.stations station f })
+pub station_changed : (s : Operator) (station : List ℕ) (f : Station → Station) → IsKeptStation s station f → IsCatalogueSound s → IsCatalogueSound (record s { stations = key_changed s.stations station f })
 station_changed s station f keeps h =
     stations_changed s (key_changed s.stations station f) (λ id q found. is_station id q (changed_at text_order s.stations station f id q found))
     (rw (len_changed text_order s.stations station f) h.few_stations) (docks_changed s (record s { stations = key_changed s.stations station f }) station f keeps.docks refl) h
@@ -245,7 +246,7 @@ station_changed s station f keeps h =
         let old = h.stations station x found in
         subst (λ (z : Station). IsStationAt s id z) (sym is) (record {
           id_is = same ∙ old.id_is ∙ sym (keeps.id x);
-          good = keeps.good x old.good;
+          good = keeps.good x found old.good;
           by_now = keeps.by_now x old.by_now;
           region = keeps.region x old.region;
         })
@@ -254,7 +255,7 @@ station_changed s station f keeps h =
 pub station_reported : (s : Operator) (station : List ℕ) (now : ℕ) → now ≤ s.now → IsCatalogueSound s → IsCatalogueSound (with_report station now s)
 station_reported s station now late h =
     station_changed s station (λ x. record x { reported = now })
-    (record { id = λ x. refl; docks = λ x. refl; good = λ x good. good; by_now = λ x old. late; region = λ x known. known }) h
+    (record { id = λ x. refl; docks = λ x. omega arith; good = λ x found good. good; by_now = λ x old. late; region = λ x known. known }) h
 
 -- broken docks with another list of them
 broken_changed : (s : Operator) (broken : FinSet texts_cmp) → ((key : DockKey) → set.contains broken key ≡ true → IsBrokenDock s key) → IsCatalogueSound s → IsCatalogueSound (record s { broken = broken })

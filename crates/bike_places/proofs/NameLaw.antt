@@ -3,7 +3,7 @@ use Rattle.std.proofs.Common.{◌≡◌, ℕ, ◌+◌, ◌<◌, List, length, tr
 use Rattle.std.specs.FinMap as map
 use Rattle.std.specs.FinMap.{FinMap}
 use Rattle.std.proofs.lemmas.Bool.Decides.{nat_tests}
-use Rattle.bike_operator.specs.Rows.{PlanRow, TypeRow, RegionRow, moved_to}
+use Rattle.bike_operator.specs.Rows.{PlanRow, TypeRow, RegionRow, moved_to, more_docks}
 use Rattle.bike_operator.specs.OrderEnd.{OrderEnd}
 use Rattle.bike_operator.specs.OrderEnd.TheVariants as end
 use Rattle.bike_operator.specs.Side.{Side}
@@ -205,3 +205,6 @@ names_law s now (command.ChangeSystem x) k order good free late =
 names_law s now (command.MoveStation station p) k order good free late =
     let f : Station → Station = λ x. record x { row = moved_to p x.row } in
     kept_names s (effect s now (command.MoveStation station p)) now k (with_stations s (key_changed s.stations station f) (known_changed text_order s.stations station f)) order.names
+names_law s now (command.AddDocks station count) k order good free late =
+    let f : Station → Station = λ x. record x { row = more_docks count x.row } in
+    kept_names s (effect s now (command.AddDocks station count)) now k (with_stations s (key_changed s.stations station f) (known_changed text_order s.stations station f)) order.names

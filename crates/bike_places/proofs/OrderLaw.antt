@@ -3,7 +3,7 @@ use Rattle.std.proofs.Common.{◌≡◌, ℕ, ◌+◌, ◌≤◌, ◌<◌, List,
 use Rattle.std.specs.FinMap as map
 use Rattle.std.specs.FinMap.{FinMap}
 use Rattle.std.proofs.lemmas.Bool.Decides.{nat_tests}
-use Rattle.bike_operator.specs.Rows.{moved_to}
+use Rattle.bike_operator.specs.Rows.{moved_to, more_docks}
 use Rattle.bike_operator.specs.OrderEnd.{OrderEnd}
 use Rattle.bike_operator.specs.OrderEnd.TheVariants as end
 use Rattle.bike_operator.specs.Side.{Side}
@@ -206,4 +206,7 @@ orders_law s now (command.AddName kind id language name) k order good free late 
 orders_law s now (command.ChangeSystem x) k order good free late = unchanged s now (command.ChangeSystem x) k refl order.orders
 orders_law s now (command.MoveStation station p) k order good free late =
     let f : Station → Station = λ x. record x { row = moved_to p x.row } in
+    known_orders (at_moment s now k) s.types (key_changed s.stations station f) (λ id known. known) (known_changed text_order s.stations station f) (later_orders s now k order.orders)
+orders_law s now (command.AddDocks station count) k order good free late =
+    let f : Station → Station = λ x. record x { row = more_docks count x.row } in
     known_orders (at_moment s now k) s.types (key_changed s.stations station f) (λ id known. known) (known_changed text_order s.stations station f) (later_orders s now k order.orders)

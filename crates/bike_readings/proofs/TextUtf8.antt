@@ -226,6 +226,7 @@ command_words (command.SetRegion station region) = (tt, (region_word region, tt)
 command_words (command.AddName kind id language name) = (named_printable kind, (tt, (tt, (tt, tt))))
 command_words (command.ChangeSystem x) = (tt, (tt, (tt, (tt, (tt, (tt, tt))))))
 command_words (command.MoveStation station p) = (tt, (tt, (tt, tt)))
+command_words (command.AddDocks station count) = (tt, (tt, tt))
 
 word_printable : (c : Command) → Printable (word_of c)
 word_printable (command.SetSystem s) = refl
@@ -255,6 +256,7 @@ word_printable (command.SetRegion station region) = refl
 word_printable (command.AddName kind id language name) = refl
 word_printable (command.ChangeSystem x) = refl
 word_printable (command.MoveStation station p) = refl
+word_printable (command.AddDocks station count) = refl
 
 pub command_utf8 : (c : Command) → IsCommand c → is_utf8 (text_of c) ≡ true
 command_utf8 c g =

@@ -9,9 +9,9 @@ use Rattle.bike_texts.specs.Reading.{choice_of}
 use Rattle.bike_texts.proofs.TabFree.{AreRead}
 use Rattle.bike_texts.proofs.Chains.{IsReader, Rest, number_reader, choice_reader, ident_reader, side_reader, end_reader, ident_or_none_reader, takes, ends, gives, given_all}
 use Rattle.bike_commands.specs.declared.command.Command.{Command}
-use Rattle.bike_commands.specs.declared.command.Command.TheVariants.{SetPlan, SetStation, MarkDock, AddBike, MarkBike, RetireBike, AddTruck, AddRider, SetRider, TopUp, Start, End, Recover, Refund, OpenOrder, Load, Unload, CloseOrder, SetRegion}
+use Rattle.bike_commands.specs.declared.command.Command.TheVariants.{SetPlan, SetStation, MarkDock, AddBike, MarkBike, RetireBike, AddTruck, AddRider, SetRider, TopUp, Start, End, Recover, Refund, OpenOrder, Load, Unload, CloseOrder, SetRegion, AddDocks}
 use Rattle.bike_commands.specs.Commands.{word_of, fields_of}
-use Rattle.bike_requests.specs.Readers.{numbered_of, dock_of, unload_dock_of, serial_of, payment_of, few_of, flag_of, set_plan_at, set_station_at, mark_dock_at, add_bike_at, mark_bike_at, retire_bike_at, add_truck_at, add_rider_at, set_rider_at, top_up_at, start_at, end_at, recover_at, refund_at, open_order_at, load_at, unload_at, close_order_at, set_region_at}
+use Rattle.bike_requests.specs.Readers.{numbered_of, dock_of, unload_dock_of, serial_of, payment_of, few_of, flag_of, set_plan_at, set_station_at, mark_dock_at, add_bike_at, mark_bike_at, retire_bike_at, add_truck_at, add_rider_at, set_rider_at, top_up_at, start_at, end_at, recover_at, refund_at, open_order_at, load_at, unload_at, close_order_at, set_region_at, add_docks_at}
 
 abbrev pub Left : List ℕ → Command → List Field → Parts → Type 0
 Left = Rest word_of fields_of
@@ -308,3 +308,16 @@ unfolding set_region_at
 set_region_full station region ps whole =
     gives _ station ps ident_reader whole (λ ps read.
     gives _ region ps ident_or_none_reader read given_all)
+
+pub add_docks_sound : (ps : Parts) (c : Command) → add_docks_at ps ≡ Some c → Left (codes "add-docks") c [] ps
+unfolding add_docks_at
+add_docks_sound ps c e =
+    takes _ ps ident_reader e (λ station ps e.
+    takes _ ps dock_reader e (λ count ps e.
+    ends (AddDocks station count) ps refl refl e))
+
+pub add_docks_full : (station : List ℕ) (count : ℕ) (ps : Parts) → AreRead (fields_of (AddDocks station count)) ps → add_docks_at ps ≡ Some (AddDocks station count)
+unfolding add_docks_at
+add_docks_full station count ps whole =
+    gives _ station ps ident_reader whole (λ ps read.
+    gives _ count ps dock_reader read given_all)

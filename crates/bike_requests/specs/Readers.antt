@@ -7,7 +7,7 @@ use Rattle.bike_fields.specs.Bytes.{ident_of}
 use Rattle.bike_texts.specs.Parts.{Parts}
 use Rattle.bike_texts.specs.Reading.{◌>>=◌, part_at, field_at, no_more, choice_of, side_of, end_of, ident_or_none_of}
 use Rattle.bike_commands.specs.declared.command.Command.{Command}
-use Rattle.bike_commands.specs.declared.command.Command.TheVariants.{SetPlan, SetStation, MarkDock, AddBike, MarkBike, RetireBike, AddTruck, AddRider, SetRider, TopUp, Start, End, Recover, Refund, OpenOrder, Load, Unload, CloseOrder, SetRegion}
+use Rattle.bike_commands.specs.declared.command.Command.TheVariants.{SetPlan, SetStation, MarkDock, AddBike, MarkBike, RetireBike, AddTruck, AddRider, SetRider, TopUp, Start, End, Recover, Refund, OpenOrder, Load, Unload, CloseOrder, SetRegion, AddDocks}
 use Rattle.bike_requests.specs.RecordReaders.{set_system_at, add_plan_at, add_type_at, add_station_at, add_region_at, add_name_at, change_system_at, move_station_at}
 
 -- riders, bicycles and trucks; docks, and 0 at the depot; rentals and orders; payments in hundredths; bicycles on a truck
@@ -174,6 +174,13 @@ set_region_at ps = do
   end ← no_more region.1
   Some (SetRegion station.0 region.0)
 
+unfoldable pub add_docks_at : Parts → Option Command
+add_docks_at ps = do
+  station ← field_at ident_of ps
+  count ← field_at dock_of station.1
+  end ← no_more count.1
+  Some (AddDocks station.0 count.0)
+
 unfoldable pub command_by : List ℕ → Parts → Option Command
 command_by word ps =
     if bytes_eq word (codes "set-system") then set_system_at ps else (
@@ -203,7 +210,8 @@ command_by word ps =
     if bytes_eq word (codes "add-name") then add_name_at ps else (
     if bytes_eq word (codes "change-system") then change_system_at ps else (
     if bytes_eq word (codes "move-station") then move_station_at ps else (
-    None)))))))))))))))))))))))))))
+    if bytes_eq word (codes "add-docks") then add_docks_at ps else (
+    None))))))))))))))))))))))))))))
 
 unfoldable pub command_at : Parts → Option Command
 command_at ps = do

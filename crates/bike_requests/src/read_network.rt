@@ -3,7 +3,7 @@
 ghost use Rattle.std.specs.Prelude.{◌≡◌, true, IfOk, IfSome, option_map};
 ghost use Rattle.bike_fields.specs.Bytes.{is_ident};
 ghost use Rattle.bike_fields.specs.Reads.{IsReadAs};
-ghost use Rattle.bike_requests.specs.Readers.{set_plan_at, set_station_at, mark_dock_at, add_bike_at, mark_bike_at, retire_bike_at, add_truck_at, set_region_at};
+ghost use Rattle.bike_requests.specs.Readers.{set_plan_at, set_station_at, mark_dock_at, add_bike_at, mark_bike_at, retire_bike_at, add_truck_at, set_region_at, add_docks_at};
 
 use bike_commands::Command;
 use bike_fields::Ident;
@@ -153,4 +153,21 @@ pub fn read_set_region(alloc: Global, mut fields: Fields) -> Result<Option<Comma
     let station = Ident::of(alloc, station)?;
     let region = keep_region(alloc, region)?;
     Ok(Some(Command::SetRegion { station, region }))
+}
+
+#[tactic(auto, unfolding(crate::specs::Readers::add_docks_at))]
+pub fn read_add_docks(alloc: Global, mut fields: Fields) -> Result<Option<Command>, AllocError>
+    ensures { IsReadAs (add_docks_at fields.entry) result }
+{
+    let Some(station) = fields.ident() else {
+        return Ok(None);
+    };
+    let Some(count) = fields.number() else {
+        return Ok(None);
+    };
+    let Some(()) = fields.end() else {
+        return Ok(None);
+    };
+    let station = Ident::of(alloc, station)?;
+    Ok(Some(Command::AddDocks { station, count }))
 }

@@ -8,8 +8,8 @@ ghost use Rattle.bike_requests.specs.Spelling.{SpellsCommand};
 ghost use Rattle.bike_fields.specs.Reads.{IsReadAs};
 
 use crate::read_network::{
-    read_add_bike, read_add_truck, read_mark_bike, read_mark_dock, read_retire_bike, read_set_plan,
-    read_set_region, read_set_station,
+    read_add_bike, read_add_docks, read_add_truck, read_mark_bike, read_mark_dock,
+    read_retire_bike, read_set_plan, read_set_region, read_set_station,
 };
 use crate::read_orders::{read_close_order, read_load, read_open_order, read_unload};
 use crate::read_records::{
@@ -55,6 +55,7 @@ fn read_kind(alloc: Global, word: &str, fields: Fields) -> Result<Option<Command
         "add-name" => read_add_name(alloc, fields),
         "change-system" => read_change_system(alloc, fields),
         "move-station" => read_move_station(alloc, fields),
+        "add-docks" => read_add_docks(alloc, fields),
         _ => Ok(None),
     }
 }

@@ -51,6 +51,7 @@ fn word(command: &Command) -> &'static str
         Command::AddName { .. } => "add-name",
         Command::ChangeSystem(_) => "change-system",
         Command::MoveStation { .. } => "move-station",
+        Command::AddDocks { .. } => "add-docks",
     }
 }
 
@@ -249,6 +250,10 @@ fn put_fields(out: &mut String, command: &Command) -> Result<(), AllocError>
         } => put_name(out, *kind, id, language, name),
         Command::ChangeSystem(settings) => put_settings(out, settings),
         Command::MoveStation { station, position } => put_position(out, station, position),
+        Command::AddDocks { station, count } => {
+            put_ident(out, station)?;
+            put_number(out, count)
+        }
     }
 }
 

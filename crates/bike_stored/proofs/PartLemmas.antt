@@ -13,9 +13,8 @@ use Rattle.bike_fleet_reads.specs.declared.stations.DockNumbers.{DockNumbers}
 use Rattle.bike_fleet_reads.specs.Fleet as fleet
 use Rattle.bike_stored.specs.Parts.{counts_read, dock_read}
 
-pub dock_stored : (s : Operator) (m : Listed) (at : DockAt) (numbers : Option DockNumbers) (listed : Bool) {d : StoredDock} → numbers ≡ fleet.dock_numbers_at s at.station.now → d ≡ dock_read numbers listed → IsDockStored s m at d
-dock_stored s m at numbers listed {d = d} read is =
-    let station = at.station.now in
+pub dock_stored : (s : Operator) (m : Listed) (station : List ℕ) (numbers : Option DockNumbers) (listed : Bool) {d : StoredDock} → numbers ≡ fleet.dock_numbers_at s station → d ≡ dock_read numbers listed → IsDockStored s m station d
+dock_stored s m station numbers listed {d = d} read is =
     let found = λ (x : Station) (there : map.get s.stations station ≡ Some x).
     is ∙ ap (λ o. dock_read o listed) (read ∙ ap (option_map (fleet.dock_numbers_of s station)) there) in
     record { free = λ x there. ap (λ (e : StoredDock). e.free) (found x there); broken = λ x there. ap (λ (e : StoredDock). e.broken) (found x there) }

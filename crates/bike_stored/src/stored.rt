@@ -1,4 +1,4 @@
-//! What the tables store of the dock that an accepted command touches.
+//! What the tables store of the station whose numbers an accepted command touches.
 
 ghost use Rattle.std.specs.Prelude.{◌≡◌, Bool, IfOk, IfSome, IsTrue, Option, is_some, option_map};
 ghost use Rattle.bike_operator.specs.Operator.{Operator};
@@ -107,6 +107,17 @@ fn dock_of_sight(sight: &Sight) -> Result<StoredDock, StatementFault>
     stored_dock(&sight.numbers, sight.mark.is_some())
 }
 
+/// The numbers of a station's docks.
+fn find_station_docks<S: Alter>(
+    conn: &mut Connection<S>,
+    station: &Ident,
+) -> Result<StoredDock, StatementFault>
+    ensures { Answers S.Store conn.old conn.new result (λ s m dock. IsDockStored s m station.now dock) }
+{
+    let numbers = find_dock_numbers(conn, station)?;
+    stored_dock(&numbers, false)
+}
+
 /// The numbers of a dock's station, of the view's read or of one more.
 fn find_dock<S: Alter>(
     conn: &mut Connection<S>,
@@ -115,13 +126,12 @@ fn find_dock<S: Alter>(
     at: &DockAt<'_>,
 ) -> Result<StoredDock, StatementFault>
     ensures { AnswersOpen S.Store conn.old conn.new result
-        (λ s m dock. IsSight s m command.now sight.now → IsDockStored s m at.now dock) }
+        (λ s m dock. IsSight s m command.now sight.now → IsDockStored s m at.now.station.now dock) }
 {
     if is_read(command, sight, at) {
         return dock_of_sight(sight);
     }
-    let numbers = find_dock_numbers(conn, at.station)?;
-    stored_dock(&numbers, false)
+    find_station_docks(conn, at.station)
 }
 
 /// The numbers of a dock's station, and whether the dock has a row, of the view's reads or of two more.
@@ -132,7 +142,7 @@ fn find_listed_dock<S: Alter>(
     at: &DockAt<'_>,
 ) -> Result<StoredDock, StatementFault>
     ensures { AnswersOpen S.Store conn.old conn.new result (λ s m dock. IsSight s m command.now sight.now
-        → IsDockStored s m at.now dock × IsListedAt s m at.now dock) }
+        → IsDockStored s m at.now.station.now dock × IsListedAt s m at.now dock) }
 {
     if is_read(command, sight, at) {
         return dock_of_sight(sight);
@@ -210,6 +220,14 @@ fn find_moved<S: Alter>(
             let dock = find_dock(conn, command, sight, at)?;
             let counts = find_counts_at(conn, at, type_id)?;
             Ok(Stored { dock, counts, sums })
+        }
+        Moved::Grown { station, .. } => {
+            let dock = find_station_docks(conn, station)?;
+            Ok(Stored {
+                dock,
+                counts: None,
+                sums,
+            })
         }
         Moved::Marked { at, held, .. } => {
             let dock = find_listed_dock(conn, command, sight, at)?;

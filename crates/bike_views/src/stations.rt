@@ -1,6 +1,6 @@
 //! What the commands on stations and their docks name.
 
-ghost use Rattle.std.specs.Prelude.{◌≡◌, Bool};
+ghost use Rattle.std.specs.Prelude.{◌≡◌, ℕ, Bool};
 ghost use Rattle.bike_catalogue.specs.Rows.{PositionRow};
 ghost use Rattle.bike_commands.specs.declared.command.Command.TheVariants as command;
 ghost use Rattle.bike_operator.specs.View.{has_region, view_of};
@@ -71,6 +71,21 @@ pub(crate) fn view_to_move_station<S: Alter>(
 ) -> Result<View, StatementFault>
     ensures { Answers S.Store conn.old conn.new result
         (λ s m view. (p : PositionRow) → view ≡ view_of s (command.MoveStation station.now p)) }
+{
+    let station = find_station(conn, station)?;
+    Ok(View {
+        station,
+        ..empty_view()
+    })
+}
+
+/// The view for docks that a station gets.
+pub(crate) fn view_to_add_docks<S: Alter>(
+    conn: &mut Connection<S>,
+    station: &Ident,
+) -> Result<View, StatementFault>
+    ensures { Answers S.Store conn.old conn.new result
+        (λ s m view. (count : ℕ) → view ≡ view_of s (command.AddDocks station.now count)) }
 {
     let station = find_station(conn, station)?;
     Ok(View {

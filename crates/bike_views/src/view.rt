@@ -18,8 +18,8 @@ use crate::rentals::{view_to_end, view_to_recover, view_to_refund, view_to_start
 use crate::riders::{view_to_add_rider, view_to_set_rider, view_to_top_up};
 use crate::sight::{Sight, without_dock};
 use crate::stations::{
-    view_to_add_station, view_to_mark_dock, view_to_move_station, view_to_set_region,
-    view_to_set_station,
+    view_to_add_docks, view_to_add_station, view_to_mark_dock, view_to_move_station,
+    view_to_set_region, view_to_set_station,
 };
 use bike_commands::Command;
 use bike_schema::StatementFault;
@@ -118,5 +118,6 @@ pub fn find_view<S: Alter>(
         } => without_dock(view_to_add_name(alloc, conn, *kind, id, language)),
         Command::ChangeSystem(_) => without_dock(view_to_change_system(conn)),
         Command::MoveStation { station, .. } => without_dock(view_to_move_station(conn, station)),
+        Command::AddDocks { station, .. } => without_dock(view_to_add_docks(conn, station)),
     }
 }

@@ -32,6 +32,10 @@ pub sets_position : (station : Bor (List ℕ)) (p : Bor PositionRow) → Makes (
 unfolding everything
 sets_position station p = sets_columns Stations _ _ (row_updated (table_key Stations) 0 ((2, 1) ∷ (3, 2) ∷ []) _ (λ tree. (refl, refl, refl), refl) refl refl refl (λ r. refl) (λ r. refl))
 
+pub sets_dock_count : (station : Bor (List ℕ)) (docks free : ℕ) → Makes (codes "UPDATE stations_3 SET docks = ?2, free = ?3 WHERE station_id = ?1") (Text station.now ∷ number_value docks ∷ number_value free ∷ []) (row.SetDockCount station docks free)
+unfolding everything
+sets_dock_count station docks free = sets_columns Stations _ _ (row_updated (table_key Stations) 0 ((4, 1) ∷ (9, 2) ∷ []) _ (λ tree. (refl, refl, refl), refl) refl refl refl (λ r. refl) (λ r. refl))
+
 pub sets_region : (station : Bor (List ℕ)) (region : Option (Bor (List ℕ))) → Makes (codes "UPDATE stations_3 SET region_id = ?2 WHERE station_id = ?1") (Text station.now ∷ or_null Text (text_in region) ∷ []) (row.SetRegion station region)
 unfolding everything
 sets_region station region = sets_columns Stations _ _ (row_updated (table_key Stations) 0 ((11, 1) ∷ []) _ (λ tree. (refl, refl, refl), refl) refl refl (rw (text_suits (text_in region))) (λ r. refl) (λ r. refl))

@@ -13,8 +13,8 @@ use crate::orders::{add_order, set_order};
 use crate::rentals::{add_rental, close_rental, set_refunded};
 use crate::riders::{add_rider, set_balance, set_blocked};
 use crate::stations::{
-    add_count, add_dock, add_station, set_count, set_dock, set_docks_reported, set_flags,
-    set_position, set_region,
+    add_count, add_dock, add_station, set_count, set_dock, set_dock_count, set_docks_reported,
+    set_flags, set_position, set_region,
 };
 use bike_book::RowChange;
 use bike_schema::{Staged, StatementFault};
@@ -57,6 +57,11 @@ pub fn put<S: Alter>(tx: &mut Staged<'_, S>, change: &RowChange<'_>) -> Result<(
             reported,
         } => set_docks_reported(tx, station, free, broken, reported),
         RowChange::SetPosition { station, position } => set_position(tx, station, position),
+        RowChange::SetDockCount {
+            station,
+            docks,
+            free,
+        } => set_dock_count(tx, station, docks, free),
         RowChange::SetRegion { station, region } => set_region(tx, station, region),
         RowChange::AddDock {
             station,

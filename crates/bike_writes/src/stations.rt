@@ -101,6 +101,22 @@ pub(crate) fn set_position<S: Alter>(
     )
 }
 
+/// Sets how many docks a station has, and how many of them are available.
+pub(crate) fn set_dock_count<S: Alter>(
+    tx: &mut Staged<'_, S>,
+    station: &Ident,
+    docks: u32,
+    free: u32,
+) -> Result<(), StatementFault>
+    ensures { Writes S.Store tx.old.conn tx.new.conn result (write_of (row.SetDockCount station.entry docks free)) }
+{
+    run(
+        tx,
+        "UPDATE stations_3 SET docks = ?2, free = ?3 WHERE station_id = ?1",
+        params![station.as_str(), docks, free],
+    )
+}
+
 /// Sets the region in which a station stands; with none it stands in none.
 pub(crate) fn set_region<S: Alter>(
     tx: &mut Staged<'_, S>,

@@ -132,3 +132,9 @@ returns-in-MoveStation-clause-decides c = rw c.in-MoveStation.is (λ s e. c.deci
 
 pub returns-in-MoveStation-clause-found : goal.returns-in-MoveStation-clause-found
 returns-in-MoveStation-clause-found c = finds_at c.args.view.now c.args.now c.args.command.now c.decide_move_station.result (rw c.in-MoveStation.is c.decide_move_station.ensures.found)
+
+pub returns-in-AddDocks-clause-decides : goal.returns-in-AddDocks-clause-decides
+returns-in-AddDocks-clause-decides c = rw c.in-AddDocks.is (λ s e. c.decide_add_docks.ensures.decides s c.args.now e)
+
+pub returns-in-AddDocks-clause-found : goal.returns-in-AddDocks-clause-found
+returns-in-AddDocks-clause-found c = finds_at c.args.view.now c.args.now c.args.command.now c.decide_add_docks.result (rw c.in-AddDocks.is c.decide_add_docks.ensures.found)

@@ -122,3 +122,6 @@ returns-in-ChangeSystem g c = seen_plain (view_for (reads_weaker c.view_to_chang
 
 pub returns-in-MoveStation : goal.returns-in-MoveStation
 returns-in-MoveStation g c = seen_plain (view_for (reads_weaker c.view_to_move_station.ensures (λ db x it s h. it s h c.in-MoveStation.position)) c.in-MoveStation.is) c.without_dock-in-MoveStation.ensures c.in-MoveStation.is (λ s m x. tt)
+
+pub returns-in-AddDocks : goal.returns-in-AddDocks
+returns-in-AddDocks g c = seen_plain (view_for (reads_weaker c.view_to_add_docks.ensures (λ db x it s h. it s h c.in-AddDocks.count)) c.in-AddDocks.is) c.without_dock-in-AddDocks.ensures c.in-AddDocks.is (λ s m x. tt)
