@@ -14,6 +14,12 @@ OF_A_DAY = {
     "SELECT * FROM entries WHERE entry > ?1 AND at >= ?2 AND at < ?3 ORDER BY entry LIMIT 1",
     "SELECT * FROM rentals WHERE rental > ?1 AND finish >= ?2 AND finish < ?3 ORDER BY rental LIMIT 1",
 }
+# What the office corrects now and then: each pushes out one text, which is compiled once more when it is asked for.
+OF_A_CORRECTION = {
+    "UPDATE system SET name = ?2, hours = ?3, contact = ?4, zone = ?5, base_url = ?6, ttl = ?7 WHERE one = ?1",
+    "UPDATE stations_3 SET lat = ?2, lon = ?3 WHERE station_id = ?1",
+    "UPDATE stations_3 SET docks = ?2, free = ?3 WHERE station_id = ?1",
+}
 
 
 def test_the_engine_keeps_all(program):
@@ -24,4 +30,6 @@ def test_the_engine_keeps_all(program):
     ]
     texts = {text for source in sources for text in TEXT.findall(source)}
     assert OF_A_DAY < texts, "the statements of a day's tables aren't those"
-    assert len(texts - OF_A_DAY) <= 64, f"{len(texts - OF_A_DAY)} statement texts"
+    assert OF_A_CORRECTION < texts, "the statements of corrections aren't those"
+    usual = texts - OF_A_DAY - OF_A_CORRECTION
+    assert len(usual) <= 64, f"{len(usual)} statement texts"
