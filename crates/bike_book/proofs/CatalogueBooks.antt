@@ -8,7 +8,8 @@ use Rattle.std.specs.FinMap as fin
 use Rattle.std.proofs.lemmas.Int.{ints}
 use Rattle.sqlite_value.specs.declared.value.Value.TheVariants.{Int, Text}
 use Rattle.sqlite_value.specs.Order.{Row, row_cmp}
-use Rattle.bike_rows.specs.View.{put_row_by, rows_after_update, with_values}
+use Rattle.bike_rows.specs.View.{put_row_by, row_with, rows_after_update, with_values}
+use Rattle.bike_rows.proofs.SetLaw.{updated_there}
 use Rattle.bike_operator.specs.Rows.{SystemRow, SettingsRow, moved_to, system_with}
 use Rattle.bike_operator.specs.Operator.{Operator, Station, NameKey, name_key}
 use Rattle.bike_operator.specs.Steps.{key_changed, new_station}
@@ -46,7 +47,9 @@ settings_put : (x : SettingsRow) (o : Option SystemRow)
     → rows_after_update 1 (Int (pos 1) ∷ []) (with_values ((3, Text x.name) ∷ (4, Text x.opening_hours) ∷ (5, Text x.feed_contact_email) ∷ (6, Text x.timezone)
     ∷ (8, Text x.base_url) ∷ (9, number_value x.ttl) ∷ [])) (system_rows o) ≡ system_rows (option_map (system_with x) o)
 settings_put x None = refl
-settings_put x (Some y) = rw one_key refl
+settings_put x (Some y) =
+    let found : row_with 1 (Int (pos 1) ∷ []) (system_rows (Some y)) ≡ Some (system_row y) = rw one_key refl in
+    updated_there 1 (Int (pos 1) ∷ []) _ (system_rows (Some y)) (system_row y) found ∙ system_put (system_with x y) (Some y)
 
 pub change_system : Everywhere ChangeSystemLaw
 change_system s m now listing x = record {
