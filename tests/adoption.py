@@ -336,6 +336,17 @@ CHANGES = [
     ("UPDATE kept SET command = 'set-region\tb2\t*' WHERE req_key = 'k2'", None),
     ("UPDATE kept SET command = 'set-region\tb2\tNorth' WHERE req_key = 'k2'", "unsound kept office/k2"),
     ("UPDATE kept SET command = 'add-region\tnorth\t' WHERE req_key = 'k2'", "unsound kept office/k2"),
+    ("UPDATE kept SET command = 'move-station\tzz\t-0.500000\t180.000000' WHERE req_key = 'k2'", None),
+    ("UPDATE kept SET command = 'change-system\tM\t24/7\tc\tUTC\thttps://x\t86400' WHERE req_key = 'k2'", None),
+    *(
+        (f"UPDATE kept SET command = '{text}' WHERE req_key = 'k2'", "unsound kept office/k2")
+        for text in (
+            "move-station\tb2\t-0.5\t180.000000", "move-station\tb2\t90.000001\t0.000000", "move-station\tb2\t0.000000",
+            "change-system\tM\t24/7\tc\tUTC\thttps://x\t86401", "change-system\t\t24/7\tc\tUTC\thttps://x\t60",
+            "change-system\tM\t24/7\tc\tUTC\thttps://x",
+            "change-system\tmetro\ten\tM\t24/7\tc\tUTC\tEUR\thttps://x\t60",
+        )
+    ),
     ("UPDATE kept SET reply = 'refused\t37\tunknown_region' WHERE req_key = 'k2'", "unsound kept office/k2"),
     ("DELETE FROM kept", None),
     ("UPDATE counts SET available = available + 1 WHERE station_id = 'b2'", "unsound counts b2/city"),

@@ -32,7 +32,7 @@ COMPLETION = TOP / "deploy/bikeshare-doctor.bash"
 doctor = loaded(SCRIPT)
 NOW = 1_750_000_000
 NOBODY = 65534
-BAD_FIELD, FOR_GOOD = "bad_field", "accepted for good"
+BAD_FIELD, FOR_GOOD, FOR_NOW = "bad_field", "accepted for good", "accepted for now"
 
 
 def told(*words, given=None, **how):

@@ -9,7 +9,7 @@ import re
 import time
 
 import formats
-from doctor import BAD_FIELD, FOR_GOOD, NOW, SYSTEM, doctor, number_in, place_of, system_line
+from doctor import BAD_FIELD, FOR_GOOD, FOR_NOW, NOW, SYSTEM, doctor, number_in, place_of, system_line
 from shared import CITY, HEADER, TOP, requests_of
 
 
@@ -102,6 +102,11 @@ BAD_LINES = (
     (ASKED + b"set-system\tm\ten\tM\tt\xc3\xa4glich\tx@x.example\tEtc/UTC\tEUR\thttps://x.de\t1", ", opening_hours"),
     (ASKED + b"add-name\tcolour\ta1\tde\tHafen", ", kind"),
     (ASKED + b"add-name\tsystem\tother\tde\tRad", ", id"),
+    (ASKED + b"change-system\tMetro\t24/7\tx@example.org\tEtc/UTC\tEUR\thttps://x.example\t30", ", command"),
+    (ASKED + b"change-system\tMetro\t24/7\tx@example.org\tEtc/UTC\thttps://x.example\t86401", ", ttl"),
+    (ASKED + b"change-system\t\t24/7\tx@example.org\tEtc/UTC\thttps://x.example\t30", ", name"),
+    (ASKED + b"move-station\ta1\t91\t12.4", ", lat"),
+    (ASKED + b"move-station\ta1\tHarbour\t41.8\t12.4", ", command"),
     (ASKED + b"unload\t3\t1\t7\tto\t501", ", n"),
     (ASKED + b"open-order\t3\t*\ta1\tcity\t61", ", count"),
 )
@@ -151,7 +156,9 @@ def finds_the_refused(given, answers, name):
 def test_lines_that_are_changed_anywhere(program):
     """Lines with a byte taken away, put in or changed: those are found that the program answers bad_field."""
     rnd = random.Random(1)
-    good = requests_of([*CITY, "add-region\tnorth\tNor\\\\d", "add-name\tstation\ta1\tde\tHafen"]).splitlines()
+    more = ["add-region\tnorth\tNor\\\\d", "add-name\tstation\ta1\tde\tHafen", "move-station\ta1\t41.9\t12.5"]
+    more.append("change-system\tMetro\t24/7\tx@example.org\tEtc/UTC\thttps://x.example\t60")
+    good = requests_of([*CITY, *more]).splitlines()
     put_in = [it.encode() for it in ("", "\t", "0", "-", " ", "A", "\\", "9", ".", "\r", ":", ";")] + [b"\xc3"]
     lines = [SYSTEM]
     while len(lines) < 600:
@@ -174,7 +181,9 @@ def station_lines(*places):
     return "\n" + requests_of(commands, at=NOW, key="s").decode()
 
 
-# A field of set-system with a value that can't be taken back, and a word of what is said.
+# A field of set-system with a value that shouldn't stand, and a word of what is said. Those alone that change-system
+# hasn't can't be taken back.
+LASTING = ("language", "currency")
 DOUBTFUL = (
     ("base_url", "foo", "http"), ("base_url", "BASE_URL", "http"), ("base_url", "ftp://x.example", "http"),
     ("base_url", "https://x.example/", "ends in /"),
@@ -214,7 +223,8 @@ def test_lines_that_cannot_be_taken_back(program):
     """Each is found with its field; so is no other; and the program accepts all of them."""
     for field, value, word in DOUBTFUL:
         found = doctor.findings_of_lines(system_line(**{field: value}).encode(), NOW)
-        assert [place_of(it) for it in found] == [(f"line 1, {field}", FOR_GOOD)], (field, value, found)
+        wanted = FOR_GOOD if field in LASTING else FOR_NOW
+        assert [place_of(it) for it in found] == [(f"line 1, {field}", wanted)], (field, value, found)
         assert word in found[0].text, (field, value, found)
     for field, value in FREE_OF_DOUBT:
         found = doctor.findings_of_lines(system_line(**{field: value}).encode(), NOW)
@@ -222,8 +232,8 @@ def test_lines_that_cannot_be_taken_back(program):
     worst = {field: value for field, value, _ in reversed(DOUBTFUL)}
     lines = system_line(**worst) + f"\n{NOW}\toffice\tk2\tadd-name\tsystem\tmetro\tDE\t  "
     found = {place_of(it) for it in doctor.findings_of_lines(lines.encode(), NOW)}
-    wanted = [*(f"line 1, {it}" for it in worst), "line 2, language", "line 2, name"]
-    assert found == {(it, FOR_GOOD) for it in wanted}, found
+    wanted = {(f"line 1, {it}", FOR_GOOD if it in LASTING else FOR_NOW) for it in worst}
+    assert found == wanted | {("line 2, language", FOR_GOOD), ("line 2, name", FOR_GOOD)}, found
     assert program.run(given=lines.encode()) == (0, b"ok\nok\n", b"")
 
 
@@ -244,7 +254,7 @@ def test_moments_of_lines(program):
 
 
 def test_places_of_lines(program):
-    """Coordinates at 0, 0, exchanged ones, and ones that are far away."""
+    """Coordinates at 0, 0, exchanged ones, and ones that are far away, where they are the last of their station."""
     rome = [(41.9, 12.5), (41.91, 12.49), (41.88, 12.52)]
     for places, wanted, word in (
         (rome, [], ""),
@@ -256,7 +266,12 @@ def test_places_of_lines(program):
         (rome[:1], [], ""),
     ):
         found = doctor.findings_of_lines((system_line() + station_lines(*places)).encode(), NOW)
-        assert [it.where for it in found] == wanted and all(word in it.text for it in found), (places, found)
+        assert [place_of(it) for it in found] == [(it, FOR_NOW) for it in wanted], (places, found)
+        assert all(word in it.text for it in found), (places, found)
+    moved = (system_line() + station_lines(*rome, (0, 0))).encode() + requests_of(
+        ["move-station\ts4\t41.9\t12.51", "move-station\ts1\t12.5\t41.9", "move-station\ts9\t0\t0"], at=NOW, key="m"
+    )
+    assert [place_of(it) for it in doctor.findings_of_lines(moved, NOW)] == [("line 7, lat and lon", FOR_NOW)]
     exchanged = (system_line() + station_lines((41.9, 120.5), (120.5, 41.9))).encode()
     found = doctor.findings_of_lines(exchanged, NOW)
     assert [place_of(it) for it in found] == [("line 3, lat", BAD_FIELD)] and "exchanged" in found[0].text, found
@@ -312,7 +327,7 @@ TABLES = (
 def first_refusal(data):
     """What an import of the table says, by what is found in it: of what is only doubted it says nothing."""
     for it in doctor.findings_of_table(data):
-        if it.word != FOR_GOOD:
+        if it.word not in (FOR_GOOD, FOR_NOW):
             return it.word if it.where == "header" else f"row {number_in(it.where)} {it.word}"
     return None
 

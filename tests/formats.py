@@ -121,11 +121,13 @@ def one_of(*words):
 
 
 FLAG = one_of("true", "false")
+PLACE = [lambda it: coordinate(it, 90_000_000) is not None, lambda it: coordinate(it, 180_000_000) is not None]
 COUNTED, SERIALS, DOCK, AMOUNT = within(*NUMBERED), within(*SERIAL), within(1, MOST_DOCKS), within(1, 1_000_000)
 COMMANDS = {
     b"set-system": [
         is_ident, is_language, is_name, is_ascii, is_ascii, is_ascii, is_currency, is_ascii, within(0, 86_400)
     ],
+    b"change-system": [is_name, is_ascii, is_ascii, is_ascii, is_ascii, within(0, 86_400)],
     b"add-plan": [is_ident, is_name, within(0, 1_000_000), FLAG, is_name, is_segments],
     b"add-type": [
         is_ident, is_name, one_of("bicycle", "cargo_bicycle"), one_of("human", "electric_assist"), within(0, 1_000_000),
@@ -133,13 +135,8 @@ COMMANDS = {
     ],
     b"set-plan": [is_ident, is_ident],
     b"add-region": [is_ident, is_name],
-    b"add-station": [
-        is_ident,
-        is_name,
-        lambda it: coordinate(it, 90_000_000) is not None,
-        lambda it: coordinate(it, 180_000_000) is not None,
-        DOCK,
-    ],
+    b"add-station": [is_ident, is_name, *PLACE, DOCK],
+    b"move-station": [is_ident, *PLACE],
     b"set-region": [is_ident, is_end],
     b"set-station": [is_ident, FLAG, FLAG, FLAG],
     b"mark-dock": [is_ident, DOCK, one_of("broken", "working")],
@@ -175,8 +172,9 @@ def command_text(text):
         return None
     if word == b"add-type" and (fields[3] == b"human") != (fields[4] == b"0"):
         return None
-    if word == b"add-station":
-        fields[2:4] = [coordinate_text(coordinate(it, 180_000_000)) for it in fields[2:4]]
+    if word in (b"add-station", b"move-station"):
+        at = 2 if word == b"add-station" else 1
+        fields[at : at + 2] = [coordinate_text(coordinate(it, 180_000_000)) for it in fields[at : at + 2]]
     return b"\t".join([word, *fields])
 
 

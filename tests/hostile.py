@@ -3,7 +3,7 @@ the same have a file of their own, hostile_http.py.
 
 Whatever comes, the program neither crashes nor hangs. Each line is answered exactly once, as the operator in model.py
 answers it; words end with a status of docs/OPERATOR.md, section 12, and its line. Afterwards `check` says `sound`, and
-the feeds tell all names that the operator has.
+the feeds tell all names that the operator has, what of the system may be changed, and where stations stand.
 
 Some 2,000 inputs stand in the gate. By hand, from the environment:
 
@@ -22,6 +22,7 @@ import subprocess
 import threading
 from pathlib import Path
 
+import corrections
 import feeds
 import formats
 import model
@@ -104,6 +105,10 @@ class Fields:
     def degrees(self):
         return self.pick.choice(DEGREES)
 
+    def place(self):
+        """A latitude and a longitude, mostly such that both are read."""
+        return [self.mostly(0.6, ["-0.5", "45.5", "007"], DEGREES) for _ in range(2)]
+
     def segments(self):
         return self.pick.choice(SEGMENTS)
 
@@ -142,6 +147,7 @@ def of_the_catalogue(pick, some):
             "metro", pick.choice(LANGUAGES), some.text(), some.text(), some.text(), some.text(),
             pick.choice(CURRENCIES), some.text(), some.number(0, 86_400),
         ],
+        "change-system": lambda: [some.text() for _ in range(5)] + [some.number(0, 86_400)],
         "add-plan": lambda: [
             pick.choice(["basic", "day", f"p{pick.randint(0, 300)}"]), some.text(), some.number(0, 1_000_000),
             some.flag(), some.text(), some.segments(),
@@ -155,6 +161,7 @@ def of_the_catalogue(pick, some):
             pick.choice([some.station(), f"s{pick.randint(0, 500)}"]), some.text(), some.degrees(), some.degrees(),
             some.dock(),
         ],
+        "move-station": lambda: [some.station(), *some.place()],
         "set-station": lambda: [some.station(), some.flag(), some.flag(), some.flag()],
         "add-region": lambda: [pick.choice([some.region(), f"r{pick.randint(0, 300)}"]), some.text()],
         "set-region": lambda: [some.station(), "*" if pick.random() < 0.3 else some.region()],
@@ -266,6 +273,8 @@ CITY = [
     "add-truck\t1\t3",
     "add-region\tnorth\tNorth", "set-region\tb2\tnorth", "add-name\tstation\ta1\tde\tHafen",
     "add-name\tdescription\tday\tfr\tJour",
+    "change-system\tMetro Bikes\tMo-Su\toffice@example.org\tEurope/Rome\thttps://example.org\t60",
+    "move-station\tb2\t-45.000001\t9.2",
     *(f"add-bike\t{it}\t{'cargo' if it % 3 == 0 else 'city'}" for it in range(1, 9)),
     *(f"add-rider\t{it}" for it in range(1, 9)), *(f"top-up\t{it}\t10000" for it in range(1, 9)),
     "open-order\t3\t*\ta1\tcity\t4", *(f"load\t3\t1\t{it}" for it in (1, 2, 4)),
@@ -343,6 +352,12 @@ def test_lines(program):
     )
     found = data_of(program, "system_information")["languages"]
     assert found == operator.languages(), f"seed {SEED}: {found}, not {operator.languages()}"
+    # So they tell what of the system may be changed, and where stations stand.
+    for found, right in (
+        (corrections.told_system(program), operator.told_system()),
+        (corrections.told_places(program), operator.told_places()),
+    ):
+        assert found == right, f"seed {SEED}: {found}, not {right}"
 
 
 def answered(program, operator, lines, data, pick, where):

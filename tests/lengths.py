@@ -7,15 +7,16 @@ BAD_FIELD = b"refused\t11\tbad_field\n"
 SYSTEM = [
     b"set-system", b"metro", b"en", b"Metro", b"24/7", b"a@example.org", b"Etc/UTC", b"EUR", b"http://127.0.0.1", b"30"
 ]
+CHANGE = [b"change-system", *SYSTEM[3:7], *SYSTEM[8:]]
 REGION = [b"add-region", b"north", b"North"]
 NAME = [b"add-name", b"system", b"metro", b"de", b"Metro"]
 
 
 def is_read(program, fields, at, text):
-    """Whether the command is accepted with this text in the place of one field. A name in a further language wants a
-    system."""
+    """Whether the command is accepted with this text in the place of one field. A name in a further language and a
+    change of the system want a system."""
     command = b"\t".join([*fields[:at], text, *fields[at + 1 :]])
-    before = [HEAD + b"k0\t" + b"\t".join(SYSTEM) + b"\n"] if fields is NAME else []
+    before = [HEAD + b"k0\t" + b"\t".join(SYSTEM) + b"\n"] if fields in (NAME, CHANGE) else []
     status, found, said = program.run(given=b"".join([*before, HEAD + b"k1\t" + command + b"\n"]))
     assert found.startswith(OK * len(before)), found
     found = found.removeprefix(OK * len(before))
@@ -42,6 +43,7 @@ def test_languages(program):
 def test_names(program):
     for unit, most in ((b"N", 120), (b"\\\\", 120), (b"\\n", 120), ("é".encode(), 60), ("🚲".encode(), 30)):
         has_lengths(program, SYSTEM, 3, unit, 1, most)
+        has_lengths(program, CHANGE, 1, unit, 1, most)
 
 
 def test_regions(program):
@@ -57,11 +59,11 @@ def test_names_in_further_languages(program):
 
 
 def test_printable_fields(program):
-    for at in (4, 5, 6, 8):
+    for fields, at in (*((SYSTEM, at) for at in (4, 5, 6, 8)), *((CHANGE, at) for at in (2, 3, 4, 5))):
         for unit in (b"~", b" ", b"\\\\"):
-            has_lengths(program, SYSTEM, at, unit, 1, 200)
+            has_lengths(program, fields, at, unit, 1, 200)
         for text in (b"\x1f", b"\x7f", b"\\t", b"\\n", b"\\r", "é".encode()):
-            assert not is_read(program, SYSTEM, at, text), f"{text} was read at field {at}"
+            assert not is_read(program, fields, at, text), f"{text} was read at field {at} of {fields[0]}"
 
 
 def test_currencies(program):
@@ -69,9 +71,11 @@ def test_currencies(program):
 
 
 def test_the_longest_system(program):
-    """And its longest name in a further language."""
+    """And its longest change, and its longest name in a further language."""
     fields = [b"set-system", b"m" * 36, b"e" * 35, b"\\\\" * 120, *[b"\\\\" * 200] * 3, b"EUR", b"\\\\" * 200, b"86400"]
     head = b"253402300799\timport:" + b"i" * 36 + b"\t"
     line = head + b"k" * 64 + b"\t" + b"\t".join(fields) + b"\n"
     name = head + b"n" * 64 + b"\t" + b"\t".join([b"add-name", b"system", b"m" * 36, b"f" * 35, b"\\\\" * 120]) + b"\n"
-    program.answers(line + line + name + name, OK * 4)
+    texts = [b"change-system", b"\\n" * 120, *[b"\\\\" * 200] * 4, b"86400"]
+    change = head + b"c" * 64 + b"\t" + b"\t".join(texts) + b"\n"
+    program.answers(line + line + change + change + name + name, OK * 6)

@@ -71,6 +71,15 @@ class Operator:
             for key, names in told.items()
         }
 
+    def told_system(self):
+        """What feeds tell of the system beside its names: opening hours, contact, time zone, base URL and ttl."""
+        *texts, ttl = self.settings
+        return [*(formats.unescaped(it.encode()).decode() for it in texts), int(ttl)]
+
+    def told_places(self):
+        """What feeds tell of each station's place, with the six decimals that they print."""
+        return {station: it["at"] for station, it in self.stations.items()}
+
     def languages(self):
         """The system's own, and then each other once by their bytes."""
         return [self.system[1], *sorted({language for names in self.further.values() for language in names})]
@@ -100,8 +109,16 @@ class Operator:
 
     def set_system(self, system, language, name, *fields):
         refuse(10, self.system)
+        hours, contact, zone, _, url, ttl = fields
         self.system = system, language
         self.named["system", system] = name
+        self.settings = hours, contact, zone, url, ttl
+
+    def change_system(self, name, *settings):
+        """Identifier, language and currency stay, and so do further names."""
+        refuse(38, self.system is None)
+        self.named["system", self.system[0]] = name
+        self.settings = settings
 
     def add_plan(self, plan, name, price, taxable, description, segments):
         refuse(10, plan in self.plans)
@@ -135,9 +152,16 @@ class Operator:
     def add_station(self, station, name, lat, lon, docks):
         refuse(10, station in self.stations)
         refuse(32, len(self.stations) >= 5000)
-        self.stations[station] = {"docks": int(docks), "flags": (True, True, True), "region": None}
+        self.stations[station] = {
+            "docks": int(docks), "flags": (True, True, True), "region": None, "at": (lat, lon)
+        }
         self.named["station", station] = name
         self.report(station)
+
+    def move_station(self, station, lat, lon):
+        """It reports nothing. Docks, flags and region stay."""
+        refuse(1, station not in self.stations)
+        self.stations[station]["at"] = lat, lon
 
     def set_region(self, station, region):
         """It reports nothing, and a station leaves its region for none whether it had one or not."""

@@ -327,6 +327,13 @@ def test_what_came_later_is_served_of_a_raised_file(program):
             (f"{AT} office n7 start 17 a1 1", "rental 1 7"),
             (f"{AT} office n8 end 7 b2 499", "fare 100 2400"),
         )
+        answers(
+            program, file, (f"{AT} office n9 change-system Metro 24/7 a@x.example Etc/UTC https://x.example 60", "ok"),
+            (f"{AT} office n10 move-station a1 -45.5 9", "ok"),
+        )
+        texts = {name: program.run("feed", file.name, name)[1] for name in ("gbfs", "station_information")}
+        assert b'"url":"https://x.example/gbfs/3.0/' in texts["gbfs"], texts
+        assert b'"lat":-45.500000,"lon":9.000000,' in texts["station_information"], texts
         assert program.run("check", file.name) == SOUND
         assert program.run("raise", file.name) == DONE
 

@@ -231,7 +231,8 @@ class Listed:
     def __init__(self, seed):
         city = traffic.city.City(seed=seed, **traffic.SIZES)
         self.setup = [it.encode() for it in city.setup()]
-        self.lines = [it.encode() for it in itertools.islice(city.traffic(refused=0.1, repeated=0.05), LONG)]
+        lines = traffic.corrected(city.traffic(refused=0.1, repeated=0.05), seed)
+        self.lines = [it.encode() for it in itertools.islice(lines, LONG)]
         operator = traffic.model.Operator()
         answers = [operator.answer(it.rstrip(b"\n")) + b"\n" for it in [*self.setup, *self.lines, *self.lines]]
         self.built, self.answers, self.again = answers[: -2 * LONG], answers[-2 * LONG : -LONG], answers[-LONG:]

@@ -225,7 +225,8 @@ def test_every_feed_is_the_text_of_feed(program):
         "set-region\tb2\tnorth", "add-name\tstation\tb2\tpl\tŁódź \\\\ 🚲", "add-name\tregion\tnorth\tDE\tNorden",
         "add-name\tsystem\tmetro\tde\tMetro",
         "add-name\ttype\tcity\tzh-Hant\t城市", "add-name\tplan\tbasic\tde\tEinfach",
-        "add-name\tdescription\tbasic\tfr\tUn euro",
+        "add-name\tdescription\tbasic\tfr\tUn euro", "move-station\ta1\t-90\t-0.5",
+        'change-system\tStadt "1"\\t🚲\t"\\\\"\toffice@example.org\tEurope/Rome\thttps://bikes.example\t86400',
     )
     with Server(program, len(FEEDS)) as server:
         found = {name: server.ask(get_feed(name)) for name in FEEDS}
@@ -376,6 +377,55 @@ def test_the_worked_names(program):
     is_sound(program)
 
 
+def test_the_worked_corrections(program):
+    """The feeds, whole, before and after the system and a station's place are corrected."""
+    city(program)
+    feeds = "gbfs", "system_information", "station_information", "station_status"
+    before = {it: get_feed(it) for it in feeds}
+    with Server(program, len(feeds)) as server:
+        told = {it: timeless(server.ask(asked)).decode() for it, asked in before.items()}
+    head = '"ttl":30,"version":"3.0"'
+
+    def after(name, *changes, ttl=60):
+        """The whole answer where these texts of the body have changed."""
+        body = told[name].split("\r\n\r\n", 1)[1]
+        for old, new in ((head, head.replace("30", str(ttl))), *changes):
+            assert old in body, (name, old, body)
+            body = body.replace(old, new)
+        return before[name], answer(200, body)
+
+    change = "change-system\tMetro\tMo-Su\toffice@example.org\tEurope/Rome\thttps://bikes.example\t"
+    system = (
+        ("Metro Bikes", "Metro"), ("24/7", "Mo-Su"), ("feeds@example.org", "office@example.org"),
+        ("Etc/UTC", "Europe/Rome"),
+    )
+    place, url = ("41.890169", "-0.000001"), ("http://127.0.0.1:8080/", "https://bikes.example/")
+    holds(program, [
+        (office("c1", f"{change}86401"), BAD_FIELD),
+        (office("c1", "move-station\tzz\t0\t0"), refused(1, "unknown_station")),
+        (office("c1", "move-station\ta1\t90.000001\t0"), BAD_FIELD),
+        *(after(it, ttl=30) for it in feeds),
+        (office("c1", f"{change}60"), DONE),
+        *(after(it) for it in ("station_information", "station_status")),
+        after("system_information", *system),
+        after("gbfs", url),
+        (office("c1", f"{change}60"), DONE),
+        (office("c1", f"{change}61"), refused(33, "key_reused")),
+        (office("c2", "move-station\ta1\t-0.000001\t12.492269"), DONE),
+        after("station_information", place),
+        (office("c2", "move-station\ta1\t-000.000001\t12.4922690"), BAD_FIELD),
+        (office("c2", "move-station\ta1\t-000.000001\t12.492269"), DONE),
+        (office("c2", "move-station\ta1\t0.000001\t12.492269"), refused(33, "key_reused")),
+        (office("c3", f"{change}0"), DONE),
+        after("station_information", place, ttl=0),
+        # What was answered once is answered again, and changes nothing.
+        (office("c1", f"{change}60"), DONE),
+        after("station_status", ttl=0),
+        (office("c4", CITY[0]), refused(10, "already_there")),
+    ])
+    is_sound(program)
+
+
 def test_a_station_of_500_docks(program):
     city(program, "add-station\tb2\tBridge\t0\t0\t500")
     docked = '{"bike":7,"type":"city","state":"fit","place":"dock","station":"b2","dock":500}'
@@ -409,6 +459,8 @@ def test_no_system(program):
     holds(program, [
         (office("o1", "add-name\tstation\ta1\tde\tHafen"), refused(38, "system_missing")),
         (office("o1", "add-name\tsystem\tmetro\tde\tMetro"), refused(38, "system_missing")),
+        (office("o1", "change-system\tM\t24/7\tc\tEtc/UTC\thttps://x.example\t60"), refused(38, "system_missing")),
+        (office("o1", "move-station\ta1\t0\t0"), refused(1, "unknown_station")),
         *((get_feed(name), error(404)) for name in FEEDS),
         *((get(target), error(404)) for target in ("/riders/17", "/bikes/7", "/rentals/1", "/orders/1")),
         (post("/riders/17/start", START), refused(4, "unknown_rider")),

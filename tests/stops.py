@@ -77,6 +77,8 @@ OTHERS = [
     ("1700004960 office n16 set-region a1 *", "ok"),
     ("1700004960 office n17 add-name station a1 fr Port", "ok"),
     ("1700004970 office n18 add-name description day de Tag", "ok"),
+    ("1700004980 office n19 change-system Metro Mo-Su office@example.org Europe/Rome https://bikes.example 60", "ok"),
+    ("1700004980 office n20 move-station a1 -45.5 9.1", "ok"),
 ]
 
 

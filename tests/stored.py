@@ -118,6 +118,26 @@ VALUES = {
     ],
 }
 
+# Commands behind those that correct the system and the places of stations, each with its own text, and what the fields
+# are then: no others of the row have changed.
+CORRECTED = [
+    ('change-system|Q "1"\\t🚲|\\\\ "|c|z|u/|0', 'change-system|Q "1"\\t🚲|\\\\ "|c|z|u/|0'),
+    ("move-station|a1|-000.5|180", "move-station|a1|-0.500000|180.000000"),
+    ("move-station|a4|-0|045.1", "move-station|a4|0.000000|45.100000"),
+    ("move-station|a5|90.000000|-180", "move-station|a5|90.000000|-180.000000"),
+    ("move-station|a5|-0.000001|0", "move-station|a5|-0.000001|0.000000"),
+]
+CORRECTED_VALUES = {
+    "SELECT * FROM system": [(1, "s", "de", 'Q "1"\t🚲', '\\ "', "c", "z", "EUR", "u/", 0)],
+    "SELECT * FROM stations_3 ORDER BY station_id": [
+        ("a1", "N", -500000, 180000000, 1, 1, 1, 1, 1700000000, 1, 0, None),
+        ("a2", "N", 0, -180000000, 1, 1, 1, 1, 1700000000, 1, 0, "-r_2"),
+        ("a3", "N", 7000000, 180000000, 1, 1, 1, 1, 1700000000, 1, 0, None),
+        ("a4", "N", 0, 45100000, 10, 1, 1, 1, 1700000000, 10, 0, None),
+        ("a5", "N", -1, 0, 500, 1, 1, 1, 1700000000, 500, 0, "r1"),
+    ],
+}
+
 CALLERS = ["office", "rider:1", "rider:7", "rider:999999", "dock:a1", "crew:7", "import:csv-2024", "import:" + "a" * 36]
 
 
@@ -137,14 +157,25 @@ def test_numbers(program):
 
 
 def test_kept_commands_and_their_values(program):
-    rows = [(f"1700000000|office|w{at}|{spelled}", "ok") for at, (spelled, _) in enumerate(OWN)]
+    are_kept(program, "kept.db", OWN, VALUES)
+
+
+def test_kept_corrections_and_their_values(program):
+    """They come at a later moment, which no station reports."""
+    unchanged = {query: rows for query, rows in VALUES.items() if " system" not in query}
+    are_kept(program, "corrected.db", [*OWN, *CORRECTED], {**unchanged, **CORRECTED_VALUES})
+
+
+def are_kept(program, file, commands, wanted):
+    """Holds what a file keeps of the commands, and the values of their fields."""
+    rows = [(f"{1700000000 + 60 * (at // len(OWN))}|office|w{at}|{it}", "ok") for at, (it, _) in enumerate(commands)]
     asked, answers = (text(part) for part in zip(*rows))
-    assert program.run("lines", "kept.db", given=asked) == (0, answers, b"")
-    with copied(program.folder, "kept.db") as base:
+    assert program.run("lines", file, given=asked) == (0, answers, b"")
+    with copied(program.folder, file) as base:
         found = dict(base.execute("SELECT req_key, command FROM kept"))
-        values = {query: base.execute(query).fetchall() for query in VALUES}
-    assert found == {f"w{at}": own.replace("|", "\t") for at, (_, own) in enumerate(OWN)}, found
-    assert values == VALUES, values
+        values = {query: base.execute(query).fetchall() for query in wanted}
+    assert found == {f"w{at}": own.replace("|", "\t") for at, (_, own) in enumerate(commands)}, found
+    assert values == wanted, values
 
 
 def test_entries(program):

@@ -64,6 +64,8 @@ ASKED = [
     "open-order 4 a1 b2 cargo 1",
     "mark-dock a1 3 broken", "mark-dock b2 1 broken", "mark-dock b2 1 working", "mark-bike 11 disabled",
     "set-station c3 false true true", "set-rider 19 blocked", "retire-bike 8",
+    "change-system Stadtrad Mo-Su office@example.org Europe/Rome https://bikes.example 60",
+    "move-station c3 -0.000001 180", "move-station c3 45 9.1",
 ]
 
 
@@ -189,12 +191,18 @@ NUMBERS = [
     -1, 0, 1, 2, 3, 4, 5, 7, 61, 201, 256, 500, 501, 60_000, 1_000_000, 1_000_001, 100_000_001, 2**31, 2**32 + 1,
     2**53 + 1, 2**63 - 1, -(2**63),
 ]
+# A change of the system as its text is kept, and ones that no text is.
+CORRECTIONS = [
+    f"change-system\t{name}\t24/7\ta@example.org\tEtc/UTC\thttps://x.example\t{ttl}"
+    for name, ttl in (("Metro", "86400"), ("Metro", "86401"), ("Metro", "060"), ("", "60"), ("metro\ten\tMetro", "60"))
+]
 WORDS = [
     "", "a1", "b2", "zz", "A1", "*", "city", "cargo", "basic", "day", "north", "south", "west", "a" * 36, "a" * 37, "é",
     "x\0y", "n" * 120, "n" * 121, "~" * 200, "~" * 201, "two\nlines", "a\tb", " ", "true", "NULL", "0", "1", "-1",
     "bicycle", "human", "electric_assist", "EUR", "office", "rider:17", "rider:0", "add-rider\t17", "ok", "balance\t5",
     "balance\t-0", "refused\t4\tunknown_rider", "rental\t1\t7", "fare\t1\t2", "order\t0", "x" * 9000, "k1",
     "add-region\tnorth\tNorth", "set-region\ta1\t*", "set-region\ta1\t", "add-name\tstation\ta1\tde\tHafen",
+    "move-station\tzz\t0.000000\t0.000000", "move-station\tzz\t0\t0", *CORRECTIONS,
     "add-name\tbike\t7\tde\tX", "en", "de", "EN", "zz-Zzzz", "d_e", "-" * 35, "metro", "system", "station", "type",
     "plan", "description", "region", "Region", "names",
 ]

@@ -1,6 +1,7 @@
 """The traffic of a made city (bench/city.py, from a seed), answered as the operator of the document answers it."""
 
 import itertools
+import random
 
 import model
 from shared import TOP, copied, is_sound, loaded
@@ -13,10 +14,29 @@ def made(seed, requests, refused=0.1, repeated=0.05):
     """The requests that build a small city, and those of its traffic, a share of them refused or sent twice, with their
     answers."""
     it = city.City(seed=seed, **SIZES)
-    lines = [*it.setup(), *itertools.islice(it.traffic(refused, repeated), requests)]
+    lines = [*it.setup(), *itertools.islice(corrected(it.traffic(refused, repeated), seed), requests)]
     operator = model.Operator()
     answers = [operator.answer(line.rstrip("\n").encode()) for line in lines]
     return lines, answers
+
+
+def corrected(lines, seed):
+    """The lines, and behind one of twenty a correction of what was entered, some of them refused or sent twice."""
+    pick = random.Random(f"{seed} corrections")
+    for number, line in enumerate(lines):
+        yield line
+        if pick.random() < 0.05:
+            moment, _ = line.split("\t", 1)
+            yield from [f"{moment}\toffice\tc{number}\t{correction(pick)}\n"] * pick.choice([1, 1, 2])
+
+
+def correction(pick):
+    """A command that changes the system, or moves a station that may not be there."""
+    if pick.random() < 0.5:
+        ttl = pick.randint(0, 86_400)
+        return f"change-system\tMetro {ttl}\t24/7\t{ttl}@example.org\tEtc/UTC\thttps://{ttl}.example\t{ttl}"
+    station = pick.randint(1, SIZES["stations"] + 2)
+    return f"move-station\ts{station:04}\t{pick.uniform(-90, 90):.6f}\t{pick.uniform(-180, 180):.6f}"
 
 
 def joined(parts):
@@ -33,6 +53,7 @@ def test_three_cities_in_memory(program):
     for seed in (1, 2, 3):
         lines, answers = made(seed, 1200)
         wanted = {"start", "end", "top-up", "mark-dock", "mark-bike", "open-order", "load", "unload", "close-order"}
+        wanted |= {"change-system", "move-station"}
         assert wanted <= told_apart(lines, answers), (
             f"seed {seed} has no accepted {wanted - told_apart(lines, answers)}"
         )

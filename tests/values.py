@@ -15,7 +15,7 @@ from shared import Server, answer, city, error, get, holds, is_sound, office
 # ---- Fields
 
 # Over this city each command below is refused by a rule of its own where it is read: what it adds is there, or what it
-# names first isn't.
+# names first isn't. Commands that change the system are asked for before it is set.
 CITY = [
     "set-system|metro|en|Metro|24/7|feeds@example.org|Etc/UTC|EUR|http://127.0.0.1:8080|30",
     "add-plan|day|Day|0|true|Day|-",
@@ -25,6 +25,8 @@ CITY = [
 ]
 THERE = "refused|10|already_there"
 BAD_FIELD = "refused|11|bad_field"
+NOT_SET = "refused|38|system_missing"
+UNKNOWN_STATION = "refused|1|unknown_station"
 
 NO_DEGREES = [
     "180.000001", "-180.000001", "1000", "0001", ".5", "1.", "+1", "1.0000000", "", "-", "--1", "1 ", " 1", "1.5.5",
@@ -38,6 +40,13 @@ NO_IDENTS = [
     "EUR", "de-AT", "", "a" * 37, "AZ", "@@@", "[[[", "``", "{{", "//", "::", " ~", "\x7f", "\x01", "été", "aa\0", "*"
 ]
 NO_REGIONS = [it for it in NO_IDENTS if it != "*"]
+LATITUDES = ["0", "-0", "48.1", "048.100000", "-0.000001", "90", "-90", "90.000000"]
+NO_LATITUDES = ["90.000001", "-90.000001", "-180", *NO_DEGREES]
+LONGITUDES = ["-0", "007", "45.5", "90.000001", "-90.000001", "180", "-180", "-180.000000", "12.034567"]
+NAMES = ["Rue é", "a\\\\b", "\\t\\n\\r", "Mo-Su 06:00", "a;b", "\\\\" * 120]
+NO_NAMES = ["a\rb", "a\\", "a\\x", "a\\0", "a\\T", "a\0", "", "\\\\" * 121]
+ASCIIS = ["a\\\\b", "Mo-Su 06:00", "a;b", "\\\\" * 121, "\\\\" * 200]
+NO_ASCIIS = ["Rue é", "\\t\\n\\r", "\\t", "a\rb", "a\\", "a\\x", "a\\0", "aa\0", "", "\\\\" * 201]
 SYSTEM = "set-system|{}|{}|{}|{}|{}|{}|{}|{}|{}"
 GOOD = ["metro", "en", "Metro", "24/7", "feeds@example.org", "Etc/UTC", "EUR", "http://127.0.0.1:8080", "30"]
 
@@ -45,6 +54,12 @@ GOOD = ["metro", "en", "Metro", "24/7", "feeds@example.org", "Etc/UTC", "EUR", "
 def system(at):
     """The command that sets a system, with {} in the place of one field."""
     return SYSTEM.format(*GOOD[:at], "{}", *GOOD[at + 1 :])
+
+
+def change(at):
+    """The command that changes a system, with {} in the place of one field."""
+    texts = [*GOOD[2:6], *GOOD[7:]]
+    return "|".join(["change-system", *texts[:at], "{}", *texts[at + 1 :]])
 
 
 # Of each field: a command with {} in its place, the answer where it is read, texts that are read, and texts that
@@ -62,18 +77,11 @@ FIELDS = [
     ("open-order|9|*|a1|city|{}", "refused|8|unknown_truck", ["1", "60"], ["0", "61", *NO_NUMBERS]),
     ("add-plan|day|Day|{}|true|Day|-", THERE, ["0", "1000000"], ["1000001", "00", *NO_NUMBERS]),
     (system(8), THERE, ["0", "86400"], ["86401", "00", *NO_NUMBERS]),
-    (
-        "add-station|a1|N|{}|0|1",
-        THERE,
-        ["0", "-0", "48.1", "048.100000", "-0.000001", "90", "-90", "90.000000"],
-        ["90.000001", "-90.000001", "-180", *NO_DEGREES],
-    ),
-    (
-        "add-station|a1|N|0|{}|1",
-        THERE,
-        ["-0", "007", "45.5", "90.000001", "-90.000001", "180", "-180", "-180.000000", "12.034567"],
-        NO_DEGREES,
-    ),
+    ("add-station|a1|N|{}|0|1", THERE, LATITUDES, NO_LATITUDES),
+    ("add-station|a1|N|0|{}|1", THERE, LONGITUDES, NO_DEGREES),
+    ("move-station|zz|{}|0", UNKNOWN_STATION, LATITUDES, NO_LATITUDES),
+    ("move-station|zz|0|{}", UNKNOWN_STATION, LONGITUDES, NO_DEGREES),
+    ("move-station|{}|0|0", UNKNOWN_STATION, ["az_09-", "a", "a0z9", "a" * 36], NO_IDENTS),
     ("add-type|city|N|bicycle|human|{}|day", THERE, ["0"], ["1", "1000000", "1000001", "00", *NO_NUMBERS]),
     ("add-type|city|N|bicycle|electric_assist|{}|day", THERE, ["1", "1000000"], ["0", "1000001", "00", *NO_NUMBERS]),
     (
@@ -148,18 +156,15 @@ FIELDS = [
         ["a\rb", "a\\", "a\\x", "a\0", "", "\\\\" * 121],
     ),
     (system(6), THERE, ["EUR", "AMZ"], ["EU", "EURO", "eur", "az_09-", "de-AT", "", "a" * 36, "E R", "aa\0", "E0R"]),
-    (
-        system(2),
-        THERE,
-        ["Rue é", "a\\\\b", "\\t\\n\\r", "Mo-Su 06:00", "a;b", "\\\\" * 120],
-        ["a\rb", "a\\", "a\\x", "a\\0", "a\\T", "a\0", "", "\\\\" * 121],
-    ),
-    (
-        system(3),
-        THERE,
-        ["a\\\\b", "Mo-Su 06:00", "a;b", "\\\\" * 121, "\\\\" * 200],
-        ["Rue é", "\\t\\n\\r", "\\t", "a\rb", "a\\", "a\\x", "a\\0", "aa\0", "", "\\\\" * 201],
-    ),
+    (system(2), THERE, NAMES, NO_NAMES),
+    (system(3), THERE, ASCIIS, NO_ASCIIS),
+]
+
+# The same of the fields of change-system, where no system is set.
+CHANGES = [
+    (change(0), NOT_SET, NAMES, NO_NAMES),
+    *((change(at), NOT_SET, ASCIIS, NO_ASCIIS) for at in (1, 2, 3, 4)),
+    (change(5), NOT_SET, ["0", "86400"], ["86401", "00", *NO_NUMBERS]),
 ]
 
 # Segments: the sign of a rate, their bounds, and an end behind the start in numbers and not in characters.
@@ -247,13 +252,16 @@ def sent(rows):
 
 def test_fields(program):
     city = [(command, f"c{at}", "ok") for at, command in enumerate(CITY)]
-    rows = [
-        (line.replace("{}", text), "k", answer if text in read else BAD_FIELD)
-        for line, answer, read, bad in FIELDS
-        for text in [*read, *bad]
-    ]
-    assert len(rows) > 400, len(rows)
-    program.answers(*sent([*city, *rows, *city]))
+    unset, rows = (
+        [
+            (line.replace("{}", text), "k", answer if text in read else BAD_FIELD)
+            for line, answer, read, bad in fields
+            for text in [*read, *bad]
+        ]
+        for fields in (CHANGES, FIELDS)
+    )
+    assert len(unset) > 80 and len(rows) > 400, (len(unset), len(rows))
+    program.answers(*sent([*unset, *city, *rows, *city]))
 
 
 def test_characters(program):
