@@ -21,12 +21,14 @@ use Rattle.bike_moves.specs.PutLaws.{GrownLaw}
 -- where no dock past the last is broken, there are no more broken ones with the docks past it
 broken_up_to : (s : Operator) (station : List ℕ) (docks : ℕ) → ((n : ℕ) → docks < n → is_broken s station n ≡ false) → (count : ℕ) → docks_broken s station (count + docks) ≡ docks_broken s station docks
 unfolding docks_up_to
-broken_up_to s station docks works zero = refl
+broken_up_to s station docks works zero = let same : 0 + docks ≡ docks = omega arith in ap (docks_broken s station) same
 broken_up_to s station docks works (suc count) =
+    let same : suc count + docks ≡ suc (count + docks) = omega arith in
     let rest = broken_up_to s station docks works count in
     let last = count_last (λ n. is_broken s station n) (docks_up_to (count + docks)) (suc (count + docks)) in
     let none : one (is_broken s station (suc (count + docks))) ≡ 0 = ap one (works (suc (count + docks)) (omega arith)) in
-    omega (arith, rest, last, none)
+    let more : docks_broken s station (suc (count + docks)) ≡ docks_broken s station docks = omega (arith, rest, last, none) in
+    ap (docks_broken s station) same ∙ more
 
 -- in a sound operator a broken dock is one that its station has
 works_past : (s : Operator) → IsCatalogueSound s → (station : List ℕ) (row : Station) → fin.get s.stations station ≡ Some row → (n : ℕ) → row.row.docks < n → is_broken s station n ≡ false
