@@ -14,10 +14,10 @@ use Rattle.bike_desk.specs.Desk.{DeskValue, desk_state, IsAt}
 use Rattle.bike_desk.specs.declared.fault.DeskFault.TheVariants.{NoMemory, StoreFailed, Stopped}
 use Rattle.bike_imports.specs.declared.fault.ImportFault.{ImportFault}
 use Rattle.bike_imports.specs.declared.fault.ImportFault.TheVariants.{BadHeader, Unreadable, Row, Read, Desk}
-use Rattle.bike_imports.specs.Rows.{Record, header, call_of, AreCallsOf, AreAccepted, Accepts}
+use Rattle.bike_imports.specs.Rows.{Record, header, call_of, ChangesNothing, AreCallsOf, AreAccepted, Accepts}
 use Rattle.bike_imports.specs.Tables.{StandsBehind, Takes, FindsNone, MeetsFault, MeetsHeaderFault}
-use Rattle.bike_imports.specs.Serving.{ServesRow}
-use Rattle.bike_imports.specs.Imports.{Imports, StandsAfterSome}
+use Rattle.bike_imports.specs.Serving.{KeepsDatabase, ServesRow}
+use Rattle.bike_imports.specs.Imports.{AllChangeNothing, Imports, StandsAfterSome}
 use Rattle.bike_imports.proofs.Reading.{begins}
 
 -- ---- one row more
@@ -53,6 +53,11 @@ accepts_push moment name s rows calls row c all is good accepted =
     }
 
 -- ---- the rows so far
+
+-- the desk is at the operator at which it was, and its database is as it was
+pub record Rests {S : Type 0} (g : Ghosts S) (old new : DeskValue S) (s : Operator) : Type 0 where
+  pub at : IsAt g new s
+  pub same : KeepsDatabase g old new
 
 module _ {S R : Type 0} (g : Ghosts S) (remaining : R → Option (List ℕ)) (s : Operator) (moment : ℕ) (name : List ℕ) (input : Option (List ℕ)) where
   -- so many rows are accepted, and the reader stands behind them
@@ -145,6 +150,17 @@ module _ {S R : Type 0} (g : Ghosts S) (remaining : R → Option (List ℕ)) (s 
               at = subst (IsAt g next) (sym (after-append s i.calls (it.0 ∷ []))) it.2.at;
               counted = length-append i.rows (fields ∷ []) ∙ ap (λ n. n + 1) i.counted;
             }
+
+        -- the next row changes nothing
+        pub importing_none : AllChangeNothing moment name s input → ChangesNothing s (call_of moment name (count + 1) fields)
+        importing_none none =
+            subst (λ n. ChangesNothing s (call_of moment name (n + 1) fields)) i.counted
+            (none i.rows fields (begins remaining input ((header ∷ i.rows) ++ fields ∷ []) new (takes input (header ∷ i.rows) i.behind)))
+
+        -- so it is accepted without a change
+        pub importing_rests : (first : DeskValue S) (x : Unit {0}) → Rests g first desk s → ChangesNothing s (call_of moment name (count + 1) fields)
+            → ServesRow g next s (count + 1) fields (call_of moment name (count + 1) fields) (Ok x) → KeepsDatabase g desk next → Rests g first next s
+        importing_rests first x was none it same = record { at = subst (IsAt g next) (subst (ChangesNothing s) it.1 none) it.2.at; same = same ∙ was.same }
 
         -- the next record is no row, or is refused, or the desk failed at it
         pub importing_refused : AllText fields → (fault : ImportFault) → ServesRow g next (after s i.calls) (count + 1) fields (call_of moment name (count + 1) fields) (Err fault)
