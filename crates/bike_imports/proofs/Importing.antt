@@ -13,7 +13,7 @@ use Rattle.bike_schema.specs.Stands.{AllLeft, TreesStandFor}
 use Rattle.bike_desk.specs.Desk.{DeskValue, desk_state, IsAt}
 use Rattle.bike_desk.specs.declared.fault.DeskFault.TheVariants.{NoMemory, StoreFailed, Stopped}
 use Rattle.bike_imports.specs.declared.fault.ImportFault.{ImportFault}
-use Rattle.bike_imports.specs.declared.fault.ImportFault.TheVariants.{BadHeader, Unreadable, Row, Read, Desk}
+use Rattle.bike_imports.specs.declared.fault.ImportFault.TheVariants.{BadHeader, Unreadable, Row, Read, TooManyRows, Desk}
 use Rattle.bike_imports.specs.Rows.{Record, header, call_of, ChangesNothing, AreCallsOf, AreAccepted, Accepts}
 use Rattle.bike_imports.specs.Tables.{StandsBehind, Takes, FindsNone, MeetsFault, MeetsHeaderFault}
 use Rattle.bike_imports.specs.Serving.{KeepsDatabase, ServesRow}
@@ -88,6 +88,7 @@ module _ {S R : Type 0} (g : Ghosts S) (remaining : R → Option (List ℕ)) (s 
     lacks_header start at (Desk NoMemory) meets = record { rows = []; calls = []; text = inl refl; accepts = record { read = tt; good = tt; accepted = tt }; at = at }
     lacks_header start at (Desk StoreFailed) meets = absurd meets
     lacks_header start at (Desk Stopped) meets = absurd meets
+    lacks_header start at TooManyRows meets = absurd meets
     lacks_header start at (Unreadable n) meets = absurd meets
     lacks_header start at (Row n refusal) meets = absurd meets
 
@@ -103,14 +104,25 @@ module _ {S R : Type 0} (g : Ghosts S) (remaining : R → Option (List ℕ)) (s 
         counted = sym i.counted;
       }
 
-      -- the import broke off between two rows
-      pub importing_breaks : Imports g desk s moment name input (Err Read)
+      -- the reading broke off between two rows
+      importing_breaks : Imports g desk s moment name input (Err Read)
       importing_breaks = record {
         rows = i.rows;
         calls = i.calls;
         text = inr (begins remaining input (header ∷ i.rows) old i.behind);
         accepts = i.accepts;
         at = i.at;
+      }
+
+      -- so many rows were served that no more is
+      pub importing_most : count ≡ 1000000 → Imports g desk s moment name input (Err TooManyRows)
+      importing_most most = record {
+        rows = i.rows;
+        calls = i.calls;
+        text = begins remaining input (header ∷ i.rows) old i.behind;
+        accepts = i.accepts;
+        at = i.at;
+        counted = i.counted ∙ most;
       }
 
       -- the next record wasn't taken
@@ -131,6 +143,7 @@ module _ {S R : Type 0} (g : Ghosts S) (remaining : R → Option (List ℕ)) (s 
       importing_unread (Desk NoMemory) meets = importing_breaks
       importing_unread (Desk StoreFailed) meets = absurd meets
       importing_unread (Desk Stopped) meets = absurd meets
+      importing_unread TooManyRows meets = absurd meets
       importing_unread BadHeader meets = absurd meets
       importing_unread (Row n refusal) meets = absurd meets
 
@@ -206,6 +219,7 @@ module _ {S R : Type 0} (g : Ghosts S) (remaining : R → Option (List ℕ)) (s 
         importing_refused text (Desk Stopped) it = absurd it
         importing_refused text BadHeader it = absurd it
         importing_refused text Read it = absurd it
+        importing_refused text TooManyRows it = absurd it
 
 -- ---- what a crash may leave
 
@@ -216,6 +230,7 @@ module _ {S : Type 0} (g : Ghosts S) (desk : DeskValue S) (s : Operator) (moment
   left_of (Err (Unreadable number)) i db h = (i.calls, i.accepts.good, i.at.keeps.left db h)
   left_of (Err (Row number refusal)) i db h = (i.calls, i.accepts.good, i.at.keeps.left db h)
   left_of (Err Read) i db h = (i.calls, i.accepts.good, i.at.keeps.left db h)
+  left_of (Err TooManyRows) i db h = (i.calls, i.accepts.good, i.at.keeps.left db h)
   left_of (Err (Desk NoMemory)) i db h = (i.calls, i.accepts.good, i.at.keeps.left db h)
   left_of (Err (Desk StoreFailed)) i db h = elim (i.fails.left db h) [
     | inl before ↦ (i.calls, i.accepts.good, before)

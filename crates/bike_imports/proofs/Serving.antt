@@ -17,7 +17,7 @@ use Rattle.bike_desk.specs.Desk.{DeskValue, desk_state, IsAt, TreesStandForEithe
 use Rattle.bike_desk.specs.declared.fault.DeskFault.{DeskFault}
 use Rattle.bike_desk.specs.declared.fault.DeskFault.TheVariants.{NoMemory, StoreFailed, Stopped}
 use Rattle.bike_imports.specs.declared.fault.ImportFault.{ImportFault}
-use Rattle.bike_imports.specs.declared.fault.ImportFault.TheVariants.{BadHeader, Unreadable, Row, Read, Desk}
+use Rattle.bike_imports.specs.declared.fault.ImportFault.TheVariants.{BadHeader, Unreadable, Row, Read, TooManyRows, Desk}
 use Rattle.bike_imports.specs.Rows.{Record, station_of, request_of, call_of, ChangesNothing}
 use Rattle.bike_imports.specs.Serving.{KeepsDatabase, ServesCall, ServesRow, MakesRequest}
 
@@ -112,3 +112,4 @@ module _ {S : Type 0} (g : Ghosts S) (old new : DeskValue S) (s : Operator) wher
     served_row q (Err BadHeader) last made it = absurd it
     served_row q (Err (Unreadable n)) last made it = absurd it
     served_row q (Err Read) last made it = absurd it
+    served_row q (Err TooManyRows) last made it = absurd it

@@ -13,7 +13,7 @@ use Rattle.bike_desk.specs.Desk.{DeskValue, desk_state, IsAt, TreesStandForEithe
 use Rattle.bike_desk.specs.declared.fault.DeskFault.{DeskFault}
 use Rattle.bike_desk.specs.declared.fault.DeskFault.TheVariants.{NoMemory, StoreFailed, Stopped}
 use Rattle.bike_imports.specs.declared.fault.ImportFault.{ImportFault}
-use Rattle.bike_imports.specs.declared.fault.ImportFault.TheVariants.{BadHeader, Unreadable, Row, Read, Desk}
+use Rattle.bike_imports.specs.declared.fault.ImportFault.TheVariants.{BadHeader, Unreadable, Row, Read, TooManyRows, Desk}
 use Rattle.bike_imports.specs.Rows.{Record, station_of, request_of, reply_to}
 
 -- the fault of the desk, if that ended the import
@@ -23,6 +23,7 @@ desk_fault (Err BadHeader) = None
 desk_fault (Err (Unreadable number)) = None
 desk_fault (Err (Row number refusal)) = None
 desk_fault (Err Read) = None
+desk_fault (Err TooManyRows) = None
 desk_fault (Err (Desk fault)) = Some fault
 
 -- whatever the disk: only a failed store stops a desk, and only a stopped desk tells that
@@ -64,6 +65,7 @@ module _ {S : Type 0} (g : Ghosts S) (new : DeskValue S) (s : Operator) where
   ServesCall number c (Err BadHeader) = ⊥
   ServesCall number c (Err (Unreadable n)) = ⊥
   ServesCall number c (Err Read) = ⊥
+  ServesCall number c (Err TooManyRows) = ⊥
 
   -- the record of this number was served; this is its request, where it is one
   abbrev pub ServesRow : ℕ → Record → Option Call → Result (Unit {0}) ImportFault → Type 0
@@ -76,6 +78,7 @@ module _ {S : Type 0} (g : Ghosts S) (new : DeskValue S) (s : Operator) where
   ServesRow number fields call (Err (Desk Stopped)) = ⊥
   ServesRow number fields call (Err BadHeader) = ⊥
   ServesRow number fields call (Err Read) = ⊥
+  ServesRow number fields call (Err TooManyRows) = ⊥
 
 -- the request of a row, or why there is none
 abbrev pub MakesRequest : List ℕ → ℕ → Record → Result Request ImportFault → Type 0
@@ -89,3 +92,4 @@ MakesRequest name number fields (Err (Desk StoreFailed)) = ⊥
 MakesRequest name number fields (Err (Desk Stopped)) = ⊥
 MakesRequest name number fields (Err BadHeader) = ⊥
 MakesRequest name number fields (Err Read) = ⊥
+MakesRequest name number fields (Err TooManyRows) = ⊥

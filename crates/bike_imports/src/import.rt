@@ -20,18 +20,21 @@ use sqlite::Alter;
 use std::alloc::Global;
 use std::io::Read;
 
-/// An import serves fewer rows; a table with as many ends in `Read`, behind its last row that was served.
+/// An import serves so many rows at most. A table with as many or more ends in `TooManyRows`.
 pub const MOST_ROWS: u64 = 1_000_000;
 
-/// Serves a table of stations, in CSV, row by row. Its header is `station_id,name,lat,lon,docks`, as a record. Row number
-/// `n`, from 1, is the request to add its station at the moment, which the caller `import:NAME` sends with the key `row-n`; its
-/// coordinates are in degrees, and its name stands without escapes. Answers how many rows were served, each accepted.
+/// Serves a table of stations, in CSV, row by row. Its header is `station_id,name,lat,lon,docks`, as a record. Row
+/// number `n`, from 1, is the request to add its station at the moment, which the caller `import:NAME` sends with the
+/// key `row-n`; its coordinates are in degrees, and its name stands without escapes. Answers how many rows were served,
+/// each accepted.
 ///
 /// The import ends at the first row that is unreadable or refused: `Unreadable` and `Row` name it, and the rows before
-/// it stay. A row with a bad field is refused as such before the desk is asked. A table of which each row comes again or is
-/// refused changes nothing of the database. One record is held at a time, of 64 KiB or little more: a longer one ends in `Read`.
-/// Where memory for a record is refused the fault is `Desk(NoMemory)`. A stopped desk answers `Desk(Stopped)` before anything
-/// is read.
+/// it stay. A row with a bad field is refused as such before the desk is asked. A table of which each row comes again
+/// or is refused changes nothing of the database.
+///
+/// One record is held at a time, of 64 KiB or little more: a longer one ends in `Read`. A table of 1,000,000 rows or
+/// more ends in `TooManyRows` when so many are served. Where memory for a record is refused the fault is
+/// `Desk(NoMemory)`. A stopped desk answers `Desk(Stopped)` before anything is read.
 pub fn import_stations<S: Alter, R: Read>(
     alloc: Global,
     desk: &mut Desk<S>,
@@ -50,7 +53,7 @@ pub fn import_stations<S: Alter, R: Read>(
     ensures stops { StopsBy desk.old desk.new (desk_fault result) }
     ensures refused { result ≡ Err (ImportFault.Desk DeskFault.Stopped)
         → Keeps (R.remaining reader.old) (R.remaining reader.new) }
-    ensures few { IfOk result (λ count. count < MOST_ROWS) }
+    ensures few { IfOk result (λ count. count < 1000000) }
 {
     if desk.stopped() {
         return Err(ImportFault::Desk(DeskFault::Stopped));
@@ -65,5 +68,5 @@ pub fn import_stations<S: Alter, R: Read>(
         }
         import_row(alloc, desk, moment, name, count + 1, &row)?;
     }
-    Err(ImportFault::Read)
+    Err(ImportFault::TooManyRows)
 }

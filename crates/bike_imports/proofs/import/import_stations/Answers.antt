@@ -3,10 +3,10 @@ use Rattle.sqlite.specs.State.{HasCleanDisk}
 use Rattle.csv.specs.Records.{fields_of}
 use Rattle.bike_operator.specs.Runs.{after}
 use Rattle.bike_desk.specs.Desk.{desk_state}
-use Rattle.bike_imports.specs.declared.fault.ImportFault.TheVariants.{Read}
+use Rattle.bike_imports.specs.declared.fault.ImportFault.TheVariants.{TooManyRows}
 use Rattle.bike_imports.specs.Imports.{Imports}
 use Rattle.bike_imports.proofs.Serving.{err_is, told_other}
-use Rattle.bike_imports.proofs.Importing.{importing_begins, lacks_header, importing_ends, importing_breaks, importing_unread, importing_more, importing_none, importing_rests, importing_refused, left_of}
+use Rattle.bike_imports.proofs.Importing.{importing_begins, lacks_header, importing_ends, importing_most, importing_unread, importing_more, importing_none, importing_rests, importing_refused, left_of}
 use Rattle.bike_imports.proofs.import.import_stations.Goals as goal
 
 pub returns-in_err-take_header-clause-imports : goal.returns-in_err-take_header-clause-imports
@@ -111,10 +111,11 @@ rows-preserved g c =
 pub returns-clause-imports : goal.returns-clause-imports
 returns-clause-imports g c clean s at =
     let input = g.R.Read.remaining c.args.reader.now in
-    importing_breaks g.S.Store (λ input. g.R.Read.remaining input.reader.now) s c.args.moment c.args.name.now input c.rows.desk c.rows.table c.rows.table c.rows.count (c.rows.invariant.so_far clean s at)
+    importing_most g.S.Store (λ input. g.R.Read.remaining input.reader.now) s c.args.moment c.args.name.now input c.rows.desk c.rows.table c.rows.table c.rows.count (c.rows.invariant.so_far clean s at)
+    (omega (arith, c.rows.auto.count-end, c.rows-test.false))
 
 pub returns-clause-left : goal.returns-clause-left
-returns-clause-left g c clean s at = left_of g.S.Store c.rows.desk s _ _ _ (Err Read) (returns-clause-imports g c clean s at)
+returns-clause-left g c clean s at = left_of g.S.Store c.rows.desk s _ _ _ (Err TooManyRows) (returns-clause-imports g c clean s at)
 
 pub returns-clause-rests : goal.returns-clause-rests
 returns-clause-rests g c clean s at none other = (c.rows.invariant.rests clean s at none).same
