@@ -191,7 +191,7 @@ def test_quoted_code_stands_in_its_file(program):
     for name, text in documents().items():
         wrong, counts[name] = misquoted(text, lambda it: (TOP / it).read_text(encoding="utf-8").splitlines())
         assert not wrong, f"{name} quotes what isn't there: {wrong}"
-    assert counts["docs/READING.md"] > 100 and counts["README.md"] > 5 and counts["CONTRIBUTING.md"] > 1, counts
+    assert counts["docs/READING.md"] > 80 and counts["README.md"] > 5 and counts["CONTRIBUTING.md"] > 1, counts
 
 
 # What files of the toolchain, of a made program or of a configured machine are named by, and names that stand for many.
