@@ -5,12 +5,12 @@ _bikeshare_doctor() {
     COMPREPLY=()
     if [[ $COMP_CWORD = 1 ]]; then
         compopt -o filenames 2>/dev/null
-        mapfile -t COMPREPLY < <(compgen -W "lines table feed" -- "$typed"; compgen -f -- "$typed")
+        mapfile -t COMPREPLY < <(compgen -W "lines table feed" -- "$typed"; compgen -f -X '*-wal' -- "$typed")
         return
     fi
     case $word in
     lines | table) return ;;
-    feed) known="--strict" ;;
+    feed) known="--here --strict" ;;
     # The value of --port is what is being typed.
     *) [[ ${COMP_WORDS[COMP_CWORD - 1]} = --port ]] || known="--port" ;;
     esac

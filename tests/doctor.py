@@ -418,11 +418,11 @@ def test_a_disk_that_is_full_or_read_only(program):
         "cp city.db full", "head -c 400k /dev/zero > full/fill 2>/dev/null",
         "cp city.db fixed", "mount -o remount,ro fixed",
         "$DOCTOR full/city.db", '"$BIKESHARE" lines full/city.db < /dev/null',
-        "$DOCTOR fixed/city.db", '"$BIKESHARE" lines fixed/city.db < /dev/null',
+        "$DOCTOR fixed/city.db", '"$BIKESHARE" lines fixed/city.db < /dev/null', '"$BIKESHARE" check fixed/city.db',
     )
     if said is None:
         return
-    assert len(said) == 4 and said[1] == said[3] == "store failed", said
+    assert len(said) == 5 and said[1] == said[3] == said[4] == "store failed", said
     assert said[0].startswith("full/city.db: store failed: the disk of ") and "full, or nearly" in said[0], said
     assert said[2].startswith("fixed/city.db: store failed: ") and "read-only" in said[2], said
 
@@ -588,12 +588,32 @@ def test_feeds(program):
     assert ("gbfs", "GBFS") in found_in(feeds, ("gbfs", "data", "feeds", 3), other)
 
 
-def found_in(feeds, path, value):
+def found_in(feeds, path, value, **how):
     """Where something is found in feeds of which this is changed, and the word for it."""
     feeds = json.loads(json.dumps(feeds))
     set_at(feeds, path, value)
     with served(feeds) as here:
-        return [place_of(it) for it in doctor.findings_of_feeds(here, time.time())]
+        return [place_of(it) for it in doctor.findings_of_feeds(here, time.time(), **how)]
+
+
+def test_feeds_of_another_host(program):
+    """By --here no address that the feed gbfs lists is asked, and by none the others are looked for there."""
+    about = {"system_id": "x", "languages": ["en"], "name": [{"text": "X", "language": "en"}], "timezone": "Etc/UTC"}
+    about |= {"opening_hours": "24/7", "feed_contact_email": "feeds@example.org"}
+    data = {"system_information": about, "station_information": {"stations": []}, "station_status": {"stations": []}}
+    with socket.create_server(("127.0.0.1", 0)) as other:
+        other.settimeout(0.2)
+        address = f"http://127.0.0.1:{other.getsockname()[1]}/gbfs/3.0"
+        data["gbfs"] = {"feeds": [{"name": name, "url": f"{address}/{name}.json"} for name in data]}
+        frame = {"last_updated": "2024-03-31T12:00:00Z", "ttl": 30, "version": "3.0"}
+        feeds = {name: {**frame, "data": it} for name, it in data.items()}
+        with served(feeds) as here:
+            assert told("feed", here, "--here") == (0, [])
+            with contextlib.suppress(TimeoutError):
+                raise AssertionError(f"the other host was asked: {other.accept()}")
+    found = found_in(feeds, ("gbfs", "ttl"), 30)
+    assert found == [(name, "not read") for name in list(data)[:-1]], found
+    assert found_in(feeds, ("gbfs", "ttl"), 30, here=True) == []
 
 
 def test_feeds_of_the_example_city(program):
@@ -665,9 +685,11 @@ def test_the_manual_page_and_the_completion(program):
     assert usage[: len(wanted)] == wanted and usage[len(wanted)] == "", (usage, wanted)
     assert {head for head, _ in page["EXIT STATUS"] if head} == {"0", "1", "2"}
     words = {it.split()[1] for it in wanted} - {"FILE"}
-    (Path(program.folder) / "city.db").touch()
+    for file in "city.db", "city.db-wal":
+        (Path(program.folder) / file).touch()
     assert set(completed(program.folder, "")) == words | {"city.db"} and completed(program.folder, "ta") == ["table"]
-    assert completed(program.folder, "feed", "x", "-") == ["--strict"] and completed(program.folder, "lines", "") == []
+    assert completed(program.folder, "feed", "x", "-") == ["--here", "--strict"]
+    assert completed(program.folder, "lines", "") == []
     assert completed(program.folder, "city.db", "-") == ["--port"]
     assert completed(program.folder, "city.db", "--port", "") == []
 

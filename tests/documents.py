@@ -1,5 +1,5 @@
 """The documents: the examples that they show, request lines with their answers beside them, quoted code, what they name
-and link to, counts, and words that are gone."""
+and link to, counts and lengths, and words that are gone."""
 
 import contextlib
 import csv
@@ -11,7 +11,7 @@ import sqlite3
 import days
 import feeds
 import formats
-from shared import CITY, HEAD, HEADER, TOP, loaded
+from shared import CITY, FEEDS, HEAD, HEADER, TOP, loaded
 
 ROW = re.compile(r"^(\d+⇥\S+) {2,}(\S+)(?: {2,}.*)?$", re.M)
 
@@ -109,12 +109,13 @@ def test_costs(program):
 
 
 def test_groups_of_crates(program):
-    """docs/ARCHITECTURE.md has the crates below the headings of crates.txt, and within each in their order."""
+    """docs/ARCHITECTURE.md has the crates in the groups of crates.txt, and within each in their order."""
     text = documents()["docs/ARCHITECTURE.md"].split("## The crates", 1)[1].split("\n## ", 1)[0]
     found, wanted = [], []
     for line in text.splitlines():
-        head = re.fullmatch(r"\*\*([^*]+)\*\*", line)
-        found += [head[1]] if head else re.findall(r"\*\*`(\w+)`\*\*", line)
+        cells = line.split("|")
+        if len(cells) == 5:
+            found += re.findall(r"\*\*(.+)\*\*", cells[1]) + re.findall(r"`(bike\w*)`", cells[2])
     for line in (TOP / "crates.txt").read_text(encoding="utf-8").splitlines()[1:]:
         wanted.append(line[2:] if line.startswith("# ") else line.split(":")[0])
     assert found == wanted, [(one, other) for one, other in zip(found, wanted) if one != other]
@@ -136,6 +137,11 @@ GONE = {
     "his": "its, of the operator",
     "himself": "itself",
     "a front": "a prefix",
+    "a raise": "an upgrade",
+    "the raise": "the upgrade",
+    "operator who": "operator that",
+    "tells beside": "holds besides",
+    "tell beside": "hold besides",
     "fronts": "prefixes",
     "reckon": "compute, count",
     "reckoned": "computed, counted",
@@ -160,6 +166,92 @@ def test_words_that_are_gone(program):
     for name, text in documents().items():
         found = gone_in(text)
         assert not found, f"{name} has {', '.join(f'{it} (say: {GONE[it]})' for it in found)}"
+
+
+# At most so many lines has a document, and all of them together.
+LONGEST_DOCUMENTS = {"README.md": 120, "docs/GATE.md": 120, "docs/PERFORMANCE.md": 250, "docs/OPERATING.md": 600}
+MOST_LINES = 4000
+
+
+def long_lines(text):
+    """The lines of a document's prose that aren't wrapped at about 100 characters."""
+    return [it for it in BLOCK.sub("", text).splitlines() if len(it) > 102 and not it.lstrip().startswith("|")]
+
+
+def test_lengths(program):
+    """No document is longer than it may be, nor are all together; and their prose is wrapped."""
+    assert long_lines(f"```\n{'x' * 200}\n```\n| {'x' * 200} |\n{'x' * 102}\n") == []
+    assert long_lines("x" * 103) == ["x" * 103]
+    lengths = {name: text.count("\n") for name, text in documents().items()}
+    for name, text in documents().items():
+        assert lengths[name] <= LONGEST_DOCUMENTS.get(name, MOST_LINES), (name, lengths[name])
+        assert not long_lines(text), (name, long_lines(text))
+    assert sum(lengths.values()) <= MOST_LINES, sum(lengths.values())
+
+
+def test_days_of_figures(program):
+    """Outside of CHANGELOG.md at most ten days stand on which something was measured or tried, and no time of day. Days
+    of examples, which are of another year, don't count."""
+    texts = {name: text for name, text in documents().items() if name != "CHANGELOG.md"}
+    year = re.search(r"^## (\d{4})-", documents()["CHANGELOG.md"], re.M)[1]
+    found = [(name, it) for name, text in texts.items() for it in re.findall(rf"\b{year}-\d\d-\d\d\b", text)]
+    assert len(found) <= 10, found
+    clock = rf"{year}-\d\d-\d\d, \d\d:\d\d"
+    times = [(name, it) for name, text in texts.items() for it in re.findall(clock, text)]
+    assert not times, times
+
+
+NUMBERS = (
+    "none one two three four five six seven eight nine ten eleven twelve thirteen fourteen fifteen sixteen seventeen "
+    "eighteen nineteen twenty"
+).split()
+
+
+def crates_below(crate):
+    """The crates of this repository on which one stands, by crates.txt."""
+    lines = [it for it in (TOP / "crates.txt").read_text(encoding="utf-8").splitlines() if it and it[0] != "#"]
+    on = {name: names.split() for name, names in (it.split(":", 1) for it in lines)}
+    found, left = set(), [crate]
+    while left:
+        new = [it for it in on[left.pop()] if it in on and it not in found]
+        found.update(new)
+        left += new
+    return found
+
+
+def test_counts(program):
+    """What a document counts in prose is so many."""
+    texts = {name: " ".join(text.split()) for name, text in documents().items()}
+    rules, formats_, reading = (documents()[f"docs/{it}.md"] for it in ("OPERATOR", "FORMATS", "READING"))
+    crates = len(list(TOP.glob("crates/*")))
+    tables = len(re.findall(r"^\| [a-z_0-9]+ \| \S+\*, ", formats_.split("## 10. Database", 1)[1], re.M))
+    commands = len(re.findall(r"^\| \*\*[a-z-]+\*\* \|", rules, re.M))
+    replies = formats_.split("## 3. Answer lines", 1)[1].split("\n## ", 1)[0].count("\n| ") - 1
+    contracts = len(re.findall(r"^## \d+\. [^`\n]+: `[\w:]+`$", reading, re.M))
+    made = (TOP / "crates/bike_schema/src/create.rt").read_text(encoding="utf-8").count('"CREATE INDEX ')
+    own = texts["docs/ARCHITECTURE.md"].split("of their own in all documents:", 1)[1].split("## ", 1)[0]
+    own = own.count("**") // 2
+    queries = re.search(r"Each of nine queries .*?\*By\* (.*?)\(`query`", texts["docs/PROVED.md"])[1].count("`") // 2
+    for name, said, wanted in (
+        ("README.md", r"the (\w+) feeds that it lists", len(FEEDS) - 1),
+        ("README.md", r"reads (\w+) contracts more", contracts),
+        ("CONTRIBUTING.md", r"reads (\w+) contracts with you", contracts),
+        ("CONTRIBUTING.md", r"of `bike_core` (\w+), some", len(crates_below("bike_core"))),
+        ("docs/READING.md", r"see on (\w+) contracts", contracts),
+        ("docs/ARCHITECTURE.md", r"a stack of (\w+) small crates", crates),
+        ("docs/ARCHITECTURE.md", r"an operator as (\w+) tables", tables),
+        ("docs/ARCHITECTURE.md", r"(\w+) words have a meaning", own),
+        ("docs/PROVED.md", r"There are (\w+) kinds of command", commands),
+        ("docs/PROVED.md", r"kinds of command and (\w+) replies", replies),
+        ("docs/PROVED.md", r"For each of the (\w+) commands", commands),
+        ("docs/PROVED.md", r"For each of the (\w+) tables", tables),
+        ("docs/PROVED.md", r"Each of (\w+) queries", queries),
+        ("docs/DECISIONS.md", r"of (\w+) statements that make indexes", made),
+    ):
+        (found,) = re.findall(said, texts[name])
+        number = int(found) if found.isdigit() else NUMBERS.index(found.lower())
+        assert number == wanted, (name, said, found, wanted)
+    assert own <= 5, own
 
 
 def misquoted(text, lines_of):
@@ -191,7 +283,7 @@ def test_quoted_code_stands_in_its_file(program):
     for name, text in documents().items():
         wrong, counts[name] = misquoted(text, lambda it: (TOP / it).read_text(encoding="utf-8").splitlines())
         assert not wrong, f"{name} quotes what isn't there: {wrong}"
-    assert counts["docs/READING.md"] > 100 and counts["README.md"] > 5 and counts["CONTRIBUTING.md"] > 1, counts
+    assert counts["docs/READING.md"] > 80 and counts["README.md"] > 5 and counts["CONTRIBUTING.md"] > 1, counts
 
 
 # What files of the toolchain, of a made program or of a configured machine are named by, and names that stand for many.

@@ -27,9 +27,7 @@ impl<S: Alter> Desk<S> {
         ensures query { Queries S.Store self.old self.new result (λ s x. x ≡ entry_after s number begin end) }
         ensures takes_none { result ≢ Err DeskFault.NoMemory }
     {
-        if self.stopped() {
-            return Err(DeskFault::Stopped);
-        }
+        self.check_serving()?;
         let read = find_entry_after(&mut self.conn, number, begin, end);
         self.answer(read)
     }
@@ -46,9 +44,7 @@ impl<S: Alter> Desk<S> {
             (λ s x. x ≡ ended_info_after s number begin end) }
         ensures takes_none { result ≢ Err DeskFault.NoMemory }
     {
-        if self.stopped() {
-            return Err(DeskFault::Stopped);
-        }
+        self.check_serving()?;
         let read = find_ended_after(alloc, &mut self.conn, number, begin, end);
         self.answer(read)
     }

@@ -1,6 +1,6 @@
 //! What a desk holds of a name, without a change of what is kept.
 
-ghost use Rattle.std.specs.Prelude.{◌≡◌, ◌≢◌, false, Err};
+ghost use Rattle.std.specs.Prelude.{◌≡◌, ◌≢◌, false, Err, IsTrue, MatchResult};
 ghost use Rattle.std.specs.FinMap as map;
 ghost use Rattle.bike_operator.specs.Names.{further_names};
 ghost use Rattle.bike_operator.specs.Operator.{item_numbered};
@@ -29,6 +29,17 @@ use std::alloc::Global;
 /// kept changes. `StoreFailed` stops the desk, also where memory is refused while a row is copied out; a stopped desk
 /// answers `Stopped` and stays as it is; no other desk answers that.
 impl<S: Alter> Desk<S> {
+    /// Whether the desk serves; `Stopped` where it serves no more.
+    pub(crate) fn check_serving(&self) -> Result<(), DeskFault>
+        ensures { MatchResult result (λ _. self.now.is_stopped ≡ false)
+            (λ fault. (fault ≡ DeskFault.Stopped) × IsTrue self.now.is_stopped) }
+    {
+        if self.stopped() {
+            return Err(DeskFault::Stopped);
+        }
+        Ok(())
+    }
+
     /// What a read answered; one that failed stops the desk.
     pub(crate) fn answer<A>(&mut self, read: Result<A, StatementFault>) -> Result<A, DeskFault>
         ensures { TellsOf read self.old self.new result }
@@ -75,9 +86,7 @@ impl<S: Alter> Desk<S> {
         ensures query { Queries S.Store self.old self.new result (λ s x. x ≡ balance_at s rider) }
         ensures takes_none { result ≢ Err DeskFault.NoMemory }
     {
-        if self.stopped() {
-            return Err(DeskFault::Stopped);
-        }
+        self.check_serving()?;
         let read = find_balance(&mut self.conn, rider);
         self.answer(read)
     }
@@ -88,9 +97,7 @@ impl<S: Alter> Desk<S> {
         ensures query { Queries S.Store self.old self.new result (λ s x. x ≡ rider_info_at s rider) }
         ensures takes_none { result ≢ Err DeskFault.NoMemory }
     {
-        if self.stopped() {
-            return Err(DeskFault::Stopped);
-        }
+        self.check_serving()?;
         match self.newest {
             Newest::Unknown => {
                 self.learn_newest()?;
@@ -105,9 +112,7 @@ impl<S: Alter> Desk<S> {
         ensures query { Queries S.Store self.old self.new result (λ s x. x ≡ place_at s bike) }
         ensures takes_none { result ≢ Err DeskFault.NoMemory }
     {
-        if self.stopped() {
-            return Err(DeskFault::Stopped);
-        }
+        self.check_serving()?;
         let read = find_place(alloc, &mut self.conn, bike);
         self.answer(read)
     }
@@ -117,9 +122,7 @@ impl<S: Alter> Desk<S> {
         ensures query { Queries S.Store self.old self.new result (λ s x. x ≡ map.get s.bikes bike) }
         ensures takes_none { result ≢ Err DeskFault.NoMemory }
     {
-        if self.stopped() {
-            return Err(DeskFault::Stopped);
-        }
+        self.check_serving()?;
         let read = find_bike(alloc, &mut self.conn, bike);
         self.answer(read)
     }
@@ -133,9 +136,7 @@ impl<S: Alter> Desk<S> {
         ensures query { Queries S.Store self.old self.new result (λ s x. x ≡ rental_info_at s rental) }
         ensures takes_none { result ≢ Err DeskFault.NoMemory }
     {
-        if self.stopped() {
-            return Err(DeskFault::Stopped);
-        }
+        self.check_serving()?;
         let read = find_rental_info(alloc, &mut self.conn, rental);
         self.answer(read)
     }
@@ -145,9 +146,7 @@ impl<S: Alter> Desk<S> {
         ensures query { Queries S.Store self.old self.new result (λ s x. x ≡ item_numbered order s.orders) }
         ensures takes_none { result ≢ Err DeskFault.NoMemory }
     {
-        if self.stopped() {
-            return Err(DeskFault::Stopped);
-        }
+        self.check_serving()?;
         let read = find_order(alloc, &mut self.conn, order);
         self.answer(read)
     }
@@ -157,9 +156,7 @@ impl<S: Alter> Desk<S> {
         ensures query { Queries S.Store self.old self.new result (λ s x. x ≡ s.system) }
         ensures takes_none { result ≢ Err DeskFault.NoMemory }
     {
-        if self.stopped() {
-            return Err(DeskFault::Stopped);
-        }
+        self.check_serving()?;
         let read = find_system(alloc, &mut self.conn);
         self.answer(read)
     }
@@ -169,9 +166,7 @@ impl<S: Alter> Desk<S> {
         ensures query { Queries S.Store self.old self.new result (λ s x. x.items ≡ map.keys s.types) }
         ensures takes_none { result ≢ Err DeskFault.NoMemory }
     {
-        if self.stopped() {
-            return Err(DeskFault::Stopped);
-        }
+        self.check_serving()?;
         let read = find_type_ids(alloc, &mut self.conn);
         self.answer(read)
     }
@@ -186,9 +181,7 @@ impl<S: Alter> Desk<S> {
         ensures query { Queries S.Store self.old self.new result (λ s x. x.items ≡ further_names s kind id.now) }
         ensures takes_none { result ≢ Err DeskFault.NoMemory }
     {
-        if self.stopped() {
-            return Err(DeskFault::Stopped);
-        }
+        self.check_serving()?;
         let read = find_names(alloc, &mut self.conn, kind, id);
         self.answer(read)
     }
@@ -202,9 +195,7 @@ impl<S: Alter> Desk<S> {
     ) -> Result<Option<Counts>, DeskFault>
         ensures query { Queries S.Store self.old self.new result (λ s x. AreCountsAt s station.now x) }
     {
-        if self.stopped() {
-            return Err(DeskFault::Stopped);
-        }
+        self.check_serving()?;
         let Ok(room) = Vec::with_capacity(alloc, MOST_TYPES as usize) else {
             return Err(DeskFault::NoMemory);
         };

@@ -2,7 +2,7 @@
 
 ghost use Rattle.std.specs.Prelude.{◌≡◌, ◌≢◌, Err, option_map};
 ghost use Rattle.bike_queries.specs.After.{IsNext, first_after, next_language};
-ghost use Rattle.bike_queries.specs.Pages.{AreNamedStations, AreStatuses, IsTold, page_after};
+ghost use Rattle.bike_queries.specs.Pages.{AreNamedStations, AreStatuses, page_after};
 ghost use Rattle.bike_desk.specs.Queries.{Queries};
 
 use crate::desk::Desk;
@@ -32,9 +32,7 @@ impl<S: Alter> Desk<S> {
             (λ s x. IsNext (λ t. t.type_id) (first_after (option_map (λ id. id.now) after.entry) s.types) x) }
         ensures takes_none { result ≢ Err DeskFault.NoMemory }
     {
-        if self.stopped() {
-            return Err(DeskFault::Stopped);
-        }
+        self.check_serving()?;
         let read = find_type_after(alloc, &mut self.conn, after);
         self.answer(read)
     }
@@ -49,34 +47,30 @@ impl<S: Alter> Desk<S> {
             (λ s x. IsNext (λ r. r.region_id) (first_after (option_map (λ id. id.now) after.entry) s.regions) x) }
         ensures takes_none { result ≢ Err DeskFault.NoMemory }
     {
-        if self.stopped() {
-            return Err(DeskFault::Stopped);
-        }
+        self.check_serving()?;
         let read = find_region_after(alloc, &mut self.conn, after);
         self.answer(read)
     }
 
-    /// The next stations with their further names, as many as a page holds. Where there are no names in further languages, and that
-    /// is told, none are asked for.
+    /// The next stations, as many as a page holds. With `translated` each has its further names; else none are asked for, and none
+    /// has any.
     pub fn stations_after(
         &mut self,
         alloc: Global,
         after: Option<&Ident>,
         translated: bool,
     ) -> Result<VecDeque<NamedStation>, DeskFault>
-        ensures query { Queries S.Store self.old self.new result (λ s page. IsTold translated s
-            → AreNamedStations s (page_after (option_map (λ id. id.now) after.entry) s.stations) page.items) }
+        ensures query { Queries S.Store self.old self.new result (λ s page.
+            AreNamedStations translated s (page_after (option_map (λ id. id.now) after.entry) s.stations) page.items) }
         ensures takes_none { result ≢ Err DeskFault.NoMemory }
     {
-        if self.stopped() {
-            return Err(DeskFault::Stopped);
-        }
+        self.check_serving()?;
         let read = find_stations_after(alloc, &mut self.conn, after, translated);
         self.answer(read)
     }
 
     /// The next stations with their counts, as GBFS's `station_status` shows them, by the stored numbers: as many as a page holds. The
-    /// counts are of the types with these identifiers, which are to be those of all types, as `type_ids` answers them.
+    /// counts are of the bicycles of the types with these identifiers, in their order: of all, with those that `type_ids` answers.
     pub fn statuses_after(
         &mut self,
         alloc: Global,
@@ -87,9 +81,7 @@ impl<S: Alter> Desk<S> {
             AreStatuses s type_ids.now (page_after (option_map (λ id. id.now) after.entry) s.stations) page.items) }
         ensures takes_none { result ≢ Err DeskFault.NoMemory }
     {
-        if self.stopped() {
-            return Err(DeskFault::Stopped);
-        }
+        self.check_serving()?;
         let read = find_statuses_after(alloc, &mut self.conn, after, type_ids);
         self.answer(read)
     }
@@ -104,9 +96,7 @@ impl<S: Alter> Desk<S> {
             (λ s x. IsNext (λ p. p.plan_id) (first_after (option_map (λ id. id.now) after.entry) s.plans) x) }
         ensures takes_none { result ≢ Err DeskFault.NoMemory }
     {
-        if self.stopped() {
-            return Err(DeskFault::Stopped);
-        }
+        self.check_serving()?;
         let read = find_plan_after(alloc, &mut self.conn, after);
         self.answer(read)
     }
@@ -121,9 +111,7 @@ impl<S: Alter> Desk<S> {
             (λ s x. x ≡ next_language (option_map (λ l. l.now) after.entry) s) }
         ensures takes_none { result ≢ Err DeskFault.NoMemory }
     {
-        if self.stopped() {
-            return Err(DeskFault::Stopped);
-        }
+        self.check_serving()?;
         let read = find_language_after(alloc, &mut self.conn, after);
         self.answer(read)
     }

@@ -1,5 +1,5 @@
 -- Further names, which are asked for only where there are any.
-use Rattle.std.proofs.Common.{◌≡◌, ◌≢◌, ◌≤◌, ℕ, List, [], ◌∷◌, map, Bool, false, Option, Some, None, option_map, Result, Ok, Err, refl, sym, ap, ◌∙◌, subst, arith}
+use Rattle.std.proofs.Common.{◌≡◌, ◌≢◌, ◌≤◌, ℕ, List, [], ◌∷◌, map, Bool, true, false, Option, Some, None, option_map, Result, Ok, Err, refl, sym, ap, ◌∙◌, subst, arith}
 use Rattle.std.specs.Prelude.{is_some, slice_get, IfOk}
 use Rattle.std.specs.Result.{IsErrAnd}
 use Rattle.std.specs.FinMap.{FinMap, entries}
@@ -11,7 +11,8 @@ use Rattle.bike_json.specs.Outputs.{OutputState}
 use Rattle.bike_json.specs.Tree.{Tree}
 use Rattle.bike_json.specs.State.{Place, IsAt as IsIn, after_value}
 use Rattle.bike_operator.specs.NameKind.{NameKind}
-use Rattle.bike_operator.specs.Operator.{Operator, text_cmp}
+use Rattle.bike_operator.specs.NameKind.TheVariants as named
+use Rattle.bike_operator.specs.Operator.{Operator, Station, text_cmp}
 use Rattle.bike_operator.specs.Names.{further_names}
 use Rattle.bike_feed_texts.specs.Trees.{names_by_language}
 use Rattle.bike_feed_texts.specs.Writing.{WroteValue}
@@ -21,7 +22,8 @@ use Rattle.bike_desk.specs.declared.fault.DeskFault.{DeskFault}
 use Rattle.bike_desk.specs.declared.fault.DeskFault.TheVariants.{NoMemory}
 use Rattle.bike_desk.specs.Desk.{DeskValue, desk_state, IsAt}
 use Rattle.bike_desk.specs.Queries.{Queries}
-use Rattle.bike_queries.specs.Pages.{IsTold}
+use Rattle.bike_queries.specs.Pages.{AreNamedStations, IsNamedStation, IsTold}
+use Rattle.bike_queries.specs.declared.stations.NamedStation.{NamedStation}
 use Rattle.bike_feeds.proofs.DeskLemmas.{earlier, going_only}
 use Rattle.bike_feeds.proofs.Lists.{listed}
 use Rattle.bike_feeds.proofs.WalkLemmas.{Walks, Passes, goes_asked, walk_writes}
@@ -145,6 +147,17 @@ unasked g x going means = record {
 pub names_unasked : (s : Operator) (kind : NameKind) (id : List ℕ) (translated : Bool) (items : List MoreNameRow) → items ≡ [] → translated ≡ false
     → IsTold translated s → items ≡ further_names s kind id
 names_unasked s kind id translated items empty none told = empty ∙ sym (no_further_names s kind id (told none))
+
+-- stations without names are those with their names, where it is told that there are none
+named_by : (s : Operator) (translated : Bool) → IsTold translated s → (e : List ℕ × Station) (x : NamedStation) → IsNamedStation translated s e x → IsNamedStation true s e x
+named_by s true told e x it = it
+named_by s false told e x it = (it.0, it.1 ∙ sym (no_further_names s named.Station e.0 (told refl)))
+
+pub all_named : (s : Operator) (translated : Bool) → IsTold translated s → (es : List (List ℕ × Station)) (xs : List NamedStation) → AreNamedStations translated s es xs → AreNamedStations true s es xs
+all_named s translated told [] [] all = tt
+all_named s translated told [] (x ∷ xs) all = absurd all
+all_named s translated told (e ∷ es) [] all = absurd all
+all_named s translated told (e ∷ es) (x ∷ xs) all = (named_by s translated told e x all.0, all_named s translated told es xs all.1)
 
 -- ---- what was told, between the questions
 

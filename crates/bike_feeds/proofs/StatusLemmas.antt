@@ -1,5 +1,5 @@
 -- The counts and the names that were read of a station are those that are written.
-use Rattle.std.proofs.Common.{◌≡◌, ◌≤◌, ℕ, List, [], ◌∷◌, ◌++◌, map, Some, Result, Ok, refl, sym, ap, ap₂, ◌∙◌, subst, append_assoc}
+use Rattle.std.proofs.Common.{◌≡◌, ◌≤◌, ℕ, List, [], ◌∷◌, ◌++◌, map, Some, Result, Ok, refl, sym, ap, ap₂, ◌∙◌, subst, append_assoc, true}
 use Rattle.std.specs.Cmp.Lexicographic.{nat_list_cmp_total}
 use Rattle.std.specs.FinMap.{entries, keys}
 use Rattle.sqlite_trees.specs.View.{doubt}
@@ -18,6 +18,7 @@ use Rattle.bike_feed_texts.specs.Trees.{report_of, counts_of}
 use Rattle.bike_feed_texts.specs.Writing.{WroteValue}
 use Rattle.bike_queries.specs.After.{station_of}
 use Rattle.bike_queries.specs.Pages.{IsNamedStation, IsStatusOf}
+use Rattle.bike_queries.proofs.TallyLemmas.{all_types}
 use Rattle.bike_queries.specs.declared.counts.Counts.{Counts}
 use Rattle.bike_queries.specs.declared.stations.NamedStation.{NamedStation}
 use Rattle.bike_queries.specs.declared.status.StationStatus.{StationStatus}
@@ -64,18 +65,19 @@ module _ {S : Type 0} (g : Ghosts S) where
       → Walks g statuses (Some (station_of x.info)) d e p q a b → KnowsTypes ids d e → Ahead g (λ s. IsStatusOf s ids) (Some x) left d e
       → WroteValue q r b c (status_tree (report_of (station_of x.info)) (shown_counts x.counts)) → IsIn r (after_value q.top) q.round
       → Passes g statuses (station_of x.info) d e p r a c
-  status_writes {e = e} {q = q} {r = r} {b = b} {c = c} x w known ahead wrote place =
+  status_writes {e = e} {q = q} {r = r} {b = b} {c = c} {ids = ids} x w known ahead wrote place =
       walk_writes g statuses (station_of x.info) w (λ clean s at.
       let station = station_of x.info in
       let it = ahead.are clean s at in
-      let counts = it.1.1 (known.types clean s at) in
+      let sound = (kept_stores (desk_state g e) s (w.stays.same clean s at).keeps).sound in
+      let counts = all_types s it.0.0 sound it.0.1 ids x.counts (known.types clean s at) it.1.1 in
       let are = subst (λ (k : List ℕ). AreCountsOf s k station x.counts) (sym it.1.0.1) (subst (λ (y : Station). AreCountsOf s it.0.0 y x.counts) (sym it.1.0.0) counts) in
-      let same = counts_same s (kept_stores (desk_state g e) s (w.stays.same clean s at).keeps).sound station x.counts are in
+      let same = counts_same s sound station x.counts are in
       subst (λ t. WroteValue q r b c (status_tree (report_of station) t)) same wrote) place
 
   -- a station is written with its names
   pub station_writes : {d e : DeskValue S} {p q r : Place} {a b c : OutputState} {left : List NamedStation} (system : SystemRow) (x : NamedStation)
-      → Walks g (stations system) (Some (station_of x.info)) d e p q a b → Ahead g IsNamedStation (Some x) left d e
+      → Walks g (stations system) (Some (station_of x.info)) d e p q a b → Ahead g (IsNamedStation true) (Some x) left d e
       → WroteValue q r b c (station_tree system x.info.station x.info.region x.names.items) → IsIn r (after_value q.top) q.round
       → Passes g (stations system) (station_of x.info) d e p r a c
   station_writes {q = q} {r = r} {b = b} {c = c} system x w ahead wrote place =

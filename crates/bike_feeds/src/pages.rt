@@ -1,6 +1,6 @@
 //! The stations of a feed, which the desk answers page by page.
 
-ghost use Rattle.std.specs.Prelude.{◌≡◌, false, option_map};
+ghost use Rattle.std.specs.Prelude.{◌≡◌, false, true, option_map};
 ghost use Rattle.bike_queries.specs.Pages.{IsNamedStation, IsStatusOf, IsTold};
 ghost use Rattle.bike_desk.specs.Queries.{Queries};
 ghost use Rattle.bike_feeds.specs.Pages.{AreAhead, TakesNext};
@@ -22,8 +22,8 @@ pub(crate) fn next_station<S: Alter>(
 ) -> Result<Option<NamedStation>, DeskFault>
     requires { desk.old.is_stopped ≡ false }
     ensures { Queries S.Store desk.old desk.new result (λ s next. IsTold translated s
-        → AreAhead (IsNamedStation s) s (option_map (λ id. id.now) after.entry) page.old.items
-        → TakesNext (IsNamedStation s) s (option_map (λ id. id.now) after.entry) next page.new.items) }
+        → AreAhead (IsNamedStation true s) s (option_map (λ id. id.now) after.entry) page.old.items
+        → TakesNext (IsNamedStation true s) s (option_map (λ id. id.now) after.entry) next page.new.items) }
 {
     if let Some(next) = page.pop_front() {
         return Ok(Some(next));

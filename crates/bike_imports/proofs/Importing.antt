@@ -13,11 +13,11 @@ use Rattle.bike_schema.specs.Stands.{AllLeft, TreesStandFor}
 use Rattle.bike_desk.specs.Desk.{DeskValue, desk_state, IsAt}
 use Rattle.bike_desk.specs.declared.fault.DeskFault.TheVariants.{NoMemory, StoreFailed, Stopped}
 use Rattle.bike_imports.specs.declared.fault.ImportFault.{ImportFault}
-use Rattle.bike_imports.specs.declared.fault.ImportFault.TheVariants.{BadHeader, Unreadable, Row, Read, Desk}
-use Rattle.bike_imports.specs.Rows.{Record, header, call_of, AreCallsOf, AreAccepted, Accepts}
+use Rattle.bike_imports.specs.declared.fault.ImportFault.TheVariants.{BadHeader, Unreadable, Row, Read, TooManyRows, Desk}
+use Rattle.bike_imports.specs.Rows.{Record, header, call_of, ChangesNothing, AreCallsOf, AreAccepted, Accepts}
 use Rattle.bike_imports.specs.Tables.{StandsBehind, Takes, FindsNone, MeetsFault, MeetsHeaderFault}
-use Rattle.bike_imports.specs.Serving.{ServesRow}
-use Rattle.bike_imports.specs.Imports.{Imports, StandsAfterSome}
+use Rattle.bike_imports.specs.Serving.{KeepsDatabase, ServesRow}
+use Rattle.bike_imports.specs.Imports.{AllChangeNothing, Imports, StandsAfterSome}
 use Rattle.bike_imports.proofs.Reading.{begins}
 
 -- ---- one row more
@@ -54,6 +54,11 @@ accepts_push moment name s rows calls row c all is good accepted =
 
 -- ---- the rows so far
 
+-- the desk is at the operator at which it was, and its database is as it was
+pub record Rests {S : Type 0} (g : Ghosts S) (old new : DeskValue S) (s : Operator) : Type 0 where
+  pub at : IsAt g new s
+  pub same : KeepsDatabase g old new
+
 module _ {S R : Type 0} (g : Ghosts S) (remaining : R → Option (List ℕ)) (s : Operator) (moment : ℕ) (name : List ℕ) (input : Option (List ℕ)) where
   -- so many rows are accepted, and the reader stands behind them
   pub record Importing (desk : DeskValue S) (table : Reader R) (count : ℕ) : Type 0 where
@@ -83,6 +88,7 @@ module _ {S R : Type 0} (g : Ghosts S) (remaining : R → Option (List ℕ)) (s 
     lacks_header start at (Desk NoMemory) meets = record { rows = []; calls = []; text = inl refl; accepts = record { read = tt; good = tt; accepted = tt }; at = at }
     lacks_header start at (Desk StoreFailed) meets = absurd meets
     lacks_header start at (Desk Stopped) meets = absurd meets
+    lacks_header start at TooManyRows meets = absurd meets
     lacks_header start at (Unreadable n) meets = absurd meets
     lacks_header start at (Row n refusal) meets = absurd meets
 
@@ -98,14 +104,25 @@ module _ {S R : Type 0} (g : Ghosts S) (remaining : R → Option (List ℕ)) (s 
         counted = sym i.counted;
       }
 
-      -- the import broke off between two rows
-      pub importing_breaks : Imports g desk s moment name input (Err Read)
+      -- the reading broke off between two rows
+      importing_breaks : Imports g desk s moment name input (Err Read)
       importing_breaks = record {
         rows = i.rows;
         calls = i.calls;
         text = inr (begins remaining input (header ∷ i.rows) old i.behind);
         accepts = i.accepts;
         at = i.at;
+      }
+
+      -- so many rows were served that no more is
+      pub importing_most : count ≡ 1000000 → Imports g desk s moment name input (Err TooManyRows)
+      importing_most most = record {
+        rows = i.rows;
+        calls = i.calls;
+        text = begins remaining input (header ∷ i.rows) old i.behind;
+        accepts = i.accepts;
+        at = i.at;
+        counted = i.counted ∙ most;
       }
 
       -- the next record wasn't taken
@@ -126,6 +143,7 @@ module _ {S R : Type 0} (g : Ghosts S) (remaining : R → Option (List ℕ)) (s 
       importing_unread (Desk NoMemory) meets = importing_breaks
       importing_unread (Desk StoreFailed) meets = absurd meets
       importing_unread (Desk Stopped) meets = absurd meets
+      importing_unread TooManyRows meets = absurd meets
       importing_unread BadHeader meets = absurd meets
       importing_unread (Row n refusal) meets = absurd meets
 
@@ -145,6 +163,17 @@ module _ {S R : Type 0} (g : Ghosts S) (remaining : R → Option (List ℕ)) (s 
               at = subst (IsAt g next) (sym (after-append s i.calls (it.0 ∷ []))) it.2.at;
               counted = length-append i.rows (fields ∷ []) ∙ ap (λ n. n + 1) i.counted;
             }
+
+        -- the next row changes nothing
+        pub importing_none : AllChangeNothing moment name s input → ChangesNothing s (call_of moment name (count + 1) fields)
+        importing_none none =
+            subst (λ n. ChangesNothing s (call_of moment name (n + 1) fields)) i.counted
+            (none i.rows fields (begins remaining input ((header ∷ i.rows) ++ fields ∷ []) new (takes input (header ∷ i.rows) i.behind)))
+
+        -- so it is accepted without a change
+        pub importing_rests : (first : DeskValue S) (x : Unit {0}) → Rests g first desk s → ChangesNothing s (call_of moment name (count + 1) fields)
+            → ServesRow g next s (count + 1) fields (call_of moment name (count + 1) fields) (Ok x) → KeepsDatabase g desk next → Rests g first next s
+        importing_rests first x was none it same = record { at = subst (IsAt g next) (subst (ChangesNothing s) it.1 none) it.2.at; same = same ∙ was.same }
 
         -- the next record is no row, or is refused, or the desk failed at it
         pub importing_refused : AllText fields → (fault : ImportFault) → ServesRow g next (after s i.calls) (count + 1) fields (call_of moment name (count + 1) fields) (Err fault)
@@ -190,6 +219,7 @@ module _ {S R : Type 0} (g : Ghosts S) (remaining : R → Option (List ℕ)) (s 
         importing_refused text (Desk Stopped) it = absurd it
         importing_refused text BadHeader it = absurd it
         importing_refused text Read it = absurd it
+        importing_refused text TooManyRows it = absurd it
 
 -- ---- what a crash may leave
 
@@ -200,6 +230,7 @@ module _ {S : Type 0} (g : Ghosts S) (desk : DeskValue S) (s : Operator) (moment
   left_of (Err (Unreadable number)) i db h = (i.calls, i.accepts.good, i.at.keeps.left db h)
   left_of (Err (Row number refusal)) i db h = (i.calls, i.accepts.good, i.at.keeps.left db h)
   left_of (Err Read) i db h = (i.calls, i.accepts.good, i.at.keeps.left db h)
+  left_of (Err TooManyRows) i db h = (i.calls, i.accepts.good, i.at.keeps.left db h)
   left_of (Err (Desk NoMemory)) i db h = (i.calls, i.accepts.good, i.at.keeps.left db h)
   left_of (Err (Desk StoreFailed)) i db h = elim (i.fails.left db h) [
     | inl before ↦ (i.calls, i.accepts.good, before)

@@ -1,6 +1,6 @@
 -- Serving one row.
-use Rattle.std.proofs.Common.{◌≡◌, ℕ, ◌≤◌, List, max, Option, None, Some, Result, Ok, Err, IsTrue, refl, ap, sym, subst}
-use Rattle.std.specs.Prelude.{IsErrAnd, option_map}
+use Rattle.std.proofs.Common.{◌≡◌, ℕ, ◌≤◌, List, max, Option, None, Some, Result, Ok, Err, IsTrue, refl, ap, sym, subst, ◌∙◌}
+use Rattle.std.specs.Prelude.{◌≢◌, IsErrAnd, option_map}
 use Rattle.std.specs.FinMap as map
 use Rattle.std.proofs.lemmas.Bool.{both_ways}
 use Rattle.sqlite_trees.specs.declared.store.Store.{Ghosts}
@@ -17,14 +17,21 @@ use Rattle.bike_desk.specs.Desk.{DeskValue, desk_state, IsAt, TreesStandForEithe
 use Rattle.bike_desk.specs.declared.fault.DeskFault.{DeskFault}
 use Rattle.bike_desk.specs.declared.fault.DeskFault.TheVariants.{NoMemory, StoreFailed, Stopped}
 use Rattle.bike_imports.specs.declared.fault.ImportFault.{ImportFault}
-use Rattle.bike_imports.specs.declared.fault.ImportFault.TheVariants.{BadHeader, Unreadable, Row, Read, Desk}
-use Rattle.bike_imports.specs.Rows.{Record, station_of, request_of, call_of}
-use Rattle.bike_imports.specs.Serving.{ServesCall, ServesRow, MakesRequest}
+use Rattle.bike_imports.specs.declared.fault.ImportFault.TheVariants.{BadHeader, Unreadable, Row, Read, TooManyRows, Desk}
+use Rattle.bike_imports.specs.Rows.{Record, station_of, request_of, call_of, ChangesNothing}
+use Rattle.bike_imports.specs.Serving.{KeepsDatabase, ServesCall, ServesRow, MakesRequest}
 
 -- what a `?` tells
 pub err_is : {A : Type 0} (result : Result A ImportFault) (fault : ImportFault) → IsErrAnd result (λ told. told ≡ fault) → result ≡ Err fault
 err_is (Ok x) fault told = absurd told
 err_is (Err e) fault told = ap Err told
+
+-- the desk didn't fail for its store
+pub told_other : (result : Result ℕ ImportFault) (fault : ImportFault) (row : Result (Unit {0}) ImportFault) → result ≡ Err fault → row ≡ Err fault → result ≢ Err (Desk StoreFailed)
+    → row ≢ Err (Desk StoreFailed)
+told_other result fault row told is other failed =
+    let same : fault ≡ Desk StoreFailed = cc in
+    other (told ∙ ap Err same)
 
 -- ---- a refused request changes nothing
 
@@ -59,6 +66,13 @@ module _ {S : Type 0} (g : Ghosts S) (old new : DeskValue S) (s : Operator) wher
       by StoreFailed same stops failed stopped = (stops refl, failed refl)
       by Stopped same stops failed stopped = both_ways old.is_stopped at.goes_on (stopped refl)
 
+  -- a request that changes nothing of the operator, and at which the desk failed
+  pub keeps_database : (result : Result (Unit {0}) ImportFault) (fault : DeskFault) → IsErrAnd result (λ told. told ≡ Desk fault) → (fault ≡ NoMemory → new ≡ old)
+      → (fault ≡ Stopped → new ≡ old) → result ≢ Err (Desk StoreFailed) → KeepsDatabase g old new
+  keeps_database result NoMemory told same stopped other = ap (λ (d : DeskValue S). (desk_state g d).now) (same refl)
+  keeps_database result StoreFailed told same stopped other = absurd (other (err_is result (Desk StoreFailed) told))
+  keeps_database result Stopped told same stopped other = ap (λ (d : DeskValue S). (desk_state g d).now) (stopped refl)
+
   -- ---- the row
 
   module _ (moment : ℕ) (name : List ℕ) (number : ℕ) (fields : Record) where
@@ -75,6 +89,10 @@ module _ {S : Type 0} (g : Ghosts S) (old new : DeskValue S) (s : Operator) wher
 
     has_request : (q : Request) → option_map (request_of name number) (station_of fields) ≡ Some q → HasRequest q
     has_request q made = let it = request_is (station_of fields) q made in record { station = it.0; is = it.1; call = it.2 }
+
+    -- a row that changes nothing has a request that changes nothing
+    pub request_none : (q : Request) → MakesRequest name number fields (Ok q) → ChangesNothing s (call_of moment name number fields) → ChangesNothing s (Some (moment, q))
+    request_none q made none = subst (ChangesNothing s) (has_request q made.1).call none
 
     -- its request was served
     pub served_row : (q : Request) (result : Result (Unit {0}) ImportFault) → moment ≤ last_moment → MakesRequest name number fields (Ok q)
@@ -94,3 +112,4 @@ module _ {S : Type 0} (g : Ghosts S) (old new : DeskValue S) (s : Operator) wher
     served_row q (Err BadHeader) last made it = absurd it
     served_row q (Err (Unreadable n)) last made it = absurd it
     served_row q (Err Read) last made it = absurd it
+    served_row q (Err TooManyRows) last made it = absurd it

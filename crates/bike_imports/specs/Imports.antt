@@ -11,14 +11,20 @@ use Rattle.bike_schema.specs.Stands.{TreesStandFor}
 use Rattle.bike_desk.specs.Desk.{DeskValue, IsAt}
 use Rattle.bike_desk.specs.declared.fault.DeskFault.TheVariants.{NoMemory, StoreFailed, Stopped}
 use Rattle.bike_imports.specs.declared.fault.ImportFault.{ImportFault}
-use Rattle.bike_imports.specs.declared.fault.ImportFault.TheVariants.{BadHeader, Unreadable, Row, Read, Desk}
-use Rattle.bike_imports.specs.Rows.{Record, header, call_of, Accepts, reply_to}
+use Rattle.bike_imports.specs.declared.fault.ImportFault.TheVariants.{BadHeader, Unreadable, Row, Read, TooManyRows, Desk}
+use Rattle.bike_imports.specs.Rows.{Record, header, call_of, Accepts, reply_to, ChangesNothing}
 use Rattle.bike_imports.specs.Tables.{IsRow, HasRecords, BeginsWith, LacksHeader}
 use Rattle.bike_imports.specs.Serving.{FailsAt}
 
 -- the trees stand for the operator after good requests
 abbrev pub StandsAfterSome : Operator → Trees → Type 0
 StandsAfterSome s trees = (calls : List Call) × AreCalls calls × TreesStandFor (after s calls) trees
+
+-- each row of the table changes nothing of the operator; where the text isn't known, no row does at any place
+abbrev pub AllChangeNothing : ℕ → List ℕ → Operator → Option (List ℕ) → Type 0
+AllChangeNothing moment name s input =
+    (rows : List Record) (row : Record) → BeginsWith input ((header ∷ rows) ++ row ∷ [])
+    → ChangesNothing s (call_of moment name (length rows + 1) row)
 
 module _ {S : Type 0} (g : Ghosts S) (desk : DeskValue S) (s : Operator) (moment : ℕ) (name : List ℕ) (input : Option (List ℕ)) where
   -- all rows are accepted
@@ -66,6 +72,15 @@ module _ {S : Type 0} (g : Ghosts S) (desk : DeskValue S) (s : Operator) (moment
     pub accepts : Accepts moment name s rows calls
     pub at : IsAt g desk (after s calls)
 
+  -- as many rows as an import serves at most are accepted
+  pub record ServesMost : Type 0 where
+    pub rows : List Record
+    pub calls : List Call
+    pub text : BeginsWith input (header ∷ rows)
+    pub accepts : Accepts moment name s rows calls
+    pub at : IsAt g desk (after s calls)
+    pub counted : length rows ≡ 1000000
+
   -- the rows before are accepted, and the store failed at the next one
   pub record FailsAtRow : Type 0 where
     pub rows : List Record
@@ -84,6 +99,7 @@ module _ {S : Type 0} (g : Ghosts S) (desk : DeskValue S) (s : Operator) (moment
   Imports (Err (Unreadable number)) = MeetsNoRow number
   Imports (Err (Row number refusal)) = RefusesRow number refusal
   Imports (Err Read) = BreaksOff
+  Imports (Err TooManyRows) = ServesMost
   Imports (Err (Desk NoMemory)) = BreaksOff
   Imports (Err (Desk StoreFailed)) = FailsAtRow
   Imports (Err (Desk Stopped)) = ⊥

@@ -1,5 +1,5 @@
 -- The rows of a table of stations, and the request that each is.
-use Rattle.std.specs.Prelude.{◌≡◌, ℕ, ◌+◌, List, [], ◌∷◌, ◌++◌, false, Option, Some, None, option_map, codes, decimal}
+use Rattle.std.specs.Prelude.{◌≡◌, ℕ, ◌+◌, List, [], ◌∷◌, ◌++◌, false, Option, Some, None, option_map, codes, decimal, ⊤}
 use Rattle.bike_fixed.specs.Coordinate.{micro_of}
 use Rattle.bike_fixed.specs.Whole.{number_of}
 use Rattle.bike_fields.specs.declared.caller.Caller.TheVariants.{Import}
@@ -70,3 +70,8 @@ module _ (moment : ℕ) (name : List ℕ) where
 abbrev pub reply_to : Operator → Option Call → Reply
 reply_to s (Some c) = (step s c.0 c.1).0
 reply_to s None = Refused BadField
+
+-- a row changes nothing of the operator: it has a bad field or is refused, or its key is kept
+abbrev pub ChangesNothing : Operator → Option Call → Type 0
+ChangesNothing s (Some c) = (step s c.0 c.1).1 ≡ s
+ChangesNothing s None = ⊤

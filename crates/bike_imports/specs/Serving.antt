@@ -13,7 +13,7 @@ use Rattle.bike_desk.specs.Desk.{DeskValue, desk_state, IsAt, TreesStandForEithe
 use Rattle.bike_desk.specs.declared.fault.DeskFault.{DeskFault}
 use Rattle.bike_desk.specs.declared.fault.DeskFault.TheVariants.{NoMemory, StoreFailed, Stopped}
 use Rattle.bike_imports.specs.declared.fault.ImportFault.{ImportFault}
-use Rattle.bike_imports.specs.declared.fault.ImportFault.TheVariants.{BadHeader, Unreadable, Row, Read, Desk}
+use Rattle.bike_imports.specs.declared.fault.ImportFault.TheVariants.{BadHeader, Unreadable, Row, Read, TooManyRows, Desk}
 use Rattle.bike_imports.specs.Rows.{Record, station_of, request_of, reply_to}
 
 -- the fault of the desk, if that ended the import
@@ -23,6 +23,7 @@ desk_fault (Err BadHeader) = None
 desk_fault (Err (Unreadable number)) = None
 desk_fault (Err (Row number refusal)) = None
 desk_fault (Err Read) = None
+desk_fault (Err TooManyRows) = None
 desk_fault (Err (Desk fault)) = Some fault
 
 -- whatever the disk: only a failed store stops a desk, and only a stopped desk tells that
@@ -32,12 +33,20 @@ GoesOn new (Some NoMemory) = new.is_stopped ≡ false
 GoesOn new (Some StoreFailed) = IsTrue new.is_stopped
 GoesOn new (Some Stopped) = ⊥
 
+-- the database is as it was
+abbrev pub KeepsDatabase : {S : Type 0} → Ghosts S → DeskValue S → DeskValue S → Type 0
+KeepsDatabase g old new = (desk_state g new).now ≡ (desk_state g old).now
+
+-- what a crash may leave stands for the operator before or after the request
+abbrev pub LeavesEither : {S : Type 0} → Ghosts S → DeskValue S → Operator → Call → Type 0
+LeavesEither g desk s c = AllLeft (desk_state g desk) (TreesStandForEither s (step s c.0 c.1).1)
+
 module _ {S : Type 0} (g : Ghosts S) (new : DeskValue S) (s : Operator) where
   -- the store failed at the request: what it holds stands for the operator before or after it
   pub record FailsAt (c : Call) : Type 0 where
     pub good : IsCall c
     pub stopped : IsTrue new.is_stopped
-    pub left : AllLeft (desk_state g new) (TreesStandForEither s (step s c.0 c.1).1)
+    pub left : LeavesEither g new s c
 
   -- the request of a row is accepted
   pub record AcceptsCall (c : Call) : Type 0 where
@@ -48,32 +57,39 @@ module _ {S : Type 0} (g : Ghosts S) (new : DeskValue S) (s : Operator) where
   -- a request was served, that of the row of this number
   abbrev pub ServesCall : ℕ → Call → Result (Unit {0}) ImportFault → Type 0
   ServesCall number c (Ok x) = (is_refused (step s c.0 c.1).0 ≡ false) × IsAt g new (step s c.0 c.1).1
-  ServesCall number c (Err (Row n refusal)) = (n ≡ number) × ((step s c.0 c.1).0 ≡ Refused refusal) × IsAt g new (step s c.0 c.1).1
+  ServesCall number c (Err (Row n refusal)) =
+      (n ≡ number) × ((step s c.0 c.1).0 ≡ Refused refusal) × IsAt g new (step s c.0 c.1).1
   ServesCall number c (Err (Desk NoMemory)) = IsAt g new s
-  ServesCall number c (Err (Desk StoreFailed)) = IsTrue new.is_stopped × AllLeft (desk_state g new) (TreesStandForEither s (step s c.0 c.1).1)
+  ServesCall number c (Err (Desk StoreFailed)) = IsTrue new.is_stopped × LeavesEither g new s c
   ServesCall number c (Err (Desk Stopped)) = ⊥
   ServesCall number c (Err BadHeader) = ⊥
   ServesCall number c (Err (Unreadable n)) = ⊥
   ServesCall number c (Err Read) = ⊥
+  ServesCall number c (Err TooManyRows) = ⊥
 
   -- the record of this number was served; this is its request, where it is one
   abbrev pub ServesRow : ℕ → Record → Option Call → Result (Unit {0}) ImportFault → Type 0
   ServesRow number fields call (Ok x) = (c : Call) × (call ≡ Some c) × AcceptsCall c
   ServesRow number fields call (Err (Unreadable n)) = (n ≡ number) × (length fields ≢ 5) × IsAt g new s
-  ServesRow number fields call (Err (Row n refusal)) = (n ≡ number) × (length fields ≡ 5) × (reply_to s call ≡ Refused refusal) × IsAt g new s
+  ServesRow number fields call (Err (Row n refusal)) =
+      (n ≡ number) × (length fields ≡ 5) × (reply_to s call ≡ Refused refusal) × IsAt g new s
   ServesRow number fields call (Err (Desk NoMemory)) = IsAt g new s
   ServesRow number fields call (Err (Desk StoreFailed)) = (c : Call) × (call ≡ Some c) × FailsAt c
   ServesRow number fields call (Err (Desk Stopped)) = ⊥
   ServesRow number fields call (Err BadHeader) = ⊥
   ServesRow number fields call (Err Read) = ⊥
+  ServesRow number fields call (Err TooManyRows) = ⊥
 
 -- the request of a row, or why there is none
 abbrev pub MakesRequest : List ℕ → ℕ → Record → Result Request ImportFault → Type 0
-MakesRequest name number fields (Ok q) = (length fields ≡ 5) × (option_map (request_of name number) (station_of fields) ≡ Some q) × IsRequest q
+MakesRequest name number fields (Ok q) =
+    (length fields ≡ 5) × (option_map (request_of name number) (station_of fields) ≡ Some q) × IsRequest q
 MakesRequest name number fields (Err (Unreadable n)) = (n ≡ number) × (length fields ≢ 5)
-MakesRequest name number fields (Err (Row n refusal)) = (n ≡ number) × (refusal ≡ BadField) × (length fields ≡ 5) × (station_of fields ≡ None)
+MakesRequest name number fields (Err (Row n refusal)) =
+    (n ≡ number) × (refusal ≡ BadField) × (length fields ≡ 5) × (station_of fields ≡ None)
 MakesRequest name number fields (Err (Desk NoMemory)) = ⊤
 MakesRequest name number fields (Err (Desk StoreFailed)) = ⊥
 MakesRequest name number fields (Err (Desk Stopped)) = ⊥
 MakesRequest name number fields (Err BadHeader) = ⊥
 MakesRequest name number fields (Err Read) = ⊥
+MakesRequest name number fields (Err TooManyRows) = ⊥

@@ -8,7 +8,7 @@ use Rattle.csv.specs.declared.reader.Reader.{Reader}
 use Rattle.csv.specs.declared.reader.Trim.TheVariants as trim
 use Rattle.bike_desk.specs.declared.fault.DeskFault.TheVariants.{NoMemory, StoreFailed, Stopped}
 use Rattle.bike_imports.specs.declared.fault.ImportFault.{ImportFault}
-use Rattle.bike_imports.specs.declared.fault.ImportFault.TheVariants.{BadHeader, Unreadable, Row, Read, Desk}
+use Rattle.bike_imports.specs.declared.fault.ImportFault.TheVariants.{BadHeader, Unreadable, Row, Read, TooManyRows, Desk}
 use Rattle.bike_imports.specs.Rows.{Record, header}
 
 -- a row has five fields in UTF-8
@@ -22,10 +22,14 @@ abbrev pub HasRecords : Option (List ℕ) → List Record → Type 0
 HasRecords None records = ⊤
 HasRecords (Some text) records = AreRecords default_config st.StartRecord (strip_bom text) records
 
+-- reading it takes these records, and stands behind them in this state, before the rest
+abbrev pub IsBehind : List ℕ → List Record → State → List ℕ → Type 0
+IsBehind text records s rest = Reached default_config st.StartRecord (strip_bom text) records s rest
+
 -- its first records are these
 abbrev pub BeginsWith : Option (List ℕ) → List Record → Type 0
 BeginsWith None records = ⊤
-BeginsWith (Some text) records = (s : State) × (rest : List ℕ) × Reached default_config st.StartRecord (strip_bom text) records s rest
+BeginsWith (Some text) records = (s : State) × (rest : List ℕ) × IsBehind text records s rest
 
 -- it has no record, or its first one isn't the header
 abbrev pub LacksHeader : Option (List ℕ) → Type 0
@@ -44,7 +48,7 @@ pub record IsPlain {R : Type 0} (reader : Reader R) : Type 0 where
 abbrev pub StandsBehind : {R : Type 0} → (R → Option (List ℕ)) → Option (List ℕ) → List Record → Reader R → Type 0
 StandsBehind remaining None records reader = ⊤
 StandsBehind remaining (Some text) records reader =
-    (rest : List ℕ) × (source_of remaining reader ≡ Some rest) × Reached default_config st.StartRecord (strip_bom text) records (reader_state reader) rest
+    (rest : List ℕ) × (source_of remaining reader ≡ Some rest) × IsBehind text records (reader_state reader) rest
 
 module _ {R : Type 0} (remaining : R → Option (List ℕ)) (old : Reader R) where
   -- wherever the reader stood, the next record had these fields, and it stands behind it
@@ -54,7 +58,9 @@ module _ {R : Type 0} (remaining : R → Option (List ℕ)) (old : Reader R) whe
 
   -- there was no further record
   abbrev pub FindsNone : Type 0
-  FindsNone = (input : Option (List ℕ)) (records : List Record) → StandsBehind remaining input records old → HasRecords input records
+  FindsNone =
+      (input : Option (List ℕ)) (records : List Record) → StandsBehind remaining input records old
+      → HasRecords input records
 
   -- the next record isn't UTF-8
   abbrev pub MeetsNoText : Type 0
@@ -68,6 +74,7 @@ module _ {R : Type 0} (remaining : R → Option (List ℕ)) (old : Reader R) whe
   MeetsFault number (Desk NoMemory) = ⊤
   MeetsFault number (Desk StoreFailed) = ⊥
   MeetsFault number (Desk Stopped) = ⊥
+  MeetsFault number TooManyRows = ⊥
   MeetsFault number BadHeader = ⊥
   MeetsFault number (Row n refusal) = ⊥
 
@@ -78,5 +85,6 @@ module _ {R : Type 0} (remaining : R → Option (List ℕ)) (old : Reader R) whe
   MeetsHeaderFault (Desk NoMemory) = ⊤
   MeetsHeaderFault (Desk StoreFailed) = ⊥
   MeetsHeaderFault (Desk Stopped) = ⊥
+  MeetsHeaderFault TooManyRows = ⊥
   MeetsHeaderFault (Unreadable n) = ⊥
   MeetsHeaderFault (Row n refusal) = ⊥

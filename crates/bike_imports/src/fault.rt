@@ -17,9 +17,12 @@ pub enum ImportFault {
     /// The row of this number is refused.
     #[error("row {0} {name}", name = .1.name())]
     Row(u64, Refusal),
-    /// The input failed, or it has 1,000,000 rows or more, or takes more than 1,000,000 reads.
+    /// The input failed, takes more than 1,000,000 reads, or has a record that is too long.
     #[error("read failed")]
     Read,
+    /// The table has 1,000,000 rows or more; so many are served.
+    #[error("too many rows")]
+    TooManyRows,
     /// The desk failed at a row, or memory for the import was refused.
     #[error("{0}")]
     Desk(DeskFault),

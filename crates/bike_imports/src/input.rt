@@ -1,6 +1,8 @@
 //! An input that is read a bounded number of times, and gives each record a bounded number of bytes.
 
-ghost use Rattle.std.specs.Prelude.{◌≡◌};
+ghost use Rattle.std.specs.Prelude.{◌≡◌, ◌+◌, OnOk};
+ghost use Rattle.std.specs.Io.{ReadsAtMost};
+ghost use Rattle.std.specs.Io.KnownBytes.{ReadConsumes};
 
 use std::cell::Cell;
 use std::io;
@@ -25,7 +27,8 @@ pub struct Input<R> {
 impl<R> Input<R> {
     /// The reader, of which nothing was read yet.
     pub fn new(reader: R) -> Input<R>
-        ensures { result.reader ≡ reader }
+        ensures reader { result.reader ≡ reader }
+        ensures reads { result.reads ≡ 1000000 }
     {
         Input {
             reader,
@@ -43,7 +46,11 @@ impl<R> Input<R> {
 impl<R: Read> Read for Input<R> {
     ghost remaining = { λ input. R.remaining input.reader };
 
-    fn read(&mut self, buf: &mut [u8]) -> io::Result<usize> {
+    fn read(&mut self, buf: &mut [u8]) -> io::Result<usize>
+        ensures bound { ReadsAtMost result buf.new }
+        ensures bytes { ReadConsumes (R.remaining self.old.reader) (R.remaining self.new.reader) result buf.new }
+        ensures counted { OnOk result (self.new.reads + 1 ≡ self.old.reads) }
+    {
         let room = self.room.get();
         if self.reads == 0 || room == 0 {
             return Err(io::Error::from(io::ErrorKind::TimedOut));

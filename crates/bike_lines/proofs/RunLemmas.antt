@@ -1,6 +1,6 @@
 -- A run over lines, line by line.
 use Rattle.std.proofs.Common.{◌≡◌, ℕ, zero, suc, ◌+◌, ◌<◌, ◌≤◌, List, [], ◌∷◌, ◌++◌, length, take, refl, sym, ap, ◌∙◌, subst, arith, append_assoc, Option, None, Some, IsTrue, false, true, Result, Ok, Err, inl, inr}
-use Rattle.std.specs.Prelude.{IsErrAnd}
+use Rattle.std.specs.Prelude.{◌≢◌, IsErrAnd}
 use Rattle.std.proofs.lemmas.List.{append-nil, length-append}
 use Rattle.std.specs.Io.KnownBytes.{Appends, Keeps, prepend_known}
 use Rattle.sqlite.specs.Store.{Ghosts}
@@ -10,6 +10,7 @@ use Rattle.bike_operator.specs.Sound.{AreCalls}
 use Rattle.bike_commands.specs.declared.reply.Reply.{Reply}
 use Rattle.bike_commands.specs.Replies.{reply_text}
 use Rattle.bike_commands.specs.Requests.{IsLine, line_length}
+use Rattle.bike_requests.specs.Spelling.{SpellsRequest}
 use Rattle.bike_schema.specs.Stands.{AllLeft}
 use Rattle.bike_desk.specs.Desk.{DeskValue, desk_state, IsAt, TreesStandForEither}
 use Rattle.bike_desk.specs.declared.fault.DeskFault.{DeskFault}
@@ -24,10 +25,11 @@ use Rattle.bike_stream.proofs.LineLemmas.{lines_next}
 use Rattle.bike_lines.specs.declared.fault.LinesFault.{LinesFault}
 use Rattle.bike_lines.specs.declared.fault.LinesFault.TheVariants.{Read, TooManyReads, Write, Desk}
 use Rattle.bike_lines.specs.Faults.{read_fault}
-use Rattle.bike_lines.specs.Serving.{RepliesAt, GoesOn}
-use Rattle.bike_lines.specs.Answers.{IsReadAs, AreReadAs, after_line, after_lines, answer, answers}
+use Rattle.bike_lines.specs.Serving.{RepliesAt, GoesOn, KeepsDatabase, LeavesEither}
+use Rattle.bike_lines.specs.Answers.{IsReadAs, AreReadAs, ChangesNothing, after_line, after_lines, answer, answers}
 use Rattle.bike_lines.specs.declared.lines.TheConstants.{MOST_READS}
-use Rattle.bike_lines.specs.Runs.{AreLinesOf, IsReadTo, IsReadWhole, TakesMostReads, desk_fault, ServesSome, Answered, AnswersAll, BreaksOff, WantsMemory, DoesNothing, AnswersInto, FailsAt, RanLines}
+use Rattle.bike_lines.specs.Runs.{AreLinesOf, AllChangeNothing, IsReadTo, IsReadWhole, TakesMostReads, desk_fault, ServesSome, Answered, AnswersAll, BreaksOff, WantsMemory, DoesNothing, AnswersInto, FailsAt, RanLines}
+use Rattle.bike_lines.proofs.LineLemmas.{spells, after_none}
 
 -- ---- what is kept of a line is enough to read it
 
@@ -92,13 +94,10 @@ module _ (most : ℕ) (room : line_length < most) where
   next_read (Some text) (Some rest) None line c taken read = absurd taken
   next_read (Some text) (Some rest) (Some more) line c taken read = read_as_whole most room (first_line rest) c (subst (λ (l : List ℕ). IsReadAs l c) taken.1 read)
 
-  next_short : (input pending left : Option (List ℕ)) (line : List ℕ) → Takes most pending left true line → length line ≤ line_length → length (next_line input pending line) ≤ line_length
-  next_short None pending left line taken short = short
-  next_short (Some text) None left line taken short = short
-  next_short (Some text) (Some rest) None line taken short = absurd taken
-  next_short (Some text) (Some rest) (Some more) line taken short =
-      let kept : length (take most (first_line rest)) ≤ line_length = subst (λ (l : List ℕ). length l ≤ line_length) taken.1 short in
-      subst (λ (l : List ℕ). length l ≤ line_length) (take_whole most (first_line rest) (omega (arith, kept, room))) kept
+  next_spells : (input pending left : Option (List ℕ)) (line : List ℕ) → Takes most pending left true line → SpellsRequest line → SpellsRequest (next_line input pending line)
+  next_spells input pending left line taken it =
+      let c : Call = (it.moment, it.request) in
+      spells (next_line input pending line) c (next_read input pending left line (Some c) taken (it.spelled, it.good, it.moment_good))
 
   next_text : (input pending left : Option (List ℕ)) (done : List (List ℕ)) (line : List ℕ) → IsReadTo input pending done [] → Takes most pending left true line
       → AreLinesOf input (done ++ next_line input pending line ∷ later_lines left)
@@ -107,6 +106,13 @@ module _ (most : ℕ) (room : line_length < most) where
   next_text (Some all) (Some rest) None done line text taken = absurd taken
   next_text (Some all) (Some rest) (Some more) done line text taken =
       text ∙ ap (λ (ls : List (List ℕ)). done ++ ls) (lines_next rest taken.0 ∙ ap (λ (l : List ℕ). first_line rest ∷ lines_of l) (sym taken.2))
+
+  -- where no line of the text changes anything, what is kept of the next one doesn't
+  next_none : (input pending left : Option (List ℕ)) (done : List (List ℕ)) (line : List ℕ) (s : Operator) → IsReadTo input pending done [] → Takes most pending left true line
+      → AllChangeNothing s input → ChangesNothing s line
+  next_none input pending left done line s text taken none t q moment good is =
+      let read = next_read input pending left line (Some (t, q)) taken (is, good, moment) in
+      none done (later_lines left) (next_line input pending line) (next_text input pending left done line text taken) t q moment good read.0
 
   next_rest : (input pending left : Option (List ℕ)) (done : List (List ℕ)) (line : List ℕ) → IsReadTo input pending done [] → Takes most pending left true line
       → IsReadTo input left (done ++ next_line input pending line ∷ []) []
@@ -147,6 +153,11 @@ pub record Running {S : Type 0} (g : Ghosts S) (desk : DeskValue S) (s : Operato
   pub text : IsReadTo input pending done []
   pub counted : length done ≡ count
   pub before : Answered g desk s old new done calls
+
+-- the desk is at the operator at which it was, and its database is as it was
+pub record Rests {S : Type 0} (g : Ghosts S) (old new : DeskValue S) (s : Operator) : Type 0 where
+  pub at : IsAt g new s
+  pub same : KeepsDatabase g old new
 
 appends_nothing : (w : Option (List ℕ)) → Appends w w []
 appends_nothing None = tt
@@ -215,19 +226,19 @@ module _ {S : Type 0} (g : Ghosts S) (s : Operator) (input w0 : Option (List ℕ
       }
 
       -- memory was refused for the next line
-      running_wants : length line ≤ line_length → IsAt g next (after_lines s r.calls) → (ahead : Option (List ℕ)) → WantsMemory g next s input ahead w0 w
-      running_wants short at ahead = record {
+      running_wants : SpellsRequest line → IsAt g next (after_lines s r.calls) → (ahead : Option (List ℕ)) → WantsMemory g next s input ahead w0 w
+      running_wants spelled at ahead = record {
         done = r.done;
         line = next_line input pending line;
         rest = later_lines left;
         calls = r.calls;
         text = next_text most room input pending left r.done line r.text taken;
-        short = next_short most room input pending left line taken short;
+        spelled = next_spells most room input pending left line taken spelled;
         before = record { read = r.before.read; at = at; written = r.before.written };
       }
 
       -- the store failed at the next line
-      running_fails : (c : Call) → IsReadAs line (Some c) → IsTrue next.is_stopped → AllLeft (desk_state g next) (TreesStandForEither (after_lines s r.calls) (step (after_lines s r.calls) c.0 c.1).1)
+      running_fails : (c : Call) → IsReadAs line (Some c) → IsTrue next.is_stopped → LeavesEither g next (after_lines s r.calls) c
           → (ahead : Option (List ℕ)) → FailsAt g next s input ahead w0 w
       running_fails c read stopped all ahead = record {
         done = r.done;
@@ -257,6 +268,15 @@ module _ {S : Type 0} (g : Ghosts S) (s : Operator) (input w0 : Option (List ℕ
       running_refused StoreFailed it on ahead = running_fails it.0 it.1 on it.2 ahead
       running_refused Stopped it on ahead = absurd it
 
+      -- the next line changes nothing
+      pub running_none : AllChangeNothing s input → ChangesNothing s line
+      running_none none = next_none most room input pending left r.done line s r.text taken none
+
+      -- so neither operator nor database are changed
+      pub running_rests : (first : DeskValue S) (reply : Reply) → Rests g first desk s → ChangesNothing s line → RepliesAt g desk next line s (Ok reply) → KeepsDatabase g desk next
+          → Rests g first next s
+      running_rests first reply was none it same = record { at = subst (IsAt g next) (after_none s line it.0 none it.1) it.3; same = same ∙ was.same }
+
     -- the reading of the next line failed
     running_breaks : (most : ℕ) (line : List ℕ) (ahead : Option (List ℕ)) → Interrupts most pending ahead line → BreaksOff g desk s input ahead w0 w
     running_breaks most line ahead taken =
@@ -283,6 +303,13 @@ module _ {S : Type 0} (g : Ghosts S) (s : Operator) (input w0 : Option (List ℕ
 pub err_is : (result : Result ℕ LinesFault) (fault : LinesFault) → IsErrAnd result (λ told. told ≡ fault) → result ≡ Err fault
 err_is (Ok count) fault told = absurd told
 err_is (Err e) fault told = ap Err told
+
+-- the desk didn't fail for its store
+pub desk_other : (result : Result ℕ LinesFault) (fault : DeskFault) (reply : Result Reply DeskFault) → result ≡ Err (Desk fault) → reply ≡ Err fault → result ≢ Err (Desk StoreFailed)
+    → reply ≢ Err StoreFailed
+desk_other result fault reply told is other failed =
+    let same : fault ≡ StoreFailed = cc in
+    other (told ∙ ap (λ (f : DeskFault). Err (Desk f)) same)
 
 -- ---- how many reads
 

@@ -1,5 +1,5 @@
 -- What each line of an input asks for, and what it is answered.
-use Rattle.std.specs.Prelude.{ℕ, ◌≤◌, List, [], ◌∷◌, ◌++◌, Option, Some, None}
+use Rattle.std.specs.Prelude.{◌≡◌, ℕ, ◌≤◌, List, [], ◌∷◌, ◌++◌, Option, Some, None}
 use Rattle.bike_fixed.specs.Whole.{last_moment}
 use Rattle.bike_commands.specs.declared.request.Request.{Request}
 use Rattle.bike_commands.specs.declared.reply.Reply.{Reply}
@@ -30,6 +30,10 @@ reply_to s None = Refused BadField
 abbrev pub after_line : Operator → Option Call → Operator
 after_line s (Some c) = (step s c.0 c.1).1
 after_line s None = s
+
+-- whatever the line spells changes nothing of the operator: it is refused, or its key is kept
+abbrev pub ChangesNothing : Operator → List ℕ → Type 0
+ChangesNothing s line = (t : ℕ) (q : Request) → t ≤ last_moment → IsRequest q → IsLine line t q → (step s t q).1 ≡ s
 
 -- the answer to a line: its reply's text and a line feed
 abbrev pub answer : Operator → Option Call → List ℕ

@@ -2,9 +2,9 @@
 use Rattle.std.specs.Prelude.{◌≡◌, ◌⊎◌, ℕ, ◌+◌, ◌<◌, ◌≤◌, IsTrue, List, [], ◌∷◌, ◌++◌, length, take, ⊤, Option, None, Some, Result, Ok, Err}
 use Rattle.std.specs.Io.KnownBytes.{Appends, Keeps, IsAtEnd}
 use Rattle.sqlite.specs.Store.{Ghosts}
-use Rattle.bike_commands.specs.Requests.{line_length}
+use Rattle.bike_requests.specs.Spelling.{SpellsRequest}
 use Rattle.bike_operator.specs.Operator.{Operator}
-use Rattle.bike_operator.specs.Runs.{Call, step, after}
+use Rattle.bike_operator.specs.Runs.{Call, after}
 use Rattle.bike_operator.specs.Sound.{IsCall, AreCalls}
 use Rattle.bike_schema.specs.Stands.{AllLeft}
 use Rattle.bike_desk.specs.Desk.{DeskValue, desk_state, IsAt, TreesStandForEither}
@@ -14,7 +14,8 @@ use Rattle.bike_stream.specs.Lines.{lines_of, IsFree}
 use Rattle.bike_lines.specs.declared.fault.LinesFault.{LinesFault}
 use Rattle.bike_lines.specs.declared.fault.LinesFault.TheVariants.{Read, TooManyReads, Write, Desk}
 use Rattle.bike_lines.specs.declared.lines.TheConstants.{MOST_READS}
-use Rattle.bike_lines.specs.Answers.{IsReadAs, AreReadAs, after_line, after_lines, answer, answers}
+use Rattle.bike_lines.specs.Answers.{IsReadAs, AreReadAs, ChangesNothing, after_line, after_lines, answer, answers}
+use Rattle.bike_lines.specs.Serving.{LeavesEither}
 
 -- ---- the bytes of an input, as far as they are known
 
@@ -22,6 +23,11 @@ use Rattle.bike_lines.specs.Answers.{IsReadAs, AreReadAs, after_line, after_line
 abbrev pub AreLinesOf : Option (List ℕ) → List (List ℕ) → Type 0
 AreLinesOf None lines = ⊤
 AreLinesOf (Some text) lines = lines_of text ≡ lines
+
+-- each of its lines changes nothing of the operator; where they aren't known, no line does
+abbrev pub AllChangeNothing : Operator → Option (List ℕ) → Type 0
+AllChangeNothing s input =
+    (done rest : List (List ℕ)) (line : List ℕ) → AreLinesOf input (done ++ line ∷ rest) → ChangesNothing s line
 
 -- nothing of it is ahead
 abbrev pub IsReadWhole : Option (List ℕ) → Option (List ℕ) → Type 0
@@ -55,7 +61,9 @@ module _ {S : Type 0} (g : Ghosts S) (desk : DeskValue S) (s : Operator) where
   abbrev pub EndsAfter : List Call → Option DeskFault → Type 0
   EndsAfter calls None = IsAt g desk (after s calls)
   EndsAfter calls (Some NoMemory) = IsAt g desk (after s calls)
-  EndsAfter calls (Some StoreFailed) = IsTrue desk.is_stopped × (c : Call) × IsCall c × AllLeft (desk_state g desk) (TreesStandForEither (after s calls) (after s (calls ++ c ∷ [])))
+  EndsAfter calls (Some StoreFailed) =
+      IsTrue desk.is_stopped × (c : Call) × IsCall c
+      × AllLeft (desk_state g desk) (TreesStandForEither (after s calls) (after s (calls ++ c ∷ [])))
   EndsAfter calls (Some Stopped) = ⊥
 
   -- some requests were served
@@ -90,14 +98,14 @@ module _ {S : Type 0} (g : Ghosts S) (desk : DeskValue S) (s : Operator) where
       pub unended : IsFree front
       pub before : Answered old new done calls
 
-    -- the lines before are answered; for the next one memory was refused, and it changed nothing
+    -- the lines before are answered; for the request of the next one memory was refused, and it changed nothing
     pub record WantsMemory : Type 0 where
       pub done : List (List ℕ)
       pub line : List ℕ
       pub rest : List (List ℕ)
       pub calls : List (Option Call)
       pub text : AreLinesOf input (done ++ line ∷ rest)
-      pub short : length line ≤ line_length
+      pub spelled : SpellsRequest line
       pub before : Answered old new done calls
 
     -- nothing was read or written, and nothing served
@@ -120,7 +128,7 @@ module _ {S : Type 0} (g : Ghosts S) (desk : DeskValue S) (s : Operator) where
       pub short : count < length (answer (after_lines s calls) call)
       pub written : Appends old new (answers s calls ++ take count (answer (after_lines s calls) call))
 
-    -- the lines before are answered; the store failed at the next one: what it holds stands for the operator before or after that
+    -- the lines before are answered; the store failed at the next one
     pub record FailsAt : Type 0 where
       pub done : List (List ℕ)
       pub line : List ℕ
@@ -131,7 +139,7 @@ module _ {S : Type 0} (g : Ghosts S) (desk : DeskValue S) (s : Operator) where
       pub read : AreReadAs done calls
       pub next : IsReadAs line (Some call)
       pub stopped : IsTrue desk.is_stopped
-      pub left : AllLeft (desk_state g desk) (TreesStandForEither (after_lines s calls) (step (after_lines s calls) call.0 call.1).1)
+      pub left : LeavesEither g desk (after_lines s calls) call
       pub written : Appends old new (answers s calls)
 
     -- what stands after each fault; the buffers want memory before the first line

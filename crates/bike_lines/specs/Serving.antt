@@ -1,24 +1,29 @@
 -- What serving one line leaves, and what it replies.
-use Rattle.std.specs.Prelude.{◌≡◌, ℕ, ◌≤◌, IsTrue, false, List, length, Option, Some, Result, Ok, Err}
+use Rattle.std.specs.Prelude.{◌≡◌, ◌≢◌, ℕ, ◌≤◌, IsTrue, false, List, Option, Some, Result, Ok, Err}
 use Rattle.sqlite.specs.Store.{Ghosts}
 use Rattle.sqlite.specs.State.{HasCleanDisk}
 use Rattle.sqlite_trees.specs.View.{doubt}
 use Rattle.bike_commands.specs.declared.reply.Reply.{Reply}
-use Rattle.bike_commands.specs.Requests.{line_length}
+use Rattle.bike_requests.specs.Spelling.{SpellsRequest}
 use Rattle.bike_operator.specs.Operator.{Operator}
 use Rattle.bike_operator.specs.Runs.{Call, step}
 use Rattle.bike_schema.specs.Stands.{AllLeft}
 use Rattle.bike_desk.specs.Desk.{DeskValue, desk_state, IsAt, TreesStandForEither}
 use Rattle.bike_desk.specs.declared.fault.DeskFault.{DeskFault}
 use Rattle.bike_desk.specs.declared.fault.DeskFault.TheVariants.{NoMemory, StoreFailed, Stopped}
-use Rattle.bike_lines.specs.Answers.{IsReadAs, reply_to, after_line}
+use Rattle.bike_lines.specs.Answers.{IsReadAs, ChangesNothing, reply_to, after_line}
+
+-- what a crash may leave stands for the operator before or after the request
+abbrev pub LeavesEither : {S : Type 0} → Ghosts S → DeskValue S → Operator → Call → Type 0
+LeavesEither g desk s c = AllLeft (desk_state g desk) (TreesStandForEither s (step s c.0 c.1).1)
 
 module _ {S : Type 0} (g : Ghosts S) (old new : DeskValue S) where
-  -- on a clean disk: the desk at an operator gives its reply to what the line is read as, or fails at the request that it spells
+  -- on a clean disk: the desk at an operator gives its reply to what the line is read as, or fails at the request of it
   abbrev pub RepliesAt : List ℕ → Operator → Result Reply DeskFault → Type 0
-  RepliesAt line s (Ok reply) = (c : Option Call) × IsReadAs line c × (reply ≡ reply_to s c) × IsAt g new (after_line s c)
-  RepliesAt line s (Err NoMemory) = (length line ≤ line_length) × IsAt g new s
-  RepliesAt line s (Err StoreFailed) = (c : Call) × IsReadAs line (Some c) × AllLeft (desk_state g new) (TreesStandForEither s (step s c.0 c.1).1)
+  RepliesAt line s (Ok reply) =
+      (c : Option Call) × IsReadAs line c × (reply ≡ reply_to s c) × IsAt g new (after_line s c)
+  RepliesAt line s (Err NoMemory) = SpellsRequest line × IsAt g new s
+  RepliesAt line s (Err StoreFailed) = (c : Call) × IsReadAs line (Some c) × LeavesEither g new s c
   RepliesAt line s (Err Stopped) = ⊥
 
   -- whatever the disk: only a failed store stops a desk, and only a stopped desk tells that
@@ -28,8 +33,14 @@ module _ {S : Type 0} (g : Ghosts S) (old new : DeskValue S) where
   GoesOn (Err StoreFailed) = IsTrue new.is_stopped
   GoesOn (Err Stopped) = ⊥
 
+  -- the database is as it was
+  abbrev pub KeepsDatabase : Type 0
+  KeepsDatabase = (desk_state g new).now ≡ (desk_state g old).now
+
   -- A line is served.
   pub record RepliesTo (line : List ℕ) (result : Result Reply DeskFault) : Type 0 where
     pub clean : doubt (desk_state g old).is_clean ≤ doubt (desk_state g new).is_clean
     pub goes_on : old.is_stopped ≡ false → GoesOn result
     pub replied : HasCleanDisk (desk_state g new) → (s : Operator) → IsAt g old s → RepliesAt line s result
+    pub rests : HasCleanDisk (desk_state g new) → (s : Operator) → IsAt g old s → ChangesNothing s line
+        → result ≢ Err StoreFailed → KeepsDatabase

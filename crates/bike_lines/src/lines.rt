@@ -1,13 +1,13 @@
 //! Serving an input of request lines.
 
-ghost use Rattle.std.specs.Prelude.{◌≡◌, ◌≤◌, ◌++◌, ◌∷◌, [], Err};
+ghost use Rattle.std.specs.Prelude.{◌≡◌, ◌≢◌, ◌≤◌, ◌++◌, ◌∷◌, [], Err};
 ghost use Rattle.std.specs.Io.KnownBytes.{Keeps};
 ghost use Rattle.sqlite_trees.specs.View.{doubt};
 ghost use Rattle.bike_commands.specs.Replies.{reply_text};
 ghost use Rattle.bike_desk.specs.Desk.{desk_state, OfOperator};
 ghost use Rattle.bike_desk.specs.Runs.{StopsBy};
-ghost use Rattle.bike_lines.specs.Serving.{RepliesTo};
-ghost use Rattle.bike_lines.specs.Runs.{desk_fault, RanLines, ServesSome};
+ghost use Rattle.bike_lines.specs.Serving.{KeepsDatabase, RepliesTo};
+ghost use Rattle.bike_lines.specs.Runs.{AllChangeNothing, desk_fault, RanLines, ServesSome};
 
 use crate::fault::LinesFault;
 use arrayvec::ArrayString;
@@ -42,10 +42,6 @@ fn answer_text(reply: &Reply) -> ArrayString<ANSWER_LENGTH>
 fn reply_to<S: Alter>(alloc: Global, desk: &mut Desk<S>, line: &[u8]) -> Result<Reply, DeskFault>
     ensures { RepliesTo S.Store desk.old desk.new line.now result }
 {
-    // Reading a line that is too long would take no memory either; here it can't.
-    if line.len() > LINE_LENGTH {
-        return Ok(Reply::Refused(Refusal::BadField));
-    }
     let Some(call) = read_line(alloc, line)? else {
         return Ok(Reply::Refused(Refusal::BadField));
     };
@@ -60,8 +56,12 @@ fn reply_to<S: Alter>(alloc: Global, desk: &mut Desk<S>, line: &[u8]) -> Result<
 /// answered `refused⇥11⇥bad_field`. The lines are the parts between line feeds, the last one where it isn't
 /// empty. Answers how many lines were served.
 ///
-/// Memory is taken for one line and one read of 65,536 bytes, whatever the input's length; where that is
-/// refused the fault is `Desk(NoMemory)`. A stopped desk answers `Desk(Stopped)` before anything is read.
+/// Lines of which each changes nothing of the operator, since it is refused or comes again, change nothing of the
+/// database.
+///
+/// Memory is taken for one line and one read of 65,536 bytes, whatever the input's length, and then for lines that
+/// spell a request alone; where it is refused the fault is `Desk(NoMemory)`. A stopped desk answers `Desk(Stopped)`
+/// before anything is read.
 pub fn run_lines<S: Alter, R: Read, W: Write>(
     alloc: Global,
     desk: &mut Desk<S>,
@@ -73,6 +73,9 @@ pub fn run_lines<S: Alter, R: Read, W: Write>(
         RanLines S.Store desk.new s (R.remaining reader.old) (R.remaining reader.new)
         (W.contents writer.old) (W.contents writer.new) result) }
     ensures kept { OfOperator S.Store desk.old desk.new (λ s. ServesSome S.Store desk.new s (desk_fault result)) }
+    ensures rests { OfOperator S.Store desk.old desk.new (λ s.
+        AllChangeNothing s (R.remaining reader.old) → result ≢ Err (LinesFault.Desk DeskFault.StoreFailed)
+        → KeepsDatabase S.Store desk.old desk.new) }
     ensures stops { StopsBy desk.old desk.new (desk_fault result) }
     ensures refused { result ≡ Err (LinesFault.Desk DeskFault.Stopped)
         → Keeps (R.remaining reader.old) (R.remaining reader.new)

@@ -2,7 +2,7 @@ mod SumLaw
 mod TextLemmas
 mod InfoLemmas
 mod TypeLemmas
-mod TallyLemmas
+pub mod TallyLemmas
 mod StatusLemmas
 mod CountRows
 mod AfterLaw

@@ -1,5 +1,5 @@
 -- What is read of the rows of a page: its stations, with their counts or their further names beside.
-use Rattle.std.proofs.Common.{◌≡◌, pos, ℕ, List, ◌∷◌, [], map, take, filter, true, not, Option, Some, None, refl, sym, ap, subst, ◌∙◌}
+use Rattle.std.proofs.Common.{◌≡◌, pos, ℕ, List, ◌∷◌, [], map, take, filter, true, false, not, Option, Some, None, refl, sym, ap, subst, ◌∙◌}
 use Rattle.std.specs.List.{AllZip}
 use Rattle.std.specs.Ordering.{is_lt, is_le}
 use Rattle.std.specs.FinMap as fin
@@ -22,8 +22,6 @@ use Rattle.bike_fleet_reads.specs.declared.stations.DockNumbers.{DockNumbers}
 use Rattle.bike_fleet_reads.specs.Fleet.{dock_numbers_of}
 use Rattle.bike_fleet_reads.specs.Holds.{HoldsDockNumbers, columns_at}
 use Rattle.bike_queries.specs.After.{begins_from, HoldsStation, start_after, station_of}
-use Rattle.bike_feed_texts.specs.Trees.{further_languages}
-use Rattle.bike_feed_texts.proofs.Languages.{no_further_names}
 use Rattle.bike_office_reads.specs.ReadRows.{named_in, owned_name, is_name_within, IsOwnedName}
 use Rattle.bike_office_reads.specs.Within.{rows_within}
 use Rattle.bike_office_reads.proofs.NameLemmas.{names_read}
@@ -100,10 +98,6 @@ nothing_read s after R stations items are ends empty =
 
 -- ---- the whole page
 
-unmapped : {A B : Type 0} (f : A → B) (xs : List A) → map f xs ≡ [] → xs ≡ []
-unmapped f [] none = refl
-unmapped f (x ∷ xs) none = absurd cc
-
 module _ (s : Operator) (m : Listed) (sound : IsSound s) (listing : IsListing s m) (after : Option (List ℕ)) (start : List ℕ) (is : start ≡ start_after after) where
   abbrev page : List (List ℕ × Station)
   page = page_after after s.stations
@@ -128,7 +122,7 @@ module _ (s : Operator) (m : Listed) (sound : IsSound s) (listing : IsListing s 
     statuses_read rows ids items found =
         each_read (ReadsStatus ids) (IsStatusOf s ids) rows items (λ e o x has it reads.
         let own = ap (own_rows e.0) found ∙ own_among start last e.0 (in_page s after start is e has).1 (none_later e has) (stored_count s) (λ c. first_text c.0) (λ c. refl) (fin.entries m.counts) in
-        (subst (IsStationOf e) (sym reads.0) it.0, reads.1 s e sound it.1 (subst (AreCountRows s e.0) (sym own) (counts_listed s m sound listing e.0))))
+        (subst (IsStationOf e) (sym reads.0) it.0, reads.1 s e it.1 (subst (AreCountRows s e.0) (sym own) (counts_listed s m sound listing e.0))))
 
     -- what is read of the rows of names are those names
     named_rows : (rows : List Row) (x : NamedStation) (ns : List (NameKey × List ℕ)) → rows ≡ map owned_name (map stored_name ns) → AllZip IsOwnedName rows x.names.items → x.names.items ≡ map named_in ns
@@ -136,19 +130,17 @@ module _ (s : Operator) (m : Listed) (sound : IsSound s) (listing : IsListing s 
 
     named_of : (rows : List Row) (items : List NamedStation)
         → ((e : List ℕ × Station) → Has page e → own_rows e.0 rows ≡ map owned_name (map stored_name (filter (λ n. is_name_of named.Station e.0 n.0) (fin.entries s.more_names))))
-        → AllZip (λ o x. ReadsNamed o (own_rows (id_of o) rows) x) stations items → AreNamedStations s page items
+        → AllZip (λ o x. ReadsNamed o (own_rows (id_of o) rows) x) stations items → AreNamedStations true s page items
     named_of rows items own =
-        each_read ReadsNamed (IsNamedStation s) rows items (λ e o x has it reads.
+        each_read ReadsNamed (IsNamedStation true s) rows items (λ e o x has it reads.
         (subst (IsStationOf e) (sym reads.0) it.0, named_rows (own_rows e.0 rows) x _ (own e has) reads.1))
 
     pub named_read : (rows : List Row) (items : List NamedStation) → rows ≡ map owned_name (filter (is_name_within named.Station start last) (rows_of s m MoreNames))
-        → AllZip (λ o x. ReadsNamed o (own_rows (id_of o) rows) x) stations items → AreNamedStations s page items
+        → AllZip (λ o x. ReadsNamed o (own_rows (id_of o) rows) x) stations items → AreNamedStations true s page items
     named_read rows items found =
         named_of rows items (λ e has. ap (own_rows e.0) found ∙ own_names start last e.0 (in_page s after start is e has).1 (none_later e has) (fin.entries s.more_names))
 
-    -- there are no names
-    pub unnamed_read : (items : List NamedStation) → further_languages s ≡ [] → AllZip (λ o x. ReadsNamed o (own_rows (id_of o) []) x) stations items → AreNamedStations s page items
-    unnamed_read items none = named_of [] items (λ e has. sym (ap (λ ns. map owned_name (map stored_name ns)) (no_names none e)))
-      where
-        no_names : further_languages s ≡ [] → (e : List ℕ × Station) → filter (λ n. is_name_of named.Station e.0 n.0) (fin.entries s.more_names) ≡ []
-        no_names none e = unmapped _ _ (no_further_names s named.Station e.0 none)
+    -- no names are asked for
+    pub unnamed_read : (items : List NamedStation) → AllZip (λ o x. ReadsNamed o (own_rows (id_of o) []) x) stations items → AreNamedStations false s page items
+    unnamed_read items =
+        each_read ReadsNamed (IsNamedStation false s) [] items (λ e o x has it reads. (subst (IsStationOf e) (sym reads.0) it.0, names_read [] x.names.items reads.1))

@@ -13,7 +13,7 @@ use Rattle.bike_fleet_reads.specs.declared.stations.DockNumbers.{DockNumbers}
 use Rattle.bike_fleet_reads.specs.Fleet.{dock_numbers_of, type_counts_of}
 use Rattle.bike_queries.specs.declared.counts.Tally.{Tally}
 use Rattle.bike_queries.specs.declared.counts.Counts.{Counts}
-use Rattle.bike_queries.specs.StationCounts.{type_count, counts_with, IsTally, Adds, AreCountsFor}
+use Rattle.bike_queries.specs.StationCounts.{type_count, counts_with, IsTally, Adds, AreCountsFor, AreCountsOf, AreCountsOfTypes}
 use Rattle.bike_queries.proofs.SumLaw.{sum_last, available_sum, disabled_sum}
 
 module _ (s : Operator) (station : List ℕ) where
@@ -44,19 +44,33 @@ module _ (s : Operator) (station : List ℕ) where
   pub all_counted : (ids : List (List ℕ)) (i : ℕ) (t : Tally) → length ids ≤ i → IsTally s station (take i ids) t → IsTally s station ids t
   all_counted ids i t end was = subst (λ front. IsTally s station front t) (take_all i ids end) was
 
+  pub types_shown : (x : Station) (docks : DockNumbers) (ids : List (List ℕ)) (t : Tally) (c : Counts)
+      → docks ≡ dock_numbers_of s station x → IsTally s station ids t → c ≡ counts_with docks t → AreCountsOfTypes s station x ids c
+  types_shown x docks ids t c docks_are tally shown = record {
+    available = ap (λ (y : Counts). y.available) shown ∙ tally.available;
+    by_type = ap (λ (y : Counts). y.by_type.items) shown ∙ tally.by_type;
+    disabled = ap (λ (y : Counts). y.disabled) shown ∙ tally.disabled;
+    docks_available = ap (λ (y : Counts). y.docks_available) shown ∙ ap (λ (d : DockNumbers). d.free) docks_are;
+    docks_disabled = ap (λ (y : Counts). y.docks_disabled) shown ∙ ap (λ (d : DockNumbers). d.broken) docks_are;
+  }
+
+  -- the counts of all types are those of the station
+  pub all_types : IsSound s → (x : Station) (ids : List (List ℕ)) (c : Counts) → ids ≡ fin.keys s.types → AreCountsOfTypes s station x ids c → AreCountsOf s station x c
+  all_types sound x ids c named are =
+      let all : AreCountsOfTypes s station x (fin.keys s.types) c = subst (λ k. AreCountsOfTypes s station x k c) named are in
+      record {
+        available = all.available ∙ available_sum s sound station;
+        by_type = all.by_type;
+        disabled = all.disabled ∙ disabled_sum s sound station;
+        docks_available = all.docks_available;
+        docks_disabled = all.docks_disabled;
+      }
+
   pub counts_shown : IsSound s → (o : Option Station) (docks : DockNumbers) (ids : List (List ℕ)) (t : Tally) (c : Counts)
       → Some docks ≡ option_map (dock_numbers_of s station) o → ids ≡ fin.keys s.types → IsTally s station ids t → c ≡ counts_with docks t → AreCountsFor s station o (Some c)
   counts_shown sound None docks ids t c is named tally shown = absurd cc
   counts_shown sound (Some x) docks ids t c is named tally shown =
-      let docks_are = same_Some docks (dock_numbers_of s station x) is in
-      let all : IsTally s station (fin.keys s.types) t = subst (λ k. IsTally s station k t) named tally in
-      record {
-        available = ap (λ (y : Counts). y.available) shown ∙ all.available ∙ available_sum s sound station;
-        by_type = ap (λ (y : Counts). y.by_type.items) shown ∙ all.by_type;
-        disabled = ap (λ (y : Counts). y.disabled) shown ∙ all.disabled ∙ disabled_sum s sound station;
-        docks_available = ap (λ (y : Counts). y.docks_available) shown ∙ ap (λ (d : DockNumbers). d.free) docks_are;
-        docks_disabled = ap (λ (y : Counts). y.docks_disabled) shown ∙ ap (λ (d : DockNumbers). d.broken) docks_are;
-      }
+      all_types sound x ids c named (types_shown x docks ids t c (same_Some docks (dock_numbers_of s station x) is) tally shown)
 
   pub no_counts_shown : (o : Option Station) → None ≡ option_map (dock_numbers_of s station) o → AreCountsFor s station o None
   no_counts_shown None is = tt

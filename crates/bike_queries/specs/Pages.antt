@@ -1,18 +1,17 @@
 -- A page of stations: the first ones of those that come next, each with the rows of other tables that are its own.
-use Rattle.std.specs.Prelude.{◌≡◌, ◌++◌, ℕ, List, [], ◌∷◌, Bool, false, take, filter, Option, Some, None}
+use Rattle.std.specs.Prelude.{◌≡◌, ◌++◌, ℕ, List, [], ◌∷◌, Bool, false, take, filter, Option, Some, None, if◌then◌else◌}
 use Rattle.std.specs.List.{AllZip}
 use Rattle.std.specs.Ordering.{is_lt}
 use Rattle.std.specs.Str.{bytes_eq}
-use Rattle.std.specs.FinMap as fin
 use Rattle.std.specs.FinMap.{FinMap, entries}
 use Rattle.sqlite_rules.specs.Lists.{Has}
 use Rattle.sqlite_value.specs.declared.value.Value.{Value}
 use Rattle.sqlite_value.specs.declared.value.Value.TheVariants.{Text}
 use Rattle.sqlite_value.specs.Order.{Row, column}
+use Rattle.bike_catalogue.specs.Rows.{MoreNameRow}
 use Rattle.bike_operator.specs.NameKind.TheVariants as named
 use Rattle.bike_operator.specs.Names.{further_names}
 use Rattle.bike_operator.specs.Operator.{Operator, Station, text_cmp}
-use Rattle.bike_operator.specs.Sound.{IsSound}
 use Rattle.bike_fleet_reads.specs.Fleet.{dock_numbers_of}
 use Rattle.bike_fleet_reads.specs.Holds.{HoldsDockNumbers}
 use Rattle.bike_office_reads.specs.ReadRows.{IsOwnedName}
@@ -23,7 +22,7 @@ use Rattle.bike_queries.specs.declared.stations.StoredStation.{StoredStation}
 use Rattle.bike_queries.specs.declared.stations.NamedStation.{NamedStation}
 use Rattle.bike_queries.specs.declared.status.StationStatus.{StationStatus}
 use Rattle.bike_queries.specs.After.{HoldsStation, station_of}
-use Rattle.bike_queries.specs.StationCounts.{AreCountRows, AreCountsOf}
+use Rattle.bike_queries.specs.StationCounts.{AreCountRows, AreCountsOfTypes}
 
 -- ---- what comes next
 
@@ -40,19 +39,23 @@ page_after after m = take STATIONS_A_PAGE (entries_after after m)
 abbrev pub IsStationOf : List ℕ × Station → StationInfo → Type 0
 IsStationOf e x = (station_of x ≡ e.1) × (x.station.station_id ≡ e.0)
 
--- with its counts, where these are the identifiers of the types
+-- with its counts, of its bicycles of the types with these identifiers
 abbrev pub IsStatusOf : Operator → List (List ℕ) → List ℕ × Station → StationStatus → Type 0
-IsStatusOf s type_ids e x = IsStationOf e x.info × (type_ids ≡ fin.keys s.types → AreCountsOf s e.0 e.1 x.counts)
+IsStatusOf s type_ids e x = IsStationOf e x.info × AreCountsOfTypes s e.0 e.1 type_ids x.counts
 
 abbrev pub AreStatuses : Operator → List (List ℕ) → List (List ℕ × Station) → List StationStatus → Type 0
 AreStatuses s type_ids = AllZip (IsStatusOf s type_ids)
 
--- with its further names
-abbrev pub IsNamedStation : Operator → List ℕ × Station → NamedStation → Type 0
-IsNamedStation s e x = IsStationOf e x.info × (x.names.items ≡ further_names s named.Station e.0)
+-- its further names where they are asked for, else none
+abbrev pub names_asked : Bool → Operator → List ℕ → List MoreNameRow
+names_asked translated s station = if translated then further_names s named.Station station else []
 
-abbrev pub AreNamedStations : Operator → List (List ℕ × Station) → List NamedStation → Type 0
-AreNamedStations s = AllZip (IsNamedStation s)
+-- with the names that are asked for
+abbrev pub IsNamedStation : Bool → Operator → List ℕ × Station → NamedStation → Type 0
+IsNamedStation translated s e x = IsStationOf e x.info × (x.names.items ≡ names_asked translated s e.0)
+
+abbrev pub AreNamedStations : Bool → Operator → List (List ℕ × Station) → List NamedStation → Type 0
+AreNamedStations translated s = AllZip (IsNamedStation translated s)
 
 -- whether there are names in further languages: where it is told that there are none, that is so
 abbrev pub IsTold : Bool → Operator → Type 0
@@ -106,7 +109,8 @@ AreApart id (x ∷ xs) = ((y : _) → Has xs y → (bytes_eq (id x) (id y) ≡ f
 abbrev pub ReadsStatus : List (List ℕ) → StoredStation → List Row → StationStatus → Type 0
 ReadsStatus type_ids station own x =
     (x.info ≡ station.info)
-    × ((s : Operator) (e : List ℕ × Station) → IsSound s → station.docks ≡ dock_numbers_of s e.0 e.1 → AreCountRows s e.0 own → type_ids ≡ fin.keys s.types → AreCountsOf s e.0 e.1 x.counts)
+    × ((s : Operator) (e : List ℕ × Station) → station.docks ≡ dock_numbers_of s e.0 e.1 → AreCountRows s e.0 own
+    → AreCountsOfTypes s e.0 e.1 type_ids x.counts)
 
 -- its further names
 abbrev pub ReadsNamed : StoredStation → List Row → NamedStation → Type 0

@@ -56,6 +56,14 @@ counts_with docks t = record {
   docks_disabled = docks.broken;
 }
 
+-- The counts of the docks of a station that is there, and of its bicycles of these types, in the order of the types.
+pub record AreCountsOfTypes (s : Operator) (station : List ℕ) (x : Station) (type_ids : List (List ℕ)) (c : Counts) : Type 0 where
+  pub available : c.available ≡ sum_by (available_of s station) type_ids
+  pub by_type : c.by_type.items ≡ map (type_count s station) type_ids
+  pub disabled : c.disabled ≡ sum_by (disabled_of s station) type_ids
+  pub docks_available : c.docks_available ≡ docks_available s station x.row.docks
+  pub docks_disabled : c.docks_disabled ≡ docks_broken s station x.row.docks
+
 -- The counts of a station that is there, each type's in the order of the types' identifiers.
 pub record AreCountsOf (s : Operator) (station : List ℕ) (x : Station) (c : Counts) : Type 0 where
   pub available : c.available ≡ available s station

@@ -8,7 +8,7 @@ ghost use Rattle.bike_schema.specs.Tables.{IsOurs, tables_of};
 ghost use Rattle.bike_fleet_reads.specs.Holds.{HoldsDockNumbers};
 ghost use Rattle.bike_queries.specs.declared.pages.TheConstants.{STATIONS_A_PAGE};
 ghost use Rattle.bike_queries.specs.After.{HoldsStation, begins_from, station_of};
-ghost use Rattle.bike_queries.specs.Pages.{AreNamedStations, ArePage, IsTold, ReadsNamed, ReadsStation, id_of, page_after};
+ghost use Rattle.bike_queries.specs.Pages.{AreNamedStations, ArePage, ReadsNamed, ReadsStation, id_of, page_after};
 
 use crate::after::start_of;
 use crate::columns::{micro_at, whole_at};
@@ -178,17 +178,17 @@ impl OwnerReader for NamedReader {
     }
 }
 
-/// The next stations whose identifiers come after this one, or the first of all, with their further names: as many as a page holds,
-/// by one statement, and by a second for the names where there are any. `NoMemory` where a text finds no room; every other fault
-/// is the database's.
+/// The next stations whose identifiers come after this one, or the first of all, as many as a page holds, by one statement. With
+/// `translated` each has its further names, by a second statement; else none has any. `NoMemory` where a text finds no room; every
+/// other fault is the database's.
 pub fn find_stations_after<S: Alter>(
     alloc: Global,
     conn: &mut Connection<S>,
     after: Option<&Ident>,
     translated: bool,
 ) -> Result<VecDeque<NamedStation>, StatementFault>
-    ensures { Answers S.Store conn.old conn.new result (λ s m page. IsTold translated s
-        → AreNamedStations s (page_after (option_map (λ id. id.now) after.entry) s.stations) page.items) }
+    ensures { Answers S.Store conn.old conn.new result (λ s m page.
+        AreNamedStations translated s (page_after (option_map (λ id. id.now) after.entry) s.stations) page.items) }
 {
     let stations = select_stations(alloc, conn, after)?;
     let Some(last) = last_id(stations.as_slice()) else {

@@ -7,6 +7,7 @@ ghost use Rattle.bike_fixed.specs.declared.cents.TheConstants.{GREATEST_FARE};
 ghost use Rattle.bike_fields.specs.declared.numbers.TheConstants as number;
 ghost use Rattle.bike_fields.specs.declared.text_lengths.TheConstants as text;
 ghost use Rattle.bike_catalogue.specs.declared.limits.TheConstants as catalogue;
+ghost use Rattle.bike_fares.specs.declared.elapsed.TheConstants as rental;
 ghost use Rattle.bike_ledger.specs.declared.sums.TheConstants.{GREATEST_BALANCE};
 ghost use Rattle.bike_commands.specs.declared.request.TheConstants.{LINE_LENGTH};
 ghost use Rattle.bike_operator.specs.declared.limits.TheConstants as limit;
@@ -18,6 +19,8 @@ ghost use Rattle.bike_incoming.specs.declared.input.TheConstants as http;
 ghost use Rattle.bike_lines.specs.declared.lines.TheConstants as lines;
 ghost use Rattle.bike_imports.specs.declared.import.TheConstants.{MOST_ROWS};
 ghost use Rattle.bike_imports.specs.declared.input.TheConstants as csv;
+ghost use Rattle.bike_stream.specs.declared.buffer.TheConstants.{READ_LENGTH};
+ghost use Rattle.bike_queries.specs.declared.pages.TheConstants.{STATIONS_A_PAGE};
 
 /// How many there may be of each record.
 pub fn record_limits()
@@ -53,6 +56,8 @@ pub fn number_bounds()
     ensures moment { LAST_MOMENT ≡ 253402300799 }
     ensures fare { GREATEST_FARE ≡ pos 34561800000 }
     ensures balance { GREATEST_BALANCE ≡ pos 3456179965438200000 }
+    ensures charged_seconds { rental.LONGEST ≡ 2592000 }
+    ensures charged_minutes { rental.MINUTES ≡ 43201 }
 {}
 
 /// The lengths of texts in bytes.
@@ -69,11 +74,14 @@ pub fn text_bounds()
     ensures body { BODY_LENGTH ≡ 16384 }
 {}
 
-/// How many reads of its input one call makes at most, and how many rows an import has.
+/// How many reads of its input one call makes at most, how many bytes one read of lines asks for, how many rows an import has,
+/// and how many stations a page of a feed.
 pub fn input_bounds()
     ensures http_reads { http.MOST_READS ≡ 20000 }
     ensures line_reads { lines.MOST_READS ≡ 1000000000 }
     ensures import_reads { csv.MOST_READS ≡ 1000000 }
     ensures import_record { csv.MOST_RECORD ≡ 65536 }
     ensures import_rows { MOST_ROWS ≡ 1000000 }
+    ensures line_read { READ_LENGTH ≡ 65536 }
+    ensures page { STATIONS_A_PAGE ≡ 64 }
 {}

@@ -1,4 +1,4 @@
-use Rattle.std.proofs.Common.{refl, arith, ◌∙◌}
+use Rattle.std.proofs.Common.{refl, arith, ◌∙◌, true}
 use Rattle.std.specs.Prelude.{None, Some, option_map}
 use Rattle.bike_queries.specs.After.{station_of}
 use Rattle.bike_queries.specs.Pages.{IsNamedStation}
@@ -27,12 +27,12 @@ pub stations-init : goal.stations-init
 stations-init g c = (
   walk_begins g.S.Store (stations c.args.system.now) c.in_ok-next.next (option_map (λ x. station_of x.info) c.in_ok-next.next)
       (begins_asked g.S.Store (stations c.args.system.now) c.in_ok-translated.translated c.requires.going c.requires.place.0 (λ s. refl) c.in_ok-translated.ensures) c.in_ok-next.ensures
-      (λ clean s at says. next_is (IsNamedStation s) (λ x. station_of x.info) (λ e x is. is.0) s None _ _
-      (says ((told_begins g.S.Store c.in_ok-translated.translated c.in_ok-translated.ensures c.in_ok-next.ensures).are clean s at) (none_ahead (IsNamedStation s) s None _ c.new-page.ensures.items))),
+      (λ clean s at says. next_is (IsNamedStation true s) (λ x. station_of x.info) (λ e x is. is.0) s None _ _
+      (says ((told_begins g.S.Store c.in_ok-translated.translated c.in_ok-translated.ensures c.in_ok-next.ensures).are clean s at) (none_ahead (IsNamedStation true s) s None _ c.new-page.ensures.items))),
   told_begins g.S.Store c.in_ok-translated.translated c.in_ok-translated.ensures c.in_ok-next.ensures,
-  ahead_asked g.S.Store IsNamedStation c.in_ok-next.next None _ _
+  ahead_asked g.S.Store (IsNamedStation true) c.in_ok-next.next None _ _
       (stays_asked g.S.Store c.in_ok-translated.translated c.requires.going c.in_ok-translated.ensures) c.in_ok-next.ensures
-      (λ clean s at says. says ((told_begins g.S.Store c.in_ok-translated.translated c.in_ok-translated.ensures c.in_ok-next.ensures).are clean s at) (none_ahead (IsNamedStation s) s None _ c.new-page.ensures.items)),
+      (λ clean s at says. says ((told_begins g.S.Store c.in_ok-translated.translated c.in_ok-translated.ensures c.in_ok-next.ensures).are clean s at) (none_ahead (IsNamedStation true s) s None _ c.new-page.ensures.items)),
 )
 
 pub returns-in_default : goal.returns-in_default
@@ -58,12 +58,12 @@ stations-preserved g c = (
       (station_writes g.S.Store c.args.system.now c.in-Some.named (rw c.in-Some.is at c.stations.invariant.0) (rw c.in-Some.is at c.stations.invariant.2)
       c.in_ok-write_named.ensures.wrote c.in_ok-write_named.ensures.place)
       c.in_ok-next-2.ensures c.station_id-station.ensures
-      (λ clean s at says. next_is (IsNamedStation s) (λ x. station_of x.info) (λ e x is. is.0) s (Some c.station_id-station.result.now) _ _
-      (says (told_asked g.S.Store c.stations.invariant.1 c.in_ok-next-2.ensures clean s at) (still_ahead g.S.Store IsNamedStation c.in-Some.named _ c.station_id-station.result.now
+      (λ clean s at says. next_is (IsNamedStation true s) (λ x. station_of x.info) (λ e x is. is.0) s (Some c.station_id-station.result.now) _ _
+      (says (told_asked g.S.Store c.stations.invariant.1 c.in_ok-next-2.ensures clean s at) (still_ahead g.S.Store (IsNamedStation true) c.in-Some.named _ c.station_id-station.result.now
       (λ s e is. c.station_id-station.ensures ∙ is.0.1) (rw c.in-Some.is at c.stations.invariant.2) c.in_ok-next-2.ensures clean s at))),
   told_later g.S.Store c.stations.invariant.1 c.in_ok-next-2.ensures.clean,
-  ahead_asked g.S.Store IsNamedStation c.in_ok-next-2.next (Some c.station_id-station.result.now) _ _ c.stations.invariant.0.stays c.in_ok-next-2.ensures
-      (λ clean s at says. says (told_asked g.S.Store c.stations.invariant.1 c.in_ok-next-2.ensures clean s at) (still_ahead g.S.Store IsNamedStation c.in-Some.named _ c.station_id-station.result.now
+  ahead_asked g.S.Store (IsNamedStation true) c.in_ok-next-2.next (Some c.station_id-station.result.now) _ _ c.stations.invariant.0.stays c.in_ok-next-2.ensures
+      (λ clean s at says. says (told_asked g.S.Store c.stations.invariant.1 c.in_ok-next-2.ensures clean s at) (still_ahead g.S.Store (IsNamedStation true) c.in-Some.named _ c.station_id-station.result.now
       (λ s e is. c.station_id-station.ensures ∙ is.0.1) (rw c.in-Some.is at c.stations.invariant.2) c.in_ok-next-2.ensures clean s at)),
 )
 

@@ -6,4 +6,4 @@ use Rattle.bike_imports.proofs.table.open_table.Goals as goal
 pub returns-clause-start : goal.returns-clause-start
 returns-clause-start g c =
     starts (λ input. g.R.Read.remaining input.reader) (g.R.Read.remaining c.args.reader) c.from_reader.result
-    (c.from_reader.ensures.source ∙ ap (λ reader. option_map strip_bom (g.R.Read.remaining reader)) c.new-2.ensures) c.from_reader.ensures.state
+    (c.from_reader.ensures.source ∙ ap (λ reader. option_map strip_bom (g.R.Read.remaining reader)) c.new-2.ensures.reader) c.from_reader.ensures.state

@@ -1,12 +1,12 @@
-use Rattle.std.proofs.Common.{◌≡◌, ℕ, List, Ok, ◌++◌, ◌∷◌, [], Err, arith, ap, sym, subst, ◌∙◌}
+use Rattle.std.proofs.Common.{◌≡◌, ℕ, List, Ok, ◌++◌, ◌∷◌, [], Err, arith, ap, refl, sym, subst, ◌∙◌}
 use Rattle.sqlite.specs.State.{HasCleanDisk}
 use Rattle.bike_commands.specs.Replies.{reply_text}
 use Rattle.bike_desk.specs.Desk.{desk_state}
 use Rattle.bike_lines.specs.declared.lines.TheConstants.{MOST_READS}
-use Rattle.bike_lines.specs.Answers.{after_lines}
+use Rattle.bike_lines.specs.Answers.{after_lines, ChangesNothing}
 use Rattle.bike_lines.specs.Serving.{RepliesAt}
 use Rattle.bike_lines.specs.Runs.{RanLines}
-use Rattle.bike_lines.proofs.RunLemmas.{running_begins, running_replied, running_written, running_refused, running_unread, running_ends, prepend_none, spends_none, spends_line, spends_most, err_is, kept_of}
+use Rattle.bike_lines.proofs.RunLemmas.{running_begins, running_replied, running_written, running_refused, running_unread, running_ends, running_none, running_rests, desk_other, prepend_none, spends_none, spends_line, spends_most, err_is, kept_of}
 use Rattle.bike_lines.proofs.lines.run_lines.Goals as goal
 
 pub loop-line-init : goal.loop-line-init
@@ -16,6 +16,7 @@ loop-line-init g c = record {
   room = rw c.in_ok-buffer.ensures (omega arith);
   spent = rw c.in_ok-buffer.ensures (spends_none (g.R.Read.remaining c.args.reader.now) MOST_READS);
   ran = λ clean s at. running_begins g.S.Store s (g.R.Read.remaining c.args.reader.now) (g.W.Write.contents c.args.writer.now) c.args.desk.now c.in_ok-buffer.buffer c.in_ok-buffer.ensures at;
+  rests = λ clean s at none. record { at = at; same = refl };
 }
 
 pub returns-in_err-next_line-clause-ran : goal.returns-in_err-next_line-clause-ran
@@ -32,6 +33,9 @@ returns-in_err-next_line-clause-ran g c clean s at =
 pub returns-in_err-next_line-clause-kept : goal.returns-in_err-next_line-clause-kept
 returns-in_err-next_line-clause-kept g c clean s at = kept_of g.S.Store c.loop-line.desk s _ _ _ _ _ (returns-in_err-next_line-clause-ran g c clean s at)
 
+pub returns-in_err-next_line-clause-rests : goal.returns-in_err-next_line-clause-rests
+returns-in_err-next_line-clause-rests g c clean s at none other = (c.loop-line.invariant.rests clean s at none).same
+
 pub returns-in_err-reply-clause-ran : goal.returns-in_err-reply-clause-ran
 returns-in_err-reply-clause-ran g c clean s at =
     let it = c.in_err-reply.ensures in
@@ -45,6 +49,16 @@ returns-in_err-reply-clause-ran g c clean s at =
 
 pub returns-in_err-reply-clause-kept : goal.returns-in_err-reply-clause-kept
 returns-in_err-reply-clause-kept g c clean s at = kept_of g.S.Store c.reply_to.new.desk s _ _ _ _ _ (returns-in_err-reply-clause-ran g c clean s at)
+
+pub returns-in_err-reply-clause-rests : goal.returns-in_err-reply-clause-rests
+returns-in_err-reply-clause-rests g c clean s at none other =
+    let it = c.in_err-reply.ensures in
+    let early : HasCleanDisk (desk_state g.S.Store c.loop-line.desk) = omega (arith, clean, it.clean) in
+    let run = c.loop-line.invariant.ran early s at in
+    let was = c.loop-line.invariant.rests early s at none in
+    let idle = running_none g.S.Store s _ _ c.loop-line.desk _ _ c.loop-line.count run c.reply_to.new.desk _ 4097 (omega arith) c.next_line.new.line (rw c.if-branch.true at c.in_ok-next_line.ensures.taken) none in
+    it.rests clean s was.at (subst (ChangesNothing s) (sym c.as_slice.ensures) idle)
+    (desk_other _ c.in_err-reply.field-0.0 (Err c.in_err-reply.field-0.0) (err_is _ _ c.from_residual-in_err-reply.ensures.1) refl other) ∙ was.same
 
 pub returns-in_err-write_whole-clause-ran : goal.returns-in_err-write_whole-clause-ran
 returns-in_err-write_whole-clause-ran g c clean s at =
@@ -60,6 +74,15 @@ returns-in_err-write_whole-clause-ran g c clean s at =
 
 pub returns-in_err-write_whole-clause-kept : goal.returns-in_err-write_whole-clause-kept
 returns-in_err-write_whole-clause-kept g c clean s at = kept_of g.S.Store c.reply_to.new.desk s _ _ _ _ _ (returns-in_err-write_whole-clause-ran g c clean s at)
+
+pub returns-in_err-write_whole-clause-rests : goal.returns-in_err-write_whole-clause-rests
+returns-in_err-write_whole-clause-rests g c clean s at none other =
+    let it = c.in_ok-reply.ensures in
+    let early : HasCleanDisk (desk_state g.S.Store c.loop-line.desk) = omega (arith, clean, it.clean) in
+    let run = c.loop-line.invariant.ran early s at in
+    let was = c.loop-line.invariant.rests early s at none in
+    let idle = running_none g.S.Store s _ _ c.loop-line.desk _ _ c.loop-line.count run c.reply_to.new.desk _ 4097 (omega arith) c.next_line.new.line (rw c.if-branch.true at c.in_ok-next_line.ensures.taken) none in
+    it.rests clean s was.at (subst (ChangesNothing s) (sym c.as_slice.ensures) idle) (λ e. cc) ∙ was.same
 
 pub loop-line-preserved : goal.loop-line-preserved
 loop-line-preserved g c =
@@ -80,6 +103,13 @@ loop-line-preserved g c =
           running_replied g.S.Store s _ _ c.loop-line.desk _ _ c.loop-line.count run c.reply_to.new.desk _ 4097 (omega arith) c.next_line.new.line taken _ c.in_ok-reply.reply
           (subst (λ (l : List ℕ). RepliesAt g.S.Store c.loop-line.desk c.reply_to.new.desk l (after_lines s run.calls) (Ok c.in_ok-reply.reply)) c.as_slice.ensures (it.replied clean (after_lines s run.calls) run.before.at))
           (rw bytes at c.in_ok-write_whole.ensures.ok);
+      rests = λ clean s at none.
+          let early : HasCleanDisk (desk_state g.S.Store c.loop-line.desk) = omega (arith, clean, it.clean) in
+          let run = inv.ran early s at in
+          let was = inv.rests early s at none in
+          let idle = running_none g.S.Store s _ _ c.loop-line.desk _ _ c.loop-line.count run c.reply_to.new.desk _ 4097 (omega arith) c.next_line.new.line taken none in let same = it.rests clean s was.at (subst (ChangesNothing s) (sym c.as_slice.ensures) idle) (λ e. cc) in
+          running_rests g.S.Store s _ _ c.loop-line.desk _ _ c.loop-line.count run c.reply_to.new.desk _ 4097 (omega arith) c.next_line.new.line taken c.args.desk.now c.in_ok-reply.reply was idle
+          (subst (λ (l : List ℕ). RepliesAt g.S.Store c.loop-line.desk c.reply_to.new.desk l s (Ok c.in_ok-reply.reply)) c.as_slice.ensures (it.replied clean s was.at)) same;
     }
 
 pub returns-clause-ran : goal.returns-clause-ran
@@ -90,3 +120,6 @@ returns-clause-ran g c clean s at =
 
 pub returns-clause-kept : goal.returns-clause-kept
 returns-clause-kept g c clean s at = kept_of g.S.Store c.loop-line.desk s _ _ _ _ (Ok c.loop-line.count) (returns-clause-ran g c clean s at)
+
+pub returns-clause-rests : goal.returns-clause-rests
+returns-clause-rests g c clean s at none other = (c.loop-line.invariant.rests clean s at none).same

@@ -7,7 +7,8 @@ use Rattle.bike_desk.specs.Desk.{desk_state, IsAt}
 use Rattle.bike_stream.specs.declared.buffer.TheConstants.{READ_LENGTH}
 use Rattle.bike_stream.specs.Reads.{most_ahead}
 use Rattle.bike_lines.specs.declared.lines.TheConstants.{MOST_READS}
-use Rattle.bike_lines.proofs.RunLemmas.{Running, Spends}
+use Rattle.bike_lines.specs.Runs.{AllChangeNothing}
+use Rattle.bike_lines.proofs.RunLemmas.{Running, Rests, Spends}
 use Rattle.bike_lines.proofs.lines.run_lines.Given as goal
 
 -- so many lines are answered; each took a byte, and each read gave one
@@ -22,6 +23,8 @@ invariant-loop-line g l =
       spent : Spends (remaining l.fn.reader) (remaining l.reader) l.buffer MOST_READS l.reads;
       ran : HasCleanDisk (desk_state g.S.Store l.desk) → (s : Operator) → IsAt g.S.Store l.fn.desk s
           → Running g.S.Store l.desk s (remaining l.fn.reader) (prepend_known l.buffer (remaining l.reader)) (contents l.fn.writer) (contents l.writer) l.count;
+      rests : HasCleanDisk (desk_state g.S.Store l.desk) → (s : Operator) → IsAt g.S.Store l.fn.desk s → AllChangeNothing s (remaining l.fn.reader)
+          → Rests g.S.Store l.fn.desk l.desk s;
     }
 
 abbrev pub decreases-loop-line : goal.decreases-loop-line

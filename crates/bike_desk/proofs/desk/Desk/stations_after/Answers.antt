@@ -1,6 +1,6 @@
 use Rattle.std.proofs.Common.{sym, ap, ◌∙◌, subst}
 use Rattle.std.specs.Prelude.{option_map}
-use Rattle.bike_queries.specs.Pages.{AreNamedStations, IsTold, page_after}
+use Rattle.bike_queries.specs.Pages.{AreNamedStations, page_after}
 use Rattle.bike_desk.specs.Desk.{DeskValue}
 use Rattle.bike_desk.specs.Queries.{Queries}
 use Rattle.bike_desk.proofs.QueryLemmas.{queries}
@@ -8,9 +8,9 @@ use Rattle.bike_desk.proofs.desk.Desk.stations_after.Goals as goal
 
 pub returns-clause-query : goal.returns-clause-query
 returns-clause-query g c =
-    let going = ap (λ (d : DeskValue g.row.S.Denot). d.is_stopped) c.self.view_is ∙ sym c.stopped.ensures ∙ c.if-stopped.false in
+    let going = ap (λ (d : DeskValue g.row.S.Denot). d.is_stopped) c.self.view_is ∙ c.in_ok-check_serving.ensures in
     let told = queries g.S.Store c.self.inside.conn c.find_stations_after-read.new.conn c.self.inside.stopped c.self.inside.newest c.self.inside.figures
-    (λ s page. IsTold c.args.translated s → AreNamedStations s (page_after (option_map (λ id. id.now) c.args.after) s.stations) page.items) going
+    (λ s page. AreNamedStations c.args.translated s (page_after (option_map (λ id. id.now) c.args.after) s.stations) page.items) going
     c.find_stations_after-read.result c.answer.new.self c.answer.result c.find_stations_after-read.ensures c.answer.ensures in
     subst (λ (d : DeskValue g.row.S.Denot). Queries g.S.Store d c.answer.new.self c.answer.result
-    (λ s page. IsTold c.args.translated s → AreNamedStations s (page_after (option_map (λ id. id.now) c.args.after) s.stations) page.items)) c.self.view_is told
+    (λ s page. AreNamedStations c.args.translated s (page_after (option_map (λ id. id.now) c.args.after) s.stations) page.items)) c.self.view_is told

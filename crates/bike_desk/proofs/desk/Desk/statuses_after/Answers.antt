@@ -8,7 +8,7 @@ use Rattle.bike_desk.proofs.desk.Desk.statuses_after.Goals as goal
 
 pub returns-clause-query : goal.returns-clause-query
 returns-clause-query g c =
-    let going = ap (λ (d : DeskValue g.row.S.Denot). d.is_stopped) c.self.view_is ∙ sym c.stopped.ensures ∙ c.if-stopped.false in
+    let going = ap (λ (d : DeskValue g.row.S.Denot). d.is_stopped) c.self.view_is ∙ c.in_ok-check_serving.ensures in
     let told = queries g.S.Store c.self.inside.conn c.find_statuses_after-read.new.conn c.self.inside.stopped c.self.inside.newest c.self.inside.figures
     (λ s page. AreStatuses s c.args.type_ids.now (page_after (option_map (λ id. id.now) c.args.after) s.stations) page.items) going
     c.find_statuses_after-read.result c.answer.new.self c.answer.result c.find_statuses_after-read.ensures c.answer.ensures in
