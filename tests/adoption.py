@@ -338,9 +338,11 @@ CHANGES = [
     ("UPDATE kept SET command = 'add-region\tnorth\t' WHERE req_key = 'k2'", "unsound kept office/k2"),
     ("UPDATE kept SET command = 'move-station\tzz\t-0.500000\t180.000000' WHERE req_key = 'k2'", None),
     ("UPDATE kept SET command = 'change-system\tM\t24/7\tc\tUTC\thttps://x\t86400' WHERE req_key = 'k2'", None),
+    ("UPDATE kept SET command = 'add-docks\tzz\t500' WHERE req_key = 'k2'", None),
     *(
         (f"UPDATE kept SET command = '{text}' WHERE req_key = 'k2'", "unsound kept office/k2")
         for text in (
+            "add-docks\tb2\t0", "add-docks\tb2\t501", "add-docks\tb2\t01", "add-docks\tb2", "add-docks\tB2\t1",
             "move-station\tb2\t-0.5\t180.000000", "move-station\tb2\t90.000001\t0.000000", "move-station\tb2\t0.000000",
             "change-system\tM\t24/7\tc\tUTC\thttps://x\t86401", "change-system\t\t24/7\tc\tUTC\thttps://x\t60",
             "change-system\tM\t24/7\tc\tUTC\thttps://x",

@@ -1,5 +1,5 @@
-"""What was entered and is corrected: the system by change-system, the place of a station by move-station. All feeds
-before and after, and the rows of the tables that a correction leaves.
+"""What was entered and is corrected: the system by change-system, the place of a station by move-station, and its docks
+by add-docks. All feeds before and after, and the rows of the tables that a correction leaves.
 """
 
 from feeds import CITY, DATA
@@ -106,6 +106,43 @@ def test_feeds_of_what_is_corrected(program):
     is_sound(program)
 
 
+# Commands after the city, whose station has two docks, of which the second is broken; answers; and what is told from
+# then on: capacity, bicycles, free docks and broken ones.
+DOCKS = [
+    ("add-docks\tzz\t1", "refused\t1\tunknown_station", (2, 1, 0, 1)),
+    ("add-docks\ta1\t499", "refused\t32\tlimit_reached", (2, 1, 0, 1)),
+    ("add-docks\ta1\t501", "refused\t11\tbad_field", (2, 1, 0, 1)),
+    ("add-docks\ta1\t1", "ok", (3, 1, 1, 1)),
+    ("add-docks\ta1\t1", "ok", (4, 1, 2, 1)),
+    ("add-docks\ta1\t496", "ok", (500, 1, 498, 1)),
+    ("add-docks\ta1\t1", "refused\t32\tlimit_reached", (500, 1, 498, 1)),
+]
+
+
+def test_feeds_of_docks_that_are_added(program):
+    """They are told at once, and the station's last report stays as it was until one of its docks is marked."""
+    ask(program, CITY)
+    for at, (command, answer, told) in enumerate(DOCKS):
+        assert ask(program, [command], at=1699999300 + at, first=100 + at) == [answer], (command, answer)
+        capacity, here, free, broken = told
+        texts = dict(DATA)
+        for name, old, new in (
+            ("station_information", '"capacity":2', f'"capacity":{capacity}'),
+            ("station_status", '"num_docks_available":0', f'"num_docks_available":{free}'),
+        ):
+            assert texts[name].count(old) == 1, texts[name]
+            texts[name] = texts[name].replace(old, new)
+        for name, text in texts.items():
+            assert feed(program, name) == f"{HEAD}{text}}}", (command, name, feed(program, name))
+        assert f'"num_vehicles_available":{here},' in texts["station_status"], texts
+        assert f'"num_docks_disabled":{broken},' in texts["station_status"], texts
+    assert ask(program, ["mark-dock\ta1\t500\tbroken"], at=1699999400, first=200) == ["ok"]
+    (station,) = data_of(program, "station_status")["stations"]
+    found = [station[it] for it in ("num_docks_available", "num_docks_disabled", "last_reported")]
+    assert found == [497, 2, "2023-11-14T22:03:20Z"], station
+    is_sound(program)
+
+
 def test_a_system_that_is_not_set_is_not_changed(program):
     """There is no feed afterwards either. What was refused keeps no key."""
     change = STEPS[1][0]
@@ -138,6 +175,11 @@ ROWS = [
         """INSERT INTO "stations_3" VALUES('a1','Harbour',41890169,12492269,2,0,1,0,1699999200,0,1,'north');""",
         """INSERT INTO "stations_3" VALUES('a1','Harbour',-45500000,9100000,2,0,1,0,1699999200,0,1,'north');""",
     ),
+    (
+        "add-docks\ta1\t3",
+        """INSERT INTO "stations_3" VALUES('a1','Harbour',-45500000,9100000,2,0,1,0,1699999200,0,1,'north');""",
+        """INSERT INTO "stations_3" VALUES('a1','Harbour',-45500000,9100000,5,0,1,0,1699999200,3,1,'north');""",
+    ),
 ]
 
 
@@ -157,5 +199,5 @@ def test_rows_of_what_is_corrected(program):
     about = data_of(program, "system_information")
     assert about["languages"] == ["en", "de"] and [it["text"] for it in about["name"]] == ["Metro", "Stadtrad"], about
     (station,) = data_of(program, "station_information")["stations"]
-    assert (station["region_id"], station["capacity"], len(station["name"])) == ("north", 2, 2), station
+    assert (station["region_id"], station["capacity"], len(station["name"])) == ("north", 5, 2), station
     is_sound(program)

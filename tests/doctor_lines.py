@@ -107,6 +107,7 @@ BAD_LINES = (
     (ASKED + b"change-system\t\t24/7\tx@example.org\tEtc/UTC\thttps://x.example\t30", ", name"),
     (ASKED + b"move-station\ta1\t91\t12.4", ", lat"),
     (ASKED + b"move-station\ta1\tHarbour\t41.8\t12.4", ", command"),
+    (ASKED + b"add-docks\ta1\t501", ", count"), (ASKED + b"add-docks\ta1\t0", ", count"),
     (ASKED + b"unload\t3\t1\t7\tto\t501", ", n"),
     (ASKED + b"open-order\t3\t*\ta1\tcity\t61", ", count"),
 )
@@ -157,6 +158,7 @@ def test_lines_that_are_changed_anywhere(program):
     """Lines with a byte taken away, put in or changed: those are found that the program answers bad_field."""
     rnd = random.Random(1)
     more = ["add-region\tnorth\tNor\\\\d", "add-name\tstation\ta1\tde\tHafen", "move-station\ta1\t41.9\t12.5"]
+    more.append("add-docks\ta1\t10")
     more.append("change-system\tMetro\t24/7\tx@example.org\tEtc/UTC\thttps://x.example\t60")
     good = requests_of([*CITY, *more]).splitlines()
     put_in = [it.encode() for it in ("", "\t", "0", "-", " ", "A", "\\", "9", ".", "\r", ":", ";")] + [b"\xc3"]

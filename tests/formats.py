@@ -137,6 +137,7 @@ COMMANDS = {
     b"add-region": [is_ident, is_name],
     b"add-station": [is_ident, is_name, *PLACE, DOCK],
     b"move-station": [is_ident, *PLACE],
+    b"add-docks": [is_ident, DOCK],
     b"set-region": [is_ident, is_end],
     b"set-station": [is_ident, FLAG, FLAG, FLAG],
     b"mark-dock": [is_ident, DOCK, one_of("broken", "working")],

@@ -106,9 +106,12 @@ LIST = [
     ("office", "move-station b2 -45.5 9.2"),
     ("office", "move-station c3 0 0"),
     ("office", "move-station b2 -45 -180"),
+    ("office", "add-docks b2 3"),
+    ("office", "add-docks c3 1"),
+    ("office", "add-docks b2 500"),
     *[("office", f"top-up 17 {it}") for it in range(1, MORE + 1)],
 ]
-REFUSED = {8: 10, 24: 4, 31: 11, 50: 30, 56: 35, 62: 33, 63: 10, 67: 37, 71: 10, 72: 11, 76: 1}
+REFUSED = {8: 10, 24: 4, 31: 11, 50: 30, 56: 35, 62: 33, 63: 10, 67: 37, 71: 10, 72: 11, 76: 1, 79: 1, 80: 32}
 
 # The columns that hold moments: HTTP requests have the clock's.
 MOMENTS = {"meta": ["now"], "stations_3": ["reported"], "rentals": ["start", "finish"], "entries": ["at"]}

@@ -152,7 +152,9 @@ def served(program, request, **refusal):
 def test_http(program):
     named = get_feed("station_information"), office("o2", "add-name\tstation\ta1\tit\tPorto")
     change = "change-system\tMetro\tMo-Su\toffice@example.org\tEurope/Rome\thttps://bikes.example\t60"
-    corrected = office("o3", change), office("o4", "move-station\ta1\t-45.5\t9.1")
+    corrected = (
+        office("o3", change), office("o4", "move-station\ta1\t-45.5\t9.1"), office("o5", "add-docks\ta1\t3")
+    )
     start = post("/riders/18/start", '{"key":"s1","station":"b2","dock":1}')
     others = start, get("/riders/17"), get_feed("station_status"), office("o1", "add-rider\t21")
     for request in *others, *named, *corrected:
@@ -240,6 +242,7 @@ SET_UP = [
     "import:csv|k2|add-name|description|day|zh-Hant-TW|d",
     "crew:7|k2|change-system|Town|Mo-Su|b@example.org|Etc/UTC|https://example.com|0",
     "rider:7|k2|move-station|a1|-45.5|180",
+    "dock:a1|k3|add-docks|a1|499",
 ]
 
 

@@ -163,6 +163,12 @@ class Operator:
         refuse(1, station not in self.stations)
         self.stations[station]["at"] = lat, lon
 
+    def add_docks(self, station, count):
+        """It reports nothing. The new docks are working and empty, and have the numbers after the last."""
+        refuse(1, station not in self.stations)
+        refuse(32, self.stations[station]["docks"] + int(count) > 500)
+        self.stations[station]["docks"] += int(count)
+
     def set_region(self, station, region):
         """It reports nothing, and a station leaves its region for none whether it had one or not."""
         refuse(1, station not in self.stations)

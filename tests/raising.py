@@ -330,6 +330,9 @@ def test_what_came_later_is_served_of_a_raised_file(program):
         answers(
             program, file, (f"{AT} office n9 change-system Metro 24/7 a@x.example Etc/UTC https://x.example 60", "ok"),
             (f"{AT} office n10 move-station a1 -45.5 9", "ok"),
+            (f"{AT} office n11 add-docks b2 1", "refused 32 limit_reached"),
+            (f"{AT} office n11 add-docks a1 7", "ok"),
+            (f"{AT} office n12 mark-dock a1 9 broken", "ok"),
         )
         texts = {name: program.run("feed", file.name, name)[1] for name in ("gbfs", "station_information")}
         assert b'"url":"https://x.example/gbfs/3.0/' in texts["gbfs"], texts

@@ -422,6 +422,15 @@ def test_the_worked_corrections(program):
         (office("c1", f"{change}60"), DONE),
         after("station_status", ttl=0),
         (office("c4", CITY[0]), refused(10, "already_there")),
+        (office("c4", "add-docks\ta1\t0"), BAD_FIELD),
+        (office("c4", "add-docks\tzz\t1"), refused(1, "unknown_station")),
+        (office("c4", "add-docks\ta1\t499"), refused(32, "limit_reached")),
+        (office("c4", "add-docks\ta1\t3"), DONE),
+        after("station_information", place, ('"capacity":2', '"capacity":5'), ttl=0),
+        after("station_status", ('"num_docks_available":0', '"num_docks_available":3'), ttl=0),
+        (office("c4", "add-docks\ta1\t3"), DONE),
+        (office("c4", "add-docks\ta1\t4"), refused(33, "key_reused")),
+        after("station_information", place, ('"capacity":2', '"capacity":5'), ttl=0),
     ])
     is_sound(program)
 
@@ -461,6 +470,7 @@ def test_no_system(program):
         (office("o1", "add-name\tsystem\tmetro\tde\tMetro"), refused(38, "system_missing")),
         (office("o1", "change-system\tM\t24/7\tc\tEtc/UTC\thttps://x.example\t60"), refused(38, "system_missing")),
         (office("o1", "move-station\ta1\t0\t0"), refused(1, "unknown_station")),
+        (office("o1", "add-docks\ta1\t1"), refused(1, "unknown_station")),
         *((get_feed(name), error(404)) for name in FEEDS),
         *((get(target), error(404)) for target in ("/riders/17", "/bikes/7", "/rentals/1", "/orders/1")),
         (post("/riders/17/start", START), refused(4, "unknown_rider")),

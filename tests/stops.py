@@ -79,6 +79,7 @@ OTHERS = [
     ("1700004970 office n18 add-name description day de Tag", "ok"),
     ("1700004980 office n19 change-system Metro Mo-Su office@example.org Europe/Rome https://bikes.example 60", "ok"),
     ("1700004980 office n20 move-station a1 -45.5 9.1", "ok"),
+    ("1700004990 office n21 add-docks a1 3", "ok"),
 ]
 
 

@@ -118,22 +118,25 @@ VALUES = {
     ],
 }
 
-# Commands behind those that correct the system and the places of stations, each with its own text, and what the fields
-# are then: no others of the row have changed.
+# Commands behind those that correct the system, and places and docks of stations, each with its own text, and what the
+# fields are then: no others of the row have changed.
 CORRECTED = [
     ('change-system|Q "1"\\t🚲|\\\\ "|c|z|u/|0', 'change-system|Q "1"\\t🚲|\\\\ "|c|z|u/|0'),
     ("move-station|a1|-000.5|180", "move-station|a1|-0.500000|180.000000"),
     ("move-station|a4|-0|045.1", "move-station|a4|0.000000|45.100000"),
     ("move-station|a5|90.000000|-180", "move-station|a5|90.000000|-180.000000"),
     ("move-station|a5|-0.000001|0", "move-station|a5|-0.000001|0.000000"),
+    ("add-docks|a1|499", "add-docks|a1|499"),
+    ("add-docks|a4|1", "add-docks|a4|1"),
+    ("add-docks|a4|12", "add-docks|a4|12"),
 ]
 CORRECTED_VALUES = {
     "SELECT * FROM system": [(1, "s", "de", 'Q "1"\t🚲', '\\ "', "c", "z", "EUR", "u/", 0)],
     "SELECT * FROM stations_3 ORDER BY station_id": [
-        ("a1", "N", -500000, 180000000, 1, 1, 1, 1, 1700000000, 1, 0, None),
+        ("a1", "N", -500000, 180000000, 500, 1, 1, 1, 1700000000, 500, 0, None),
         ("a2", "N", 0, -180000000, 1, 1, 1, 1, 1700000000, 1, 0, "-r_2"),
         ("a3", "N", 7000000, 180000000, 1, 1, 1, 1, 1700000000, 1, 0, None),
-        ("a4", "N", 0, 45100000, 10, 1, 1, 1, 1700000000, 10, 0, None),
+        ("a4", "N", 0, 45100000, 23, 1, 1, 1, 1700000000, 23, 0, None),
         ("a5", "N", -1, 0, 500, 1, 1, 1, 1700000000, 500, 0, "r1"),
     ],
 }

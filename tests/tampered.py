@@ -65,7 +65,7 @@ ASKED = [
     "mark-dock a1 3 broken", "mark-dock b2 1 broken", "mark-dock b2 1 working", "mark-bike 11 disabled",
     "set-station c3 false true true", "set-rider 19 blocked", "retire-bike 8",
     "change-system Stadtrad Mo-Su office@example.org Europe/Rome https://bikes.example 60",
-    "move-station c3 -0.000001 180", "move-station c3 45 9.1",
+    "move-station c3 -0.000001 180", "move-station c3 45 9.1", "add-docks c3 499", "mark-dock c3 500 broken",
 ]
 
 
@@ -203,6 +203,7 @@ WORDS = [
     "balance\t-0", "refused\t4\tunknown_rider", "rental\t1\t7", "fare\t1\t2", "order\t0", "x" * 9000, "k1",
     "add-region\tnorth\tNorth", "set-region\ta1\t*", "set-region\ta1\t", "add-name\tstation\ta1\tde\tHafen",
     "move-station\tzz\t0.000000\t0.000000", "move-station\tzz\t0\t0", *CORRECTIONS,
+    "add-docks\tzz\t500", "add-docks\tzz\t501", "add-docks\tzz\t07",
     "add-name\tbike\t7\tde\tX", "en", "de", "EN", "zz-Zzzz", "d_e", "-" * 35, "metro", "system", "station", "type",
     "plan", "description", "region", "Region", "names",
 ]

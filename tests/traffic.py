@@ -31,11 +31,13 @@ def corrected(lines, seed):
 
 
 def correction(pick):
-    """A command that changes the system, or moves a station that may not be there."""
-    if pick.random() < 0.5:
+    """A command that changes the system, or moves a station that may not be there, or gives it docks."""
+    if pick.random() < 0.4:
         ttl = pick.randint(0, 86_400)
         return f"change-system\tMetro {ttl}\t24/7\t{ttl}@example.org\tEtc/UTC\thttps://{ttl}.example\t{ttl}"
     station = pick.randint(1, SIZES["stations"] + 2)
+    if pick.random() < 0.5:
+        return f"add-docks\ts{station:04}\t{pick.choice([1, 2, 3, 500])}"
     return f"move-station\ts{station:04}\t{pick.uniform(-90, 90):.6f}\t{pick.uniform(-180, 180):.6f}"
 
 
@@ -53,7 +55,7 @@ def test_three_cities_in_memory(program):
     for seed in (1, 2, 3):
         lines, answers = made(seed, 1200)
         wanted = {"start", "end", "top-up", "mark-dock", "mark-bike", "open-order", "load", "unload", "close-order"}
-        wanted |= {"change-system", "move-station"}
+        wanted |= {"change-system", "move-station", "add-docks"}
         assert wanted <= told_apart(lines, answers), (
             f"seed {seed} has no accepted {wanted - told_apart(lines, answers)}"
         )

@@ -67,6 +67,9 @@ def change(at):
 FIELDS = [
     ("mark-dock|zz|{}|broken", "refused|1|unknown_station", ["1", "17", "201", "500"], ["0", "501", *NO_NUMBERS]),
     ("add-station|a1|N|0|0|{}", THERE, ["1", "201", "500"], ["0", "501", *NO_NUMBERS]),
+    ("add-docks|zz|{}", UNKNOWN_STATION, ["1", "201", "500"], ["0", "501", *NO_NUMBERS]),
+    ("add-docks|a1|{}", "refused|32|limit_reached", ["500"], ["0", "501", *NO_NUMBERS]),
+    ("add-docks|{}|1", UNKNOWN_STATION, ["az_09-", "a", "a0z9", "a" * 36], NO_IDENTS),
     ("unload|9|1|7|to|{}", "refused|8|unknown_truck", ["0", "1", "500"], ["501", "00", *NO_NUMBERS]),
     ("recover|{}", "refused|5|unknown_rental", ["1", "100000000"], ["0", "100000001", *NO_NUMBERS]),
     ("close-order|{}", "refused|9|unknown_order", ["1", "100000000"], ["0", "100000001", *NO_NUMBERS]),
