@@ -1,5 +1,5 @@
 -- What publishing a feed owes.
-use Rattle.std.specs.Prelude.{◌≡◌, ◌≤◌, ◌<◌, ◌⊎◌, ℕ, List, length, IsTrue, false, MatchOption, Option, Some, None, Result, Err, OnOk}
+use Rattle.std.specs.Prelude.{◌≡◌, ◌≢◌, ◌≤◌, ◌<◌, ◌⊎◌, ℕ, List, length, IsTrue, false, MatchOption, Option, Some, None, Result, Err, OnOk}
 use Rattle.std.specs.Io.KnownBytes.{Keeps, Appends}
 use Rattle.sqlite_trees.specs.View.{doubt}
 use Rattle.sqlite_trees.specs.declared.store.Store.{Ghosts}
@@ -41,6 +41,10 @@ IsTooLong s feed moment = (x : SystemRow) × (s.system ≡ Some x) × (greatest_
 -- why the writing of a feed may fail
 abbrev pub MayFailToWrite : OutputState → Operator → Feed → ℕ → Type 0
 MayFailToWrite output s feed moment = IsTrue output.may_refuse ⊎ IsTooLong s feed moment
+
+-- No want of memory is told: a desk takes none of its own while it answers what a feed asks.
+abbrev pub WantsNoMemory : {A : Type 0} → Result A FeedFault → Type 0
+WantsNoMemory result = result ≢ Err (Desk NoMemory)
 
 -- WHAT THE DESK IS AFTER A FEED, as the end tells; the faults of a desk are told as its own calls tell them
 pub record LeavesDesk {S : Type 0} (g : Ghosts S) (old new : DeskValue S) {A : Type 0} (result : Result A FeedFault) : Type 0 where

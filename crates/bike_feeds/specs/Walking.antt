@@ -18,7 +18,7 @@ use Rattle.bike_schema.specs.Stands.{AllLeft}
 use Rattle.bike_desk.specs.Desk.{DeskValue, desk_state, IsAt}
 use Rattle.bike_feeds.specs.declared.fault.FeedFault.{FeedFault}
 use Rattle.bike_feeds.specs.declared.fault.FeedFault.TheVariants.{Write}
-use Rattle.bike_feeds.specs.Publishing.{LeavesDesk, feed_text}
+use Rattle.bike_feeds.specs.Publishing.{LeavesDesk, WantsNoMemory, feed_text}
 
 -- the desk was asked, goes on, and is at the operator at whom it was
 pub record StaysAt {S : Type 0} (g : Ghosts S) (old new : DeskValue S) : Type 0 where
@@ -36,6 +36,7 @@ MayEnd output count bytes = IsTrue output.may_refuse ⊎ (greatest_count ≤ cou
 pub record WritesItems {S : Type 0} (g : Ghosts S) (old new : DeskValue S) (from to : Place) (before after : OutputState) {A : Type 0} (result : Result A FeedFault)
     (them : Operator → Items) : Type 0 where
   pub desk : LeavesDesk g old new result
+  pub takes_none : WantsNoMemory result
   pub all : HasCleanDisk (desk_state g new) → (s : Operator) → IsAt g old s → OnOk result (Wrote from to before after (items_text false (them s)))
   pub front : HasCleanDisk (desk_state g new) → (s : Operator) → IsAt g old s → OnErr result (WroteFront from to before after (items_text false (them s)))
   pub cause : HasCleanDisk (desk_state g new) → (s : Operator) → IsAt g old s → from.failed ≡ false → result ≡ Err Write
@@ -47,6 +48,7 @@ pub record WritesItems {S : Type 0} (g : Ghosts S) (old new : DeskValue S) (from
 pub record WritesText {S : Type 0} (g : Ghosts S) (old new : DeskValue S) (before after : OutputState) (count : ℕ) {A : Type 0} (result : Result A FeedFault)
     (text : Operator → List ℕ) : Type 0 where
   pub desk : LeavesDesk g old new result
+  pub takes_none : WantsNoMemory result
   pub whole : HasCleanDisk (desk_state g new) → (s : Operator) → IsAt g old s → OnOk result (Appends before.bytes after.bytes (text s) × (count ≡ length (text s)))
   pub front : HasCleanDisk (desk_state g new) → (s : Operator) → IsAt g old s → OnErr result (AppendsFront before.bytes after.bytes (text s))
   pub cause : HasCleanDisk (desk_state g new) → (s : Operator) → IsAt g old s → result ≡ Err Write → MayFail before 0 (text s)
