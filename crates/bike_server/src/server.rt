@@ -7,7 +7,7 @@ ghost use Rattle.sqlite_trees.specs.View.{doubt};
 ghost use Rattle.bike_operator.specs.Operator.{Operator};
 ghost use Rattle.bike_schema.specs.Stands.{AllLeft, TreesStandFor};
 ghost use Rattle.bike_console.specs.declared.end.Fault.{Fault};
-ghost use Rattle.bike_http.specs.Desk.{desk_state, IsAt};
+ghost use Rattle.bike_http.specs.Desk.{desk_state, OfOperator};
 ghost use Rattle.bike_server.specs.Visits.{IsOpen, Leaving, let_go};
 ghost use Rattle.bike_server.specs.Answering.{Exchanges, ServesInOrder, without_end};
 ghost use Rattle.bike_server.specs.Listening.{IsOfServing, EndsListening};
@@ -49,12 +49,11 @@ fn exchange<S: Alter, R: Read, W: Write + Drop>(
     writer: W,
 ) -> (W, Result<Served, ServeFault>)
     ensures clean { doubt (desk_state S.Store desk.old).is_clean ≤ doubt (desk_state S.Store desk.new).is_clean }
-    ensures kept { HasCleanDisk (desk_state S.Store desk.new) → (s : Operator) → IsAt S.Store desk.old s
-        → ServesRequests S.Store desk.new s }
-    ensures exchanged { HasCleanDisk (desk_state S.Store desk.new) → (s : Operator) → IsAt S.Store desk.old s
-        → (input : List ℕ) → R.remaining reader.old ≡ Some input → W.contents writer ≡ Some []
+    ensures kept { OfOperator S.Store desk.old desk.new (λ s. ServesRequests S.Store desk.new s) }
+    ensures exchanged { OfOperator S.Store desk.old desk.new (λ s.
+        (input : List ℕ) → R.remaining reader.old ≡ Some input → W.contents writer ≡ Some []
         → IsSomeAnd (W.contents result.0) (λ sent. Exchanges S.Store desk.new s (record { moment = moment; input = input })
-        (record { served = result.1; sent = sent })) }
+        (record { served = result.1; sent = sent }))) }
 {
     let mut buffer = TokenBuffer::new(writer);
     let served = serve_one(alloc, desk, routes, moment, reader, &mut buffer);
@@ -79,12 +78,11 @@ fn serve_arrival<S: Alter, A: Arrivals>(
 )
     requires { IsOpen (A.known arrivals.old) }
     ensures clean { doubt (desk_state S.Store desk.old).is_clean ≤ doubt (desk_state S.Store desk.new).is_clean }
-    ensures kept { HasCleanDisk (desk_state S.Store desk.new) → (s : Operator) → IsAt S.Store desk.old s
-        → ServesRequests S.Store desk.new s }
-    ensures served { HasCleanDisk (desk_state S.Store desk.new) → (s : Operator) → IsAt S.Store desk.old s
-        → (input : List ℕ) → A.Reader.remaining arrival.reader ≡ Some input → A.Writer.contents arrival.writer ≡ Some []
+    ensures kept { OfOperator S.Store desk.old desk.new (λ s. ServesRequests S.Store desk.new s) }
+    ensures served { OfOperator S.Store desk.old desk.new (λ s.
+        (input : List ℕ) → A.Reader.remaining arrival.reader ≡ Some input → A.Writer.contents arrival.writer ≡ Some []
         → IfSome (A.known arrivals.old) (λ visits. (leaving : Leaving) × (A.known arrivals.new ≡ Some (let_go visits leaving))
-        × Exchanges S.Store desk.new s (record { moment = arrival.moment; input = input }) leaving) }
+        × Exchanges S.Store desk.new s (record { moment = arrival.moment; input = input }) leaving)) }
 {
     let Arrival {
         moment,
@@ -99,7 +97,7 @@ fn serve_arrival<S: Alter, A: Arrivals>(
 /// ends early where accepting fails (`AcceptFailed`) and where the desk is stopped (`StoreFailed`); a connection that fails ends
 /// nothing.
 ///
-/// Whatever clients send and whatever becomes of the connections, a desk at an operator is at him after some list of requests; or it
+/// Whatever clients send and whatever becomes of the connections, a desk at an operator is at him after some list of good requests; or it
 /// is stopped, and all that a crash may leave stands for the operator after such a list or after one request more. Where it is known
 /// what comes (`Played`), each connection is answered once, in their order, as the operator after those before it answers; what wasn't
 /// sent whole is told to `finish` as a failure.
@@ -111,13 +109,12 @@ pub fn serve_count<S: Alter, A: Arrivals>(
     count: u64,
 ) -> Result<(), Fault>
     ensures clean { doubt (desk_state S.Store desk.old).is_clean ≤ doubt (desk_state S.Store desk.new).is_clean }
-    ensures kept { HasCleanDisk (desk_state S.Store desk.new) → (s : Operator) → IsAt S.Store desk.old s
-        → ServesRequests S.Store desk.new s }
+    ensures kept { OfOperator S.Store desk.old desk.new (λ s. ServesRequests S.Store desk.new s) }
     ensures stopped { result ≡ Err Fault.StoreFailed → IsTrue desk.new.is_stopped }
     ensures goes_on { desk.old.is_stopped ≡ false → IsTrue desk.new.is_stopped → result ≡ Err Fault.StoreFailed }
-    ensures serves { HasCleanDisk (desk_state S.Store desk.new) → (s : Operator) → IsAt S.Store desk.old s
-        → IfSome (A.known arrivals.old) (λ before. IsSomeAnd (A.known arrivals.new)
-        (λ after. ServesInOrder S.Store desk.new s count before after result)) }
+    ensures serves { OfOperator S.Store desk.old desk.new (λ s.
+        IfSome (A.known arrivals.old) (λ before. IsSomeAnd (A.known arrivals.new)
+        (λ after. ServesInOrder S.Store desk.new s count before after result))) }
     ensures faults { IfErr result (λ fault. (fault ≡ Fault.StoreFailed) ⊎ (fault ≡ Fault.AcceptFailed)) }
 {
     for _turn in 0..count {
@@ -180,8 +177,7 @@ fn listen_at<S: Alter, W: Write>(
     writer: &mut W,
 ) -> Result<(), Fault>
     ensures clean { doubt (desk_state S.Store desk.old).is_clean ≤ doubt (desk_state S.Store desk.new).is_clean }
-    ensures kept { HasCleanDisk (desk_state S.Store desk.new) → (s : Operator) → IsAt S.Store desk.old s
-        → ServesRequests S.Store desk.new s }
+    ensures kept { OfOperator S.Store desk.old desk.new (λ s. ServesRequests S.Store desk.new s) }
     ensures faults { IfErr result IsOfServing }
 {
     let listener = bind(rt, port)?;
@@ -206,8 +202,7 @@ fn listen_all<S: Alter, W: Write>(
     writer: &mut W,
 ) -> Result<u64, Fault>
     ensures clean { doubt (desk_state S.Store desk.old).is_clean ≤ doubt (desk_state S.Store desk.new).is_clean }
-    ensures kept { HasCleanDisk (desk_state S.Store desk.new) → (s : Operator) → IsAt S.Store desk.old s
-        → ServesRequests S.Store desk.new s }
+    ensures kept { OfOperator S.Store desk.old desk.new (λ s. ServesRequests S.Store desk.new s) }
     ensures ends { MatchResult result (λ count. count ≡ 0) IsOfServing }
 {
     let Ok(routes) = Routes::new(rt.alloc()) else {
@@ -226,7 +221,7 @@ fn listen_all<S: Alter, W: Write>(
 /// one ended that: a port that can't be bound is `BindFailed`. Where the connection can't be taken into service, the fault tells why,
 /// and nothing is written or listened to.
 ///
-/// Where the database stood for an operator, all that a crash may then leave stands for him after some list of requests.
+/// Where the database stood for an operator, all that a crash may then leave stands for him after some list of good requests.
 pub fn listen<S: Alter, W: Write>(
     rt: &HostRuntime,
     port: u16,

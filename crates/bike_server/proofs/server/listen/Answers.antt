@@ -14,7 +14,7 @@ returns-in-Ok-clause-kept g c clean s stands live =
 
 pub returns-in-Err-clause-kept : goal.returns-in-Err-clause-kept
 returns-in-Err-clause-kept g c clean s stands live =
-    rw c.taken_from-conn.ensures.conn (λ db h. ([], c.in-Err.ensures.left s stands live (rw c.taken_from-conn.ensures.conn at clean) db h))
+    rw c.taken_from-conn.ensures.conn (λ db h. ([], tt, c.in-Err.ensures.left s stands live (rw c.taken_from-conn.ensures.conn at clean) db h))
 
 pub returns-in-Ok-clause-ends : goal.returns-in-Ok-clause-ends
 returns-in-Ok-clause-ends g c =
