@@ -1,5 +1,5 @@
 -- One connection after the other.
-use Rattle.std.proofs.Common.{◌≡◌, ℕ, ◌≤◌, List, [], ◌∷◌, ◌++◌, length, refl, sym, subst, ◌∙◌, append_assoc, Option, Result, Ok, Err, MatchResult, inl, inr, arith}
+use Rattle.std.proofs.Common.{◌≡◌, ℕ, ◌≤◌, List, [], ◌∷◌, ◌++◌, length, refl, sym, subst, ◌∙◌, append_assoc, Option, Result, Ok, Err, inl, inr, arith}
 use Rattle.sqlite_trees.specs.declared.store.Store.{Ghosts}
 use Rattle.sqlite.specs.Held.{Held}
 use Rattle.bike_operator.specs.Operator.{Operator}
@@ -18,7 +18,8 @@ use Rattle.bike_http.specs.declared.exchange.ServeFault.{ServeFault}
 use Rattle.bike_http.specs.declared.exchange.ServeFault.TheVariants.{Read, Write, Cut}
 use Rattle.bike_http.proofs.Told.{tells_any}
 use Rattle.bike_console.specs.declared.end.Fault.{Fault}
-use Rattle.bike_server.specs.Listening.{IsOfServing, EndsListening}
+use Rattle.bike_server.specs.declared.fault.ServerFault.{ServerFault}
+use Rattle.bike_server.specs.Listening.{end_of_serving, EndsListening}
 use Rattle.bike_server.specs.Serving.{ServesRequests, StandsAfterRequests}
 
 -- what an input asks for is at most one request, and a good one
@@ -93,7 +94,9 @@ module _ {S : Type 0} (g : Ghosts S) (desk : DeskValue S) where
   ]
 
 -- serving ended, and so listening
-pub ends_listening : {S : Type 0} (g : Ghosts S) (first last : Held S) (old new : Option (List ℕ)) (result : Result ℕ Fault)
-    → MatchResult result (λ count. count ≡ 0) IsOfServing → EndsListening g first last old new result
-ends_listening {S} g first last old new (Ok count) it = it
-ends_listening {S} g first last old new (Err told) it = inl it
+pub ends_listening : {S : Type 0} (g : Ghosts S) (first last : Held S) (old new : Option (List ℕ)) (served : Result (Unit {0}) ServerFault) (result : Result ℕ Fault)
+    → result ≡ end_of_serving served → EndsListening g first last old new result
+ends_listening g first last old new served result is = subst (EndsListening g first last old new) (sym is) (ends served) where
+  ends : (served : Result (Unit {0}) ServerFault) → EndsListening g first last old new (end_of_serving served)
+  ends (Ok x) = refl
+  ends (Err fault) = inl (fault, refl)

@@ -3,8 +3,6 @@ use Rattle.std.specs.Prelude.{◌≡◌, ◌⊎◌, ℕ, ◌<◌, IsTrue, List, 
 use Rattle.sqlite_trees.specs.declared.store.Store.{Ghosts}
 use Rattle.bike_operator.specs.Operator.{Operator}
 use Rattle.bike_schema.specs.Stands.{AllLeft}
-use Rattle.bike_console.specs.declared.end.Fault.{Fault}
-use Rattle.bike_console.specs.declared.end.Fault.TheVariants.{StoreFailed}
 use Rattle.bike_http.specs.Desk.{DeskValue, desk_state, IsAt, TreesStandForEither}
 use Rattle.bike_http.specs.Exchange.{Response, published, bytes_of, response_status, Answers}
 use Rattle.bike_http.specs.Telling.{unavailable}
@@ -12,6 +10,8 @@ use Rattle.bike_http.specs.declared.exchange.Served.{Served}
 use Rattle.bike_http.specs.declared.exchange.Served.TheVariants.{Empty, Status}
 use Rattle.bike_http.specs.declared.exchange.ServeFault.{ServeFault}
 use Rattle.bike_http.specs.declared.exchange.ServeFault.TheVariants.{Read, Write, Cut}
+use Rattle.bike_server.specs.declared.fault.ServerFault.{ServerFault}
+use Rattle.bike_server.specs.declared.fault.ServerFault.TheVariants.{StoreFailed}
 use Rattle.bike_server.specs.Visits.{Coming, Leaving, Visits}
 
 -- ---- one connection
@@ -101,7 +101,7 @@ module _ {S : Type 0} (g : Ghosts S) (desk : DeskValue S) where
     pub sent : after.gone ≡ before.gone ++ gone ++ leaving ∷ []
 
   -- SERVING IN ORDER, by how it ended; nothing else ends it
-  abbrev pub ServesInOrder : Operator → ℕ → Visits → Visits → Result (Unit {0}) Fault → Type 0
+  abbrev pub ServesInOrder : Operator → ℕ → Visits → Visits → Result (Unit {0}) ServerFault → Type 0
   ServesInOrder s count before after (Ok _) = ServesAll s count before after
   ServesInOrder s count before after (Err StoreFailed) = ServesUntilStopped s count before after
   ServesInOrder s count before after (Err _) = ⊥

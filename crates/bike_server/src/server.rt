@@ -1,19 +1,19 @@
 //! HTTP/1.1 on the loopback address: one request a connection, one connection after the other.
 
-ghost use Rattle.std.specs.Prelude.{◌≡◌, ◌≤◌, ◌⊎◌, ℕ, List, [], Some, IfSome, IsSomeAnd, IfErr, MatchResult, false, IsTrue, Err};
+ghost use Rattle.std.specs.Prelude.{◌≡◌, ◌≤◌, ◌⊎◌, ℕ, List, [], Some, IfSome, IsSomeAnd, IfErr, false, IsTrue, Err};
 ghost use Rattle.sqlite.specs.State.{HasCleanDisk};
 ghost use Rattle.sqlite.specs.Held.{state};
 ghost use Rattle.sqlite_trees.specs.View.{doubt};
 ghost use Rattle.bike_operator.specs.Operator.{Operator};
 ghost use Rattle.bike_schema.specs.Stands.{AllLeft, TreesStandFor};
-ghost use Rattle.bike_console.specs.declared.end.Fault.{Fault};
 ghost use Rattle.bike_http.specs.Desk.{desk_state, OfOperator};
 ghost use Rattle.bike_server.specs.Visits.{IsOpen, Leaving, let_go};
 ghost use Rattle.bike_server.specs.Answering.{Exchanges, ServesInOrder, without_end};
-ghost use Rattle.bike_server.specs.Listening.{IsOfServing, EndsListening};
+ghost use Rattle.bike_server.specs.Listening.{end_of_serving, EndsListening};
 ghost use Rattle.bike_server.specs.Serving.{ServesRequests, StandsAfterRequests};
 
 use crate::arrivals::{AcceptFault, Arrival, Arrivals};
+use crate::fault::ServerFault;
 use crate::sockets::Sockets;
 use bike_adoption::adopt;
 use bike_console::Fault;
@@ -107,37 +107,36 @@ pub fn serve_count<S: Alter, A: Arrivals>(
     routes: &Routes,
     arrivals: &mut A,
     count: u64,
-) -> Result<(), Fault>
+) -> Result<(), ServerFault>
     ensures clean { doubt (desk_state S.Store desk.old).is_clean ≤ doubt (desk_state S.Store desk.new).is_clean }
     ensures kept { OfOperator S.Store desk.old desk.new (λ s. ServesRequests S.Store desk.new s) }
-    ensures stopped { result ≡ Err Fault.StoreFailed → IsTrue desk.new.is_stopped }
-    ensures goes_on { desk.old.is_stopped ≡ false → IsTrue desk.new.is_stopped → result ≡ Err Fault.StoreFailed }
+    ensures stopped { result ≡ Err ServerFault.StoreFailed → IsTrue desk.new.is_stopped }
+    ensures goes_on { desk.old.is_stopped ≡ false → IsTrue desk.new.is_stopped → result ≡ Err ServerFault.StoreFailed }
     ensures serves { OfOperator S.Store desk.old desk.new (λ s.
         IfSome (A.known arrivals.old) (λ before. IsSomeAnd (A.known arrivals.new)
         (λ after. ServesInOrder S.Store desk.new s count before after result))) }
-    ensures faults { IfErr result (λ fault. (fault ≡ Fault.StoreFailed) ⊎ (fault ≡ Fault.AcceptFailed)) }
+    ensures faults { IfErr result (λ fault. (fault ≡ ServerFault.StoreFailed) ⊎ (fault ≡ ServerFault.AcceptFailed)) }
 {
     for _turn in 0..count {
         match arrivals.accept() {
             Ok(Some(arrival)) => serve_arrival(alloc, desk, routes, arrivals, arrival),
             Ok(None) => return Ok(()),
-            Err(AcceptFault) => return Err(Fault::AcceptFailed),
+            Err(AcceptFault) => return Err(ServerFault::AcceptFailed),
         }
         if desk.stopped() {
-            return Err(Fault::StoreFailed);
+            return Err(ServerFault::StoreFailed);
         }
     }
     Ok(())
 }
 
 /// A listener on this port of 127.0.0.1; `BindFailed` where there can be none.
-fn bind(rt: &HostRuntime, port: u16) -> Result<TcpListener, Fault>
-    ensures faults { IfErr result (λ fault. (fault ≡ Fault.OutOfMemory) ⊎ (fault ≡ Fault.BindFailed)) }
+fn bind(rt: &HostRuntime, port: u16) -> Result<TcpListener, ServerFault>
 {
     let address = format!(in rt.alloc(); "127.0.0.1:{port}")?;
     match TcpListener::bind(rt, address.as_str()) {
         Ok(listener) => Ok(listener),
-        Err(_) => Err(Fault::BindFailed),
+        Err(_) => Err(ServerFault::BindFailed),
     }
 }
 
@@ -153,16 +152,15 @@ fn tell_port<W: Write>(
     rt: &HostRuntime,
     listener: &TcpListener,
     writer: &mut W,
-) -> Result<(), Fault>
-    ensures faults { IfErr result IsOfServing }
+) -> Result<(), ServerFault>
 {
     let Ok(bound) = listener.local_addr() else {
-        return Err(Fault::BindFailed);
+        return Err(ServerFault::BindFailed);
     };
     let line = format!(in rt.alloc(); "listening {bound}\n")?;
     match write_whole(writer, line.as_bytes()) {
         Ok(()) => Ok(()),
-        Err(_) => Err(Fault::WriteFailed),
+        Err(_) => Err(ServerFault::WriteFailed),
     }
 }
 
@@ -175,14 +173,13 @@ fn listen_at<S: Alter, W: Write>(
     port: u16,
     count: Option<u32>,
     writer: &mut W,
-) -> Result<(), Fault>
+) -> Result<(), ServerFault>
     ensures clean { doubt (desk_state S.Store desk.old).is_clean ≤ doubt (desk_state S.Store desk.new).is_clean }
     ensures kept { OfOperator S.Store desk.old desk.new (λ s. ServesRequests S.Store desk.new s) }
-    ensures faults { IfErr result IsOfServing }
 {
     let listener = bind(rt, port)?;
     if !has_descriptors(&listener) {
-        return Err(Fault::AcceptFailed);
+        return Err(ServerFault::AcceptFailed);
     }
     tell_port(rt, &listener, writer)?;
     let count = match count {
@@ -200,19 +197,25 @@ fn listen_all<S: Alter, W: Write>(
     port: u16,
     count: Option<u32>,
     writer: &mut W,
-) -> Result<u64, Fault>
+) -> Result<(), ServerFault>
     ensures clean { doubt (desk_state S.Store desk.old).is_clean ≤ doubt (desk_state S.Store desk.new).is_clean }
     ensures kept { OfOperator S.Store desk.old desk.new (λ s. ServesRequests S.Store desk.new s) }
-    ensures ends { MatchResult result (λ count. count ≡ 0) IsOfServing }
 {
     let Ok(routes) = Routes::new(rt.alloc()) else {
-        return Err(Fault::OutOfMemory);
+        return Err(ServerFault::OutOfMemory);
     };
     let served = listen_at(rt, desk, &routes, port, count, writer);
     drop(routes);
+    served
+}
+
+/// How listening ends, as serving ended.
+fn ended(served: Result<(), ServerFault>) -> Result<u64, Fault>
+    ensures { result ≡ end_of_serving served }
+{
     match served {
         Ok(()) => Ok(0),
-        Err(fault) => Err(fault),
+        Err(fault) => Err(Fault::from(fault)),
     }
 }
 
@@ -239,7 +242,7 @@ pub fn listen<S: Alter, W: Write>(
     match adopt(rt.alloc(), conn) {
         Ok(mut desk) => {
             let served = listen_all(rt, &mut desk, port, count, writer);
-            (desk.close(), served)
+            (desk.close(), ended(served))
         }
         Err(fault) => {
             let (conn, told) = Fault::taken_from(fault);

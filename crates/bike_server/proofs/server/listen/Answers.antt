@@ -19,7 +19,7 @@ returns-in-Err-clause-kept g c clean s stands live =
 pub returns-in-Ok-clause-ends : goal.returns-in-Ok-clause-ends
 returns-in-Ok-clause-ends g c =
     ends_listening g.S.Store c.args.conn c.close.result (g.W.Write.contents c.args.writer.now) (g.W.Write.contents c.listen_all-served.new.writer)
-    c.listen_all-served.result c.listen_all-served.ensures.ends
+    c.listen_all-served.result c.ended.result c.ended.ensures
 
 pub returns-in-Err-clause-ends : goal.returns-in-Err-clause-ends
 returns-in-Err-clause-ends g c = inr (record {
