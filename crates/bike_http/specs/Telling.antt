@@ -60,16 +60,16 @@ IsDone g d s t input = (response : Response) × (next : Operator) × Answers inp
 -- ---- the tables
 
 -- what was asked leaves the operator as he is, and isn't a question
-abbrev pub LeavesHim : Operator → ℕ → Asked → Type 0
-LeavesHim s t (Reject rejection) = Unit {0}
-LeavesHim s t (Apply q) = (step s t q).1 ≡ s
-LeavesHim s t (Show row) = ⊥
-LeavesHim s t (Publish named) = ⊥
+abbrev pub LeavesOperator : Operator → ℕ → Asked → Type 0
+LeavesOperator s t (Reject rejection) = Unit {0}
+LeavesOperator s t (Apply q) = (step s t q).1 ≡ s
+LeavesOperator s t (Show row) = ⊥
+LeavesOperator s t (Publish named) = ⊥
 
 -- where it does, and the desk goes on, the whole database is as it was
 abbrev pub RestsAfter : {S : Type 0} → Ghosts S → DeskValue S → DeskValue S → Operator → ℕ → Asked → Type 0
 RestsAfter g old new s t asked =
-    LeavesHim s t asked → new.is_stopped ≡ false → (desk_state g new).now ≡ (desk_state g old).now
+    LeavesOperator s t asked → new.is_stopped ≡ false → (desk_state g new).now ≡ (desk_state g old).now
 
 -- A REQUEST THAT CHANGES NOTHING of the operator, since it is rejected or refused or comes again, changes nothing of the database
 abbrev pub LeavesTables : {S : Type 0} → Ghosts S → DeskValue S → DeskValue S → Operator → ℕ → Option (List ℕ) → Type 0
