@@ -73,7 +73,8 @@ pub(crate) trait Listed: Drop {
     ) -> Result<(), WriteFault>
         requires value { IsTrue (takes_value json.old.top) }
         requires room { length json.old.round < 14 }
-        ensures wrote { WroteValue json.old json.new (W.contents out.old) (W.contents out.new) (tree system.now self.now names.now) }
+        ensures wrote { WroteValue json.old json.new (W.contents out.old) (W.contents out.new)
+            (tree system.now self.now names.now) }
         ensures place { IsIn json.new (after_value json.old.top) json.old.round }
         ensures outcome { is_ok result ≡ not json.new.failed };
 

@@ -3,9 +3,11 @@ use Rattle.std.specs.Prelude.{◌≡◌, ◌⊎◌, ℕ, ◌<◌, List, [], ◌+
 use Rattle.std.specs.Io.KnownBytes.{Appends, Keeps}
 use Rattle.sqlite_trees.specs.declared.store.Store.{Ghosts}
 use Rattle.bike_stream.specs.Writing.{AppendsFront}
+use Rattle.bike_commands.specs.declared.request.Request.{Request}
 use Rattle.bike_operator.specs.Operator.{Operator}
 use Rattle.bike_operator.specs.Runs.{step}
 use Rattle.bike_schema.specs.Stands.{AllLeft}
+use Rattle.bike_feed_texts.specs.declared.feed.Feed.{Feed}
 use Rattle.bike_feeds.specs.Desk.{DeskValue, desk_state, IsAt, TreesStandForEither}
 use Rattle.bike_incoming.specs.declared.asked.Asked.{Asked}
 use Rattle.bike_incoming.specs.declared.asked.Asked.TheVariants.{Reject, Apply, Show, Publish}
@@ -13,7 +15,7 @@ use Rattle.bike_incoming.specs.Received.{Received}
 use Rattle.bike_answers.specs.declared.answer.Answer.{Answer}
 use Rattle.bike_answers.specs.declared.answer.Answer.TheVariants as answer
 use Rattle.bike_answers.specs.Sent.{answer_text, Sends}
-use Rattle.bike_http.specs.Exchange.{Response, answered, published, bytes_of, feed_head, response_of, response_status, operator_after, Answers}
+use Rattle.bike_http.specs.Exchange.{Response, answered, published, bytes_of, feed_head, feed_response, response_of, response_status, operator_after, Answers}
 use Rattle.bike_http.specs.declared.respond.SendFault.{SendFault}
 use Rattle.bike_http.specs.declared.respond.SendFault.TheVariants as fault
 use Rattle.bike_http.specs.declared.exchange.Served.{Served}
@@ -34,6 +36,10 @@ unavailable = answered answer.Unavailable
 -- WHAT IS TOLD: the response, and the desk is at the operator after the request; or that there is no answer now
 abbrev pub Tells : {S : Type 0} → Ghosts S → DeskValue S → Operator → Response → Operator → Response → Type 0
 Tells g d s response next sent = ((sent ≡ response) × IsAt g d next) ⊎ ((sent ≡ unavailable) × IsUndone g d s next)
+
+-- the same of a request to act, by the answer to it
+abbrev pub TellsReply : {S : Type 0} → Ghosts S → DeskValue S → Operator → ℕ → Request → Answer → Type 0
+TellsReply g d s t q sent = Tells g d s (answered (answer.Replied (step s t q).0)) (step s t q).1 (answered sent)
 
 -- the same of what was asked: what is answered at once is told whatever the desk is
 abbrev pub TellsAsked : {S : Type 0} → Ghosts S → DeskValue S → Operator → Asked → Response → Operator → Response → Type 0
@@ -102,6 +108,11 @@ Responds g d s response next before after (Ok status) =
 Responds g d s response next before after (Err fault.Write) =
     (sent : Response) × Tells g d s response next sent × AppendsFront before after (bytes_of sent)
 Responds g d s response next before after (Err fault.Cut) = (text : List ℕ) × (response ≡ published text) × IsCut before after text × IsUndone g d s s
+
+-- the same of a feed, or of its lack
+abbrev pub Publishes : {S : Type 0} → Ghosts S → DeskValue S → Operator → ℕ → Feed → Option (List ℕ) → Option (List ℕ)
+    → Result ℕ SendFault → Type 0
+Publishes g d s t feed before after result = Responds g d s (feed_response s t feed s.system) s before after result
 
 -- the same of the response to what was asked
 abbrev pub RespondsTo : {S : Type 0} → Ghosts S → DeskValue S → Operator → ℕ → Asked → Option (List ℕ) → Option (List ℕ) → Result ℕ SendFault

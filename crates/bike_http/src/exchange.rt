@@ -71,7 +71,8 @@ pub fn serve_one<S: Alter, R: Read, W: Write>(
 ) -> Result<Served, ServeFault>
     ensures clean { doubt (desk_state S.Store desk.old).is_clean ≤ doubt (desk_state S.Store desk.new).is_clean }
     ensures served { OfOperator S.Store desk.old desk.new (λ s.
-        Serves S.Store desk.new s moment (R.remaining reader.old) (W.contents writer.old) (W.contents writer.new) result) }
+        Serves S.Store desk.new s moment (R.remaining reader.old)
+        (W.contents writer.old) (W.contents writer.new) result) }
     ensures done { OfOperator S.Store desk.old desk.new (λ s.
         result ≡ Ok (Served.Status 200) → IsDone S.Store desk.new s moment (R.remaining reader.old)) }
     ensures again { OfOperator S.Store desk.old desk.new (λ s. (first : Response)

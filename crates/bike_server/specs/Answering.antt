@@ -1,5 +1,5 @@
 -- What connections are answered, one after the other.
-use Rattle.std.specs.Prelude.{◌≡◌, ◌⊎◌, ℕ, ◌<◌, IsTrue, List, [], ◌∷◌, ◌++◌, length, take, drop, Some, Result, Ok, Err}
+use Rattle.std.specs.Prelude.{◌≡◌, ◌⊎◌, ℕ, ◌<◌, IsTrue, List, [], ◌∷◌, ◌++◌, length, take, drop, Option, Some, IfSome, IsSomeAnd, Result, Ok, Err}
 use Rattle.sqlite_trees.specs.declared.store.Store.{Ghosts}
 use Rattle.bike_operator.specs.Operator.{Operator}
 use Rattle.bike_schema.specs.Stands.{AllLeft}
@@ -12,7 +12,7 @@ use Rattle.bike_http.specs.declared.exchange.ServeFault.{ServeFault}
 use Rattle.bike_http.specs.declared.exchange.ServeFault.TheVariants.{Read, Write, Cut}
 use Rattle.bike_server.specs.declared.fault.ServerFault.{ServerFault}
 use Rattle.bike_server.specs.declared.fault.ServerFault.TheVariants.{StoreFailed}
-use Rattle.bike_server.specs.Visits.{Coming, Leaving, Visits}
+use Rattle.bike_server.specs.Visits.{Coming, Leaving, Visits, let_go}
 
 -- ---- one connection
 
@@ -75,6 +75,15 @@ module _ {S : Type 0} (g : Ghosts S) (desk : DeskValue S) where
   -- how one exchange ends
   abbrev pub Exchanges : Operator → Coming → Leaving → Type 0
   Exchanges s coming leaving = ((next : Operator) × IsAnswered s coming leaving next × IsAt g desk next) ⊎ StopsAt s coming leaving
+
+  -- the same, by what was sent
+  abbrev pub ExchangesWith : Operator → Coming → Result Served ServeFault → Option (List ℕ) → Type 0
+  ExchangesWith s coming served sent = IsSomeAnd sent (λ bytes. Exchanges s coming (record { served = served; sent = bytes }))
+
+  -- the same, of a connection that is let go
+  abbrev pub ExchangesOne : Operator → Coming → Option Visits → Option Visits → Type 0
+  ExchangesOne s coming before after =
+      IfSome before (λ visits. (leaving : Leaving) × (after ≡ Some (let_go visits leaving)) × Exchanges s coming leaving)
 
   -- ---- all connections
 

@@ -7,8 +7,8 @@ ghost use Rattle.sqlite_trees.specs.View.{doubt};
 ghost use Rattle.bike_operator.specs.Operator.{Operator};
 ghost use Rattle.bike_schema.specs.Stands.{AllLeft, TreesStandFor};
 ghost use Rattle.bike_http.specs.Desk.{desk_state, OfOperator};
-ghost use Rattle.bike_server.specs.Visits.{IsOpen, Leaving, let_go};
-ghost use Rattle.bike_server.specs.Answering.{Exchanges, ServesInOrder, without_end};
+ghost use Rattle.bike_server.specs.Visits.{IsOpen};
+ghost use Rattle.bike_server.specs.Answering.{ExchangesWith, ExchangesOne, ServesInOrder, without_end};
 ghost use Rattle.bike_server.specs.Listening.{end_of_serving, EndsListening};
 ghost use Rattle.bike_server.specs.Serving.{ServesRequests, StandsAfterRequests};
 
@@ -50,10 +50,9 @@ fn exchange<S: Alter, R: Read, W: Write + Drop>(
 ) -> (W, Result<Served, ServeFault>)
     ensures clean { doubt (desk_state S.Store desk.old).is_clean ≤ doubt (desk_state S.Store desk.new).is_clean }
     ensures kept { OfOperator S.Store desk.old desk.new (λ s. ServesRequests S.Store desk.new s) }
-    ensures exchanged { OfOperator S.Store desk.old desk.new (λ s.
-        (input : List ℕ) → R.remaining reader.old ≡ Some input → W.contents writer ≡ Some []
-        → IsSomeAnd (W.contents result.0) (λ sent. Exchanges S.Store desk.new s (record { moment = moment; input = input })
-        (record { served = result.1; sent = sent }))) }
+    ensures exchanged { OfOperator S.Store desk.old desk.new (λ s. (input : List ℕ)
+        → R.remaining reader.old ≡ Some input → W.contents writer ≡ Some []
+        → ExchangesWith S.Store desk.new s (record { moment = moment; input = input }) result.1 (W.contents result.0)) }
 {
     let mut buffer = TokenBuffer::new(writer);
     let served = serve_one(alloc, desk, routes, moment, reader, &mut buffer);
@@ -79,10 +78,10 @@ fn serve_arrival<S: Alter, A: Arrivals>(
     requires { IsOpen (A.known arrivals.old) }
     ensures clean { doubt (desk_state S.Store desk.old).is_clean ≤ doubt (desk_state S.Store desk.new).is_clean }
     ensures kept { OfOperator S.Store desk.old desk.new (λ s. ServesRequests S.Store desk.new s) }
-    ensures served { OfOperator S.Store desk.old desk.new (λ s.
-        (input : List ℕ) → A.Reader.remaining arrival.reader ≡ Some input → A.Writer.contents arrival.writer ≡ Some []
-        → IfSome (A.known arrivals.old) (λ visits. (leaving : Leaving) × (A.known arrivals.new ≡ Some (let_go visits leaving))
-        × Exchanges S.Store desk.new s (record { moment = arrival.moment; input = input }) leaving)) }
+    ensures served { OfOperator S.Store desk.old desk.new (λ s. (input : List ℕ)
+        → A.Reader.remaining arrival.reader ≡ Some input → A.Writer.contents arrival.writer ≡ Some []
+        → ExchangesOne S.Store desk.new s (record { moment = arrival.moment; input = input })
+        (A.known arrivals.old) (A.known arrivals.new)) }
 {
     let Arrival {
         moment,
