@@ -130,8 +130,7 @@ pub fn serve_count<S: Alter, A: Arrivals>(
 }
 
 /// A listener on this port of 127.0.0.1; `BindFailed` where there can be none.
-fn bind(rt: &HostRuntime, port: u16) -> Result<TcpListener, ServerFault>
-{
+fn bind(rt: &HostRuntime, port: u16) -> Result<TcpListener, ServerFault> {
     let address = format!(in rt.alloc(); "127.0.0.1:{port}")?;
     match TcpListener::bind(rt, address.as_str()) {
         Ok(listener) => Ok(listener),
@@ -151,8 +150,7 @@ fn tell_port<W: Write>(
     rt: &HostRuntime,
     listener: &TcpListener,
     writer: &mut W,
-) -> Result<(), ServerFault>
-{
+) -> Result<(), ServerFault> {
     let Ok(bound) = listener.local_addr() else {
         return Err(ServerFault::BindFailed);
     };
