@@ -1,15 +1,17 @@
 -- What the desk is after its questions.
-use Rattle.std.proofs.Common.{◌≡◌, ◌≤◌, Bool, true, false, IsTrue, None, Result, Ok, Err, sym, ◌∙◌, subst, arith}
+use Rattle.std.proofs.Common.{◌≡◌, ◌≢◌, ◌≤◌, Bool, true, false, IsTrue, None, Result, Ok, Err, sym, ap, ◌∙◌, subst, arith}
+use Rattle.std.specs.Result.{IsErrAnd}
 use Rattle.sqlite_trees.specs.View.{doubt}
 use Rattle.sqlite_trees.specs.declared.store.Store.{Ghosts}
 use Rattle.sqlite.specs.State.{HasCleanDisk}
 use Rattle.bike_operator.specs.Operator.{Operator}
 use Rattle.bike_desk.specs.declared.fault.DeskFault.{DeskFault}
+use Rattle.bike_desk.specs.declared.fault.DeskFault.TheVariants.{NoMemory}
 use Rattle.bike_desk.specs.Desk.{DeskValue, desk_state, IsAt}
 use Rattle.bike_desk.specs.Queries.{Queries}
 use Rattle.bike_feeds.specs.declared.fault.FeedFault.{FeedFault}
 use Rattle.bike_feeds.specs.declared.fault.FeedFault.TheVariants.{SystemMissing, Write, Desk}
-use Rattle.bike_feeds.specs.Publishing.{LeavesDesk}
+use Rattle.bike_feeds.specs.Publishing.{LeavesDesk, WantsNoMemory}
 use Rattle.bike_feeds.specs.Walking.{StaysAt}
 
 -- the same fault as the end of another function
@@ -18,6 +20,16 @@ same_fault is = cc
 
 told : {A B : Type 0} {x y : DeskFault} → ◌≡◌ {A = Result B FeedFault} (Err (Desk x)) (Err (Desk y)) → ◌≡◌ {A = Result A DeskFault} (Err x) (Err y)
 told is = cc
+
+-- the fault of a question that takes no memory
+pub wants_none : {A B : Type 0} (fault : DeskFault) → ◌≢◌ {A = Result A DeskFault} (Err fault) (Err NoMemory) → WantsNoMemory {A = B} (Err (Desk fault))
+wants_none fault none = λ is. let same : fault ≡ NoMemory = cc in none (ap (λ (x : DeskFault). Err x) same)
+
+-- .. and handed on
+pub no_want : {A B : Type 0} (fault : DeskFault) (result : Result B FeedFault) → IsErrAnd result (λ told. told ≡ Desk fault)
+    → ◌≢◌ {A = Result A DeskFault} (Err fault) (Err NoMemory) → WantsNoMemory result
+no_want fault (Ok x) told none = absurd told
+no_want {B = B} fault (Err other) told none = subst (λ (f : FeedFault). WantsNoMemory {A = B} (Err f)) (sym told) (wants_none fault none)
 
 pub going_only : (stopped : Bool) → stopped ≡ false → IsTrue stopped → ⊥
 going_only stopped going is_stopped = let e : true ≡ false = sym is_stopped ∙ going in absurd cc

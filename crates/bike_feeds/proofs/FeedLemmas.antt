@@ -20,7 +20,7 @@ use Rattle.bike_desk.specs.Desk.{DeskValue, desk_state, IsAt}
 use Rattle.bike_desk.specs.Queries.{Queries}
 use Rattle.bike_feeds.specs.declared.fault.FeedFault.{FeedFault}
 use Rattle.bike_feeds.specs.declared.fault.FeedFault.TheVariants.{SystemMissing, Write}
-use Rattle.bike_feeds.specs.Publishing.{LeavesDesk, feed_text, IsPublished, IsBegun, IsTooLong, MayFailToWrite}
+use Rattle.bike_feeds.specs.Publishing.{LeavesDesk, WantsNoMemory, feed_text, IsPublished, IsBegun, IsTooLong, MayFailToWrite}
 use Rattle.bike_feeds.specs.Listings.{elements, listing_text}
 use Rattle.bike_feeds.specs.declared.listing.Listing.{Listing}
 use Rattle.bike_feeds.specs.Walking.{StaysAt, WritesItems, WritesText, IsCounted}
@@ -144,6 +144,10 @@ pub published : {A : Type 0} (s : Operator) (feed : Feed) (moment : ℕ) (a b : 
     → OnOk r (IsPublished s feed moment a b)
 published s feed moment a b count (Ok x) h = (h.0, h.1, h.2)
 published s feed moment a b count (Err e) h = tt
+
+pub wants_passed : {A B : Type 0} (fault : FeedFault) (result : Result B FeedFault) → IsErrAnd result (λ told. told ≡ fault) → WantsNoMemory {A = A} (Err fault) → WantsNoMemory result
+wants_passed fault (Ok x) is none = absurd is
+wants_passed fault (Err told) is none = λ e. none (ap (λ f. Err f) (sym is) ∙ same_fault e)
 
 pub leaves_passed : {S A B : Type 0} (g : Ghosts S) {d e : DeskValue S} (fault : FeedFault) (result : Result B FeedFault) → IsErrAnd result (λ told. told ≡ fault)
     → LeavesDesk g d e {A = A} (Err fault) → LeavesDesk g d e result

@@ -92,6 +92,12 @@ module _ {S A C : Type 0} (g : Ghosts S) {says : Operator → A → Type 0} {so 
     stays = λ is_stopped. let it = query.stays is_stopped in (told_as fault other told it.0, it.1);
   }
 
+-- it is no want of memory, where the first one isn't
+pub no_want_so : {A C : Type 0} (fault : DeskFault) (result : Result C DeskFault) → IsErrAnd result (λ told. told ≡ fault)
+    → ◌≢◌ {A = Result A DeskFault} (Err fault) (Err NoMemory) → ◌≢◌ {A = Result C DeskFault} result (Err NoMemory)
+no_want_so fault (Ok x) told none = absurd told
+no_want_so fault (Err other) told none = λ is. none (told_of fault other told is)
+
 module _ {S A B C : Type 0} (g : Ghosts S) {says : Operator → A → Type 0} {and : Operator → B → Type 0} {so : Operator → C → Type 0} {d e f : DeskValue S} where
   -- one that failed behind one that was answered
   pub fails_behind : (x : A) (fault : DeskFault) (result : Result C DeskFault) → IsErrAnd result (λ told. told ≡ fault) → d.is_stopped ≡ false

@@ -45,6 +45,7 @@ module _ {S : Type 0} (g : Ghosts S) (text : Operator → List ℕ) where
       → WritesText g d e a b t.count (Ok x) text
   text_told {p = p} {t = t} x u start leaves wrote going well = record {
     desk = leaves_ok g x (left_well g u going leaves);
+    takes_none = λ is. absurd cc;
     whole = λ clean s at.
         let told = Wrote_ok {E = FeedFault} (Ok x) (wrote clean s at) (ap (λ (y : Place). y.failed) start) well in
         let none : p.count ≡ 0 = ap (λ (y : Place). y.count) start in
@@ -59,6 +60,7 @@ module _ {S : Type 0} (g : Ghosts S) (text : Operator → List ℕ) where
       → WritesText g d e a b count {A = A} (Err Write) text
   text_cut {A} {a = a} u start leaves wrote going failed = record {
     desk = leaves_write g (left_well g u going leaves);
+    takes_none = λ is. absurd cc;
     whole = λ clean s at. tt;
     front = λ clean s at. (Wrote_err {A = A} (Err Write) (wrote clean s at) (ap (λ (y : Place). y.failed) start) failed).0;
     cause = λ clean s at is.
@@ -121,6 +123,7 @@ module _ {S : Type 0} (g : Ghosts S) (t : Parts) where
       → Wrote p q a b t.head → d.is_stopped ≡ false → false ≡ not q.failed → WritesText g d d a b count result t.text
   head_cut {A} {a = a} {b = b} result told start head going failed = text_passed g t.text Write result told (record {
     desk = leaves_write g (stays_still g _ going);
+    takes_none = λ is. absurd cc;
     whole = λ clean s at. tt;
     front = λ clean s at.
         let longer : 0 < length (items_of s ++ t.tail s) = omega (arith, length-append (items_of s) (t.tail s), t.some s) in
@@ -141,6 +144,7 @@ module _ {S : Type 0} (g : Ghosts S) (t : Parts) where
       → p ≡ outset → Wrote p q a b t.head → WritesItems g d e q r b c {A = A} (Err fault) t.them → true ≡ not q.failed → WritesText g d e a c count result t.text
   list_failed {p = p} {q = q} {a = a} {b = b} {c = c} fault result told start head them well = text_passed g t.text fault result told (record {
     desk = leaves_same g fault them.desk;
+    takes_none = λ is. them.takes_none (same_fault is);
     whole = λ clean s at. tt;
     front = λ clean s at. subst (AppendsFront a.bytes c.bytes) (sym (t.is s)) (cut_short (t.tail s) head (them.front clean s at) (ap (λ (y : Place). y.failed) start) (t.some s));
     cause = λ clean s at write.

@@ -1,5 +1,5 @@
 -- A list that is read from the desk one element after another, and written as it is read.
-use Rattle.std.proofs.Common.{◌≡◌, ◌≤◌, ◌<◌, ◌⊎◌, ℕ, List, [], ◌∷◌, ◌++◌, map, find, length, Bool, true, false, not, IsTrue, Option, Some, None, Result, Ok, Err, inl, inr, refl, sym, ap, ◌∙◌, T, subst, arith, append_assoc, append-nil, length-append}
+use Rattle.std.proofs.Common.{◌≡◌, ◌≢◌, ◌≤◌, ◌<◌, ◌⊎◌, ℕ, List, [], ◌∷◌, ◌++◌, map, find, length, Bool, true, false, not, IsTrue, Option, Some, None, Result, Ok, Err, inl, inr, refl, sym, ap, ◌∙◌, T, subst, arith, append_assoc, append-nil, length-append}
 use Rattle.std.specs.Prelude.{slice_get}
 use Rattle.std.specs.Result.{IsErrAnd}
 use Rattle.std.specs.Ordering.{is_lt}
@@ -20,13 +20,14 @@ use Rattle.bike_feed_texts.specs.Writing.{WroteValue}
 use Rattle.bike_operator.specs.Operator.{Operator, text_cmp}
 use Rattle.bike_queries.specs.After.{IsNext}
 use Rattle.bike_desk.specs.declared.fault.DeskFault.{DeskFault}
+use Rattle.bike_desk.specs.declared.fault.DeskFault.TheVariants.{NoMemory}
 use Rattle.bike_desk.specs.Desk.{DeskValue, desk_state, IsAt}
 use Rattle.bike_desk.specs.Queries.{Queries}
 use Rattle.bike_feeds.specs.declared.fault.FeedFault.{FeedFault}
 use Rattle.bike_feeds.specs.declared.fault.FeedFault.TheVariants.{Write, Desk}
 use Rattle.bike_feeds.specs.Walking.{StaysAt, WritesItems, MayEnd}
 use Rattle.bike_feeds.proofs.After.{next_entry}
-use Rattle.bike_feeds.proofs.DeskLemmas.{earlier, stays_still, stays_asked, stays_then, left_well, leaves_ok, leaves_write, leaves_failed}
+use Rattle.bike_feeds.proofs.DeskLemmas.{earlier, stays_still, stays_asked, stays_then, left_well, leaves_ok, leaves_write, leaves_failed, wants_none}
 
 still_inside : (level : Level) → IsTrue (takes_array_end level) → IsTrue (takes_array_end (after_value level))
 still_inside Start h = absurd cc
@@ -252,9 +253,11 @@ module _ {S X : Type 0} (g : Ghosts S) (w : Walk X) where
 
   -- a question that failed
   pub asked_failed : {A B : Type 0} {says : Operator → A → Type 0} {d e f : DeskValue S} {p q : Place} {a b : OutputState} (fault : DeskFault) (result : Result B FeedFault)
-      → IsErrAnd result (λ told. told ≡ Desk fault) → Under d e p q a b → Queries g e f (Err fault) says → WritesItems g d f p q a b result (written w)
-  asked_failed {e = e} {f = f} fault result told h query = items_told (Desk fault) result told (record {
+      → IsErrAnd result (λ told. told ≡ Desk fault) → Under d e p q a b → Queries g e f (Err fault) says → ◌≢◌ {A = Result A DeskFault} (Err fault) (Err NoMemory)
+      → WritesItems g d f p q a b result (written w)
+  asked_failed {e = e} {f = f} fault result told h query none = items_told (Desk fault) result told (record {
     desk = leaves_failed g fault h.stays query;
+    takes_none = wants_none fault none;
     all = λ clean s at. tt;
     front = λ clean s at. rows_front (w.tree s) (h.at (earlier g e f query.clean clean) s at).wrote;
     cause = λ clean s at going is. absurd cc;
@@ -266,6 +269,7 @@ module _ {S X : Type 0} (g : Ghosts S) (w : Walk X) where
       → WritesItems g d e p q a b {A = A} (Err Write) (written w)
   ends_cut h why = record {
     desk = leaves_write g h.stays;
+    takes_none = λ is. absurd cc;
     all = λ clean s at. tt;
     front = λ clean s at. rows_front (w.tree s) (h.at clean s at).wrote;
     cause = λ clean s at going is. ends_early (w.tree s) (h.at clean s at).wrote going why;
@@ -292,6 +296,7 @@ module _ {S X : Type 0} (g : Ghosts S) (w : Walk X) where
   pub walk_ends : {A : Type 0} {d e : DeskValue S} {p q : Place} {a b : OutputState} (x : A) → Walks None d e p q a b → WritesItems g d e p q a b (Ok x) (written w)
   walk_ends x h = record {
     desk = leaves_ok g x h.stays;
+    takes_none = λ is. absurd cc;
     all = λ clean s at. let it = h.at clean s at in rows_end (w.tree s) it.wrote (all_written s it.rest it.first it.wrote);
     front = λ clean s at. tt;
     cause = λ clean s at going is. absurd cc;
@@ -307,6 +312,7 @@ module _ {S A : Type 0} {g : Ghosts S} {all : Operator → Items} {d e f : DeskV
       let stays = left_well g u going them.desk in
       record {
         desk = leaves_ok g u (stays_then g stays (stays_asked g answer stays.goes_on query));
+        takes_none = λ is. absurd cc;
         all = λ clean s at. them.all (earlier g e f query.clean clean) s at;
         front = λ clean s at. tt;
         cause = λ clean s at going is. absurd cc;
@@ -315,9 +321,11 @@ module _ {S A : Type 0} {g : Ghosts S} {all : Operator → Items} {d e f : DeskV
       }
 
   -- or one that failed
-  pub items_unasked : {B : Type 0} {says : Operator → B → Type 0} (fault : DeskFault) → Queries g e f (Err fault) says → WritesItems g d f p q a b {A = A} (Err (Desk fault)) all
-  items_unasked fault query = record {
+  pub items_unasked : {B : Type 0} {says : Operator → B → Type 0} (fault : DeskFault) → Queries g e f (Err fault) says → ◌≢◌ {A = Result B DeskFault} (Err fault) (Err NoMemory)
+      → WritesItems g d f p q a b {A = A} (Err (Desk fault)) all
+  items_unasked fault query none = record {
     desk = leaves_failed g fault (left_well g u going them.desk) query;
+    takes_none = wants_none fault none;
     all = λ clean s at. tt;
     front = λ clean s at. record { front = _; rest = []; split = sym (append-nil _); wrote = them.all (earlier g e f query.clean clean) s at };
     cause = λ clean s at going is. absurd cc;

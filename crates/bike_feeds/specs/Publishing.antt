@@ -1,9 +1,8 @@
 -- What publishing a feed owes.
-use Rattle.std.specs.Prelude.{◌≡◌, ◌≤◌, ◌<◌, ◌⊎◌, ℕ, List, length, IsTrue, false, MatchOption, Option, Some, None, Result, Err, OnOk}
+use Rattle.std.specs.Prelude.{◌≡◌, ◌≢◌, ◌≤◌, ◌<◌, ◌⊎◌, ℕ, List, length, IsTrue, false, MatchOption, Option, Some, None, Result, Err, OnOk}
 use Rattle.std.specs.Io.KnownBytes.{Keeps, Appends}
 use Rattle.sqlite_trees.specs.View.{doubt}
 use Rattle.sqlite_trees.specs.declared.store.Store.{Ghosts}
-use Rattle.sqlite.specs.State.{HasCleanDisk}
 use Rattle.bike_stream.specs.Writing.{AppendsFront}
 use Rattle.bike_json.specs.Outputs.{OutputState}
 use Rattle.bike_json.specs.State.{greatest_count}
@@ -14,7 +13,7 @@ use Rattle.bike_feed_texts.specs.declared.feed.Feed.{Feed}
 use Rattle.bike_feed_texts.specs.Trees.{feed_tree}
 use Rattle.bike_schema.specs.Stands.{AllLeft}
 use Rattle.bike_desk.specs.declared.fault.DeskFault.TheVariants.{NoMemory, StoreFailed, Stopped}
-use Rattle.bike_desk.specs.Desk.{DeskValue, desk_state, IsAt}
+use Rattle.bike_desk.specs.Desk.{DeskValue, desk_state, IsAt, OfOperator}
 use Rattle.bike_feeds.specs.declared.fault.FeedFault.{FeedFault}
 use Rattle.bike_feeds.specs.declared.fault.FeedFault.TheVariants.{SystemMissing, Write, Desk}
 
@@ -42,15 +41,19 @@ IsTooLong s feed moment = (x : SystemRow) × (s.system ≡ Some x) × (greatest_
 abbrev pub MayFailToWrite : OutputState → Operator → Feed → ℕ → Type 0
 MayFailToWrite output s feed moment = IsTrue output.may_refuse ⊎ IsTooLong s feed moment
 
+-- No want of memory is told: a desk takes none of its own while it answers what a feed asks.
+abbrev pub WantsNoMemory : {A : Type 0} → Result A FeedFault → Type 0
+WantsNoMemory result = result ≢ Err (Desk NoMemory)
+
 -- WHAT THE DESK IS AFTER A FEED, as the end tells; the faults of a desk are told as its own calls tell them
 pub record LeavesDesk {S : Type 0} (g : Ghosts S) (old new : DeskValue S) {A : Type 0} (result : Result A FeedFault) : Type 0 where
   pub clean : doubt (desk_state g old).is_clean ≤ doubt (desk_state g new).is_clean
-  pub same : HasCleanDisk (desk_state g new) → (s : Operator) → IsAt g old s → OnOk result (IsAt g new s)
-  pub missing : HasCleanDisk (desk_state g new) → (s : Operator) → IsAt g old s → result ≡ Err SystemMissing → (s.system ≡ None) × IsAt g new s
-  pub write : HasCleanDisk (desk_state g new) → (s : Operator) → IsAt g old s → result ≡ Err Write → IsAt g new s
-  pub no_memory : HasCleanDisk (desk_state g new) → (s : Operator) → IsAt g old s → result ≡ Err (Desk NoMemory) → IsAt g new s
+  pub same : OfOperator g old new (λ s. OnOk result (IsAt g new s))
+  pub missing : OfOperator g old new (λ s. result ≡ Err SystemMissing → (s.system ≡ None) × IsAt g new s)
+  pub write : OfOperator g old new (λ s. result ≡ Err Write → IsAt g new s)
+  pub no_memory : OfOperator g old new (λ s. result ≡ Err (Desk NoMemory) → IsAt g new s)
   -- whatever is answered, a crash may leave no more than before
-  pub left : HasCleanDisk (desk_state g new) → (s : Operator) → IsAt g old s → AllLeft (desk_state g new) (desk_state g old).may_leave
+  pub left : OfOperator g old new (λ s. AllLeft (desk_state g new) (desk_state g old).may_leave)
   pub goes_on : OnOk result (new.is_stopped ≡ false)
   pub stops : result ≡ Err (Desk StoreFailed) → IsTrue new.is_stopped
   pub stopped : result ≡ Err (Desk Stopped) → IsTrue old.is_stopped

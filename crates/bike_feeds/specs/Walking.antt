@@ -3,7 +3,6 @@ use Rattle.std.specs.Prelude.{◌≡◌, ◌≤◌, ◌+◌, ◌⊎◌, ℕ, Lis
 use Rattle.std.specs.Io.KnownBytes.{Appends}
 use Rattle.sqlite_trees.specs.View.{doubt}
 use Rattle.sqlite_trees.specs.declared.store.Store.{Ghosts}
-use Rattle.sqlite.specs.State.{HasCleanDisk}
 use Rattle.bike_stream.specs.Writing.{AppendsFront}
 use Rattle.bike_json.specs.Outputs.{OutputState}
 use Rattle.bike_json.specs.Tree.{Items, items_text}
@@ -15,16 +14,16 @@ use Rattle.bike_feed_texts.specs.declared.feed.Feed.{Feed}
 use Rattle.bike_feed_texts.specs.Elements.{CountsRow}
 use Rattle.bike_queries.specs.declared.counts.Counts.{Counts}
 use Rattle.bike_schema.specs.Stands.{AllLeft}
-use Rattle.bike_desk.specs.Desk.{DeskValue, desk_state, IsAt}
+use Rattle.bike_desk.specs.Desk.{DeskValue, desk_state, IsAt, OfOperator}
 use Rattle.bike_feeds.specs.declared.fault.FeedFault.{FeedFault}
 use Rattle.bike_feeds.specs.declared.fault.FeedFault.TheVariants.{Write}
-use Rattle.bike_feeds.specs.Publishing.{LeavesDesk, feed_text}
+use Rattle.bike_feeds.specs.Publishing.{LeavesDesk, WantsNoMemory, feed_text}
 
 -- the desk was asked, goes on, and is at the operator at whom it was
 pub record StaysAt {S : Type 0} (g : Ghosts S) (old new : DeskValue S) : Type 0 where
   pub clean : doubt (desk_state g old).is_clean ≤ doubt (desk_state g new).is_clean
-  pub same : HasCleanDisk (desk_state g new) → (s : Operator) → IsAt g old s → IsAt g new s
-  pub left : HasCleanDisk (desk_state g new) → (s : Operator) → IsAt g old s → AllLeft (desk_state g new) (desk_state g old).may_leave
+  pub same : OfOperator g old new (λ s. IsAt g new s)
+  pub left : OfOperator g old new (λ s. AllLeft (desk_state g new) (desk_state g old).may_leave)
   pub went_on : old.is_stopped ≡ false
   pub goes_on : new.is_stopped ≡ false
 
@@ -36,10 +35,11 @@ MayEnd output count bytes = IsTrue output.may_refuse ⊎ (greatest_count ≤ cou
 pub record WritesItems {S : Type 0} (g : Ghosts S) (old new : DeskValue S) (from to : Place) (before after : OutputState) {A : Type 0} (result : Result A FeedFault)
     (them : Operator → Items) : Type 0 where
   pub desk : LeavesDesk g old new result
-  pub all : HasCleanDisk (desk_state g new) → (s : Operator) → IsAt g old s → OnOk result (Wrote from to before after (items_text false (them s)))
-  pub front : HasCleanDisk (desk_state g new) → (s : Operator) → IsAt g old s → OnErr result (WroteFront from to before after (items_text false (them s)))
-  pub cause : HasCleanDisk (desk_state g new) → (s : Operator) → IsAt g old s → from.failed ≡ false → result ≡ Err Write
-      → MayEnd before from.count (items_text false (them s))
+  pub takes_none : WantsNoMemory result
+  pub all : OfOperator g old new (λ s. OnOk result (Wrote from to before after (items_text false (them s))))
+  pub front : OfOperator g old new (λ s. OnErr result (WroteFront from to before after (items_text false (them s))))
+  pub cause : OfOperator g old new (λ s. from.failed ≡ false → result ≡ Err Write
+      → MayEnd before from.count (items_text false (them s)))
   pub inside : IsTrue (takes_array_end to.top)
   pub round : to.round ≡ from.round
 
@@ -47,9 +47,11 @@ pub record WritesItems {S : Type 0} (g : Ghosts S) (old new : DeskValue S) (from
 pub record WritesText {S : Type 0} (g : Ghosts S) (old new : DeskValue S) (before after : OutputState) (count : ℕ) {A : Type 0} (result : Result A FeedFault)
     (text : Operator → List ℕ) : Type 0 where
   pub desk : LeavesDesk g old new result
-  pub whole : HasCleanDisk (desk_state g new) → (s : Operator) → IsAt g old s → OnOk result (Appends before.bytes after.bytes (text s) × (count ≡ length (text s)))
-  pub front : HasCleanDisk (desk_state g new) → (s : Operator) → IsAt g old s → OnErr result (AppendsFront before.bytes after.bytes (text s))
-  pub cause : HasCleanDisk (desk_state g new) → (s : Operator) → IsAt g old s → result ≡ Err Write → MayFail before 0 (text s)
+  pub takes_none : WantsNoMemory result
+  pub whole : OfOperator g old new (λ s.
+      OnOk result (Appends before.bytes after.bytes (text s) × (count ≡ length (text s))))
+  pub front : OfOperator g old new (λ s. OnErr result (AppendsFront before.bytes after.bytes (text s)))
+  pub cause : OfOperator g old new (λ s. result ≡ Err Write → MayFail before 0 (text s))
 
 -- the whole feed was written, and counted
 abbrev pub IsCounted : Operator → Feed → ℕ → Option (List ℕ) → Option (List ℕ) → ℕ → Type 0

@@ -5,7 +5,7 @@ ghost use Rattle.std.specs.Io.KnownBytes.{Keeps};
 ghost use Rattle.bike_json.specs.State.{outset};
 ghost use Rattle.bike_desk.specs.Desk.{OfOperator};
 ghost use Rattle.bike_feeds.specs.declared.fault.FeedFault.TheVariants.{Write as WriteFailed};
-ghost use Rattle.bike_feeds.specs.Publishing.{feed_text, IsPublished, IsBegun, IsLength, IsTooLong, MayFailToWrite, LeavesDesk};
+ghost use Rattle.bike_feeds.specs.Publishing.{feed_text, IsPublished, IsBegun, IsLength, IsTooLong, MayFailToWrite, LeavesDesk, WantsNoMemory};
 ghost use Rattle.bike_feeds.specs.Walking.{IsCounted, WritesText};
 
 use crate::fault::FeedFault;
@@ -63,6 +63,7 @@ fn publish<S: Alter, W: Output>(
 ) -> Result<(), FeedFault>
     requires { json.old ≡ outset }
     ensures desk { LeavesDesk S.Store desk.old desk.new result }
+    ensures takes_none { WantsNoMemory result }
     ensures whole { OfOperator S.Store desk.old desk.new (λ s.
         OnOk result (IsCounted s feed moment (W.contents out.old).bytes (W.contents out.new).bytes json.new.count)) }
     ensures front { OfOperator S.Store desk.old desk.new (λ s.
@@ -80,8 +81,9 @@ fn publish<S: Alter, W: Output>(
 /// Writes the feed for a moment: the text of the operator for whom the desk stands, and nothing else.
 ///
 /// `SystemMissing` comes exactly where no system is set, and then nothing is written; after `Write` or a fault of the desk a front of
-/// the text is. What is kept never changes. `NoMemory` and `Write` leave the desk as it was, `StoreFailed` stops it, and a
-/// stopped desk answers `Stopped`, stays as it is and writes nothing.
+/// the text is. What is kept never changes. `Write` leaves the desk as it was, `StoreFailed` stops it, also where memory is
+/// refused while a row is copied out, and a stopped desk answers `Stopped`, stays as it is and writes nothing. `NoMemory` never
+/// comes: nothing here takes memory before the engine does.
 pub fn write_feed<S: Alter, W: Write>(
     alloc: Global,
     desk: &mut Desk<S>,
@@ -90,6 +92,7 @@ pub fn write_feed<S: Alter, W: Write>(
     out: &mut W,
 ) -> Result<(), FeedFault>
     ensures desk { LeavesDesk S.Store desk.old desk.new result }
+    ensures takes_none { WantsNoMemory result }
     ensures whole { OfOperator S.Store desk.old desk.new (λ s.
         OnOk result (IsPublished s feed moment (W.contents out.old) (W.contents out.new))) }
     ensures front { OfOperator S.Store desk.old desk.new (λ s.
@@ -109,6 +112,7 @@ pub fn feed_length<S: Alter>(
     moment: Moment,
 ) -> Result<u64, FeedFault>
     ensures desk { LeavesDesk S.Store desk.old desk.new result }
+    ensures takes_none { WantsNoMemory result }
     ensures length { OfOperator S.Store desk.old desk.new (λ s. IfOk result (λ n. IsLength s feed moment n)) }
     ensures too_long { OfOperator S.Store desk.old desk.new (λ s.
         result ≡ Err WriteFailed → IsTooLong s feed moment) }

@@ -43,8 +43,9 @@ pub(crate) trait Listed: Drop {
         desk: &mut Desk<S>,
         after: Option<&Ident>,
     ) -> Result<Option<Self>, DeskFault>
-        ensures { Queries S.Store desk.old desk.new result
-            (λ s next. IsNext key (first_after (option_map (λ id. id.now) after.entry) (held s)) next) };
+        ensures query { Queries S.Store desk.old desk.new result
+            (λ s next. IsNext key (first_after (option_map (λ id. id.now) after.entry) (held s)) next) }
+        ensures takes_none { result ≢ Err DeskFault.NoMemory };
 
     /// Its identifier.
     fn identifier(&self) -> &Ident
@@ -58,8 +59,9 @@ pub(crate) trait Listed: Drop {
         translated: bool,
     ) -> Result<Self::Names, DeskFault>
         requires { desk.old.is_stopped ≡ false }
-        ensures { Queries S.Store desk.old desk.new result
-            (λ s names. IsTold translated s → (x : SystemRow) → tree x self.now names ≡ element s x self.now) };
+        ensures query { Queries S.Store desk.old desk.new result
+            (λ s names. IsTold translated s → (x : SystemRow) → tree x self.now names ≡ element s x self.now) }
+        ensures takes_none { result ≢ Err DeskFault.NoMemory };
 
     /// Writes it with these names as a value.
     fn write<W: Output>(
@@ -71,7 +73,8 @@ pub(crate) trait Listed: Drop {
     ) -> Result<(), WriteFault>
         requires value { IsTrue (takes_value json.old.top) }
         requires room { length json.old.round < 14 }
-        ensures wrote { WroteValue json.old json.new (W.contents out.old) (W.contents out.new) (tree system.now self.now names.now) }
+        ensures wrote { WroteValue json.old json.new (W.contents out.old) (W.contents out.new)
+            (tree system.now self.now names.now) }
         ensures place { IsIn json.new (after_value json.old.top) json.old.round }
         ensures outcome { is_ok result ≡ not json.new.failed };
 

@@ -13,7 +13,8 @@ use std::alloc::Global;
 
 /// Whether there is any name in a further language.
 pub(crate) fn is_translated<S: Alter>(alloc: Global, desk: &mut Desk<S>) -> Result<bool, DeskFault>
-    ensures { Queries S.Store desk.old desk.new result (λ s translated. IsTold translated s) }
+    ensures query { Queries S.Store desk.old desk.new result (λ s translated. IsTold translated s) }
+    ensures takes_none { result ≢ Err DeskFault.NoMemory }
 {
     let first = desk.language_after(alloc, None)?;
     Ok(first.is_some())

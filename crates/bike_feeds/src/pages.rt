@@ -1,6 +1,6 @@
 //! The stations of a feed, which the desk answers page by page.
 
-ghost use Rattle.std.specs.Prelude.{◌≡◌, false, true, option_map};
+ghost use Rattle.std.specs.Prelude.{◌≡◌, ◌≢◌, false, true, Err, option_map};
 ghost use Rattle.bike_queries.specs.Pages.{IsNamedStation, IsStatusOf, IsTold};
 ghost use Rattle.bike_desk.specs.Queries.{Queries};
 ghost use Rattle.bike_feeds.specs.Pages.{AreAhead, TakesNext};
@@ -21,9 +21,10 @@ pub(crate) fn next_station<S: Alter>(
     translated: bool,
 ) -> Result<Option<NamedStation>, DeskFault>
     requires { desk.old.is_stopped ≡ false }
-    ensures { Queries S.Store desk.old desk.new result (λ s next. IsTold translated s
+    ensures query { Queries S.Store desk.old desk.new result (λ s next. IsTold translated s
         → AreAhead (IsNamedStation true s) s (option_map (λ id. id.now) after.entry) page.old.items
         → TakesNext (IsNamedStation true s) s (option_map (λ id. id.now) after.entry) next page.new.items) }
+    ensures takes_none { result ≢ Err DeskFault.NoMemory }
 {
     if let Some(next) = page.pop_front() {
         return Ok(Some(next));
@@ -42,9 +43,10 @@ pub(crate) fn next_status<S: Alter>(
     type_ids: &[Ident],
 ) -> Result<Option<StationStatus>, DeskFault>
     requires { desk.old.is_stopped ≡ false }
-    ensures { Queries S.Store desk.old desk.new result (λ s next.
+    ensures query { Queries S.Store desk.old desk.new result (λ s next.
         AreAhead (IsStatusOf s type_ids.now) s (option_map (λ id. id.now) after.entry) page.old.items
         → TakesNext (IsStatusOf s type_ids.now) s (option_map (λ id. id.now) after.entry) next page.new.items) }
+    ensures takes_none { result ≢ Err DeskFault.NoMemory }
 {
     if let Some(next) = page.pop_front() {
         return Ok(Some(next));

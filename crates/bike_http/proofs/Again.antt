@@ -16,6 +16,7 @@ use Rattle.bike_incoming.proofs.Once.{asks_once}
 use Rattle.bike_answers.specs.declared.answer.Answer.TheVariants as answer
 use Rattle.bike_http.specs.Exchange.{Response, answered, published, response_of, operator_after, Answers}
 use Rattle.bike_http.specs.Telling.{Tells, TellsFor, Serves, unavailable}
+use Rattle.bike_http.proofs.Told.{tells_any}
 use Rattle.bike_http.specs.Again.{CameBefore, IsFirstOrNone, SendsAgain}
 use Rattle.bike_http.specs.declared.exchange.Served.{Served}
 use Rattle.bike_http.specs.declared.exchange.Served.TheVariants.{Empty, Status}
@@ -66,7 +67,7 @@ module _ {S : Type 0} (g : Ghosts S) (d : DeskValue S) (s : Operator) (t : ℕ) 
   sent_again : (sent : Response) → TellsFor g d s t input sent → IsFirstOrNone first sent × (d.is_stopped ≡ false → IsAt g d s)
   sent_again sent told = elim told [
     | inl none ↦ (inr none.0, λ going. none.1)
-    | inr some ↦ told_again some.0 sent some.1 some.2 some.3
+    | inr some ↦ told_again some.response sent some.next some.answers (tells_any g d s some.answers.asked some.told)
   ]
 
   pub sends_again : (r : Result Served ServeFault) → Serves g d s t input before after r → SendsAgain g d s first before after r

@@ -1,13 +1,15 @@
 -- How an exchange ends, from what is sent.
-use Rattle.std.proofs.Common.{◌≡◌, inl, inr, ℕ, List, Option, Some, Result, Ok, Err, IfSome, refl, sym, ap, ◌∙◌, arith}
+use Rattle.std.proofs.Common.{◌≡◌, inl, inr, ℕ, List, Option, Some, None, Result, Ok, Err, IfSome, IsSomeAnd, refl, sym, ap, ◌∙◌, subst, arith}
 use Rattle.sqlite_trees.specs.declared.store.Store.{Ghosts}
 use Rattle.bike_operator.specs.Operator.{Operator}
 use Rattle.bike_incoming.specs.declared.asked.Asked.{Asked}
 use Rattle.bike_incoming.specs.Received.{Received}
+use Rattle.bike_incoming.proofs.Once.{asks_once}
 use Rattle.bike_answers.specs.declared.answer.Answer.TheVariants as answer
 use Rattle.bike_feeds.specs.Desk.{DeskValue, IsAt}
-use Rattle.bike_http.specs.Exchange.{answered, response_of, operator_after, response_status, Answers}
-use Rattle.bike_http.specs.Telling.{SendsAnswer, Responds, Serves, Rests, Refuses, IsDone, end_of_sending, refusal_of}
+use Rattle.bike_http.specs.Exchange.{answered, response_of, operator_after, response_status, IsGood, Answers}
+use Rattle.bike_http.specs.Telling.{SendsAnswer, RespondsTo, Serves, RestsAfter, LeavesTables, Rests, Refuses, IsDone, end_of_sending, refusal_of}
+use Rattle.bike_http.proofs.Told.{tells_any}
 use Rattle.bike_http.specs.declared.respond.SendFault.{SendFault}
 use Rattle.bike_http.specs.declared.respond.SendFault.TheVariants as fault
 use Rattle.bike_http.specs.declared.exchange.Served.{Served}
@@ -22,22 +24,23 @@ told_status (Err e) = 0
 
 module _ {S : Type 0} (g : Ghosts S) (d : DeskValue S) (s : Operator) (t : ℕ) (input before after : Option (List ℕ)) where
   -- what the input asks for was known
-  module _ (asked : Asked) (received : IfSome input (λ bytes. Received bytes (Some asked))) where
-    answers : Answers input s t (response_of s t asked) (operator_after s t asked)
-    answers = record { asked = asked; received = received; gives = refl; leads = refl }
+  module _ (asked : Asked) (received : IfSome input (λ bytes. Received bytes (Some asked))) (good : IsGood t asked) where
+    abbrev answers : Answers input s t (response_of s t asked) (operator_after s t asked)
+    answers = record { asked = asked; received = received; good = good; gives = refl; leads = refl }
 
-    pub serves : (r : Result ℕ SendFault) → Responds g d s (response_of s t asked) (operator_after s t asked) before after r → Serves g d s t input before after (end_of_sending r)
-    serves (Ok status) h = (h.0, inr (response_of s t asked, operator_after s t asked, answers, h.1), h.2, h.3)
-    serves (Err fault.Write) h = (h.0, inr (response_of s t asked, operator_after s t asked, answers, h.1), h.2)
-    serves (Err fault.Cut) h = (h.0, operator_after s t asked, record { asked = asked; received = received; gives = sym h.1; leads = refl }, h.2, h.3)
+    pub serves : (r : Result ℕ SendFault) → RespondsTo g d s t asked before after r → Serves g d s t input before after (end_of_sending r)
+    serves (Ok status) h = (h.0, inr (record { response = response_of s t asked; next = operator_after s t asked; answers = answers; told = h.1 }), h.2, h.3)
+    serves (Err fault.Write) h = (h.0, inr (record { response = response_of s t asked; next = operator_after s t asked; answers = answers; told = h.1 }), h.2)
+    serves (Err fault.Cut) h =
+        (h.0, operator_after s t asked, record { asked = asked; received = received; good = good; gives = sym h.1; leads = refl }, h.2, h.3)
 
-    done_at : (status : ℕ) → Responds g d s (response_of s t asked) (operator_after s t asked) before after (Ok status) → status ≡ 200 → IsDone g d s t input
-    done_at status h is = elim h.1 [
+    done_at : (status : ℕ) → RespondsTo g d s t asked before after (Ok status) → status ≡ 200 → IsDone g d s t input
+    done_at status h is = elim (tells_any g d s asked h.1) [
       | inl told ↦ (response_of s t asked, operator_after s t asked, answers, told.1)
       | inr none ↦ absurd (let wrong : 200 ≡ 503 = sym is ∙ h.2 ∙ ap response_status none.0 in omega (arith, wrong))
     ]
 
-    pub is_done : (r : Result ℕ SendFault) → Responds g d s (response_of s t asked) (operator_after s t asked) before after r → end_of_sending r ≡ Ok (Status 200) → IsDone g d s t input
+    pub is_done : (r : Result ℕ SendFault) → RespondsTo g d s t asked before after r → end_of_sending r ≡ Ok (Status 200) → IsDone g d s t input
     is_done (Ok status) h is = done_at status h (ap told_status is)
     is_done (Err fault.Write) h is = absurd (let wrong : 0 ≡ 200 = ap told_status is in omega (arith, wrong))
     is_done (Err fault.Cut) h is = absurd (let wrong : 0 ≡ 200 = ap told_status is in omega (arith, wrong))
@@ -52,6 +55,17 @@ module _ {S : Type 0} (g : Ghosts S) (d : DeskValue S) (s : Operator) (t : ℕ) 
   never_done (Ok status) h is = absurd (let wrong : 200 ≡ 503 = sym (ap told_status is) ∙ h.0 in omega (arith, wrong))
   never_done (Err fault.Write) h is = absurd (let wrong : 0 ≡ 200 = ap told_status is in omega (arith, wrong))
   never_done (Err fault.Cut) h is = absurd (let wrong : 0 ≡ 200 = ap told_status is in omega (arith, wrong))
+
+-- what a known input asks for is one thing
+same_asked : (input : Option (List ℕ)) (asked other : Asked) → IfSome input (λ bytes. Received bytes (Some asked))
+    → IsSomeAnd input (λ bytes. Received bytes (Some other)) → asked ≡ other
+same_asked None asked other received known = absurd known
+same_asked (Some bytes) asked other received known = asks_once bytes asked other received.1 known.1
+
+pub leaves_tables : {S : Type 0} (g : Ghosts S) (old new : DeskValue S) (s : Operator) (t : ℕ) (input : Option (List ℕ)) (asked : Asked)
+    → IfSome input (λ bytes. Received bytes (Some asked)) → RestsAfter g old new s t asked → LeavesTables g old new s t input
+leaves_tables g old new s t input asked received rests other known =
+    subst (λ (a : Asked). RestsAfter g old new s t a) (same_asked input asked other received known) rests
 
 pub rests : {S : Type 0} (old new : DeskValue S) (before after : Option (List ℕ)) (r : Result ℕ SendFault) → Rests old new before after (end_of_sending r)
 rests old new before after (Ok status) = tt

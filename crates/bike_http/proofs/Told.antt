@@ -1,18 +1,21 @@
 -- What is told of a request, after a call of the desk and the sending of an answer.
-use Rattle.std.proofs.Common.{◌≡◌, inl, ℕ, List, Option, IsTrue, Result, Ok, Err, refl, sym, subst}
+use Rattle.std.proofs.Common.{◌≡◌, inl, ℕ, List, Option, false, IsTrue, Result, Ok, Err, refl, sym, ap, subst}
 use Rattle.std.proofs.lemmas.Bool.{both_ways}
 use Rattle.sqlite_trees.specs.declared.store.Store.{Ghosts}
 use Rattle.sqlite.specs.State.{HasCleanDisk}
 use Rattle.bike_operator.specs.Operator.{Operator}
 use Rattle.bike_schema.specs.Stands.{AllLeft}
+use Rattle.bike_heads.specs.declared.aim.Rejection.{Rejection}
 use Rattle.bike_incoming.specs.declared.asked.Asked.{Asked}
+use Rattle.bike_incoming.specs.declared.asked.Asked.TheVariants.{Reject, Apply, Show, Publish}
 use Rattle.bike_answers.specs.declared.answer.Answer.{Answer}
+use Rattle.bike_answers.specs.declared.answer.Answer.TheVariants as answer
 use Rattle.bike_feeds.specs.DeskFault.{DeskFault}
 use Rattle.bike_feeds.specs.DeskFault.TheVariants.{NoMemory, StoreFailed, Stopped}
 use Rattle.bike_feeds.specs.Desk.{DeskValue, desk_state, IsAt, TreesStandForEither}
 use Rattle.bike_feeds.specs.Queries.{Queries}
 use Rattle.bike_http.specs.Exchange.{Response, answered, response_of, operator_after}
-use Rattle.bike_http.specs.Telling.{IsUndone, Tells, SendsAnswer, Responds}
+use Rattle.bike_http.specs.Telling.{IsUndone, Tells, TellsAsked, SendsAnswer, Responds, RespondsTo}
 use Rattle.bike_http.specs.declared.respond.SendFault.{SendFault}
 use Rattle.bike_http.specs.declared.respond.SendFault.TheVariants as fault
 
@@ -34,6 +37,13 @@ module _ {S : Type 0} (g : Ghosts S) (old new : DeskValue S) (s next : Operator)
   act_undone StoreFailed same failed stops stopped = record { goes_on = λ going. absurd (both_ways new.is_stopped going (stops refl)); left = failed refl }
   act_undone Stopped same failed stops stopped = absurd (both_ways old.is_stopped at.goes_on (stopped refl))
 
+  -- .. and left the database, where the desk goes on
+  pub act_rests : (e : DeskFault) → (e ≡ NoMemory → new ≡ old) → (e ≡ StoreFailed → IsTrue new.is_stopped) → (e ≡ Stopped → IsTrue old.is_stopped)
+      → new.is_stopped ≡ false → (desk_state g new).now ≡ (desk_state g old).now
+  act_rests NoMemory same stops stopped on = ap (λ (d : DeskValue S). (desk_state g d).now) (same refl)
+  act_rests StoreFailed same stops stopped on = absurd (both_ways new.is_stopped on (stops refl))
+  act_rests Stopped same stops stopped on = absurd (both_ways old.is_stopped at.goes_on (stopped refl))
+
   -- a query failed
   pub query_undone : {A : Type 0} (says : Operator → A → Type 0) (e : DeskFault) → Queries g old new {A = A} (Err e) says → IsUndone g new s next
   query_undone says NoMemory q = at_first g new s next (subst (λ (d : DeskValue S). IsAt g d s) (sym (q.no_memory refl)) at)
@@ -41,7 +51,32 @@ module _ {S : Type 0} (g : Ghosts S) (old new : DeskValue S) (s next : Operator)
       record { goes_on = λ going. absurd (both_ways new.is_stopped going (q.stops refl)); left = λ db h. inl (at.keeps.left db (q.left clean s at db h)) }
   query_undone says Stopped q = absurd (both_ways old.is_stopped at.goes_on (q.stopped refl))
 
--- what is told of a request is told of what was asked
-pub responds_to : {S : Type 0} (g : Ghosts S) (d : DeskValue S) (s : Operator) (t : ℕ) (asked a : Asked) (before after : Option (List ℕ)) (r : Result ℕ SendFault) → asked ≡ a
-    → Responds g d s (response_of s t a) (operator_after s t a) before after r → Responds g d s (response_of s t asked) (operator_after s t asked) before after r
-responds_to g d s t asked a before after r is h = subst (λ (x : Asked). Responds g d s (response_of s t x) (operator_after s t x) before after r) (sym is) h
+-- what is told of what was asked
+pub tells_any : {S : Type 0} (g : Ghosts S) (d : DeskValue S) (s : Operator) (asked : Asked) {response sent : Response} {next : Operator}
+    → TellsAsked g d s asked response next sent → Tells g d s response next sent
+tells_any g d s (Reject rejection) told = inl told
+tells_any g d s (Apply q) told = told
+tells_any g d s (Show row) told = told
+tells_any g d s (Publish named) told = told
+
+module _ {S : Type 0} (g : Ghosts S) (d : DeskValue S) (s : Operator) (t : ℕ) (before after : Option (List ℕ)) (r : Result ℕ SendFault) where
+  -- the response to what was asked, of what is asked of the desk
+  pub responds_so : (asked : Asked)
+      → ((sent : Response) → Tells g d s (response_of s t asked) (operator_after s t asked) sent → TellsAsked g d s asked (response_of s t asked) (operator_after s t asked) sent)
+      → Responds g d s (response_of s t asked) (operator_after s t asked) before after r → RespondsTo g d s t asked before after r
+  responds_so asked so h = go r h where
+    go : (r : Result ℕ SendFault) → Responds g d s (response_of s t asked) (operator_after s t asked) before after r → RespondsTo g d s t asked before after r
+    go (Ok status) h = (h.0, so h.0 h.1, h.2, h.3)
+    go (Err fault.Write) h = (h.0, so h.0 h.1, h.2)
+    go (Err fault.Cut) h = h
+
+  -- .. and of what is answered at once
+  pub rejects : (rejection : Rejection) → IsAt g d s → SendsAnswer before after (answer.Rejected rejection) r → RespondsTo g d s t (Reject rejection) before after r
+  rejects rejection at h = go r h where
+    go : (r : Result ℕ SendFault) → SendsAnswer before after (answer.Rejected rejection) r → RespondsTo g d s t (Reject rejection) before after r
+    go (Ok status) h = (answered (answer.Rejected rejection), (refl, at), h.0, h.1)
+    go (Err fault.Write) h = (answered (answer.Rejected rejection), (refl, at), h)
+    go (Err fault.Cut) h = absurd h
+
+  pub responds_to : (asked a : Asked) → asked ≡ a → RespondsTo g d s t a before after r → RespondsTo g d s t asked before after r
+  responds_to asked a is h = subst (λ (x : Asked). RespondsTo g d s t x before after r) (sym is) h

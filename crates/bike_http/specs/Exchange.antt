@@ -3,6 +3,7 @@ use Rattle.std.specs.Prelude.{◌≡◌, ℕ, List, ◌++◌, length, Option, So
 use Rattle.bike_catalogue.specs.Rows.{SystemRow}
 use Rattle.bike_operator.specs.Operator.{Operator}
 use Rattle.bike_operator.specs.Runs.{step}
+use Rattle.bike_operator.specs.Sound.{IsCall}
 use Rattle.bike_feed_texts.specs.declared.feed.Feed.{Feed}
 use Rattle.bike_feeds.specs.Publishing.{feed_text}
 use Rattle.bike_incoming.specs.declared.asked.Asked.{Asked}
@@ -39,6 +40,13 @@ operator_after s t (Apply q) = (step s t q).1
 operator_after s t (Show row) = s
 operator_after s t (Publish feed) = s
 
+-- a request to act is a good one, at a moment of the program
+abbrev pub IsGood : ℕ → Asked → Type 0
+IsGood t (Reject rejection) = Unit {0}
+IsGood t (Apply q) = IsCall (t, q)
+IsGood t (Show row) = Unit {0}
+IsGood t (Publish feed) = Unit {0}
+
 -- the head of a feed of that text
 abbrev pub feed_head : List ℕ → List ℕ
 feed_head text = head_text 200 None (length text)
@@ -57,5 +65,6 @@ response_status (published text) = 200
 pub record Answers (input : Option (List ℕ)) (s : Operator) (t : ℕ) (response : Response) (next : Operator) : Type 0 where
   pub asked : Asked
   pub received : IfSome input (λ bytes. Received bytes (Some asked))
+  pub good : IsGood t asked
   pub gives : response ≡ response_of s t asked
   pub leads : next ≡ operator_after s t asked

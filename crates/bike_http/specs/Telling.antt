@@ -1,10 +1,13 @@
 -- What is told of a request, and where the desk is then.
-use Rattle.std.specs.Prelude.{◌≡◌, ◌⊎◌, ℕ, ◌<◌, List, [], ◌++◌, length, take, false, Option, Some, IfSome, Result, Ok, Err}
+use Rattle.std.specs.Prelude.{◌≡◌, ◌⊎◌, ℕ, ◌<◌, List, [], ◌++◌, length, take, false, Option, Some, IfSome, IsSomeAnd, Result, Ok, Err}
 use Rattle.std.specs.Io.KnownBytes.{Appends, Keeps}
 use Rattle.sqlite_trees.specs.declared.store.Store.{Ghosts}
 use Rattle.bike_stream.specs.Writing.{AppendsFront}
+use Rattle.bike_commands.specs.declared.request.Request.{Request}
 use Rattle.bike_operator.specs.Operator.{Operator}
+use Rattle.bike_operator.specs.Runs.{step}
 use Rattle.bike_schema.specs.Stands.{AllLeft}
+use Rattle.bike_feed_texts.specs.declared.feed.Feed.{Feed}
 use Rattle.bike_feeds.specs.Desk.{DeskValue, desk_state, IsAt, TreesStandForEither}
 use Rattle.bike_incoming.specs.declared.asked.Asked.{Asked}
 use Rattle.bike_incoming.specs.declared.asked.Asked.TheVariants.{Reject, Apply, Show, Publish}
@@ -12,7 +15,7 @@ use Rattle.bike_incoming.specs.Received.{Received}
 use Rattle.bike_answers.specs.declared.answer.Answer.{Answer}
 use Rattle.bike_answers.specs.declared.answer.Answer.TheVariants as answer
 use Rattle.bike_answers.specs.Sent.{answer_text, Sends}
-use Rattle.bike_http.specs.Exchange.{Response, answered, published, bytes_of, feed_head, response_status, Answers}
+use Rattle.bike_http.specs.Exchange.{Response, answered, published, bytes_of, feed_head, feed_response, response_of, response_status, operator_after, Answers}
 use Rattle.bike_http.specs.declared.respond.SendFault.{SendFault}
 use Rattle.bike_http.specs.declared.respond.SendFault.TheVariants as fault
 use Rattle.bike_http.specs.declared.exchange.Served.{Served}
@@ -34,15 +37,50 @@ unavailable = answered answer.Unavailable
 abbrev pub Tells : {S : Type 0} → Ghosts S → DeskValue S → Operator → Response → Operator → Response → Type 0
 Tells g d s response next sent = ((sent ≡ response) × IsAt g d next) ⊎ ((sent ≡ unavailable) × IsUndone g d s next)
 
+-- the same of a request to act, by the answer to it
+abbrev pub TellsReply : {S : Type 0} → Ghosts S → DeskValue S → Operator → ℕ → Request → Answer → Type 0
+TellsReply g d s t q sent = Tells g d s (answered (answer.Replied (step s t q).0)) (step s t q).1 (answered sent)
+
+-- the same of what was asked: what is answered at once is told whatever the desk is
+abbrev pub TellsAsked : {S : Type 0} → Ghosts S → DeskValue S → Operator → Asked → Response → Operator → Response → Type 0
+TellsAsked g d s (Reject rejection) response next sent = (sent ≡ response) × IsAt g d next
+TellsAsked g d s (Apply q) response next sent = Tells g d s response next sent
+TellsAsked g d s (Show row) response next sent = Tells g d s response next sent
+TellsAsked g d s (Publish named) response next sent = Tells g d s response next sent
+
+-- What is told of an input by its response.
+pub record TellsResponse {S : Type 0} (g : Ghosts S) (d : DeskValue S) (s : Operator) (t : ℕ) (input : Option (List ℕ)) (sent : Response) : Type 0 where
+  pub response : Response
+  pub next : Operator
+  pub answers : Answers input s t response next
+  pub told : TellsAsked g d s answers.asked response next sent
+
 -- the same of an input; where memory was refused while it was read, the desk is asked nothing
 abbrev pub TellsFor : {S : Type 0} → Ghosts S → DeskValue S → Operator → ℕ → Option (List ℕ) → Response → Type 0
-TellsFor g d s t input sent =
-    ((sent ≡ unavailable) × IsAt g d s)
-    ⊎ ((response : Response) × (next : Operator) × Answers input s t response next × Tells g d s response next sent)
+TellsFor g d s t input sent = ((sent ≡ unavailable) × IsAt g d s) ⊎ TellsResponse g d s t input sent
 
 -- the input asks for something, and the desk is at the operator after it
 abbrev pub IsDone : {S : Type 0} → Ghosts S → DeskValue S → Operator → ℕ → Option (List ℕ) → Type 0
 IsDone g d s t input = (response : Response) × (next : Operator) × Answers input s t response next × IsAt g d next
+
+-- ---- the tables
+
+-- what was asked leaves the operator as he is, and isn't a question
+abbrev pub LeavesOperator : Operator → ℕ → Asked → Type 0
+LeavesOperator s t (Reject rejection) = Unit {0}
+LeavesOperator s t (Apply q) = (step s t q).1 ≡ s
+LeavesOperator s t (Show row) = ⊥
+LeavesOperator s t (Publish named) = ⊥
+
+-- where it does, and the desk goes on, the whole database is as it was
+abbrev pub RestsAfter : {S : Type 0} → Ghosts S → DeskValue S → DeskValue S → Operator → ℕ → Asked → Type 0
+RestsAfter g old new s t asked =
+    LeavesOperator s t asked → new.is_stopped ≡ false → (desk_state g new).now ≡ (desk_state g old).now
+
+-- A REQUEST THAT CHANGES NOTHING of the operator, since it is rejected or refused or comes again, changes nothing of the database
+abbrev pub LeavesTables : {S : Type 0} → Ghosts S → DeskValue S → DeskValue S → Operator → ℕ → Option (List ℕ) → Type 0
+LeavesTables g old new s t input =
+    (asked : Asked) → IsSomeAnd input (λ bytes. Received bytes (Some asked)) → RestsAfter g old new s t asked
 
 -- ---- the bytes
 
@@ -70,6 +108,22 @@ Responds g d s response next before after (Ok status) =
 Responds g d s response next before after (Err fault.Write) =
     (sent : Response) × Tells g d s response next sent × AppendsFront before after (bytes_of sent)
 Responds g d s response next before after (Err fault.Cut) = (text : List ℕ) × (response ≡ published text) × IsCut before after text × IsUndone g d s s
+
+-- the same of a feed, or of its lack
+abbrev pub Publishes : {S : Type 0} → Ghosts S → DeskValue S → Operator → ℕ → Feed → Option (List ℕ) → Option (List ℕ)
+    → Result ℕ SendFault → Type 0
+Publishes g d s t feed before after result = Responds g d s (feed_response s t feed s.system) s before after result
+
+-- the same of the response to what was asked
+abbrev pub RespondsTo : {S : Type 0} → Ghosts S → DeskValue S → Operator → ℕ → Asked → Option (List ℕ) → Option (List ℕ) → Result ℕ SendFault
+    → Type 0
+RespondsTo g d s t asked before after (Ok status) =
+    (sent : Response) × TellsAsked g d s asked (response_of s t asked) (operator_after s t asked) sent × (status ≡ response_status sent)
+    × Appends before after (bytes_of sent)
+RespondsTo g d s t asked before after (Err fault.Write) =
+    (sent : Response) × TellsAsked g d s asked (response_of s t asked) (operator_after s t asked) sent × AppendsFront before after (bytes_of sent)
+RespondsTo g d s t asked before after (Err fault.Cut) =
+    (text : List ℕ) × (response_of s t asked ≡ published text) × IsCut before after text × IsUndone g d s s
 
 -- ---- the exchange
 

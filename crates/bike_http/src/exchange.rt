@@ -1,13 +1,11 @@
 //! One exchange.
 
 ghost use Rattle.std.specs.Prelude.{◌≡◌, ◌≤◌, IsTrue, Ok};
-ghost use Rattle.sqlite.specs.State.{HasCleanDisk};
 ghost use Rattle.sqlite_trees.specs.View.{doubt};
-ghost use Rattle.bike_operator.specs.Operator.{Operator};
-ghost use Rattle.bike_feeds.specs.Desk.{desk_state, IsAt, OfOperator};
+ghost use Rattle.bike_feeds.specs.Desk.{desk_state, OfOperator};
 ghost use Rattle.bike_http.specs.Exchange.{Response};
 ghost use Rattle.bike_http.specs.Again.{CameBefore, SendsAgain};
-ghost use Rattle.bike_http.specs.Telling.{end_of_sending, Serves, Rests, Refuses, IsDone};
+ghost use Rattle.bike_http.specs.Telling.{end_of_sending, Serves, LeavesTables, Rests, Refuses, IsDone};
 
 use crate::respond::{SendFault, respond, send};
 use bike_answers::Answer;
@@ -61,7 +59,8 @@ fn ended(sent: Result<u16, SendFault>) -> Result<Served, ServeFault>
 /// than 20,000 are needed, and then nothing is asked of the desk; `Write` where a write fails, after a front of the response or of
 /// the 503; `Cut` where the desk fails behind a feed's head. A stopped desk stays as it is: what asks for nothing is rejected as ever,
 /// and all else is answered 503. A request that was accepted before, by this desk or by one that stopped since, is sent its first response
-/// again, or 503, and changes nothing.
+/// again, or 503, and changes nothing. Where a request leaves the operator as he is, since it is rejected or refused or comes again, and
+/// the desk goes on, the whole database is as it was.
 pub fn serve_one<S: Alter, R: Read, W: Write>(
     alloc: Global,
     desk: &mut Desk<S>,
@@ -72,12 +71,15 @@ pub fn serve_one<S: Alter, R: Read, W: Write>(
 ) -> Result<Served, ServeFault>
     ensures clean { doubt (desk_state S.Store desk.old).is_clean ≤ doubt (desk_state S.Store desk.new).is_clean }
     ensures served { OfOperator S.Store desk.old desk.new (λ s.
-        Serves S.Store desk.new s moment (R.remaining reader.old) (W.contents writer.old) (W.contents writer.new) result) }
+        Serves S.Store desk.new s moment (R.remaining reader.old)
+        (W.contents writer.old) (W.contents writer.new) result) }
     ensures done { OfOperator S.Store desk.old desk.new (λ s.
         result ≡ Ok (Served.Status 200) → IsDone S.Store desk.new s moment (R.remaining reader.old)) }
-    ensures again { HasCleanDisk (desk_state S.Store desk.new) → (s : Operator) (first : Response) → IsAt S.Store desk.old s
+    ensures again { OfOperator S.Store desk.old desk.new (λ s. (first : Response)
         → CameBefore (R.remaining reader.old) s first
-        → SendsAgain S.Store desk.new s first (W.contents writer.old) (W.contents writer.new) result }
+        → SendsAgain S.Store desk.new s first (W.contents writer.old) (W.contents writer.new) result) }
+    ensures tables { OfOperator S.Store desk.old desk.new (λ s.
+        LeavesTables S.Store desk.old desk.new s moment (R.remaining reader.old)) }
     ensures rests { Rests desk.old desk.new (W.contents writer.old) (W.contents writer.new) result }
     ensures stays { IsTrue desk.old.is_stopped → desk.new ≡ desk.old }
     ensures refuses { IsTrue desk.old.is_stopped

@@ -9,5 +9,6 @@ use bike_feed_texts::Feed;
 /// An input has one response, and one operator is after it: they are settled by its bytes, the operator and the moment.
 pub fn answered_once(_example: Feed)
     ensures { (input : List ℕ) (s : Operator) (t : ℕ) (response other : Response) (next then : Operator)
-        → Answers (Some input) s t response next → Answers (Some input) s t other then → (response ≡ other) × (next ≡ then) }
+        → Answers (Some input) s t response next → Answers (Some input) s t other then
+        → (response ≡ other) × (next ≡ then) }
 {}

@@ -2,13 +2,13 @@
 
 ghost use Rattle.std.specs.Prelude.{◌≡◌, ◌≤◌, IsTrue};
 ghost use Rattle.sqlite_trees.specs.View.{doubt};
-ghost use Rattle.bike_operator.specs.Runs.{step};
+ghost use Rattle.bike_operator.specs.Sound.{IsCall};
 ghost use Rattle.bike_feeds.specs.Desk.{desk_state, OfOperator};
 ghost use Rattle.bike_feeds.specs.Queries.{Queries};
 ghost use Rattle.bike_feeds.specs.Publishing.{IsLength};
 ghost use Rattle.bike_http.specs.Shown.{shown_of};
-ghost use Rattle.bike_http.specs.Exchange.{answered, feed_response, response_of, operator_after};
-ghost use Rattle.bike_http.specs.Telling.{Tells, SendsAnswer, SendsText, Responds, refusal_of};
+ghost use Rattle.bike_http.specs.Exchange.{answered, IsGood};
+ghost use Rattle.bike_http.specs.Telling.{Tells, TellsReply, RestsAfter, SendsAnswer, SendsText, Publishes, RespondsTo, refusal_of};
 
 use crate::rows::{bike_answer, order_answer, rental_answer, rider_answer};
 use arrayvec::ArrayVec;
@@ -50,10 +50,16 @@ pub(crate) fn send<W: Write>(writer: &mut W, answer: &Answer) -> Result<u16, Sen
 fn act<S: Alter>(alloc: Global, desk: &mut Desk<S>, moment: Moment, request: &Request) -> Answer
     ensures clean { doubt (desk_state S.Store desk.old).is_clean ≤ doubt (desk_state S.Store desk.new).is_clean }
     ensures told { OfOperator S.Store desk.old desk.new (λ s.
-        Tells S.Store desk.new s (answered (Answer.Replied (step s moment request.now).0)) (step s moment request.now).1 (answered result)) }
+        TellsReply S.Store desk.new s moment request.now result) }
+    ensures rests { OfOperator S.Store desk.old desk.new (λ s.
+        RestsAfter S.Store desk.old desk.new s moment (Asked.Apply request.now)) }
+    ensures good { IsCall (moment, request.now) }
     ensures stays { IsTrue desk.old.is_stopped → desk.new ≡ desk.old }
     ensures refuses { IsTrue desk.old.is_stopped → result ≡ Answer.Unavailable }
 {
+    // What is booked is a good request at a moment of the program.
+    request.bounds();
+    let _ = moment.seconds();
     match desk.apply(alloc, moment, request) {
         Ok(reply) => Answer::Replied(reply),
         Err(_) => Answer::Unavailable,
@@ -97,7 +103,7 @@ fn publish_whole<S: Alter, W: Write>(
 ) -> Result<u16, SendFault>
     ensures clean { doubt (desk_state S.Store desk.old).is_clean ≤ doubt (desk_state S.Store desk.new).is_clean }
     ensures sent { OfOperator S.Store desk.old desk.new (λ s. IsLength s feed moment length
-        → Responds S.Store desk.new s (feed_response s moment feed s.system) s (W.contents writer.old) (W.contents writer.new) result) }
+        → Publishes S.Store desk.new s moment feed (W.contents writer.old) (W.contents writer.new) result) }
     ensures stays { IsTrue desk.old.is_stopped → desk.new ≡ desk.old }
 {
     let head = head_text(200, None, length);
@@ -121,9 +127,10 @@ fn publish_counted<S: Alter, W: Write>(
 ) -> Result<u16, SendFault>
     ensures clean { doubt (desk_state S.Store desk.old).is_clean ≤ doubt (desk_state S.Store desk.new).is_clean }
     ensures sent { OfOperator S.Store desk.old desk.new (λ s.
-        Responds S.Store desk.new s (feed_response s moment feed s.system) s (W.contents writer.old) (W.contents writer.new) result) }
+        Publishes S.Store desk.new s moment feed (W.contents writer.old) (W.contents writer.new) result) }
     ensures stays { IsTrue desk.old.is_stopped → desk.new ≡ desk.old }
-    ensures refuses { IsTrue desk.old.is_stopped → SendsAnswer (W.contents writer.old) (W.contents writer.new) Answer.Unavailable result }
+    ensures refuses { IsTrue desk.old.is_stopped
+        → SendsAnswer (W.contents writer.old) (W.contents writer.new) Answer.Unavailable result }
 {
     match feed_length(alloc, desk, feed, moment) {
         Ok(length) => publish_whole(alloc, desk, feed, length, moment, writer),
@@ -156,9 +163,10 @@ fn publish<S: Alter, W: Write>(
 ) -> Result<u16, SendFault>
     ensures clean { doubt (desk_state S.Store desk.old).is_clean ≤ doubt (desk_state S.Store desk.new).is_clean }
     ensures sent { OfOperator S.Store desk.old desk.new (λ s.
-        Responds S.Store desk.new s (feed_response s moment feed s.system) s (W.contents writer.old) (W.contents writer.new) result) }
+        Publishes S.Store desk.new s moment feed (W.contents writer.old) (W.contents writer.new) result) }
     ensures stays { IsTrue desk.old.is_stopped → desk.new ≡ desk.old }
-    ensures refuses { IsTrue desk.old.is_stopped → SendsAnswer (W.contents writer.old) (W.contents writer.new) Answer.Unavailable result }
+    ensures refuses { IsTrue desk.old.is_stopped
+        → SendsAnswer (W.contents writer.old) (W.contents writer.new) Answer.Unavailable result }
 {
     let mut text = ArrayVec::<u8, HELD_TEXT>::new();
     match write_feed(alloc, desk, feed, moment, &mut text) {
@@ -180,9 +188,12 @@ pub(crate) fn respond<S: Alter, W: Write>(
 ) -> Result<u16, SendFault>
     ensures clean { doubt (desk_state S.Store desk.old).is_clean ≤ doubt (desk_state S.Store desk.new).is_clean }
     ensures sent { OfOperator S.Store desk.old desk.new (λ s.
-        Responds S.Store desk.new s (response_of s moment asked) (operator_after s moment asked) (W.contents writer.old) (W.contents writer.new) result) }
+        RespondsTo S.Store desk.new s moment asked (W.contents writer.old) (W.contents writer.new) result) }
+    ensures rests { OfOperator S.Store desk.old desk.new (λ s. RestsAfter S.Store desk.old desk.new s moment asked) }
+    ensures good { IsGood moment asked }
     ensures stays { IsTrue desk.old.is_stopped → desk.new ≡ desk.old }
-    ensures refuses { IsTrue desk.old.is_stopped → SendsAnswer (W.contents writer.old) (W.contents writer.new) (refusal_of asked) result }
+    ensures refuses { IsTrue desk.old.is_stopped
+        → SendsAnswer (W.contents writer.old) (W.contents writer.new) (refusal_of asked) result }
 {
     match asked {
         Asked::Reject(rejection) => send(writer, &Answer::Rejected(rejection)),

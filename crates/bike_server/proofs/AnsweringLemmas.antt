@@ -13,6 +13,7 @@ use Rattle.bike_http.specs.declared.exchange.Served.{Served}
 use Rattle.bike_http.specs.declared.exchange.Served.TheVariants.{Empty, Status}
 use Rattle.bike_http.specs.declared.exchange.ServeFault.{ServeFault}
 use Rattle.bike_http.specs.declared.exchange.ServeFault.TheVariants.{Read, Write, Cut}
+use Rattle.bike_http.proofs.Told.{tells_any}
 use Rattle.bike_server.specs.Visits.{Coming}
 use Rattle.bike_server.specs.Answering.{BeginsWith, IsResponse, IsRefused, StopsAt, Exchanges, without_end}
 
@@ -86,9 +87,9 @@ module _ {S : Type 0} (g : Ghosts S) (desk : DeskValue S) (s : Operator) (coming
   told : (response : Response) → TellsFor g desk s coming.moment (Some coming.input) response
       → ((next : Operator) × IsResponse s coming response next × IsAt g desk next) ⊎ ((response ≡ unavailable) × Halts)
   told response (inl it) = inl (s, inr (it.0, refl), it.1)
-  told response (inr it) = elim it.3 [
-    | inl same ↦ inl (it.1, inl (subst (λ (r : Response). Answers (Some coming.input) s coming.moment r it.1) (sym same.0) it.2), same.1)
-    | inr none ↦ elim (undone it.0 it.1 it.2 none.1) [
+  told response (inr it) = elim (tells_any g desk s it.answers.asked it.told) [
+    | inl same ↦ inl (it.next, inl (subst (λ (r : Response). Answers (Some coming.input) s coming.moment r it.next) (sym same.0) it.answers), same.1)
+    | inr none ↦ elim (undone it.response it.next it.answers none.1) [
       | inl at ↦ inl (s, inr (none.0, refl), at)
       | inr halts ↦ inr (none.0, halts)
     ]

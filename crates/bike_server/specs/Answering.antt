@@ -1,10 +1,8 @@
 -- What connections are answered, one after the other.
-use Rattle.std.specs.Prelude.{◌≡◌, ◌⊎◌, ℕ, ◌<◌, IsTrue, List, [], ◌∷◌, ◌++◌, length, take, drop, Some, Result, Ok, Err}
+use Rattle.std.specs.Prelude.{◌≡◌, ◌⊎◌, ℕ, ◌<◌, IsTrue, List, [], ◌∷◌, ◌++◌, length, take, drop, Option, Some, IfSome, IsSomeAnd, Result, Ok, Err}
 use Rattle.sqlite_trees.specs.declared.store.Store.{Ghosts}
 use Rattle.bike_operator.specs.Operator.{Operator}
 use Rattle.bike_schema.specs.Stands.{AllLeft}
-use Rattle.bike_console.specs.declared.end.Fault.{Fault}
-use Rattle.bike_console.specs.declared.end.Fault.TheVariants.{StoreFailed}
 use Rattle.bike_http.specs.Desk.{DeskValue, desk_state, IsAt, TreesStandForEither}
 use Rattle.bike_http.specs.Exchange.{Response, published, bytes_of, response_status, Answers}
 use Rattle.bike_http.specs.Telling.{unavailable}
@@ -12,7 +10,9 @@ use Rattle.bike_http.specs.declared.exchange.Served.{Served}
 use Rattle.bike_http.specs.declared.exchange.Served.TheVariants.{Empty, Status}
 use Rattle.bike_http.specs.declared.exchange.ServeFault.{ServeFault}
 use Rattle.bike_http.specs.declared.exchange.ServeFault.TheVariants.{Read, Write, Cut}
-use Rattle.bike_server.specs.Visits.{Coming, Leaving, Visits}
+use Rattle.bike_server.specs.declared.fault.ServerFault.{ServerFault}
+use Rattle.bike_server.specs.declared.fault.ServerFault.TheVariants.{StoreFailed}
+use Rattle.bike_server.specs.Visits.{Coming, Leaving, Visits, let_go}
 
 -- ---- one connection
 
@@ -76,6 +76,15 @@ module _ {S : Type 0} (g : Ghosts S) (desk : DeskValue S) where
   abbrev pub Exchanges : Operator → Coming → Leaving → Type 0
   Exchanges s coming leaving = ((next : Operator) × IsAnswered s coming leaving next × IsAt g desk next) ⊎ StopsAt s coming leaving
 
+  -- the same, by what was sent
+  abbrev pub ExchangesWith : Operator → Coming → Result Served ServeFault → Option (List ℕ) → Type 0
+  ExchangesWith s coming served sent = IsSomeAnd sent (λ bytes. Exchanges s coming (record { served = served; sent = bytes }))
+
+  -- the same, of a connection that is let go
+  abbrev pub ExchangesOne : Operator → Coming → Option Visits → Option Visits → Type 0
+  ExchangesOne s coming before after =
+      IfSome before (λ visits. (leaving : Leaving) × (after ≡ Some (let_go visits leaving)) × Exchanges s coming leaving)
+
   -- ---- all connections
 
   -- So many were answered, or all where there are fewer: the first of those ahead.
@@ -101,7 +110,7 @@ module _ {S : Type 0} (g : Ghosts S) (desk : DeskValue S) where
     pub sent : after.gone ≡ before.gone ++ gone ++ leaving ∷ []
 
   -- SERVING IN ORDER, by how it ended; nothing else ends it
-  abbrev pub ServesInOrder : Operator → ℕ → Visits → Visits → Result (Unit {0}) Fault → Type 0
+  abbrev pub ServesInOrder : Operator → ℕ → Visits → Visits → Result (Unit {0}) ServerFault → Type 0
   ServesInOrder s count before after (Ok _) = ServesAll s count before after
   ServesInOrder s count before after (Err StoreFailed) = ServesUntilStopped s count before after
   ServesInOrder s count before after (Err _) = ⊥

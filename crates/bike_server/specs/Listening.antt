@@ -11,15 +11,25 @@ use Rattle.bike_adoption.specs.Adoption.{handed, IsToldOf, IsWant}
 use Rattle.bike_console.specs.declared.end.Fault.{Fault}
 use Rattle.bike_console.specs.declared.end.Fault.TheVariants.{StoreFailed, OutOfMemory, WriteFailed, BindFailed, AcceptFailed}
 use Rattle.bike_console.specs.Ends.{adopt_fault}
+use Rattle.bike_server.specs.declared.fault.ServerFault.{ServerFault}
+use Rattle.bike_server.specs.declared.fault.ServerFault.TheVariants as server
 
--- a fault of serving itself: the store failed, or memory, the port, the line that tells it, or accepting
+-- the fault of the program that tells one of serving
+abbrev pub server_fault : ServerFault → Fault
+server_fault server.StoreFailed = StoreFailed
+server_fault server.OutOfMemory = OutOfMemory
+server_fault server.BindFailed = BindFailed
+server_fault server.WriteFailed = WriteFailed
+server_fault server.AcceptFailed = AcceptFailed
+
+-- how listening ends, as serving ended
+abbrev pub end_of_serving : Result (Unit {0}) ServerFault → Result ℕ Fault
+end_of_serving (Ok x) = Ok 0
+end_of_serving (Err fault) = Err (server_fault fault)
+
+-- a fault of serving itself: the store, memory, the port, the line that tells it, or accepting
 abbrev pub IsOfServing : Fault → Type 0
-IsOfServing StoreFailed = Unit {0}
-IsOfServing OutOfMemory = Unit {0}
-IsOfServing WriteFailed = Unit {0}
-IsOfServing BindFailed = Unit {0}
-IsOfServing AcceptFailed = Unit {0}
-IsOfServing _ = ⊥
+IsOfServing told = (fault : ServerFault) × (told ≡ server_fault fault)
 
 -- the connection before and after, and what was written before and after
 module _ {S : Type 0} (g : Ghosts S) (first last : Held S) (old new : Option (List ℕ)) where

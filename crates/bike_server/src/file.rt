@@ -31,7 +31,8 @@ pub fn listen_on_file<F: Start, W: Write>(
 )
     ensures ends { IfSome result.0 (λ last.
         ListensOnFile (image_at F.Start) (W.contents writer.old) (W.contents writer.new) last result.1) }
-    ensures kept { IfSome result.0 (λ last. HasCleanDisk (file_state last) → (s : Operator) → HoldsOperator (image_at F.Start) s
+    ensures kept { IfSome result.0 (λ last.
+        HasCleanDisk (file_state last) → (s : Operator) → HoldsOperator (image_at F.Start) s
         → AllLeft (file_state last) (StandsAfterRequests s)) }
     ensures unopened { IsNone result.0 → IsUnopened (W.contents writer.old) (W.contents writer.new) result.1 }
 {

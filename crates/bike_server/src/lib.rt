@@ -5,6 +5,7 @@
 #![tactic(auto)]
 
 mod arrivals;
+mod fault;
 mod file;
 mod memory;
 mod server;
@@ -12,6 +13,7 @@ mod sockets;
 mod timed;
 
 pub use arrivals::{AcceptFault, Arrival, Arrivals};
+pub use fault::ServerFault;
 pub use file::listen_on_file;
 pub use memory::{Parting, Played, Visit};
 pub use server::{listen, serve_count};

@@ -1,19 +1,19 @@
 //! HTTP/1.1 on the loopback address: one request a connection, one connection after the other.
 
-ghost use Rattle.std.specs.Prelude.{◌≡◌, ◌≤◌, ◌⊎◌, ℕ, List, [], Some, IfSome, IsSomeAnd, IfErr, MatchResult, false, IsTrue, Err};
+ghost use Rattle.std.specs.Prelude.{◌≡◌, ◌≤◌, ◌⊎◌, ℕ, List, [], Some, IfSome, IsSomeAnd, IfErr, false, IsTrue, Err};
 ghost use Rattle.sqlite.specs.State.{HasCleanDisk};
 ghost use Rattle.sqlite.specs.Held.{state};
 ghost use Rattle.sqlite_trees.specs.View.{doubt};
 ghost use Rattle.bike_operator.specs.Operator.{Operator};
 ghost use Rattle.bike_schema.specs.Stands.{AllLeft, TreesStandFor};
-ghost use Rattle.bike_console.specs.declared.end.Fault.{Fault};
-ghost use Rattle.bike_http.specs.Desk.{desk_state, IsAt};
-ghost use Rattle.bike_server.specs.Visits.{IsOpen, Leaving, let_go};
-ghost use Rattle.bike_server.specs.Answering.{Exchanges, ServesInOrder, without_end};
-ghost use Rattle.bike_server.specs.Listening.{IsOfServing, EndsListening};
+ghost use Rattle.bike_http.specs.Desk.{desk_state, OfOperator};
+ghost use Rattle.bike_server.specs.Visits.{IsOpen};
+ghost use Rattle.bike_server.specs.Answering.{ExchangesWith, ExchangesOne, ServesInOrder, without_end};
+ghost use Rattle.bike_server.specs.Listening.{end_of_serving, EndsListening};
 ghost use Rattle.bike_server.specs.Serving.{ServesRequests, StandsAfterRequests};
 
 use crate::arrivals::{AcceptFault, Arrival, Arrivals};
+use crate::fault::ServerFault;
 use crate::sockets::Sockets;
 use bike_adoption::adopt;
 use bike_console::Fault;
@@ -49,12 +49,10 @@ fn exchange<S: Alter, R: Read, W: Write + Drop>(
     writer: W,
 ) -> (W, Result<Served, ServeFault>)
     ensures clean { doubt (desk_state S.Store desk.old).is_clean ≤ doubt (desk_state S.Store desk.new).is_clean }
-    ensures kept { HasCleanDisk (desk_state S.Store desk.new) → (s : Operator) → IsAt S.Store desk.old s
-        → ServesRequests S.Store desk.new s }
-    ensures exchanged { HasCleanDisk (desk_state S.Store desk.new) → (s : Operator) → IsAt S.Store desk.old s
-        → (input : List ℕ) → R.remaining reader.old ≡ Some input → W.contents writer ≡ Some []
-        → IsSomeAnd (W.contents result.0) (λ sent. Exchanges S.Store desk.new s (record { moment = moment; input = input })
-        (record { served = result.1; sent = sent })) }
+    ensures kept { OfOperator S.Store desk.old desk.new (λ s. ServesRequests S.Store desk.new s) }
+    ensures exchanged { OfOperator S.Store desk.old desk.new (λ s. (input : List ℕ)
+        → R.remaining reader.old ≡ Some input → W.contents writer ≡ Some []
+        → ExchangesWith S.Store desk.new s (record { moment = moment; input = input }) result.1 (W.contents result.0)) }
 {
     let mut buffer = TokenBuffer::new(writer);
     let served = serve_one(alloc, desk, routes, moment, reader, &mut buffer);
@@ -79,12 +77,11 @@ fn serve_arrival<S: Alter, A: Arrivals>(
 )
     requires { IsOpen (A.known arrivals.old) }
     ensures clean { doubt (desk_state S.Store desk.old).is_clean ≤ doubt (desk_state S.Store desk.new).is_clean }
-    ensures kept { HasCleanDisk (desk_state S.Store desk.new) → (s : Operator) → IsAt S.Store desk.old s
-        → ServesRequests S.Store desk.new s }
-    ensures served { HasCleanDisk (desk_state S.Store desk.new) → (s : Operator) → IsAt S.Store desk.old s
-        → (input : List ℕ) → A.Reader.remaining arrival.reader ≡ Some input → A.Writer.contents arrival.writer ≡ Some []
-        → IfSome (A.known arrivals.old) (λ visits. (leaving : Leaving) × (A.known arrivals.new ≡ Some (let_go visits leaving))
-        × Exchanges S.Store desk.new s (record { moment = arrival.moment; input = input }) leaving) }
+    ensures kept { OfOperator S.Store desk.old desk.new (λ s. ServesRequests S.Store desk.new s) }
+    ensures served { OfOperator S.Store desk.old desk.new (λ s. (input : List ℕ)
+        → A.Reader.remaining arrival.reader ≡ Some input → A.Writer.contents arrival.writer ≡ Some []
+        → ExchangesOne S.Store desk.new s (record { moment = arrival.moment; input = input })
+        (A.known arrivals.old) (A.known arrivals.new)) }
 {
     let Arrival {
         moment,
@@ -99,7 +96,7 @@ fn serve_arrival<S: Alter, A: Arrivals>(
 /// ends early where accepting fails (`AcceptFailed`) and where the desk is stopped (`StoreFailed`); a connection that fails ends
 /// nothing.
 ///
-/// Whatever clients send and whatever becomes of the connections, a desk at an operator is at him after some list of requests; or it
+/// Whatever clients send and whatever becomes of the connections, a desk at an operator is at him after some list of good requests; or it
 /// is stopped, and all that a crash may leave stands for the operator after such a list or after one request more. Where it is known
 /// what comes (`Played`), each connection is answered once, in their order, as the operator after those before it answers; what wasn't
 /// sent whole is told to `finish` as a failure.
@@ -109,38 +106,35 @@ pub fn serve_count<S: Alter, A: Arrivals>(
     routes: &Routes,
     arrivals: &mut A,
     count: u64,
-) -> Result<(), Fault>
+) -> Result<(), ServerFault>
     ensures clean { doubt (desk_state S.Store desk.old).is_clean ≤ doubt (desk_state S.Store desk.new).is_clean }
-    ensures kept { HasCleanDisk (desk_state S.Store desk.new) → (s : Operator) → IsAt S.Store desk.old s
-        → ServesRequests S.Store desk.new s }
-    ensures stopped { result ≡ Err Fault.StoreFailed → IsTrue desk.new.is_stopped }
-    ensures goes_on { desk.old.is_stopped ≡ false → IsTrue desk.new.is_stopped → result ≡ Err Fault.StoreFailed }
-    ensures serves { HasCleanDisk (desk_state S.Store desk.new) → (s : Operator) → IsAt S.Store desk.old s
-        → IfSome (A.known arrivals.old) (λ before. IsSomeAnd (A.known arrivals.new)
-        (λ after. ServesInOrder S.Store desk.new s count before after result)) }
-    ensures faults { IfErr result (λ fault. (fault ≡ Fault.StoreFailed) ⊎ (fault ≡ Fault.AcceptFailed)) }
+    ensures kept { OfOperator S.Store desk.old desk.new (λ s. ServesRequests S.Store desk.new s) }
+    ensures stopped { result ≡ Err ServerFault.StoreFailed → IsTrue desk.new.is_stopped }
+    ensures goes_on { desk.old.is_stopped ≡ false → IsTrue desk.new.is_stopped → result ≡ Err ServerFault.StoreFailed }
+    ensures serves { OfOperator S.Store desk.old desk.new (λ s.
+        IfSome (A.known arrivals.old) (λ before. IsSomeAnd (A.known arrivals.new)
+        (λ after. ServesInOrder S.Store desk.new s count before after result))) }
+    ensures faults { IfErr result (λ fault. (fault ≡ ServerFault.StoreFailed) ⊎ (fault ≡ ServerFault.AcceptFailed)) }
 {
     for _turn in 0..count {
         match arrivals.accept() {
             Ok(Some(arrival)) => serve_arrival(alloc, desk, routes, arrivals, arrival),
             Ok(None) => return Ok(()),
-            Err(AcceptFault) => return Err(Fault::AcceptFailed),
+            Err(AcceptFault) => return Err(ServerFault::AcceptFailed),
         }
         if desk.stopped() {
-            return Err(Fault::StoreFailed);
+            return Err(ServerFault::StoreFailed);
         }
     }
     Ok(())
 }
 
 /// A listener on this port of 127.0.0.1; `BindFailed` where there can be none.
-fn bind(rt: &HostRuntime, port: u16) -> Result<TcpListener, Fault>
-    ensures faults { IfErr result (λ fault. (fault ≡ Fault.OutOfMemory) ⊎ (fault ≡ Fault.BindFailed)) }
-{
+fn bind(rt: &HostRuntime, port: u16) -> Result<TcpListener, ServerFault> {
     let address = format!(in rt.alloc(); "127.0.0.1:{port}")?;
     match TcpListener::bind(rt, address.as_str()) {
         Ok(listener) => Ok(listener),
-        Err(_) => Err(Fault::BindFailed),
+        Err(_) => Err(ServerFault::BindFailed),
     }
 }
 
@@ -156,16 +150,14 @@ fn tell_port<W: Write>(
     rt: &HostRuntime,
     listener: &TcpListener,
     writer: &mut W,
-) -> Result<(), Fault>
-    ensures faults { IfErr result IsOfServing }
-{
+) -> Result<(), ServerFault> {
     let Ok(bound) = listener.local_addr() else {
-        return Err(Fault::BindFailed);
+        return Err(ServerFault::BindFailed);
     };
     let line = format!(in rt.alloc(); "listening {bound}\n")?;
     match write_whole(writer, line.as_bytes()) {
         Ok(()) => Ok(()),
-        Err(_) => Err(Fault::WriteFailed),
+        Err(_) => Err(ServerFault::WriteFailed),
     }
 }
 
@@ -178,15 +170,13 @@ fn listen_at<S: Alter, W: Write>(
     port: u16,
     count: Option<u32>,
     writer: &mut W,
-) -> Result<(), Fault>
+) -> Result<(), ServerFault>
     ensures clean { doubt (desk_state S.Store desk.old).is_clean ≤ doubt (desk_state S.Store desk.new).is_clean }
-    ensures kept { HasCleanDisk (desk_state S.Store desk.new) → (s : Operator) → IsAt S.Store desk.old s
-        → ServesRequests S.Store desk.new s }
-    ensures faults { IfErr result IsOfServing }
+    ensures kept { OfOperator S.Store desk.old desk.new (λ s. ServesRequests S.Store desk.new s) }
 {
     let listener = bind(rt, port)?;
     if !has_descriptors(&listener) {
-        return Err(Fault::AcceptFailed);
+        return Err(ServerFault::AcceptFailed);
     }
     tell_port(rt, &listener, writer)?;
     let count = match count {
@@ -204,20 +194,25 @@ fn listen_all<S: Alter, W: Write>(
     port: u16,
     count: Option<u32>,
     writer: &mut W,
-) -> Result<u64, Fault>
+) -> Result<(), ServerFault>
     ensures clean { doubt (desk_state S.Store desk.old).is_clean ≤ doubt (desk_state S.Store desk.new).is_clean }
-    ensures kept { HasCleanDisk (desk_state S.Store desk.new) → (s : Operator) → IsAt S.Store desk.old s
-        → ServesRequests S.Store desk.new s }
-    ensures ends { MatchResult result (λ count. count ≡ 0) IsOfServing }
+    ensures kept { OfOperator S.Store desk.old desk.new (λ s. ServesRequests S.Store desk.new s) }
 {
     let Ok(routes) = Routes::new(rt.alloc()) else {
-        return Err(Fault::OutOfMemory);
+        return Err(ServerFault::OutOfMemory);
     };
     let served = listen_at(rt, desk, &routes, port, count, writer);
     drop(routes);
+    served
+}
+
+/// How listening ends, as serving ended.
+fn ended(served: Result<(), ServerFault>) -> Result<u64, Fault>
+    ensures { result ≡ end_of_serving served }
+{
     match served {
         Ok(()) => Ok(0),
-        Err(fault) => Err(fault),
+        Err(fault) => Err(Fault::from(fault)),
     }
 }
 
@@ -226,7 +221,7 @@ fn listen_all<S: Alter, W: Write>(
 /// one ended that: a port that can't be bound is `BindFailed`. Where the connection can't be taken into service, the fault tells why,
 /// and nothing is written or listened to.
 ///
-/// Where the database stood for an operator, all that a crash may then leave stands for him after some list of requests.
+/// Where the database stood for an operator, all that a crash may then leave stands for him after some list of good requests.
 pub fn listen<S: Alter, W: Write>(
     rt: &HostRuntime,
     port: u16,
@@ -244,7 +239,7 @@ pub fn listen<S: Alter, W: Write>(
     match adopt(rt.alloc(), conn) {
         Ok(mut desk) => {
             let served = listen_all(rt, &mut desk, port, count, writer);
-            (desk.close(), served)
+            (desk.close(), ended(served))
         }
         Err(fault) => {
             let (conn, told) = Fault::taken_from(fault);

@@ -1,14 +1,21 @@
+use Rattle.bike_feeds.proofs.DeskLemmas.{no_want}
 use Rattle.bike_feeds.proofs.FeedLemmas.{nothing_begun, on_err, publish_missing, publish_leaves, publish_whole, publish_front, publish_cause}
 use Rattle.bike_feeds.proofs.feed.publish.Goals as goal
 
 pub returns-in_err-system-clause-front : goal.returns-in_err-system-clause-front
 returns-in_err-system-clause-front g c clean s at = on_err _ (nothing_begun s c.args.feed c.args.moment (g.W.Output.contents c.args.out.now).bytes)
 
+pub returns-in_err-system-clause-takes_none : goal.returns-in_err-system-clause-takes_none
+returns-in_err-system-clause-takes_none g c = no_want c.in_err-system.field-0.0 _ c.from_residual.ensures.1 c.in_err-system.ensures.takes_none
+
 pub returns-in_default-clause-desk : goal.returns-in_default-clause-desk
 returns-in_default-clause-desk g c = publish_missing g.S.Store _ c.in_ok-system.ensures.query c.in_default.is
 
 pub returns-in_default-clause-front : goal.returns-in_default-clause-front
 returns-in_default-clause-front g c clean s at = nothing_begun s c.args.feed c.args.moment (g.W.Output.contents c.args.out.now).bytes
+
+pub returns-clause-takes_none : goal.returns-clause-takes_none
+returns-clause-takes_none g c = c.write_of_system.ensures.takes_none
 
 pub returns-clause-desk : goal.returns-clause-desk
 returns-clause-desk g c = publish_leaves g.S.Store _ c.in_ok-system.ensures.query c.write_of_system.ensures

@@ -15,7 +15,7 @@ returns-in_err-next g c =
     asked_failed g.S.Store (languages c.args.system.now) c.in_err-next.field-0.0 _ c.from_residual-in_err-next.ensures.1 (begun_under g.S.Store (languages c.args.system.now)
     (begins_behind g.S.Store (languages c.args.system.now) c.args.system.now.language c.requires.going c.requires.place.0
     (languages_all c.args.system.now) (λ s. rw c.language.ensures at c.in_ok-write_language.ensures.wrote) c.in_ok-write_language.ensures.place))
-    c.in_err-next.ensures.query
+    c.in_err-next.ensures.query c.in_err-next.ensures.takes_none
 
 pub languages-init : goal.languages-init
 languages-init g c =
@@ -37,7 +37,7 @@ pub returns-in_err-next-2 : goal.returns-in_err-next-2
 returns-in_err-next-2 g c =
     asked_failed g.S.Store (languages c.args.system.now) c.in_err-next-2.field-0.0 _ c.from_residual-in_err-next-2.ensures.1 (behind_under g.S.Store (languages c.args.system.now)
     (walk_writes g.S.Store (languages c.args.system.now) c.in-Some.language (rw c.in-Some.is at c.languages.invariant) (λ clean s at. c.in_ok-write_language-2.ensures.wrote) c.in_ok-write_language-2.ensures.place))
-    c.in_err-next-2.ensures.query
+    c.in_err-next-2.ensures.query c.in_err-next-2.ensures.takes_none
 
 pub languages-smaller : goal.languages-smaller
 languages-smaller g c =

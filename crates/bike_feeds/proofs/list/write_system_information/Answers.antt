@@ -14,7 +14,7 @@ returns-in_err-write_languages g c =
 pub returns-in_err-names : goal.returns-in_err-names
 returns-in_err-names g c =
     list_failed g.S.Store (information_parts c.args.system.now c.args.moment) _ _ c.from_residual-in_err-names.ensures.1
-    c.requires.start c.open_information.ensures.wrote (items_unasked tt c.in_ok-write_languages.ensures c.requires.going c.in_err-names.field-0.0 c.in_err-names.ensures.query)
+    c.requires.start c.open_information.ensures.wrote (items_unasked tt c.in_ok-write_languages.ensures c.requires.going c.in_err-names.field-0.0 c.in_err-names.ensures.query c.in_err-names.ensures.takes_none)
     c.in_ok-open_information.ensures.outcome
 
 pub returns-in_err-close_information : goal.returns-in_err-close_information

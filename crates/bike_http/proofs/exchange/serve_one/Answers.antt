@@ -5,7 +5,7 @@ use Rattle.bike_http.specs.Telling.{Serves, Rests, Refuses}
 use Rattle.bike_http.proofs.Again.{sends_again}
 use Rattle.bike_http.specs.declared.exchange.Served.{Served}
 use Rattle.bike_http.specs.declared.exchange.ServeFault.{ServeFault}
-use Rattle.bike_http.proofs.Ends.{serves, is_done, refuses, never_done, rests, stopped_refuses, stopped_unread}
+use Rattle.bike_http.proofs.Ends.{serves, is_done, refuses, never_done, leaves_tables, rests, stopped_refuses, stopped_unread}
 use Rattle.bike_http.proofs.exchange.serve_one.Goals as goal
 
 pub returns-in-Ok-Some-clause-served : goal.returns-in-Ok-Some-clause-served
@@ -13,12 +13,12 @@ returns-in-Ok-Some-clause-served g c clean s at =
     let received = subst (λ (o : Option Asked). IfSome (g.R.Read.remaining c.args.reader.now) (λ bytes. Received bytes o)) c.in-Ok-Some.field-0-is c.in-Ok-Some.ensures in
     let d = c.respond.new.desk in
     subst (λ (r : Result Served ServeFault). Serves g.S.Store d s c.args.moment (g.R.Read.remaining c.args.reader.now) (g.W.Write.contents c.args.writer.now) (g.W.Write.contents c.respond.new.writer) r)
-    (sym c.ended.ensures) (serves g.S.Store c.respond.new.desk s c.args.moment _ _ _ c.in-Ok-Some.asked received c.respond.result (c.respond.ensures.sent clean s at))
+    (sym c.ended.ensures) (serves g.S.Store c.respond.new.desk s c.args.moment _ _ _ c.in-Ok-Some.asked received c.respond.ensures.good c.respond.result (c.respond.ensures.sent clean s at))
 
 pub returns-in-Ok-Some-clause-done : goal.returns-in-Ok-Some-clause-done
 returns-in-Ok-Some-clause-done g c clean s at is =
     let received = subst (λ (o : Option Asked). IfSome (g.R.Read.remaining c.args.reader.now) (λ bytes. Received bytes o)) c.in-Ok-Some.field-0-is c.in-Ok-Some.ensures in
-    is_done g.S.Store c.respond.new.desk s c.args.moment _ _ _ c.in-Ok-Some.asked received c.respond.result (c.respond.ensures.sent clean s at) (sym c.ended.ensures ∙ is)
+    is_done g.S.Store c.respond.new.desk s c.args.moment _ _ _ c.in-Ok-Some.asked received c.respond.ensures.good c.respond.result (c.respond.ensures.sent clean s at) (sym c.ended.ensures ∙ is)
 
 pub returns-in-Ok-Some-clause-rests : goal.returns-in-Ok-Some-clause-rests
 returns-in-Ok-Some-clause-rests g c =
@@ -52,14 +52,20 @@ returns-in-Err-NoMemory-clause-refuses g c stopped =
     (sym c.ended-in-Err-NoMemory.ensures) (stopped_unread _ _ _ c.send.result c.send.ensures)
 
 pub returns-in-Ok-Some-clause-again : goal.returns-in-Ok-Some-clause-again
-returns-in-Ok-Some-clause-again g c clean s first at came =
+returns-in-Ok-Some-clause-again g c clean s at first came =
     let received = subst (λ (o : Option Asked). IfSome (g.R.Read.remaining c.args.reader.now) (λ bytes. Received bytes o)) c.in-Ok-Some.field-0-is c.in-Ok-Some.ensures in
     let d = c.respond.new.desk in
     sends_again g.S.Store d s c.args.moment _ _ _ first came c.ended.result (subst (λ (r : Result Served ServeFault). Serves g.S.Store d s c.args.moment (g.R.Read.remaining c.args.reader.now) (g.W.Write.contents c.args.writer.now) (g.W.Write.contents c.respond.new.writer) r)
-    (sym c.ended.ensures) (serves g.S.Store c.respond.new.desk s c.args.moment _ _ _ c.in-Ok-Some.asked received c.respond.result (c.respond.ensures.sent clean s at)))
+    (sym c.ended.ensures) (serves g.S.Store c.respond.new.desk s c.args.moment _ _ _ c.in-Ok-Some.asked received c.respond.ensures.good c.respond.result (c.respond.ensures.sent clean s at)))
 
 pub returns-in-Err-NoMemory-clause-again : goal.returns-in-Err-NoMemory-clause-again
-returns-in-Err-NoMemory-clause-again g c clean s first at came =
+returns-in-Err-NoMemory-clause-again g c clean s at first came =
     let d = c.args.desk.now in
     sends_again g.S.Store d s c.args.moment _ _ _ first came c.ended-in-Err-NoMemory.result (subst (λ (r : Result Served ServeFault). Serves g.S.Store d s c.args.moment (g.R.Read.remaining c.args.reader.now) (g.W.Write.contents c.args.writer.now) (g.W.Write.contents c.send.new.writer) r)
     (sym c.ended-in-Err-NoMemory.ensures) (refuses g.S.Store d s c.args.moment _ _ _ c.send.result at c.send.ensures))
+
+pub returns-in-Ok-Some-clause-tables : goal.returns-in-Ok-Some-clause-tables
+returns-in-Ok-Some-clause-tables g c clean s at =
+    let received = subst (λ (o : Option Asked). IfSome (g.R.Read.remaining c.args.reader.now) (λ bytes. Received bytes o)) c.in-Ok-Some.field-0-is c.in-Ok-Some.ensures in
+    leaves_tables g.S.Store c.args.desk.now c.respond.new.desk s c.args.moment (g.R.Read.remaining c.args.reader.now) c.in-Ok-Some.asked received
+    (c.respond.ensures.rests clean s at)

@@ -1,33 +1,62 @@
-use Rattle.std.proofs.Common.{inl, refl, sym, subst}
+use Rattle.std.proofs.Common.{refl, sym, subst}
 use Rattle.bike_incoming.specs.declared.asked.Asked.{Asked}
+use Rattle.bike_incoming.specs.declared.asked.Asked.TheVariants.{Apply, Show, Publish}
 use Rattle.bike_answers.specs.declared.answer.Answer.{Answer}
-use Rattle.bike_http.specs.Telling.{SendsAnswer, refusal_of}
-use Rattle.bike_answers.specs.declared.answer.Answer.TheVariants as answer
-use Rattle.bike_http.proofs.Told.{responds, responds_to}
+use Rattle.bike_http.specs.Exchange.{IsGood}
+use Rattle.bike_http.specs.Telling.{LeavesOperator, RestsAfter, SendsAnswer, refusal_of}
+use Rattle.bike_http.proofs.Told.{responds, responds_so, rejects, responds_to}
 use Rattle.bike_http.proofs.respond.respond.Goals as goal
 
 pub returns-in-Reject-clause-sent : goal.returns-in-Reject-clause-sent
 returns-in-Reject-clause-sent g c clean s at =
     let d = c.args.desk.now in
-    responds_to g.S.Store d s c.args.moment _ _ _ _ c.send.result c.in-Reject.is
-    (responds g.S.Store d s s _ (answer.Rejected c.in-Reject.rejection) _ _ c.send.result (inl (refl, at)) c.send.ensures)
+    responds_to g.S.Store d s c.args.moment _ _ c.send.result _ _ c.in-Reject.is
+    (rejects g.S.Store d s c.args.moment _ _ c.send.result c.in-Reject.rejection at c.send.ensures)
 
 pub returns-in-Apply-clause-sent : goal.returns-in-Apply-clause-sent
 returns-in-Apply-clause-sent g c clean s at =
     let d = c.act-answer.new.desk in
-    responds_to g.S.Store d s c.args.moment _ _ _ _ c.send-in-Apply.result c.in-Apply.is
-    (responds g.S.Store d s _ _ c.act-answer.result _ _ c.send-in-Apply.result (c.act-answer.ensures.told clean s at) c.send-in-Apply.ensures)
+    responds_to g.S.Store d s c.args.moment _ _ c.send-in-Apply.result _ _ c.in-Apply.is
+    (responds_so g.S.Store d s c.args.moment _ _ c.send-in-Apply.result (Apply c.in-Apply.request) (λ sent told. told)
+    (responds g.S.Store d s _ _ c.act-answer.result _ _ c.send-in-Apply.result (c.act-answer.ensures.told clean s at) c.send-in-Apply.ensures))
 
 pub returns-in-Show-clause-sent : goal.returns-in-Show-clause-sent
 returns-in-Show-clause-sent g c clean s at =
     let d = c.show-answer.new.desk in
-    responds_to g.S.Store d s c.args.moment _ _ _ _ c.send-in-Show.result c.in-Show.is
-    (responds g.S.Store d s _ _ c.show-answer.result _ _ c.send-in-Show.result (c.show-answer.ensures.told clean s at) c.send-in-Show.ensures)
+    responds_to g.S.Store d s c.args.moment _ _ c.send-in-Show.result _ _ c.in-Show.is
+    (responds_so g.S.Store d s c.args.moment _ _ c.send-in-Show.result (Show c.in-Show.row) (λ sent told. told)
+    (responds g.S.Store d s _ _ c.show-answer.result _ _ c.send-in-Show.result (c.show-answer.ensures.told clean s at) c.send-in-Show.ensures))
 
 pub returns-in-Publish-clause-sent : goal.returns-in-Publish-clause-sent
 returns-in-Publish-clause-sent g c clean s at =
-    responds_to g.S.Store c.publish.new.desk s c.args.moment _ _ _ _ c.publish.result c.in-Publish.is
-    (c.publish.ensures.sent clean s at)
+    let d = c.publish.new.desk in
+    responds_to g.S.Store d s c.args.moment _ _ c.publish.result _ _ c.in-Publish.is
+    (responds_so g.S.Store d s c.args.moment _ _ c.publish.result (Publish c.in-Publish.feed) (λ sent told. told) (c.publish.ensures.sent clean s at))
+
+pub returns-in-Reject-clause-rests : goal.returns-in-Reject-clause-rests
+returns-in-Reject-clause-rests g c clean s at leaves on = refl
+
+pub returns-in-Apply-clause-rests : goal.returns-in-Apply-clause-rests
+returns-in-Apply-clause-rests g c clean s at =
+    subst (λ (a : Asked). RestsAfter g.S.Store c.args.desk.now c.act-answer.new.desk s c.args.moment a) (sym c.in-Apply.is) (c.act-answer.ensures.rests clean s at)
+
+pub returns-in-Show-clause-rests : goal.returns-in-Show-clause-rests
+returns-in-Show-clause-rests g c clean s at leaves on = absurd (subst (λ (a : Asked). LeavesOperator s c.args.moment a) c.in-Show.is leaves)
+
+pub returns-in-Publish-clause-rests : goal.returns-in-Publish-clause-rests
+returns-in-Publish-clause-rests g c clean s at leaves on = absurd (subst (λ (a : Asked). LeavesOperator s c.args.moment a) c.in-Publish.is leaves)
+
+pub returns-in-Reject-clause-good : goal.returns-in-Reject-clause-good
+returns-in-Reject-clause-good g c = subst (λ (a : Asked). IsGood c.args.moment a) (sym c.in-Reject.is) tt
+
+pub returns-in-Apply-clause-good : goal.returns-in-Apply-clause-good
+returns-in-Apply-clause-good g c = subst (λ (a : Asked). IsGood c.args.moment a) (sym c.in-Apply.is) c.act-answer.ensures.good
+
+pub returns-in-Show-clause-good : goal.returns-in-Show-clause-good
+returns-in-Show-clause-good g c = subst (λ (a : Asked). IsGood c.args.moment a) (sym c.in-Show.is) tt
+
+pub returns-in-Publish-clause-good : goal.returns-in-Publish-clause-good
+returns-in-Publish-clause-good g c = subst (λ (a : Asked). IsGood c.args.moment a) (sym c.in-Publish.is) tt
 
 pub returns-in-Reject-clause-refuses : goal.returns-in-Reject-clause-refuses
 returns-in-Reject-clause-refuses g c stopped =

@@ -14,12 +14,12 @@ returns-in-Ok-clause-kept g c clean s stands live =
 
 pub returns-in-Err-clause-kept : goal.returns-in-Err-clause-kept
 returns-in-Err-clause-kept g c clean s stands live =
-    rw c.taken_from-conn.ensures.conn (λ db h. ([], c.in-Err.ensures.left s stands live (rw c.taken_from-conn.ensures.conn at clean) db h))
+    rw c.taken_from-conn.ensures.conn (λ db h. ([], tt, c.in-Err.ensures.left s stands live (rw c.taken_from-conn.ensures.conn at clean) db h))
 
 pub returns-in-Ok-clause-ends : goal.returns-in-Ok-clause-ends
 returns-in-Ok-clause-ends g c =
     ends_listening g.S.Store c.args.conn c.close.result (g.W.Write.contents c.args.writer.now) (g.W.Write.contents c.listen_all-served.new.writer)
-    c.listen_all-served.result c.listen_all-served.ensures.ends
+    c.listen_all-served.result c.ended.result c.ended.ensures
 
 pub returns-in-Err-clause-ends : goal.returns-in-Err-clause-ends
 returns-in-Err-clause-ends g c = inr (record {

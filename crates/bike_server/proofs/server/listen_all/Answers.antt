@@ -3,4 +3,4 @@ use Rattle.bike_server.proofs.ServingLemmas.{served}
 use Rattle.bike_server.proofs.server.listen_all.Goals as goal
 
 pub returns-in_default-clause-kept : goal.returns-in_default-clause-kept
-returns-in_default-clause-kept g c clean s at = served g.S.Store c.args.desk.now s [] at
+returns-in_default-clause-kept g c clean s at = served g.S.Store c.args.desk.now s [] tt at

@@ -10,7 +10,7 @@ pub loop-turn-init : goal.loop-turn-init
 loop-turn-init g c = record {
   clean = omega arith;
   goes_on = λ on. on;
-  ran = λ clean s at. ([], at);
+  ran = λ clean s at. ([], tt, at);
   served = λ clean s at. none_yet g.S.Store c.args.desk.now s (g.A.Arrivals.known c.args.arrivals.now) at;
 }
 
@@ -25,7 +25,7 @@ returns-in-Ok-None-clause-clean g c = c.loop-turn.invariant.clean
 pub returns-in-Ok-None-clause-kept : goal.returns-in-Ok-None-clause-kept
 returns-in-Ok-None-clause-kept g c clean s at =
     let run = c.loop-turn.invariant.ran clean s at in
-    served g.S.Store c.loop-turn.desk s run.0 run.1
+    served g.S.Store c.loop-turn.desk s run.0 run.1 run.2
 
 pub returns-in-Ok-None-clause-goes_on : goal.returns-in-Ok-None-clause-goes_on
 returns-in-Ok-None-clause-goes_on g c on stopped = absurd (let e : true ≡ false = sym stopped ∙ c.loop-turn.invariant.goes_on on in cc)
@@ -42,7 +42,7 @@ returns-in-Err-clause-clean g c = c.loop-turn.invariant.clean
 pub returns-in-Err-clause-kept : goal.returns-in-Err-clause-kept
 returns-in-Err-clause-kept g c clean s at =
     let run = c.loop-turn.invariant.ran clean s at in
-    served g.S.Store c.loop-turn.desk s run.0 run.1
+    served g.S.Store c.loop-turn.desk s run.0 run.1 run.2
 
 pub returns-in-Err-clause-goes_on : goal.returns-in-Err-clause-goes_on
 returns-in-Err-clause-goes_on g c on stopped = absurd (let e : true ≡ false = sym stopped ∙ c.loop-turn.invariant.goes_on on in cc)
@@ -61,7 +61,7 @@ returns-then-stopped-clause-kept g c clean s at =
     let it = c.serve_arrival.ensures in
     let early : HasCleanDisk (desk_state g.S.Store c.loop-turn.desk) = omega (arith, clean, it.clean) in
     let run = c.loop-turn.invariant.ran early s at in
-    joined g.S.Store c.serve_arrival.new.desk s run.0 (it.kept clean (after s run.0) run.1)
+    joined g.S.Store c.serve_arrival.new.desk s run.0 run.1 (it.kept clean (after s run.0) run.2)
 
 pub returns-then-stopped-clause-serves : goal.returns-then-stopped-clause-serves
 returns-then-stopped-clause-serves g c clean s at =
@@ -83,8 +83,8 @@ loop-turn-preserved g c =
       ran = λ clean s at.
           let early : HasCleanDisk (desk_state g.S.Store c.loop-turn.desk) = omega (arith, clean, it.clean) in
           let run = inv.ran early s at in
-          let now = joined g.S.Store c.serve_arrival.new.desk s run.0 (it.kept clean (after s run.0) run.1) in
-          (now.calls, now.goes_on goes_on);
+          let now = joined g.S.Store c.serve_arrival.new.desk s run.0 run.1 (it.kept clean (after s run.0) run.2) in
+          (now.calls, now.good, now.goes_on goes_on);
       served = λ clean s at.
           let early : HasCleanDisk (desk_state g.S.Store c.loop-turn.desk) = omega (arith, clean, it.clean) in
           one_more g.S.Store g.A.Reader.Read.remaining g.A.Writer.Write.contents c.loop-turn.desk c.serve_arrival.new.desk s c.loop-turn._turn
@@ -98,7 +98,7 @@ returns-clause-clean g c = c.loop-turn.invariant.clean
 pub returns-clause-kept : goal.returns-clause-kept
 returns-clause-kept g c clean s at =
     let run = c.loop-turn.invariant.ran clean s at in
-    served g.S.Store c.loop-turn.desk s run.0 run.1
+    served g.S.Store c.loop-turn.desk s run.0 run.1 run.2
 
 pub returns-clause-goes_on : goal.returns-clause-goes_on
 returns-clause-goes_on g c on stopped = absurd (let e : true ≡ false = sym stopped ∙ c.loop-turn.invariant.goes_on on in cc)

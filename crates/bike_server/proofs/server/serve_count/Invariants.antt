@@ -3,6 +3,7 @@ use Rattle.sqlite.specs.State.{HasCleanDisk}
 use Rattle.sqlite_trees.specs.View.{doubt}
 use Rattle.bike_operator.specs.Operator.{Operator}
 use Rattle.bike_operator.specs.Runs.{Call, after}
+use Rattle.bike_operator.specs.Sound.{AreCalls}
 use Rattle.bike_http.specs.Desk.{desk_state, IsAt}
 use Rattle.bike_server.proofs.InOrder.{SoFar}
 use Rattle.bike_server.proofs.server.serve_count.Given as goal
@@ -13,7 +14,7 @@ invariant-loop-turn g l = record {
   clean : doubt (desk_state g.S.Store l.fn.desk).is_clean ≤ doubt (desk_state g.S.Store l.desk).is_clean;
   goes_on : l.fn.desk.is_stopped ≡ false → l.desk.is_stopped ≡ false;
   ran : HasCleanDisk (desk_state g.S.Store l.desk) → (s : Operator) → IsAt g.S.Store l.fn.desk s
-      → (calls : List Call) × IsAt g.S.Store l.desk (after s calls);
+      → (calls : List Call) × AreCalls calls × IsAt g.S.Store l.desk (after s calls);
   served : HasCleanDisk (desk_state g.S.Store l.desk) → (s : Operator) → IsAt g.S.Store l.fn.desk s
       → IfSome (g.A.Arrivals.known l.fn.arrivals) (λ before. SoFar g.S.Store l.desk s l._turn before (g.A.Arrivals.known l.arrivals));
 }
