@@ -10,7 +10,7 @@ _bikeshare_doctor() {
     fi
     case $word in
     lines | table) return ;;
-    feed) known="--strict" ;;
+    feed) known="--here --strict" ;;
     # The value of --port is what is being typed.
     *) [[ ${COMP_WORDS[COMP_CWORD - 1]} = --port ]] || known="--port" ;;
     esac

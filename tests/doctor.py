@@ -588,12 +588,32 @@ def test_feeds(program):
     assert ("gbfs", "GBFS") in found_in(feeds, ("gbfs", "data", "feeds", 3), other)
 
 
-def found_in(feeds, path, value):
+def found_in(feeds, path, value, **how):
     """Where something is found in feeds of which this is changed, and the word for it."""
     feeds = json.loads(json.dumps(feeds))
     set_at(feeds, path, value)
     with served(feeds) as here:
-        return [place_of(it) for it in doctor.findings_of_feeds(here, time.time())]
+        return [place_of(it) for it in doctor.findings_of_feeds(here, time.time(), **how)]
+
+
+def test_feeds_of_another_host(program):
+    """By --here no address that the feed gbfs lists is asked, and by none the others are looked for there."""
+    about = {"system_id": "x", "languages": ["en"], "name": [{"text": "X", "language": "en"}], "timezone": "Etc/UTC"}
+    about |= {"opening_hours": "24/7", "feed_contact_email": "feeds@example.org"}
+    data = {"system_information": about, "station_information": {"stations": []}, "station_status": {"stations": []}}
+    with socket.create_server(("127.0.0.1", 0)) as other:
+        other.settimeout(0.2)
+        address = f"http://127.0.0.1:{other.getsockname()[1]}/gbfs/3.0"
+        data["gbfs"] = {"feeds": [{"name": name, "url": f"{address}/{name}.json"} for name in data]}
+        frame = {"last_updated": "2024-03-31T12:00:00Z", "ttl": 30, "version": "3.0"}
+        feeds = {name: {**frame, "data": it} for name, it in data.items()}
+        with served(feeds) as here:
+            assert told("feed", here, "--here") == (0, [])
+            with contextlib.suppress(TimeoutError):
+                raise AssertionError(f"the other host was asked: {other.accept()}")
+    found = found_in(feeds, ("gbfs", "ttl"), 30)
+    assert found == [(name, "not read") for name in list(data)[:-1]], found
+    assert found_in(feeds, ("gbfs", "ttl"), 30, here=True) == []
 
 
 def test_feeds_of_the_example_city(program):
@@ -667,7 +687,8 @@ def test_the_manual_page_and_the_completion(program):
     words = {it.split()[1] for it in wanted} - {"FILE"}
     (Path(program.folder) / "city.db").touch()
     assert set(completed(program.folder, "")) == words | {"city.db"} and completed(program.folder, "ta") == ["table"]
-    assert completed(program.folder, "feed", "x", "-") == ["--strict"] and completed(program.folder, "lines", "") == []
+    assert completed(program.folder, "feed", "x", "-") == ["--here", "--strict"]
+    assert completed(program.folder, "lines", "") == []
     assert completed(program.folder, "city.db", "-") == ["--port"]
     assert completed(program.folder, "city.db", "--port", "") == []
 
