@@ -377,6 +377,25 @@ def test_what_is_no_city_and_what_is_there(program):
     assert sorted(here.iterdir()) == before
 
 
+def test_a_program_that_is_not_there(program):
+    """Or that doesn't run: that is told before anything is stopped, copied or made."""
+    here = Path(program.folder)
+    (here / "city.db").write_bytes(b"city")
+    for name, text, line in (
+        ("none", None, "there is no program {}\n"),
+        ("closed", "#!/bin/sh\n", "there is no program {}\n"),
+        ("lost", "#!/none/sh\n", "{} doesn't run: .+\n"),
+        ("fails", "#!/bin/sh\necho no library >&2\nexit 127\n", "{} doesn't run: no library\n"),
+    ):
+        if text:
+            (here / name).write_text(text)
+            (here / name).chmod(0o644 if name == "closed" else 0o755)
+        before = sorted(here.iterdir())
+        status, said = copying(program, "city.db", "copy.db", BIKESHARE=str(here / name))
+        assert status == 1 and re.fullmatch("backup: " + line.format(re.escape(str(here / name))), said), (name, said)
+        assert sorted(here.iterdir()) == before, name
+
+
 def test_a_program_that_does_nothing(program):
     """One that says `sound` of all and brings no log into its file makes no copy."""
     here = Path(program.folder)
