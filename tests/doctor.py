@@ -418,11 +418,11 @@ def test_a_disk_that_is_full_or_read_only(program):
         "cp city.db full", "head -c 400k /dev/zero > full/fill 2>/dev/null",
         "cp city.db fixed", "mount -o remount,ro fixed",
         "$DOCTOR full/city.db", '"$BIKESHARE" lines full/city.db < /dev/null',
-        "$DOCTOR fixed/city.db", '"$BIKESHARE" lines fixed/city.db < /dev/null',
+        "$DOCTOR fixed/city.db", '"$BIKESHARE" lines fixed/city.db < /dev/null', '"$BIKESHARE" check fixed/city.db',
     )
     if said is None:
         return
-    assert len(said) == 4 and said[1] == said[3] == "store failed", said
+    assert len(said) == 5 and said[1] == said[3] == said[4] == "store failed", said
     assert said[0].startswith("full/city.db: store failed: the disk of ") and "full, or nearly" in said[0], said
     assert said[2].startswith("fixed/city.db: store failed: ") and "read-only" in said[2], said
 
