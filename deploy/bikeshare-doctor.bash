@@ -5,7 +5,7 @@ _bikeshare_doctor() {
     COMPREPLY=()
     if [[ $COMP_CWORD = 1 ]]; then
         compopt -o filenames 2>/dev/null
-        mapfile -t COMPREPLY < <(compgen -W "lines table feed" -- "$typed"; compgen -f -- "$typed")
+        mapfile -t COMPREPLY < <(compgen -W "lines table feed" -- "$typed"; compgen -f -X '*-wal' -- "$typed")
         return
     fi
     case $word in

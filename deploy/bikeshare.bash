@@ -28,7 +28,8 @@ _bikeshare() {
     *:0)
         if [[ $typed != -* ]]; then
             compopt -o filenames 2>/dev/null
-            mapfile -t COMPREPLY < <(compgen -f -- "$typed")
+            # A log is no FILE.
+            mapfile -t COMPREPLY < <(compgen -f -X '*-wal' -- "$typed")
             return
         fi
         ;;

@@ -685,7 +685,8 @@ def test_the_manual_page_and_the_completion(program):
     assert usage[: len(wanted)] == wanted and usage[len(wanted)] == "", (usage, wanted)
     assert {head for head, _ in page["EXIT STATUS"] if head} == {"0", "1", "2"}
     words = {it.split()[1] for it in wanted} - {"FILE"}
-    (Path(program.folder) / "city.db").touch()
+    for file in "city.db", "city.db-wal":
+        (Path(program.folder) / file).touch()
     assert set(completed(program.folder, "")) == words | {"city.db"} and completed(program.folder, "ta") == ["table"]
     assert completed(program.folder, "feed", "x", "-") == ["--here", "--strict"]
     assert completed(program.folder, "lines", "") == []

@@ -316,8 +316,8 @@ def test_completion(program):
     """bash proposes the words, options, names and tables of the usage text, and files where a FILE stands."""
     _, words, options, values = usage_of(program)
     folder = Path(program.folder)
-    (folder / "city one.db").touch()
-    (folder / "rome.db").touch()
+    for file in "city one.db", "city one.db-wal", "rome.db":
+        (folder / file).touch()
     names = [form.split()[0] for form, _ in words]
     feeds = re.findall(r"\w+", values[0].split(" is ", 1)[1].replace(" or ", " "))
     tables = re.findall(r"\w+", values[1].split(" is ", 1)[1].split(",", 1)[0].replace(" or ", " "))
