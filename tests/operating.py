@@ -383,6 +383,35 @@ def configuration(port, cities, ttl):
     return (before + "".join(copies) + after).replace("127.0.0.1:8081", f"127.0.0.1:{port}")
 
 
+def on_the_network(text, port):
+    """The configuration's text as it is on the public network: with its lines for TLS, here on this port."""
+    lines = re.findall(r"^ +# (listen .*|ssl_.*);$", text, re.M)
+    assert [it.split()[0] for it in lines] == ["listen", "listen", "ssl_certificate", "ssl_certificate_key"], lines
+    lines = [re.sub(r"/etc/bikeshare/metro\.example", "tls", it.replace("443", str(port))) for it in lines]
+    if not Path("/proc/net/if_inet6").exists():
+        del lines[1]
+    begin, count = r"listen 127\.0\.0\.1:8081( default_server)?;", text.count("listen 127.0.0.1:8081")
+    assert count == 2, count
+    return re.sub(begin, lambda it: " ".join(f"{one}{it[1] or '' if 'listen' in one else ''};" for one in lines), text)
+
+
+@needs("nginx")
+@needs("openssl")
+def test_the_gateways_lines_for_tls(program):
+    """nginx takes them as they stand, in place of those for trying it."""
+    folder = Path(program.folder)
+    made = ran(
+        "openssl", "req", "-x509", "-newkey", "ec", "-pkeyopt", "ec_paramgen_curve:prime256v1", "-nodes", "-days", "1",
+        "-subj", "/CN=metro.example", "-keyout", folder / "tls.key", "-out", folder / "tls.pem",
+    )
+    assert made[0] == 0, made
+    (folder / "nginx.conf").write_text(on_the_network((DEPLOY / "nginx.conf").read_text(), free_port()))
+    (folder / "metro.callers").touch()
+    words = ["-p", f"{folder}/", "-e", "error.log", "-c", folder / "nginx.conf", "-t"]
+    status, said = ran(shutil.which("nginx") or "/usr/sbin/nginx", *words)
+    assert status == 0 and "test is successful" in said and "warn" not in said, said
+
+
 class Gateway:
     """nginx with deploy/nginx.conf on a free port, as a user without rights, before the servers of these cities."""
 
