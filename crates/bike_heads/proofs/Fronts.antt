@@ -1,14 +1,15 @@
 -- What the front of an input says of its head.
 use Rattle.std.proofs.Common.{◌≡◌, ℕ, ◌+◌, ◌-◌, ◌≤◌, List, ◌++◌, length, take, drop, min, sym, ap, ◌∙◌, subst, arith, append_assoc, length-take, take-append-drop}
 use Rattle.std.proofs.Math.Seq.{take-append_seam, take-append-add}
-use Rattle.std.proofs.lemmas.List.{length-map}
+use Rattle.std.proofs.lemmas.List.{length-map, length-drop, drop-append-le, take-append-le}
 use Rattle.httparse.specs.Grammar.{RequestHead, print_request, ReadsRequest, HasNoRequest}
-use Rattle.httparse.specs.Spans.{IsRequestAt, IsRequestOf, IsRequestWithin, RequestOverflows, header_bytes, name_and_value}
+use Rattle.httparse.specs.Spans.{IsRequestAt, IsRequestOf, IsRequestWithin, RequestOverflows, IsWithin, span_bytes, header_bytes, name_and_value}
+use Rattle.httparse.specs.declared.spans.Span.{Span}
 use Rattle.httparse.specs.declared.spans.HeaderSpan.{HeaderSpan}
 use Rattle.httparse.specs.declared.spans.RequestSpans.{RequestSpans}
-use Rattle.bike_heads.specs.Head.{HasHead, HasNoHead, IsWhole, IsRead}
-use Rattle.bike_heads.specs.declared.head.HeadReading.{HeadReading}
-use Rattle.bike_heads.specs.declared.head.HeadReading.TheVariants.{Incomplete, Unreadable, Whole}
+use Rattle.bike_heads.specs.Head.{HasHead, HasNoHead, IsTold, IsRead}
+use Rattle.bike_heads.specs.declared.head.Head.{Head}
+use Rattle.bike_heads.specs.declared.head.HeadReading.TheVariants.{Whole}
 
 -- a head within the bounds lies in any front that is as long
 head_in_front : (front back : List ℕ) (head : RequestHead) (rest : List ℕ) → 8192 ≤ length front → HasHead (front ++ back) head rest
@@ -47,6 +48,21 @@ head_here front back fields spans head short room within at =
       few = omega arith;
     }
 
+-- a span within a front covers the same, whatever follows
+span_stays : (front more : List ℕ) (s : Span) → IsWithin (length front) s → span_bytes (front ++ more) s ≡ span_bytes front s
+span_stays front more s within =
+    ap (take (s.end - s.start)) (drop-append-le s.start front more (omega (arith, within)))
+    ∙ take-append-le (s.end - s.start) (drop s.start front) more (omega (arith, within, length-drop s.start front))
+
+pub told_stays : (front more : List ℕ) (head : RequestHead) (told : Head) → told.length ≤ length front → IsTold front head told → IsTold (front ++ more) head told
+told_stays front more head told long is = record {
+  method = span_stays front more told.method (is.within.0.0, (omega (arith, long, is.within.0))) ∙ is.method;
+  target = span_stays front more told.target (is.within.1.0, (omega (arith, long, is.within.1))) ∙ is.target;
+  within = is.within;
+  length = is.length;
+  body = is.body;
+}
+
 module _ (bytes : List ℕ) (n : ℕ) (is : n ≡ min (length bytes) 8192) where
   front_short : length (take n bytes) ≤ 8192
   front_short = omega (arith, length-take n bytes, is)
@@ -61,12 +77,18 @@ module _ (bytes : List ℕ) (n : ℕ) (is : n ≡ min (length bytes) 8192) where
   pub none_many : RequestOverflows 32 (take n bytes) → (more : List ℕ) → HasNoHead (bytes ++ more)
   none_many over more = subst HasNoHead (behind more) (many_none (take n bytes) (drop n bytes ++ more) over)
 
-  pub whole_is_read : (fields : List HeaderSpan) (spans : RequestSpans) (read : HeadReading) → length fields ≡ 32
+  pub whole_is_read : (fields : List HeaderSpan) (spans : RequestSpans) (told : Head) → length fields ≡ 32
       → IsRequestWithin (take n bytes) fields spans → IsRequestOf (take n bytes) fields spans
-      → ((head : RequestHead) → IsRequestAt (take n bytes) fields spans head → IsWhole head read) → IsRead bytes read
-  whole_is_read fields spans Incomplete room within of told = absurd (told of.0 of.1)
-  whole_is_read fields spans Unreadable room within of told = absurd (told of.0 of.1)
-  whole_is_read fields spans (Whole head) room within of told =
-      let here = head_here (take n bytes) (drop n bytes) fields spans of.0 front_short room within of.1 in
-      let rest = drop spans.len (take n bytes) ++ drop n bytes in
-      (of.0, rest, subst (λ l. HasHead l of.0 rest) (take-append-drop n bytes) here, told of.0 of.1)
+      → ((head : RequestHead) → IsRequestAt (take n bytes) fields spans head → IsTold (take n bytes) head told) → IsRead bytes (Whole told)
+  whole_is_read fields spans told room within of tells =
+      let front : List ℕ = take n bytes in
+      let here = head_here front (drop n bytes) fields spans of.0 front_short room within of.1 in
+      let rest = drop spans.len front ++ drop n bytes in
+      let is = tells of.0 of.1 in
+      let fits = within.section.len_fits in
+      let size : told.length ≡ spans.len = is.length ∙ sym of.1.len in (
+        of.0,
+        rest,
+        subst (λ l. HasHead l of.0 rest) (take-append-drop n bytes) here,
+        subst (λ (l : List ℕ). IsTold l of.0 told) (take-append-drop n bytes) (told_stays front (drop n bytes) of.0 told (omega (arith, size, fits)) is),
+      )

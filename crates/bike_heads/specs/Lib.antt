@@ -1,4 +1,3 @@
 pub mod Length
 pub mod Head
 pub mod Table
-pub mod Aim

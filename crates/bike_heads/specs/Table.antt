@@ -1,20 +1,13 @@
--- The routes of the product, and what a path that takes one names.
-use Rattle.std.specs.Prelude.{ℕ, List, [], ◌∷◌, ◌==◌, fold, codes, Option, Some, option_map, Result, Ok, Err}
+-- The routes of the product, and what a path takes of them.
+use Rattle.std.specs.Prelude.{ℕ, Bool, true, false, List, [], ◌∷◌, ◌==◌, fold, codes, Option, Some, option_map, Result, Ok, Err}
 use Rattle.std.specs.List.{before_first, slice_split}
 use Rattle.matchit.specs.Rows.{RowsOf}
 use Rattle.matchit.specs.Order.{placed}
 use Rattle.matchit.specs.Route.{Scan, parse_route}
 use Rattle.matchit.specs.Router.{RouteOf, route_from}
 use Rattle.matchit.specs.Seek.{first}
-use Rattle.bike_fixed.specs.Whole.{number_of}
-use Rattle.bike_fields.specs.declared.numbers.TheConstants.{GREATEST_NUMBER, GREATEST_SERIAL}
-use Rattle.bike_fields.specs.Bytes.{ident_of}
 use Rattle.bike_texts.specs.Reading.{◌>>=◌, part_at}
 use Rattle.bike_feed_texts.specs.declared.feed.Feed.TheVariants.{Gbfs, SystemInformation, VehicleTypes, StationInformation, StationStatus, SystemPricingPlans, SystemRegions}
-use Rattle.bike_heads.specs.declared.resource.Action.TheVariants as action
-use Rattle.bike_heads.specs.declared.resource.Shown.TheVariants as shown
-use Rattle.bike_heads.specs.declared.resource.Resource.{Resource}
-use Rattle.bike_heads.specs.declared.resource.Resource.TheVariants.{Act, Show, Publish}
 use Rattle.bike_heads.specs.declared.routes.Route.{Route}
 use Rattle.bike_heads.specs.declared.routes.Route.TheVariants as route
 
@@ -76,33 +69,16 @@ part_in path = do
   part ← part_at kind.1
   Some part.0
 
--- what this part spells
-unfoldable pub named_in : {A : Type 0} → (List ℕ → Option A) → List ℕ → Option A
-named_in read path = part_in path >>= read
+-- the routes with a parameter
+abbrev pub takes_part : Route → Bool
+takes_part route.Office = false
+takes_part (route.Publish feed) = false
+takes_part _ = true
 
--- the number of a rider, a bicycle or a truck; of a rental or an order
-abbrev pub number_in : List ℕ → Option ℕ
-number_in = named_in (number_of 1 GREATEST_NUMBER)
+abbrev pub with_part : Bool → Route → List ℕ → Option (Route × List ℕ)
+with_part true route path = option_map (λ part. (route, part)) (part_in path)
+with_part false route path = Some (route, [])
 
-abbrev pub serial_in : List ℕ → Option ℕ
-serial_in = named_in (number_of 1 GREATEST_SERIAL)
-
--- the identifier of a station
-abbrev pub ident_in : List ℕ → Option (List ℕ)
-ident_in = named_in ident_of
-
--- what a path names that takes the route
-abbrev pub resource_at : Route → List ℕ → Option Resource
-resource_at route.Start path = option_map Act (option_map action.Start (number_in path))
-resource_at route.End path = option_map Act (option_map action.End (ident_in path))
-resource_at route.MarkDock path = option_map Act (option_map action.MarkDock (ident_in path))
-resource_at route.MarkStationBike path = option_map Act (option_map action.MarkStationBike (ident_in path))
-resource_at route.Load path = option_map Act (option_map action.Load (number_in path))
-resource_at route.Unload path = option_map Act (option_map action.Unload (number_in path))
-resource_at route.MarkTruckBike path = option_map Act (option_map action.MarkTruckBike (number_in path))
-resource_at route.Office path = Some (Act action.Office)
-resource_at route.Rider path = option_map Show (option_map shown.Rider (number_in path))
-resource_at route.Bike path = option_map Show (option_map shown.Bike (number_in path))
-resource_at route.Rental path = option_map Show (option_map shown.Rental (serial_in path))
-resource_at route.Order path = option_map Show (option_map shown.Order (serial_in path))
-resource_at (route.Publish feed) path = Some (Publish feed)
+-- the route that a path takes, and what stands in the place of its parameter
+abbrev pub found_at : List ℕ → Option (Route × List ℕ)
+found_at path = route_at path >>= λ route. with_part (takes_part route) route path

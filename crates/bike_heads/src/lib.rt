@@ -5,16 +5,17 @@
 //! operator.
 #![tactic(auto)]
 
-mod aim;
 mod head;
 mod length;
 mod path;
-mod resource;
+mod rejection;
 mod routes;
+mod shown;
 
-pub use aim::{Allow, Rejection, aim_of};
 pub use bike_feed_texts::Feed;
 pub use head::{HEAD_LENGTH, Head, HeadReading, MOST_FIELDS, read_head};
 pub use length::{BODY_LENGTH, BodyLength};
-pub use resource::{Action, Resource, Shown};
-pub use routes::{Route, Routes, route_laws};
+pub use path::path_of;
+pub use rejection::{Allow, Rejection};
+pub use routes::{Found, Route, Routes, route_laws};
+pub use shown::Shown;

@@ -1,13 +1,13 @@
 //! The routes.
 
-ghost use Rattle.std.specs.Prelude.{◌≡◌, OnOk, Some, None, map, codes};
-ghost use Rattle.bike_heads.specs.Table.{table, with_route, with_routes, route_at};
+ghost use Rattle.std.specs.Prelude.{◌≡◌, OnOk, Some, None, map, option_map, codes};
+ghost use Rattle.bike_heads.specs.Table.{table, with_route, with_routes, route_at, found_at};
 
 use bike_feed_texts::Feed;
 use matchit::{InsertError, Router};
 use std::alloc::Global;
 
-/// A route: what a path of its form names.
+/// A route: the form of a path.
 #[derive(Clone, Copy)]
 pub enum Route {
     /// `/riders/{rider}/start`
@@ -85,6 +85,15 @@ pub struct Routes {
     ghost holds: { router ≡ table },
 }
 
+/// The route that a path takes.
+#[derive(Clone, Copy)]
+pub struct Found<'p> {
+    /// The route.
+    pub route: Route,
+    /// What stands in the place of its parameter; empty where it has none.
+    pub part: &'p str,
+}
+
 fn add(router: &mut Router<Route>, text: &str, route: Route) -> Result<(), InsertError>
     ensures { OnOk result (router.new ≡ with_route router.old text.now route) }
 {
@@ -109,13 +118,20 @@ impl Routes {
     }
 
     /// The route that the path takes, as it stands: nothing in it is decoded.
-    pub fn route(&self, path: &str) -> Option<Route>
-        ensures { result ≡ route_at path.now }
+    pub fn find<'p>(&self, path: &'p str) -> Option<Found<'p>>
+        ensures { option_map (λ found. (found.route, found.part.now)) result ≡ found_at path.now }
     {
-        match self.router.at(path) {
-            Ok(found) => Some(*found.value),
-            Err(_) => None,
-        }
+        let Ok(found) = self.router.at(path) else {
+            return None;
+        };
+        let part = match found.params.iter().next() {
+            Some((_, part)) => part,
+            None => "",
+        };
+        Some(Found {
+            route: *found.value,
+            part,
+        })
     }
 }
 
