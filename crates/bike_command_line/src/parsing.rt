@@ -3,10 +3,11 @@
 ghost use Rattle.std.specs.Prelude.{◌≡◌, ◌⊎◌, ◌<◌, ◌≤◌, ◌+◌, ◌-◌, [], length, map, slice_get, take, IfOk, IfErr, MatchOption, Some, true, false};
 ghost use Rattle.clap.specs.Words.{fault_of, subcommand_of, subcommand_rows_of};
 ghost use Rattle.bike_command_line.specs.Program.{program};
-ghost use Rattle.bike_command_line.specs.Told.{Against, Begins, IsSo, Leads, Otherwise};
+ghost use Rattle.bike_command_line.specs.Told.{Against, Begins, IsSo, Leads, Otherwise, has_one_hyphen, value_meant};
 
 use crate::mistake::Mistake;
 use crate::program::program;
+use crate::value::Value;
 use crate::word::Word;
 use clap::ArgMatches;
 use clap::error::ErrorKind;
@@ -118,6 +119,44 @@ fn option_at<'a>(words: &'a [&'a str], place: usize) -> &'a str
     words[place - 1]
 }
 
+/// Whether the text begins with one hyphen, and not with two.
+fn has_one_hyphen(text: &str) -> bool
+    ensures { result ≡ has_one_hyphen text.now }
+{
+    match text.as_bytes() {
+        [first, second, ..] => *first == b'-' && *second != b'-',
+        _ => false,
+    }
+}
+
+/// The value that a text is meant for which clap takes for an option: it has one hyphen, and stands behind an option of the word.
+fn value_meant(word: Word, before: &str, text: &str) -> Option<Value>
+    ensures { result ≡ value_meant word (Some before.now) text.now }
+{
+    if has_one_hyphen(text) {
+        Value::behind(word, before)
+    } else {
+        None
+    }
+}
+
+/// What is wrong with words that begin with this one, at the place where clap knows no such option: a bad value, as a negative number,
+/// or a word too much.
+fn unknown_at<'a>(words: &'a [&'a str], word: Word, place: usize) -> Mistake<'a>
+    requires leads { Leads (map (λ w. w.now) words.now) word }
+    requires against { Against (map (λ w. w.now) words.now) ErrorKind.UnknownArgument }
+    requires within { place < length words.now }
+    requires begins { Begins (map (λ w. w.now) words.now) ErrorKind.UnknownArgument place }
+    ensures { IsSo (map (λ w. w.now) words.entry.now) result }
+{
+    let text = words[place];
+    let before = words[place.saturating_sub(1)];
+    match value_meant(word, before, text) {
+        Some(value) => Mistake::BadValue { word, value, text },
+        None => Mistake::Unexpected { word, text },
+    }
+}
+
 /// What is wrong with words that begin with this one, and that clap has this against.
 pub(crate) fn offence<'a>(
     alloc: Global,
@@ -131,7 +170,11 @@ pub(crate) fn offence<'a>(
 {
     match kind {
         ErrorKind::DisplayHelp => Ok(Mistake::Help { word: Some(word) }),
-        ErrorKind::UnknownArgument | ErrorKind::TooManyValues => {
+        ErrorKind::UnknownArgument => {
+            let place = place_of(alloc, words, kind)?;
+            Ok(unknown_at(words, word, place))
+        }
+        ErrorKind::TooManyValues => {
             let place = place_of(alloc, words, kind)?;
             let text = words[place];
             Ok(Mistake::Unexpected { word, text })
