@@ -5,7 +5,7 @@ ghost use Rattle.std.specs.Fmt.{decimal};
 ghost use Rattle.std.specs.Process.{exit_status};
 ghost use Rattle.bike_adoption.specs.Adoption.{handed};
 ghost use Rattle.bike_migrate.specs.Raising.{handed as handed_back};
-ghost use Rattle.bike_console.specs.Pieces.{AppendsSome, Puts};
+ghost use Rattle.bike_console.specs.Pieces.{Puts, PutsLine};
 ghost use Rattle.bike_console.specs.Ends.{word_of, row_detail, detail_of, fault_status, status_of, line_of};
 ghost use Rattle.bike_console.specs.Ends.{adopt_fault, raise_fault, day_fault, fault_of_desk, feed_fault, import_fault, table_fault};
 
@@ -17,6 +17,7 @@ use bike_desk::DeskFault;
 use bike_feeds::FeedFault;
 use bike_fixed::DayFault;
 use bike_imports::ImportFault;
+use bike_json::Output;
 use bike_lines::LinesFault;
 use bike_migrate::{RaiseFault, UnsoundRow};
 use sqlite::{Alter, Connection, ErrorCode};
@@ -24,7 +25,6 @@ use std::alloc::AllocError;
 use std::error::Error;
 use std::fmt;
 use std::fmt::{Display, Formatter};
-use std::io::Write;
 use std::process::ExitCode;
 
 /// What the program can't go on after.
@@ -256,7 +256,7 @@ impl From<sqlite::Error> for Fault {
 }
 
 /// Writes a version, and a space before it.
-fn put_version<W: Write>(out: &mut W, going: bool, version: u64) -> bool
+fn put_version<W: Output>(out: &mut W, going: bool, version: u64) -> bool
     ensures { Puts (W.contents out.old) (W.contents out.new) (codes " " ++ decimal version) going result }
 {
     let going = put(out, going, b" ");
@@ -264,7 +264,7 @@ fn put_version<W: Write>(out: &mut W, going: bool, version: u64) -> bool
 }
 
 /// Writes a row's number, with a space on either side, and what is wrong with it.
-fn put_row<W: Write>(out: &mut W, going: bool, number: u64, what: &str) -> bool
+fn put_row<W: Output>(out: &mut W, going: bool, number: u64, what: &str) -> bool
     ensures { Puts (W.contents out.old) (W.contents out.new) (row_detail number what.now) going result }
 {
     let going = put(out, going, b" ");
@@ -274,7 +274,7 @@ fn put_row<W: Write>(out: &mut W, going: bool, number: u64, what: &str) -> bool
 }
 
 /// Writes what is told of the fault behind its first words.
-fn put_detail<W: Write>(out: &mut W, going: bool, fault: &Fault) -> bool
+fn put_detail<W: Output>(out: &mut W, going: bool, fault: &Fault) -> bool
     ensures { Puts (W.contents out.old) (W.contents out.new) (detail_of fault.now) going result }
 {
     match fault {
@@ -293,11 +293,11 @@ fn put_detail<W: Write>(out: &mut W, going: bool, fault: &Fault) -> bool
 }
 
 /// Writes the fault at which the program ends, if there is one, as a line, and gives the exit status, which is the same
-/// where that line can't be written. A fault's line is its first words; `row` has the row's number behind them and
+/// where the output refuses a part of that line: then a front of it is written. A fault's line is its first words; `row` has the row's number behind them and
 /// the refusal's name or `unreadable`, `unsound` a table and a key, whose columns are parted by `/`, and `older` and `newer` a version.
-pub fn exit_code<W: Write>(errors: &mut W, end: &Result<u64, Fault>) -> ExitCode
+pub fn exit_code<W: Output>(errors: &mut W, end: &Result<u64, Fault>) -> ExitCode
     ensures status { exit_status result ≡ status_of end.now }
-    ensures told { AppendsSome (W.contents errors.old) (W.contents errors.new) (line_of end.now) }
+    ensures told { PutsLine (W.contents errors.old) (W.contents errors.new) (line_of end.now) }
 {
     match end {
         Ok(_) => ExitCode::SUCCESS,
