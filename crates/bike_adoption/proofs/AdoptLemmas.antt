@@ -31,7 +31,7 @@ use Rattle.bike_schema.specs.Stands.{IsOf, StandsFor, TreesStandFor, AllLeft}
 use Rattle.bike_schema.specs.Creates.{IsFresh, Creates}
 use Rattle.bike_schema.specs.declared.fault.StatementFault.{StatementFault}
 use Rattle.bike_schema.specs.declared.fault.StatementFault.TheVariants.{NoMemory, StoreFailed}
-use Rattle.bike_adoption.specs.Adoption.{AreFresh, handed, failed, IsWant}
+use Rattle.bike_adoption.specs.Adoption.{AreFresh, failure, IsWantFor}
 use Rattle.bike_desk.specs.Desk.{DeskValue, desk_over, IsAt}
 use Rattle.bike_desk.proofs.KeepLemmas.{Settles, no_meta, nothing_told, stands_in, settled_keeps}
 
@@ -136,12 +136,7 @@ module _ {S : Type 0} (g : Ghosts S) (settles : Settles g) (old : Held S) (settl
 pub nobody_at : {S : Type 0} (g : Ghosts S) (old : Held S) (d : DeskValue S) (s : Operator) → IsLive (state g old) → IsTrue (state g old).is_open → HasNone (state g old).now.schema → TreesStandFor s (state g old).now.trees → IsAt g d no_operator → IsAt g d s
 nobody_at g old d s sound live none stands at = subst (IsAt g d) (sym (nobody_else (state g old).now s (sound live).0 none stands)) at
 
--- whatever the fault, the connection comes back
-pub handed_failed : {S : Type 0} (fault : StatementFault) (conn : Held S) → handed (failed fault conn) ≡ conn
-handed_failed NoMemory conn = refl
-handed_failed StoreFailed conn = refl
-
 -- a statement that failed tells nothing of the database
-pub want_of : {S : Type 0} (fault : StatementFault) (conn : Held S) → IsWant (failed fault conn)
-want_of NoMemory conn = tt
-want_of StoreFailed conn = tt
+pub want_of : (fault : StatementFault) → IsWantFor (failure fault)
+want_of NoMemory = tt
+want_of StoreFailed = tt

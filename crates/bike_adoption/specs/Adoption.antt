@@ -1,5 +1,5 @@
 -- What an adoption that fails hands back.
-use Rattle.std.specs.Prelude.{◌≡◌, ◌≤◌, ◌⊎◌, ℕ, false, List, [], codes, Result, Ok, Err, IfOk, IfErr, MatchResult, IsTrue}
+use Rattle.std.specs.Prelude.{◌≡◌, ◌≤◌, ◌⊎◌, ℕ, false, List, [], codes, Option, Some, None, Result, Ok, Err, IfOk, IfErr, MatchResult, IsTrue}
 use Rattle.sqlite_trees.specs.View.{doubt}
 use Rattle.sqlite_trees.specs.declared.store.Store.{Ghosts}
 use Rattle.sqlite_trees.specs.Tree.{Trees}
@@ -15,8 +15,9 @@ use Rattle.bike_recognition.specs.declared.stands.TheConstants.{EVERY_TABLE}
 use Rattle.bike_schema.specs.Stands.{AllLeft, IsOf, TreesStandFor}
 use Rattle.bike_schema.specs.declared.fault.StatementFault.{StatementFault}
 use Rattle.bike_schema.specs.declared.fault.StatementFault.TheVariants as statement
+use Rattle.bike_adoption.specs.declared.adoption.AdoptCause.{AdoptCause}
+use Rattle.bike_adoption.specs.declared.adoption.AdoptCause.TheVariants.{Foreign, Unsound, Older, Newer, NoMemory, StoreFailed}
 use Rattle.bike_adoption.specs.declared.adoption.AdoptFault.{AdoptFault}
-use Rattle.bike_adoption.specs.declared.adoption.AdoptFault.TheVariants.{Foreign, Unsound, Older, Newer, NoMemory, StoreFailed}
 use Rattle.bike_adoption.specs.declared.looking.Looked.{Looked}
 use Rattle.bike_adoption.specs.declared.looking.Looked.TheVariants as look
 use Rattle.bike_desk.specs.Desk.{DeskValue, IsAt, desk_over, desk_state}
@@ -29,38 +30,61 @@ use Rattle.bike_audit.specs.declared.finding.Finding.TheVariants as finding
 abbrev pub AreFresh : Database → Trees → Type 0
 AreFresh old trees = (db : Database) × IsFresh old db × (trees ≡ db.trees)
 
+-- ---- causes
+
+-- the word that tells the cause
+abbrev pub word_of : AdoptCause → List ℕ
+word_of Foreign = codes "foreign"
+word_of (Unsound bad) = codes "unsound"
+word_of (Older version) = codes "older"
+word_of (Newer version) = codes "newer"
+word_of NoMemory = codes "out of memory"
+word_of StoreFailed = codes "store failed"
+
+-- a statement failed
+abbrev pub failure : StatementFault → AdoptCause
+failure statement.NoMemory = NoMemory
+failure statement.StoreFailed = StoreFailed
+
+-- why a database that was found to be this isn't adopted, if it isn't; one that isn't empty is never found to be
+abbrev pub cause_of : Finding → Option AdoptCause
+cause_of finding.Sound = None
+cause_of finding.Foreign = Some Foreign
+cause_of (finding.Unsound bad) = Some (Unsound bad)
+cause_of (finding.Older version) = Some (Older version)
+cause_of (finding.Newer version) = Some (Newer version)
+cause_of finding.Empty = Some StoreFailed
+
+-- it tells nothing of the database
+abbrev pub IsWantFor : AdoptCause → Type 0
+IsWantFor NoMemory = Unit {0}
+IsWantFor StoreFailed = Unit {0}
+IsWantFor _ = ⊥
+
+-- the tables of which a watch was told before it
+abbrev pub AreToldBefore : AdoptCause → List Table → Type 0
+AreToldBefore (Unsound bad) told = IsFrontTo EVERY_TABLE bad.table told
+AreToldBefore NoMemory told = IsFront EVERY_TABLE told
+AreToldBefore StoreFailed told = IsFront EVERY_TABLE told
+AreToldBefore _ told = told ≡ []
+
 module _ {S : Type 0} where
   -- the connection in a fault
   abbrev pub handed : AdoptFault S → Held S
-  handed (Foreign c) = c
-  handed (Unsound c bad) = c
-  handed (Older c version) = c
-  handed (Newer c version) = c
-  handed (NoMemory c) = c
-  handed (StoreFailed c) = c
+  handed e = e.conn
 
   -- a statement failed on the connection
   abbrev pub failed : StatementFault → Held S → AdoptFault S
-  failed statement.NoMemory c = NoMemory c
-  failed statement.StoreFailed c = StoreFailed c
+  failed fault c = record { conn = c; cause = failure fault }
 
-  -- what comes of a database that was found to be this; one that isn't empty is never found to be
+  -- it isn't adopted for the cause, if there is one
+  abbrev pub found_by : Held S → Option AdoptCause → Result (DeskValue S) (AdoptFault S)
+  found_by c None = Ok (desk_over c)
+  found_by c (Some cause) = Err (record { conn = c; cause = cause })
+
+  -- what comes of a database that was found to be this
   abbrev pub found_as : Held S → Finding → Result (DeskValue S) (AdoptFault S)
-  found_as c finding.Sound = Ok (desk_over c)
-  found_as c finding.Foreign = Err (Foreign c)
-  found_as c (finding.Unsound bad) = Err (Unsound c bad)
-  found_as c (finding.Older version) = Err (Older c version)
-  found_as c (finding.Newer version) = Err (Newer c version)
-  found_as c finding.Empty = Err (StoreFailed c)
-
-  -- the word that tells the fault
-  abbrev pub line_of : AdoptFault S → List ℕ
-  line_of (Foreign c) = codes "foreign"
-  line_of (Unsound c bad) = codes "unsound"
-  line_of (Older c version) = codes "older"
-  line_of (Newer c version) = codes "newer"
-  line_of (NoMemory c) = codes "out of memory"
-  line_of (StoreFailed c) = codes "store failed"
+  found_as c found = found_by c (cause_of found)
 
   -- the empty tables were made, beside all others
   pub record Begins (g : Ghosts S) (old : Held S) (d : DeskValue S) : Type 0 where
@@ -69,35 +93,33 @@ module _ {S : Type 0} where
     pub others : OthersStay (state g old).now (desk_state g d).now
 
   -- a fault of a statement
-  abbrev pub IsOfStatement : Ghosts S → Held S → AdoptFault S → Type 0
-  IsOfStatement g old e = (fault : StatementFault) × (e ≡ failed fault (handed e))
+  abbrev pub IsOfStatement : AdoptFault S → Type 0
+  IsOfStatement e = (fault : StatementFault) × (e.cause ≡ failure fault)
 
   -- the database is what the fault tells, and as it was
   abbrev pub IsFound : Ghosts S → Held S → Held S → Finding → Type 0
   IsFound g old c finding = IsAudited (state g old).now finding × IsUnchanged (state g old) (state g c)
 
   -- What a fault tells of the database. Want of memory and a failed store tell nothing of it.
+  abbrev pub IsToldBy : Ghosts S → Held S → Held S → AdoptCause → Type 0
+  IsToldBy g old c Foreign = IsFound g old c finding.Foreign
+  IsToldBy g old c (Unsound bad) = IsFound g old c (finding.Unsound bad)
+  IsToldBy g old c (Older version) = IsFound g old c (finding.Older version)
+  IsToldBy g old c (Newer version) = IsFound g old c (finding.Newer version)
+  IsToldBy g old c NoMemory = Unit {0}
+  IsToldBy g old c StoreFailed = Unit {0}
+
   abbrev pub IsToldOf : Ghosts S → Held S → AdoptFault S → Type 0
-  IsToldOf g old (Foreign c) = IsFound g old c finding.Foreign
-  IsToldOf g old (Unsound c bad) = IsFound g old c (finding.Unsound bad)
-  IsToldOf g old (Older c version) = IsFound g old c (finding.Older version)
-  IsToldOf g old (Newer c version) = IsFound g old c (finding.Newer version)
-  IsToldOf g old (NoMemory c) = Unit {0}
-  IsToldOf g old (StoreFailed c) = Unit {0}
+  IsToldOf g old e = IsToldBy g old e.conn e.cause
 
   -- a fault that tells nothing of the database
   abbrev pub IsWant : AdoptFault S → Type 0
-  IsWant (NoMemory c) = Unit {0}
-  IsWant (StoreFailed c) = Unit {0}
-  IsWant _ = ⊥
+  IsWant e = IsWantFor e.cause
 
   -- THE TABLES THAT AN ADOPTION TELLS ITS WATCH OF: those that its audit tells of; none where no audit begins
   abbrev pub AreToldBy : Ghosts S → Held S → Result (DeskValue S) (AdoptFault S) → List Table → Type 0
   AreToldBy g old (Ok d) told = (told ≡ EVERY_TABLE) ⊎ (HasNone (state g old).now.schema × (told ≡ []))
-  AreToldBy g old (Err (Unsound c bad)) told = IsFrontTo EVERY_TABLE bad.table told
-  AreToldBy g old (Err (NoMemory c)) told = IsFront EVERY_TABLE told
-  AreToldBy g old (Err (StoreFailed c)) told = IsFront EVERY_TABLE told
-  AreToldBy g old (Err _) told = told ≡ []
+  AreToldBy g old (Err e) told = AreToldBefore e.cause told
 
   -- WHAT AN ADOPTION OWES: a desk at the operator for whom the database stands, or a fault that hands the connection back
   pub record Adopts (g : Ghosts S) (old : Held S) (result : Result (DeskValue S) (AdoptFault S)) : Type 0 where
@@ -124,14 +146,14 @@ module _ {S : Type 0} where
   looked_at (look.Sound c) = c
   looked_at (look.Empty c) = c
 
-  -- what comes of a database that was found to be this by a look; one that isn't empty is never found to be
+  -- it may not be served for the cause, if there is one
+  abbrev pub looked_by : Held S → Option AdoptCause → Result (Looked S) (AdoptFault S)
+  looked_by c None = Ok (look.Sound c)
+  looked_by c (Some cause) = Err (record { conn = c; cause = cause })
+
+  -- what comes of a database that was found to be this by a look
   abbrev pub looked_as : Held S → Finding → Result (Looked S) (AdoptFault S)
-  looked_as c finding.Sound = Ok (look.Sound c)
-  looked_as c finding.Foreign = Err (Foreign c)
-  looked_as c (finding.Unsound bad) = Err (Unsound c bad)
-  looked_as c (finding.Older version) = Err (Older c version)
-  looked_as c (finding.Newer version) = Err (Newer c version)
-  looked_as c finding.Empty = Err (StoreFailed c)
+  looked_as c found = looked_by c (cause_of found)
 
   -- The database stands for an operator, or has none of the tables: it is as it was, and a desk over it is at its operator.
   abbrev pub IsSeen : Ghosts S → Held S → Looked S → Type 0

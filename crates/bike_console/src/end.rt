@@ -10,7 +10,7 @@ ghost use Rattle.bike_console.specs.Ends.{word_of, row_detail, detail_of, fault_
 ghost use Rattle.bike_console.specs.Ends.{adopt_fault, raise_fault, day_fault, fault_of_desk, feed_fault, import_fault, table_fault};
 
 use crate::pieces::{put, put_key, put_number};
-use bike_adoption::AdoptFault;
+use bike_adoption::{AdoptCause, AdoptFault};
 use bike_commands::Refusal;
 use bike_days::DayTableFault;
 use bike_desk::DeskFault;
@@ -19,7 +19,7 @@ use bike_fixed::DayFault;
 use bike_imports::ImportFault;
 use bike_json::Output;
 use bike_lines::LinesFault;
-use bike_migrate::{RaiseFault, UnsoundRow};
+use bike_migrate::{RaiseCause, RaiseFault, UnsoundRow};
 use sqlite::{Alter, Connection, ErrorCode};
 use std::alloc::AllocError;
 use std::error::Error;
@@ -172,17 +172,16 @@ impl Fault {
         ensures conn { result.0 ≡ handed fault }
         ensures told { result.1 ≡ adopt_fault fault }
     {
-        match fault {
-            AdoptFault::Foreign(conn) => (conn, Fault::Foreign),
-            AdoptFault::Unsound(conn, row) => {
-                let bad = UnsoundRow { earlier: None, row };
-                (conn, Fault::Unsound(bad))
-            }
-            AdoptFault::Older(conn, version) => (conn, Fault::Older(version)),
-            AdoptFault::Newer(conn, version) => (conn, Fault::Newer(version)),
-            AdoptFault::NoMemory(conn) => (conn, Fault::OutOfMemory),
-            AdoptFault::StoreFailed(conn) => (conn, Fault::StoreFailed),
-        }
+        let AdoptFault { conn, cause } = fault;
+        let told = match cause {
+            AdoptCause::Foreign => Fault::Foreign,
+            AdoptCause::Unsound(row) => Fault::Unsound(UnsoundRow { earlier: None, row }),
+            AdoptCause::Older(version) => Fault::Older(version),
+            AdoptCause::Newer(version) => Fault::Newer(version),
+            AdoptCause::NoMemory => Fault::OutOfMemory,
+            AdoptCause::StoreFailed => Fault::StoreFailed,
+        };
+        (conn, told)
     }
 
     /// The fault of a raise, and the connection that it hands back.
@@ -190,13 +189,15 @@ impl Fault {
         ensures conn { result.0 ≡ handed_back fault }
         ensures told { result.1 ≡ raise_fault fault }
     {
-        match fault {
-            RaiseFault::Foreign(conn) => (conn, Fault::Foreign),
-            RaiseFault::Unsound(conn, bad) => (conn, Fault::Unsound(bad)),
-            RaiseFault::Newer(conn, version) => (conn, Fault::Newer(version)),
-            RaiseFault::NoMemory(conn) => (conn, Fault::OutOfMemory),
-            RaiseFault::StoreFailed(conn) => (conn, Fault::StoreFailed),
-        }
+        let RaiseFault { conn, cause } = fault;
+        let told = match cause {
+            RaiseCause::Foreign => Fault::Foreign,
+            RaiseCause::Unsound(bad) => Fault::Unsound(bad),
+            RaiseCause::Newer(version) => Fault::Newer(version),
+            RaiseCause::NoMemory => Fault::OutOfMemory,
+            RaiseCause::StoreFailed => Fault::StoreFailed,
+        };
+        (conn, told)
     }
 }
 
