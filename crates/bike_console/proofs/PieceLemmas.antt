@@ -1,5 +1,5 @@
 -- Pieces one after the other, and the text of a key column by column.
-use Rattle.std.proofs.Common.{◌≡◌, ◌∙◌, ◌+◌, ◌<◌, ◌≤◌, ℕ, List, [], ◌∷◌, ◌++◌, length, take, refl, sym, subst, ap, suc, arith, append_assoc, append-nil, length-append, zero, Bool, true, false, IsTrue, inl, inr}
+use Rattle.std.proofs.Common.{◌≡◌, ◌∙◌, ◌+◌, ◌<◌, ◌≤◌, ℕ, List, [], ◌∷◌, ◌++◌, length, take, refl, sym, subst, ap, suc, arith, append_assoc, append-nil, length-append, zero, Bool, true, false, Option, IsTrue, inl, inr}
 use Rattle.std.specs.Prelude.{codes, ◌==◌, if◌then◌else◌}
 use Rattle.std.proofs.lemmas.List.{take_all, take-append-le}
 use Rattle.std.proofs.Math.Seq.{take-append-add}
@@ -14,6 +14,10 @@ use Rattle.bike_json.specs.Outputs.{OutputState}
 use Rattle.bike_console.specs.Pieces.{value_text, key_text, bar, Puts, PutsLine}
 
 -- ---- pieces
+
+-- a writer that holds these bytes, as an output
+abbrev pub writer_with : Option (List ℕ) → OutputState
+writer_with bytes = record { bytes = bytes; may_refuse = true }
 
 pub puts_both : (a b c : OutputState) (xs ys : List ℕ) (g h i : Bool) → Puts a b xs g h → Puts b c ys h i → Puts a c (xs ++ ys) g i
 puts_both a b c xs ys true true true p q = (Appends-trans a.bytes b.bytes c.bytes xs ys p.0 q.0, q.1 ∙ p.1)

@@ -1,6 +1,6 @@
 //! How the program ends: a line on standard error, and its exit status.
 
-ghost use Rattle.std.specs.Prelude.{◌≡◌, ◌++◌, codes};
+ghost use Rattle.std.specs.Prelude.{◌≡◌, ◌++◌, codes, Err};
 ghost use Rattle.std.specs.Fmt.{decimal};
 ghost use Rattle.std.specs.Process.{exit_status};
 ghost use Rattle.bike_adoption.specs.Adoption.{handed};
@@ -182,6 +182,15 @@ impl Fault {
             AdoptCause::StoreFailed => Fault::StoreFailed,
         };
         (conn, told)
+    }
+
+    /// The end of a task whose connection wasn't adopted: the connection that the adoption hands back, and its fault.
+    pub fn refused<S: Alter>(fault: AdoptFault<S>) -> (Connection<S>, Result<u64, Fault>)
+        ensures conn { result.0 ≡ handed fault }
+        ensures told { result.1 ≡ Err (adopt_fault fault) }
+    {
+        let (conn, told) = Fault::taken_from(fault);
+        (conn, Err(told))
     }
 
     /// The fault of a raise, and the connection that it hands back.
