@@ -83,10 +83,10 @@ module _ {S : Type 0} (g : Ghosts S) {first last : Held S} (fault : AdoptFault S
   still_clean : HasCleanDisk (state g (handed fault))
   still_clean = subst (λ (h : Held S). HasCleanDisk (state g h)) conn clean
 
-  pub refuses : {old : Option (List ℕ)} (told : Fault) → told ≡ adopt_fault fault → Refuses g old old first last (Err told)
-  refuses {old} told is = record {
+  pub refuses : {old : Option (List ℕ)} (end : Result ℕ Fault) → end ≡ Err (adopt_fault fault) → Refuses g old old first last end
+  refuses {old} end is = record {
     fault = fault;
-    told = ap Err is;
+    told = is;
     why = adopts.told still_clean;
     want = λ s stands. adopts.refused s stands still_clean;
     conn = conn;
