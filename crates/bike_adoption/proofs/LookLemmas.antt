@@ -1,5 +1,5 @@
 -- What a look finds, by what its audit read.
-use Rattle.std.proofs.Common.{◌≡◌, false, IsTrue, Ok, Err, Result, refl, ◌∙◌}
+use Rattle.std.proofs.Common.{◌≡◌, false, IsTrue, Ok}
 use Rattle.sqlite_trees.specs.declared.store.Store.{Ghosts}
 use Rattle.sqlite.specs.State.{IsLive}
 use Rattle.sqlite.specs.Held.{Held, state}

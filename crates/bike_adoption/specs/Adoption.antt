@@ -5,7 +5,7 @@ use Rattle.sqlite_trees.specs.declared.store.Store.{Ghosts}
 use Rattle.sqlite_trees.specs.Tree.{Trees}
 use Rattle.sqlite.specs.Held.{Held, state}
 use Rattle.sqlite.specs.Effect.{Database}
-use Rattle.sqlite.specs.State.{HasCleanDisk, IsUnchanged}
+use Rattle.sqlite.specs.State.{State, HasCleanDisk, IsUnchanged, Shows}
 use Rattle.bike_operator.specs.Operator.{Operator, no_operator}
 use Rattle.bike_schema.specs.Makes.{OthersStay}
 use Rattle.bike_schema.specs.Creates.{IsFresh}
@@ -26,9 +26,13 @@ use Rattle.bike_audit.specs.Watching.{IsFront, IsFrontTo}
 use Rattle.bike_audit.specs.declared.finding.Finding.{Finding}
 use Rattle.bike_audit.specs.declared.finding.Finding.TheVariants as finding
 
--- the trees hold the empty tables, beside the other tables of this database
-abbrev pub AreFresh : Database → Trees → Type 0
-AreFresh old trees = (db : Database) × IsFresh old db × (trees ≡ db.trees)
+-- the connection was open, and the trees hold the empty tables, beside the other tables that it showed
+abbrev pub AreFresh : State → Trees → Type 0
+AreFresh old trees = IsTrue old.is_open × (db : Database) × IsFresh old.now db × (trees ≡ db.trees)
+
+-- the empty tables were made beside all others, and committed
+abbrev pub AreMade : State → State → Type 0
+AreMade old new = Shows old new new.now new.now false × IsFresh old.now new.now
 
 -- ---- causes
 
@@ -121,23 +125,39 @@ module _ {S : Type 0} where
   AreToldBy g old (Ok d) told = (told ≡ EVERY_TABLE) ⊎ (HasNone (state g old).now.schema × (told ≡ []))
   AreToldBy g old (Err e) told = AreToldBefore e.cause told
 
+  -- what a crash may leave is what it might leave before
+  abbrev pub LeavesAll : Ghosts S → Held S → Held S → Type 0
+  LeavesAll g old c = HasCleanDisk (state g c) → AllLeft (state g c) (state g old).may_leave
+
+  -- so it stands for the operator for whom the tables stood
+  abbrev pub LeavesFor : Ghosts S → Operator → Held S → Type 0
+  LeavesFor g s c = HasCleanDisk (state g c) → AllLeft (state g c) (TreesStandFor s)
+
+  -- it is what it might leave before, or stands for the operator
+  abbrev pub LeavesOrStands : Ghosts S → Held S → Operator → Held S → Type 0
+  LeavesOrStands g old s c =
+      HasCleanDisk (state g c) → AllLeft (state g c) (λ trees. (state g old).may_leave trees ⊎ TreesStandFor s trees)
+
   -- WHAT AN ADOPTION OWES: a desk at the operator for whom the database stands, or a fault that hands the connection back
   pub record Adopts (g : Ghosts S) (old : Held S) (result : Result (DeskValue S) (AdoptFault S)) : Type 0 where
     pub clean : MatchResult result (λ d. doubt (state g old).is_clean ≤ doubt (desk_state g d).is_clean)
         (λ e. doubt (state g old).is_clean ≤ doubt (state g (handed e)).is_clean)
     pub only : IfOk result (λ d. HasCleanDisk (desk_state g d) → (s : Operator) × IsOf (state g old).now s × IsAt g d s)
     pub others : IfOk result (λ d. HasCleanDisk (desk_state g d) → OthersStay (state g old).now (desk_state g d).now)
-    pub found : (s : Operator) → TreesStandFor s (state g old).now.trees → IfOk result (λ d. HasCleanDisk (desk_state g d) → IsAt g d s)
+    pub found : (s : Operator) → TreesStandFor s (state g old).now.trees
+        → IfOk result (λ d. HasCleanDisk (desk_state g d) → IsAt g d s)
     -- tables that stand for an operator are refused for memory or storage alone
     pub refused : (s : Operator) → TreesStandFor s (state g old).now.trees
         → IfErr result (λ e. HasCleanDisk (state g (handed e)) → IsWant e)
     pub told : IfErr result (λ e. HasCleanDisk (state g (handed e)) → IsToldOf g old e)
     pub autocommit : IfErr result (λ e. (handed e).in_transaction ≡ false)
-    -- what a crash may leave after a fault
+    -- what a crash may leave after a fault; of a connection that was shut, too: what it might leave before, or tables
+    -- that stand for the operator
+    pub crash : (s : Operator) → TreesStandFor s (state g old).now.trees
+        → IfErr result (λ e. LeavesOrStands g old s e.conn)
     pub left : (s : Operator) → TreesStandFor s (state g old).now.trees → IsTrue (state g old).is_open
-        → IfErr result (λ e. HasCleanDisk (state g (handed e)) → AllLeft (state g (handed e)) (TreesStandFor s))
-    pub stays : ((s : Operator) → ¬ IsOf (state g old).now s)
-        → IfErr result (λ e. HasCleanDisk (state g (handed e)) → AllLeft (state g (handed e)) (state g old).may_leave)
+        → IfErr result (λ e. LeavesFor g s e.conn)
+    pub stays : ((s : Operator) → ¬ IsOf (state g old).now s) → IfErr result (λ e. LeavesAll g old e.conn)
 
   -- ---- a look, which changes nothing
 
@@ -157,17 +177,10 @@ module _ {S : Type 0} where
 
   -- The database stands for an operator, or has none of the tables: it is as it was, and a desk over it is at its operator.
   abbrev pub IsSeen : Ghosts S → Held S → Looked S → Type 0
-  IsSeen g old (look.Sound c) = IsUnchanged (state g old) (state g c) × ((s : Operator) × IsOf (state g old).now s × IsAt g (desk_over c) s)
+  IsSeen g old (look.Sound c) =
+      IsUnchanged (state g old) (state g c) × ((s : Operator) × IsOf (state g old).now s × IsAt g (desk_over c) s)
       × ((s : Operator) → TreesStandFor s (state g old).now.trees → IsAt g (desk_over c) s)
   IsSeen g old (look.Empty c) = (c ≡ old) × HasNone (state g old).now.schema
-
-  -- what a crash may leave is what it could leave before
-  abbrev pub LeavesAll : Ghosts S → Held S → Held S → Type 0
-  LeavesAll g old c = HasCleanDisk (state g c) → AllLeft (state g c) (state g old).may_leave
-
-  -- so it stands for the operator for whom the tables stood
-  abbrev pub LeavesFor : Ghosts S → Operator → Held S → Type 0
-  LeavesFor g s c = HasCleanDisk (state g c) → AllLeft (state g c) (TreesStandFor s)
 
   -- WHAT A LOOK OWES: the database as it was, which may be served, or a fault that hands it back as it was
   pub record Looks (g : Ghosts S) (old : Held S) (result : Result (Looked S) (AdoptFault S)) : Type 0 where
@@ -178,7 +191,7 @@ module _ {S : Type 0} where
     pub refused : (s : Operator) → TreesStandFor s (state g old).now.trees
         → IfErr result (λ e. HasCleanDisk (state g (handed e)) → IsWant e)
     pub told : IfErr result (λ e. HasCleanDisk (state g (handed e)) → IsToldOf g old e)
-    pub autocommit : MatchResult result (λ l. (looked_at l).in_transaction ≡ false) (λ e. (handed e).in_transaction ≡ false)
+    pub autocommit : MatchResult result (λ l. (looked_at l).in_transaction ≡ false) (λ e. e.conn.in_transaction ≡ false)
     pub stays : MatchResult result (λ l. LeavesAll g old (looked_at l)) (λ e. LeavesAll g old (handed e))
     pub left : (s : Operator) → TreesStandFor s (state g old).now.trees → IsTrue (state g old).is_open
         → MatchResult result (λ l. LeavesFor g s (looked_at l)) (λ e. LeavesFor g s (handed e))

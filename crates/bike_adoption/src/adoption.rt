@@ -1,15 +1,15 @@
 //! Taking a database into service.
 
-ghost use Rattle.std.specs.Prelude.{◌≡◌, ◌≤◌, false, IsTrue, IfOk, IfErr, MatchResult};
+ghost use Rattle.std.specs.Prelude.{◌≡◌, ◌≤◌, false, IfOk, IfErr, MatchResult};
 ghost use Rattle.sqlite.specs.State.{HasCleanDisk};
 ghost use Rattle.sqlite.specs.Held.{state};
 ghost use Rattle.sqlite_trees.specs.View.{doubt};
 ghost use Rattle.bike_operator.specs.Operator.{Operator};
 ghost use Rattle.bike_schema.specs.Tables.{HasNone};
-ghost use Rattle.bike_schema.specs.Stands.{AllLeft, TreesStandFor};
+ghost use Rattle.bike_schema.specs.Stands.{TreesStandFor};
 ghost use Rattle.bike_desk.specs.Desk.{desk_state};
 ghost use Rattle.bike_audit.specs.Watching.{WasTold};
-ghost use Rattle.bike_adoption.specs.Adoption.{handed, failed, cause_of, found_as, Adopts, AreToldBy, Begins, IsOfStatement};
+ghost use Rattle.bike_adoption.specs.Adoption.{failed, cause_of, found_as, Adopts, AreToldBy, Begins, IsOfStatement, LeavesOrStands};
 
 use crate::tables::make_tables;
 use bike_audit::{BadRow, Finding, Unwatched, Watch, audit};
@@ -117,13 +117,14 @@ fn begin<S: Alter>(mut conn: Connection<S>) -> Result<Desk<S>, AdoptFault<S>>
     requires { conn.in_transaction ≡ false }
     ensures clean { MatchResult result
         (λ d. doubt (state S.Store conn).is_clean ≤ doubt (desk_state S.Store d).is_clean)
-        (λ e. doubt (state S.Store conn).is_clean ≤ doubt (state S.Store (handed e)).is_clean) }
-    ensures begun { HasNone (state S.Store conn).now.schema → IfOk result (λ d. HasCleanDisk (desk_state S.Store d) → Begins S.Store conn d) }
+        (λ e. doubt (state S.Store conn).is_clean ≤ doubt (state S.Store e.conn).is_clean) }
+    ensures begun { HasNone (state S.Store conn).now.schema
+        → IfOk result (λ d. HasCleanDisk (desk_state S.Store d) → Begins S.Store conn d) }
     ensures told { IfErr result IsOfStatement }
-    ensures autocommit { IfErr result (λ e. (handed e).in_transaction ≡ false) }
-    ensures left { HasNone (state S.Store conn).now.schema → (s : Operator) → TreesStandFor s (state S.Store conn).now.trees
-        → IsTrue (state S.Store conn).is_open → IfErr result (λ e. HasCleanDisk (state S.Store (handed e))
-        → AllLeft (state S.Store (handed e)) (TreesStandFor s)) }
+    ensures autocommit { IfErr result (λ e. e.conn.in_transaction ≡ false) }
+    ensures crash { HasNone (state S.Store conn).now.schema
+        → (s : Operator) → TreesStandFor s (state S.Store conn).now.trees
+        → IfErr result (λ e. LeavesOrStands S.Store conn s e.conn) }
 {
     is_at_rest(&conn);
     match make_tables(&mut conn) {

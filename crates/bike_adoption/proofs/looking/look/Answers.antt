@@ -1,4 +1,4 @@
-use Rattle.std.proofs.Common.{rules, not, refl}
+use Rattle.std.proofs.Common.{rules, refl}
 use Rattle.sqlite.specs.Held.{state}
 use Rattle.bike_schema.specs.Tables.{HasNone}
 use Rattle.bike_adoption.proofs.AdoptLemmas.{in_left, want_of}
