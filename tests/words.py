@@ -219,6 +219,13 @@ def test_values_that_are_bad(program):
         program, f"--at is 253402300800; wanted is {MOMENT}", "import", "city.db", "spring", "--at", "253402300800"
     )
     is_mistaken(program, f"--at is -1; wanted is {MOMENT}", "feed", "city.db", "gbfs", "--at=-1")
+    for text in "-1", "-x", "-1.5":
+        is_mistaken(program, f"--port is {text}; wanted is {PORT}", "serve", "city.db", "--port", text)
+        is_mistaken(
+            program, f"--count is {text}; wanted is {COUNT}", "serve", "--port", "0", "--count", text, "city.db"
+        )
+        is_mistaken(program, f"--at is {text}; wanted is {MOMENT}", "feed", "city.db", "gbfs", "--at", text)
+        is_mistaken(program, f"--at is {text}; wanted is {MOMENT}", "import", "--at", text, "city.db", "spring")
     is_mistaken(program, f"NAME is nothing; wanted is {FEEDS}", "feed", "city.db", "nothing", "--at", "x")
     is_mistaken(program, f"NAME is Spring; wanted is {IDENT}", "import", "city.db", "Spring")
     is_mistaken(
@@ -246,6 +253,10 @@ def test_words_too_many(program):
         options = [it for it in ("--at", "--port", "--count") if it not in form]
         for text in ["-1", "--force", "-x", "--help=yes", *options]:
             is_mistaken(program, f"{text} is unexpected; wanted is {form}", name, "city.db", text, "80")
+    is_mistaken(
+        program, "--cuont is unexpected; wanted is serve FILE --port P [--count N]", "serve", "city.db", "--port",
+        "--cuont", "1",
+    )
     is_mistaken(program, "other.db is unexpected; wanted is init FILE", "init", "city.db", "other.db", "third.db")
     is_mistaken(program, "-city.db is unexpected; wanted is init FILE", "init", "-city.db")
     is_mistaken(program, "gbfs is unexpected; wanted is feed FILE NAME [--at M]", "feed", "city.db", "gbfs", "gbfs")

@@ -31,7 +31,7 @@ use Rattle.bike_schema.specs.Stands.{IsOf, StandsFor, TreesStandFor, AllLeft}
 use Rattle.bike_schema.specs.Creates.{IsFresh, Creates}
 use Rattle.bike_schema.specs.declared.fault.StatementFault.{StatementFault}
 use Rattle.bike_schema.specs.declared.fault.StatementFault.TheVariants.{NoMemory, StoreFailed}
-use Rattle.bike_adoption.specs.Adoption.{AreFresh, handed, failed, IsWant}
+use Rattle.bike_adoption.specs.Adoption.{AreFresh, failure, IsWantFor, LeavesFor, LeavesOrStands}
 use Rattle.bike_desk.specs.Desk.{DeskValue, desk_over, IsAt}
 use Rattle.bike_desk.proofs.KeepLemmas.{Settles, no_meta, nothing_told, stands_in, settled_keeps}
 
@@ -106,9 +106,9 @@ fresh_stands old db h = record { sound = h.sound; is = inr (record { has = h.has
 
 module _ {S : Type 0} (g : Ghosts S) (old last end : Held S)
     (made : HasCleanDisk (state g last) → Creates (state g (record old { in_transaction = true })) (state g last)) (calm : Survives (state g (record old { in_transaction = true })) (state g last) (λ _. ⊥)) where
-  pub tables_leave : Survives (state g last) (state g end) (λ db. db ≡ (state g last).now.trees) → Survives (state g old) (state g end) (AreFresh (state g old).now)
-  tables_leave commit = survives_then (state g old) (state g last) (state g end) _ _ (AreFresh (state g old).now) (λ _ db none. absurd none)
-      (λ clean db is. ((state g last).now, (made (omega (arith, commit.clean))).fresh, is))
+  pub tables_leave : Survives (state g last) (state g end) (λ db. db ≡ (state g last).now.trees) → Survives (state g old) (state g end) (AreFresh (state g old))
+  tables_leave commit = survives_then (state g old) (state g last) (state g end) _ _ (AreFresh (state g old)) (λ _ db none. absurd none)
+      (λ clean db is. let it = made (omega (arith, commit.clean)) in (it.continues.was_open, (state g last).now, it.fresh, is))
       (survives_begin g old (state g last) _ calm) commit
 
 -- an adopted connection is at the empty operator
@@ -125,23 +125,29 @@ module _ {S : Type 0} (g : Ghosts S) (settles : Settles g) (old : Held S) (settl
   pub in_left : (s : Operator) → TreesStandFor s (state g old).now.trees → IsTrue (state g old).is_open → AllLeft (state g old) (TreesStandFor s)
   in_left s stands live db h = subst (TreesStandFor s) (sym (settles old.store db live h ∙ sym (ap (λ (d : Database). d.trees) (settled live)))) stands
 
-  pub left_after : (end : Held S) → IsLive (state g old) → HasNone (state g old).now.schema → HasCleanDisk (state g end) → Survives (state g old) (state g end) (AreFresh (state g old).now)
-      → (s : Operator) → TreesStandFor s (state g old).now.trees → IsTrue (state g old).is_open → AllLeft (state g end) (TreesStandFor s)
-  left_after end sound none clean crash s stands live db h = elim (crash.crash clean db h) [
+  -- nor, after a fault, what it shows or what a crash might leave
+  pub left_of : (end : Held S) (s : Operator) → TreesStandFor s (state g old).now.trees → IsTrue (state g old).is_open → LeavesOrStands g old s end → LeavesFor g s end
+  left_of end s stands live crash clean db h = elim (crash clean db h) [
     | inl before ↦ in_left s stands live db before
-    | inr made ↦ subst (λ o. TreesStandFor o db) (sym (nobody_else (state g old).now s (sound live).0 none stands)) (stands_in made.0 db no_operator (fresh_stands (state g old).now made.0 made.1) made.2)
+    | inr after ↦ after
+  ]
+
+module _ {S : Type 0} (g : Ghosts S) (old : Held S) where
+  -- the tables were made, or what might be left before is left
+  pub crash_after : (end : Held S) → IsLive (state g old) → HasNone (state g old).now.schema → Survives (state g old) (state g end) (AreFresh (state g old))
+      → (s : Operator) → TreesStandFor s (state g old).now.trees → LeavesOrStands g old s end
+  crash_after end sound none crash s stands clean db h = elim (crash.crash clean db h) [
+    | inl before ↦ inl before
+    | inr made ↦
+        inr (subst (λ o. TreesStandFor o db) (sym (nobody_else (state g old).now s (sound made.0).0 none stands))
+        (stands_in made.1 db no_operator (fresh_stands (state g old).now made.1 made.2) made.3))
   ]
 
 -- a desk at the empty operator is at whomever the trees stood for that had none of the tables
 pub nobody_at : {S : Type 0} (g : Ghosts S) (old : Held S) (d : DeskValue S) (s : Operator) → IsLive (state g old) → IsTrue (state g old).is_open → HasNone (state g old).now.schema → TreesStandFor s (state g old).now.trees → IsAt g d no_operator → IsAt g d s
 nobody_at g old d s sound live none stands at = subst (IsAt g d) (sym (nobody_else (state g old).now s (sound live).0 none stands)) at
 
--- whatever the fault, the connection comes back
-pub handed_failed : {S : Type 0} (fault : StatementFault) (conn : Held S) → handed (failed fault conn) ≡ conn
-handed_failed NoMemory conn = refl
-handed_failed StoreFailed conn = refl
-
 -- a statement that failed tells nothing of the database
-pub want_of : {S : Type 0} (fault : StatementFault) (conn : Held S) → IsWant (failed fault conn)
-want_of NoMemory conn = tt
-want_of StoreFailed conn = tt
+pub want_of : (fault : StatementFault) → IsWantFor (failure fault)
+want_of NoMemory = tt
+want_of StoreFailed = tt

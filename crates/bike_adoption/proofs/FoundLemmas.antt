@@ -33,7 +33,7 @@ use Rattle.bike_recognition.specs.declared.recognition.Recognition.TheVariants a
 use Rattle.bike_audit.specs.Audit.{IsAudited, row_name}
 use Rattle.bike_audit.specs.declared.finding.Finding.{Finding}
 use Rattle.bike_audit.specs.declared.finding.Finding.TheVariants as finding
-use Rattle.bike_adoption.specs.Adoption.{handed, found_as, IsToldOf, IsWant}
+use Rattle.bike_adoption.specs.Adoption.{handed, found_as, IsToldOf, IsWant, LeavesOrStands}
 use Rattle.bike_desk.specs.Desk.{desk_over, desk_state, IsAt}
 use Rattle.bike_adoption.proofs.AdoptLemmas.{same_tables, same_place, in_left}
 use Rattle.bike_desk.proofs.KeepLemmas.{Settles, no_meta, never_both, nothing_told, settled_keeps}
@@ -119,6 +119,9 @@ module _ {S : Type 0} (g : Ghosts S) (settles : Settles g) (old mid : Held S) (o
     -- nothing was committed
     pub stays_left : HasCleanDisk (state g mid) → AllLeft (state g mid) (state g old).may_leave
     stays_left clean db h = elim ((quiet_survives calm tt).crash clean db h) [ inl before ↦ before | inr none ↦ absurd none ]
+
+    pub crash_left : (s : Operator) → LeavesOrStands g old s mid
+    crash_left s clean db h = inl (stays_left clean db h)
 
     pub still_stands : (s : Operator) → TreesStandFor s (state g old).now.trees → IsTrue (state g old).is_open → HasCleanDisk (state g mid) → AllLeft (state g mid) (TreesStandFor s)
     still_stands s stands opened clean db h = in_left g settles old settled s stands opened db (stays_left clean db h)

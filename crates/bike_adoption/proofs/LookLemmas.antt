@@ -1,5 +1,5 @@
 -- What a look finds, by what its audit read.
-use Rattle.std.proofs.Common.{◌≡◌, false, IsTrue, Ok, Err, Result, refl, ◌∙◌}
+use Rattle.std.proofs.Common.{◌≡◌, false, IsTrue, Ok}
 use Rattle.sqlite_trees.specs.declared.store.Store.{Ghosts}
 use Rattle.sqlite.specs.State.{IsLive}
 use Rattle.sqlite.specs.Held.{Held, state}
@@ -10,7 +10,6 @@ use Rattle.bike_audit.specs.declared.finding.Finding.{Finding}
 use Rattle.bike_audit.specs.declared.finding.Finding.TheVariants as finding
 use Rattle.bike_schema.specs.declared.fault.StatementFault.{StatementFault}
 use Rattle.bike_desk.proofs.KeepLemmas.{Settles}
-use Rattle.bike_adoption.specs.declared.adoption.AdoptFault.TheVariants.{Foreign, Unsound, Older, Newer, StoreFailed}
 use Rattle.bike_adoption.specs.Adoption.{looked_as, Looks}
 use Rattle.bike_adoption.proofs.FoundLemmas.{stays_left, still_stands, found_only, found_at, found_told, found_refused}
 

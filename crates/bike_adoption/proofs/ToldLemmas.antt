@@ -12,16 +12,16 @@ use Rattle.bike_audit.specs.declared.finding.Finding.{Finding}
 use Rattle.bike_audit.specs.declared.finding.Finding.TheVariants as finding
 use Rattle.bike_desk.specs.Desk.{DeskValue}
 use Rattle.bike_adoption.specs.declared.adoption.AdoptFault.{AdoptFault}
-use Rattle.bike_adoption.specs.Adoption.{handed, failed, found_as, IsOfStatement, AreToldBy}
+use Rattle.bike_adoption.specs.Adoption.{failure, found_as, AreToldBefore, IsOfStatement, AreToldBy}
+
+pub told_failed : (f : StatementFault) (told : List Table) → IsFront EVERY_TABLE told → AreToldBefore (failure f) told
+told_failed statement.NoMemory told front = front
+told_failed statement.StoreFailed told front = front
 
 module _ {S : Type 0} (g : Ghosts S) (old : Held S) where
-  pub told_failed : (f : StatementFault) (c : Held S) (told : List Table) → IsFront EVERY_TABLE told → AreToldBy g old (Err (failed f c)) told
-  told_failed statement.NoMemory c told front = front
-  told_failed statement.StoreFailed c told front = front
-
-  pub told_begun : HasNone (state g old).now.schema → (result : Result (DeskValue S) (AdoptFault S)) → IfErr result (IsOfStatement g old) → AreToldBy g old result []
+  pub told_begun : HasNone (state g old).now.schema → (result : Result (DeskValue S) (AdoptFault S)) → IfErr result IsOfStatement → AreToldBy g old result []
   told_begun none (Ok d) it = inr (none, refl)
-  told_begun none (Err e) it = subst (λ x. AreToldBy g old (Err x) []) (sym it.1) (told_failed it.0 (handed e) [] (EVERY_TABLE, refl))
+  told_begun none (Err e) it = subst (λ cause. AreToldBefore cause []) (sym it.1) (told_failed it.0 [] (EVERY_TABLE, refl))
 
   pub told_found : (c : Held S) (found : Finding) (told : List Table) → AreToldOf (Ok found) told → AreToldBy g old (found_as c found) told
   told_found c finding.Sound told are = inl are

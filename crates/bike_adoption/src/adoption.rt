@@ -1,15 +1,15 @@
 //! Taking a database into service.
 
-ghost use Rattle.std.specs.Prelude.{◌≡◌, ◌≤◌, false, IsTrue, IfOk, IfErr, MatchResult};
+ghost use Rattle.std.specs.Prelude.{◌≡◌, ◌≤◌, false, IfOk, IfErr, MatchResult};
 ghost use Rattle.sqlite.specs.State.{HasCleanDisk};
 ghost use Rattle.sqlite.specs.Held.{state};
 ghost use Rattle.sqlite_trees.specs.View.{doubt};
 ghost use Rattle.bike_operator.specs.Operator.{Operator};
 ghost use Rattle.bike_schema.specs.Tables.{HasNone};
-ghost use Rattle.bike_schema.specs.Stands.{AllLeft, TreesStandFor};
+ghost use Rattle.bike_schema.specs.Stands.{TreesStandFor};
 ghost use Rattle.bike_desk.specs.Desk.{desk_state};
 ghost use Rattle.bike_audit.specs.Watching.{WasTold};
-ghost use Rattle.bike_adoption.specs.Adoption.{handed, failed, found_as, Adopts, AreToldBy, Begins, IsOfStatement};
+ghost use Rattle.bike_adoption.specs.Adoption.{failed, cause_of, found_as, Adopts, AreToldBy, Begins, IsOfStatement, LeavesOrStands};
 
 use crate::tables::make_tables;
 use bike_audit::{BadRow, Finding, Unwatched, Watch, audit};
@@ -22,64 +22,69 @@ use std::error::Error;
 use std::fmt;
 use std::fmt::{Debug, Display, Formatter};
 
-/// Why a connection wasn't adopted. Each fault hands it back, outside a transaction.
-#[derive(Drop)]
-pub enum AdoptFault<S: Alter> {
+/// Why a connection wasn't adopted.
+#[derive(Debug, Drop)]
+pub enum AdoptCause {
     /// The database has some of the product's names, and isn't the product's. It is as it was.
-    Foreign(Connection<S>),
+    Foreign,
     /// The tables stand for no operator: this is the first row that is not an operator's. The database is as it was.
-    Unsound(Connection<S>, BadRow),
+    Unsound(BadRow),
     /// The database is of this earlier version of the schema. It is as it was.
-    Older(Connection<S>, u64),
+    Older(u64),
     /// The database is of this later version of the schema. It is as it was.
-    Newer(Connection<S>, u64),
+    Newer(u64),
     /// Memory was refused. What is stored stands for the operator for whom it stood.
-    NoMemory(Connection<S>),
+    NoMemory,
     /// The store failed. What is stored stands for the operator for whom it stood.
-    StoreFailed(Connection<S>),
+    StoreFailed,
+}
+
+impl Display for AdoptCause {
+    ghost use Rattle.std.specs.Prelude.{Some};
+    ghost use Rattle.bike_adoption.specs.Adoption.{word_of};
+
+    ghost output = { λ cause. Some (word_of cause) };
+
+    fn fmt<W: fmt::Write>(&self, f: &mut Formatter<W>) -> fmt::Result {
+        match self {
+            AdoptCause::Foreign => f.write_str("foreign"),
+            AdoptCause::Unsound(_) => f.write_str("unsound"),
+            AdoptCause::Older(_) => f.write_str("older"),
+            AdoptCause::Newer(_) => f.write_str("newer"),
+            AdoptCause::NoMemory => f.write_str("out of memory"),
+            AdoptCause::StoreFailed => f.write_str("store failed"),
+        }
+    }
+}
+
+/// A connection that wasn't adopted, outside a transaction, and why.
+#[derive(Drop)]
+pub struct AdoptFault<S: Alter> {
+    pub conn: Connection<S>,
+    pub cause: AdoptCause,
 }
 
 impl<S: Alter> AdoptFault<S> {
-    /// The connection that was handed in.
-    pub fn into_connection(self) -> Connection<S>
-        ensures { result ≡ handed self }
-    {
-        match self {
-            AdoptFault::Foreign(conn) => conn,
-            AdoptFault::Unsound(conn, _) => conn,
-            AdoptFault::Older(conn, _) => conn,
-            AdoptFault::Newer(conn, _) => conn,
-            AdoptFault::NoMemory(conn) => conn,
-            AdoptFault::StoreFailed(conn) => conn,
-        }
-    }
-
-    /// Why a statement on the connection failed.
+    /// A statement on the connection failed.
     pub(crate) fn failed(fault: StatementFault, conn: Connection<S>) -> AdoptFault<S>
         ensures { result ≡ failed fault conn }
     {
-        match fault {
-            StatementFault::NoMemory => AdoptFault::NoMemory(conn),
-            StatementFault::StoreFailed => AdoptFault::StoreFailed(conn),
-        }
+        let cause = match fault {
+            StatementFault::NoMemory => AdoptCause::NoMemory,
+            StatementFault::StoreFailed => AdoptCause::StoreFailed,
+        };
+        AdoptFault { conn, cause }
     }
 }
 
 impl<S: Alter> Display for AdoptFault<S> {
     ghost use Rattle.std.specs.Prelude.{Some};
-    ghost use Rattle.bike_adoption.specs.Adoption.{line_of};
+    ghost use Rattle.bike_adoption.specs.Adoption.{word_of};
 
-    ghost output = { λ fault. Some (line_of fault) };
+    ghost output = { λ fault. Some (word_of fault.cause) };
 
     fn fmt<W: fmt::Write>(&self, f: &mut Formatter<W>) -> fmt::Result {
-        match self {
-            AdoptFault::Foreign(_) => f.write_str("foreign"),
-            AdoptFault::Unsound(_, _) => f.write_str("unsound"),
-            AdoptFault::Older(_, _) => f.write_str("older"),
-            AdoptFault::Newer(_, _) => f.write_str("newer"),
-            AdoptFault::NoMemory(_) => f.write_str("out of memory"),
-            AdoptFault::StoreFailed(_) => f.write_str("store failed"),
-        }
+        Display::fmt(&self.cause, f)
     }
 }
 
@@ -92,18 +97,34 @@ impl<S: Alter> Debug for AdoptFault<S> {
 
 impl<S: Alter + Drop> Error for AdoptFault<S> {}
 
+/// Why a database that was found to be this isn't adopted, if it isn't.
+pub(crate) fn cause_of(finding: Finding) -> Option<AdoptCause>
+    ensures { result ≡ cause_of finding }
+{
+    match finding {
+        Finding::Sound => None,
+        Finding::Foreign => Some(AdoptCause::Foreign),
+        Finding::Unsound(bad) => Some(AdoptCause::Unsound(bad)),
+        Finding::Older(version) => Some(AdoptCause::Older(version)),
+        Finding::Newer(version) => Some(AdoptCause::Newer(version)),
+        // It had a table of the product's before.
+        Finding::Empty => Some(AdoptCause::StoreFailed),
+    }
+}
+
 /// Makes the tables in a database that has none of them, in one transaction.
 fn begin<S: Alter>(mut conn: Connection<S>) -> Result<Desk<S>, AdoptFault<S>>
     requires { conn.in_transaction ≡ false }
     ensures clean { MatchResult result
         (λ d. doubt (state S.Store conn).is_clean ≤ doubt (desk_state S.Store d).is_clean)
-        (λ e. doubt (state S.Store conn).is_clean ≤ doubt (state S.Store (handed e)).is_clean) }
-    ensures begun { HasNone (state S.Store conn).now.schema → IfOk result (λ d. HasCleanDisk (desk_state S.Store d) → Begins S.Store conn d) }
-    ensures told { IfErr result (IsOfStatement S.Store conn) }
-    ensures autocommit { IfErr result (λ e. (handed e).in_transaction ≡ false) }
-    ensures left { HasNone (state S.Store conn).now.schema → (s : Operator) → TreesStandFor s (state S.Store conn).now.trees
-        → IsTrue (state S.Store conn).is_open → IfErr result (λ e. HasCleanDisk (state S.Store (handed e))
-        → AllLeft (state S.Store (handed e)) (TreesStandFor s)) }
+        (λ e. doubt (state S.Store conn).is_clean ≤ doubt (state S.Store e.conn).is_clean) }
+    ensures begun { HasNone (state S.Store conn).now.schema
+        → IfOk result (λ d. HasCleanDisk (desk_state S.Store d) → Begins S.Store conn d) }
+    ensures told { IfErr result IsOfStatement }
+    ensures autocommit { IfErr result (λ e. e.conn.in_transaction ≡ false) }
+    ensures crash { HasNone (state S.Store conn).now.schema
+        → (s : Operator) → TreesStandFor s (state S.Store conn).now.trees
+        → IfErr result (λ e. LeavesOrStands S.Store conn s e.conn) }
 {
     is_at_rest(&conn);
     match make_tables(&mut conn) {
@@ -116,14 +137,9 @@ fn begin<S: Alter>(mut conn: Connection<S>) -> Result<Desk<S>, AdoptFault<S>>
 fn found<S: Alter>(conn: Connection<S>, finding: Finding) -> Result<Desk<S>, AdoptFault<S>>
     ensures { result ≡ found_as conn finding }
 {
-    match finding {
-        Finding::Sound => Ok(Desk::over(conn)),
-        Finding::Foreign => Err(AdoptFault::Foreign(conn)),
-        Finding::Unsound(bad) => Err(AdoptFault::Unsound(conn, bad)),
-        Finding::Older(version) => Err(AdoptFault::Older(conn, version)),
-        Finding::Newer(version) => Err(AdoptFault::Newer(conn, version)),
-        // It had a table of the product's before.
-        Finding::Empty => Err(AdoptFault::StoreFailed(conn)),
+    match cause_of(finding) {
+        None => Ok(Desk::over(conn)),
+        Some(cause) => Err(AdoptFault { conn, cause }),
     }
 }
 

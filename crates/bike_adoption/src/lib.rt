@@ -9,6 +9,6 @@ mod adoption;
 mod looking;
 mod tables;
 
-pub use adoption::{AdoptFault, adopt, adopt_watched};
+pub use adoption::{AdoptCause, AdoptFault, adopt, adopt_watched};
 pub use bike_audit::{BadRow, Unwatched, Watch};
 pub use looking::{Looked, look};

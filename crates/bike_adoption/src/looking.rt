@@ -3,7 +3,7 @@
 ghost use Rattle.std.specs.Prelude.{◌≡◌, false};
 ghost use Rattle.bike_adoption.specs.Adoption.{looked_as, Looks};
 
-use crate::adoption::AdoptFault;
+use crate::adoption::{AdoptFault, cause_of};
 use bike_audit::{Finding, Watch, audit};
 use bike_rows::inside::is_at_rest;
 use bike_schema::has_none;
@@ -23,14 +23,9 @@ pub enum Looked<S: Alter> {
 fn seen_as<S: Alter>(conn: Connection<S>, finding: Finding) -> Result<Looked<S>, AdoptFault<S>>
     ensures { result ≡ looked_as conn finding }
 {
-    match finding {
-        Finding::Sound => Ok(Looked::Sound(conn)),
-        Finding::Foreign => Err(AdoptFault::Foreign(conn)),
-        Finding::Unsound(bad) => Err(AdoptFault::Unsound(conn, bad)),
-        Finding::Older(version) => Err(AdoptFault::Older(conn, version)),
-        Finding::Newer(version) => Err(AdoptFault::Newer(conn, version)),
-        // It had a table of the product's before.
-        Finding::Empty => Err(AdoptFault::StoreFailed(conn)),
+    match cause_of(finding) {
+        None => Ok(Looked::Sound(conn)),
+        Some(cause) => Err(AdoptFault { conn, cause }),
     }
 }
 

@@ -1,12 +1,11 @@
 //! The empty tables, made in one transaction: all of them or none.
 
 ghost use Rattle.std.specs.Prelude.{◌≡◌, ◌≤◌, false, OnOk};
-ghost use Rattle.sqlite.specs.State.{HasCleanDisk, Survives, Shows};
+ghost use Rattle.sqlite.specs.State.{HasCleanDisk, Survives};
 ghost use Rattle.sqlite.specs.Held.{state};
 ghost use Rattle.sqlite_trees.specs.View.{doubt};
 ghost use Rattle.bike_schema.specs.Tables.{HasNone};
-ghost use Rattle.bike_schema.specs.Creates.{IsFresh};
-ghost use Rattle.bike_adoption.specs.Adoption.{AreFresh};
+ghost use Rattle.bike_adoption.specs.Adoption.{AreFresh, AreMade};
 
 use bike_schema::{StatementFault, create_tables};
 use sqlite::{Alter, Connection};
@@ -17,10 +16,9 @@ pub fn make_tables<S: Alter>(conn: &mut Connection<S>) -> Result<(), StatementFa
     ensures ended { conn.new.in_transaction ≡ false }
     ensures clean { doubt (state S.Store conn.old).is_clean ≤ doubt (state S.Store conn.new).is_clean }
     ensures made { HasCleanDisk (state S.Store conn.new) → HasNone (state S.Store conn.old).now.schema
-        → OnOk result (Shows (state S.Store conn.old) (state S.Store conn.new) (state S.Store conn.new).now (state S.Store conn.new).now false
-        × IsFresh (state S.Store conn.old).now (state S.Store conn.new).now) }
+        → OnOk result (AreMade (state S.Store conn.old) (state S.Store conn.new)) }
     ensures crash { HasNone (state S.Store conn.old).now.schema
-        → Survives (state S.Store conn.old) (state S.Store conn.new) (AreFresh (state S.Store conn.old).now) }
+        → Survives (state S.Store conn.old) (state S.Store conn.new) (AreFresh (state S.Store conn.old)) }
 {
     let mut created = conn.transaction();
     create_tables(&mut created)?;

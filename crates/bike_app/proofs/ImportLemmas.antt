@@ -1,5 +1,5 @@
 -- What an import leaves.
-use Rattle.std.proofs.Common.{ℕ, List, [], ◌∷◌, ◌++◌, Option, Some, None, Result, Ok, Err, sym, subst, inl, inr}
+use Rattle.std.proofs.Common.{ℕ, List, [], ◌∷◌, ◌++◌, Bool, true, false, Option, Some, None, Result, Ok, Err, sym, subst, inl, inr}
 use Rattle.sqlite_trees.specs.declared.store.Store.{Ghosts}
 use Rattle.bike_operator.specs.Operator.{Operator}
 use Rattle.bike_schema.specs.Stands.{AllLeft, TreesStandFor}
@@ -10,9 +10,17 @@ use Rattle.bike_imports.specs.declared.fault.ImportFault.TheVariants.{BadHeader,
 use Rattle.bike_imports.specs.Imports.{Imports}
 use Rattle.bike_console.specs.declared.end.Fault.{Fault}
 use Rattle.bike_app.specs.Program.{StandsAfterSome}
-use Rattle.bike_app.specs.Imports.{TellsImport}
+use Rattle.bike_console.specs.Pieces.{Puts}
+use Rattle.bike_console.proofs.PieceLemmas.{writer_with}
+use Rattle.bike_app.specs.Imports.{PutsRows, TellsImport, rows_line}
 use Rattle.bike_app.proofs.ProgramLemmas.{calls_push}
 use Rattle.bike_lines.proofs.RunLemmas.{after_one}
+
+-- the line of a number of rows, by its pieces
+pub rows_put : (old new : Option (List ℕ)) (count : ℕ) (written : Bool) → Puts (writer_with old) (writer_with new) (rows_line count) true written
+    → PutsRows count old new written
+rows_put old new count true p = p.0
+rows_put old new count false p = p.0
 
 module _ {S : Type 0} (g : Ghosts S) (desk : DeskValue S) (s : Operator) where
   -- a crash may leave the operator after a front of the rows

@@ -19,14 +19,16 @@ use Rattle.bike_desk.specs.Desk.{DeskValue, desk_state}
 use Rattle.bike_desk.specs.declared.fault.DeskFault.{DeskFault}
 use Rattle.bike_desk.specs.declared.fault.DeskFault.TheVariants.{NoMemory, StoreFailed, Stopped}
 use Rattle.bike_adoption.specs.declared.adoption.AdoptFault.{AdoptFault}
-use Rattle.bike_adoption.specs.declared.adoption.AdoptFault.TheVariants as adopt
-use Rattle.bike_adoption.specs.Adoption.{IsWant, IsToldOf, handed, Adopts, Looks}
+use Rattle.bike_adoption.specs.declared.adoption.AdoptCause.{AdoptCause}
+use Rattle.bike_adoption.specs.declared.adoption.AdoptCause.TheVariants as adopt
+use Rattle.bike_adoption.specs.Adoption.{IsWantFor, IsWant, IsToldOf, handed, Adopts, Looks}
 use Rattle.bike_migrate.specs.Raising as raising
 use Rattle.bike_migrate.specs.declared.fault.RaiseFault.{RaiseFault}
-use Rattle.bike_migrate.specs.declared.fault.RaiseFault.TheVariants as raise
+use Rattle.bike_migrate.specs.declared.fault.RaiseCause.{RaiseCause}
+use Rattle.bike_migrate.specs.declared.fault.RaiseCause.TheVariants as raise
 use Rattle.bike_lines.specs.declared.fault.LinesFault.{LinesFault}
 use Rattle.bike_console.specs.declared.end.Fault.{Fault}
-use Rattle.bike_console.specs.Ends.{lines_fault, adopt_fault, raise_fault, end_of}
+use Rattle.bike_console.specs.Ends.{lines_fault, adoption_fault, adopt_fault, raising_fault, raise_fault, end_of}
 use Rattle.bike_lines.specs.Runs.{ServesSome}
 use Rattle.bike_app.specs.Raises.{RefusesToRaise}
 use Rattle.bike_app.specs.Program.{StandsAfterSome, Refuses, Serves, FailsToBegin, ServesInMemory}
@@ -81,10 +83,10 @@ module _ {S : Type 0} (g : Ghosts S) {first last : Held S} (fault : AdoptFault S
   still_clean : HasCleanDisk (state g (handed fault))
   still_clean = subst (λ (h : Held S). HasCleanDisk (state g h)) conn clean
 
-  pub refuses : {old : Option (List ℕ)} (told : Fault) → told ≡ adopt_fault fault → Refuses g old old first last (Err told)
-  refuses {old} told is = record {
+  pub refuses : {old : Option (List ℕ)} (end : Result ℕ Fault) → end ≡ Err (adopt_fault fault) → Refuses g old old first last end
+  refuses {old} end is = record {
     fault = fault;
-    told = ap Err is;
+    told = is;
     why = adopts.told still_clean;
     want = λ s stands. adopts.refused s stands still_clean;
     conn = conn;
@@ -115,25 +117,31 @@ memory_has_none h empty = subst HasNone (sym empty.2) none_in
 pub memory_begins : (h : Held MemStore) → IsEmpty (state over_memory h) → TreesStandFor no_operator (state over_memory h).now.trees
 memory_begins h empty = ((state over_memory h).now.schema, record { sound = (empty.1 empty.0.is_open).0; is = inl (memory_has_none h empty, refl) })
 
+not_begun_for : (cause : AdoptCause) → IsWantFor cause → (old new : Option (List ℕ)) → Keeps old new → FailsToBegin old new (Err (adoption_fault cause))
+not_begun_for adopt.Foreign want old new written = absurd want
+not_begun_for (adopt.Unsound bad) want old new written = absurd want
+not_begun_for (adopt.Older version) want old new written = absurd want
+not_begun_for (adopt.Newer version) want old new written = absurd want
+not_begun_for adopt.NoMemory want old new written = record { told = inl refl; written = written }
+not_begun_for adopt.StoreFailed want old new written = record { told = inr refl; written = written }
+
 pub not_begun : (fault : AdoptFault MemStore) → IsWant fault → (old new : Option (List ℕ)) → Keeps old new → FailsToBegin old new (Err (adopt_fault fault))
-not_begun (adopt.Foreign c) want old new written = absurd want
-not_begun (adopt.Unsound c bad) want old new written = absurd want
-not_begun (adopt.Older c version) want old new written = absurd want
-not_begun (adopt.Newer c version) want old new written = absurd want
-not_begun (adopt.NoMemory c) want old new written = record { told = inl refl; written = written }
-not_begun (adopt.StoreFailed c) want old new written = record { told = inr refl; written = written }
+not_begun fault want old new written = not_begun_for fault.cause want old new written
 
 -- a database in memory is refused for memory or storage alone
 pub memory_refused : (first last : Held MemStore) → IsEmpty (state over_memory first) → (old new : Option (List ℕ)) (end : Result ℕ Fault) → Refuses over_memory old new first last end → FailsToBegin old new end
 memory_refused first last empty old new end r =
     subst (FailsToBegin old new) (sym r.told) (not_begun r.fault (r.want no_operator (memory_begins first empty)) old new r.written)
 
+not_raised_for : (cause : RaiseCause) → raising.IsWantFor cause → (old new : Option (List ℕ)) → Keeps old new → FailsToBegin old new (Err (raising_fault cause))
+not_raised_for raise.Foreign want old new written = absurd want
+not_raised_for (raise.Unsound bad) want old new written = absurd want
+not_raised_for (raise.Newer version) want old new written = absurd want
+not_raised_for raise.NoMemory want old new written = record { told = inl refl; written = written }
+not_raised_for raise.StoreFailed want old new written = record { told = inr refl; written = written }
+
 not_raised : (fault : RaiseFault MemStore) → raising.IsWant fault → (old new : Option (List ℕ)) → Keeps old new → FailsToBegin old new (Err (raise_fault fault))
-not_raised (raise.Foreign c) want old new written = absurd want
-not_raised (raise.Unsound c bad) want old new written = absurd want
-not_raised (raise.Newer c version) want old new written = absurd want
-not_raised (raise.NoMemory c) want old new written = record { told = inl refl; written = written }
-not_raised (raise.StoreFailed c) want old new written = record { told = inr refl; written = written }
+not_raised fault want old new written = not_raised_for fault.cause want old new written
 
 -- nor is its raising refused otherwise
 pub raise_refused : (first last : Held MemStore) → IsEmpty (state over_memory first) → (old new : Option (List ℕ)) (end : Result ℕ Fault) → RefusesToRaise over_memory old new first last end → FailsToBegin old new end

@@ -10,7 +10,13 @@ use Rattle.sqlite.specs.Held.{Held}
 use Rattle.sqlite.specs.Start.{FindsIn}
 use Rattle.sqlite.specs.State.{HasCleanDisk}
 use Rattle.sqlite.specs.Closing.{IsCopied}
-use Rattle.sqlite.specs.Files.{over_files, file_state, IsClosed, IsOpened}
+use Rattle.sqlite.specs.Files.{over_files, file_state, HoldsDatabase, IsClosed, IsOpened}
+use Rattle.sqlite_trees.specs.Tree.{Trees}
+use Rattle.bike_operator.specs.Operator.{Operator}
+use Rattle.bike_schema.specs.Stands.{AllLeft}
+use Rattle.bike_earlier.specs.declared.earlier.Earlier.{Earlier}
+use Rattle.bike_earlier.specs.Stores.{TreesStandForAt}
+use Rattle.bike_migrate.specs.Raising.{TreesStandSince}
 use Rattle.bike_recognition.specs.Added.{has_added_unique}
 use Rattle.bike_command_line.specs.declared.task.FileTask.{FileTask}
 use Rattle.bike_command_line.specs.declared.task.FileTask.TheVariants.{Init, Raise, Lines, Import}
@@ -39,6 +45,15 @@ pub record DoesOverFile {E : Type 0} {e : disk.Ghosts E} (image : Image) (input 
   pub found : FindsIn image (file_state first)
   pub own : has_added_unique (file_state first).now.schema ≡ false
   pub does : Does over_files input ahead old new task clock first last end
+
+-- the bytes hold a database that stands for the operator at the version
+abbrev pub HoldsOperatorAt : Image → Option Earlier → Operator → Type 0
+HoldsOperatorAt image v s = (db : Trees) × HoldsDatabase image db × TreesStandForAt v s db
+
+-- all that a crash may leave of a file that held an operator at a version stands for that operator, there or at the newest
+abbrev pub LeavesRaised : {E : Type 0} {e : disk.Ghosts E} → Image → Held (FileStore E e) → Type 0
+LeavesRaised image last =
+    HasCleanDisk (file_state last) → (v : Option Earlier) (s : Operator) → HoldsOperatorAt image v s → AllLeft (file_state last) (TreesStandSince v s)
 
 -- ---- how a word over a file ends
 

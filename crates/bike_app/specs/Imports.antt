@@ -1,5 +1,5 @@
 -- The import of stations that the program does, and what it leaves.
-use Rattle.std.specs.Prelude.{◌≡◌, ◌⊎◌, ℕ, List, ◌++◌, codes, decimal, Option, Some, None, Result, Ok, Err}
+use Rattle.std.specs.Prelude.{◌≡◌, ◌⊎◌, ℕ, List, ◌++◌, codes, decimal, Bool, true, false, Option, Some, None, Result, Ok, Err}
 use Rattle.std.specs.Io.KnownBytes.{Appends, Keeps}
 use Rattle.sqlite.specs.Store.{Ghosts}
 use Rattle.sqlite.specs.Steps.{over_memory}
@@ -12,7 +12,7 @@ use Rattle.bike_imports.specs.declared.fault.ImportFault.{ImportFault}
 use Rattle.bike_imports.specs.Imports.{Imports}
 use Rattle.bike_console.specs.declared.end.Fault.{Fault}
 use Rattle.bike_console.specs.declared.end.Fault.TheVariants.{NoClock, WriteFailed}
-use Rattle.bike_console.specs.Pieces.{AppendsSome}
+use Rattle.bike_stream.specs.Writing.{AppendsFront}
 use Rattle.bike_console.specs.Ends.{import_fault}
 use Rattle.bike_app.specs.Program.{Refuses, FailsToBegin}
 
@@ -20,10 +20,15 @@ use Rattle.bike_app.specs.Program.{Refuses, FailsToBegin}
 abbrev pub rows_line : ℕ → List ℕ
 rows_line count = codes "rows " ++ decimal count ++ codes "\n"
 
--- what is told of an import: the number of its rows by that line, or a front of it; where it ended with a fault, that and no line
+-- that line is written, or less of it
+abbrev pub PutsRows : ℕ → Option (List ℕ) → Option (List ℕ) → Bool → Type 0
+PutsRows count old new true = Appends old new (rows_line count)
+PutsRows count old new false = AppendsFront old new (rows_line count)
+
+-- what is told of an import: the number of its rows by that line, or less of it; where it ended with a fault, that and no line
 abbrev pub TellsRows : Result ℕ ImportFault → Option (List ℕ) → Option (List ℕ) → Result ℕ Fault → Type 0
 TellsRows (Ok count) old new (Ok told) = (told ≡ count) × Appends old new (rows_line count)
-TellsRows (Ok count) old new (Err fault) = (fault ≡ WriteFailed) × AppendsSome old new (rows_line count)
+TellsRows (Ok count) old new (Err fault) = (fault ≡ WriteFailed) × AppendsFront old new (rows_line count)
 TellsRows (Err fault) old new end = (end ≡ Err (import_fault fault)) × Keeps old new
 
 -- the input before and after, and what was written before and after

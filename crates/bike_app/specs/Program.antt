@@ -1,29 +1,33 @@
 -- What the program serves, and what it leaves.
-use Rattle.std.specs.Prelude.{◌≡◌, ◌⊎◌, ℕ, List, ◌++◌, length, Option, Result, Err}
+use Rattle.std.specs.Prelude.{◌≡◌, ◌⊎◌, ℕ, List, Option, IsTrue, Result, Err}
 use Rattle.std.specs.Io.KnownBytes.{Keeps}
 use Rattle.sqlite.specs.Store.{Ghosts}
 use Rattle.sqlite.specs.Steps.{over_memory}
 use Rattle.sqlite.specs.Held.{Held, state}
+use Rattle.sqlite.specs.State.{HasCleanDisk}
 use Rattle.sqlite.specs.Tree.{Trees}
 use Rattle.sqlite_trees.specs.declared.memory.MemStore.{MemStore}
 use Rattle.bike_operator.specs.Operator.{Operator, no_operator}
 use Rattle.bike_operator.specs.Runs.{Call, after}
 use Rattle.bike_operator.specs.Sound.{AreCalls}
-use Rattle.bike_schema.specs.Stands.{IsOf, TreesStandFor}
+use Rattle.bike_schema.specs.Stands.{AllLeft, IsOf, TreesStandFor}
 use Rattle.bike_desk.specs.Desk.{DeskValue}
 use Rattle.bike_adoption.specs.declared.adoption.AdoptFault.{AdoptFault}
 use Rattle.bike_adoption.specs.Adoption.{handed, IsToldOf, IsWant}
-use Rattle.bike_stream.specs.Lines.{lines_of}
 use Rattle.bike_lines.specs.declared.fault.LinesFault.{LinesFault}
 use Rattle.bike_console.specs.declared.end.Fault.{Fault}
 use Rattle.bike_console.specs.declared.end.Fault.TheVariants.{OutOfMemory, StoreFailed}
-use Rattle.bike_lines.specs.Answers.{AreReadAs, answers}
 use Rattle.bike_console.specs.Ends.{adopt_fault, end_of}
 use Rattle.bike_lines.specs.Runs.{RanLines}
 
 -- the trees stand for the operator after good requests
 abbrev pub StandsAfterSome : Operator → Trees → Type 0
 StandsAfterSome s trees = (calls : List Call) × AreCalls calls × TreesStandFor (after s calls) trees
+
+-- all that a crash may leave of a database that stood for an operator is this for that operator
+abbrev pub CrashLeaves : {S : Type 0} → Ghosts S → Held S → Held S → (Operator → Trees → Type 0) → Type 0
+CrashLeaves g first last may =
+    HasCleanDisk (state g last) → (s : Operator) → TreesStandFor s (state g first).now.trees → IsTrue (state g first).is_open → AllLeft (state g last) (may s)
 
 -- The connection couldn't be adopted, for memory or storage alone where it stands for an operator, and nothing was written.
 pub record Refuses {S : Type 0} (g : Ghosts S) (old new : Option (List ℕ)) (first last : Held S) (end : Result ℕ Fault) : Type 0 where
@@ -63,10 +67,3 @@ module _ {S : Type 0} (g : Ghosts S) (input ahead old new : Option (List ℕ)) w
 abbrev pub ServesInMemory : Option (List ℕ) → Option (List ℕ) → Option (List ℕ) → Option (List ℕ) → Result ℕ Fault → Type 0
 ServesInMemory input ahead old new end =
     (Keeps input ahead × FailsToBegin old new end) ⊎ ((last : Held MemStore) × ServesLines over_memory input ahead old new last no_operator end)
-
--- The output grew by the answers to the lines of the input, which the operator gives from nothing on.
-pub record AnswersText (input old new : List ℕ) (count : ℕ) : Type 0 where
-  pub calls : List (Option Call)
-  pub read : AreReadAs (lines_of input) calls
-  pub written : new ≡ old ++ answers no_operator calls
-  pub counted : count ≡ length (lines_of input)

@@ -1,13 +1,15 @@
 -- What raising a database to the newest version tells, and what it leaves.
-use Rattle.std.specs.Prelude.{◌≡◌, ◌⊎◌, ℕ, List, codes, Option, Result, Ok, Err}
+use Rattle.std.specs.Prelude.{◌≡◌, ◌⊎◌, ℕ, List, codes, Option, IsTrue, Result, Ok, Err}
 use Rattle.std.specs.Io.KnownBytes.{Appends, Keeps}
 use Rattle.sqlite.specs.Store.{Ghosts}
 use Rattle.sqlite.specs.Held.{Held, state}
+use Rattle.sqlite.specs.State.{HasCleanDisk}
 use Rattle.bike_operator.specs.Operator.{Operator}
+use Rattle.bike_schema.specs.Stands.{AllLeft}
 use Rattle.bike_stream.specs.Writing.{AppendsFront}
 use Rattle.bike_earlier.specs.declared.earlier.Earlier.{Earlier}
 use Rattle.bike_earlier.specs.Stores.{StandsForAt, TreesStandForAt}
-use Rattle.bike_migrate.specs.Raising.{handed, Holds, IsToldOf, IsWant}
+use Rattle.bike_migrate.specs.Raising.{handed, Holds, IsToldOf, IsWant, TreesStandSince}
 use Rattle.bike_migrate.specs.declared.fault.RaiseFault.{RaiseFault}
 use Rattle.bike_console.specs.declared.end.Fault.{Fault}
 use Rattle.bike_console.specs.declared.end.Fault.TheVariants.{WriteFailed}
@@ -28,6 +30,12 @@ pub record RaisedUp {S : Type 0} (g : Ghosts S) (first last : Held S) : Type 0 w
   pub operator : Operator
   pub was : StandsForAt version (state g first).now operator
   pub holds : Holds (state g last) operator
+
+-- all that a crash may leave of a database that stood for an operator at a version stands for that operator, there or at the newest
+abbrev pub CrashLeavesRaised : {S : Type 0} → Ghosts S → Held S → Held S → Type 0
+CrashLeavesRaised g first last =
+    HasCleanDisk (state g last) → (v : Option Earlier) (s : Operator) → TreesStandForAt v s (state g first).now.trees → IsTrue (state g first).is_open
+    → AllLeft (state g last) (TreesStandSince v s)
 
 -- what was written before and after
 module _ {S : Type 0} (g : Ghosts S) (old new : Option (List ℕ)) where

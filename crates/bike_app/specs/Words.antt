@@ -57,6 +57,11 @@ Looks (Feed f at) = Unit {0}
 Looks (Day table date zone) = Unit {0}
 Looks _ = ⊥
 
+-- the word that raises
+abbrev pub IsRaise : FileTask → Type 0
+IsRaise Raise = Unit {0}
+IsRaise _ = ⊥
+
 -- what a crash may leave of a database that stood for the operator
 abbrev pub MayStand : FileTask → Operator → Trees → Type 0
 MayStand Lines s trees = StandsAfterSome s trees

@@ -1,13 +1,13 @@
 //! A table of a day of a database.
 
-ghost use Rattle.std.specs.Prelude.{◌≡◌, ◌≤◌, false, IsTrue};
+ghost use Rattle.std.specs.Prelude.{◌≡◌, ◌≤◌, false};
 ghost use Rattle.sqlite.specs.State.{HasCleanDisk};
 ghost use Rattle.sqlite.specs.Held.{state};
 ghost use Rattle.sqlite_trees.specs.View.{doubt};
-ghost use Rattle.bike_operator.specs.Operator.{Operator};
 ghost use Rattle.bike_schema.specs.Stands.{AllLeft, TreesStandFor};
-ghost use Rattle.bike_desk.specs.Desk.{desk_state, IsAt};
+ghost use Rattle.bike_desk.specs.Desk.{desk_state, OfOperator};
 ghost use Rattle.bike_adoption.specs.Adoption.{LeavesAll};
+ghost use Rattle.bike_app.specs.Program.{CrashLeaves};
 ghost use Rattle.bike_app.specs.Days.{ReportsAt, ReportsInMemory, TellsReported, table_end};
 
 use bike_adoption::{Looked, Unwatched, adopt, look};
@@ -38,10 +38,10 @@ fn report_at<S: Alter, W: Write>(
     writer: &mut W,
 ) -> Result<u64, Fault>
     ensures clean { doubt (desk_state S.Store desk.old).is_clean ≤ doubt (desk_state S.Store desk.new).is_clean }
-    ensures told { HasCleanDisk (desk_state S.Store desk.new) → (s : Operator) → IsAt S.Store desk.old s
-        → ReportsAt table date.now zone.now S.Store desk.new s (W.contents writer.old) (W.contents writer.new) result }
-    ensures left { HasCleanDisk (desk_state S.Store desk.new) → (s : Operator) → IsAt S.Store desk.old s
-        → AllLeft (desk_state S.Store desk.new) (desk_state S.Store desk.old).may_leave }
+    ensures told { OfOperator S.Store desk.old desk.new (λ s.
+        ReportsAt table date.now zone.now S.Store desk.new s (W.contents writer.old) (W.contents writer.new) result) }
+    ensures left { OfOperator S.Store desk.old desk.new (λ s.
+        AllLeft (desk_state S.Store desk.new) (desk_state S.Store desk.old).may_leave) }
 {
     let written = day_csv(alloc, desk, date, zone, table, writer);
     told(written)
@@ -61,10 +61,7 @@ fn report_nobodys<W: Write>(
     let conn = Connection::open_in_memory(alloc)?;
     match adopt(alloc, conn) {
         Ok(mut desk) => report_at(alloc, &mut desk, table, date, zone, writer),
-        Err(fault) => {
-            let (_, told) = Fault::taken_from(fault);
-            Err(told)
-        }
+        Err(fault) => Fault::refused(fault).1,
     }
 }
 
@@ -83,10 +80,9 @@ pub fn report_day<S: Alter, W: Write>(
     requires { conn.in_transaction ≡ false }
     ensures clean { doubt (state S.Store conn).is_clean ≤ doubt (state S.Store result.0).is_clean }
     ensures told { HasCleanDisk (state S.Store result.0)
-        → TellsReported table date.now zone.now S.Store (W.contents writer.old) (W.contents writer.new) conn result.0 result.1 }
-    ensures kept { HasCleanDisk (state S.Store result.0) → (s : Operator)
-        → TreesStandFor s (state S.Store conn).now.trees → IsTrue (state S.Store conn).is_open
-        → AllLeft (state S.Store result.0) (TreesStandFor s) }
+        → TellsReported table date.now zone.now S.Store
+        (W.contents writer.old) (W.contents writer.new) conn result.0 result.1 }
+    ensures kept { CrashLeaves S.Store conn result.0 TreesStandFor }
     ensures stays { LeavesAll S.Store conn result.0 }
 {
     match look(alloc, conn, &mut Unwatched) {
@@ -99,9 +95,6 @@ pub fn report_day<S: Alter, W: Write>(
             let end = report_nobodys(alloc, table, date, zone, writer);
             (conn, end)
         }
-        Err(fault) => {
-            let (conn, told) = Fault::taken_from(fault);
-            (conn, Err(told))
-        }
+        Err(fault) => Fault::refused(fault),
     }
 }

@@ -1,14 +1,15 @@
 //! A feed of a database.
 
-ghost use Rattle.std.specs.Prelude.{◌≡◌, ◌≤◌, false, IsTrue, Some};
+ghost use Rattle.std.specs.Prelude.{◌≡◌, ◌≤◌, false, Some};
 ghost use Rattle.sqlite.specs.State.{HasCleanDisk};
 ghost use Rattle.sqlite.specs.Held.{state};
 ghost use Rattle.sqlite_trees.specs.View.{doubt};
-ghost use Rattle.bike_operator.specs.Operator.{Operator, no_operator};
+ghost use Rattle.bike_operator.specs.Operator.{no_operator};
 ghost use Rattle.bike_feed_texts.specs.declared.feed.Feed.{Feed};
 ghost use Rattle.bike_schema.specs.Stands.{AllLeft, TreesStandFor};
-ghost use Rattle.bike_desk.specs.Desk.{desk_state, IsAt};
+ghost use Rattle.bike_desk.specs.Desk.{desk_state, OfOperator};
 ghost use Rattle.bike_adoption.specs.Adoption.{LeavesAll};
+ghost use Rattle.bike_app.specs.Program.{CrashLeaves};
 ghost use Rattle.bike_app.specs.Feeds.{PublishesAt, TellsFeed, TellsPublished, feed_end, moment_of};
 
 use bike_adoption::{Looked, Unwatched, look};
@@ -49,10 +50,10 @@ fn publish_for<S: Alter, W: Write>(
     writer: &mut W,
 ) -> Result<u64, Fault>
     ensures clean { doubt (desk_state S.Store desk.old).is_clean ≤ doubt (desk_state S.Store desk.new).is_clean }
-    ensures told { HasCleanDisk (desk_state S.Store desk.new) → (s : Operator) → IsAt S.Store desk.old s
-        → PublishesAt S.Store desk.new s feed (Some moment) (W.contents writer.old) (W.contents writer.new) result }
-    ensures left { HasCleanDisk (desk_state S.Store desk.new) → (s : Operator) → IsAt S.Store desk.old s
-        → AllLeft (desk_state S.Store desk.new) (desk_state S.Store desk.old).may_leave }
+    ensures told { OfOperator S.Store desk.old desk.new (λ s.
+        PublishesAt S.Store desk.new s feed (Some moment) (W.contents writer.old) (W.contents writer.new) result) }
+    ensures left { OfOperator S.Store desk.old desk.new (λ s.
+        AllLeft (desk_state S.Store desk.new) (desk_state S.Store desk.old).may_leave) }
 {
     let published = write_feed(alloc, desk, feed, moment, writer);
     told(published)
@@ -67,10 +68,10 @@ fn publish_at<S: Alter, W: Write>(
     writer: &mut W,
 ) -> Result<u64, Fault>
     ensures clean { doubt (desk_state S.Store desk.old).is_clean ≤ doubt (desk_state S.Store desk.new).is_clean }
-    ensures told { HasCleanDisk (desk_state S.Store desk.new) → (s : Operator) → IsAt S.Store desk.old s
-        → PublishesAt S.Store desk.new s feed moment (W.contents writer.old) (W.contents writer.new) result }
-    ensures left { HasCleanDisk (desk_state S.Store desk.new) → (s : Operator) → IsAt S.Store desk.old s
-        → AllLeft (desk_state S.Store desk.new) (desk_state S.Store desk.old).may_leave }
+    ensures told { OfOperator S.Store desk.old desk.new (λ s.
+        PublishesAt S.Store desk.new s feed moment (W.contents writer.old) (W.contents writer.new) result) }
+    ensures left { OfOperator S.Store desk.old desk.new (λ s.
+        AllLeft (desk_state S.Store desk.new) (desk_state S.Store desk.old).may_leave) }
 {
     match moment {
         Some(moment) => publish_for(alloc, desk, feed, moment, writer),
@@ -103,9 +104,7 @@ pub fn publish<S: Alter, W: Write>(
     ensures clean { doubt (state S.Store conn).is_clean ≤ doubt (state S.Store result.0).is_clean }
     ensures told { HasCleanDisk (state S.Store result.0)
         → TellsPublished S.Store (W.contents writer.old) (W.contents writer.new) conn result.0 feed moment result.1 }
-    ensures kept { HasCleanDisk (state S.Store result.0) → (s : Operator)
-        → TreesStandFor s (state S.Store conn).now.trees → IsTrue (state S.Store conn).is_open
-        → AllLeft (state S.Store result.0) (TreesStandFor s) }
+    ensures kept { CrashLeaves S.Store conn result.0 TreesStandFor }
     ensures stays { LeavesAll S.Store conn result.0 }
 {
     match look(alloc, conn, &mut Unwatched) {
@@ -115,9 +114,6 @@ pub fn publish<S: Alter, W: Write>(
             (desk.close(), end)
         }
         Ok(Looked::Empty(conn)) => (conn, publish_nobodys(moment)),
-        Err(fault) => {
-            let (conn, told) = Fault::taken_from(fault);
-            (conn, Err(told))
-        }
+        Err(fault) => Fault::refused(fault),
     }
 }

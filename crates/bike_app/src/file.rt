@@ -8,8 +8,8 @@ ghost use Rattle.bike_operator.specs.Operator.{Operator};
 ghost use Rattle.bike_schema.specs.Stands.{AllLeft};
 ghost use Rattle.bike_console.specs.Files.{HoldsOperator};
 ghost use Rattle.bike_command_line.specs.Program.{IsWithinOnFile};
-ghost use Rattle.bike_app.specs.Words.{MayStand};
-ghost use Rattle.bike_app.specs.Files.{DoesOverFile, EndsOnFile, IsAlone, IsUntouched, settles};
+ghost use Rattle.bike_app.specs.Words.{IsRaise, MayStand};
+ghost use Rattle.bike_app.specs.Files.{DoesOverFile, EndsOnFile, IsAlone, IsUntouched, LeavesRaised, settles};
 
 use crate::words::run_words;
 use bike_adoption::Watch;
@@ -21,6 +21,9 @@ use std::io::{Read, Write};
 
 /// Does the task over the database file at a path, as `run_words` does over the database that the file's bytes hold. Gives the connection
 /// back, none where the file couldn't be opened: then nothing was read, nothing written, and the fault is that of the opening.
+///
+/// However `Raise` ends, a file that held an operator at some version holds after a crash that operator, at that version or at the
+/// newest.
 pub fn run_file<F: Start, R: Read, W: Write, P: Watch>(
     rt: &HostRuntime,
     task: &FileTask<'_>,
@@ -38,10 +41,11 @@ pub fn run_file<F: Start, R: Read, W: Write, P: Watch>(
     ensures done { IfSome result.0 (λ last. HasCleanDisk (file_state last)
         → DoesOverFile (image_at F.Start) (R.remaining reader.old) (R.remaining reader.new)
         (W.contents writer.old) (W.contents writer.new) task.now clock last result.1) }
-    ensures kept { IfSome result.0 (λ last. HasCleanDisk (file_state last) → (s : Operator) → HoldsOperator (image_at F.Start) s
-        → AllLeft (file_state last) (MayStand task.now s)) }
-    ensures unopened { IsNone result.0 → IsUntouched (image_at F.Start) result.0 (R.remaining reader.old) (R.remaining reader.new)
-        (W.contents writer.old) (W.contents writer.new) result.1 }
+    ensures kept { IfSome result.0 (λ last. HasCleanDisk (file_state last)
+        → (s : Operator) → HoldsOperator (image_at F.Start) s → AllLeft (file_state last) (MayStand task.now s)) }
+    ensures raised { IfSome result.0 (λ last. IsRaise task.now → LeavesRaised (image_at F.Start) last) }
+    ensures unopened { IsNone result.0 → IsUntouched (image_at F.Start) result.0
+        (R.remaining reader.old) (R.remaining reader.new) (W.contents writer.old) (W.contents writer.new) result.1 }
 {
     match open_file(rt, path, start) {
         Ok(conn) => {

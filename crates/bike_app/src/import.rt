@@ -1,17 +1,14 @@
 //! An import of stations into a database.
 
-ghost use Rattle.std.specs.Prelude.{◌≡◌, ◌≤◌, false, true, IsTrue};
+ghost use Rattle.std.specs.Prelude.{◌≡◌, ◌≤◌, false, true};
 ghost use Rattle.sqlite.specs.State.{HasCleanDisk};
 ghost use Rattle.sqlite.specs.Held.{state};
 ghost use Rattle.sqlite_trees.specs.View.{doubt};
 ghost use Rattle.bike_fields.specs.Bytes.{is_ident};
-ghost use Rattle.bike_operator.specs.Operator.{Operator};
-ghost use Rattle.bike_schema.specs.Stands.{AllLeft, TreesStandFor};
-ghost use Rattle.bike_desk.specs.Desk.{desk_state, IsAt};
+ghost use Rattle.bike_desk.specs.Desk.{desk_state, OfOperator};
 ghost use Rattle.bike_imports.specs.Imports.{Imports};
-ghost use Rattle.bike_console.specs.Pieces.{Puts};
-ghost use Rattle.bike_app.specs.Program.{StandsAfterSome};
-ghost use Rattle.bike_app.specs.Imports.{TellsImport, TellsImported, TellsRows, rows_line};
+ghost use Rattle.bike_app.specs.Program.{CrashLeaves, StandsAfterSome};
+ghost use Rattle.bike_app.specs.Imports.{PutsRows, TellsImport, TellsImported, TellsRows};
 
 use bike_adoption::adopt;
 use bike_console::{Fault, put, put_number};
@@ -25,7 +22,7 @@ use std::io::{Read, Write};
 
 /// Writes the line that tells a number of rows, and says whether it is written.
 fn put_rows<W: Write>(writer: &mut W, count: u64) -> bool
-    ensures { Puts (W.contents writer.old) (W.contents writer.new) (rows_line count) true result }
+    ensures { PutsRows count (W.contents writer.old) (W.contents writer.new) result }
 {
     let going = put(writer, true, b"rows ");
     let going = put_number(writer, going, count);
@@ -58,8 +55,8 @@ fn import_named<S: Alter, R: Read>(
 ) -> Result<u64, ImportFault>
     requires { is_ident name.now ≡ true }
     ensures clean { doubt (desk_state S.Store desk.old).is_clean ≤ doubt (desk_state S.Store desk.new).is_clean }
-    ensures imports { HasCleanDisk (desk_state S.Store desk.new) → (s : Operator) → IsAt S.Store desk.old s
-        → Imports S.Store desk.new s moment name.now (R.remaining reader.old) result }
+    ensures imports { OfOperator S.Store desk.old desk.new (λ s.
+        Imports S.Store desk.new s moment name.now (R.remaining reader.old) result) }
 {
     let Ok(name) = Ident::of(alloc, name) else {
         return Err(ImportFault::Desk(DeskFault::NoMemory));
@@ -78,9 +75,9 @@ fn import_at<S: Alter, R: Read, W: Write>(
 ) -> Result<u64, Fault>
     requires { is_ident name.now ≡ true }
     ensures clean { doubt (desk_state S.Store desk.old).is_clean ≤ doubt (desk_state S.Store desk.new).is_clean }
-    ensures told { HasCleanDisk (desk_state S.Store desk.new) → (s : Operator) → IsAt S.Store desk.old s
-        → TellsImport S.Store (R.remaining reader.old) (R.remaining reader.new)
-        (W.contents writer.old) (W.contents writer.new) name.now moment desk.new s result }
+    ensures told { OfOperator S.Store desk.old desk.new (λ s.
+        TellsImport S.Store (R.remaining reader.old) (R.remaining reader.new)
+        (W.contents writer.old) (W.contents writer.new) name.now moment desk.new s result) }
 {
     match moment {
         Some(moment) => {
@@ -110,18 +107,13 @@ pub fn import_from<S: Alter, R: Read, W: Write>(
     ensures told { HasCleanDisk (state S.Store result.0)
         → TellsImported S.Store (R.remaining reader.old) (R.remaining reader.new)
         (W.contents writer.old) (W.contents writer.new) name.now conn result.0 moment result.1 }
-    ensures kept { HasCleanDisk (state S.Store result.0) → (s : Operator)
-        → TreesStandFor s (state S.Store conn).now.trees → IsTrue (state S.Store conn).is_open
-        → AllLeft (state S.Store result.0) (StandsAfterSome s) }
+    ensures kept { CrashLeaves S.Store conn result.0 StandsAfterSome }
 {
     match adopt(alloc, conn) {
         Ok(mut desk) => {
             let end = import_at(alloc, &mut desk, name, moment, reader, writer);
             (desk.close(), end)
         }
-        Err(fault) => {
-            let (conn, told) = Fault::taken_from(fault);
-            (conn, Err(told))
-        }
+        Err(fault) => Fault::refused(fault),
     }
 }

@@ -10,14 +10,11 @@ mod program;
 mod raise;
 mod words;
 
-pub use bike_adoption::{Unwatched, Watch};
-pub use bike_console::{Counted, Fault, Progress, Remains, exit_code};
-pub use bike_feeds::Feed;
-pub use bike_lines::{LinesFault, MOST_READS, run_lines};
+pub use bike_console::{Counted, Fault, Progress, exit_code};
 pub use day::report_day;
 pub use feed::publish;
 pub use file::{run_file, run_on_file};
 pub use import::import_from;
-pub use program::{serve, serve_in_memory, serve_text};
+pub use program::serve;
 pub use raise::raise_up;
 pub use words::{run_words, run_words_in_memory};

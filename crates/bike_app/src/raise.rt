@@ -1,14 +1,10 @@
 //! Raising a database to the newest version.
 
-ghost use Rattle.std.specs.Prelude.{◌≡◌, ◌≤◌, false, IsTrue};
+ghost use Rattle.std.specs.Prelude.{◌≡◌, ◌≤◌, false};
 ghost use Rattle.sqlite.specs.State.{HasCleanDisk};
 ghost use Rattle.sqlite.specs.Held.{state};
 ghost use Rattle.sqlite_trees.specs.View.{doubt};
-ghost use Rattle.bike_operator.specs.Operator.{Operator};
-ghost use Rattle.bike_schema.specs.Stands.{AllLeft};
-ghost use Rattle.bike_earlier.specs.Stores.{TreesStandForAt};
-ghost use Rattle.bike_migrate.specs.Raising.{TreesStandSince};
-ghost use Rattle.bike_app.specs.Raises.{TellsRaised};
+ghost use Rattle.bike_app.specs.Raises.{CrashLeavesRaised, TellsRaised};
 
 use crate::words::write_line;
 use bike_adoption::Watch;
@@ -30,9 +26,7 @@ pub fn raise_up<S: Alter, W: Write, P: Watch>(
     ensures clean { doubt (state S.Store conn).is_clean ≤ doubt (state S.Store result.0).is_clean }
     ensures told { HasCleanDisk (state S.Store result.0)
         → TellsRaised S.Store (W.contents writer.old) (W.contents writer.new) conn result.0 result.1 }
-    ensures left { HasCleanDisk (state S.Store result.0) → (v : _) (s : Operator)
-        → TreesStandForAt v s (state S.Store conn).now.trees → IsTrue (state S.Store conn).is_open
-        → AllLeft (state S.Store result.0) (TreesStandSince v s) }
+    ensures left { CrashLeavesRaised S.Store conn result.0 }
 {
     match raise_watched(alloc, conn, watch) {
         Ok(conn) => (conn, write_line(writer, "version 3\n")),

@@ -1,15 +1,15 @@
 //! What the program does at each of its words.
 
-ghost use Rattle.std.specs.Prelude.{◌≡◌, ◌≤◌, false, IsTrue};
+ghost use Rattle.std.specs.Prelude.{◌≡◌, ◌≤◌, false};
 ghost use Rattle.sqlite.specs.State.{HasCleanDisk};
 ghost use Rattle.sqlite.specs.Held.{state};
 ghost use Rattle.sqlite_trees.specs.View.{doubt};
-ghost use Rattle.bike_operator.specs.Operator.{Operator};
-ghost use Rattle.bike_schema.specs.Stands.{AllLeft, TreesStandFor};
+ghost use Rattle.bike_schema.specs.Stands.{TreesStandFor};
 ghost use Rattle.bike_adoption.specs.Adoption.{LeavesAll};
 ghost use Rattle.bike_command_line.specs.Program.{IsWithinOnFile};
-ghost use Rattle.bike_app.specs.Raises.{WritesLine};
-ghost use Rattle.bike_app.specs.Words.{Does, DoesInMemory, Looks, MayStand, TellsLookedAt, TellsTakenUp};
+ghost use Rattle.bike_app.specs.Program.{CrashLeaves};
+ghost use Rattle.bike_app.specs.Raises.{CrashLeavesRaised, WritesLine};
+ghost use Rattle.bike_app.specs.Words.{Does, DoesInMemory, IsRaise, Looks, MayStand, TellsLookedAt, TellsTakenUp};
 
 use crate::day::report_day;
 use crate::feed::{moment_of, publish};
@@ -47,16 +47,11 @@ fn take_up<S: Alter, W: Write, P: Watch>(
     ensures clean { doubt (state S.Store conn).is_clean ≤ doubt (state S.Store result.0).is_clean }
     ensures told { HasCleanDisk (state S.Store result.0)
         → TellsTakenUp S.Store (W.contents writer.old) (W.contents writer.new) conn result.0 line.now result.1 }
-    ensures kept { HasCleanDisk (state S.Store result.0) → (s : Operator)
-        → TreesStandFor s (state S.Store conn).now.trees → IsTrue (state S.Store conn).is_open
-        → AllLeft (state S.Store result.0) (TreesStandFor s) }
+    ensures kept { CrashLeaves S.Store conn result.0 TreesStandFor }
 {
     match adopt_watched(alloc, conn, watch) {
         Ok(desk) => (desk.close(), write_line(writer, line)),
-        Err(fault) => {
-            let (conn, told) = Fault::taken_from(fault);
-            (conn, Err(told))
-        }
+        Err(fault) => Fault::refused(fault),
     }
 }
 
@@ -72,18 +67,13 @@ fn look_over<S: Alter, W: Write, P: Watch>(
     ensures clean { doubt (state S.Store conn).is_clean ≤ doubt (state S.Store result.0).is_clean }
     ensures told { HasCleanDisk (state S.Store result.0)
         → TellsLookedAt S.Store (W.contents writer.old) (W.contents writer.new) conn result.0 line.now result.1 }
-    ensures kept { HasCleanDisk (state S.Store result.0) → (s : Operator)
-        → TreesStandFor s (state S.Store conn).now.trees → IsTrue (state S.Store conn).is_open
-        → AllLeft (state S.Store result.0) (TreesStandFor s) }
+    ensures kept { CrashLeaves S.Store conn result.0 TreesStandFor }
     ensures stays { LeavesAll S.Store conn result.0 }
 {
     match look(alloc, conn, watch) {
         Ok(Looked::Sound(conn)) => (conn, write_line(writer, line)),
         Ok(Looked::Empty(conn)) => (conn, write_line(writer, line)),
-        Err(fault) => {
-            let (conn, told) = Fault::taken_from(fault);
-            (conn, Err(told))
-        }
+        Err(fault) => Fault::refused(fault),
     }
 }
 
@@ -93,6 +83,9 @@ fn look_over<S: Alter, W: Write, P: Watch>(
 /// `publish` does, and `Day` a table, as `report_day`: these three change nothing, and make no tables. Only `Lines` and `Import` read the
 /// input. Where a feed or an import is asked for at no moment, it is the clock's. Gives the connection back with the number of lines or
 /// rows served, or with the fault at which that ended. `watch` is told how far `Init`, `Check` and `Raise` are.
+///
+/// However `Raise` ends, a database that stood for an operator at some version stands after a crash for that operator, at that
+/// version or at the newest.
 pub fn run_words<S: Alter, R: Read, W: Write, P: Watch>(
     alloc: Global,
     task: &FileTask<'_>,
@@ -108,9 +101,8 @@ pub fn run_words<S: Alter, R: Read, W: Write, P: Watch>(
     ensures done { HasCleanDisk (state S.Store result.0)
         → Does S.Store (R.remaining reader.old) (R.remaining reader.new)
         (W.contents writer.old) (W.contents writer.new) task.now clock conn result.0 result.1 }
-    ensures kept { HasCleanDisk (state S.Store result.0) → (s : Operator)
-        → TreesStandFor s (state S.Store conn).now.trees → IsTrue (state S.Store conn).is_open
-        → AllLeft (state S.Store result.0) (MayStand task.now s) }
+    ensures kept { CrashLeaves S.Store conn result.0 (MayStand task.now) }
+    ensures raised { IsRaise task.now → CrashLeavesRaised S.Store conn result.0 }
     ensures stays { Looks task.now → LeavesAll S.Store conn result.0 }
 {
     match task {

@@ -1,5 +1,5 @@
 -- Texts of numbers, and their first bytes.
-use Rattle.std.proofs.Common.{◌≡◌, ◌∙◌, ◌<◌, ◌≤◌, ◌^◌, ℕ, ap, sym, refl, arith, rules, inl, inr, eqb, length, get_or, [], ◌∷◌, Some, None, true, false, decimal}
+use Rattle.std.proofs.Common.{◌≡◌, ◌∙◌, ◌<◌, ◌≤◌, ◌^◌, ℕ, ap, sym, refl, arith, rules, inl, inr, eqb, length, get_or, [], ◌∷◌, Some, None, Bool, true, false, not, ◌==◌, decimal}
 use Rattle.std.specs.Char.{is_ascii_digit}
 use Rattle.std.specs.List.{list_all}
 use Rattle.std.specs.Str.Parse.{digits_value, starts_with_minus}
@@ -9,6 +9,7 @@ use Rattle.std.proofs.lemmas.Str.Parse.{IsNumeralModel, numerals_by_value}
 use Rattle.clap.specs.Words.{Text}
 use Rattle.bike_fixed.specs.Whole.{number_of}
 use Rattle.bike_fixed.proofs.Numbers.{both_hold, number_full, number_none}
+use Rattle.bike_command_line.specs.Told.{has_one_hyphen}
 
 decimal_digits : IsNumeralModel (λ ds. list_all is_ascii_digit ds ≡ true) (digits_value 10)
 decimal_digits = numerals_by_value _ (search rules)
@@ -40,3 +41,19 @@ no_number low high text small none = number_none low high text (λ n is.
     let digits : list_all is_ascii_digit (decimal n) ≡ true = digits_decimal decimal_digits n (omega (arith, is.le_high)) in
     let bad : list_all is_ascii_digit (decimal n) ≡ false = sym (ap (list_all is_ascii_digit) is.spelled) ∙ none in
     absurd cc)
+
+minus_no_digits : (text : Text) → starts_with_minus text ≡ true → list_all is_ascii_digit text ≡ false
+minus_no_digits text minus = by (list_all is_ascii_digit text) refl
+  where
+    by : (b : Bool) → list_all is_ascii_digit text ≡ b → list_all is_ascii_digit text ≡ false
+    by true digits = let plain = digits_plain text digits in absurd cc
+    by false digits = digits
+
+one_hyphen : (text : Text) → has_one_hyphen text ≡ true → starts_with_minus text ≡ true
+one_hyphen [] one = absurd cc
+one_hyphen (first ∷ []) one = absurd cc
+one_hyphen (first ∷ second ∷ rest) one = (both_hold (first == 45) (not (second == 45)) one).0
+
+-- nor is one that begins with a hyphen
+pub no_signed : (low high : ℕ) (text : Text) → high < 2 ^ 64 → has_one_hyphen text ≡ true → number_of low high text ≡ None
+no_signed low high text small one = no_number low high text small (minus_no_digits text (one_hyphen text one))

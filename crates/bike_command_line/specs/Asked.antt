@@ -1,5 +1,7 @@
 -- What the words ask for.
-use Rattle.std.specs.Prelude.{◌≡◌, ℕ, List, [], Option, Some, None, option_map, option_and_then, codes, if◌then◌else◌, Result, MatchResult}
+use Rattle.std.specs.Prelude.{◌≡◌, ◌==◌, ℕ, List, [], map, Option, Some, None, option_map, option_and_then, codes, if◌then◌else◌, Result, MatchResult}
+use Rattle.std.specs.Borrow.{Bor}
+use Rattle.std.specs.List.{slice_split}
 use Rattle.std.specs.Str.{bytes_eq}
 use Rattle.clap.specs.Words.{Row, Text, fault_of, first_of, subcommand_of}
 use Rattle.bike_fixed.specs.Whole.{last_moment, number_of}
@@ -114,6 +116,14 @@ IsFound found task file = (task_in found ≡ Some (want_of task)) × (value_in f
 
 abbrev pub IsNothing : Found → Type 0
 IsNothing found = (task : Task) (file : Text) → IsFound found task file → ⊥
+
+-- the texts of the words
+abbrev pub texts_of : List (Bor Text) → List Text
+texts_of words = map (λ w. w.now) words
+
+-- the words of a line, which a space parts
+abbrev pub parted : Text → List Text
+parted line = slice_split (λ b. b == 32) line
 
 -- clap has nothing against the words, and finds this task on this file in them
 abbrev pub Ask : List Text → Task → Text → Type 0

@@ -46,6 +46,15 @@ id_of value.Moment = codes "at"
 id_of value.Port = codes "port"
 id_of value.Count = codes "count"
 
+-- the value that stands behind an option of the word
+unfoldable pub value_behind : Word → Text → Option Value
+value_behind word.Feed option = if bytes_eq option (codes "--at") then Some value.Moment else None
+value_behind word.Import option = if bytes_eq option (codes "--at") then Some value.Moment else None
+value_behind word.Serve option =
+    if bytes_eq option (codes "--port") then Some value.Port else (
+    if bytes_eq option (codes "--count") then Some value.Count else None)
+value_behind word option = None
+
 -- the word wants the value
 abbrev pub IsWanted : Word → Value → Type 0
 IsWanted word value.File = Unit

@@ -12,5 +12,6 @@ IsWrong word found (Missing value) = IsWanted word value × (value_in found (id_
 IsWrong word found (Bad value text) = IsTaken word value × (value_in found (id_of value) ≡ Some text.now) × IsBad value text.now
 
 -- what stands behind the word is read, or it is none and something is wrong
-abbrev pub IsRead : {T X : Type 0} → Word → Found → (T → X) → Option X → Result T Wrong → Type 0
-IsRead word found view wanted answer = MatchResult answer (λ it. wanted ≡ Some (view it)) (λ wrong. (wanted ≡ None) × IsWrong word found wrong)
+abbrev pub IsRead : {T X : Type 0} → Word → Found → (T → X) → (Found → Option X) → Result T Wrong → Type 0
+IsRead word found view wanted answer =
+    MatchResult answer (λ it. wanted found ≡ Some (view it)) (λ wrong. (wanted found ≡ None) × IsWrong word found wrong)

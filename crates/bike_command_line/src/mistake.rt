@@ -19,7 +19,7 @@ pub enum Mistake<'a> {
         /// The first word.
         text: &'a str,
     },
-    /// There is a word too much, or an option that isn't the word's.
+    /// There is a word too much, or an option that isn't the word's and doesn't stand as the value of one.
     Unexpected {
         /// The word that it stands behind.
         word: Word,
@@ -52,7 +52,7 @@ pub enum Mistake<'a> {
         /// The value.
         value: Value,
     },
-    /// A value is none of its kind.
+    /// A value is none of its kind. A text that begins with a hyphen, as a negative number, is told so behind its option.
     BadValue {
         /// The word.
         word: Word,

@@ -1,12 +1,15 @@
 //! What clap makes of the words, and at which of them it takes offence.
 
-ghost use Rattle.std.specs.Prelude.{◌≡◌, ◌⊎◌, ◌<◌, ◌≤◌, ◌+◌, ◌-◌, [], length, map, slice_get, take, IfOk, IfErr, MatchOption, Some, true, false};
+ghost use Rattle.std.specs.Prelude.{◌≡◌, ◌⊎◌, ◌<◌, ◌≤◌, ◌+◌, ◌-◌, [], length, slice_get, take};
+ghost use Rattle.std.specs.Prelude.{IfOk, IfErr, MatchOption, Some, true, false};
 ghost use Rattle.clap.specs.Words.{fault_of, subcommand_of, subcommand_rows_of};
 ghost use Rattle.bike_command_line.specs.Program.{program};
-ghost use Rattle.bike_command_line.specs.Told.{Against, Begins, IsSo, Leads, Otherwise};
+ghost use Rattle.bike_command_line.specs.Asked.{texts_of};
+ghost use Rattle.bike_command_line.specs.Told.{Against, Begins, IsSo, Leads, Otherwise, has_one_hyphen, value_meant};
 
 use crate::mistake::Mistake;
 use crate::program::program;
+use crate::value::Value;
 use crate::word::Word;
 use clap::ArgMatches;
 use clap::error::ErrorKind;
@@ -17,9 +20,9 @@ pub(crate) fn matches_of<'a>(
     alloc: Global,
     words: &'a [&'a str],
 ) -> Result<ArgMatches<'a>, ErrorKind>
-    ensures taken { IfOk result (λ _. fault_of program (map (λ w. w.now) words.entry.now) ≡ []) }
-    ensures found { IfOk result (λ m. subcommand_rows_of m ≡ subcommand_of program (map (λ w. w.now) words.entry.now)) }
-    ensures refused { IfErr result (λ kind. (kind ≡ ErrorKind.OutOfMemory) ⊎ Against (map (λ w. w.now) words.entry.now) kind) }
+    ensures taken { IfOk result (λ _. fault_of program (texts_of words.entry.now) ≡ []) }
+    ensures found { IfOk result (λ m. subcommand_rows_of m ≡ subcommand_of program (texts_of words.entry.now)) }
+    ensures refused { IfErr result (λ kind. (kind ≡ ErrorKind.OutOfMemory) ⊎ Against (texts_of words.entry.now) kind) }
 {
     let Ok(program) = program(alloc) else {
         return Err(ErrorKind::OutOfMemory);
@@ -32,7 +35,7 @@ pub(crate) fn matches_of<'a>(
 
 /// What clap has against the words, or none where it has nothing.
 fn kind_of<'a>(alloc: Global, words: &'a [&'a str]) -> Result<Option<ErrorKind>, AllocError>
-    ensures { let texts = map (λ w. w.now) words.entry.now in
+    ensures { let texts = texts_of words.entry.now in
         IfOk result (λ kind. MatchOption kind (fault_of program texts ≡ []) (Against texts)) }
 {
     match matches_of(alloc, words) {
@@ -60,8 +63,8 @@ fn has_before<'a>(
     kind: ErrorKind,
     end: usize,
 ) -> Result<bool, AllocError>
-    ensures there { IfOk result (λ has. has ≡ true → Against (take end (map (λ w. w.now) words.entry.now)) kind) }
-    ensures not { IfOk result (λ has. has ≡ false → Otherwise (take end (map (λ w. w.now) words.entry.now)) kind) }
+    ensures there { IfOk result (λ has. has ≡ true → Against (take end (texts_of words.entry.now)) kind) }
+    ensures not { IfOk result (λ has. has ≡ false → Otherwise (take end (texts_of words.entry.now)) kind) }
 {
     let end = end.min(words.len());
     match kind_of(alloc, &words[..end])? {
@@ -72,10 +75,10 @@ fn has_before<'a>(
 
 /// A place before which clap has this against the words, and with the next word too: a near one, or the end.
 fn start_of<'a>(alloc: Global, words: &'a [&'a str], kind: ErrorKind) -> Result<usize, AllocError>
-    requires { Against (map (λ w. w.now) words.now) kind }
+    requires { Against (texts_of words.now) kind }
     ensures within { IfOk result (λ place. place ≤ length words.entry.now) }
-    ensures there { IfOk result (λ place. Against (take place (map (λ w. w.now) words.entry.now)) kind) }
-    ensures after { IfOk result (λ place. Against (take (place + 1) (map (λ w. w.now) words.entry.now)) kind) }
+    ensures there { IfOk result (λ place. Against (take place (texts_of words.entry.now)) kind) }
+    ensures after { IfOk result (λ place. Against (take (place + 1) (texts_of words.entry.now)) kind) }
 {
     // No word takes so many: of many words clap takes offence at one of these.
     let near = 16;
@@ -90,9 +93,9 @@ fn start_of<'a>(alloc: Global, words: &'a [&'a str], kind: ErrorKind) -> Result<
 
 /// The place of the word from which on clap has this against the words.
 fn place_of<'a>(alloc: Global, words: &'a [&'a str], kind: ErrorKind) -> Result<usize, AllocError>
-    requires { Against (map (λ w. w.now) words.now) kind }
+    requires { Against (texts_of words.now) kind }
     ensures within { IfOk result (λ place. place < length words.entry.now) }
-    ensures begins { IfOk result (Begins (map (λ w. w.now) words.entry.now) kind) }
+    ensures begins { IfOk result (Begins (texts_of words.entry.now) kind) }
 {
     let mut place = start_of(alloc, words, kind)?;
     while place > 0 {
@@ -108,7 +111,7 @@ fn place_of<'a>(alloc: Global, words: &'a [&'a str], kind: ErrorKind) -> Result<
 /// The option that the word at this place is, or that stands before it where it is none.
 fn option_at<'a>(words: &'a [&'a str], place: usize) -> &'a str
     requires { place < length words.now }
-    ensures { let texts = map (λ w. w.now) words.entry.now in
+    ensures { let texts = texts_of words.entry.now in
         (slice_get texts place ≡ Some result.now) ⊎ (slice_get texts (place - 1) ≡ Some result.now) }
 {
     let text = words[place];
@@ -118,6 +121,44 @@ fn option_at<'a>(words: &'a [&'a str], place: usize) -> &'a str
     words[place - 1]
 }
 
+/// Whether the text begins with one hyphen, and not with two.
+fn has_one_hyphen(text: &str) -> bool
+    ensures { result ≡ has_one_hyphen text.now }
+{
+    match text.as_bytes() {
+        [first, second, ..] => *first == b'-' && *second != b'-',
+        _ => false,
+    }
+}
+
+/// The value that a text is meant for which clap takes for an option: it has one hyphen, and stands behind an option of the word.
+fn value_meant(word: Word, before: &str, text: &str) -> Option<Value>
+    ensures { result ≡ value_meant word (Some before.now) text.now }
+{
+    if has_one_hyphen(text) {
+        Value::behind(word, before)
+    } else {
+        None
+    }
+}
+
+/// What is wrong with words that begin with this one, at the place where clap knows no such option: a bad value, as a negative number,
+/// or a word too much.
+fn unknown_at<'a>(words: &'a [&'a str], word: Word, place: usize) -> Mistake<'a>
+    requires leads { Leads (texts_of words.now) word }
+    requires against { Against (texts_of words.now) ErrorKind.UnknownArgument }
+    requires within { place < length words.now }
+    requires begins { Begins (texts_of words.now) ErrorKind.UnknownArgument place }
+    ensures { IsSo (texts_of words.entry.now) result }
+{
+    let text = words[place];
+    let before = words[place.saturating_sub(1)];
+    match value_meant(word, before, text) {
+        Some(value) => Mistake::BadValue { word, value, text },
+        None => Mistake::Unexpected { word, text },
+    }
+}
+
 /// What is wrong with words that begin with this one, and that clap has this against.
 pub(crate) fn offence<'a>(
     alloc: Global,
@@ -125,13 +166,17 @@ pub(crate) fn offence<'a>(
     word: Word,
     kind: ErrorKind,
 ) -> Result<Mistake<'a>, AllocError>
-    requires leads { Leads (map (λ w. w.now) words.now) word }
-    requires against { Against (map (λ w. w.now) words.now) kind }
-    ensures { IfOk result (IsSo (map (λ w. w.now) words.entry.now)) }
+    requires leads { Leads (texts_of words.now) word }
+    requires against { Against (texts_of words.now) kind }
+    ensures { IfOk result (IsSo (texts_of words.entry.now)) }
 {
     match kind {
         ErrorKind::DisplayHelp => Ok(Mistake::Help { word: Some(word) }),
-        ErrorKind::UnknownArgument | ErrorKind::TooManyValues => {
+        ErrorKind::UnknownArgument => {
+            let place = place_of(alloc, words, kind)?;
+            Ok(unknown_at(words, word, place))
+        }
+        ErrorKind::TooManyValues => {
             let place = place_of(alloc, words, kind)?;
             let text = words[place];
             Ok(Mistake::Unexpected { word, text })

@@ -31,8 +31,8 @@ fn with_arg<'a>(
     word: Result<Command<'a>, AllocError>,
     arg: Arg<'a>,
 ) -> Result<Command<'a>, AllocError>
-    ensures app { (shape : App) (rule : Rule) → rule_of arg.entry ≡ rule → arg.entry.global ≡ false → IfOk word.entry (λ w. app_of w ≡ shape)
-        → IfOk result (λ c. app_of c ≡ with_rule shape rule) }
+    ensures app { (shape : App) (rule : Rule) → rule_of arg.entry ≡ rule → arg.entry.global ≡ false
+        → IfOk word.entry (λ w. app_of w ≡ shape) → IfOk result (λ c. app_of c ≡ with_rule shape rule) }
     ensures local { arg.entry.global ≡ false → IfOk word.entry (λ w. (fields_of w).has_globals ≡ false)
         → IfOk result (λ c. (fields_of c).has_globals ≡ false) }
 {
@@ -46,7 +46,8 @@ fn with_word<'a>(
     word: Result<Command<'a>, AllocError>,
 ) -> Result<Command<'a>, AllocError>
     ensures { (app shape : App) → IfOk program.entry (λ p. app_of p ≡ app) → IfOk word.entry (λ w. app_of w ≡ shape)
-        → IfOk word.entry (λ w. (fields_of w).has_globals ≡ false) → IfOk result (λ c. app_of c ≡ with_subcommand app shape.top) }
+        → IfOk word.entry (λ w. (fields_of w).has_globals ≡ false)
+        → IfOk result (λ c. app_of c ≡ with_subcommand app shape.top) }
 {
     let word = word?;
     let program = program?;

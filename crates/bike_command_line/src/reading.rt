@@ -1,11 +1,11 @@
 //! What the words ask for.
 
-ghost use Rattle.std.specs.Prelude.{◌≡◌, ◌⊎◌, ◌<◌, List, [], length, map, slice_get, option_and_then};
+ghost use Rattle.std.specs.Prelude.{◌≡◌, ◌⊎◌, ◌<◌, List, [], length, slice_get, option_and_then};
 ghost use Rattle.std.specs.Prelude.{IfOk, IfErr, IsOkAnd, MatchResult, Some, None, Err, codes, false};
 ghost use Rattle.std.specs.Str.Parse.{starts_with_minus};
 ghost use Rattle.clap.specs.Words.{Text, fault_of, subcommand_of, subcommand_rows_of};
 ghost use Rattle.bike_command_line.specs.Program.{IsWithin, program, words_for};
-ghost use Rattle.bike_command_line.specs.Asked.{Ask, AskNothing, IsFound, IsNothing, IsTold, name_in, task_of, value_in, want_of};
+ghost use Rattle.bike_command_line.specs.Asked.{Ask, AskNothing, IsFound, IsNothing, IsTold, name_in, task_of, texts_of, value_in, want_of};
 ghost use Rattle.bike_command_line.specs.Names.{word_name, word_named};
 ghost use Rattle.bike_command_line.specs.Wrong.{IsWrong};
 ghost use Rattle.bike_command_line.specs.Told.{Against, IsOfValue, IsSo, Leads};
@@ -46,8 +46,10 @@ fn word_in(matches: &ArgMatches<'_>) -> Option<Word>
 
 /// What the matches ask of the word.
 fn words_of<'a>(word: Word, matches: &ArgMatches<'a>) -> Result<Words<'a>, Wrong<'a>>
-    ensures task { let found = subcommand_rows_of matches.now in IfOk result (λ words. task_of (word_name word) found ≡ Some (want_of words.task)) }
-    ensures file { let found = subcommand_rows_of matches.now in IfOk result (λ words. value_in found (codes "file") ≡ Some words.file.now) }
+    ensures task { let found = subcommand_rows_of matches.now in
+        IfOk result (λ words. task_of (word_name word) found ≡ Some (want_of words.task)) }
+    ensures file { let found = subcommand_rows_of matches.now in
+        IfOk result (λ words. value_in found (codes "file") ≡ Some words.file.now) }
     ensures none { let found = subcommand_rows_of matches.now in
         IfErr result (λ _. (value_in found (codes "file") ≡ None) ⊎ (task_of (word_name word) found ≡ None)) }
     ensures wrong { IfErr result (IsWrong word (subcommand_rows_of matches.now)) }
@@ -83,9 +85,9 @@ fn mistake_in<'a>(
     first: &'a str,
     kind: ErrorKind,
 ) -> Result<Mistake<'a>, AllocError>
-    requires first { slice_get (map (λ w. w.now) words.now) 0 ≡ Some first.now }
-    requires against { Against (map (λ w. w.now) words.now) kind }
-    ensures { IfOk result (IsSo (map (λ w. w.now) words.entry.now)) }
+    requires first { slice_get (texts_of words.now) 0 ≡ Some first.now }
+    requires against { Against (texts_of words.now) kind }
+    ensures { IfOk result (IsSo (texts_of words.entry.now)) }
 {
     if let Some(word) = Word::read(first) {
         return offence(alloc, words, word, kind);
@@ -103,10 +105,10 @@ fn fault_in<'a>(
     first: &'a str,
     kind: ErrorKind,
 ) -> WordsFault<'a>
-    requires first { slice_get (map (λ w. w.now) words.now) 0 ≡ Some first.now }
-    requires refused { (kind ≡ ErrorKind.OutOfMemory) ⊎ Against (map (λ w. w.now) words.now) kind }
-    ensures memory { fault_of program (map (λ w. w.now) words.entry.now) ≡ [] → result ≡ WordsFault.NoMemory }
-    ensures told { (mistake : Mistake) → result ≡ WordsFault.Usage mistake → IsSo (map (λ w. w.now) words.entry.now) mistake }
+    requires first { slice_get (texts_of words.now) 0 ≡ Some first.now }
+    requires refused { (kind ≡ ErrorKind.OutOfMemory) ⊎ Against (texts_of words.now) kind }
+    ensures memory { fault_of program (texts_of words.entry.now) ≡ [] → result ≡ WordsFault.NoMemory }
+    ensures told { (mistake : Mistake) → result ≡ WordsFault.Usage mistake → IsSo (texts_of words.entry.now) mistake }
 {
     match kind {
         ErrorKind::OutOfMemory => WordsFault::NoMemory,
@@ -122,14 +124,18 @@ fn fault_in<'a>(
 /// name is none, where an import's name is no identifier, and where a number isn't the decimal of one within its bounds. It tells which
 /// word or value is wrong. `NoMemory` comes where memory is refused.
 pub fn read_words<'a>(alloc: Global, words: &'a [&'a str]) -> Result<Words<'a>, WordsFault<'a>>
-    ensures none { words.entry.now ≡ [] → IsOkAnd result (λ asked. (asked.task ≡ Task.OnFile FileTask.Lines) × (asked.file.now ≡ codes ":memory:")) }
-    ensures some { 0 < length words.entry.now → IfOk result (λ asked. Ask (map (λ w. w.now) words.entry.now) asked.task asked.file.now) }
+    ensures none { words.entry.now ≡ []
+        → IsOkAnd result (λ asked. (asked.task ≡ Task.OnFile FileTask.Lines) × (asked.file.now ≡ codes ":memory:")) }
+    ensures some { 0 < length words.entry.now
+        → IfOk result (λ asked. Ask (texts_of words.entry.now) asked.task asked.file.now) }
     ensures within { IfOk result (λ asked. IsWithin asked.task) }
-    ensures refused { (mistake : Mistake) → result ≡ Err (WordsFault.Usage mistake) → AskNothing (map (λ w. w.now) words.entry.now) }
-    ensures plain { (task : Task) (file : Text) → map (λ w. w.now) words.entry.now ≡ words_for task file
+    ensures refused { (mistake : Mistake) → result ≡ Err (WordsFault.Usage mistake)
+        → AskNothing (texts_of words.entry.now) }
+    ensures plain { (task : Task) (file : Text) → texts_of words.entry.now ≡ words_for task file
         → starts_with_minus file ≡ false → IsWithin task → IsTold task file result }
-    ensures told { (mistake : Mistake) → result ≡ Err (WordsFault.Usage mistake) → IsSo (map (λ w. w.now) words.entry.now) mistake }
-    ensures value { (mistake : Mistake) (word : Word) → let texts = map (λ w. w.now) words.entry.now in
+    ensures told { (mistake : Mistake) → result ≡ Err (WordsFault.Usage mistake)
+        → IsSo (texts_of words.entry.now) mistake }
+    ensures value { (mistake : Mistake) (word : Word) → let texts = texts_of words.entry.now in
         Leads texts word → fault_of program texts ≡ [] → result ≡ Err (WordsFault.Usage mistake) → IsOfValue mistake }
 {
     if words.is_empty() {

@@ -100,7 +100,7 @@ pub(crate) fn wanted_in<'a>(matches: &ArgMatches<'a>, value: Value) -> Result<&'
 
 /// The feed of the NAME.
 fn feed_in<'a>(matches: &ArgMatches<'a>) -> Result<Feed, Wrong<'a>>
-    ensures { let found = subcommand_rows_of matches.now in IsRead Word.Feed found (λ feed. feed) (feed_in found) result }
+    ensures { IsRead Word.Feed (subcommand_rows_of matches.now) (λ feed. feed) feed_in result }
 {
     let text = wanted_in(matches, Value::Feed)?;
     Feed::read(text).ok_or(Wrong::Bad(Value::Feed, text))
@@ -108,8 +108,8 @@ fn feed_in<'a>(matches: &ArgMatches<'a>) -> Result<Feed, Wrong<'a>>
 
 /// The moment of a feed or an import, which may be left out.
 fn moment_in<'a>(matches: &ArgMatches<'a>) -> Result<Option<Moment>, Wrong<'a>>
-    ensures feed { let found = subcommand_rows_of matches.now in IsRead Word.Feed found (λ at. at) (moment_in found) result }
-    ensures import { let found = subcommand_rows_of matches.now in IsRead Word.Import found (λ at. at) (moment_in found) result }
+    ensures feed { IsRead Word.Feed (subcommand_rows_of matches.now) (λ at. at) moment_in result }
+    ensures import { IsRead Word.Import (subcommand_rows_of matches.now) (λ at. at) moment_in result }
 {
     let Some(text) = value_in(matches, "at") else {
         return Ok(None);
@@ -122,7 +122,7 @@ fn moment_in<'a>(matches: &ArgMatches<'a>) -> Result<Option<Moment>, Wrong<'a>>
 
 /// The table of the WHICH.
 fn table_in<'a>(matches: &ArgMatches<'a>) -> Result<DayTable, Wrong<'a>>
-    ensures { let found = subcommand_rows_of matches.now in IsRead Word.Day found (λ table. table) (table_in found) result }
+    ensures { IsRead Word.Day (subcommand_rows_of matches.now) (λ table. table) table_in result }
 {
     let text = wanted_in(matches, Value::Table)?;
     DayTable::read(text).ok_or(Wrong::Bad(Value::Table, text))
@@ -130,7 +130,7 @@ fn table_in<'a>(matches: &ArgMatches<'a>) -> Result<DayTable, Wrong<'a>>
 
 /// The name of an import.
 fn import_in<'a>(matches: &ArgMatches<'a>) -> Result<&'a str, Wrong<'a>>
-    ensures { let found = subcommand_rows_of matches.now in IsRead Word.Import found (λ name. name.now) (import_in found) result }
+    ensures { IsRead Word.Import (subcommand_rows_of matches.now) (λ name. name.now) import_in result }
 {
     let text = wanted_in(matches, Value::Import)?;
     Ident::checked(text).ok_or(Wrong::Bad(Value::Import, text))
@@ -138,7 +138,7 @@ fn import_in<'a>(matches: &ArgMatches<'a>) -> Result<&'a str, Wrong<'a>>
 
 /// The port.
 fn port_in<'a>(matches: &ArgMatches<'a>) -> Result<u16, Wrong<'a>>
-    ensures { let found = subcommand_rows_of matches.now in IsRead Word.Serve found (λ port. port) (port_in found) result }
+    ensures { IsRead Word.Serve (subcommand_rows_of matches.now) (λ port. port) port_in result }
 {
     let text = wanted_in(matches, Value::Port)?;
     match read_whole(text, 0, 65_535) {
@@ -149,7 +149,7 @@ fn port_in<'a>(matches: &ArgMatches<'a>) -> Result<u16, Wrong<'a>>
 
 /// The number of connections, which may be left out.
 fn count_in<'a>(matches: &ArgMatches<'a>) -> Result<Option<u32>, Wrong<'a>>
-    ensures { let found = subcommand_rows_of matches.now in IsRead Word.Serve found (λ count. count) (count_in found) result }
+    ensures { IsRead Word.Serve (subcommand_rows_of matches.now) (λ count. count) count_in result }
 {
     let Some(text) = value_in(matches, "count") else {
         return Ok(None);
@@ -162,7 +162,7 @@ fn count_in<'a>(matches: &ArgMatches<'a>) -> Result<Option<u32>, Wrong<'a>>
 
 /// The feed and its moment.
 fn feed_task<'a>(matches: &ArgMatches<'a>) -> Result<Task<'a>, Wrong<'a>>
-    ensures { let found = subcommand_rows_of matches.now in IsRead Word.Feed found want_of (feed_task found) result }
+    ensures { IsRead Word.Feed (subcommand_rows_of matches.now) want_of feed_task result }
 {
     let feed = feed_in(matches)?;
     let at = moment_in(matches)?;
@@ -171,7 +171,7 @@ fn feed_task<'a>(matches: &ArgMatches<'a>) -> Result<Task<'a>, Wrong<'a>>
 
 /// The table and its day.
 fn day_task<'a>(matches: &ArgMatches<'a>) -> Result<Task<'a>, Wrong<'a>>
-    ensures { let found = subcommand_rows_of matches.now in IsRead Word.Day found want_of (day_task found) result }
+    ensures { IsRead Word.Day (subcommand_rows_of matches.now) want_of day_task result }
 {
     let table = table_in(matches)?;
     let date = wanted_in(matches, Value::Date)?;
@@ -181,7 +181,7 @@ fn day_task<'a>(matches: &ArgMatches<'a>) -> Result<Task<'a>, Wrong<'a>>
 
 /// The import's name and its moment.
 fn import_task<'a>(matches: &ArgMatches<'a>) -> Result<Task<'a>, Wrong<'a>>
-    ensures { let found = subcommand_rows_of matches.now in IsRead Word.Import found want_of (import_task found) result }
+    ensures { IsRead Word.Import (subcommand_rows_of matches.now) want_of import_task result }
 {
     let name = import_in(matches)?;
     let at = moment_in(matches)?;
@@ -190,7 +190,7 @@ fn import_task<'a>(matches: &ArgMatches<'a>) -> Result<Task<'a>, Wrong<'a>>
 
 /// The port and the number of connections.
 fn serve_task<'a>(matches: &ArgMatches<'a>) -> Result<Task<'a>, Wrong<'a>>
-    ensures { let found = subcommand_rows_of matches.now in IsRead Word.Serve found want_of (serve_task found) result }
+    ensures { IsRead Word.Serve (subcommand_rows_of matches.now) want_of serve_task result }
 {
     let port = port_in(matches)?;
     let count = count_in(matches)?;
@@ -200,7 +200,7 @@ fn serve_task<'a>(matches: &ArgMatches<'a>) -> Result<Task<'a>, Wrong<'a>>
 /// The task of the word, by what stands behind it.
 #[tactic(auto, unfolding(crate::specs::Asked::task_of))]
 pub(crate) fn task_of<'a>(word: Word, matches: &ArgMatches<'a>) -> Result<Task<'a>, Wrong<'a>>
-    ensures { let found = subcommand_rows_of matches.now in IsRead word found want_of (task_of (word_name word) found) result }
+    ensures { IsRead word (subcommand_rows_of matches.now) want_of (task_of (word_name word)) result }
 {
     match word {
         Word::Init => Ok(Task::OnFile(FileTask::Init)),

@@ -3,6 +3,7 @@
 use crate::help::{FEEDS, form_of, usage, usage_of};
 use crate::mistake::Mistake;
 use crate::value::Value;
+use crate::word::Word;
 use std::fmt;
 
 /// The names of the words.
@@ -57,13 +58,11 @@ fn name_of(option: &str) -> &str {
     }
 }
 
-/// What is wanted behind an option.
-fn wanted_behind(option: &str) -> &'static str {
-    match option {
-        "--at" => wanted_as(Value::Moment),
-        "--port" => wanted_as(Value::Port),
-        "--count" => wanted_as(Value::Count),
-        _ => "a value",
+/// What is wanted behind an option of the word.
+fn wanted_behind(word: Word, option: &str) -> &'static str {
+    match Value::behind(word, option) {
+        Some(value) => wanted_as(value),
+        None => "a value",
     }
 }
 
@@ -116,8 +115,8 @@ impl fmt::Display for Line<'_> {
                 let (extra, form) = (Shown(text), form_of(word));
                 writeln!(f, "bikeshare: {extra} is unexpected; wanted is {form}")
             }
-            Mistake::NoValue { option, .. } => {
-                let (name, wanted) = (Shown(option), wanted_behind(option));
+            Mistake::NoValue { word, option } => {
+                let (name, wanted) = (Shown(option), wanted_behind(word, option));
                 writeln!(f, "bikeshare: {name} has no value; wanted is {wanted}")
             }
             Mistake::Repeated { option, .. } => {

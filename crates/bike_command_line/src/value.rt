@@ -1,7 +1,9 @@
 //! The values that stand behind the program's words.
 
 ghost use Rattle.std.specs.Prelude.{◌≡◌};
-ghost use Rattle.bike_command_line.specs.Names.{IsBad, id_of};
+ghost use Rattle.bike_command_line.specs.Names.{id_of, value_behind};
+
+use crate::word::Word;
 
 /// A value that a word takes.
 #[derive(Clone, Copy, Debug, Drop)]
@@ -40,6 +42,25 @@ impl Value {
             Value::Moment => "at",
             Value::Port => "port",
             Value::Count => "count",
+        }
+    }
+
+    /// The value that stands behind an option of the word; none where the word has no such option.
+    #[tactic(auto, unfolding(crate::specs::Names::value_behind))]
+    pub(crate) fn behind(word: Word, option: &str) -> Option<Value>
+        ensures { result ≡ value_behind word option.now }
+    {
+        match word {
+            Word::Init | Word::Check | Word::Raise | Word::Lines | Word::Day => None,
+            Word::Feed | Word::Import => match option {
+                "--at" => Some(Value::Moment),
+                _ => None,
+            },
+            Word::Serve => match option {
+                "--port" => Some(Value::Port),
+                "--count" => Some(Value::Count),
+                _ => None,
+            },
         }
     }
 }

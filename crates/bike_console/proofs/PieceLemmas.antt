@@ -1,6 +1,6 @@
 -- Pieces one after the other, and the text of a key column by column.
-use Rattle.std.proofs.Common.{◌≡◌, ◌∙◌, ◌+◌, ◌<◌, ◌≤◌, ℕ, List, [], ◌∷◌, ◌++◌, length, take, refl, sym, subst, ap, suc, arith, append_assoc, append-nil, length-append, zero, is_ok, Bool, true, false, Option, Result, Ok, Err}
-use Rattle.std.specs.Prelude.{OnOk, OnErr, codes, ◌==◌, if◌then◌else◌}
+use Rattle.std.proofs.Common.{◌≡◌, ◌∙◌, ◌+◌, ◌<◌, ◌≤◌, ℕ, List, [], ◌∷◌, ◌++◌, length, take, refl, sym, subst, ap, suc, arith, append_assoc, append-nil, length-append, zero, Bool, true, false, Option, IsTrue, inl, inr}
+use Rattle.std.specs.Prelude.{codes, ◌==◌, if◌then◌else◌}
 use Rattle.std.proofs.lemmas.List.{take_all, take-append-le}
 use Rattle.std.proofs.Math.Seq.{take-append-add}
 use Rattle.std.proofs.lemmas.Bool.Decides.{nat_tests}
@@ -10,38 +10,40 @@ use Rattle.std.proofs.KnownBytes.{Appends-nil, Appends-trans}
 use Rattle.std.specs.Io.KnownBytes.{Appends}
 use Rattle.sqlite_value.specs.declared.value.Value.TheVariants.{Null, Text}
 use Rattle.sqlite_value.specs.Order.{Row, column}
-use Rattle.bike_stream.specs.Writing.{AppendsFront}
-use Rattle.bike_console.specs.Pieces.{value_text, key_text, bar, AppendsSome, Puts}
+use Rattle.bike_json.specs.Outputs.{OutputState}
+use Rattle.bike_console.specs.Pieces.{value_text, key_text, bar, Puts, PutsLine}
 
 -- ---- pieces
 
-pub puts_one : {A E : Type 0} (old new : Option (List ℕ)) (bytes : List ℕ) (result : Result A E) → OnOk result (Appends old new bytes) → OnErr result (AppendsFront old new bytes) → Puts old new bytes true (is_ok result)
-puts_one old new bytes (Ok x) all front = all
-puts_one old new bytes (Err e) all front = (front.0, omega (arith, front.1), front.2)
+-- a writer that holds these bytes, as an output
+abbrev pub writer_with : Option (List ℕ) → OutputState
+writer_with bytes = record { bytes = bytes; may_refuse = true }
 
-pub puts_none : (w : Option (List ℕ)) (going : Bool) → Puts w w [] going going
-puts_none w true = Appends-nil w
-puts_none w false = Appends-nil w
-
-pub puts_both : (a b c : Option (List ℕ)) (xs ys : List ℕ) (g h i : Bool) → Puts a b xs g h → Puts b c ys h i → Puts a c (xs ++ ys) g i
-puts_both a b c xs ys true true true p q = Appends-trans a b c xs ys p q
-puts_both a b c xs ys true true false p q = (length xs + q.0, omega (arith, q.1, length-append xs ys), subst (Appends a c) (sym (take-append-add xs ys q.0)) (Appends-trans a b c xs (take q.0 ys) p q.2))
+pub puts_both : (a b c : OutputState) (xs ys : List ℕ) (g h i : Bool) → Puts a b xs g h → Puts b c ys h i → Puts a c (xs ++ ys) g i
+puts_both a b c xs ys true true true p q = (Appends-trans a.bytes b.bytes c.bytes xs ys p.0 q.0, q.1 ∙ p.1)
+puts_both a b c xs ys true true false p q =
+    let front = q.0 in
+    let all = Appends-trans a.bytes b.bytes c.bytes xs (take front.0 ys) p.0 front.2 in
+    let some = subst (Appends a.bytes c.bytes) (sym (take-append-add xs ys front.0)) all in
+    ((length xs + front.0, omega (arith, front.1, length-append xs ys), some), q.1 ∙ p.1, subst IsTrue p.1 q.2)
 puts_both a b c xs ys true false false p q =
-    let all : Appends a c (take p.0 xs ++ []) = Appends-trans a b c (take p.0 xs) [] p.2 q in
-    (p.0, omega (arith, p.1, length-append xs ys), subst (Appends a c) (append-nil (take p.0 xs) ∙ sym (take-append-le p.0 xs ys p.1)) all)
+    let front = p.0 in
+    let all : Appends a.bytes c.bytes (take front.0 xs ++ []) = Appends-trans a.bytes b.bytes c.bytes (take front.0 xs) [] front.2 q.0 in
+    let some = subst (Appends a.bytes c.bytes) (append-nil (take front.0 xs) ∙ sym (take-append-le front.0 xs ys (omega (arith, front.1)))) all in
+    ((front.0, omega (arith, front.1, length-append xs ys), some), q.1 ∙ p.1, p.2)
 puts_both a b c xs ys true false true p q = absurd q
-puts_both a b c xs ys false false false p q = Appends-trans a b c [] [] p q
+puts_both a b c xs ys false false false p q = (Appends-trans a.bytes b.bytes c.bytes [] [] p.0 q.0, q.1 ∙ p.1)
 puts_both a b c xs ys false false true p q = absurd q
 puts_both a b c xs ys false true i p q = absurd p
 
-pub puts_three : (a b c d : Option (List ℕ)) (xs ys zs : List ℕ) (g h i j : Bool) → Puts a b xs g h → Puts b c ys h i → Puts c d zs i j → Puts a d (xs ++ ys ++ zs) g j
+pub puts_three : (a b c d : OutputState) (xs ys zs : List ℕ) (g h i j : Bool) → Puts a b xs g h → Puts b c ys h i → Puts c d zs i j → Puts a d (xs ++ ys ++ zs) g j
 puts_three a b c d xs ys zs g h i j p q r = puts_both a c d (xs ++ ys) zs g i j (puts_both a b c xs ys g h i p q) r
 
-pub puts_some : (a b : Option (List ℕ)) (bytes : List ℕ) (going : Bool) → Puts a b bytes true going → AppendsSome a b bytes
-puts_some a b bytes true p = (length bytes, omega arith, subst (Appends a b) (sym (take_all (length bytes) bytes (omega arith))) p)
-puts_some a b bytes false p = p
+pub puts_line : (a b : OutputState) (bytes : List ℕ) (going : Bool) → Puts a b bytes true going → PutsLine a b bytes
+puts_line a b bytes true p = inl p
+puts_line a b bytes false p = inr p
 
-pub puts_as : (a b : Option (List ℕ)) (xs ys : List ℕ) (g h : Bool) → xs ≡ ys → Puts a b xs g h → Puts a b ys g h
+pub puts_as : (a b : OutputState) (xs ys : List ℕ) (g h : Bool) → xs ≡ ys → Puts a b xs g h → Puts a b ys g h
 puts_as a b xs ys g h same p = subst (λ bytes. Puts a b bytes g h) same p
 
 -- ---- texts

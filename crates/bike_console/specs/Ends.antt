@@ -7,14 +7,16 @@ use Rattle.sqlite.specs.declared.error.ErrorCode.TheVariants as code
 use Rattle.bike_audit.specs.Audit.{row_name}
 use Rattle.bike_migrate.specs.Raising.{name_at}
 use Rattle.bike_migrate.specs.declared.fault.RaiseFault.{RaiseFault}
-use Rattle.bike_migrate.specs.declared.fault.RaiseFault.TheVariants as raise
+use Rattle.bike_migrate.specs.declared.fault.RaiseCause.{RaiseCause}
+use Rattle.bike_migrate.specs.declared.fault.RaiseCause.TheVariants as raise
 use Rattle.bike_fixed.specs.declared.day.DayFault.{DayFault}
 use Rattle.bike_fixed.specs.declared.day.DayFault.TheVariants as day
 use Rattle.bike_commands.specs.Refusals.{name_of as refusal_name}
 use Rattle.bike_desk.specs.declared.fault.DeskFault.{DeskFault}
 use Rattle.bike_desk.specs.declared.fault.DeskFault.TheVariants as desk
 use Rattle.bike_adoption.specs.declared.adoption.AdoptFault.{AdoptFault}
-use Rattle.bike_adoption.specs.declared.adoption.AdoptFault.TheVariants as adopt
+use Rattle.bike_adoption.specs.declared.adoption.AdoptCause.{AdoptCause}
+use Rattle.bike_adoption.specs.declared.adoption.AdoptCause.TheVariants as adopt
 use Rattle.bike_feeds.specs.declared.fault.FeedFault.{FeedFault}
 use Rattle.bike_feeds.specs.declared.fault.FeedFault.TheVariants as feed
 use Rattle.bike_days.specs.declared.fault.DayTableFault.{DayTableFault}
@@ -121,20 +123,26 @@ import_fault (stations.Row number refusal) = RowRefused number refusal
 import_fault stations.Read = ReadFailed
 import_fault (stations.Desk fault) = fault_of_desk fault
 
+abbrev pub adoption_fault : AdoptCause → Fault
+adoption_fault adopt.Foreign = Foreign
+adoption_fault (adopt.Unsound bad) = Unsound (record { earlier = None; row = bad })
+adoption_fault (adopt.Older version) = Older version
+adoption_fault (adopt.Newer version) = Newer version
+adoption_fault adopt.NoMemory = OutOfMemory
+adoption_fault adopt.StoreFailed = StoreFailed
+
 abbrev pub adopt_fault : {S : Type 0} → AdoptFault S → Fault
-adopt_fault (adopt.Foreign conn) = Foreign
-adopt_fault (adopt.Unsound conn bad) = Unsound (record { earlier = None; row = bad })
-adopt_fault (adopt.Older conn version) = Older version
-adopt_fault (adopt.Newer conn version) = Newer version
-adopt_fault (adopt.NoMemory conn) = OutOfMemory
-adopt_fault (adopt.StoreFailed conn) = StoreFailed
+adopt_fault fault = adoption_fault fault.cause
+
+abbrev pub raising_fault : RaiseCause → Fault
+raising_fault raise.Foreign = Foreign
+raising_fault (raise.Unsound bad) = Unsound bad
+raising_fault (raise.Newer version) = Newer version
+raising_fault raise.NoMemory = OutOfMemory
+raising_fault raise.StoreFailed = StoreFailed
 
 abbrev pub raise_fault : {S : Type 0} → RaiseFault S → Fault
-raise_fault (raise.Foreign conn) = Foreign
-raise_fault (raise.Unsound conn bad) = Unsound bad
-raise_fault (raise.Newer conn version) = Newer version
-raise_fault (raise.NoMemory conn) = OutOfMemory
-raise_fault (raise.StoreFailed conn) = StoreFailed
+raise_fault fault = raising_fault fault.cause
 
 -- the end of a run over lines, as the program tells it
 abbrev pub end_of : Result ℕ LinesFault → Result ℕ Fault

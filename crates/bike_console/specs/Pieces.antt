@@ -1,11 +1,11 @@
 -- How a key is told, and a line that is written in pieces.
-use Rattle.std.specs.Prelude.{ℕ, ◌==◌, ◌≤◌, List, [], ◌∷◌, ◌++◌, length, take, codes, if◌then◌else◌, Bool, true, false, Option}
-use Rattle.std.specs.Io.KnownBytes.{Appends}
+use Rattle.std.specs.Prelude.{ℕ, ◌==◌, ◌⊎◌, List, [], ◌∷◌, ◌++◌, codes, if◌then◌else◌, Bool, true, false}
 use Rattle.std.specs.Fmt.{signed_decimal}
 use Rattle.std.specs.Str.{is_utf8}
 use Rattle.sqlite_value.specs.declared.value.Value.{Value}
 use Rattle.sqlite_value.specs.declared.value.Value.TheVariants.{Int, Text}
 use Rattle.sqlite_value.specs.Order.{Row}
+use Rattle.bike_json.specs.Outputs.{OutputState, Takes, Refuses}
 
 -- a whole number in decimal, a text in UTF-8 as it is, and anything else `?`
 abbrev pub value_text : Value → List ℕ
@@ -23,13 +23,13 @@ key_text (v ∷ w ∷ more) = value_text v ++ 47 ∷ key_text (w ∷ more)
 abbrev pub bar : ℕ → List ℕ
 bar at = if at == 0 then [] else codes "/"
 
--- known bytes grow by a front of these, or by all of them
-abbrev pub AppendsSome : Option (List ℕ) → Option (List ℕ) → List ℕ → Type 0
-AppendsSome old new bytes = (k : ℕ) × (k ≤ length bytes) × Appends old new (take k bytes)
-
--- A piece is written where all before it are, and a front of it where that fails: whether all are, before and after.
-abbrev pub Puts : Option (List ℕ) → Option (List ℕ) → List ℕ → Bool → Bool → Type 0
-Puts old new bytes true true = Appends old new bytes
-Puts old new bytes true false = AppendsSome old new bytes
+-- A piece is written where all before it are, and a front of it, not all, where the output refuses bytes: whether all are, before and after.
+abbrev pub Puts : OutputState → OutputState → List ℕ → Bool → Bool → Type 0
+Puts old new bytes true true = Takes old new bytes
+Puts old new bytes true false = Refuses old new bytes
 Puts old new bytes false true = ⊥
-Puts old new bytes false false = Appends old new []
+Puts old new bytes false false = Takes old new []
+
+-- a line is written, or a front of it, not all, since the output refuses bytes
+abbrev pub PutsLine : OutputState → OutputState → List ℕ → Type 0
+PutsLine old new line = Takes old new line ⊎ Refuses old new line

@@ -1,30 +1,30 @@
 //! How the program ends: a line on standard error, and its exit status.
 
-ghost use Rattle.std.specs.Prelude.{◌≡◌, ◌++◌, codes};
+ghost use Rattle.std.specs.Prelude.{◌≡◌, ◌++◌, codes, Err};
 ghost use Rattle.std.specs.Fmt.{decimal};
 ghost use Rattle.std.specs.Process.{exit_status};
 ghost use Rattle.bike_adoption.specs.Adoption.{handed};
 ghost use Rattle.bike_migrate.specs.Raising.{handed as handed_back};
-ghost use Rattle.bike_console.specs.Pieces.{AppendsSome, Puts};
+ghost use Rattle.bike_console.specs.Pieces.{Puts, PutsLine};
 ghost use Rattle.bike_console.specs.Ends.{word_of, row_detail, detail_of, fault_status, status_of, line_of};
 ghost use Rattle.bike_console.specs.Ends.{adopt_fault, raise_fault, day_fault, fault_of_desk, feed_fault, import_fault, table_fault};
 
 use crate::pieces::{put, put_key, put_number};
-use bike_adoption::AdoptFault;
+use bike_adoption::{AdoptCause, AdoptFault};
 use bike_commands::Refusal;
 use bike_days::DayTableFault;
 use bike_desk::DeskFault;
 use bike_feeds::FeedFault;
 use bike_fixed::DayFault;
 use bike_imports::ImportFault;
+use bike_json::Output;
 use bike_lines::LinesFault;
-use bike_migrate::{RaiseFault, UnsoundRow};
+use bike_migrate::{RaiseCause, RaiseFault, UnsoundRow};
 use sqlite::{Alter, Connection, ErrorCode};
 use std::alloc::AllocError;
 use std::error::Error;
 use std::fmt;
 use std::fmt::{Display, Formatter};
-use std::io::Write;
 use std::process::ExitCode;
 
 /// What the program can't go on after.
@@ -172,17 +172,25 @@ impl Fault {
         ensures conn { result.0 ≡ handed fault }
         ensures told { result.1 ≡ adopt_fault fault }
     {
-        match fault {
-            AdoptFault::Foreign(conn) => (conn, Fault::Foreign),
-            AdoptFault::Unsound(conn, row) => {
-                let bad = UnsoundRow { earlier: None, row };
-                (conn, Fault::Unsound(bad))
-            }
-            AdoptFault::Older(conn, version) => (conn, Fault::Older(version)),
-            AdoptFault::Newer(conn, version) => (conn, Fault::Newer(version)),
-            AdoptFault::NoMemory(conn) => (conn, Fault::OutOfMemory),
-            AdoptFault::StoreFailed(conn) => (conn, Fault::StoreFailed),
-        }
+        let AdoptFault { conn, cause } = fault;
+        let told = match cause {
+            AdoptCause::Foreign => Fault::Foreign,
+            AdoptCause::Unsound(row) => Fault::Unsound(UnsoundRow { earlier: None, row }),
+            AdoptCause::Older(version) => Fault::Older(version),
+            AdoptCause::Newer(version) => Fault::Newer(version),
+            AdoptCause::NoMemory => Fault::OutOfMemory,
+            AdoptCause::StoreFailed => Fault::StoreFailed,
+        };
+        (conn, told)
+    }
+
+    /// The end of a task whose connection wasn't adopted: the connection that the adoption hands back, and its fault.
+    pub fn refused<S: Alter>(fault: AdoptFault<S>) -> (Connection<S>, Result<u64, Fault>)
+        ensures conn { result.0 ≡ handed fault }
+        ensures told { result.1 ≡ Err (adopt_fault fault) }
+    {
+        let (conn, told) = Fault::taken_from(fault);
+        (conn, Err(told))
     }
 
     /// The fault of a raise, and the connection that it hands back.
@@ -190,13 +198,15 @@ impl Fault {
         ensures conn { result.0 ≡ handed_back fault }
         ensures told { result.1 ≡ raise_fault fault }
     {
-        match fault {
-            RaiseFault::Foreign(conn) => (conn, Fault::Foreign),
-            RaiseFault::Unsound(conn, bad) => (conn, Fault::Unsound(bad)),
-            RaiseFault::Newer(conn, version) => (conn, Fault::Newer(version)),
-            RaiseFault::NoMemory(conn) => (conn, Fault::OutOfMemory),
-            RaiseFault::StoreFailed(conn) => (conn, Fault::StoreFailed),
-        }
+        let RaiseFault { conn, cause } = fault;
+        let told = match cause {
+            RaiseCause::Foreign => Fault::Foreign,
+            RaiseCause::Unsound(bad) => Fault::Unsound(bad),
+            RaiseCause::Newer(version) => Fault::Newer(version),
+            RaiseCause::NoMemory => Fault::OutOfMemory,
+            RaiseCause::StoreFailed => Fault::StoreFailed,
+        };
+        (conn, told)
     }
 }
 
@@ -256,7 +266,7 @@ impl From<sqlite::Error> for Fault {
 }
 
 /// Writes a version, and a space before it.
-fn put_version<W: Write>(out: &mut W, going: bool, version: u64) -> bool
+fn put_version<W: Output>(out: &mut W, going: bool, version: u64) -> bool
     ensures { Puts (W.contents out.old) (W.contents out.new) (codes " " ++ decimal version) going result }
 {
     let going = put(out, going, b" ");
@@ -264,7 +274,7 @@ fn put_version<W: Write>(out: &mut W, going: bool, version: u64) -> bool
 }
 
 /// Writes a row's number, with a space on either side, and what is wrong with it.
-fn put_row<W: Write>(out: &mut W, going: bool, number: u64, what: &str) -> bool
+fn put_row<W: Output>(out: &mut W, going: bool, number: u64, what: &str) -> bool
     ensures { Puts (W.contents out.old) (W.contents out.new) (row_detail number what.now) going result }
 {
     let going = put(out, going, b" ");
@@ -274,7 +284,7 @@ fn put_row<W: Write>(out: &mut W, going: bool, number: u64, what: &str) -> bool
 }
 
 /// Writes what is told of the fault behind its first words.
-fn put_detail<W: Write>(out: &mut W, going: bool, fault: &Fault) -> bool
+fn put_detail<W: Output>(out: &mut W, going: bool, fault: &Fault) -> bool
     ensures { Puts (W.contents out.old) (W.contents out.new) (detail_of fault.now) going result }
 {
     match fault {
@@ -293,11 +303,11 @@ fn put_detail<W: Write>(out: &mut W, going: bool, fault: &Fault) -> bool
 }
 
 /// Writes the fault at which the program ends, if there is one, as a line, and gives the exit status, which is the same
-/// where that line can't be written. A fault's line is its first words; `row` has the row's number behind them and
+/// where the output refuses a part of that line: then a front of it is written. A fault's line is its first words; `row` has the row's number behind them and
 /// the refusal's name or `unreadable`, `unsound` a table and a key, whose columns are parted by `/`, and `older` and `newer` a version.
-pub fn exit_code<W: Write>(errors: &mut W, end: &Result<u64, Fault>) -> ExitCode
+pub fn exit_code<W: Output>(errors: &mut W, end: &Result<u64, Fault>) -> ExitCode
     ensures status { exit_status result ≡ status_of end.now }
-    ensures told { AppendsSome (W.contents errors.old) (W.contents errors.new) (line_of end.now) }
+    ensures told { PutsLine (W.contents errors.old) (W.contents errors.new) (line_of end.now) }
 {
     match end {
         Ok(_) => ExitCode::SUCCESS,

@@ -28,7 +28,8 @@ pub const LEAST_LOG: usize = 32 + 24 + 512;
 
 /// The log and the database file at a path, which are made where they are missing.
 fn open_pair<F: Start>(rt: &HostRuntime, path: &str, start: F) -> Result<Files<FileFrom<F>>, Fault>
-    ensures usable { IfOk result (λ files. IsTrue (file_is_usable F.Start files.log) × IsTrue (file_is_usable F.Start files.db)) }
+    ensures usable { IfOk result (λ files.
+        IsTrue (file_is_usable F.Start files.log) × IsTrue (file_is_usable F.Start files.db)) }
     ensures fresh { IfOk result (λ files. IsFresh true files.log × IsFresh false files.db) }
     ensures barred { IfErr result TellsBarred }
 {
@@ -52,7 +53,8 @@ fn is_lone<D: Disk>(files: &mut Files<D>) -> Result<bool, Fault>
     requires db { IsTrue (D.Disk.is_usable files.old.db) }
     ensures lone { IfOk result (λ lone. AreClean D.Disk files.new.log files.new.db
         → IsTrue lone ↔ IsLoneLog (image_of D.Disk files.old)) }
-    ensures failed { IfErr result (λ told. (told ≡ Fault.StoreFailed) × MoreFaults (faults_of D.Disk files.old) (faults_of D.Disk files.new)) }
+    ensures failed { IfErr result (λ told.
+        (told ≡ Fault.StoreFailed) × MoreFaults (faults_of D.Disk files.old) (faults_of D.Disk files.new)) }
     ensures counts { faults_of D.Disk files.old ≤ faults_of D.Disk files.new }
     ensures log { OnlyReads D.Disk files.old.log files.new.log }
     ensures db { OnlyReads D.Disk files.old.db files.new.db }
@@ -84,7 +86,8 @@ fn open_database<F: Start>(
     start: F,
 ) -> Result<Connection<FileStore<FileFrom<F>>>, Fault>
     ensures opened { IfOk result (λ conn. HasCleanDisk (file_state conn) → IsOpened conn) }
-    ensures found { IfOk result (λ conn. HasCleanDisk (file_state conn) → FindsIn (image_at F.Start) (file_state conn)) }
+    ensures found { IfOk result (λ conn.
+        HasCleanDisk (file_state conn) → FindsIn (image_at F.Start) (file_state conn)) }
     ensures lone { IfOk result (λ conn. HasCleanDisk (file_state conn) → IsLoneLog (image_at F.Start) → ⊥) }
     ensures autocommit { IfOk result (λ conn. conn.in_transaction ≡ false) }
     ensures why { TellsUnopened (image_at F.Start) result }
@@ -119,7 +122,8 @@ fn refuse_added<S: Alter + Drop>(
 ) -> Result<Connection<S>, Fault>
     ensures same { IfOk result (λ it. it ≡ conn) }
     ensures own { IfOk result (λ it. has_added_unique (state S.Store it).now.schema ≡ false) }
-    ensures added { IfErr result (λ fault. (fault ≡ Foreign) × (has_added_unique (state S.Store conn).now.schema ≡ true)) }
+    ensures added { IfErr result (λ fault.
+        (fault ≡ Foreign) × (has_added_unique (state S.Store conn).now.schema ≡ true)) }
 {
     if has_added_unique(conn.schema()) {
         made.remove(rt);
@@ -139,7 +143,8 @@ pub fn open_file<F: Start>(
     start: F,
 ) -> Result<Connection<FileStore<FileFrom<F>>>, Fault>
     ensures opened { IfOk result (λ conn. HasCleanDisk (file_state conn) → IsOpened conn) }
-    ensures found { IfOk result (λ conn. HasCleanDisk (file_state conn) → FindsIn (image_at F.Start) (file_state conn)) }
+    ensures found { IfOk result (λ conn.
+        HasCleanDisk (file_state conn) → FindsIn (image_at F.Start) (file_state conn)) }
     ensures lone { IfOk result (λ conn. HasCleanDisk (file_state conn) → IsLoneLog (image_at F.Start) → ⊥) }
     ensures autocommit { IfOk result (λ conn. conn.in_transaction ≡ false) }
     ensures own { IfOk result (λ conn. has_added_unique (file_state conn).now.schema ≡ false) }

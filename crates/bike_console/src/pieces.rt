@@ -8,30 +8,29 @@ ghost use Rattle.sqlite_value.specs.Order.{column};
 ghost use Rattle.bike_judges.specs.Judging.{key_row};
 ghost use Rattle.bike_console.specs.Pieces.{Puts, bar, value_text, key_text};
 
+use bike_json::Output;
 use bike_judges::BadKey;
-use bike_stream::write_whole;
 use itoa::Buffer;
 use sqlite::Row;
 use sqlite::types::ValueRef;
-use std::io::Write;
 
-/// Writes a piece of a line where all before it are written, as `going` says, and says whether now all are. Where the output fails a
-/// front of the piece is written.
-pub fn put<W: Write>(out: &mut W, going: bool, bytes: &[u8]) -> bool
+/// Writes a piece of a line where all before it are written, as `going` says, and says whether now all are. Where the output refuses
+/// bytes a front of the piece is written, and not all.
+pub fn put<W: Output>(out: &mut W, going: bool, bytes: &[u8]) -> bool
     ensures { Puts (W.contents out.old) (W.contents out.new) bytes.now going result }
 {
-    going && write_whole(out, bytes).is_ok()
+    going && out.put(bytes).is_ok()
 }
 
 /// Writes a number in decimal, as `put` does a piece.
-pub fn put_number<W: Write>(out: &mut W, going: bool, number: u64) -> bool
+pub fn put_number<W: Output>(out: &mut W, going: bool, number: u64) -> bool
     ensures { Puts (W.contents out.old) (W.contents out.new) (decimal number) going result }
 {
     put(out, going, Buffer::new().format(number).as_bytes())
 }
 
 /// Writes a text where it is UTF-8, and else `?`.
-fn put_text<W: Write>(out: &mut W, going: bool, text: &[u8]) -> bool
+fn put_text<W: Output>(out: &mut W, going: bool, text: &[u8]) -> bool
     ensures { Puts (W.contents out.old) (W.contents out.new) (value_text (Text text.now)) going result }
 {
     match str::from_utf8(text) {
@@ -41,7 +40,7 @@ fn put_text<W: Write>(out: &mut W, going: bool, text: &[u8]) -> bool
 }
 
 /// Writes a value of a key.
-fn put_value<W: Write>(out: &mut W, going: bool, value: ValueRef<'_>) -> bool
+fn put_value<W: Output>(out: &mut W, going: bool, value: ValueRef<'_>) -> bool
     ensures { Puts (W.contents out.old) (W.contents out.new) (value_text (owned value.entry)) going result }
 {
     match value {
@@ -52,7 +51,7 @@ fn put_value<W: Write>(out: &mut W, going: bool, value: ValueRef<'_>) -> bool
 }
 
 /// Writes the `/` that stands before each column but the first.
-fn put_bar<W: Write>(out: &mut W, going: bool, at: usize) -> bool
+fn put_bar<W: Output>(out: &mut W, going: bool, at: usize) -> bool
     ensures { Puts (W.contents out.old) (W.contents out.new) (bar at) going result }
 {
     let bar = if at == 0 { "" } else { "/" };
@@ -60,7 +59,7 @@ fn put_bar<W: Write>(out: &mut W, going: bool, at: usize) -> bool
 }
 
 /// Writes a column of a key, and what stands before it.
-fn put_column<W: Write>(out: &mut W, going: bool, row: &Row, at: usize) -> bool
+fn put_column<W: Output>(out: &mut W, going: bool, row: &Row, at: usize) -> bool
     ensures { Puts (W.contents out.old) (W.contents out.new) (bar at ++ value_text (column row.now at)) going result }
 {
     let going = put_bar(out, going, at);
@@ -71,7 +70,7 @@ fn put_column<W: Write>(out: &mut W, going: bool, row: &Row, at: usize) -> bool
 }
 
 /// Writes a key of the first columns of a row.
-fn put_columns<W: Write>(out: &mut W, going: bool, row: &Row, keys: usize) -> bool
+fn put_columns<W: Output>(out: &mut W, going: bool, row: &Row, keys: usize) -> bool
     ensures { Puts (W.contents out.old) (W.contents out.new) (key_text (take keys row.now)) going result }
 {
     let end = keys.min(row.column_count());
@@ -85,7 +84,7 @@ fn put_columns<W: Write>(out: &mut W, going: bool, row: &Row, keys: usize) -> bo
 }
 
 /// Writes a key: its columns, parted by `/`. A text is written as it is, with its line feeds, if it has any.
-pub(crate) fn put_key<W: Write>(out: &mut W, going: bool, key: &BadKey) -> bool
+pub(crate) fn put_key<W: Output>(out: &mut W, going: bool, key: &BadKey) -> bool
     ensures { Puts (W.contents out.old) (W.contents out.new) (key_text (key_row key.now)) going result }
 {
     match key {

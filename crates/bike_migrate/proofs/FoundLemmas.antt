@@ -24,9 +24,9 @@ use Rattle.bike_earlier.specs.declared.found.Found.TheVariants as found
 use Rattle.bike_earlier.specs.Earlier.{number_of, IsAt}
 use Rattle.bike_earlier.specs.Found.{earlier_of, IsNewest, IsOfEarlier, IsByNumber, IsByVersion, IsFoundAs}
 use Rattle.bike_migrate.specs.Raised.{IsEarlier, Raises, tables_raised}
-use Rattle.bike_migrate.specs.Raising.{MayCommit, BecomesAt, RaisesInPlace, IsOutcome, MayCommitAny, ComesTo, outcome_of}
+use Rattle.bike_migrate.specs.Raising.{MayCommit, BecomesAt, RaisesInPlace, IsOutcome, MayCommitAny, ComesTo, cause_of}
 use Rattle.bike_migrate.specs.Verdicts.{AllGoodBefore, IsVerdictBefore}
-use Rattle.bike_migrate.specs.declared.raising.Outcome.{Outcome}
+use Rattle.bike_migrate.specs.declared.fault.RaiseCause.{RaiseCause}
 
 -- ---- found to be of an earlier version
 
@@ -135,7 +135,7 @@ module _ {S : Type 0} (g : Ghosts S) (old : Held S) where
     comes_survives = survives_then (state g old) (state g mid) (state g new) _ _ _ (λ clean db none. absurd none)
         (λ clean db may. (e, found_there clean, subst (λ d. MayCommit e d db) (same_there clean).0.now_is (may (was_there clean)))) (quiet_survives read.quiet tt) it.survives
 
-    raised_outcome : (bad : Option BadRow) → HasCleanDisk (state g new) → IsVerdictBefore (tables_raised e (state g mid).now) (option_map row_name bad) × BecomesAt g e mid new bad → IsOutcome g old new (outcome_of (Some e) bad)
+    raised_outcome : (bad : Option BadRow) → HasCleanDisk (state g new) → IsVerdictBefore (tables_raised e (state g mid).now) (option_map row_name bad) × BecomesAt g e mid new bad → IsOutcome g old new (cause_of (Some e) bad)
     raised_outcome None clean at =
         let same = same_there clean in
         inr (record {
@@ -151,11 +151,11 @@ module _ {S : Type 0} (g : Ghosts S) (old : Held S) where
           record { was_open = same.0.was_open; is_open = at.1.is_open; now_is = at.1.now_is ∙ same.0.now_is; committed_is = at.1.committed_is ∙ same.0.committed_is; mode = at.1.mode },
         )
 
-    pub comes_failed : {result : Result Outcome StatementFault} → IsErr result → ComesTo g old new result
+    pub comes_failed : {result : Result (Option RaiseCause) StatementFault} → IsErr result → ComesTo g old new result
     comes_failed {result = Ok o} is = absurd (let never = is in cc)
     comes_failed {result = Err f} is = record { comes = λ clean. tt; outside = tt; ended = ended; survives = comes_survives }
 
-    pub comes_raised : (bad : Option BadRow) → told ≡ Ok bad → ComesTo g old new (Ok (outcome_of (Some e) bad))
+    pub comes_raised : (bad : Option BadRow) → told ≡ Ok bad → ComesTo g old new (Ok (cause_of (Some e) bad))
     comes_raised bad is = record {
       comes = λ clean. raised_outcome bad clean (subst (λ r. IfOk r (λ b. IsVerdictBefore (tables_raised e (state g mid).now) (option_map row_name b) × BecomesAt g e mid new b)) is (it.ends clean (was_there clean)));
       outside = subst (λ r. OnOk r (new.in_transaction ≡ false)) is it.outside;

@@ -21,11 +21,10 @@ use Rattle.bike_earlier.specs.Found.{IsFoundAs}
 use Rattle.bike_earlier.specs.Stores.{StoresAt, StandsForAt, TreesStandForAt}
 use Rattle.bike_desk.proofs.KeepLemmas.{Settles, stands_in}
 use Rattle.bike_migrate.specs.Raised.{OthersKept, tables_raised}
-use Rattle.bike_migrate.specs.Raising.{Holds, IsUnsoundAt, IsUnsound, MayCommitAny, TreesStandSince, handed, failed, IsAsBefore, IsRaisedFrom, IsOutcome, ComesTo, IsToldOf, IsWant, IsOutside, IsRaise}
-use Rattle.bike_migrate.specs.declared.fault.RaiseFault.{RaiseFault}
-use Rattle.bike_migrate.specs.declared.fault.RaiseFault.TheVariants as fault
+use Rattle.bike_migrate.specs.Raising.{Holds, IsUnsoundAt, IsUnsound, MayCommitAny, TreesStandSince, failed, IsAsBefore, IsRaisedFrom, IsToldBy, IsOutcome, ComesTo, IsWantFor, IsOutsideFor, IsRaise}
+use Rattle.bike_migrate.specs.declared.fault.RaiseCause.{RaiseCause}
+use Rattle.bike_migrate.specs.declared.fault.RaiseCause.TheVariants as cause
 use Rattle.bike_migrate.specs.declared.fault.UnsoundRow.{UnsoundRow}
-use Rattle.bike_migrate.specs.declared.raising.Outcome.TheVariants as outcome
 use Rattle.bike_migrate.proofs.FoundLemmas.{found_earlier, found_has, found_none}
 use Rattle.bike_migrate.proofs.OperatorLemmas.{raised_for, stores_raised, good_stores, stored_all_good}
 use Rattle.bike_migrate.proofs.StandsLemmas.{stands_here, IsFoundOf, Nothing, Whole, Before, found_there}
@@ -117,29 +116,29 @@ module _ {S : Type 0} (g : Ghosts S) (settles : Settles g) (old : Held S) (settl
 
     -- ---- a fault
 
-    fault_owes : (e : RaiseFault S) → handed e ≡ new → IsOutside e → (HasCleanDisk (state g new) → IsToldOf g old e)
-        → ((v : Option Earlier) (s : Operator) → TreesStandForAt v s db.trees → HasCleanDisk (state g new) → IsWant e) → IsRaise g old (Err e)
-    fault_owes e back outside told refused = record {
-      clean = subst (λ h. doubt (state g old).is_clean ≤ doubt (state g h).is_clean) (sym back) survives.clean;
+    fault_owes : (why : RaiseCause) → IsOutsideFor new why → (HasCleanDisk (state g new) → IsToldBy g old new why)
+        → ((v : Option Earlier) (s : Operator) → TreesStandForAt v s db.trees → HasCleanDisk (state g new) → IsWantFor why) → IsRaise g old (Err (record { conn = new; cause = why }))
+    fault_owes why outside told refused = record {
+      clean = survives.clean;
       only = tt;
       others = tt;
       found = λ v s stands. tt;
-      refused = λ v s stands. subst (λ h. HasCleanDisk (state g h) → IsWant e) (sym back) (refused v s stands);
-      told = subst (λ h. HasCleanDisk (state g h) → IsToldOf g old e) (sym back) told;
+      refused = refused;
+      told = told;
       autocommit = outside;
-      ended = subst (λ h. HasCleanDisk (state g h) → h.in_transaction ≡ false) (sym back) ended;
-      crash = λ v s stands. subst (λ h. HasCleanDisk (state g h) → AllLeft (state g h) (λ trees. (state g old).may_leave trees ⊎ TreesStandFor s trees)) (sym back) (all_crash v s stands);
-      left = λ v s stands opened. subst (λ h. HasCleanDisk (state g h) → AllLeft (state g h) (TreesStandSince v s)) (sym back) (all_left v s stands opened);
-      stays = λ never. subst (λ h. HasCleanDisk (state g h) → AllLeft (state g h) (state g old).may_leave) (sym back) (all_stay never);
+      ended = ended;
+      crash = all_crash;
+      left = all_left;
+      stays = all_stay;
     }
 
     pub failed_owes : (f : StatementFault) → IsRaise g old (Err (failed f new))
     failed_owes statement.NoMemory = by new.in_transaction refl
       where
-        by : (is_open : Bool) → new.in_transaction ≡ is_open → IsRaise g old (Err (if is_open then fault.StoreFailed new else fault.NoMemory new))
-        by true is = fault_owes (fault.StoreFailed new) refl tt (λ clean. tt) (λ v s stands clean. tt)
-        by false is = fault_owes (fault.NoMemory new) refl is (λ clean. tt) (λ v s stands clean. tt)
-    failed_owes statement.StoreFailed = fault_owes (fault.StoreFailed new) refl tt (λ clean. tt) (λ v s stands clean. tt)
+        by : (is_open : Bool) → new.in_transaction ≡ is_open → IsRaise g old (Err (record { conn = new; cause = if is_open then cause.StoreFailed else cause.NoMemory }))
+        by true is = fault_owes cause.StoreFailed tt (λ clean. tt) (λ v s stands clean. tt)
+        by false is = fault_owes cause.NoMemory is (λ clean. tt) (λ v s stands clean. tt)
+    failed_owes statement.StoreFailed = fault_owes cause.StoreFailed tt (λ clean. tt) (λ v s stands clean. tt)
 
   -- ---- what the database is
 
@@ -152,25 +151,23 @@ module _ {S : Type 0} (g : Ghosts S) (settles : Settles g) (old : Held S) (settl
       by (Whole stores is) = newest is
       by (Before e stores is) = earlier e is
 
-  pub foreign_owes : ComesTo g old new (Ok outcome.Foreign) → IsRaise g old (Err (fault.Foreign new))
-  foreign_owes it = fault_owes it.survives it.ended (fault.Foreign new) refl it.outside it.comes
+  pub cause_owes : (why : RaiseCause) → ComesTo g old new (Ok (Some why)) → IsRaise g old (Err (record { conn = new; cause = why }))
+  cause_owes cause.Foreign it = fault_owes it.survives it.ended cause.Foreign it.outside it.comes
       (λ v s stands clean. let at = it.comes clean in absurd (not_found found.Foreign at.1 at.0 (λ is. cc) (λ is. cc) (λ e is. cc) v s stands))
-
-  pub newer_owes : (version : ℕ) → ComesTo g old new (Ok (outcome.Newer version)) → IsRaise g old (Err (fault.Newer new version))
-  newer_owes version it = fault_owes it.survives it.ended (fault.Newer new version) refl it.outside it.comes
+  cause_owes (cause.Newer version) it = fault_owes it.survives it.ended (cause.Newer version) it.outside it.comes
       (λ v s stands clean. let at = it.comes clean in absurd (not_found (found.Newer version) at.1 at.0 (λ is. cc) (λ is. cc) (λ e is. cc) v s stands))
-
-  pub unsound_owes : (bad : UnsoundRow) → ComesTo g old new (Ok (outcome.Unsound bad)) → IsRaise g old (Err (fault.Unsound new bad))
-  unsound_owes bad it = fault_owes it.survives it.ended (fault.Unsound new bad) refl it.outside it.comes
+  cause_owes (cause.Unsound bad) it = fault_owes it.survives it.ended (cause.Unsound bad) it.outside it.comes
       (λ v s stands clean. let at = it.comes clean in absurd (unsound_never db v s (stands_here db (live at.1.was_open).0 v s stands) bad at.0))
+  cause_owes cause.NoMemory it = fault_owes it.survives it.ended cause.NoMemory it.outside (λ clean. tt) (λ v s stands clean. tt)
+  cause_owes cause.StoreFailed it = fault_owes it.survives it.ended cause.StoreFailed tt (λ clean. tt) (λ v s stands clean. tt)
 
   -- ---- it is ready
 
-  module _ (it : ComesTo g old new (Ok outcome.Ready)) where
+  module _ (it : ComesTo g old new (Ok None)) where
     ready_only : HasCleanDisk (state g new) → (v : Option Earlier) × (s : Operator) × StandsForAt v db s × Holds (state g new) s
     ready_only clean = by (it.comes clean)
       where
-        by : IsOutcome g old new outcome.Ready → (v : Option Earlier) × (s : Operator) × StandsForAt v db s × Holds (state g new) s
+        by : IsOutcome g old new None → (v : Option Earlier) × (s : Operator) × StandsForAt v db s × Holds (state g new) s
         by (inl (inl (is, verdict, before))) =
             let stores = stored_good db (found_has db is) verdict in
             (None, operator_of (tables_of db), record { sound = (live before.was_open).0; is = inr stores }, holds_before (operator_of (tables_of db)) before (inr stores))
@@ -187,7 +184,7 @@ module _ {S : Type 0} (g : Ghosts S) (settles : Settles g) (old : Held S) (settl
     ready_others : HasCleanDisk (state g new) → OthersKept db (state g new).now
     ready_others clean = by (it.comes clean)
       where
-        by : IsOutcome g old new outcome.Ready → OthersKept db (state g new).now
+        by : IsOutcome g old new None → OthersKept db (state g new).now
         by (inl (inl (is, verdict, before))) = subst (OthersKept db) (sym before.now_is) kept_same
         by (inl (inr (is, before))) = subst (OthersKept db) (sym before.now_is) kept_same
         by (inr raised) = raised.raises.others
@@ -216,7 +213,7 @@ module _ {S : Type 0} (g : Ghosts S) (settles : Settles g) (old : Held S) (settl
               let here : StoresAt raised.earlier db s = subst (λ x. StoresAt x db s) (sym (same_of raised.earlier e is)) stores in
               holds_raised s raised (stores_raised raised.earlier db (state g new).now raised.raises.raised s here)
 
-          by : IsOutcome g old new outcome.Ready → Holds (state g new) s
+          by : IsOutcome g old new None → Holds (state g new) s
           by (inl (inl (is, verdict, before))) = newest (there found.Newest before.was_open is) before
           by (inl (inr (is, before))) = empty (there found.Empty before.was_open is) before
           by (inr raised) = earlier raised (there (found.Of raised.earlier) raised.shown.was_open raised.found)

@@ -25,12 +25,10 @@ use Rattle.bike_earlier.specs.Found.{IsFoundAs}
 use Rattle.bike_earlier.specs.Stores.{StandsForAt, TreesStandForAt}
 use Rattle.bike_migrate.specs.Raised.{IsEarlier, tables_raised, OthersKept, Raises}
 use Rattle.bike_migrate.specs.Verdicts.{AllGoodBefore, IsFirstBadBefore, IsVerdictBefore}
+use Rattle.bike_migrate.specs.declared.fault.RaiseCause.{RaiseCause}
+use Rattle.bike_migrate.specs.declared.fault.RaiseCause.TheVariants.{Foreign, Unsound, Newer, NoMemory, StoreFailed}
 use Rattle.bike_migrate.specs.declared.fault.RaiseFault.{RaiseFault}
-use Rattle.bike_migrate.specs.declared.fault.RaiseFault.TheVariants.{Foreign, Unsound, Newer, NoMemory, StoreFailed}
 use Rattle.bike_migrate.specs.declared.fault.UnsoundRow.{UnsoundRow}
-use Rattle.bike_migrate.specs.declared.raising.Outcome.{Outcome}
-use Rattle.bike_migrate.specs.declared.raising.Outcome.TheVariants.{Ready}
-use Rattle.bike_migrate.specs.declared.raising.Outcome.TheVariants as outcome
 
 -- ---- a bad row
 
@@ -84,10 +82,24 @@ pub record IsJudged (e : Earlier) (old new : Database) (bad : Option (TableName 
   pub verdict : IsVerdictBefore (tables_raised e old) bad
   pub becomes : Becomes e old new bad
 
--- the outcome where this is the first bad row of the version, or none is bad
-abbrev pub outcome_of : Option Earlier → Option BadRow → Outcome
-outcome_of v None = Ready
-outcome_of v (Some row) = outcome.Unsound (record { earlier = v; row = row })
+-- why it isn't raised, where this is the first bad row of the version, if any is bad
+abbrev pub cause_of : Option Earlier → Option BadRow → Option RaiseCause
+cause_of v None = None
+cause_of v (Some row) = Some (Unsound (record { earlier = v; row = row }))
+
+-- the word that tells the cause
+abbrev pub word_of : RaiseCause → List ℕ
+word_of Foreign = codes "foreign"
+word_of (Unsound bad) = codes "unsound"
+word_of (Newer version) = codes "newer"
+word_of NoMemory = codes "out of memory"
+word_of StoreFailed = codes "store failed"
+
+-- it tells nothing of the database
+abbrev pub IsWantFor : RaiseCause → Type 0
+IsWantFor NoMemory = Unit {0}
+IsWantFor StoreFailed = Unit {0}
+IsWantFor _ = ⊥
 
 module _ {S : Type 0} (g : Ghosts S) where
   -- On a database of the version: a transaction is begun, and what it sees was judged. Nothing is committed.
@@ -144,14 +156,22 @@ module _ {S : Type 0} (g : Ghosts S) where
       (IsFoundAs (state g old).now found.Newest × IsVerdict (tables_of (state g old).now) None × IsAsBefore old new)
       ⊎ (IsFoundAs (state g old).now found.Empty × IsAsBefore old new)
 
-  -- what came of it
-  abbrev pub IsOutcome : Held S → Held S → Outcome → Type 0
-  IsOutcome old new Ready = IsReady old new ⊎ IsRaisedFrom old new
-  IsOutcome old new outcome.Foreign = IsFoundAs (state g old).now found.Foreign × IsAsBefore old new
-  IsOutcome old new (outcome.Unsound bad) = IsUnsound (state g old).now bad × IsAsBefore old new
-  IsOutcome old new (outcome.Newer version) = IsFoundAs (state g old).now (found.Newer version) × IsAsBefore old new
+  -- What the cause tells of the database. Want of memory and a failed store tell nothing of it.
+  abbrev pub IsToldBy : Held S → Held S → RaiseCause → Type 0
+  IsToldBy old c Foreign = IsFoundAs (state g old).now found.Foreign × IsAsBefore old c
+  IsToldBy old c (Unsound bad) = IsUnsound (state g old).now bad × IsAsBefore old c
+  IsToldBy old c (Newer version) = IsFoundAs (state g old).now (found.Newer version) × IsAsBefore old c
+  IsToldBy old c NoMemory = Unit {0}
+  IsToldBy old c StoreFailed = Unit {0}
 
-  pub record ComesTo (old new : Held S) (result : Result Outcome StatementFault) : Type 0 where
+  -- what came of it: it is of the newest version, or told to be something else
+  abbrev pub IsOutcome : Held S → Held S → Option RaiseCause → Type 0
+  IsOutcome old new None = IsReady old new ⊎ IsRaisedFrom old new
+  IsOutcome old new (Some NoMemory) = ⊥
+  IsOutcome old new (Some StoreFailed) = ⊥
+  IsOutcome old new (Some cause) = IsToldBy old new cause
+
+  pub record ComesTo (old new : Held S) (result : Result (Option RaiseCause) StatementFault) : Type 0 where
     pub comes : HasCleanDisk (state g new) → IfOk result (IsOutcome old new)
     pub outside : OnOk result (new.in_transaction ≡ false)
     pub ended : HasCleanDisk (state g new) → new.in_transaction ≡ false
@@ -160,43 +180,31 @@ module _ {S : Type 0} (g : Ghosts S) where
 module _ {S : Type 0} where
   -- the connection in a fault
   abbrev pub handed : RaiseFault S → Held S
-  handed (Foreign c) = c
-  handed (Unsound c bad) = c
-  handed (Newer c version) = c
-  handed (NoMemory c) = c
-  handed (StoreFailed c) = c
+  handed e = e.conn
 
-  -- a statement failed on the connection; where its transaction is open still, the store failed to undo that
+  -- why, where a statement failed on the connection: where its transaction is open still, the store failed to undo that
+  abbrev pub failure : StatementFault → Held S → RaiseCause
+  failure statement.NoMemory c = if c.in_transaction then StoreFailed else NoMemory
+  failure statement.StoreFailed c = StoreFailed
+
   abbrev pub failed : StatementFault → Held S → RaiseFault S
-  failed statement.NoMemory c = if c.in_transaction then StoreFailed c else NoMemory c
-  failed statement.StoreFailed c = StoreFailed c
+  failed fault c = record { conn = c; cause = failure fault c }
 
-  -- the word that tells the fault
-  abbrev pub line_of : RaiseFault S → List ℕ
-  line_of (Foreign c) = codes "foreign"
-  line_of (Unsound c bad) = codes "unsound"
-  line_of (Newer c version) = codes "newer"
-  line_of (NoMemory c) = codes "out of memory"
-  line_of (StoreFailed c) = codes "store failed"
-
-  -- What a fault tells of the database. Want of memory and a failed store tell nothing of it.
+  -- what a fault tells of the database
   abbrev pub IsToldOf : Ghosts S → Held S → RaiseFault S → Type 0
-  IsToldOf g old (Foreign c) = IsFoundAs (state g old).now found.Foreign × IsAsBefore g old c
-  IsToldOf g old (Unsound c bad) = IsUnsound (state g old).now bad × IsAsBefore g old c
-  IsToldOf g old (Newer c version) = IsFoundAs (state g old).now (found.Newer version) × IsAsBefore g old c
-  IsToldOf g old (NoMemory c) = Unit {0}
-  IsToldOf g old (StoreFailed c) = Unit {0}
+  IsToldOf g old e = IsToldBy g old e.conn e.cause
 
   -- a fault that tells nothing of the database
   abbrev pub IsWant : RaiseFault S → Type 0
-  IsWant (NoMemory c) = Unit {0}
-  IsWant (StoreFailed c) = Unit {0}
-  IsWant _ = ⊥
+  IsWant e = IsWantFor e.cause
 
-  -- the connection comes back outside a transaction; where the store failed, the engine says so of a clean disk alone
+  -- the connection is outside a transaction; where the store failed, the engine says so of a clean disk alone
+  abbrev pub IsOutsideFor : Held S → RaiseCause → Type 0
+  IsOutsideFor c StoreFailed = Unit {0}
+  IsOutsideFor c _ = c.in_transaction ≡ false
+
   abbrev pub IsOutside : RaiseFault S → Type 0
-  IsOutside (StoreFailed c) = Unit {0}
-  IsOutside e = (handed e).in_transaction ≡ false
+  IsOutside e = IsOutsideFor e.conn e.cause
 
   -- WHAT A RAISE OWES: the connection to a database that stands, at the newest version, for the operator for whom it stood at its own, or a fault
   -- that hands the connection back

@@ -2,7 +2,7 @@
 
 ghost use Rattle.std.specs.Prelude.{◌≡◌};
 ghost use Rattle.bike_audit.specs.Audit.{row_name};
-ghost use Rattle.bike_migrate.specs.Raising.{handed, failed, name_at};
+ghost use Rattle.bike_migrate.specs.Raising.{failed, name_at};
 
 use bike_audit::BadRow;
 use bike_earlier::Earlier;
@@ -32,62 +32,68 @@ impl UnsoundRow {
     }
 }
 
-/// Why a connection wasn't raised. Each fault hands it back outside a transaction, the last where the disk is clean.
-#[derive(Drop)]
-pub enum RaiseFault<S: Alter> {
+/// Why a connection wasn't raised.
+#[derive(Debug, Drop)]
+pub enum RaiseCause {
     /// The database has some of the product's names, and isn't the product's. It is as it was.
-    Foreign(Connection<S>),
+    Foreign,
     /// The tables stand for no operator: this is the first row that is not an operator's. The database is as it was.
-    Unsound(Connection<S>, UnsoundRow),
+    Unsound(UnsoundRow),
     /// The database is of this later version of the schema. It is as it was.
-    Newer(Connection<S>, u64),
+    Newer(u64),
     /// Memory was refused. What is stored stands for the operator for whom it stood.
-    NoMemory(Connection<S>),
+    NoMemory,
     /// The store failed, or failed to undo what was begun before memory was refused. What is stored stands for the operator for whom
     /// it stood.
-    StoreFailed(Connection<S>),
+    StoreFailed,
+}
+
+impl Display for RaiseCause {
+    ghost use Rattle.std.specs.Prelude.{Some};
+    ghost use Rattle.bike_migrate.specs.Raising.{word_of};
+
+    ghost output = { λ cause. Some (word_of cause) };
+
+    fn fmt<W: fmt::Write>(&self, f: &mut Formatter<W>) -> fmt::Result {
+        match self {
+            RaiseCause::Foreign => f.write_str("foreign"),
+            RaiseCause::Unsound(_) => f.write_str("unsound"),
+            RaiseCause::Newer(_) => f.write_str("newer"),
+            RaiseCause::NoMemory => f.write_str("out of memory"),
+            RaiseCause::StoreFailed => f.write_str("store failed"),
+        }
+    }
+}
+
+/// A connection that wasn't raised, and why. It is outside a transaction; after `StoreFailed` where the disk is clean.
+#[derive(Drop)]
+pub struct RaiseFault<S: Alter> {
+    pub conn: Connection<S>,
+    pub cause: RaiseCause,
 }
 
 impl<S: Alter> RaiseFault<S> {
-    /// The connection that was handed in.
-    pub fn into_connection(self) -> Connection<S>
-        ensures { result ≡ handed self }
-    {
-        match self {
-            RaiseFault::Foreign(conn) => conn,
-            RaiseFault::Unsound(conn, _) => conn,
-            RaiseFault::Newer(conn, _) => conn,
-            RaiseFault::NoMemory(conn) => conn,
-            RaiseFault::StoreFailed(conn) => conn,
-        }
-    }
-
-    /// Why a statement on the connection failed. Where its transaction is open still, the store failed to undo that.
+    /// A statement on the connection failed. Where its transaction is open still, the store failed to undo that.
     pub(crate) fn failed(fault: StatementFault, conn: Connection<S>) -> RaiseFault<S>
         ensures { result ≡ failed fault conn }
     {
         let is_outside = conn.is_autocommit();
-        match fault {
-            StatementFault::NoMemory if is_outside => RaiseFault::NoMemory(conn),
-            StatementFault::NoMemory | StatementFault::StoreFailed => RaiseFault::StoreFailed(conn),
-        }
+        let cause = match fault {
+            StatementFault::NoMemory if is_outside => RaiseCause::NoMemory,
+            StatementFault::NoMemory | StatementFault::StoreFailed => RaiseCause::StoreFailed,
+        };
+        RaiseFault { conn, cause }
     }
 }
 
 impl<S: Alter> Display for RaiseFault<S> {
     ghost use Rattle.std.specs.Prelude.{Some};
-    ghost use Rattle.bike_migrate.specs.Raising.{line_of};
+    ghost use Rattle.bike_migrate.specs.Raising.{word_of};
 
-    ghost output = { λ fault. Some (line_of fault) };
+    ghost output = { λ fault. Some (word_of fault.cause) };
 
     fn fmt<W: fmt::Write>(&self, f: &mut Formatter<W>) -> fmt::Result {
-        match self {
-            RaiseFault::Foreign(_) => f.write_str("foreign"),
-            RaiseFault::Unsound(_, _) => f.write_str("unsound"),
-            RaiseFault::Newer(_, _) => f.write_str("newer"),
-            RaiseFault::NoMemory(_) => f.write_str("out of memory"),
-            RaiseFault::StoreFailed(_) => f.write_str("store failed"),
-        }
+        Display::fmt(&self.cause, f)
     }
 }
 

@@ -14,5 +14,5 @@ mod raising;
 mod stations;
 
 pub use bike_audit::{BadRow, Unwatched, Watch};
-pub use fault::{RaiseFault, UnsoundRow};
+pub use fault::{RaiseCause, RaiseFault, UnsoundRow};
 pub use raising::{raise, raise_watched};

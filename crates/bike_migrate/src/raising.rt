@@ -7,10 +7,10 @@ ghost use Rattle.bike_audit.specs.Audit.{row_name, IsVerdictOn};
 ghost use Rattle.bike_recognition.specs.Recognition.{ReadsAny};
 ghost use Rattle.bike_migrate.specs.Calls.{DoesInside};
 ghost use Rattle.bike_migrate.specs.Raised.{IsEarlier, old_stations};
-ghost use Rattle.bike_migrate.specs.Raising.{IsJudged, Attempts, EndsTransaction, RaisesInPlace, outcome_of, ComesTo, IsRaise};
+ghost use Rattle.bike_migrate.specs.Raising.{IsJudged, Attempts, EndsTransaction, RaisesInPlace, cause_of, ComesTo, IsRaise};
 
 use crate::build::{build, drop_stations};
-use crate::fault::{RaiseFault, UnsoundRow};
+use crate::fault::{RaiseCause, RaiseFault, UnsoundRow};
 use crate::judge::judge;
 use crate::stations::read_stations;
 use bike_audit::{BadRow, Finding, Unwatched, Watch, audit};
@@ -156,46 +156,34 @@ fn audit_newest<S: Alter, P: Watch>(
     }
 }
 
-/// What came of a database.
-enum Outcome {
-    /// It is of the newest version.
-    Ready,
-    /// It isn't the product's.
-    Foreign,
-    /// This row is no operator's.
-    Unsound(UnsoundRow),
-    /// It is of this later version.
-    Newer(u64),
-}
-
-/// The bad row, if there is one.
-fn outcome_of(earlier: Option<Earlier>, bad: Option<BadRow>) -> Outcome
-    ensures { result ≡ outcome_of earlier bad }
+/// Why it isn't raised, where a row is bad.
+fn cause_of(earlier: Option<Earlier>, bad: Option<BadRow>) -> Option<RaiseCause>
+    ensures { result ≡ cause_of earlier bad }
 {
     match bad {
-        None => Outcome::Ready,
-        Some(row) => Outcome::Unsound(UnsoundRow { earlier, row }),
+        None => None,
+        Some(row) => Some(RaiseCause::Unsound(UnsoundRow { earlier, row })),
     }
 }
 
-/// What comes of a database. No transaction is open then.
+/// Brings the database to the newest version, or tells what it is in place of that. No transaction is open then.
 fn raise_any<S: Alter, P: Watch>(
     alloc: Global,
     conn: &mut Connection<S>,
     watch: &mut P,
-) -> Result<Outcome, StatementFault>
+) -> Result<Option<RaiseCause>, StatementFault>
     requires { conn.old.in_transaction ≡ false }
     ensures { ComesTo S.Store conn.old conn.new result }
 {
     match find_version_of(alloc, conn)? {
-        Found::Empty => Ok(Outcome::Ready),
-        Found::Newest => Ok(outcome_of(None, audit_newest(alloc, conn, watch)?)),
-        Found::Of(earlier) => Ok(outcome_of(
+        Found::Empty => Ok(None),
+        Found::Newest => Ok(cause_of(None, audit_newest(alloc, conn, watch)?)),
+        Found::Of(earlier) => Ok(cause_of(
             Some(earlier),
             raise_earlier(alloc, conn, earlier, watch)?,
         )),
-        Found::Newer(version) => Ok(Outcome::Newer(version)),
-        Found::Foreign => Ok(Outcome::Foreign),
+        Found::Newer(version) => Ok(Some(RaiseCause::Newer(version))),
+        Found::Foreign => Ok(Some(RaiseCause::Foreign)),
     }
 }
 
@@ -224,10 +212,8 @@ pub fn raise_watched<S: Alter, P: Watch>(
 {
     is_at_rest(&conn);
     match raise_any(alloc, &mut conn, watch) {
-        Ok(Outcome::Ready) => Ok(conn),
-        Ok(Outcome::Foreign) => Err(RaiseFault::Foreign(conn)),
-        Ok(Outcome::Unsound(bad)) => Err(RaiseFault::Unsound(conn, bad)),
-        Ok(Outcome::Newer(version)) => Err(RaiseFault::Newer(conn, version)),
+        Ok(None) => Ok(conn),
+        Ok(Some(cause)) => Err(RaiseFault { conn, cause }),
         Err(fault) => Err(RaiseFault::failed(fault, conn)),
     }
 }

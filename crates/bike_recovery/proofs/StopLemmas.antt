@@ -4,8 +4,9 @@ use Rattle.std.proofs.Math.Logic.{∥∥₁_elim}
 use Rattle.sqlite_trees.specs.declared.store.Store.{Ghosts}
 use Rattle.sqlite.specs.Held.{Held}
 use Rattle.bike_adoption.specs.declared.adoption.AdoptFault.{AdoptFault}
-use Rattle.bike_adoption.specs.declared.adoption.AdoptFault.TheVariants.{Foreign, Unsound, Older, Newer, NoMemory, StoreFailed}
-use Rattle.bike_adoption.specs.Adoption.{IsWant}
+use Rattle.bike_adoption.specs.declared.adoption.AdoptCause.{AdoptCause}
+use Rattle.bike_adoption.specs.declared.adoption.AdoptCause.TheVariants.{Foreign, Unsound, Older, Newer, NoMemory, StoreFailed}
+use Rattle.bike_adoption.specs.Adoption.{IsWant, IsWantFor}
 use Rattle.bike_recovery.specs.declared.reopening.Shut.{Shut}
 use Rattle.bike_recovery.specs.declared.reopening.Shut.TheVariants as shut
 use Rattle.bike_recovery.specs.Reopening.{IsShut}
@@ -17,10 +18,13 @@ shut_only g conn (shut.NoMemory left) is = tt
 shut_only g conn (shut.StoreFailed left) is = λ clean. let more = is clean in omega (arith, more)
 
 -- a fault that is somehow a want is one
+want_for : (cause : AdoptCause) → ∥ IsWantFor cause ∥₁ → IsWantFor cause
+want_for Foreign is = ∥∥₁_elim is (λ x y. absurd x) (λ x. x)
+want_for (Unsound bad) is = ∥∥₁_elim is (λ x y. absurd x) (λ x. x)
+want_for (Older version) is = ∥∥₁_elim is (λ x y. absurd x) (λ x. x)
+want_for (Newer version) is = ∥∥₁_elim is (λ x y. absurd x) (λ x. x)
+want_for NoMemory is = tt
+want_for StoreFailed is = tt
+
 pub want_somehow : {S : Type 0} (e : AdoptFault S) → ∥ IsWant e ∥₁ → IsWant e
-want_somehow (Foreign c) is = ∥∥₁_elim is (λ x y. absurd x) (λ x. x)
-want_somehow (Unsound c bad) is = ∥∥₁_elim is (λ x y. absurd x) (λ x. x)
-want_somehow (Older c version) is = ∥∥₁_elim is (λ x y. absurd x) (λ x. x)
-want_somehow (Newer c version) is = ∥∥₁_elim is (λ x y. absurd x) (λ x. x)
-want_somehow (NoMemory c) is = tt
-want_somehow (StoreFailed c) is = tt
+want_somehow e is = want_for e.cause is

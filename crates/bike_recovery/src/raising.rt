@@ -45,7 +45,7 @@ fn raise_anyhow<S: Alter>(alloc: Global, conn: Connection<S>) -> Connection<S>
 {
     match raise(alloc, conn) {
         Ok(conn) => conn,
-        Err(fault) => fault.into_connection(),
+        Err(fault) => fault.conn,
     }
 }
 

@@ -1,15 +1,13 @@
-use Rattle.std.proofs.Common.{[], rules, not, inl, refl, ap, ◌∙◌, subst, sym}
+use Rattle.std.proofs.Common.{[], rules, inl, refl, subst, sym}
 use Rattle.std.proofs.lemmas.Result.{IfOk-weaker, IfErr-weaker}
 use Rattle.sqlite.specs.Held.{state}
 use Rattle.bike_operator.specs.Operator.{no_operator}
 use Rattle.bike_schema.specs.Tables.{HasNone}
-use Rattle.bike_schema.specs.Stands.{AllLeft, TreesStandFor}
-use Rattle.sqlite.specs.State.{HasCleanDisk}
-use Rattle.bike_adoption.specs.Adoption.{handed, IsWant}
+use Rattle.bike_adoption.specs.Adoption.{IsWantFor, LeavesAll, LeavesFor, LeavesOrStands}
 use Rattle.bike_audit.proofs.ToldLemmas.{told_nothing}
 use Rattle.bike_adoption.proofs.ToldLemmas.{told_begun, told_found, told_failed}
-use Rattle.bike_adoption.proofs.AdoptLemmas.{nobody_at, handed_failed, want_of}
-use Rattle.bike_adoption.proofs.FoundLemmas.{stays_left, still_stands, found_clean, found_only, found_others, found_at, found_told, found_refused, handed_back}
+use Rattle.bike_adoption.proofs.AdoptLemmas.{nobody_at, left_of, want_of}
+use Rattle.bike_adoption.proofs.FoundLemmas.{stays_left, crash_left, still_stands, found_clean, found_only, found_others, found_at, found_told, found_refused, handed_back}
 use Rattle.bike_adoption.proofs.adoption.adopt_watched.Goals as goal
 
 pub returns-then-has_none-clause-adopts : goal.returns-then-has_none-clause-adopts
@@ -20,10 +18,11 @@ returns-then-has_none-clause-adopts g c =
       only = IfOk-weaker c.begin.result _ _ (λ d begun clean. (no_operator, inl (none, refl), (begun clean).at)) (c.begin.ensures.begun none);
       others = IfOk-weaker c.begin.result _ _ (λ d begun clean. (begun clean).others) (c.begin.ensures.begun none);
       found = λ s stands. IfOk-weaker c.begin.result _ _ (λ d begun clean. nobody_at g.S.Store c.args.conn d s c.is_at_rest.ensures.live (begun clean).was_open none stands (begun clean).at) (c.begin.ensures.begun none);
-      refused = λ s stands. IfErr-weaker c.begin.result _ _ (λ e told clean. subst IsWant (sym told.1) (want_of told.0 (handed e))) c.begin.ensures.told;
+      refused = λ s stands. IfErr-weaker c.begin.result _ _ (λ e told clean. subst IsWantFor (sym told.1) (want_of told.0)) c.begin.ensures.told;
       told = search rules;
       autocommit = search rules;
-      left = λ s stands live. c.begin.ensures.left none s stands live;
+      crash = c.begin.ensures.crash none;
+      left = λ s stands live. IfErr-weaker c.begin.result _ _ (λ e crash. left_of g.S.Store g.met.S.Store.settled c.args.conn c.is_at_rest.ensures.settled e.conn s stands live crash) (c.begin.ensures.crash none s stands);
       stays = λ never. absurd (never no_operator (inl (none, refl)));
     }
 
@@ -39,9 +38,11 @@ returns-in-Ok-clause-adopts g c =
           rw c.found.ensures (found_refused g.S.Store g.met.S.Store.settled c.args.conn c.audit.new.conn c.requires settled c.is_at_rest.ensures.live c.in-Ok.finding c.in-Ok.ensures.audited s stands some);
       told = rw c.found.ensures (found_told g.S.Store g.met.S.Store.settled c.args.conn c.audit.new.conn c.requires settled c.is_at_rest.ensures.live c.in-Ok.finding c.in-Ok.ensures.audited);
       autocommit = search rules;
-      left = λ s stands live. rw c.found.ensures (handed_back g.S.Store g.met.S.Store.settled c.args.conn c.audit.new.conn c.requires settled c.is_at_rest.ensures.live c.in-Ok.finding c.in-Ok.ensures.audited (λ h. HasCleanDisk (state g.S.Store h) → AllLeft (state g.S.Store h) (TreesStandFor s))
+      crash = λ s stands. rw c.found.ensures (handed_back g.S.Store g.met.S.Store.settled c.args.conn c.audit.new.conn c.requires settled c.is_at_rest.ensures.live c.in-Ok.finding c.in-Ok.ensures.audited (LeavesOrStands g.S.Store c.args.conn s)
+          (crash_left g.S.Store g.met.S.Store.settled c.args.conn c.audit.new.conn c.requires settled c.is_at_rest.ensures.live c.in-Ok.ensures.audited.quiet s));
+      left = λ s stands live. rw c.found.ensures (handed_back g.S.Store g.met.S.Store.settled c.args.conn c.audit.new.conn c.requires settled c.is_at_rest.ensures.live c.in-Ok.finding c.in-Ok.ensures.audited (LeavesFor g.S.Store s)
           (still_stands g.S.Store g.met.S.Store.settled c.args.conn c.audit.new.conn c.requires settled c.is_at_rest.ensures.live c.in-Ok.ensures.audited.quiet s stands live));
-      stays = λ never. rw c.found.ensures (handed_back g.S.Store g.met.S.Store.settled c.args.conn c.audit.new.conn c.requires settled c.is_at_rest.ensures.live c.in-Ok.finding c.in-Ok.ensures.audited (λ h. HasCleanDisk (state g.S.Store h) → AllLeft (state g.S.Store h) (state g.S.Store c.args.conn).may_leave)
+      stays = λ never. rw c.found.ensures (handed_back g.S.Store g.met.S.Store.settled c.args.conn c.audit.new.conn c.requires settled c.is_at_rest.ensures.live c.in-Ok.finding c.in-Ok.ensures.audited (LeavesAll g.S.Store c.args.conn)
           (stays_left g.S.Store g.met.S.Store.settled c.args.conn c.audit.new.conn c.requires settled c.is_at_rest.ensures.live c.in-Ok.ensures.audited.quiet));
     }
 
@@ -53,11 +54,11 @@ returns-in-Err-clause-adopts g c =
       only = search rules;
       others = search rules;
       found = search rules;
-      refused = λ s stands. rw c.failed.ensures (λ clean. want_of c.in-Err.fault c.audit.new.conn);
+      refused = λ s stands. rw c.failed.ensures (λ clean. want_of c.in-Err.fault);
       told = search rules;
       autocommit = search rules;
-      left = λ s stands live. let back = handed_failed c.in-Err.fault c.audit.new.conn in
-          rw (c.failed.ensures, back) (still_stands g.S.Store g.met.S.Store.settled c.args.conn c.audit.new.conn c.requires settled c.is_at_rest.ensures.live c.in-Err.ensures.audited.quiet s stands live);
+      crash = λ s stands. rw c.failed.ensures (crash_left g.S.Store g.met.S.Store.settled c.args.conn c.audit.new.conn c.requires settled c.is_at_rest.ensures.live c.in-Err.ensures.audited.quiet s);
+      left = λ s stands live. rw c.failed.ensures (still_stands g.S.Store g.met.S.Store.settled c.args.conn c.audit.new.conn c.requires settled c.is_at_rest.ensures.live c.in-Err.ensures.audited.quiet s stands live);
       stays = search rules;
     }
 
@@ -74,4 +75,4 @@ returns-in-Ok-clause-watched g c =
 pub returns-in-Err-clause-watched : goal.returns-in-Err-clause-watched
 returns-in-Err-clause-watched g c =
     let watched = c.in-Err.ensures.watched in
-    rw c.failed.ensures (watched.0, watched.1, told_failed g.S.Store c.args.conn c.in-Err.fault c.audit.new.conn watched.0 watched.2)
+    rw c.failed.ensures (watched.0, watched.1, told_failed c.in-Err.fault watched.0 watched.2)

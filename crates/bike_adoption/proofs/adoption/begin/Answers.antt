@@ -1,6 +1,6 @@
-use Rattle.std.proofs.Common.{not, sym, ap, ◌∙◌}
-use Rattle.bike_adoption.specs.Adoption.{handed, failed}
-use Rattle.bike_adoption.proofs.AdoptLemmas.{fresh_at, left_after, handed_failed}
+use Rattle.std.proofs.Common.{ap}
+use Rattle.bike_adoption.specs.declared.adoption.AdoptFault.{AdoptFault}
+use Rattle.bike_adoption.proofs.AdoptLemmas.{fresh_at, crash_after}
 use Rattle.bike_adoption.proofs.adoption.begin.Goals as goal
 
 pub returns-in-Ok-clause-begun : goal.returns-in-Ok-clause-begun
@@ -10,10 +10,7 @@ returns-in-Ok-clause-begun g c none =
     record { was_open = made.0.was_open; at = fresh_at g.S.Store g.met.S.Store.settled c.args.conn c.make_tables.new.conn made.0 made.1; others = made.1.others })
 
 pub returns-in-Err-clause-told : goal.returns-in-Err-clause-told
-returns-in-Err-clause-told g c = (c.in-Err.fault, c.failed.ensures ∙ sym (ap (failed c.in-Err.fault) (ap handed c.failed.ensures ∙ handed_failed c.in-Err.fault c.make_tables.new.conn)))
+returns-in-Err-clause-told g c = (c.in-Err.fault, ap (λ (e : AdoptFault _). e.cause) c.failed.ensures)
 
-pub returns-in-Err-clause-left : goal.returns-in-Err-clause-left
-returns-in-Err-clause-left g c none s stands live =
-    let settled = c.is_at_rest.ensures.settled in
-    let back = handed_failed c.in-Err.fault c.make_tables.new.conn in
-    rw (c.failed.ensures, back) (λ clean. left_after g.S.Store g.met.S.Store.settled c.args.conn settled c.make_tables.new.conn c.is_at_rest.ensures.live none clean (c.make_tables.ensures.crash none) s stands live)
+pub returns-in-Err-clause-crash : goal.returns-in-Err-clause-crash
+returns-in-Err-clause-crash g c none s stands = rw c.failed.ensures (crash_after g.S.Store c.args.conn c.make_tables.new.conn c.is_at_rest.ensures.live none (c.make_tables.ensures.crash none) s stands)

@@ -1,7 +1,7 @@
-use Rattle.std.proofs.Common.{rules, not, refl, ap, ◌∙◌}
+use Rattle.std.proofs.Common.{rules, refl}
 use Rattle.sqlite.specs.Held.{state}
 use Rattle.bike_schema.specs.Tables.{HasNone}
-use Rattle.bike_adoption.proofs.AdoptLemmas.{in_left, handed_failed, want_of}
+use Rattle.bike_adoption.proofs.AdoptLemmas.{in_left, want_of}
 use Rattle.bike_adoption.proofs.FoundLemmas.{stays_left, still_stands}
 use Rattle.bike_adoption.proofs.LookLemmas.{looks}
 use Rattle.bike_adoption.proofs.looking.look.Goals as goal
@@ -29,14 +29,13 @@ returns-in-Ok g c =
 pub returns-in-Err : goal.returns-in-Err
 returns-in-Err g c =
     let settled = c.is_at_rest.ensures.settled in
-    let back = handed_failed c.in-Err.fault c.audit.new.conn in
     let read = c.in-Err.ensures.audited in
     record {
       clean = search rules;
       seen = search rules;
-      refused = λ s stands. rw c.failed.ensures (λ clean. want_of c.in-Err.fault c.audit.new.conn);
+      refused = λ s stands. rw c.failed.ensures (λ clean. want_of c.in-Err.fault);
       told = search rules;
       autocommit = search rules;
-      stays = rw (c.failed.ensures, back) (stays_left g.S.Store g.met.S.Store.settled c.args.conn c.audit.new.conn c.requires settled c.is_at_rest.ensures.live read.quiet);
-      left = λ s stands opened. rw (c.failed.ensures, back) (still_stands g.S.Store g.met.S.Store.settled c.args.conn c.audit.new.conn c.requires settled c.is_at_rest.ensures.live read.quiet s stands opened);
+      stays = rw c.failed.ensures (stays_left g.S.Store g.met.S.Store.settled c.args.conn c.audit.new.conn c.requires settled c.is_at_rest.ensures.live read.quiet);
+      left = λ s stands opened. rw c.failed.ensures (still_stands g.S.Store g.met.S.Store.settled c.args.conn c.audit.new.conn c.requires settled c.is_at_rest.ensures.live read.quiet s stands opened);
     }

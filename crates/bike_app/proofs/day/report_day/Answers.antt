@@ -34,13 +34,13 @@ pub returns-in-Ok-Empty-clause-kept : goal.returns-in-Ok-Empty-clause-kept
 returns-in-Ok-Empty-clause-kept g c clean s stands live = (matched c.in-Ok-Empty.field-0-is c.in-Ok-Empty.ensures).left s stands live clean
 
 pub returns-in-Err-clause-told : goal.returns-in-Err-clause-told
-returns-in-Err-clause-told g c clean = inl (refuses g.S.Store c.in-Err.fault (by_look c.in-Err.ensures) c.taken_from-conn.ensures.conn clean _ c.taken_from-conn.ensures.told)
+returns-in-Err-clause-told g c clean = inl (refuses g.S.Store c.in-Err.fault (by_look c.in-Err.ensures) c.refused.ensures.conn clean _ c.refused.ensures.told)
 
 pub returns-in-Err-clause-kept : goal.returns-in-Err-clause-kept
-returns-in-Err-clause-kept g c clean s stands live = refused_left g.S.Store c.in-Err.fault (by_look c.in-Err.ensures) c.taken_from-conn.ensures.conn clean s stands live
+returns-in-Err-clause-kept g c clean s stands live = refused_left g.S.Store c.in-Err.fault (by_look c.in-Err.ensures) c.refused.ensures.conn clean s stands live
 
 pub returns-in-Err-clause-stays : goal.returns-in-Err-clause-stays
-returns-in-Err-clause-stays g c clean = rw c.taken_from-conn.ensures.conn (c.in-Err.ensures.stays (rw c.taken_from-conn.ensures.conn at clean))
+returns-in-Err-clause-stays g c clean = rw c.refused.ensures.conn (c.in-Err.ensures.stays (rw c.refused.ensures.conn at clean))
 
 pub returns-in-Ok-Empty-clause-stays : goal.returns-in-Ok-Empty-clause-stays
 returns-in-Ok-Empty-clause-stays g c clean = (matched c.in-Ok-Empty.field-0-is c.in-Ok-Empty.ensures).stays clean

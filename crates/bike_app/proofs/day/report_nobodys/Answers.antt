@@ -13,4 +13,4 @@ returns-in-Ok g c =
 pub returns-in-Err : goal.returns-in-Err
 returns-in-Err g c =
     let want = c.in-Err.ensures.refused no_operator (memory_begins c.in_ok-conn.conn c.in_ok-conn.ensures.empty) (memory_is_clean (handed c.in-Err.fault)) in
-    inl (rw c.taken_from-told.ensures.told (not_begun c.in-Err.fault want _ _ (Keeps-refl _)))
+    inl (rw c.refused.ensures.told (not_begun c.in-Err.fault want _ _ (Keeps-refl _)))

@@ -25,7 +25,7 @@ returns-in-Ok-clause-kept g c clean s stands live =
     rw c.close.ensures.same (told_left g.S.Store c.import_at-end.new.desk s _ _ _ _ c.args.name.now c.args.moment c.import_at-end.result told)
 
 pub returns-in-Err-clause-told : goal.returns-in-Err-clause-told
-returns-in-Err-clause-told g c clean = inl (Keeps-refl _, refuses g.S.Store c.in-Err.fault (by_adoption c.in-Err.ensures) c.taken_from-conn.ensures.conn clean _ c.taken_from-conn.ensures.told)
+returns-in-Err-clause-told g c clean = inl (Keeps-refl _, refuses g.S.Store c.in-Err.fault (by_adoption c.in-Err.ensures) c.refused.ensures.conn clean _ c.refused.ensures.told)
 
 pub returns-in-Err-clause-kept : goal.returns-in-Err-clause-kept
-returns-in-Err-clause-kept g c clean s stands live db h = ([], tt, refused_left g.S.Store c.in-Err.fault (by_adoption c.in-Err.ensures) c.taken_from-conn.ensures.conn clean s stands live db h)
+returns-in-Err-clause-kept g c clean s stands live db h = ([], tt, refused_left g.S.Store c.in-Err.fault (by_adoption c.in-Err.ensures) c.refused.ensures.conn clean s stands live db h)

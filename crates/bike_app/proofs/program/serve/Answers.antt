@@ -27,7 +27,7 @@ returns-in-Ok-clause-kept g c clean s stands live =
     rw c.close.ensures.same (some_left g.S.Store c.run_lines-end.new.desk s _ (c.run_lines-end.ensures.kept now s (c.in-Ok.ensures.found s stands early)))
 
 pub returns-in-Err-clause-served : goal.returns-in-Err-clause-served
-returns-in-Err-clause-served g c clean = inl (Keeps-refl _, refuses g.S.Store c.in-Err.fault (by_adoption c.in-Err.ensures) c.taken_from-conn.ensures.conn clean _ c.taken_from-conn.ensures.told)
+returns-in-Err-clause-served g c clean = inl (Keeps-refl _, refuses g.S.Store c.in-Err.fault (by_adoption c.in-Err.ensures) c.refused.ensures.conn clean _ c.refused.ensures.told)
 
 pub returns-in-Err-clause-kept : goal.returns-in-Err-clause-kept
-returns-in-Err-clause-kept g c clean s stands live db h = ([], tt, refused_left g.S.Store c.in-Err.fault (by_adoption c.in-Err.ensures) c.taken_from-conn.ensures.conn clean s stands live db h)
+returns-in-Err-clause-kept g c clean s stands live db h = ([], tt, refused_left g.S.Store c.in-Err.fault (by_adoption c.in-Err.ensures) c.refused.ensures.conn clean s stands live db h)

@@ -1,4 +1,4 @@
-use Rattle.std.proofs.Common.{inl, inr, ap, Err, rules}
+use Rattle.std.proofs.Common.{inl, inr, rules}
 use Rattle.sqlite.specs.State.{HasCleanDisk}
 use Rattle.bike_desk.specs.Desk.{desk_state}
 use Rattle.bike_app.proofs.words.take_up.Goals as goal
@@ -16,16 +16,16 @@ returns-in-Ok-clause-kept g c clean s stands live =
 
 pub returns-in-Err-clause-told : goal.returns-in-Err-clause-told
 returns-in-Err-clause-told g c clean =
-    let now = rw c.taken_from-conn.ensures.conn at clean in
+    let now = rw c.refused.ensures.conn at clean in
     inl (record {
       fault = c.in-Err.fault;
-      told = ap Err c.taken_from-conn.ensures.told;
+      told = c.refused.ensures.told;
       why = c.in-Err.ensures.adopts.told now;
       want = λ s stands. c.in-Err.ensures.adopts.refused s stands now;
-      conn = c.taken_from-conn.ensures.conn;
+      conn = c.refused.ensures.conn;
       written = search rules;
     })
 
 pub returns-in-Err-clause-kept : goal.returns-in-Err-clause-kept
 returns-in-Err-clause-kept g c clean s stands live =
-    rw c.taken_from-conn.ensures.conn (λ db h. c.in-Err.ensures.adopts.left s stands live (rw c.taken_from-conn.ensures.conn at clean) db h)
+    rw c.refused.ensures.conn (λ db h. c.in-Err.ensures.adopts.left s stands live (rw c.refused.ensures.conn at clean) db h)

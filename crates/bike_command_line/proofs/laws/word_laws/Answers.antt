@@ -10,7 +10,7 @@ use Rattle.bike_feed_texts.specs.Feeds.{feed_of}
 use Rattle.bike_day_texts.specs.declared.table.DayTable.TheVariants.{Rentals}
 use Rattle.bike_feed_texts.specs.declared.feed.Feed.TheVariants.{Gbfs, StationStatus}
 use Rattle.bike_command_line.specs.Program.{name_of, program}
-use Rattle.bike_command_line.specs.Asked.{Wanted, task_of, value_in}
+use Rattle.bike_command_line.specs.Asked.{Wanted, parted, task_of, value_in}
 use Rattle.bike_command_line.specs.Asked as want
 use Rattle.bike_command_line.specs.declared.task.Task.{Task}
 use Rattle.bike_command_line.specs.declared.task.Task.TheVariants.{OnFile, Serve}
@@ -69,34 +69,34 @@ returns c = record {
   within = λ texts task file asks. found_within (subcommand_of program texts) task asks.1.0;
   dashes = (refl, (refl, refl));
   bare = λ task. fileless (name_of task ∷ []) (bare task);
-  second = faulty (codes "check" ∷ codes "f" ∷ codes "g" ∷ []) refl;
-  flag = faulty (codes "init" ∷ codes "-f" ∷ []) refl;
-  other = faulty (codes "start" ∷ codes "f" ∷ []) refl;
-  help = faulty (codes "help" ∷ []) refl;
-  flag_help = faulty (codes "--help" ∷ []) refl;
-  word_help = faulty (codes "lines" ∷ codes "--help" ∷ []) refl;
+  second = faulty (parted (codes "check f g")) refl;
+  flag = faulty (parted (codes "init -f")) refl;
+  other = faulty (parted (codes "start f")) refl;
+  help = faulty (parted (codes "help")) refl;
+  flag_help = faulty (parted (codes "--help")) refl;
+  word_help = faulty (parted (codes "lines --help")) refl;
   feed = (refl, (refl, refl));
   feed_at = (refl, (ap (feed_by (Some StationStatus)) moment_read, refl));
-  no_feed = taskless (codes "feed" ∷ codes "f" ∷ codes "nothing" ∷ []) refl;
-  no_name = taskless (codes "feed" ∷ codes "f" ∷ []) refl;
-  signed = faulty (codes "feed" ∷ codes "f" ∷ codes "gbfs" ∷ codes "--at" ∷ codes "-1" ∷ []) refl;
-  tied = taskless (codes "feed" ∷ codes "f" ∷ codes "gbfs" ∷ codes "--at=-1" ∷ [])
+  no_feed = taskless (parted (codes "feed f nothing")) refl;
+  no_name = taskless (parted (codes "feed f")) refl;
+  signed = faulty (parted (codes "feed f gbfs --at -1")) refl;
+  tied = taskless (parted (codes "feed f gbfs --at=-1"))
       (ap (feed_by (Some Gbfs)) (no_number 0 last_moment (codes "-1") (omega arith) refl));
-  late = taskless (codes "feed" ∷ codes "f" ∷ codes "gbfs" ∷ codes "--at" ∷ codes "253402300800" ∷ []) (ap (feed_by (Some Gbfs)) moment_late);
+  late = taskless (parted (codes "feed f gbfs --at 253402300800")) (ap (feed_by (Some Gbfs)) moment_late);
   day = λ date zone is_date is_zone. (refl, (sym (ap₂ (λ (d z : Text). Some (want.Day Rentals d z)) is_date is_zone), refl));
-  no_table = taskless (codes "day" ∷ codes "f" ∷ codes "riders" ∷ codes "2024-03-31" ∷ codes "UTC0" ∷ []) refl;
-  no_zone = taskless (codes "day" ∷ codes "f" ∷ codes "entries" ∷ codes "2024-03-31" ∷ []) refl;
+  no_table = taskless (parted (codes "day f riders 2024-03-31 UTC0")) refl;
+  no_zone = taskless (parted (codes "day f entries 2024-03-31")) refl;
   import = λ name is. (refl, (sym (ap (λ (n : Text). Some (want.Import n None)) is), refl));
   import_at = λ name is. (refl, (ap (import_by (Some (codes "harbor-2"))) moment_read ∙ sym (ap (λ (n : Text). Some (want.Import n (Some 1700000000))) is), refl));
-  no_ident = taskless (codes "import" ∷ codes "f" ∷ codes "Harbor" ∷ []) refl;
-  unnamed = taskless (codes "import" ∷ codes "f" ∷ []) refl;
+  no_ident = taskless (parted (codes "import f Harbor")) refl;
+  unnamed = taskless (parted (codes "import f")) refl;
   serve = (refl, (ap port_alone port_high, refl));
   serve_one = (refl, (ap₂ serve_by port_zero count_one, refl));
   before = (refl, (ap port_alone port_eighty, refl));
-  no_port = taskless (codes "serve" ∷ codes "f" ∷ []) refl;
-  high = taskless (codes "serve" ∷ codes "f" ∷ codes "--port" ∷ codes "65536" ∷ []) (ap port_alone port_past);
-  plus = taskless (codes "serve" ∷ codes "f" ∷ codes "--port" ∷ codes "+80" ∷ []) (ap port_alone (no_number 0 65535 (codes "+80") (omega arith) refl));
-  no_count = taskless (codes "serve" ∷ codes "f" ∷ codes "--port" ∷ codes "80" ∷ codes "--count" ∷ codes "0" ∷ []) (ap₂ serve_by port_eighty count_zero);
-  twice = faulty (codes "serve" ∷ codes "f" ∷ codes "--port" ∷ codes "1" ∷ codes "--port" ∷ codes "2" ∷ []) refl;
-  not_its = faulty (codes "lines" ∷ codes "f" ∷ codes "--port" ∷ codes "80" ∷ []) refl;
+  no_port = taskless (parted (codes "serve f")) refl;
+  high = taskless (parted (codes "serve f --port 65536")) (ap port_alone port_past);
+  plus = taskless (parted (codes "serve f --port +80")) (ap port_alone (no_number 0 65535 (codes "+80") (omega arith) refl));
+  no_count = taskless (parted (codes "serve f --port 80 --count 0")) (ap₂ serve_by port_eighty count_zero);
+  twice = faulty (parted (codes "serve f --port 1 --port 2")) refl;
+  not_its = faulty (parted (codes "lines f --port 80")) refl;
 }

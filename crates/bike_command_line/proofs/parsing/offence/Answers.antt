@@ -1,5 +1,5 @@
-use Rattle.std.proofs.Common.{◌∙◌, ap, sym, inl, inr, option_and_then}
-use Rattle.clap.specs.declared.error.kind.ErrorKind.TheVariants.{InvalidValue, TooManyValues, UnknownArgument}
+use Rattle.std.proofs.Common.{◌∙◌, ap, sym, inr, option_and_then}
+use Rattle.clap.specs.declared.error.kind.ErrorKind.TheVariants.{InvalidValue, TooManyValues}
 use Rattle.bike_command_line.specs.Names.{word_named}
 use Rattle.bike_command_line.proofs.Named.{name_read}
 use Rattle.bike_command_line.proofs.Refused.{is_other_kind, offends}
@@ -9,14 +9,12 @@ pub returns-in-DisplayHelp : goal.returns-in-DisplayHelp
 returns-in-DisplayHelp c =
     (rw c.in-DisplayHelp.is at c.requires.against, sym (ap (option_and_then word_named) c.requires.leads ∙ name_read c.args.word))
 
-pub returns-in_ok-place-in-UnknownArgument : goal.returns-in_ok-place-in-UnknownArgument
-returns-in_ok-place-in-UnknownArgument c =
-    let place = c.in_ok-place-in-UnknownArgument.place in
-    let known = c.in_ok-place-in-UnknownArgument.ensures in
-    elim c.in-UnknownArgument.is [
-      | inl is ↦ (c.requires.leads, inl (offends c.args.words.now UnknownArgument place _ (rw is at c.requires.against) known.within (rw is at known.begins)))
-      | inr is ↦ (c.requires.leads, inr (offends c.args.words.now TooManyValues place _ (rw is at c.requires.against) known.within (rw is at known.begins)))
-    ]
+pub returns-in_ok-place-in-TooManyValues : goal.returns-in_ok-place-in-TooManyValues
+returns-in_ok-place-in-TooManyValues c =
+    let place = c.in_ok-place-in-TooManyValues.place in
+    let known = c.in_ok-place-in-TooManyValues.ensures in
+    let is = c.in-TooManyValues.is in
+    (c.requires.leads, inr (offends c.args.words.now TooManyValues place _ (rw is at c.requires.against) known.within (rw is at known.begins)))
 
 pub returns-in_ok-place-in-InvalidValue : goal.returns-in_ok-place-in-InvalidValue
 returns-in_ok-place-in-InvalidValue c =

@@ -9,7 +9,7 @@ use Rattle.bike_console.proofs.end.put_detail.Goals as goal
 
 pub returns-in-Unsound : goal.returns-in-Unsound
 returns-in-Unsound g c =
-    let w = g.W.Write.contents in
+    let w = g.W.Output.contents in
     let a = w c.args.out.now in
     let b = w c.put-going.new.out in
     let d = w c.put-going-in-Unsound.new.out in

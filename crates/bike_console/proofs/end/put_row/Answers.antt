@@ -6,7 +6,7 @@ use Rattle.bike_console.proofs.end.put_row.Goals as goal
 
 pub returns : goal.returns
 returns g c =
-    let w = g.W.Write.contents in
+    let w = g.W.Output.contents in
     let a = w c.args.out.now in
     let b = w c.put-going.new.out in
     let d = w c.put_number-going.new.out in

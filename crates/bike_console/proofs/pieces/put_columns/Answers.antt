@@ -6,7 +6,7 @@ use Rattle.bike_console.proofs.pieces.put_columns.Goals as goal
 
 pub loop-at-preserved : goal.loop-at-preserved
 loop-at-preserved g c =
-    let w = g.W.Write.contents in
+    let w = g.W.Output.contents in
     let row = c.args.row.now in
     let at = c.loop-at.at in
     let within : at < length row = omega (arith, c.loop-at-test.true, c.loop-at.invariant.1) in

@@ -9,7 +9,7 @@ use Rattle.bike_console.proofs.pieces.put_key.Goals as goal
 
 pub returns-in-Paired : goal.returns-in-Paired
 returns-in-Paired g c =
-    let w = g.W.Write.contents in
+    let w = g.W.Output.contents in
     let first = value_text (Text c.in-Paired.first) in
     let second = value_text (Text c.in-Paired.second) in
     let is_first = ap (λ (t : List ℕ). value_text (Text t)) (c.as_bytes-in-Paired.ensures.value ∙ c.as_str-in-Paired.ensures.text) in

@@ -1,26 +1,16 @@
-use Rattle.std.proofs.Common.{not, ap, ◌∙◌}
-use Rattle.bike_migrate.proofs.RaiseLemmas.{ready_owes, foreign_owes, unsound_owes, newer_owes, failed_owes}
+use Rattle.std.proofs.Common.{not}
+use Rattle.bike_migrate.proofs.RaiseLemmas.{ready_owes, cause_owes, failed_owes}
 use Rattle.bike_migrate.proofs.raising.raise_watched.Goals as goal
 
-pub returns-in-Ok-Ready : goal.returns-in-Ok-Ready
-returns-in-Ok-Ready g c =
+pub returns-in-Ok-None : goal.returns-in-Ok-None
+returns-in-Ok-None g c =
     let settled = c.is_at_rest.ensures.settled in
-    ready_owes g.S.Store g.met.S.Store.settled c.args.conn settled c.is_at_rest.ensures.live c.raise_any.new.conn (rw c.in-Ok-Ready.field-0-is at c.in-Ok-Ready.ensures)
+    ready_owes g.S.Store g.met.S.Store.settled c.args.conn settled c.is_at_rest.ensures.live c.raise_any.new.conn (rw c.in-Ok-None.field-0-is at c.in-Ok-None.ensures)
 
-pub returns-in-Ok-Foreign : goal.returns-in-Ok-Foreign
-returns-in-Ok-Foreign g c =
+pub returns-in-Ok-Some : goal.returns-in-Ok-Some
+returns-in-Ok-Some g c =
     let settled = c.is_at_rest.ensures.settled in
-    foreign_owes g.S.Store g.met.S.Store.settled c.args.conn settled c.is_at_rest.ensures.live c.raise_any.new.conn (rw c.in-Ok-Foreign.field-0-is at c.in-Ok-Foreign.ensures)
-
-pub returns-in-Ok-Unsound : goal.returns-in-Ok-Unsound
-returns-in-Ok-Unsound g c =
-    let settled = c.is_at_rest.ensures.settled in
-    unsound_owes g.S.Store g.met.S.Store.settled c.args.conn settled c.is_at_rest.ensures.live c.raise_any.new.conn c.in-Ok-Unsound.bad (rw c.in-Ok-Unsound.field-0-is at c.in-Ok-Unsound.ensures)
-
-pub returns-in-Ok-Newer : goal.returns-in-Ok-Newer
-returns-in-Ok-Newer g c =
-    let settled = c.is_at_rest.ensures.settled in
-    newer_owes g.S.Store g.met.S.Store.settled c.args.conn settled c.is_at_rest.ensures.live c.raise_any.new.conn c.in-Ok-Newer.version (rw c.in-Ok-Newer.field-0-is at c.in-Ok-Newer.ensures)
+    cause_owes g.S.Store g.met.S.Store.settled c.args.conn settled c.is_at_rest.ensures.live c.raise_any.new.conn c.in-Ok-Some.cause (rw c.in-Ok-Some.field-0-is at c.in-Ok-Some.ensures)
 
 pub returns-in-Err : goal.returns-in-Err
 returns-in-Err g c =
