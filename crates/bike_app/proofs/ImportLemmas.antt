@@ -6,7 +6,7 @@ use Rattle.bike_schema.specs.Stands.{AllLeft, TreesStandFor}
 use Rattle.bike_desk.specs.Desk.{DeskValue, desk_state}
 use Rattle.bike_desk.specs.declared.fault.DeskFault.TheVariants.{NoMemory, StoreFailed, Stopped}
 use Rattle.bike_imports.specs.declared.fault.ImportFault.{ImportFault}
-use Rattle.bike_imports.specs.declared.fault.ImportFault.TheVariants.{BadHeader, Unreadable, Row, Read, Desk}
+use Rattle.bike_imports.specs.declared.fault.ImportFault.TheVariants.{BadHeader, Unreadable, Row, Read, TooManyRows, Desk}
 use Rattle.bike_imports.specs.Imports.{Imports}
 use Rattle.bike_console.specs.declared.end.Fault.{Fault}
 use Rattle.bike_app.specs.Program.{StandsAfterSome}
@@ -31,6 +31,7 @@ module _ {S : Type 0} (g : Ghosts S) (desk : DeskValue S) (s : Operator) where
   imports_left moment name input (Err (Unreadable number)) r db h = (r.calls, r.accepts.good, r.at.keeps.left db h)
   imports_left moment name input (Err (Row number refusal)) r db h = (r.calls, r.accepts.good, r.at.keeps.left db h)
   imports_left moment name input (Err Read) r db h = (r.calls, r.accepts.good, r.at.keeps.left db h)
+  imports_left moment name input (Err TooManyRows) r db h = (r.calls, r.accepts.good, r.at.keeps.left db h)
   imports_left moment name input (Err (Desk NoMemory)) r db h = (r.calls, r.accepts.good, r.at.keeps.left db h)
   imports_left moment name input (Err (Desk StoreFailed)) r db h = elim (r.fails.left db h) [
     | inl before ↦ (r.calls, r.accepts.good, before)

@@ -11,6 +11,7 @@ mod raise;
 mod words;
 
 pub use bike_console::{Counted, Fault, Progress, exit_code};
+pub use bike_lines::{LinesFault, run_lines};
 pub use day::report_day;
 pub use feed::publish;
 pub use file::{run_file, run_on_file};

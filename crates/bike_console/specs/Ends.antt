@@ -121,6 +121,7 @@ import_fault stations.BadHeader = BadHeader
 import_fault (stations.Unreadable number) = RowUnreadable number
 import_fault (stations.Row number refusal) = RowRefused number refusal
 import_fault stations.Read = ReadFailed
+import_fault stations.TooManyRows = ReadFailed
 import_fault (stations.Desk fault) = fault_of_desk fault
 
 abbrev pub adoption_fault : AdoptCause → Fault

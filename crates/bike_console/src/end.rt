@@ -151,7 +151,7 @@ impl Fault {
             ImportFault::BadHeader => Fault::BadHeader,
             ImportFault::Unreadable(number) => Fault::RowUnreadable(number),
             ImportFault::Row(number, refusal) => Fault::RowRefused(number, refusal),
-            ImportFault::Read => Fault::ReadFailed,
+            ImportFault::Read | ImportFault::TooManyRows => Fault::ReadFailed,
             ImportFault::Desk(fault) => Fault::of_desk(fault),
         }
     }
