@@ -1,6 +1,5 @@
 use Rattle.std.proofs.Common.{rules, None, sym, subst}
 use Rattle.bike_booking.specs.Stored.{IsMovedStored}
-use Rattle.bike_schema.proofs.AnswerLemmas.{reads_weaker}
 use Rattle.bike_views.proofs.OpenLaws.{open_as, open_failed, open_none, open_of, open_then}
 use Rattle.bike_stored.proofs.stored.find_moved.Goals as goal
 
@@ -22,5 +21,5 @@ returns-in_ok-counts-in-Marked-clause-stored g c = open_as (open_then c.in_ok-do
     subst (IsMovedStored s m (record { dock = c.in_ok-dock-in-Marked.dock; counts = c.in_ok-counts-in-Marked.counts; sums = c.args.sums })) (sym c.in-Marked.is) ((it.0 sight).0, (it.0 sight).1, it.1))
 
 pub returns-in_ok-dock-in-Grown-clause-stored : goal.returns-in_ok-dock-in-Grown-clause-stored
-returns-in_ok-dock-in-Grown-clause-stored g c = open_of (reads_weaker c.in_ok-dock-in-Grown.ensures (λ db x it s h sight.
-    subst (IsMovedStored s h.listed (record { dock = c.in_ok-dock-in-Grown.dock; counts = None; sums = c.args.sums })) (sym c.in-Grown.is) (it s h)))
+returns-in_ok-dock-in-Grown-clause-stored g c = open_as (open_of c.in_ok-dock-in-Grown.ensures) (λ s m it sight.
+    subst (IsMovedStored s m (record { dock = c.in_ok-dock-in-Grown.dock; counts = None; sums = c.args.sums })) (sym c.in-Grown.is) it)
