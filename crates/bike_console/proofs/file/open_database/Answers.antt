@@ -1,4 +1,4 @@
-use Rattle.std.proofs.Common.{ℕ, Bool, cond, List, ◌≡◌, refl, inl, inr, ap₂, subst}
+use Rattle.std.proofs.Common.{ℕ, Bool, cond, List, refl, inl, ap₂, subst}
 use Rattle.sqlite_disk.specs.Events.{Event, replay}
 use Rattle.sqlite_wal.specs.Files.{image_at}
 use Rattle.sqlite_wal.specs.Recovery.{Image}
