@@ -607,6 +607,26 @@ def test_a_balance_that_is_off_by_one(program):
     checked(program, file, "unsound riders 17")
 
 
+def test_what_others_have_stays_beside_new_tables(program):
+    """A file that has none of the product's tables gets them beside a stranger's: tables of every kind, equal rows, an
+    index and a view."""
+    file = Path(program.folder, "others.db")
+    changed(file, ";".join([
+        "CREATE TABLE notes (note TEXT CHECK (note <> ''), size INTEGER DEFAULT 7)",
+        "INSERT INTO notes (note) VALUES ('x'), ('x')",
+        "CREATE TABLE numbered (id INTEGER PRIMARY KEY AUTOINCREMENT, note TEXT UNIQUE)",
+        "INSERT INTO numbered (note) VALUES ('y'), ('z')",
+        "CREATE TABLE pointing (note TEXT REFERENCES numbered (note))", "INSERT INTO pointing VALUES ('y'), ('y')",
+        "CREATE INDEX notes_by_size ON notes (size)", "CREATE VIEW seen AS SELECT note FROM notes",
+        "CREATE TABLE stations_4 (a)", "CREATE TABLE names (a)",
+    ]))
+    before = held(file)
+    assert program.run("init", file.name) == READY
+    after = held(file)
+    assert [it for it in after if it in before] == before and any("stations_3" in it for it in after)
+    checked(program, file, None)
+
+
 def test_changes_of_the_city_of_the_examples(program):
     given = (HERE / "lines/the_city_of_the_examples.in").read_bytes()
     ride = b"1700000000\toffice\tr1\tstart\t17\ta1\t1\n1700001800\toffice\tr2\tend\t7\ta1\t1\n"

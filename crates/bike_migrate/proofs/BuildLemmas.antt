@@ -15,7 +15,10 @@ use Rattle.bike_schema.specs.Tables.{is_parent, is_unused}
 use Rattle.bike_earlier.specs.declared.earlier.Earlier.{Earlier}
 use Rattle.bike_earlier.specs.declared.earlier.Earlier.TheVariants.{First, Second}
 use Rattle.bike_earlier.specs.Earlier.{IsAt, HasTablesAt, newer_names, tables_at}
-use Rattle.bike_migrate.specs.Raised.{AllStay, AreUnnamed, MakesTable, MakesNewer, MakesTables}
+use Rattle.bike_recognition.specs.Recognition.{TableStands}
+use Rattle.bike_migrate.specs.Raised.{AllStay, AreUnnamed, language_index, thing_index, HasNameIndexes, MakesTable, MakesIndex, MakesIndexes, MakesNewer, MakesTables}
+use Rattle.bike_migrate.specs.Spared.{Spares}
+use Rattle.bike_migrate.proofs.SpareLemmas.{spares_then, index_spared}
 
 -- ---- one table after another
 
@@ -26,8 +29,15 @@ stay_both a b c first second keys layout was =
     record { stands = two.stands; rows = two.rows ∙ one.rows }
 
 -- one index after another
-pub indexed_both : (a b c : Database) → Indexes a b → Indexes b c → Indexes a c
-indexed_both a b c first second = record { tables = second.tables ∙ first.tables; sound = second.sound; stays = stay_both a b c first.stays second.stays }
+pub names_stand : (a b : Database) → Indexes a b → TableStands MoreNames a → TableStands MoreNames b
+names_stand a b made was = (made.stays (keys_of MoreNames) (layout_of MoreNames) was).stands
+
+pub indexed_both : (a b c : Database) → MakesIndex language_index a b → MakesIndex thing_index b c → MakesIndexes a c
+indexed_both a b c first second = record {
+  indexes = record { tables = second.indexes.tables ∙ first.indexes.tables; sound = second.indexes.sound; stays = stay_both a b c first.indexes.stays second.indexes.stays };
+  has = record { by_language = index_spared [] b c (name_of MoreNames) language_index second.spares refl first.has; by_thing = second.has };
+  spares = spares_then [] a b c first.spares second.spares;
+}
 
 -- a table that was made stands, empty, where all that stood stays
 record IsEmpty (db : Database) (t : TableName) : Type 0 where
@@ -40,12 +50,21 @@ empty_stays old new t stay it = let s = stay (keys_of t) (layout_of t) it.stands
 made_empty : (t : TableName) (old new : Database) → MakesTable t old new → IsEmpty new t
 made_empty t old new it = record { stands = it.stands; no_rows = it.no_rows }
 
-pub makes_newer : (a b c d : Database) → MakesTable Stations a b → MakesTable MoreNames b c → Indexes c d → MakesNewer a d
+pub makes_newer : (a b c d : Database) → MakesTable Stations a b → MakesTable MoreNames b c → MakesIndexes c d → MakesNewer a d
 makes_newer a b c d stations names index =
-    let last = stay_both b c d names.stays index.stays in
+    let last = stay_both b c d names.stays index.indexes.stays in
     let s = empty_stays b d Stations last (made_empty Stations a b stations) in
-    let n = empty_stays c d MoreNames index.stays (made_empty MoreNames b c names) in
-    record { sound = index.sound; stations = s.stands; no_stations = s.no_rows; names = n.stands; no_names = n.no_rows; stays = stay_both a b d stations.stays last }
+    let n = empty_stays c d MoreNames index.indexes.stays (made_empty MoreNames b c names) in
+    record {
+      sound = index.indexes.sound;
+      stations = s.stands;
+      no_stations = s.no_rows;
+      names = n.stands;
+      no_names = n.no_rows;
+      indexes = index.has;
+      stays = stay_both a b d stations.stays last;
+      spares = spares_then [] a c d (spares_then [] a b c stations.spares names.spares) index.spares;
+    }
 
 -- ---- the names are free
 
@@ -79,12 +98,14 @@ module _ (old new : Database) where
   others_stay : AllStay old new → OthersStay old new
   others_stay stay keys layout other was = stay keys layout was
 
-  whole : (e : Earlier) → IsDatabase new → AllStay old new → ((t : TableName) → Becomes t (stations_none e t)) → MakesTables e old new
-  whole e sound stay each = record {
+  whole : (e : Earlier) → IsDatabase new → AllStay old new → HasNameIndexes new.schema → Spares [] old new → ((t : TableName) → Becomes t (stations_none e t)) → MakesTables e old new
+  whole e sound stay indexes spares each = record {
     sound = sound;
     has = λ t. (each t).stands;
     tables = ap tables_by (fun_ext (λ t. (each t).rows_are));
+    indexes = indexes;
     others = others_stay stay;
+    spares = spares;
   }
 
   second_each : HasTablesAt Second old → MakesNewer old new → (t : TableName) → Becomes t (stations_none Second t)
@@ -107,7 +128,7 @@ module _ (old new : Database) where
   second_each has it MoreNames = made MoreNames (record { stands = it.names; no_rows = it.no_names })
 
   pub makes_second : HasTablesAt Second old → MakesNewer old new → MakesTables Second old new
-  makes_second has it = whole Second it.sound it.stays (second_each has it)
+  makes_second has it = whole Second it.sound it.stays it.indexes it.spares (second_each has it)
 
   first_each : (mid : Database) → HasTablesAt First old → MakesTable Regions old mid → MakesNewer mid new → AllStay old new → (t : TableName) → Becomes t (stations_none First t)
   first_each mid has regions it stay Meta = kept Meta stay ((has Meta).stands refl)
@@ -131,4 +152,4 @@ module _ (old new : Database) where
   pub makes_first : (mid : Database) → HasTablesAt First old → MakesTable Regions old mid → MakesNewer mid new → MakesTables First old new
   makes_first mid has regions it =
       let stay = stay_both old mid new regions.stays it.stays in
-      whole First it.sound stay (first_each mid has regions it stay)
+      whole First it.sound stay it.indexes (spares_then [] old mid new regions.spares it.spares) (first_each mid has regions it stay)

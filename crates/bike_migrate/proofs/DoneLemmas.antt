@@ -7,7 +7,7 @@ use Rattle.std.proofs.lemmas.List.Folds.{list_any-append}
 use Rattle.sqlite_value.specs.Order.{Row}
 use Rattle.sqlite.specs.Effect.{Database}
 use Rattle.bike_rows.specs.Stands.{is_same_text, Stands, Stays}
-use Rattle.bike_book.specs.Tables.{TableName, Tables, keys_of, tables_by}
+use Rattle.bike_book.specs.Tables.{TableName, Tables, MoreNames, keys_of, tables_by}
 use Rattle.bike_schema.specs.Layouts.{layout_of, name_of, every_table}
 use Rattle.bike_schema.specs.Makes.{is_our_name}
 use Rattle.bike_schema.specs.Tables.{tables_of, other_names}
@@ -15,10 +15,12 @@ use Rattle.bike_schema.proofs.TableLemmas.{every_false}
 use Rattle.bike_earlier.specs.declared.earlier.Earlier.{Earlier}
 use Rattle.bike_earlier.specs.declared.earlier.Earlier.TheVariants.{First, Second}
 use Rattle.bike_earlier.specs.Earlier.{stations_name, stations_layout}
-use Rattle.bike_migrate.specs.Raised.{IsEarlier, old_stations, tables_raised, Fills, DropsStations, is_product_name, OthersKept, Raises}
+use Rattle.bike_migrate.specs.Raised.{IsEarlier, old_stations, tables_raised, language_index, thing_index, filled_names, changed_names, Fills, DropsStations, is_product_name, OthersKept, Raises}
+use Rattle.bike_migrate.specs.Spared.{is_among, HasIndex}
 use Rattle.bike_migrate.specs.Stations.{AreCopies}
 use Rattle.bike_migrate.specs.Verdicts.{IsVerdictBefore}
 use Rattle.bike_migrate.proofs.FillLemmas.{stations_raised, old_table}
+use Rattle.bike_migrate.proofs.SpareLemmas.{spares_then, spares_less, among_first, among_rest, index_spared}
 
 -- ---- the verdict
 
@@ -39,6 +41,10 @@ old_apart Second = refl
 old_other : (e : Earlier) → is_our_name (stations_layout e).name ≡ false
 old_other First = refl
 old_other Second = refl
+
+names_apart : (e : Earlier) → is_among (stations_name e ∷ []) (name_of MoreNames) ≡ false
+names_apart First = refl
+names_apart Second = refl
 
 -- a name that is none of the product's
 none_mapped : (p : List ℕ → Bool) (ts : List TableName) → list_any p (map name_of ts) ≡ list_any (λ t. p (name_of t)) ts
@@ -71,6 +77,10 @@ module _ (e : Earlier) (a b c : Database) (filled : Fills e a b) (dropped : Drop
       let second = dropped.others keys layout (not_old layout.name other e) first.stands in
       record { stands = second.stands; rows = second.rows ∙ first.rows }
 
+  -- an index of further names stays as the old table goes
+  still_indexed : (text : List ℕ) → HasIndex b.schema (name_of MoreNames) text → HasIndex c.schema (name_of MoreNames) text
+  still_indexed text has = index_spared (stations_name e ∷ []) b c (name_of MoreNames) text dropped.spares (names_apart e) has
+
   pub raises : Raises e a c
   raises = record {
     raised = record {
@@ -78,5 +88,9 @@ module _ (e : Earlier) (a b c : Database) (filled : Fills e a b) (dropped : Drop
       has = λ t. (still t).stands;
       tables = ap tables_by (fun_ext (λ t. (still t).rows)) ∙ filled.raised.tables;
     };
+    gone = dropped.gone;
+    indexes = record { by_language = still_indexed language_index filled.indexes.by_language; by_thing = still_indexed thing_index filled.indexes.by_thing };
     others = kept;
+    spares = spares_then (changed_names e) a b c (spares_less (changed_names e) filled_names a b (among_rest (stations_name e) filled_names) filled.spares)
+        (spares_less (changed_names e) (stations_name e ∷ []) b c (among_first (stations_name e) filled_names) dropped.spares);
   }

@@ -11,14 +11,17 @@ use Rattle.bike_rows.proofs.FrameLemmas.{rows_of_is}
 use Rattle.bike_rows.proofs.ListLemmas.{map_has}
 use Rattle.bike_rows.proofs.OrderLemmas.{Rises, rises, order_has, all_has, all_from}
 use Rattle.bike_rows.proofs.TreeLemmas.{by_key_total}
-use Rattle.bike_book.specs.Tables.{Tables, Stations, with_rows}
+use Rattle.bike_book.specs.Tables.{Tables, Stations, MoreNames, with_rows}
 use Rattle.bike_book.specs.Writes.{Add, tables_after, tables_after_all}
+use Rattle.bike_schema.specs.Layouts.{name_of}
 use Rattle.bike_schema.specs.Makes.{Makes}
 use Rattle.bike_schema.proofs.MakesLemmas.{makes_then, stay_then}
 use Rattle.bike_earlier.specs.declared.earlier.Earlier.{Earlier}
 use Rattle.bike_earlier.specs.declared.earlier.Earlier.TheVariants.{First, Second}
 use Rattle.bike_earlier.specs.Earlier.{stations_layout, completed, tables_at, HasTablesAt, IsAt}
-use Rattle.bike_migrate.specs.Raised.{old_stations, version_write, station_writes, tables_raised, MakesTables, Fills}
+use Rattle.bike_migrate.specs.Raised.{old_stations, version_write, station_writes, tables_raised, language_index, thing_index, HasNameIndexes, filled_names, MakesTables, WritesOnly, Fills}
+use Rattle.bike_migrate.specs.Spared.{Spares}
+use Rattle.bike_migrate.proofs.SpareLemmas.{spares_then, spares_all, index_spared}
 use Rattle.bike_migrate.specs.Stations.{station_row, AreCopies}
 
 -- one station more
@@ -26,10 +29,14 @@ writes_more : (rows : List Row) (i : ℕ) (row : Row) → i < length rows → ro
 writes_more rows i row within is =
     ap station_writes (take_more rows i row within) ∙ map-append (λ r. Add Stations (station_row r)) (take i rows) (get_or rows i row ∷ []) ∙ ap (λ r. station_writes (take i rows) ++ Add Stations (station_row r) ∷ []) (sym is)
 
-pub makes_more : (rows : List Row) (i : ℕ) (row : Row) → i < length rows → row ≡ get_or rows i row → (a b c : Database) → Makes (version_write ∷ station_writes (take i rows)) a b → Makes (Add Stations (station_row row) ∷ []) b c
+makes_more : (rows : List Row) (i : ℕ) (row : Row) → i < length rows → row ≡ get_or rows i row → (a b c : Database) → Makes (version_write ∷ station_writes (take i rows)) a b → Makes (Add Stations (station_row row) ∷ []) b c
     → Makes (version_write ∷ station_writes (take (i + 1) rows)) a c
 makes_more rows i row within is a b c first second =
     subst (λ ws. Makes (version_write ∷ ws) a c) (sym (writes_more rows i row within is)) (makes_then (version_write ∷ station_writes (take i rows)) (Add Stations (station_row row) ∷ []) a b c first second)
+
+pub more_only : (rows : List Row) (i : ℕ) (row : Row) → i < length rows → row ≡ get_or rows i row → (a b c : Database) → WritesOnly (version_write ∷ station_writes (take i rows)) a b → WritesOnly (Add Stations (station_row row) ∷ []) b c
+    → WritesOnly (version_write ∷ station_writes (take (i + 1) rows)) a c
+more_only rows i row within is a b c first second = record { makes = makes_more rows i row within is a b c first.makes second.makes; spares = spares_then filled_names a b c first.spares second.spares }
 
 -- ---- rows put one after another, in the order of their keys
 
@@ -151,12 +158,21 @@ filled_are e db at =
     ∙ adds_all (map station_row (old_stations e db)) t
     ∙ ap (λ rows. with_rows Stations rows t) (put_copies e db (old_table e db at) ∙ sym (stations_at e db))
 
-pub fills : (e : Earlier) (a b c : Database) (rows : List Row) → IsAt e a → rows ≡ old_stations e a → MakesTables e a b → Makes (version_write ∷ station_writes rows) b c → Fills e a c
-fills e a b c rows at are made makes = record {
+-- an index of further names stays as they are filled
+still_indexed : (b c : Database) → Spares filled_names b c → HasNameIndexes b.schema → HasNameIndexes c.schema
+still_indexed b c spares has = record {
+  by_language = index_spared filled_names b c (name_of MoreNames) language_index spares refl has.by_language;
+  by_thing = index_spared filled_names b c (name_of MoreNames) thing_index spares refl has.by_thing;
+}
+
+pub fills : (e : Earlier) (a b c : Database) (rows : List Row) → IsAt e a → rows ≡ old_stations e a → MakesTables e a b → WritesOnly (version_write ∷ station_writes rows) b c → Fills e a c
+fills e a b c rows at are made only = record {
   raised = record {
-    sound = makes.sound;
-    has = makes.has;
-    tables = makes.tables ∙ ap (tables_after_all (version_write ∷ station_writes rows)) made.tables ∙ ap (λ rs. tables_after_all (version_write ∷ station_writes rs) (with_rows Stations [] (tables_at e a))) are ∙ filled_are e a at;
+    sound = only.makes.sound;
+    has = only.makes.has;
+    tables = only.makes.tables ∙ ap (tables_after_all (version_write ∷ station_writes rows)) made.tables ∙ ap (λ rs. tables_after_all (version_write ∷ station_writes rs) (with_rows Stations [] (tables_at e a))) are ∙ filled_are e a at;
   };
-  others = stay_then a b c made.others makes.others;
+  indexes = still_indexed b c only.spares made.indexes;
+  others = stay_then a b c made.others only.makes.others;
+  spares = spares_then filled_names a b c (spares_all filled_names a b made.spares) only.spares;
 }

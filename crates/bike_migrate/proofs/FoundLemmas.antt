@@ -114,6 +114,25 @@ module _ (db : Database) where
   found_none (inr (some, inl other)) = absurd (let never = other.1 in cc)
   found_none (inr (some, inr (stands, is))) = absurd (never_of (meta_version db) is)
 
+  -- it is of one version alone
+  pub never_both : (e : Earlier) → IsFoundAs db found.Newest → IsFoundAs db (found.Of e) → ⊥
+  never_both e (inl none) is = let other = none.1 in cc
+  never_both e (inr (some, inl other)) is = let never = other.1 in cc
+  never_both e (inr (some, inr (stands, newest))) is = by e (subst (λ m. IsByVersion db m found.Newest) (found_earlier db e is).version newest)
+    where
+      by : (e : Earlier) → IsByVersion db (Version (number_of e)) found.Newest → ⊥
+      by First newest = earlier_never (Some First) found.Newest (λ f same. cc) (λ same. cc) newest
+      by Second newest = earlier_never (Some Second) found.Newest (λ f same. cc) (λ same. cc) newest
+
+  pub one_earlier : (e f : Earlier) → IsFoundAs db (found.Of e) → IsFoundAs db (found.Of f) → e ≡ f
+  one_earlier e f first second = by e f (sym (found_earlier db e first).version ∙ (found_earlier db f second).version)
+    where
+      by : (e f : Earlier) → Version (number_of e) ≡ Version (number_of f) → e ≡ f
+      by First First same = refl
+      by First Second same = absurd (cc)
+      by Second First same = absurd (cc)
+      by Second Second same = refl
+
 -- ---- what came of it, where it was raised
 
 module _ {S : Type 0} (g : Ghosts S) (old : Held S) where

@@ -1,5 +1,7 @@
 mod InsideLemmas
 mod StepLemmas
+mod IndexLemmas
+mod SpareLemmas
 mod TextLemmas
 mod ReadLemmas
 mod BuildLemmas

@@ -20,14 +20,14 @@ use Rattle.bike_earlier.specs.declared.found.Found.TheVariants as found
 use Rattle.bike_earlier.specs.Found.{IsFoundAs}
 use Rattle.bike_earlier.specs.Stores.{StoresAt, StandsForAt, TreesStandForAt}
 use Rattle.bike_desk.proofs.KeepLemmas.{Settles, stands_in}
-use Rattle.bike_migrate.specs.Raised.{OthersKept, tables_raised}
-use Rattle.bike_migrate.specs.Raising.{Holds, IsUnsoundAt, IsUnsound, MayCommitAny, TreesStandSince, failed, IsAsBefore, IsRaisedFrom, IsToldBy, IsOutcome, ComesTo, IsWantFor, IsOutsideFor, IsRaise}
+use Rattle.bike_migrate.specs.Raised.{OthersKept, tables_raised, Raises}
+use Rattle.bike_migrate.specs.Raising.{Holds, IsUnsoundAt, IsUnsound, MayCommitAny, TreesStandSince, failed, IsAsBefore, IsRaisedFrom, IsReady, IsToldBy, IsOutcome, ComesTo, IsWantFor, IsOutsideFor, IsRaise}
 use Rattle.bike_migrate.specs.declared.fault.RaiseCause.{RaiseCause}
 use Rattle.bike_migrate.specs.declared.fault.RaiseCause.TheVariants as cause
 use Rattle.bike_migrate.specs.declared.fault.UnsoundRow.{UnsoundRow}
-use Rattle.bike_migrate.proofs.FoundLemmas.{found_earlier, found_has, found_none}
+use Rattle.bike_migrate.proofs.FoundLemmas.{found_earlier, found_has, found_none, never_both, one_earlier}
 use Rattle.bike_migrate.proofs.OperatorLemmas.{raised_for, stores_raised, good_stores, stored_all_good}
-use Rattle.bike_migrate.proofs.StandsLemmas.{stands_here, IsFoundOf, Nothing, Whole, Before, found_there}
+use Rattle.bike_migrate.proofs.StandsLemmas.{stands_here, found_empty, IsFoundOf, Nothing, Whole, Before, found_there}
 
 same_of : (e f : Earlier) → found.Of e ≡ found.Of f → e ≡ f
 same_of e f is = cc
@@ -122,6 +122,9 @@ module _ {S : Type 0} (g : Ghosts S) (settles : Settles g) (old : Held S) (settl
       clean = survives.clean;
       only = tt;
       others = tt;
+      newest = λ is. tt;
+      empty = λ none. tt;
+      raised = λ e is. tt;
       found = λ v s stands. tt;
       refused = refused;
       told = told;
@@ -189,6 +192,30 @@ module _ {S : Type 0} (g : Ghosts S) (settles : Settles g) (old : Held S) (settl
         by (inl (inr (is, before))) = subst (OthersKept db) (sym before.now_is) kept_same
         by (inr raised) = raised.raises.others
 
+    as_before : IsReady g old new → IsAsBefore g old new
+    as_before (inl it) = it.2
+    as_before (inr it) = it.1
+
+    ready_newest : IsFoundAs db found.Newest → HasCleanDisk (state g new) → IsAsBefore g old new
+    ready_newest is clean = elim (it.comes clean) [
+      | inl ready ↦ as_before ready
+      | inr raised ↦ absurd (never_both db raised.earlier is raised.found)
+    ]
+
+    ready_empty : HasNone db.schema → HasCleanDisk (state g new) → IsAsBefore g old new
+    ready_empty none clean = elim (it.comes clean) [
+      | inl ready ↦ as_before ready
+      | inr raised ↦ absurd (let never = found_empty db (found.Of raised.earlier) none raised.found in cc)
+    ]
+
+    ready_raised : (e : Earlier) → IsFoundAs db (found.Of e) → HasCleanDisk (state g new) → Raises e db (state g new).now
+    ready_raised e is clean = by (it.comes clean)
+      where
+        by : IsOutcome g old new None → Raises e db (state g new).now
+        by (inl (inl (newest, verdict, before))) = absurd (never_both db e newest is)
+        by (inl (inr (empty, before))) = absurd (let never = found_empty db (found.Of e) (found_none db empty) is in cc)
+        by (inr raised) = subst (λ v. Raises v db (state g new).now) (one_earlier db raised.earlier e raised.found is) raised.raises
+
     module _ (v : Option Earlier) (s : Operator) (stands : TreesStandForAt v s db.trees) where
       there : (f : Found) → IsTrue (state g old).is_open → IsFoundAs db f → IsFoundOf db f s
       there f opened is = found_there db f v s (stands_here db (live opened).0 v s stands) is
@@ -223,6 +250,9 @@ module _ {S : Type 0} (g : Ghosts S) (settles : Settles g) (old : Held S) (settl
       clean = it.survives.clean;
       only = ready_only;
       others = ready_others;
+      newest = ready_newest;
+      empty = ready_empty;
+      raised = ready_raised;
       found = ready_found;
       refused = λ v s stands. tt;
       told = tt;

@@ -95,7 +95,7 @@ stands_here db sound (Some e) s (schema, it) = (sound, stores_at_across schema d
 no_table : (name : List ℕ) (db : Database) → HasNone db.schema → TableStands Meta db → ⊥
 no_table name db none stands = let a = no_meta db.schema none in let b = stands.has.found in absurd cc
 
-found_empty : (db : Database) (f : Found) → HasNone db.schema → IsFoundAs db f → f ≡ found.Empty
+pub found_empty : (db : Database) (f : Found) → HasNone db.schema → IsFoundAs db f → f ≡ found.Empty
 found_empty db f none (inl it) = it.1
 found_empty db f none (inr it) = absurd (it.0 none)
 

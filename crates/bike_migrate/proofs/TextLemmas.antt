@@ -1,5 +1,5 @@
 -- What the statements do to a database.
-use Rattle.std.proofs.Common.{◌≡◌, ℕ, true, false, List, [], ◌∷◌, get_or, map, codes, Some, Ok, refl, sym, ap, ap₂, subst, ◌∙◌, inl, inr}
+use Rattle.std.proofs.Common.{◌≡◌, ℕ, true, false, List, [], ◌∷◌, map, codes, None, Some, Ok, refl, sym, ap, ap₂, subst, ◌∙◌, inl, inr}
 use Rattle.std.specs.List.{list_all}
 use Rattle.std.proofs.lemmas.Bool.{and_parts}
 use Rattle.sqlite_value.specs.declared.value.Value.{Value}
@@ -14,14 +14,16 @@ use Rattle.sqlite_schema.specs.declared.schema.Kind.TheVariants.{Integer, Text a
 use Rattle.sqlite_schema.specs.declared.schema.Schema.{Schema}
 use Rattle.sqlite_schema.specs.Names.{table_named}
 use Rattle.sqlite_schema.specs.declared.command.Command.{Command}
+use Rattle.sqlite_schema.specs.declared.command.Command.TheVariants.{CreateTable}
 use Rattle.sqlite_schema.specs.declared.command.Source.TheVariants.{Values}
 use Rattle.sqlite_resolve.specs.Compile.{first}
 use Rattle.sqlite.specs.Calls.{IsWrite}
 use Rattle.sqlite.specs.Effect.{Database, IsDatabase}
+use Rattle.sqlite.specs.Given.{IsPlain}
 use Rattle.sqlite.specs.Listing.{understood}
-use Rattle.sqlite.specs.State.{State, Executes}
+use Rattle.sqlite.specs.State.{State, Writes, Executes, ExecutesIn, ExecutesInside}
 use Rattle.sqlite.specs.Values.{bound_value}
-use Rattle.sqlite.proofs.Callers.{command_of}
+use Rattle.sqlite.proofs.Callers.{command_of, statement_of, runs_as}
 use Rattle.bike_sql.specs.Inserts.{IsInsert}
 use Rattle.bike_sql.proofs.InsertLaws.{insert_is}
 use Rattle.bike_rows.specs.Inside.{IsWriteIn}
@@ -40,7 +42,7 @@ use Rattle.bike_rows.proofs.SelectLaws.{every_column, ordered_rows}
 use Rattle.bike_rows.proofs.KeyLemmas.{IsKeyAt, columns_key_at}
 use Rattle.bike_rows.proofs.WriteLaws.{row_put, row_updated, row_terms, width}
 use Rattle.bike_book.specs.declared.version.TheConstants.{NEWEST}
-use Rattle.bike_book.specs.Tables.{TableName, Meta, Stations, keys_of}
+use Rattle.bike_book.specs.Tables.{TableName, Meta, Stations, MoreNames, keys_of}
 use Rattle.bike_book.specs.Rows.{number_value}
 use Rattle.bike_book.specs.Writes.{Add}
 use Rattle.bike_schema.specs.Calls.{WasFree}
@@ -48,18 +50,20 @@ use Rattle.bike_schema.specs.Layouts.{layout_of, name_of}
 use Rattle.bike_schema.specs.Makes.{Puts}
 use Rattle.bike_schema.specs.Tables.{IsOurs, tables_of, is_parent}
 use Rattle.bike_schema.proofs.KeyLemmas.{table_key}
-use Rattle.bike_schema.specs.Creates.{index_texts}
 use Rattle.bike_schema.proofs.MakeFacts.{text_of, declared, index_only}
-use Rattle.bike_schema.proofs.MakeTexts.{understood_as}
+use Rattle.bike_schema.proofs.MakeTexts.{IsOnlyCreate, understood_as}
 use Rattle.bike_schema.proofs.MakesLemmas.{adds_row, sets_columns}
+use Rattle.bike_recognition.specs.Recognition.{TableStands}
 use Rattle.bike_earlier.specs.declared.earlier.Earlier.{Earlier}
 use Rattle.bike_earlier.specs.declared.earlier.Earlier.TheVariants.{First, Second}
 use Rattle.bike_earlier.specs.Earlier.{stations_name, stations_layout}
-use Rattle.bike_migrate.specs.Raised.{MakesTable, DropsStations, version_write}
+use Rattle.bike_migrate.specs.Raised.{MakesTable, MakesIndex, language_index, thing_index, filled_names, WritesOnly, DropsStations, version_write}
 use Rattle.bike_migrate.specs.Stations.{station_row, is_text, is_whole, IsStationRow, AsksRows}
 use Rattle.bike_schema.proofs.MakeLemmas.{adds}
 use Rattle.bike_schema.proofs.GrowthLemmas.{still_unnamed, made_stands, made_empty, all_stay}
 use Rattle.bike_rows.proofs.IndexLaw as index
+use Rattle.bike_migrate.proofs.IndexLemmas.{IsOnlyIndexOf, index_added}
+use Rattle.bike_migrate.proofs.SpareLemmas.{spares_less, among_first, among_rest, spares_making, spares_indexing, index_there, spares_inserting, spares_updating, spares_dropping}
 
 -- ---- texts that write
 
@@ -71,6 +75,15 @@ means_writes s text k means write c is = subst IsWrite (sym means ∙ ap command
 pub create_writes : (t : TableName) (s : Schema) → IsWriteIn s (text_of t)
 create_writes t s c is = subst IsWrite (sym (understood_as (text_of t) (declared t).only s c is).makes) tt
 
+create_write : (text : List ℕ) → IsOnlyCreate text (first text) → (old new : State) (count : ℕ) → Executes text [] old new (Ok count) → Writes old new None CreateTable text [] count
+unfolding ExecutesIn
+create_write text only old new count h =
+    let bare = understood_as text only old.now.schema h.0 h.1.is in
+    let is : command_of (understood old.now.schema text) ≡ CreateTable = ap command_of h.1.is ∙ bare.makes in
+    let plain : IsPlain (understood old.now.schema text) = subst IsPlain (sym h.1.is) (bare.shows, bare.timeless) in
+    let whole : statement_of text (understood old.now.schema text) ≡ text = ap (statement_of text) h.1.is ∙ bare.whole in
+    subst (λ t. Writes old new None CreateTable t [] count) whole (runs_as text [] old new old.now.schema refl CreateTable is plain count h)
+
 pub creates : (t : TableName) (old new : State) → is_parent old.now.schema (name_of t) ≡ false → (count : ℕ) → Executes (text_of t) [] old new (Ok count) → MakesTable t old.now new.now
 creates t old new unnamed count ran =
     let it = adds (text_of t) (layout_of t) (declared t) old new count ran in
@@ -80,14 +93,10 @@ creates t old new unnamed count ran =
       no_rows = made_empty (layout_of t) old.now new.now it (keys_of t) unnamed;
       unnamed = still_unnamed (layout_of t) old.now new.now it;
       stays = all_stay (layout_of t) old.now new.now it;
+      spares = spares_making (text_of t) old new count (create_write (text_of t) (declared t).only old new count ran);
     }
 
--- the statements that make the indexes of further names, by their languages and by what they name
-abbrev pub language_index : List ℕ
-language_index = get_or index_texts 3 []
-
-abbrev pub thing_index : List ℕ
-thing_index = get_or index_texts 4 []
+-- ---- CREATE INDEX
 
 pub language_only : IsOnlyIndex (first language_index)
 language_only = index_only.1.1.1.0
@@ -97,6 +106,30 @@ thing_only = index_only.1.1.1.1.0
 
 pub index_writes : (text : List ℕ) → IsOnlyIndex (first text) → (s : Schema) → IsWriteIn s text
 index_writes text only s c is = subst IsWrite (sym (index.understood_as text only s c is).makes.1) tt
+
+language_of : IsOnlyIndexOf (name_of MoreNames) language_index (first language_index)
+unfolding everything
+language_of = ((refl, refl), refl, refl)
+
+thing_of : IsOnlyIndexOf (name_of MoreNames) thing_index (first thing_index)
+unfolding everything
+thing_of = ((refl, refl), refl, refl)
+
+-- the index is made, and nothing else
+makes_index : (text : List ℕ) → IsOnlyIndex (first text) → IsOnlyIndexOf (name_of MoreNames) text (first text) → (old new : State) → TableStands MoreNames old.now → (count : ℕ) → Executes text [] old new (Ok count) → MakesIndex text old.now new.now
+makes_index text only on old new was count ran =
+    let it = index_added (name_of MoreNames) text on old new count ran in
+    record {
+      indexes = index.index_made text only old new count ran;
+      has = index_there (name_of MoreNames) text old.now new.now was.at (table_of (layout_of MoreNames) was.tree) was.has refl it;
+      spares = spares_indexing (name_of MoreNames) text old.now new.now it;
+    }
+
+pub makes_language : (old new : State) → TableStands MoreNames old.now → (count : ℕ) → Executes language_index [] old new (Ok count) → MakesIndex language_index old.now new.now
+makes_language = makes_index language_index language_only language_of
+
+pub makes_thing : (old new : State) → TableStands MoreNames old.now → (count : ℕ) → Executes thing_index [] old new (Ok count) → MakesIndex thing_index old.now new.now
+makes_thing = makes_index thing_index thing_only thing_of
 
 -- ---- UPDATE of the version
 
@@ -116,6 +149,16 @@ version_writes db ours = let it = ours.has Meta in means_writes db.schema versio
 pub sets_version : Does IsOurs (λ db. WasFree version_write (tables_of db)) (Puts (version_write ∷ [])) version_text (number_value 1 ∷ number_value NEWEST ∷ [])
 unfolding everything
 sets_version = sets_columns Meta _ _ (row_updated (table_key Meta) 0 ((2, 1) ∷ []) _ (λ tree. (refl, refl, refl), refl) refl refl refl (λ r. refl) (λ r. refl))
+
+-- the version is set, and nothing else
+pub version_set : (old new : State) → IsOurs old.now → (count : ℕ) → ExecutesInside 0 version_text (number_value 1 ∷ number_value NEWEST ∷ []) old new (Ok count) → WritesOnly (version_write ∷ []) old.now new.now
+version_set old new ours count ran =
+    let it = ours.has Meta in
+    record {
+      makes = (sets_version.does old new ours (Ok count) ran).0.makes;
+      spares = spares_less filled_names (name_of Meta ∷ []) old.now new.now (among_first (name_of Meta) (name_of Stations ∷ []))
+          (spares_updating (layout_of Meta) (keys_of Meta) old new it version_text _ count _ (update_means version_query (layout_of Meta) version_text updates_version old.now.schema it.at it.tree it.has) ran.0);
+    }
 
 -- ---- INSERT of a station
 
@@ -182,6 +225,18 @@ pub adds_station : (row : Row) → IsStationRow row → Does IsOurs (λ db. WasF
 unfolding everything
 adds_station row it = let suit = station_suits row it in adds_row Stations (row_put (table_key Stations) inserts_station refl suit (λ rows. refl))
 
+-- the station is added, and nothing else
+pub station_added : (row : Row) → IsStationRow row → (old new : State) → IsOurs old.now → (count : ℕ) → ExecutesInside 0 station_text (station_row row) old new (Ok count) → WritesOnly (Add Stations (station_row row) ∷ []) old.now new.now
+station_added row suits old new ours count ran =
+    let it = ours.has Stations in
+    let values = Values (row_terms (layout_of Stations)) (width (layout_of Stations)) in
+    record {
+      makes = ((adds_station row suits).does old new ours (Ok count) ran).0.makes;
+      spares = spares_less filled_names (name_of Stations ∷ []) old.now new.now (among_rest (name_of Meta) (name_of Stations ∷ []))
+          (spares_inserting (layout_of Stations) (keys_of Stations) old new it station_text (station_row row) count (width (layout_of Stations)) (row_terms (layout_of Stations))
+          (insert_is old.now.schema it.at (table_of (layout_of Stations) it.tree) it.has station_text values (inserts_station old.now.schema it.tree)) ran.0);
+    }
+
 -- ---- DROP
 
 pub drop_writes : (e : Earlier) (text : List ℕ) → IsDrop (first text) (stations_name e) → (db : Database) → Stands db 1 (stations_layout e) → IsWriteIn db.schema text
@@ -195,8 +250,12 @@ drop_writes e text is db was c understood_is = elim (drop_means db.schema was.at
     found Second was = was.has.found
 
 pub drops : (e : Earlier) (text : List ℕ) → IsDrop (first text) (stations_name e) → (old new : State) → IsDatabase old.now → Stands old.now 1 (stations_layout e) → (count : ℕ) → Executes text [] old new (Ok count) → DropsStations e old.now new.now
-drops First text is old new sound was count ran = let it = table_dropped text 1 (stations_layout First) is old new sound was count ran in record { sound = it.sound; others = it.others }
-drops Second text is old new sound was count ran = let it = table_dropped text 1 (stations_layout Second) is old new sound was count ran in record { sound = it.sound; others = it.others }
+drops First text is old new sound was count ran =
+    let it = table_dropped text 1 (stations_layout First) is old new sound was count ran in
+    record { sound = it.sound; gone = it.free; others = it.others; spares = spares_dropping (stations_layout First) 1 old.now new.now was it }
+drops Second text is old new sound was count ran =
+    let it = table_dropped text 1 (stations_layout Second) is old new sound was count ran in
+    record { sound = it.sound; gone = it.free; others = it.others; spares = spares_dropping (stations_layout Second) 1 old.now new.now was it }
 
 pub first_drops : IsDrop (first (codes "DROP TABLE stations")) (codes "stations")
 unfolding everything

@@ -1,4 +1,5 @@
 pub mod Calls
+pub mod Spared
 pub mod Stations
 pub mod Raised
 pub mod Verdicts

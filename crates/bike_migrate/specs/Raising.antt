@@ -12,7 +12,7 @@ use Rattle.bike_book.specs.Tables.{TableName, Stations}
 use Rattle.bike_schema.specs.Layouts.{name_of}
 use Rattle.bike_schema.specs.Makes.{Continues}
 use Rattle.bike_schema.specs.Stands.{AllLeft, StandsFor, TreesStandFor}
-use Rattle.bike_schema.specs.Tables.{tables_of}
+use Rattle.bike_schema.specs.Tables.{tables_of, HasNone}
 use Rattle.bike_schema.specs.declared.fault.StatementFault.{StatementFault}
 use Rattle.bike_schema.specs.declared.fault.StatementFault.TheVariants as statement
 use Rattle.bike_readings.specs.Rules.{IsFirstBad, IsVerdict}
@@ -105,13 +105,22 @@ module _ {S : Type 0} (g : Ghosts S) where
   -- On a database of the version: a transaction is begun, and what it sees was judged. Nothing is committed.
   pub record Attempts (e : Earlier) (old new : Held S) (result : Result (Option BadRow) StatementFault) : Type 0 where
     pub judged : HasCleanDisk (state g new) → IsEarlier e (state g old).now
-        → IfOk result (λ bad. Continues (state g old) (state g new) × IsJudged e (state g old).now (state g new).now (option_map row_name bad))
+        → IfOk result (λ bad. Continues (state g old) (state g new)
+        × IsJudged e (state g old).now (state g new).now (option_map row_name bad))
     pub survives : Survives (state g old) (state g new) (λ _. ¬ IsEarlier e (state g old).now)
 
-  -- what is seen is committed, or undone where a row is bad
+  -- what is seen is committed
+  abbrev pub IsCommitted : Held S → Held S → Type 0
+  IsCommitted old new = Shows (state g old) (state g new) (state g old).now (state g old).now false
+
+  -- what was committed is seen
+  abbrev pub IsUndone : Held S → Held S → Type 0
+  IsUndone old new = Shows (state g old) (state g new) (state g old).committed (state g old).committed false
+
+  -- the one, or the other where a row is bad
   abbrev pub Ends : Held S → Held S → Option BadRow → Type 0
-  Ends old new None = Shows (state g old) (state g new) (state g old).now (state g old).now false
-  Ends old new (Some bad) = Shows (state g old) (state g new) (state g old).committed (state g old).committed false
+  Ends old new None = IsCommitted old new
+  Ends old new (Some bad) = IsUndone old new
 
   -- what it commits, if anything
   abbrev pub CommitsBy : Held S → Option BadRow → Trees → Type 0
@@ -119,7 +128,8 @@ module _ {S : Type 0} (g : Ghosts S) where
   CommitsBy old (Some bad) trees = ⊥
 
   -- The transaction was ended.
-  pub record EndsTransaction (old new : Held S) (bad : Option BadRow) (result : Result (Option BadRow) StatementFault) : Type 0 where
+  pub record EndsTransaction (old new : Held S) (bad : Option BadRow) (result : Result (Option BadRow) StatementFault)
+      : Type 0 where
     pub ended : HasCleanDisk (state g new) → IfOk result (λ b. (b ≡ bad) × Ends old new bad)
     pub outside : OnOk result (new.in_transaction ≡ false)
     pub survives : Survives (state g old) (state g new) (CommitsBy old bad)
@@ -130,15 +140,19 @@ module _ {S : Type 0} (g : Ghosts S) where
 
   -- raised and committed, or as before where a row is bad
   abbrev pub BecomesAt : Earlier → Held S → Held S → Option BadRow → Type 0
-  BecomesAt e old new None = Shows (state g old) (state g new) (state g new).now (state g new).now false × Raises e (state g old).now (state g new).now
+  BecomesAt e old new None =
+      Shows (state g old) (state g new) (state g new).now (state g new).now false × Raises e (state g old).now (state g new).now
   BecomesAt e old new (Some bad) = IsAsBefore old new
 
   -- WHAT RAISING IN PLACE DOES to a database of the version, on which nothing is pending
-  pub record RaisesInPlace (e : Earlier) (old new : Held S) (result : Result (Option BadRow) StatementFault) : Type 0 where
+  pub record RaisesInPlace (e : Earlier) (old new : Held S) (result : Result (Option BadRow) StatementFault)
+      : Type 0 where
     pub ends : HasCleanDisk (state g new) → IsEarlier e (state g old).now
-        → IfOk result (λ bad. IsVerdictBefore (tables_raised e (state g old).now) (option_map row_name bad) × BecomesAt e old new bad)
+        → IfOk result (λ bad. IsVerdictBefore (tables_raised e (state g old).now) (option_map row_name bad)
+        × BecomesAt e old new bad)
     pub outside : OnOk result (new.in_transaction ≡ false)
-    pub survives : Survives (state g old) (state g new) (λ trees. IsEarlier e (state g old).now → MayCommit e (state g old).now trees)
+    pub survives : Survives (state g old) (state g new)
+        (λ trees. IsEarlier e (state g old).now → MayCommit e (state g old).now trees)
 
   -- ---- of any database
 
@@ -206,14 +220,27 @@ module _ {S : Type 0} where
   abbrev pub IsOutside : RaiseFault S → Type 0
   IsOutside e = IsOutsideFor e.conn e.cause
 
+  -- what a crash may leave, where the disk is clean
+  abbrev pub Leaves : Ghosts S → (Trees → Type 0) → Held S → Type 0
+  Leaves g P c = HasCleanDisk (state g c) → AllLeft (state g c) P
+
   -- WHAT A RAISE OWES: the connection to a database that stands, at the newest version, for the operator for whom it stood at its own, or a fault
   -- that hands the connection back
   pub record IsRaise (g : Ghosts S) (old : Held S) (result : Result (Held S) (RaiseFault S)) : Type 0 where
     pub clean : MatchResult result (λ c. doubt (state g old).is_clean ≤ doubt (state g c).is_clean)
         (λ e. doubt (state g old).is_clean ≤ doubt (state g (handed e)).is_clean)
-    pub only : IfOk result (λ c. HasCleanDisk (state g c) → (v : Option Earlier) × (s : Operator) × StandsForAt v (state g old).now s × Holds (state g c) s)
+    pub only : IfOk result (λ c. HasCleanDisk (state g c)
+        → (v : Option Earlier) × (s : Operator) × StandsForAt v (state g old).now s × Holds (state g c) s)
     pub others : IfOk result (λ c. HasCleanDisk (state g c) → OthersKept (state g old).now (state g c).now)
-    pub found : (v : Option Earlier) (s : Operator) → TreesStandForAt v s (state g old).now.trees → IfOk result (λ c. HasCleanDisk (state g c) → Holds (state g c) s)
+    -- a database of the newest version comes back as it was, and so does one with none of the product's tables
+    pub newest : IsFoundAs (state g old).now found.Newest
+        → IfOk result (λ c. HasCleanDisk (state g c) → IsAsBefore g old c)
+    pub empty : HasNone (state g old).now.schema → IfOk result (λ c. HasCleanDisk (state g c) → IsAsBefore g old c)
+    -- one of an earlier version comes back raised, with nothing else changed
+    pub raised : (e : Earlier) → IsFoundAs (state g old).now (found.Of e)
+        → IfOk result (λ c. HasCleanDisk (state g c) → Raises e (state g old).now (state g c).now)
+    pub found : (v : Option Earlier) (s : Operator) → TreesStandForAt v s (state g old).now.trees
+        → IfOk result (λ c. HasCleanDisk (state g c) → Holds (state g c) s)
     -- tables that stand for an operator are refused for memory or storage alone
     pub refused : (v : Option Earlier) (s : Operator) → TreesStandForAt v s (state g old).now.trees
         → IfErr result (λ e. HasCleanDisk (state g (handed e)) → IsWant e)
@@ -222,8 +249,8 @@ module _ {S : Type 0} where
     pub ended : IfErr result (λ e. HasCleanDisk (state g (handed e)) → (handed e).in_transaction ≡ false)
     -- what a crash may leave after a fault; of a connection that was shut, too: what it might leave before, or tables that stand for the operator
     pub crash : (v : Option Earlier) (s : Operator) → TreesStandForAt v s (state g old).now.trees
-        → IfErr result (λ e. HasCleanDisk (state g (handed e)) → AllLeft (state g (handed e)) (λ trees. (state g old).may_leave trees ⊎ TreesStandFor s trees))
-    pub left : (v : Option Earlier) (s : Operator) → TreesStandForAt v s (state g old).now.trees → IsTrue (state g old).is_open
-        → IfErr result (λ e. HasCleanDisk (state g (handed e)) → AllLeft (state g (handed e)) (TreesStandSince v s))
+        → IfErr result (λ e. Leaves g (λ trees. (state g old).may_leave trees ⊎ TreesStandFor s trees) e.conn)
+    pub left : (v : Option Earlier) (s : Operator) → TreesStandForAt v s (state g old).now.trees
+        → IsTrue (state g old).is_open → IfErr result (λ e. Leaves g (TreesStandSince v s) e.conn)
     pub stays : ((v : Option Earlier) (s : Operator) → ¬ StandsForAt v (state g old).now s)
-        → IfErr result (λ e. HasCleanDisk (state g (handed e)) → AllLeft (state g (handed e)) (state g old).may_leave)
+        → IfErr result (λ e. Leaves g (state g old).may_leave e.conn)

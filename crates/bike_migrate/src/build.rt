@@ -1,16 +1,15 @@
 //! The newest tables, made and filled inside the connection's transaction.
 
-ghost use Rattle.std.specs.Prelude.{◌≡◌, [], ◌∷◌};
 ghost use Rattle.bike_book.specs.Tables.{Regions, Stations, MoreNames};
-ghost use Rattle.bike_schema.specs.Layouts.{name_of};
 ghost use Rattle.sqlite_resolve.specs.Compile.{first};
 ghost use Rattle.bike_rows.specs.Drops.{IsDrop};
-ghost use Rattle.bike_earlier.specs.Earlier.{stations_layout, stations_name, IsAt};
-ghost use Rattle.bike_rows.specs.Stands.{Stands};
+ghost use Rattle.bike_earlier.specs.Earlier.{newer_names, stations_name, IsAt};
+ghost use Rattle.bike_earlier.specs.declared.earlier.Earlier.TheVariants.{Second};
+ghost use Rattle.bike_recognition.specs.Recognition.{TableStands};
 ghost use Rattle.sqlite.specs.Effect.{IsDatabase};
-ghost use Rattle.bike_rows.specs.Stands.{Indexes};
-ghost use Rattle.bike_migrate.specs.Calls.{DoesInside};
-ghost use Rattle.bike_migrate.specs.Raised.{AreUnnamed, MakesTable, MakesNewer, MakesTables, Fills, old_stations, DropsStations};
+ghost use Rattle.bike_migrate.specs.Calls.{ChangesInside};
+ghost use Rattle.bike_migrate.specs.Raised.{IsUnnamed, AreUnnamed, language_index, thing_index, HasStations, HasOld};
+ghost use Rattle.bike_migrate.specs.Raised.{MakesTable, MakesIndex, MakesIndexes, MakesNewer, MakesTables, Fills, DropsStations};
 
 use crate::copy::fill;
 use crate::inside::run;
@@ -20,42 +19,42 @@ use sqlite::{Alter, Connection, Row};
 
 /// Makes the table of regions.
 fn create_regions<S: Alter>(conn: &mut Connection<S>) -> Result<(), StatementFault>
-    ensures { DoesInside S.Store (AreUnnamed (name_of Regions ∷ [])) conn.old conn.new result (λ old new _. MakesTable Regions old new) }
+    ensures { ChangesInside S.Store (IsUnnamed Regions) conn.old conn.new result (MakesTable Regions) }
 {
     run(conn, TABLES[5], &[])
 }
 
 /// Makes the table of stations.
 fn create_stations<S: Alter>(conn: &mut Connection<S>) -> Result<(), StatementFault>
-    ensures { DoesInside S.Store (AreUnnamed (name_of Stations ∷ [])) conn.old conn.new result (λ old new _. MakesTable Stations old new) }
+    ensures { ChangesInside S.Store (IsUnnamed Stations) conn.old conn.new result (MakesTable Stations) }
 {
     run(conn, TABLES[6], &[])
 }
 
 /// Makes the table of further names.
 fn create_names<S: Alter>(conn: &mut Connection<S>) -> Result<(), StatementFault>
-    ensures { DoesInside S.Store (AreUnnamed (name_of MoreNames ∷ [])) conn.old conn.new result (λ old new _. MakesTable MoreNames old new) }
+    ensures { ChangesInside S.Store (IsUnnamed MoreNames) conn.old conn.new result (MakesTable MoreNames) }
 {
     run(conn, TABLES[16], &[])
 }
 
 /// Makes the index of further names by their languages.
 fn index_by_language<S: Alter>(conn: &mut Connection<S>) -> Result<(), StatementFault>
-    ensures { DoesInside S.Store (AreUnnamed []) conn.old conn.new result (λ old new _. Indexes old new) }
+    ensures { ChangesInside S.Store (TableStands MoreNames) conn.old conn.new result (MakesIndex language_index) }
 {
     run(conn, INDEXES[3], &[])
 }
 
 /// Makes the index of further names by what they name.
 fn index_by_thing<S: Alter>(conn: &mut Connection<S>) -> Result<(), StatementFault>
-    ensures { DoesInside S.Store (AreUnnamed []) conn.old conn.new result (λ old new _. Indexes old new) }
+    ensures { ChangesInside S.Store (TableStands MoreNames) conn.old conn.new result (MakesIndex thing_index) }
 {
     run(conn, INDEXES[4], &[])
 }
 
 /// Makes the indexes of further names.
 fn create_indexes<S: Alter>(conn: &mut Connection<S>) -> Result<(), StatementFault>
-    ensures { DoesInside S.Store (AreUnnamed []) conn.old conn.new result (λ old new _. Indexes old new) }
+    ensures { ChangesInside S.Store (TableStands MoreNames) conn.old conn.new result MakesIndexes }
 {
     index_by_language(conn)?;
     index_by_thing(conn)
@@ -63,7 +62,7 @@ fn create_indexes<S: Alter>(conn: &mut Connection<S>) -> Result<(), StatementFau
 
 /// Makes the tables that both earlier versions lack.
 fn make_newer<S: Alter>(conn: &mut Connection<S>) -> Result<(), StatementFault>
-    ensures { DoesInside S.Store (AreUnnamed (name_of Stations ∷ name_of MoreNames ∷ [])) conn.old conn.new result (λ old new _. MakesNewer old new) }
+    ensures { ChangesInside S.Store (AreUnnamed (newer_names Second)) conn.old conn.new result MakesNewer }
 {
     create_stations(conn)?;
     create_names(conn)?;
@@ -72,7 +71,7 @@ fn make_newer<S: Alter>(conn: &mut Connection<S>) -> Result<(), StatementFault>
 
 /// Makes the tables that the version lacks.
 fn make_tables<S: Alter>(conn: &mut Connection<S>, earlier: Earlier) -> Result<(), StatementFault>
-    ensures { DoesInside S.Store (IsAt earlier) conn.old conn.new result (λ old new _. MakesTables earlier old new) }
+    ensures { ChangesInside S.Store (IsAt earlier) conn.old conn.new result (MakesTables earlier) }
 {
     match earlier {
         Earlier::First => {
@@ -89,7 +88,7 @@ pub(crate) fn build<S: Alter>(
     earlier: Earlier,
     rows: &[Row],
 ) -> Result<(), StatementFault>
-    ensures { DoesInside S.Store (λ db. IsAt earlier db × (rows.now ≡ old_stations earlier db)) conn.old conn.new result (λ old new _. Fills earlier old new) }
+    ensures { ChangesInside S.Store (HasStations earlier rows.now) conn.old conn.new result (Fills earlier) }
 {
     make_tables(conn, earlier)?;
     fill(conn, rows)
@@ -110,7 +109,8 @@ pub(crate) fn drop_stations<S: Alter>(
     conn: &mut Connection<S>,
     earlier: Earlier,
 ) -> Result<(), StatementFault>
-    ensures { DoesInside S.Store (λ db. IsDatabase db × Stands db 1 (stations_layout earlier)) conn.old conn.new result (λ old new _. DropsStations earlier old new) }
+    ensures { ChangesInside S.Store (λ db. IsDatabase db × HasOld earlier db) conn.old conn.new result
+        (DropsStations earlier) }
 {
     run(conn, drop_text(earlier), &[])
 }

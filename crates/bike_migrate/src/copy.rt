@@ -1,13 +1,10 @@
 //! The stations, copied into the newest table.
 
 ghost use Rattle.std.specs.Prelude.{[], ◌∷◌, IsTrue};
-ghost use Rattle.bike_book.specs.Tables.{Stations};
-ghost use Rattle.bike_book.specs.Writes.{Add};
-ghost use Rattle.bike_schema.specs.Makes.{Makes};
 ghost use Rattle.bike_schema.specs.Tables.{IsOurs};
-ghost use Rattle.bike_migrate.specs.Calls.{DoesInside};
-ghost use Rattle.bike_migrate.specs.Raised.{version_write, station_writes};
-ghost use Rattle.bike_migrate.specs.Stations.{station_row, IsStationRow};
+ghost use Rattle.bike_migrate.specs.Calls.{ChangesInside};
+ghost use Rattle.bike_migrate.specs.Raised.{version_write, station_writes, fill_writes, WritesOnly};
+ghost use Rattle.bike_migrate.specs.Stations.{IsStationRow};
 
 use crate::inside::run;
 use crate::stations::{are_texts, are_wholes, value_at};
@@ -34,7 +31,7 @@ const WHOLES: [usize; 9] = [
 
 /// Sets the version in the row of `meta` to the newest.
 fn set_version<S: Alter>(conn: &mut Connection<S>) -> Result<(), StatementFault>
-    ensures { DoesInside S.Store IsOurs conn.old conn.new result (λ old new _. Makes (version_write ∷ []) old new) }
+    ensures { ChangesInside S.Store IsOurs conn.old conn.new result (WritesOnly (version_write ∷ [])) }
 {
     run(
         conn,
@@ -53,7 +50,7 @@ fn is_station(row: &Row) -> bool
 /// Adds a station.
 fn put_station<S: Alter>(conn: &mut Connection<S>, row: &Row) -> Result<(), StatementFault>
     requires { IsStationRow row.now }
-    ensures { DoesInside S.Store IsOurs conn.old conn.new result (λ old new _. Makes (Add Stations (station_row row.now) ∷ []) old new) }
+    ensures { ChangesInside S.Store IsOurs conn.old conn.new result (WritesOnly (station_writes (row.now ∷ []))) }
 {
     run(
         conn,
@@ -77,7 +74,7 @@ fn put_station<S: Alter>(conn: &mut Connection<S>, row: &Row) -> Result<(), Stat
 
 /// Adds a station as the old table has it. A sound database stores in a column only what suits it: anything else is `StoreFailed`.
 fn copy_station<S: Alter>(conn: &mut Connection<S>, row: &Row) -> Result<(), StatementFault>
-    ensures { DoesInside S.Store IsOurs conn.old conn.new result (λ old new _. Makes (Add Stations (station_row row.now) ∷ []) old new) }
+    ensures { ChangesInside S.Store IsOurs conn.old conn.new result (WritesOnly (station_writes (row.now ∷ []))) }
 {
     if is_station(row) {
         put_station(conn, row)
@@ -88,7 +85,7 @@ fn copy_station<S: Alter>(conn: &mut Connection<S>, row: &Row) -> Result<(), Sta
 
 /// Sets the version in the row of `meta`, and adds these stations.
 pub(crate) fn fill<S: Alter>(conn: &mut Connection<S>, rows: &[Row]) -> Result<(), StatementFault>
-    ensures { DoesInside S.Store IsOurs conn.old conn.new result (λ old new _. Makes (version_write ∷ station_writes rows.now) old new) }
+    ensures { ChangesInside S.Store IsOurs conn.old conn.new result (WritesOnly (fill_writes rows.now)) }
 {
     set_version(conn)?;
     for row in rows {

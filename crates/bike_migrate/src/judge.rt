@@ -57,7 +57,8 @@ fn bad_station(key: BadKey) -> BadRow
 
 /// The first of a bad row and of a bad station.
 fn lesser(found: BadRow, key: BadKey) -> Option<BadRow>
-    ensures { option_map row_name result ≡ lesser_of (against_stations (table_named found.table)) (row_name found) (key_row key) }
+    ensures { option_map row_name result
+        ≡ lesser_of (against_stations (table_named found.table)) (row_name found) (key_row key) }
 {
     match against_stations(found.table) {
         Ordering::Less => Some(found),
@@ -89,7 +90,8 @@ pub(crate) fn judge<S: Alter, P: Watch>(
     watch: &mut P,
 ) -> Result<Option<BadRow>, StatementFault>
     ensures { ReadsWhere S.Store IsOurs conn.old conn.new result
-        (λ db bad. AreCopies rows.now (tables_of db).stations → IsVerdictBefore (tables_of db) (option_map row_name bad)) }
+        (λ db bad. AreCopies rows.now (tables_of db).stations
+        → IsVerdictBefore (tables_of db) (option_map row_name bad)) }
 {
     let found = first_bad_row(alloc, conn, watch)?;
     let over = first_over(rows)?;

@@ -1,13 +1,14 @@
 //! Raising a database of an earlier version to the newest.
 
-ghost use Rattle.std.specs.Prelude.{◌≡◌, false, option_map, OnOk};
+ghost use Rattle.std.specs.Prelude.{◌≡◌, false, None, option_map, OnOk};
 ghost use Rattle.sqlite.specs.Held.{state};
-ghost use Rattle.sqlite.specs.State.{HasCleanDisk, Shows, Survives};
+ghost use Rattle.sqlite.specs.State.{HasCleanDisk, Survives};
 ghost use Rattle.bike_audit.specs.Audit.{row_name, IsVerdictOn};
 ghost use Rattle.bike_recognition.specs.Recognition.{ReadsAny};
 ghost use Rattle.bike_migrate.specs.Calls.{DoesInside};
-ghost use Rattle.bike_migrate.specs.Raised.{IsEarlier, old_stations};
-ghost use Rattle.bike_migrate.specs.Raising.{IsJudged, Attempts, EndsTransaction, RaisesInPlace, cause_of, ComesTo, IsRaise};
+ghost use Rattle.bike_migrate.specs.Raised.{WasRead};
+ghost use Rattle.bike_migrate.specs.Raising.{IsJudged, Attempts, IsCommitted, IsUndone, CommitsBy, EndsTransaction};
+ghost use Rattle.bike_migrate.specs.Raising.{RaisesInPlace, cause_of, ComesTo, IsRaise};
 
 use crate::build::{build, drop_stations};
 use crate::fault::{RaiseCause, RaiseFault, UnsoundRow};
@@ -29,7 +30,7 @@ fn raise_inside<S: Alter, P: Watch>(
     rows: &[Row],
     watch: &mut P,
 ) -> Result<Option<BadRow>, StatementFault>
-    ensures { DoesInside S.Store (λ db. IsEarlier earlier db × (rows.now ≡ old_stations earlier db)) conn.old conn.new result
+    ensures { DoesInside S.Store (WasRead earlier rows.now) conn.old conn.new result
         (λ old new bad. IsJudged earlier old new (option_map row_name bad)) }
 {
     build(conn, earlier, rows)?;
@@ -58,9 +59,9 @@ fn attempt<S: Alter, P: Watch>(
 
 /// Commits the transaction. `StoreFailed` says nothing of whether it was.
 fn end_raised<S: Alter>(conn: &mut Connection<S>) -> Result<(), StatementFault>
-    ensures ended { HasCleanDisk (state S.Store conn.new) → OnOk result (Shows (state S.Store conn.old) (state S.Store conn.new) (state S.Store conn.old).now (state S.Store conn.old).now false) }
+    ensures ended { HasCleanDisk (state S.Store conn.new) → OnOk result (IsCommitted S.Store conn.old conn.new) }
     ensures outside { OnOk result (conn.new.in_transaction ≡ false) }
-    ensures survives { Survives (state S.Store conn.old) (state S.Store conn.new) (λ db. db ≡ (state S.Store conn.old).now.trees) }
+    ensures survives { Survives (state S.Store conn.old) (state S.Store conn.new) (CommitsBy S.Store conn.old None) }
 {
     commit(conn)?;
     if conn.is_autocommit() {
@@ -72,7 +73,7 @@ fn end_raised<S: Alter>(conn: &mut Connection<S>) -> Result<(), StatementFault>
 
 /// Undoes the transaction. After an error it may be open still.
 fn end_undone<S: Alter>(conn: &mut Connection<S>) -> Result<(), StatementFault>
-    ensures ended { HasCleanDisk (state S.Store conn.new) → OnOk result (Shows (state S.Store conn.old) (state S.Store conn.new) (state S.Store conn.old).committed (state S.Store conn.old).committed false) }
+    ensures ended { HasCleanDisk (state S.Store conn.new) → OnOk result (IsUndone S.Store conn.old conn.new) }
     ensures outside { OnOk result (conn.new.in_transaction ≡ false) }
     ensures survives { Survives (state S.Store conn.old) (state S.Store conn.new) (λ _. ⊥) }
 {

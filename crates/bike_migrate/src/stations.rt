@@ -5,9 +5,8 @@ ghost use Rattle.std.specs.List.{list_all};
 ghost use Rattle.sqlite_value.specs.Order.{column};
 ghost use Rattle.sqlite_value.specs.Value.{owned};
 ghost use Rattle.bike_rows.specs.Calls.{ReadsWhere};
-ghost use Rattle.bike_rows.specs.Stands.{Stands};
 ghost use Rattle.bike_earlier.specs.Earlier.{stations_layout};
-ghost use Rattle.bike_migrate.specs.Raised.{old_stations};
+ghost use Rattle.bike_migrate.specs.Raised.{old_stations, HasOld};
 ghost use Rattle.bike_migrate.specs.Stations.{AsksRows, is_text, is_whole, has_few, IsOver};
 
 use bike_book::columns::stations;
@@ -31,7 +30,8 @@ pub(crate) fn read_stations<S: Alter>(
     conn: &mut Connection<S>,
     earlier: Earlier,
 ) -> Result<Vec<Row>, StatementFault>
-    ensures { ReadsWhere S.Store (λ db. Stands db 1 (stations_layout earlier)) conn.old conn.new result (λ db rows. rows.items ≡ old_stations earlier db) }
+    ensures { ReadsWhere S.Store (HasOld earlier) conn.old conn.new result
+        (λ db rows. rows.items ≡ old_stations earlier db) }
 {
     let rows = conn.query_all(stations_query(earlier), &[])?;
     Ok(rows)

@@ -1,11 +1,10 @@
 use Rattle.std.proofs.Common.{◌∷◌, take, Ok}
-use Rattle.bike_schema.specs.Makes.{Makes}
 use Rattle.bike_schema.specs.Tables.{IsOurs}
 use Rattle.bike_schema.specs.declared.fault.StatementFault.{StatementFault}
 use Rattle.bike_migrate.specs.Calls.{DoesInside}
-use Rattle.bike_migrate.specs.Raised.{version_write, station_writes}
+use Rattle.bike_migrate.specs.Raised.{version_write, station_writes, WritesOnly}
 use Rattle.bike_migrate.proofs.copy.fill.Given as goal
 
 -- so many stations were added, after the version was set
 abbrev pub invariant-loop-row : goal.invariant-loop-row
-invariant-loop-row g l = DoesInside g.S.Store IsOurs l.fn.conn l.conn {X = Unit {0}} {E = StatementFault} (Ok tt) (λ old new _. Makes (version_write ∷ station_writes (take l.row-index l.rows)) old new)
+invariant-loop-row g l = DoesInside g.S.Store IsOurs l.fn.conn l.conn {X = Unit {0}} {E = StatementFault} (Ok tt) (λ old new _. WritesOnly (version_write ∷ station_writes (take l.row-index l.rows)) old new)
