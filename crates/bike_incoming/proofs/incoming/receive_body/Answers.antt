@@ -22,3 +22,13 @@ pub returns-then-not-branch-clause-asks : goal.returns-then-not-branch-clause-as
 returns-then-not-branch-clause-asks g c =
     let cut : c.in_ok-receive_until.field-0 ≡ false = search in
     cut_body _ _ _ _ c.args.head c.in-Of.size c.requires c.in-Of.is (rw cut at c.in_ok-receive_until.ensures)
+
+pub returns-clause-asks : goal.returns-clause-asks
+returns-clause-asks g c =
+    let whole : c.in_ok-receive_until.field-0 ≡ true = search in
+    whole_asked _ _ _ _ c.args.head c.in-Of.size _ _ _ _ c.requires c.in-Of.is (rw whole at c.in_ok-receive_until.ensures) (search) (search) (search) c.in_ok-ask.ensures.asked
+
+pub returns-in_err-ask-clause-memory : goal.returns-in_err-ask-clause-memory
+returns-in_err-ask-clause-memory g c is =
+    let whole : c.in_ok-receive_until.field-0 ≡ true = search in
+    wants_asked _ _ _ _ c.args.head c.in-Of.size _ _ c.requires c.in-Of.is (rw whole at c.in_ok-receive_until.ensures) (search) (search) c.in_err-ask.ensures.memory
