@@ -18,8 +18,8 @@ use Rattle.bike_operator.specs.declared.records.Bike.{Bike}
 use Rattle.bike_operator.specs.declared.records.Closing.{Closing}
 use Rattle.bike_operator.specs.declared.records.Rental.{Rental}
 use Rattle.bike_operator.specs.declared.records.Order.{Order}
-use Rattle.bike_heads.specs.declared.aim.Rejection.{Rejection}
-use Rattle.bike_heads.specs.declared.aim.Rejection.TheVariants as rejection
+use Rattle.bike_heads.specs.declared.rejection.Rejection.{Rejection}
+use Rattle.bike_heads.specs.declared.rejection.Rejection.TheVariants as rejection
 use Rattle.bike_answers.specs.declared.answer.Answer.{Answer}
 use Rattle.bike_answers.specs.declared.answer.Answer.TheVariants as answer
 use Rattle.bike_answers.specs.declared.answer.RiderRow.{RiderRow}

@@ -1,7 +1,7 @@
 -- The head of an answer (RFC 9112, section 4).
 use Rattle.std.specs.Prelude.{ℕ, List, [], ◌∷◌, ◌++◌, ◌==◌, if◌then◌else◌, codes, decimal, Option, Some, None}
-use Rattle.bike_heads.specs.declared.aim.Allow.{Allow}
-use Rattle.bike_heads.specs.declared.aim.Allow.TheVariants.{Get, Post}
+use Rattle.bike_heads.specs.declared.rejection.Allow.{Allow}
+use Rattle.bike_heads.specs.declared.rejection.Allow.TheVariants.{Get, Post}
 
 -- the reason that stands behind a status
 abbrev pub reason_of : ℕ → List ℕ

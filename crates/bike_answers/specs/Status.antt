@@ -4,9 +4,9 @@ use Rattle.bike_commands.specs.declared.refusal.Refusal.{Refusal}
 use Rattle.bike_commands.specs.declared.refusal.Refusal.TheVariants as refusal
 use Rattle.bike_commands.specs.declared.reply.Reply.{Reply}
 use Rattle.bike_commands.specs.declared.reply.Reply.TheVariants.{Refused}
-use Rattle.bike_heads.specs.declared.aim.Allow.{Allow}
-use Rattle.bike_heads.specs.declared.aim.Rejection.{Rejection}
-use Rattle.bike_heads.specs.declared.aim.Rejection.TheVariants.{BadRequest, BadField, NotFound, MethodNotAllowed, TooLarge}
+use Rattle.bike_heads.specs.declared.rejection.Allow.{Allow}
+use Rattle.bike_heads.specs.declared.rejection.Rejection.{Rejection}
+use Rattle.bike_heads.specs.declared.rejection.Rejection.TheVariants.{BadRequest, BadField, NotFound, MethodNotAllowed, TooLarge}
 use Rattle.bike_answers.specs.declared.answer.Answer.{Answer}
 use Rattle.bike_answers.specs.declared.answer.Answer.TheVariants as answer
 

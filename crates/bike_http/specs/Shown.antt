@@ -6,9 +6,9 @@ use Rattle.bike_operator.specs.declared.records.Closing.{Closing}
 use Rattle.bike_operator.specs.declared.records.Rental.{Rental}
 use Rattle.bike_operator.specs.Operator.{Operator, Rider, item_numbered}
 use Rattle.bike_office_reads.specs.Newest.{open_number}
-use Rattle.bike_heads.specs.declared.aim.Rejection.TheVariants.{NotFound}
-use Rattle.bike_heads.specs.declared.resource.Shown.{Shown}
-use Rattle.bike_heads.specs.declared.resource.Shown.TheVariants as shown
+use Rattle.bike_heads.specs.declared.rejection.Rejection.TheVariants.{NotFound}
+use Rattle.bike_heads.specs.declared.shown.Shown.{Shown}
+use Rattle.bike_heads.specs.declared.shown.Shown.TheVariants as shown
 use Rattle.bike_answers.specs.declared.answer.Answer.{Answer}
 use Rattle.bike_answers.specs.declared.answer.Answer.TheVariants as answer
 

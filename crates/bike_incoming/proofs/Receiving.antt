@@ -1,5 +1,5 @@
 -- What the bytes that were read say of the whole input.
-use Rattle.std.proofs.Common.{◌≡◌, ℕ, zero, suc, ◌+◌, ◌-◌, ◌<◌, ◌≤◌, List, [], ◌∷◌, ◌++◌, Bool, true, false, if◌then◌else◌, Option, Some, None, IfSome, Result, Ok, IfOk, nat_le, nat_lt, length, take, drop, map, slice_range, refl, sym, ap, ◌∙◌, subst, inl, inr, arith, append-nil, append_assoc, length-append, length-take}
+use Rattle.std.proofs.Common.{◌≡◌, ℕ, zero, suc, ◌+◌, ◌-◌, ◌<◌, ◌≤◌, List, [], ◌∷◌, ◌++◌, Bool, true, false, if◌then◌else◌, Option, Some, None, IfSome, nat_le, nat_lt, length, take, drop, map, slice_range, refl, sym, ap, ◌∙◌, subst, inl, inr, arith, append-nil, append_assoc, length-append, length-take}
 use Rattle.std.proofs.Math.Seq.{take-append-add, drop-append_seam}
 use Rattle.std.proofs.lemmas.Bool.{lt-leb, le-leb, lt-ltb}
 use Rattle.std.proofs.lemmas.Bool.Decides.{nat_tests}
@@ -7,25 +7,23 @@ use Rattle.std.proofs.lemmas.List.{take-append-le}
 use Rattle.std.proofs.KnownBytes.{Consumes-nil, Consumes-trans}
 use Rattle.std.specs.Io.KnownBytes.{Consumes, IsAtEnd}
 use Rattle.httparse.specs.Grammar.{RequestHead, IsRequestHead, HasNoRequest, print_request}
-use Rattle.httparse.specs.Spans.{name_and_value}
+use Rattle.httparse.specs.Spans.{IsWithin, span_bytes, name_and_value}
 use Rattle.httparse.proofs.GrammarLemmas.{ReadsRequest-append}
 use Rattle.std.specs.List.{filter, list_any}
+use Rattle.std.specs.Str.{IsUtf8}
 use Rattle.std.specs.Str.Parse.{digits_value}
-use Rattle.bike_heads.specs.Aim.{aim_of}
-use Rattle.bike_heads.specs.Head.{HasHead, HasNoHead, IsRead}
+use Rattle.bike_heads.specs.Head.{HasHead, HasNoHead, IsRead, IsTold}
 use Rattle.bike_heads.specs.Length.{Field, is_transfer_encoding, is_content_length, is_digits, size_of, sizes_tell, body_length}
-use Rattle.bike_heads.specs.declared.aim.Rejection.{Rejection}
-use Rattle.bike_heads.specs.declared.aim.Rejection.TheVariants.{BadRequest}
+use Rattle.bike_heads.specs.declared.rejection.Rejection.TheVariants.{BadRequest}
+use Rattle.bike_heads.proofs.Fronts.{told_stays}
 use Rattle.bike_heads.specs.declared.head.Head.{Head}
 use Rattle.bike_heads.specs.declared.head.HeadReading.TheVariants.{Whole}
-use Rattle.bike_heads.specs.declared.resource.Resource.{Resource}
 use Rattle.bike_heads.specs.declared.length.BodyLength.{BodyLength}
 use Rattle.bike_heads.specs.declared.length.BodyLength.TheVariants.{Malformed, TooLong, Of}
-use Rattle.bike_incoming.specs.Asked.{asked_for, asked_behind, Asks}
-use Rattle.bike_incoming.specs.Received.{Grew, Came, ReadsMore, Fills, IsOpened, NeverOpens, Opens, Received}
+use Rattle.bike_incoming.specs.Asked.{asked_for, asked_behind, Asks, IsToAct}
+use Rattle.bike_incoming.specs.Received.{Grew, Came, ReadsMore, Fills, IsOpened, NeverOpens, Opens, Received, WantsMemory}
 use Rattle.bike_incoming.specs.declared.asked.Asked.{Asked}
 use Rattle.bike_incoming.specs.declared.asked.Asked.TheVariants.{Reject}
-use Rattle.bike_incoming.specs.declared.incoming.Opened.{Opened}
 use Rattle.bike_incoming.specs.declared.incoming.Opening.TheVariants.{Empty, Unreadable}
 
 pub nonempty : (head : RequestHead) → IsRequestHead head → 0 < length (print_request head)
@@ -70,19 +68,8 @@ left_before all c before after left grew e = rw e at grew.consumed
 
 -- ---- the head
 
-pub told_opened : (read : List ℕ) (told : Head) (o : Opened) → IsRead read (Whole told) → o.length ≡ told.length → o.body ≡ told.body
-    → IfOk o.aim (λ aim. aim ≡ aim_of told.method.now told.target.now) → IsOpened read o
-told_opened read told o is len body aim =
-    let head = is.0 in
-    record {
-      head = head;
-      rest = is.1;
-      has = is.2;
-      length = len ∙ is.3.length;
-      body = body ∙ is.3.body;
-      aim = subst (λ (m : List ℕ). IfOk o.aim (λ a. a ≡ aim_of m head.target)) is.3.method
-          (subst (λ (t : List ℕ). IfOk o.aim (λ a. a ≡ aim_of told.method.now t)) is.3.target aim);
-    }
+pub told_opened : (read : List ℕ) (told : Head) → IsRead read (Whole told) → IsOpened read told
+told_opened read told is = record { head = is.0; rest = is.1; has = is.2; tells = is.3 }
 
 -- where no head came before the end of the input
 pub ended_opens : (read : List ℕ) (left : Option (List ℕ)) → HasNoRequest read → IsAtEnd left → 0 < length read → Opens read left Unreadable
@@ -113,28 +100,28 @@ unfolding body_length
 body_within fields n is =
     if_within (list_any is_transfer_encoding fields) (sizes_tell (filter is_content_length fields)) n is (sizes_within (filter is_content_length fields) n)
 
-pub opened_within : (read : List ℕ) (o : Opened) (n : ℕ) → IsOpened read o → o.body ≡ Of n → o.length + n ≤ 24576
+pub opened_within : (read : List ℕ) (o : Head) (n : ℕ) → IsOpened read o → o.body ≡ Of n → o.length + n ≤ 24576
 opened_within read o n is e =
-    let size = body_within (map name_and_value is.head.fields) n (sym is.body ∙ e) in
+    let size = body_within (map name_and_value is.head.fields) n (sym is.tells.body ∙ e) in
     let short = is.has.short in
-    let len = is.length in
+    let len = is.tells.length in
     omega arith
 
 -- what is behind the head
-pub asks_behind : (read left : List ℕ) (o : Opened) (asked : Asked) (is : IsOpened read o) → asked ≡ asked_behind o.body is.head (is.rest ++ left) → Asks (read ++ left) asked
+pub asks_behind : (read left : List ℕ) (o : Head) (asked : Asked) (is : IsOpened read o) → asked ≡ asked_behind o.body is.head (is.rest ++ left) → Asks (read ++ left) asked
 asks_behind read left o asked is e =
-    inl (is.head, is.rest ++ left, head_stays read left is.head is.rest is.has, e ∙ ap (λ (b : BodyLength). asked_behind b is.head (is.rest ++ left)) is.body)
+    inl (is.head, is.rest ++ left, head_stays read left is.head is.rest is.has, e ∙ ap (λ (b : BodyLength). asked_behind b is.head (is.rest ++ left)) is.tells.body)
 
-pub asks_known : (a : Option (List ℕ)) (read : List ℕ) (o : Opened) (asked : Asked) (is : IsOpened read o)
+pub asks_known : (a : Option (List ℕ)) (read : List ℕ) (o : Head) (asked : Asked) (is : IsOpened read o)
     → ((left : List ℕ) → a ≡ Some left → asked ≡ asked_behind o.body is.head (is.rest ++ left)) → IfSome a (λ left. Asks (read ++ left) asked)
 asks_known None read o asked is e = tt
 asks_known (Some left) read o asked is e = asks_behind read left o asked is (e left refl)
 
 -- the length of all that is there
-read_length : (read : List ℕ) (o : Opened) (is : IsOpened read o) → length read ≡ o.length + length is.rest
-read_length read o is = ap length is.has.reads.1 ∙ (length-append (print_request is.head) is.rest ∙ ap (λ (n : ℕ). n + length is.rest) (sym is.length))
+read_length : (read : List ℕ) (o : Head) (is : IsOpened read o) → length read ≡ o.length + length is.rest
+read_length read o is = ap length is.has.reads.1 ∙ (length-append (print_request is.head) is.rest ∙ ap (λ (n : ℕ). n + length is.rest) (sym is.tells.length))
 
-pub cut_body : (a b : Option (List ℕ)) (before after : List ℕ) (o : Opened) (n : ℕ) → IsOpened before o → o.body ≡ Of n
+pub cut_body : (a b : Option (List ℕ)) (before after : List ℕ) (o : Head) (n : ℕ) → IsOpened before o → o.body ≡ Of n
     → Fills a b before after (o.length + n) false → IfSome a (λ left. Asks (before ++ left) (Reject BadRequest))
 cut_body None b before after o n is e fills = tt
 cut_body (Some all) b before after o n is e fills =
@@ -153,11 +140,30 @@ behind_front front rest n =
     let some : length front + n - length front ≡ n = omega arith in
     ap (λ m. take m (drop (length front) (front ++ rest))) some ∙ ap (take n) (drop-append_seam front rest)
 
-pub whole_body : (a b : Option (List ℕ)) (before after : List ℕ) (o : Opened) (n : ℕ) (aim : Result Resource Rejection) (asked : Asked) → IsOpened before o → o.body ≡ Of n
-    → o.aim ≡ Ok aim → Fills a b before after (o.length + n) true → asked ≡ asked_for aim (slice_range after o.length (o.length + n))
+-- the head stays where it is told, whatever is read behind it
+pub still_told : (a b : Option (List ℕ)) (before after : List ℕ) (o : Head) (is : IsOpened before o) → Grew a b before after → IsTold after is.head o
+still_told a b before after o is grew =
+    let len = read_length before o is in
+    subst (λ (l : List ℕ). IsTold l is.head o) (sym grew.grown) (told_stays before grew.got is.head o (omega (arith, len)) is.tells)
+
+-- the method and the target lie in what was read, and the target is text
+pub spans_within : (a b : Option (List ℕ)) (before after : List ℕ) (o : Head) (n : ℕ) → IsOpened before o → Fills a b before after (o.length + n) true
+    → IsWithin (length after) o.method × IsWithin (length after) o.target
+spans_within a b before after o n is fills =
+    let within = is.tells.within in
+    let long = fills.1 in
+    ((within.0.0, (omega (arith, long, within.0))), (within.1.0, (omega (arith, long, within.1))))
+
+pub no_text : (a b : Option (List ℕ)) (before after : List ℕ) (o : Head) → IsOpened before o → Grew a b before after → (IsUtf8 (span_bytes after o.target) → ⊥) → ⊥
+no_text a b before after o is grew none =
+    none (subst IsUtf8 (sym (still_told a b before after o is grew).target) is.has.reads.0.target_text)
+
+pub whole_body : (a b : Option (List ℕ)) (before after : List ℕ) (o : Head) (n : ℕ) (asked : Asked) → IsOpened before o → o.body ≡ Of n
+    → Fills a b before after (o.length + n) true
+    → asked ≡ asked_for (span_bytes after o.method) (span_bytes after o.target) (slice_range after o.length (o.length + n))
     → IfSome a (λ left. Asks (before ++ left) asked)
-whole_body None b before after o n aim asked is e given fills answer = tt
-whole_body (Some all) b before after o n aim asked is e given fills answer =
+whole_body None b before after o n asked is e fills answer = tt
+whole_body (Some all) b before after o n asked is e fills answer =
     let (left, known, whole) = all_read all b before after fills.0 in
     let len = read_length before o is in
     let got = fills.0.got in
@@ -168,9 +174,50 @@ whole_body (Some all) b before after o n aim asked is e given fills answer =
     let test : nat_le n (length (is.rest ++ all)) ≡ true = le-leb n (length (is.rest ++ all)) enough in
     let parts : after ≡ print_request is.head ++ (is.rest ++ got) = fills.0.grown ∙ (ap (λ l. l ++ got) is.has.reads.1 ∙ append_assoc (print_request is.head) is.rest got) in
     let body : slice_range after o.length (o.length + n) ≡ take n (is.rest ++ all) =
-    rw (parts, is.length) (behind_front (print_request is.head) (is.rest ++ got) n ∙ (sym (take-append-le n (is.rest ++ got) left there) ∙ ap (take n) (sym behind))) in
-    let aimed : aim ≡ aim_of is.head.method is.head.target = rw given at is.aim in
-    asks_behind before all o asked is (rw e (rw test (answer ∙ (ap (asked_for aim) body ∙ ap (λ (r : Result Resource Rejection). asked_for r (take n (is.rest ++ all))) aimed))))
+    rw (parts, is.tells.length) (behind_front (print_request is.head) (is.rest ++ got) n ∙ (sym (take-append-le n (is.rest ++ got) left there) ∙ ap (take n) (sym behind))) in
+    let told = still_told (Some all) b before after o is fills.0 in
+    let named : asked ≡ asked_for is.head.method is.head.target (take n (is.rest ++ all)) =
+    answer ∙ (ap (λ (l : List ℕ). asked_for l (span_bytes after o.target) (slice_range after o.length (o.length + n))) told.method
+    ∙ (ap (λ (l : List ℕ). asked_for is.head.method l (slice_range after o.length (o.length + n))) told.target ∙ ap (asked_for is.head.method is.head.target) body)) in
+    asks_behind before all o asked is (rw e (rw test named))
+
+pub whole_asked : (a b : Option (List ℕ)) (before after : List ℕ) (o : Head) (n : ℕ) (method target body : List ℕ) (asked : Asked) → IsOpened before o → o.body ≡ Of n
+    → Fills a b before after (o.length + n) true → method ≡ span_bytes after o.method → target ≡ span_bytes after o.target
+    → body ≡ slice_range after o.length (o.length + n) → asked ≡ asked_for method target body → IfSome a (λ left. Asks (before ++ left) asked)
+whole_asked a b before after o n method target body asked is e fills m t s answer =
+    whole_body a b before after o n asked is e fills
+    (answer ∙ (ap (λ (l : List ℕ). asked_for l target body) m ∙ (ap (λ (l : List ℕ). asked_for (span_bytes after o.method) l body) t
+    ∙ ap (asked_for (span_bytes after o.method) (span_bytes after o.target)) s)))
+
+-- ---- memory
+
+pub wants_whole : (a b : Option (List ℕ)) (before after : List ℕ) (o : Head) (n : ℕ) (is : IsOpened before o) → o.body ≡ Of n
+    → Fills a b before after (o.length + n) true → IsToAct is.head.method is.head.target → IfSome a (λ left. WantsMemory (before ++ left))
+wants_whole None b before after o n is e fills acts = tt
+wants_whole (Some all) b before after o n is e fills acts =
+    let len = read_length before o is in
+    let got = fills.0.got in
+    let lens : length after ≡ length before + length got = ap length fills.0.grown ∙ length-append before got in
+    let (left, known, whole) = all_read all b before after fills.0 in
+    let more : length (is.rest ++ all) ≡ length is.rest + (length got + length left) =
+    length-append is.rest all ∙ ap (λ (k : ℕ). length is.rest + k) (ap length (left_before all b before after left fills.0 known) ∙ length-append got left) in
+    record {
+      head = is.head;
+      rest = is.rest ++ all;
+      has = head_stays before all is.head is.rest is.has;
+      size = n;
+      told = sym is.tells.body ∙ e;
+      whole = omega (arith, fills.1, len, lens, more);
+      acts = acts;
+    }
+
+pub wants_asked : (a b : Option (List ℕ)) (before after : List ℕ) (o : Head) (n : ℕ) (method target : List ℕ) (is : IsOpened before o) → o.body ≡ Of n
+    → Fills a b before after (o.length + n) true → method ≡ span_bytes after o.method → target ≡ span_bytes after o.target
+    → IsToAct method target → IfSome a (λ left. WantsMemory (before ++ left))
+wants_asked a b before after o n method target is e fills m t acts =
+    let told = still_told a b before after o is fills.0 in
+    wants_whole a b before after o n is e fills
+    (subst (λ (l : List ℕ). IsToAct l is.head.target) (m ∙ told.method) (subst (λ (l : List ℕ). IsToAct method l) (t ∙ told.target) acts))
 
 -- ---- the whole
 
@@ -193,7 +240,7 @@ received_unreadable (Some all) b read grew opens =
     let none = never read left (subst (NeverOpens read) known opens.1) in
     (omega (arith, ap length whole, length-append read left, opens.0), inr (subst HasNoHead (sym whole) none, refl))
 
-pub received_whole : (a b : Option (List ℕ)) (read : List ℕ) (o : Opened) (asked : Asked) → Grew a b [] read → IsOpened read o
+pub received_whole : (a b : Option (List ℕ)) (read : List ℕ) (o : Head) (asked : Asked) → Grew a b [] read → IsOpened read o
     → IfSome b (λ left. Asks (read ++ left) asked) → IfSome a (λ input. Received input (Some asked))
 received_whole None b read o asked grew is asks = tt
 received_whole (Some all) b read o asked grew is asks =
@@ -202,6 +249,13 @@ received_whole (Some all) b read o asked grew is asks =
     let long = nonempty is.head is.has.reads.0 in
     let len = ap length is.has.reads.1 ∙ length-append (print_request is.head) is.rest in
     (omega (arith, ap length whole, length-append read left, long, len), subst (λ (l : List ℕ). Asks l asked) (sym whole) here)
+
+pub received_wants : (a b : Option (List ℕ)) (read : List ℕ) → Grew a b [] read → IfSome b (λ left. WantsMemory (read ++ left)) → IfSome a WantsMemory
+received_wants None b read grew wants = tt
+received_wants (Some all) b read grew wants =
+    let (left, known, whole) = all_read all b [] read grew in
+    let here : WantsMemory (read ++ left) = rw known at wants in
+    subst WantsMemory (sym whole) here
 
 -- ---- one read
 

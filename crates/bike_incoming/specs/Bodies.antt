@@ -1,18 +1,17 @@
--- The request that a body makes, a block for each kind.
+-- The command that a body gives, a block for each kind.
 use Rattle.std.specs.Prelude.{ℕ, List, ◌==◌, Option, Some, codes}
 use Rattle.std.specs.List.{slice_split}
 use Rattle.bike_fields.specs.declared.numbers.TheConstants.{GREATEST_NUMBER, GREATEST_SERIAL, MOST_DOCKS}
 use Rattle.serde_json.specs.Data.{Data}
-use Rattle.bike_fields.specs.declared.caller.Caller.{Caller}
-use Rattle.bike_fields.specs.declared.caller.Caller.TheVariants as caller
+use Rattle.bike_fixed.specs.Whole.{number_of}
+use Rattle.bike_fields.specs.Bytes.{ident_of}
 use Rattle.bike_texts.specs.Reading.{◌>>=◌}
 use Rattle.bike_commands.specs.declared.command.Command.{Command}
 use Rattle.bike_commands.specs.declared.command.Command.TheVariants.{MarkDock, MarkBike, Start, End, Load, Unload}
-use Rattle.bike_commands.specs.declared.request.Request.{Request}
 use Rattle.bike_requests.specs.Readers.{command_at}
-use Rattle.bike_heads.specs.declared.resource.Action.{Action}
-use Rattle.bike_heads.specs.declared.resource.Action.TheVariants as action
-use Rattle.bike_incoming.specs.Members.{text_in, number_in, key_in, ident_in, choice_in, side_in}
+use Rattle.bike_heads.specs.declared.routes.Route.{Route}
+use Rattle.bike_heads.specs.declared.routes.Route.TheVariants as route
+use Rattle.bike_incoming.specs.Members.{text_in, number_in, ident_in, choice_in, side_in}
 
 -- bicycles; docks; orders
 abbrev pub bike_in : Data → Option ℕ
@@ -23,6 +22,16 @@ dock_in = number_in 1 MOST_DOCKS (codes "dock")
 
 abbrev pub order_in : Data → Option ℕ
 order_in = number_in 1 GREATEST_SERIAL (codes "order")
+
+-- what the part of a path names: a rider, a station or a truck
+abbrev pub rider_in : List ℕ → Option ℕ
+rider_in = number_of 1 GREATEST_NUMBER
+
+abbrev pub station_in : List ℕ → Option (List ℕ)
+station_in = ident_of
+
+abbrev pub truck_in : List ℕ → Option ℕ
+truck_in = number_of 1 GREATEST_NUMBER
 
 unfoldable pub start_of : ℕ → Data → Option Command
 start_of rider body = do
@@ -69,30 +78,14 @@ office_command body = do
   text ← text_in (codes "command") body
   command_at (slice_split (λ b. b == 9) text)
 
--- THE TABLE: the command that the body gives to an action ..
-abbrev pub command_of : Action → Data → Option Command
-command_of (action.Start rider) body = start_of rider body
-command_of (action.End station) body = end_of station body
-command_of (action.MarkDock station) body = mark_dock_of station body
-command_of (action.MarkStationBike station) body = mark_bike_of body
-command_of (action.Load truck) body = load_of truck body
-command_of (action.Unload truck) body = unload_of truck body
-command_of (action.MarkTruckBike truck) body = mark_bike_of body
-command_of action.Office body = office_command body
+-- the command that the body gives to a station's route
+abbrev pub dock_command : Route → List ℕ → Data → Option Command
+dock_command route.End = end_of
+dock_command route.MarkDock = mark_dock_of
+dock_command _ = λ station. mark_bike_of
 
--- .. and who sends it
-abbrev pub caller_of : Action → Caller
-caller_of (action.Start rider) = caller.Rider rider
-caller_of (action.End station) = caller.Dock station
-caller_of (action.MarkDock station) = caller.Dock station
-caller_of (action.MarkStationBike station) = caller.Dock station
-caller_of (action.Load truck) = caller.Crew truck
-caller_of (action.Unload truck) = caller.Crew truck
-caller_of (action.MarkTruckBike truck) = caller.Crew truck
-caller_of action.Office = caller.Office
-
-unfoldable pub request_of : Action → Data → Option Request
-request_of action body = do
-  key ← key_in body
-  command ← command_of action body
-  Some (record { caller = caller_of action; key = key; command = command })
+-- .. and to a truck's
+abbrev pub crew_command : Route → ℕ → Data → Option Command
+crew_command route.Load = load_of
+crew_command route.Unload = unload_of
+crew_command _ = λ truck. mark_bike_of

@@ -1,14 +1,14 @@
 -- What is read of an input, and what it asks for.
-use Rattle.std.specs.Prelude.{◌≡◌, ◌⊎◌, ℕ, ◌<◌, ◌≤◌, List, [], ◌++◌, length, map, Bool, true, false, Option, Some, None, IfOk}
+use Rattle.std.specs.Prelude.{◌≡◌, ◌⊎◌, ℕ, ◌<◌, ◌≤◌, List, [], ◌++◌, length, map, Bool, true, false, Option, Some, None}
 use Rattle.std.specs.Io.KnownBytes.{Consumes, IsAtEnd}
-use Rattle.httparse.specs.Grammar.{RequestHead, print_request}
+use Rattle.httparse.specs.Grammar.{RequestHead}
 use Rattle.httparse.specs.Spans.{name_and_value}
-use Rattle.bike_heads.specs.Aim.{aim_of}
-use Rattle.bike_heads.specs.Head.{HasHead, HasNoHead}
+use Rattle.bike_heads.specs.Head.{HasHead, HasNoHead, IsTold}
 use Rattle.bike_heads.specs.Length.{body_length}
-use Rattle.bike_incoming.specs.Asked.{Asks}
+use Rattle.bike_heads.specs.declared.length.BodyLength.TheVariants.{Of}
+use Rattle.bike_heads.specs.declared.head.Head.{Head}
+use Rattle.bike_incoming.specs.Asked.{Asks, IsToAct}
 use Rattle.bike_incoming.specs.declared.asked.Asked.{Asked}
-use Rattle.bike_incoming.specs.declared.incoming.Opened.{Opened}
 use Rattle.bike_incoming.specs.declared.incoming.Opening.{Opening}
 use Rattle.bike_incoming.specs.declared.incoming.Opening.TheVariants.{Empty, Unreadable, Whole}
 
@@ -27,13 +27,11 @@ abbrev pub ReadsMore : Option (List ℕ) → Option (List ℕ) → List ℕ → 
 ReadsMore old new before after more = Grew old new before after × Came more new before after
 
 -- what is told of a head that stands at the front of what was read
-pub record IsOpened (read : List ℕ) (o : Opened) : Type 0 where
+pub record IsOpened (read : List ℕ) (told : Head) : Type 0 where
   pub head : RequestHead
   pub rest : List ℕ
   pub has : HasHead read head rest
-  pub length : o.length ≡ length (print_request head)
-  pub body : o.body ≡ body_length (map name_and_value head.fields)
-  pub aim : IfOk o.aim (λ aim. aim ≡ aim_of head.method head.target)
+  pub tells : IsTold read head told
 
 -- the input has no head, and ended or has none whatever follows
 abbrev pub NeverOpens : List ℕ → Option (List ℕ) → Type 0
@@ -43,7 +41,7 @@ NeverOpens read left = (IsAtEnd left × HasNoHead read) ⊎ ((more : List ℕ) �
 abbrev pub Opens : List ℕ → Option (List ℕ) → Opening → Type 0
 Opens read left Empty = (read ≡ []) × IsAtEnd left
 Opens read left Unreadable = (0 < length read) × NeverOpens read left
-Opens read left (Whole o) = IsOpened read o
+Opens read left (Whole told) = IsOpened read told
 
 -- so many bytes are there, or the input is at its end before
 abbrev pub Filled : Bool → ℕ → ℕ → Option (List ℕ) → Type 0
@@ -57,3 +55,14 @@ Fills old new before after end filled = Grew old new before after × Filled fill
 abbrev pub Received : List ℕ → Option Asked → Type 0
 Received input None = input ≡ []
 Received input (Some asked) = (0 < length input) × Asks input asked
+
+-- memory is asked for only to act: the head was read, its path takes a route of POST that names what it is to, POST is its
+-- method, and the body is whole
+pub record WantsMemory (input : List ℕ) : Type 0 where
+  pub head : RequestHead
+  pub rest : List ℕ
+  pub has : HasHead input head rest
+  pub size : ℕ
+  pub told : body_length (map name_and_value head.fields) ≡ Of size
+  pub whole : size ≤ length rest
+  pub acts : IsToAct head.method head.target

@@ -1,12 +1,16 @@
 //! What a request asks for.
 
-ghost use Rattle.std.specs.Prelude.{◌≡◌, IfOk, option_map};
+ghost use Rattle.std.specs.Prelude.{◌≡◌, IfOk, OnErr, option_map};
 ghost use Rattle.serde_json.specs.View.{view};
-ghost use Rattle.bike_incoming.specs.Asked.{object_of, asked_by_body, asked_for};
+ghost use Rattle.bike_incoming.specs.Asked.{object_of, application_of, request_of, is_method, asked_by_rider, asked_by_dock, asked_by_crew, asked_by_office, shown, got, asked_at, asked_for, IsPost, MayAct, ActsAt, IsToAct};
+ghost use Rattle.bike_incoming.specs.Bodies.{dock_command, crew_command, rider_in, station_in, truck_in};
 
-use crate::body::read_request;
-use bike_commands::Request;
-use bike_heads::{Action, Feed, Rejection, Resource, Shown};
+use crate::body::{read_crew_command, read_dock_command, read_office, read_start};
+use crate::members::key_in;
+use bike_commands::{Command, Request};
+use bike_fields::{Caller, Ident};
+use bike_fixed::Within;
+use bike_heads::{Allow, Feed, Rejection, Route, Routes, Shown, path_of};
 use serde_json::Value;
 use std::alloc::{AllocError, Global};
 
@@ -23,20 +27,36 @@ pub enum Asked {
     Publish(Feed),
 }
 
-/// What the body of a request to act asks for: a body that is no JSON object (RFC 8259) of UTF-8, nested at most 127 deep,
-/// is a bad request; a member that is missing, of another kind or out of its bounds is a bad field. Other members are
-/// ignored, and of equal ones the last counts.
-#[tactic(auto, unfolding(crate::specs::Asked::asked_by_body))]
-fn read_posted(alloc: Global, action: Action, body: &[u8]) -> Result<Asked, AllocError>
-    ensures { IfOk result (λ asked. asked ≡ asked_by_body action body.now) }
+fn is_method(method: &[u8], wanted: Allow) -> bool
+    ensures { result ≡ is_method method.now wanted }
 {
-    let Some(object) = read_object(alloc, body)? else {
-        return Ok(Asked::Reject(Rejection::BadRequest));
-    };
-    match read_request(alloc, action, &object)? {
-        Some(request) => Ok(Asked::Apply(request)),
-        None => Ok(Asked::Reject(Rejection::BadField)),
+    match wanted {
+        Allow::Get => method == b"GET".as_slice(),
+        Allow::Post => method == b"POST".as_slice(),
     }
+}
+
+/// A row that GET shows.
+fn show(method: &[u8], named: Option<Shown>) -> Asked
+    ensures { result ≡ shown method.now named }
+{
+    let Some(row) = named else {
+        return Asked::Reject(Rejection::NotFound);
+    };
+    if !is_method(method, Allow::Get) {
+        return Asked::Reject(Rejection::MethodNotAllowed(Allow::Get));
+    }
+    Asked::Show(row)
+}
+
+/// A feed that GET shows.
+fn publish(method: &[u8], feed: Feed) -> Asked
+    ensures { result ≡ got method.now (Asked.Publish feed) }
+{
+    if !is_method(method, Allow::Get) {
+        return Asked::Reject(Rejection::MethodNotAllowed(Allow::Get));
+    }
+    Asked::Publish(feed)
 }
 
 /// The JSON object that the bytes are; an error is a want of memory.
@@ -61,19 +81,159 @@ fn read_object(alloc: Global, bytes: &[u8]) -> Result<Option<Value>, AllocError>
     }
 }
 
-/// What a request asks for whose head aims at that, with the body behind it. A GET's body is ignored. An error is a want
-/// of memory.
-pub fn ask(
+/// The request of that caller whose key the body has; a member of the key or of the command that is missing, of another
+/// kind or out of its bounds is a bad field. An error is a want of memory.
+#[tactic(auto, unfolding(crate::specs::Asked::request_of))]
+fn apply(
     alloc: Global,
-    aim: Result<Resource, Rejection>,
+    caller: Caller,
+    command: Option<Command>,
+    body: &Value,
+) -> Result<Asked, AllocError>
+    ensures { IfOk result (λ asked. asked ≡ application_of (request_of caller command (view body.now))) }
+{
+    let Some(command) = command else {
+        return Ok(Asked::Reject(Rejection::BadField));
+    };
+    let Some(key) = key_in(alloc, body)? else {
+        return Ok(Asked::Reject(Rejection::BadField));
+    };
+    Ok(Asked::Apply(Request {
+        caller,
+        key,
+        command,
+    }))
+}
+
+/// A rider starts a rental.
+fn ask_rider(alloc: Global, method: &[u8], part: &str, body: &[u8]) -> Result<Asked, AllocError>
+    ensures asked { IfOk result (λ asked. asked ≡ asked_by_rider method.now part.now body.now) }
+    ensures memory { OnErr result (MayAct method.now (rider_in part.now)) }
+{
+    let Some(rider) = Within::read(part) else {
+        return Ok(Asked::Reject(Rejection::NotFound));
+    };
+    if !is_method(method, Allow::Post) {
+        return Ok(Asked::Reject(Rejection::MethodNotAllowed(Allow::Post)));
+    }
+    let Some(object) = read_object(alloc, body)? else {
+        return Ok(Asked::Reject(Rejection::BadRequest));
+    };
+    let command = read_start(alloc, rider, &object)?;
+    apply(alloc, Caller::Rider(rider), command, &object)
+}
+
+/// A station reports what was done at one of its docks.
+fn ask_dock(
+    alloc: Global,
+    route: Route,
+    method: &[u8],
+    part: &str,
     body: &[u8],
 ) -> Result<Asked, AllocError>
-    ensures { IfOk result (λ asked. asked ≡ asked_for aim body.now) }
+    ensures asked { IfOk result (λ asked. asked ≡ asked_by_dock (dock_command route) method.now part.now body.now) }
+    ensures memory { OnErr result (MayAct method.now (station_in part.now)) }
 {
-    match aim {
-        Err(rejection) => Ok(Asked::Reject(rejection)),
-        Ok(Resource::Act(action)) => read_posted(alloc, action, body),
-        Ok(Resource::Show(shown)) => Ok(Asked::Show(shown)),
-        Ok(Resource::Publish(feed)) => Ok(Asked::Publish(feed)),
+    let Some(station) = Ident::checked(part) else {
+        return Ok(Asked::Reject(Rejection::NotFound));
+    };
+    if !is_method(method, Allow::Post) {
+        return Ok(Asked::Reject(Rejection::MethodNotAllowed(Allow::Post)));
+    }
+    let Some(object) = read_object(alloc, body)? else {
+        return Ok(Asked::Reject(Rejection::BadRequest));
+    };
+    let station = Ident::of(alloc, station)?;
+    let command = read_dock_command(alloc, route, &station, &object)?;
+    apply(alloc, Caller::Dock(station), command, &object)
+}
+
+/// A truck's crew reports what it did.
+fn ask_crew(
+    alloc: Global,
+    route: Route,
+    method: &[u8],
+    part: &str,
+    body: &[u8],
+) -> Result<Asked, AllocError>
+    ensures asked { IfOk result (λ asked. asked ≡ asked_by_crew (crew_command route) method.now part.now body.now) }
+    ensures memory { OnErr result (MayAct method.now (truck_in part.now)) }
+{
+    let Some(truck) = Within::read(part) else {
+        return Ok(Asked::Reject(Rejection::NotFound));
+    };
+    if !is_method(method, Allow::Post) {
+        return Ok(Asked::Reject(Rejection::MethodNotAllowed(Allow::Post)));
+    }
+    let Some(object) = read_object(alloc, body)? else {
+        return Ok(Asked::Reject(Rejection::BadRequest));
+    };
+    let command = read_crew_command(route, truck, &object);
+    apply(alloc, Caller::Crew(truck), command, &object)
+}
+
+/// The office sends a command.
+fn ask_office(alloc: Global, method: &[u8], body: &[u8]) -> Result<Asked, AllocError>
+    ensures asked { IfOk result (λ asked. asked ≡ asked_by_office method.now body.now) }
+    ensures memory { OnErr result (IsPost method.now) }
+{
+    if !is_method(method, Allow::Post) {
+        return Ok(Asked::Reject(Rejection::MethodNotAllowed(Allow::Post)));
+    }
+    let Some(object) = read_object(alloc, body)? else {
+        return Ok(Asked::Reject(Rejection::BadRequest));
+    };
+    let command = read_office(alloc, &object)?;
+    apply(alloc, Caller::Office, command, &object)
+}
+
+/// What a request asks for whose path takes that route, with that part in the place of its parameter.
+fn ask_at(
+    alloc: Global,
+    route: Route,
+    method: &[u8],
+    part: &str,
+    body: &[u8],
+) -> Result<Asked, AllocError>
+    ensures asked { IfOk result (λ asked. asked ≡ asked_at route method.now part.now body.now) }
+    ensures memory { OnErr result (ActsAt route method.now part.now) }
+{
+    match route {
+        Route::Start => ask_rider(alloc, method, part, body),
+        Route::End | Route::MarkDock | Route::MarkStationBike => {
+            ask_dock(alloc, route, method, part, body)
+        }
+        Route::Load | Route::Unload | Route::MarkTruckBike => {
+            ask_crew(alloc, route, method, part, body)
+        }
+        Route::Office => ask_office(alloc, method, body),
+        Route::Rider => Ok(show(method, Within::read(part).map(Shown::Rider))),
+        Route::Bike => Ok(show(method, Within::read(part).map(Shown::Bike))),
+        Route::Rental => Ok(show(method, Within::read(part).map(Shown::Rental))),
+        Route::Order => Ok(show(method, Within::read(part).map(Shown::Order))),
+        Route::Publish(feed) => Ok(publish(method, feed)),
+    }
+}
+
+/// What a request asks for, by its method, its target and its body. A path without a route, or whose part isn't the number
+/// or the identifier that the route wants, is not found; then another method than the path's isn't allowed. A method's
+/// letters have their case. A GET's body is ignored. A POST's body that is no JSON object (RFC 8259) of UTF-8, nested at
+/// most 127 deep, is a bad request; a member that is missing, of another kind or out of its bounds is a bad field. Other
+/// members are ignored, and of equal ones the last counts. An error is a want of memory, which a POST alone asks for whose
+/// path and method are good.
+#[tactic(auto, unfolding(crate::specs::Asked::asked_for))]
+pub fn ask(
+    alloc: Global,
+    routes: &Routes,
+    method: &[u8],
+    target: &str,
+    body: &[u8],
+) -> Result<Asked, AllocError>
+    ensures asked { IfOk result (λ asked. asked ≡ asked_for method.now target.now body.now) }
+    ensures memory { OnErr result (IsToAct method.now target.now) }
+{
+    match routes.find(path_of(target)) {
+        Some(found) => ask_at(alloc, found.route, method, found.part, body),
+        None => Ok(Asked::Reject(Rejection::NotFound)),
     }
 }

@@ -1,21 +1,21 @@
-//! The request that a body makes, by what its path asks for.
+//! The command that a body gives, by the route of its path.
 
 ghost use Rattle.std.specs.Prelude.{◌≡◌, ◌==◌, IfOk};
 ghost use Rattle.std.specs.List.{slice_split};
 ghost use Rattle.bike_requests.specs.Readers.{command_at};
 ghost use Rattle.serde_json.specs.View.{view};
-ghost use Rattle.bike_incoming.specs.Bodies.{start_of, end_of, mark_dock_of, mark_bike_of, load_of, unload_of, office_command, command_of, caller_of, request_of};
+ghost use Rattle.bike_incoming.specs.Bodies.{start_of, end_of, mark_dock_of, mark_bike_of, load_of, unload_of, office_command, dock_command, crew_command};
 
-use crate::members::{choice_in, ident_in, key_in, number_in, side_in, text_in};
-use bike_commands::{Command, Request};
-use bike_fields::{Caller, Ident, RiderNumber, TruckNumber};
-use bike_heads::Action;
+use crate::members::{choice_in, ident_in, number_in, side_in, text_in};
+use bike_commands::Command;
+use bike_fields::{Ident, RiderNumber, TruckNumber};
+use bike_heads::Route;
 use bike_requests::read_command;
 use serde_json::Value;
 use std::alloc::{AllocError, Global};
 
 #[tactic(auto, unfolding(crate::specs::Bodies::start_of))]
-fn read_start(
+pub(crate) fn read_start(
     alloc: Global,
     rider: RiderNumber,
     body: &Value,
@@ -116,7 +116,7 @@ fn read_spelled(alloc: Global, text: &str) -> Result<Option<Command>, AllocError
 }
 
 #[tactic(auto, unfolding(crate::specs::Bodies::office_command))]
-fn read_office(alloc: Global, body: &Value) -> Result<Option<Command>, AllocError>
+pub(crate) fn read_office(alloc: Global, body: &Value) -> Result<Option<Command>, AllocError>
     ensures { IfOk result (λ o. o ≡ office_command (view body.now)) }
 {
     let Some(text) = text_in(body, "command") else {
@@ -125,56 +125,29 @@ fn read_office(alloc: Global, body: &Value) -> Result<Option<Command>, AllocErro
     read_spelled(alloc, text)
 }
 
-/// The command that the body gives to the action.
-fn read_given(alloc: Global, action: &Action, body: &Value) -> Result<Option<Command>, AllocError>
-    ensures { IfOk result (λ o. o ≡ command_of action.now (view body.now)) }
-{
-    match action {
-        Action::Start(rider) => read_start(alloc, *rider, body),
-        Action::End(station) => read_end(alloc, station, body),
-        Action::MarkDock(station) => read_mark_dock(alloc, station, body),
-        Action::MarkStationBike(_) | Action::MarkTruckBike(_) => Ok(read_mark_bike(body)),
-        Action::Load(truck) => Ok(read_load(*truck, body)),
-        Action::Unload(truck) => Ok(read_unload(*truck, body)),
-        Action::Office => read_office(alloc, body),
-    }
-}
-
-/// Who sends the action.
-fn caller_of(action: Action) -> Caller
-    ensures { result ≡ caller_of action }
-{
-    match action {
-        Action::Start(rider) => Caller::Rider(rider),
-        Action::End(station) | Action::MarkDock(station) | Action::MarkStationBike(station) => {
-            Caller::Dock(station)
-        }
-        Action::Load(truck) | Action::Unload(truck) | Action::MarkTruckBike(truck) => {
-            Caller::Crew(truck)
-        }
-        Action::Office => Caller::Office,
-    }
-}
-
-/// The request that the body makes; none where a member is missing, of another kind or out of its bounds. An error is
-/// a want of memory.
-#[tactic(auto, unfolding(crate::specs::Bodies::request_of))]
-pub(crate) fn read_request(
+/// The command that the body gives to a station's route.
+pub(crate) fn read_dock_command(
     alloc: Global,
-    action: Action,
+    route: Route,
+    station: &Ident,
     body: &Value,
-) -> Result<Option<Request>, AllocError>
-    ensures { IfOk result (λ o. o ≡ request_of action (view body.now)) }
+) -> Result<Option<Command>, AllocError>
+    ensures { IfOk result (λ o. o ≡ dock_command route station.now (view body.now)) }
 {
-    let Some(key) = key_in(alloc, body)? else {
-        return Ok(None);
-    };
-    let Some(command) = read_given(alloc, &action, body)? else {
-        return Ok(None);
-    };
-    Ok(Some(Request {
-        caller: caller_of(action),
-        key,
-        command,
-    }))
+    match route {
+        Route::End => read_end(alloc, station, body),
+        Route::MarkDock => read_mark_dock(alloc, station, body),
+        _ => Ok(read_mark_bike(body)),
+    }
+}
+
+/// The command that the body gives to a truck's route.
+pub(crate) fn read_crew_command(route: Route, truck: TruckNumber, body: &Value) -> Option<Command>
+    ensures { result ≡ crew_command route truck (view body.now) }
+{
+    match route {
+        Route::Load => read_load(truck, body),
+        Route::Unload => read_unload(truck, body),
+        _ => read_mark_bike(body),
+    }
 }

@@ -1,17 +1,15 @@
 //! Reading what an input asks for.
 
-ghost use Rattle.std.specs.Prelude.{◌≡◌, ◌≤◌, ◌++◌, [], length, IfOk, IfSome, OnOk};
-ghost use Rattle.bike_heads.specs.Aim.{aim_of as aimed};
+ghost use Rattle.std.specs.Prelude.{◌≡◌, ◌≤◌, ◌++◌, [], length, Err, IfOk, IfSome, OnOk};
 ghost use Rattle.bike_incoming.specs.Asked.{Asks};
-ghost use Rattle.bike_incoming.specs.Received.{Grew, IsOpened, Opens, Fills, Received};
+ghost use Rattle.bike_incoming.specs.Received.{Grew, IsOpened, Opens, Fills, Received, WantsMemory};
 
 use crate::asked::{Asked, ask};
 use crate::input::{Input, ReadFailed};
-use bike_heads::{
-    BodyLength, HEAD_LENGTH, Head, HeadReading, Rejection, Resource, Routes, aim_of, read_head,
-};
+use bike_heads::{BodyLength, HEAD_LENGTH, Head, HeadReading, Rejection, Routes, read_head};
 use std::alloc::{AllocError, Global};
 use std::io::Read;
+use std::str;
 use thiserror::Error;
 
 /// Why nothing is known of what an input asks for.
@@ -26,60 +24,41 @@ pub enum ReceiveFault {
 }
 
 impl From<AllocError> for ReceiveFault {
+    ghost use Rattle.std.specs.Prelude.{◌≡◌};
+    ghost use Rattle.bike_incoming.specs.declared.incoming.ReceiveFault.TheVariants.{NoMemory};
+
+    ghost from_gives = { λ _ fault. fault ≡ NoMemory };
+
     fn from(_: AllocError) -> ReceiveFault {
         ReceiveFault::NoMemory
     }
 }
 
 impl From<ReadFailed> for ReceiveFault {
+    ghost use Rattle.std.specs.Prelude.{◌≡◌};
+    ghost use Rattle.bike_incoming.specs.declared.incoming.ReceiveFault.TheVariants.{Read};
+
+    ghost from_gives = { λ _ fault. fault ≡ Read };
+
     fn from(_: ReadFailed) -> ReceiveFault {
         ReceiveFault::Read
     }
 }
 
-/// What a head tells.
-#[derive(Drop)]
-struct Opened {
-    /// What it asks for; an error is a want of memory.
-    aim: Result<Result<Resource, Rejection>, AllocError>,
-    /// How many bytes it has.
-    length: usize,
-    /// How long its body is.
-    body: BodyLength,
-}
-
 /// What an input begins with.
-#[derive(Drop)]
+#[derive(Clone, Copy)]
 enum Opening {
     /// It has no byte.
     Empty,
     /// It has no head.
     Unreadable,
     /// It has a head.
-    Whole(Opened),
-}
-
-/// What a head tells.
-fn open_head(alloc: Global, routes: &Routes, head: Head) -> Opened
-    ensures aim { IfOk result.aim (λ aim. aim ≡ aimed head.entry.method.now head.entry.target.now) }
-    ensures length { result.length ≡ head.entry.length }
-    ensures body { result.body ≡ head.entry.body }
-{
-    Opened {
-        aim: aim_of(alloc, routes, head.method, head.target),
-        length: head.length,
-        body: head.body,
-    }
+    Whole(Head),
 }
 
 /// Reads until the input's head is whole, or no head can come.
 #[tactic(auto, using(crate::proofs::Receiving::grew_then, crate::proofs::Receiving::told_opened, crate::proofs::Receiving::ended_opens))]
-fn receive_head<R: Read>(
-    alloc: Global,
-    routes: &Routes,
-    reader: &mut R,
-    input: &mut Input,
-) -> Result<Opening, ReadFailed>
+fn receive_head<R: Read>(reader: &mut R, input: &mut Input) -> Result<Opening, ReadFailed>
     requires { input.old ≡ [] }
     ensures grew { OnOk result (Grew (R.remaining reader.old) (R.remaining reader.new) input.old input.new) }
     ensures opens { IfOk result (Opens input.new (R.remaining reader.new)) }
@@ -95,7 +74,7 @@ fn receive_head<R: Read>(
         match read_head(input.as_slice()) {
             HeadReading::Incomplete => {}
             HeadReading::Unreadable => return Ok(Opening::Unreadable),
-            HeadReading::Whole(head) => return Ok(Opening::Whole(open_head(alloc, routes, head))),
+            HeadReading::Whole(head) => return Ok(Opening::Whole(head)),
         }
     }
 }
@@ -117,24 +96,31 @@ fn receive_until<R: Read>(reader: &mut R, input: &mut Input, end: usize) -> Resu
 /// What the head asks for, with the body behind it.
 fn receive_body<R: Read>(
     alloc: Global,
+    routes: &Routes,
     reader: &mut R,
     input: &mut Input,
-    opened: Opened,
+    head: Head,
 ) -> Result<Asked, ReceiveFault>
-    requires { IsOpened input.old opened }
-    ensures { IfOk result (λ asked. IfSome (R.remaining reader.old) (λ left. Asks (input.old ++ left) asked)) }
+    requires { IsOpened input.old head }
+    ensures asks { IfOk result (λ asked. IfSome (R.remaining reader.old) (λ left. Asks (input.old ++ left) asked)) }
+    ensures memory { result ≡ Err ReceiveFault.NoMemory
+        → IfSome (R.remaining reader.old) (λ left. WantsMemory (input.old ++ left)) }
 {
-    let size = match opened.body {
+    let size = match head.body {
         BodyLength::Malformed => return Ok(Asked::Reject(Rejection::BadRequest)),
         BodyLength::TooLong => return Ok(Asked::Reject(Rejection::TooLarge)),
         BodyLength::Of(size) => size,
     };
-    let end = opened.length + size;
+    let end = head.length + size;
     if !receive_until(reader, input, end)? {
         return Ok(Asked::Reject(Rejection::BadRequest));
     }
-    let aim = opened.aim?;
-    Ok(ask(alloc, aim, &input.as_slice()[opened.length..end])?)
+    let bytes = input.as_slice();
+    let Ok(target) = str::from_utf8(head.target.of(bytes)) else {
+        return Ok(Asked::Reject(Rejection::BadRequest));
+    };
+    let method = head.method.of(bytes);
+    Ok(ask(alloc, routes, method, target, &bytes[head.length..end])?)
 }
 
 /// Reads one input, until what it asks for is known: none where it ends before its first byte. No byte behind the body is
@@ -144,12 +130,13 @@ pub fn receive<R: Read>(
     routes: &Routes,
     reader: &mut R,
 ) -> Result<Option<Asked>, ReceiveFault>
-    ensures { IfOk result (λ asked. IfSome (R.remaining reader.old) (λ input. Received input asked)) }
+    ensures received { IfOk result (λ asked. IfSome (R.remaining reader.old) (λ input. Received input asked)) }
+    ensures memory { result ≡ Err ReceiveFault.NoMemory → IfSome (R.remaining reader.old) WantsMemory }
 {
     let mut input = Input::new();
-    match receive_head(alloc, routes, reader, &mut input)? {
+    match receive_head(reader, &mut input)? {
         Opening::Empty => Ok(None),
         Opening::Unreadable => Ok(Some(Asked::Reject(Rejection::BadRequest))),
-        Opening::Whole(opened) => Ok(Some(receive_body(alloc, reader, &mut input, opened)?)),
+        Opening::Whole(head) => Ok(Some(receive_body(alloc, routes, reader, &mut input, head)?)),
     }
 }

@@ -2,7 +2,7 @@ use Rattle.std.proofs.Common.{◌++◌, ap, sym}
 use Rattle.bike_json.specs.Tree.{comma, text_of}
 use Rattle.bike_json.specs.State.{has_more}
 use Rattle.bike_json.proofs.Series.{Wrote_as}
-use Rattle.bike_heads.specs.declared.aim.Rejection.{Rejection}
+use Rattle.bike_heads.specs.declared.rejection.Rejection.{Rejection}
 use Rattle.bike_answers.specs.Bodies.{rejected_tree}
 use Rattle.bike_answers.proofs.body.write_rejected.Goals as goal
 

@@ -10,14 +10,14 @@ use Rattle.bike_http.proofs.exchange.serve_one.Goals as goal
 
 pub returns-in-Ok-Some-clause-served : goal.returns-in-Ok-Some-clause-served
 returns-in-Ok-Some-clause-served g c clean s at =
-    let received = subst (λ (o : Option Asked). IfSome (g.R.Read.remaining c.args.reader.now) (λ bytes. Received bytes o)) c.in-Ok-Some.field-0-is c.in-Ok-Some.ensures in
+    let received = subst (λ (o : Option Asked). IfSome (g.R.Read.remaining c.args.reader.now) (λ bytes. Received bytes o)) c.in-Ok-Some.field-0-is c.in-Ok-Some.ensures.received in
     let d = c.respond.new.desk in
     subst (λ (r : Result Served ServeFault). Serves g.S.Store d s c.args.moment (g.R.Read.remaining c.args.reader.now) (g.W.Write.contents c.args.writer.now) (g.W.Write.contents c.respond.new.writer) r)
     (sym c.ended.ensures) (serves g.S.Store c.respond.new.desk s c.args.moment _ _ _ c.in-Ok-Some.asked received c.respond.result (c.respond.ensures.sent clean s at))
 
 pub returns-in-Ok-Some-clause-done : goal.returns-in-Ok-Some-clause-done
 returns-in-Ok-Some-clause-done g c clean s at is =
-    let received = subst (λ (o : Option Asked). IfSome (g.R.Read.remaining c.args.reader.now) (λ bytes. Received bytes o)) c.in-Ok-Some.field-0-is c.in-Ok-Some.ensures in
+    let received = subst (λ (o : Option Asked). IfSome (g.R.Read.remaining c.args.reader.now) (λ bytes. Received bytes o)) c.in-Ok-Some.field-0-is c.in-Ok-Some.ensures.received in
     is_done g.S.Store c.respond.new.desk s c.args.moment _ _ _ c.in-Ok-Some.asked received c.respond.result (c.respond.ensures.sent clean s at) (sym c.ended.ensures ∙ is)
 
 pub returns-in-Ok-Some-clause-rests : goal.returns-in-Ok-Some-clause-rests
@@ -42,7 +42,7 @@ returns-in-Err-NoMemory-clause-rests g c =
 
 pub returns-in-Ok-Some-clause-refuses : goal.returns-in-Ok-Some-clause-refuses
 returns-in-Ok-Some-clause-refuses g c stopped =
-    let received = subst (λ (o : Option Asked). IfSome (g.R.Read.remaining c.args.reader.now) (λ bytes. Received bytes o)) c.in-Ok-Some.field-0-is c.in-Ok-Some.ensures in
+    let received = subst (λ (o : Option Asked). IfSome (g.R.Read.remaining c.args.reader.now) (λ bytes. Received bytes o)) c.in-Ok-Some.field-0-is c.in-Ok-Some.ensures.received in
     subst (λ (r : Result Served ServeFault). Refuses (g.R.Read.remaining c.args.reader.now) (g.W.Write.contents c.args.writer.now) (g.W.Write.contents c.respond.new.writer) r)
     (sym c.ended.ensures) (stopped_refuses _ _ _ c.in-Ok-Some.asked received c.respond.result (c.respond.ensures.refuses stopped))
 
@@ -53,7 +53,7 @@ returns-in-Err-NoMemory-clause-refuses g c stopped =
 
 pub returns-in-Ok-Some-clause-again : goal.returns-in-Ok-Some-clause-again
 returns-in-Ok-Some-clause-again g c clean s first at came =
-    let received = subst (λ (o : Option Asked). IfSome (g.R.Read.remaining c.args.reader.now) (λ bytes. Received bytes o)) c.in-Ok-Some.field-0-is c.in-Ok-Some.ensures in
+    let received = subst (λ (o : Option Asked). IfSome (g.R.Read.remaining c.args.reader.now) (λ bytes. Received bytes o)) c.in-Ok-Some.field-0-is c.in-Ok-Some.ensures.received in
     let d = c.respond.new.desk in
     sends_again g.S.Store d s c.args.moment _ _ _ first came c.ended.result (subst (λ (r : Result Served ServeFault). Serves g.S.Store d s c.args.moment (g.R.Read.remaining c.args.reader.now) (g.W.Write.contents c.args.writer.now) (g.W.Write.contents c.respond.new.writer) r)
     (sym c.ended.ensures) (serves g.S.Store c.respond.new.desk s c.args.moment _ _ _ c.in-Ok-Some.asked received c.respond.result (c.respond.ensures.sent clean s at)))

@@ -1,7 +1,11 @@
-use Rattle.bike_incoming.proofs.Receiving.{received_whole}
+use Rattle.bike_incoming.proofs.Receiving.{received_whole, received_wants}
 use Rattle.bike_incoming.proofs.incoming.receive.Goals as goal
 
-pub returns-in_ok-receive_body-in-Whole : goal.returns-in_ok-receive_body-in-Whole
-returns-in_ok-receive_body-in-Whole g c =
-    received_whole _ _ _ c.in-Whole.opened _ (rw c.new-input.ensures at c.in_ok-receive_head.ensures.grew) (rw c.in-Whole.is at c.in_ok-receive_head.ensures.opens)
-    c.in_ok-receive_body-in-Whole.ensures
+pub returns-in_ok-receive_body-in-Whole-clause-received : goal.returns-in_ok-receive_body-in-Whole-clause-received
+returns-in_ok-receive_body-in-Whole-clause-received g c =
+    received_whole _ _ _ c.in-Whole.head _ (rw c.new-input.ensures at c.in_ok-receive_head.ensures.grew) (rw c.in-Whole.is at c.in_ok-receive_head.ensures.opens)
+    c.in_ok-receive_body-in-Whole.ensures.asks
+
+pub returns-in_err-receive_body-in-Whole-clause-memory : goal.returns-in_err-receive_body-in-Whole-clause-memory
+returns-in_err-receive_body-in-Whole-clause-memory g c is =
+    received_wants _ _ _ (rw c.new-input.ensures at c.in_ok-receive_head.ensures.grew) (c.in_err-receive_body-in-Whole.ensures.memory (search))

@@ -1,31 +1,34 @@
-use Rattle.std.proofs.Common.{◌≡◌, ◌++◌, false, true, Ok, ap, sym, arith}
+use Rattle.std.proofs.Common.{◌≡◌, ◌++◌, false, true, ap, sym, ◌∙◌, subst, List, ℕ, arith}
 use Rattle.bike_heads.specs.declared.length.BodyLength.{BodyLength}
 use Rattle.bike_incoming.specs.Asked.{asked_behind}
-use Rattle.bike_incoming.proofs.Receiving.{opened_within, asks_known, cut_body, whole_body}
+use Rattle.bike_incoming.proofs.Receiving.{opened_within, asks_known, cut_body, whole_asked, wants_asked, spans_within, no_text}
 use Rattle.bike_incoming.proofs.incoming.receive_body.Goals as goal
 
-pub returns-in-Malformed : goal.returns-in-Malformed
-returns-in-Malformed g c =
-    asks_known _ _ c.args.opened _ c.requires (λ left known. ap (λ (b : BodyLength). asked_behind b c.requires.head (c.requires.rest ++ left)) (sym c.in-Malformed.is))
+pub returns-in-Malformed-clause-asks : goal.returns-in-Malformed-clause-asks
+returns-in-Malformed-clause-asks g c =
+    asks_known _ _ c.args.head _ c.requires (λ left known. ap (λ (b : BodyLength). asked_behind b c.requires.head (c.requires.rest ++ left)) (sym c.in-Malformed.is))
 
-pub returns-in-TooLong : goal.returns-in-TooLong
-returns-in-TooLong g c =
-    asks_known _ _ c.args.opened _ c.requires (λ left known. ap (λ (b : BodyLength). asked_behind b c.requires.head (c.requires.rest ++ left)) (sym c.in-TooLong.is))
+pub returns-in-TooLong-clause-asks : goal.returns-in-TooLong-clause-asks
+returns-in-TooLong-clause-asks g c =
+    asks_known _ _ c.args.head _ c.requires (λ left known. ap (λ (b : BodyLength). asked_behind b c.requires.head (c.requires.rest ++ left)) (sym c.in-TooLong.is))
 
 pub overflow_add-end : goal.overflow_add-end
-overflow_add-end g c = let within = opened_within _ c.args.opened c.in-Of.size c.requires c.in-Of.is in record { fits = omega (arith, within) }
+overflow_add-end g c = let within = opened_within _ c.args.head c.in-Of.size c.requires c.in-Of.is in record { fits = omega (arith, within) }
 
 pub receive_until-requires : goal.receive_until-requires
-receive_until-requires g c = opened_within _ c.args.opened c.in-Of.size c.requires c.in-Of.is
+receive_until-requires g c = opened_within _ c.args.head c.in-Of.size c.requires c.in-Of.is
 
-pub returns-then-not-branch : goal.returns-then-not-branch
-returns-then-not-branch g c =
+pub returns-then-not-branch-clause-asks : goal.returns-then-not-branch-clause-asks
+returns-then-not-branch-clause-asks g c =
     let cut : c.in_ok-receive_until.field-0 ≡ false = search in
-    cut_body _ _ _ _ c.args.opened c.in-Of.size c.requires c.in-Of.is (rw cut at c.in_ok-receive_until.ensures)
+    cut_body _ _ _ _ c.args.head c.in-Of.size c.requires c.in-Of.is (rw cut at c.in_ok-receive_until.ensures)
 
-pub returns : goal.returns
-returns g c =
+pub returns-clause-asks : goal.returns-clause-asks
+returns-clause-asks g c =
     let whole : c.in_ok-receive_until.field-0 ≡ true = search in
-    let given : c.args.opened.aim ≡ Ok c.in_ok-aim.aim = search in
-    whole_body _ _ _ _ c.args.opened c.in-Of.size c.in_ok-aim.aim _ c.requires c.in-Of.is given (rw whole at c.in_ok-receive_until.ensures)
-    (rw c.as_slice.ensures.value at c.in_ok-ask.ensures)
+    whole_asked _ _ _ _ c.args.head c.in-Of.size _ _ _ _ c.requires c.in-Of.is (rw whole at c.in_ok-receive_until.ensures) (search) (search) (search) c.in_ok-ask.ensures.asked
+
+pub returns-in_err-ask-clause-memory : goal.returns-in_err-ask-clause-memory
+returns-in_err-ask-clause-memory g c is =
+    let whole : c.in_ok-receive_until.field-0 ≡ true = search in
+    wants_asked _ _ _ _ c.args.head c.in-Of.size _ _ c.requires c.in-Of.is (rw whole at c.in_ok-receive_until.ensures) (search) (search) c.in_err-ask.ensures.memory
