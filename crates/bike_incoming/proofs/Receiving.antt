@@ -1,5 +1,5 @@
 -- What the bytes that were read say of the whole input.
-use Rattle.std.proofs.Common.{◌≡◌, ℕ, zero, suc, ◌+◌, ◌-◌, ◌<◌, ◌≤◌, List, [], ◌∷◌, ◌++◌, Bool, true, false, if◌then◌else◌, Option, Some, None, IfSome, nat_le, nat_lt, length, take, drop, map, slice_range, refl, sym, ap, ◌∙◌, subst, inl, inr, arith, append-nil, append_assoc, length-append, length-take}
+use Rattle.std.proofs.Common.{◌≡◌, ℕ, zero, suc, ◌+◌, ◌-◌, ◌<◌, ◌≤◌, List, [], ◌∷◌, ◌++◌, Bool, true, false, if◌then◌else◌, Option, Some, None, IfSome, Result, Ok, Err, IsErrAnd, nat_le, nat_lt, length, take, drop, map, slice_range, refl, sym, ap, ◌∙◌, subst, inl, inr, arith, append-nil, append_assoc, length-append, length-take}
 use Rattle.std.proofs.Math.Seq.{take-append-add, drop-append_seam}
 use Rattle.std.proofs.lemmas.Bool.{lt-leb, le-leb, lt-ltb}
 use Rattle.std.proofs.lemmas.Bool.Decides.{nat_tests}
@@ -25,6 +25,8 @@ use Rattle.bike_incoming.specs.Received.{Grew, Came, ReadsMore, Fills, IsOpened,
 use Rattle.bike_incoming.specs.declared.asked.Asked.{Asked}
 use Rattle.bike_incoming.specs.declared.asked.Asked.TheVariants.{Reject}
 use Rattle.bike_incoming.specs.declared.incoming.Opening.TheVariants.{Empty, Unreadable}
+use Rattle.bike_incoming.specs.declared.incoming.ReceiveFault.{ReceiveFault}
+use Rattle.bike_incoming.specs.declared.incoming.ReceiveFault.TheVariants.{NoMemory}
 
 pub nonempty : (head : RequestHead) → IsRequestHead head → 0 < length (print_request head)
 unfolding print_request
@@ -256,6 +258,15 @@ received_wants (Some all) b read grew wants =
     let (left, known, whole) = all_read all b [] read grew in
     let here : WantsMemory (read ++ left) = rw known at wants in
     subst WantsMemory (sym whole) here
+
+-- a want of memory that is handed on was one before
+want_before : {A B : Type 0} (fault other : ReceiveFault) → other ≡ fault → ◌≡◌ {A = Result B ReceiveFault} (Err other) (Err NoMemory) → ◌≡◌ {A = Result A ReceiveFault} (Err fault) (Err NoMemory)
+want_before fault other told is = cc
+
+pub want_told : {A B : Type 0} (fault : ReceiveFault) (result : Result B ReceiveFault) → IsErrAnd result (λ told. told ≡ fault)
+    → result ≡ Err NoMemory → ◌≡◌ {A = Result A ReceiveFault} (Err fault) (Err NoMemory)
+want_told fault (Ok x) told is = absurd told
+want_told fault (Err other) told is = want_before fault other told is
 
 -- ---- one read
 

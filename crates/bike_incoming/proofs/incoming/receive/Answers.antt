@@ -1,4 +1,4 @@
-use Rattle.bike_incoming.proofs.Receiving.{received_whole, received_wants}
+use Rattle.bike_incoming.proofs.Receiving.{received_whole, received_wants, want_told}
 use Rattle.bike_incoming.proofs.incoming.receive.Goals as goal
 
 pub returns-in_ok-receive_body-in-Whole-clause-received : goal.returns-in_ok-receive_body-in-Whole-clause-received
@@ -8,4 +8,5 @@ returns-in_ok-receive_body-in-Whole-clause-received g c =
 
 pub returns-in_err-receive_body-in-Whole-clause-memory : goal.returns-in_err-receive_body-in-Whole-clause-memory
 returns-in_err-receive_body-in-Whole-clause-memory g c is =
-    received_wants _ _ _ (rw c.new-input.ensures at c.in_ok-receive_head.ensures.grew) (c.in_err-receive_body-in-Whole.ensures.memory (search))
+    received_wants _ _ _ (rw c.new-input.ensures at c.in_ok-receive_head.ensures.grew) (c.in_err-receive_body-in-Whole.ensures.memory
+    (want_told c.in_err-receive_body-in-Whole.field-0.0 _ c.from_residual-in_err-receive_body-in-Whole.ensures.1 is))

@@ -1,7 +1,7 @@
-use Rattle.std.proofs.Common.{◌≡◌, ◌++◌, false, true, ap, sym, ◌∙◌, subst, List, ℕ, arith}
+use Rattle.std.proofs.Common.{◌≡◌, ◌++◌, ◌+◌, false, true, ap, sym, ◌∙◌, List, ℕ, slice_range, arith}
 use Rattle.bike_heads.specs.declared.length.BodyLength.{BodyLength}
 use Rattle.bike_incoming.specs.Asked.{asked_behind}
-use Rattle.bike_incoming.proofs.Receiving.{opened_within, asks_known, cut_body, whole_asked, wants_asked, spans_within, no_text}
+use Rattle.bike_incoming.proofs.Receiving.{opened_within, asks_known, cut_body, whole_asked, wants_asked}
 use Rattle.bike_incoming.proofs.incoming.receive_body.Goals as goal
 
 pub returns-in-Malformed-clause-asks : goal.returns-in-Malformed-clause-asks
@@ -26,9 +26,11 @@ returns-then-not-branch-clause-asks g c =
 pub returns-clause-asks : goal.returns-clause-asks
 returns-clause-asks g c =
     let whole : c.in_ok-receive_until.field-0 ≡ true = search in
-    whole_asked _ _ _ _ c.args.head c.in-Of.size _ _ _ _ c.requires c.in-Of.is (rw whole at c.in_ok-receive_until.ensures) (search) (search) (search) c.in_ok-ask.ensures.asked
+    whole_asked _ _ _ _ c.args.head c.in-Of.size _ _ _ _ c.requires c.in-Of.is (rw whole at c.in_ok-receive_until.ensures)
+    (rw c.as_slice-bytes.ensures.value at c.of-method.ensures) (c.in-Ok.ensures.cases.0 ∙ (rw c.as_slice-bytes.ensures.value at c.of.ensures)) (ap (λ (l : List ℕ). slice_range l c.args.head.length (c.args.head.length + c.in-Of.size)) c.as_slice-bytes.ensures.value) c.in_ok-ask.ensures.asked
 
 pub returns-in_err-ask-clause-memory : goal.returns-in_err-ask-clause-memory
 returns-in_err-ask-clause-memory g c is =
     let whole : c.in_ok-receive_until.field-0 ≡ true = search in
-    wants_asked _ _ _ _ c.args.head c.in-Of.size _ _ c.requires c.in-Of.is (rw whole at c.in_ok-receive_until.ensures) (search) (search) c.in_err-ask.ensures.memory
+    wants_asked _ _ _ _ c.args.head c.in-Of.size c.of-method.result.now c.in-Ok.target.now c.requires c.in-Of.is (rw whole at c.in_ok-receive_until.ensures)
+    (rw c.as_slice-bytes.ensures.value at c.of-method.ensures) (c.in-Ok.ensures.cases.0 ∙ (rw c.as_slice-bytes.ensures.value at c.of.ensures)) c.in_err-ask.ensures.memory
