@@ -17,9 +17,11 @@ use Rattle.bike_feed_texts.specs.Trees.{feed_tree}
 use Rattle.bike_feed_texts.specs.Writing.{WroteValue}
 use Rattle.bike_operator.specs.Operator.{Operator}
 use Rattle.bike_desk.specs.Desk.{DeskValue, desk_state, IsAt}
+use Rattle.bike_desk.specs.declared.fault.DeskFault.{DeskFault}
+use Rattle.bike_desk.specs.declared.fault.DeskFault.TheVariants.{NoMemory, StoreFailed, Stopped}
 use Rattle.bike_desk.specs.Queries.{Queries}
 use Rattle.bike_feeds.specs.declared.fault.FeedFault.{FeedFault}
-use Rattle.bike_feeds.specs.declared.fault.FeedFault.TheVariants.{SystemMissing, Write}
+use Rattle.bike_feeds.specs.declared.fault.FeedFault.TheVariants.{SystemMissing, Write, Desk}
 use Rattle.bike_feeds.specs.Publishing.{LeavesDesk, WantsNoMemory, feed_text, IsPublished, IsBegun, IsTooLong, MayFailToWrite}
 use Rattle.bike_feeds.specs.Listings.{elements, listing_text}
 use Rattle.bike_feeds.specs.declared.listing.Listing.{Listing}
@@ -137,6 +139,27 @@ module _ {S : Type 0} (g : Ghosts S) {d e : DeskValue S} (o : Option SystemRow) 
     publish_cause clean s at failed =
         let before = earlier g e f w.desk.clean clean in
         why_failed s x feed moment a (has x is before s at) (w.cause clean s (asked.same before s at) failed)
+
+-- the first question failed, of a desk that may be stopped
+leaves_first : {S A B : Type 0} (g : Ghosts S) {says : Operator → A → Type 0} {d e : DeskValue S} (fault : DeskFault) → Queries g d e (Err fault) says
+    → LeavesDesk g d e {A = B} (Err (Desk fault))
+leaves_first {S} g fault q = record {
+  clean = q.clean;
+  same = λ clean s at. tt;
+  missing = λ clean s at is. absurd cc;
+  write = λ clean s at is. absurd cc;
+  no_memory = λ clean s at is. let same : fault ≡ NoMemory = cc in subst (λ (x : DeskValue S). IsAt g x s) (sym (q.no_memory (ap (λ (x : DeskFault). Err x) same))) at;
+  left = q.left;
+  goes_on = tt;
+  stops = λ is. let same : fault ≡ StoreFailed = cc in q.stops (ap (λ (x : DeskFault). Err x) same);
+  stopped = λ is. let same : fault ≡ Stopped = cc in q.stopped (ap (λ (x : DeskFault). Err x) same);
+  stays = λ is_stopped. let both = q.stays is_stopped in (let same : fault ≡ Stopped = (let r = both.0 in cc) in ap (λ (x : DeskFault). Err (Desk x)) same, both.1);
+}
+
+pub leaves_unasked : {S A B : Type 0} (g : Ghosts S) {says : Operator → A → Type 0} {d e : DeskValue S} (fault : DeskFault) (result : Result B FeedFault)
+    → IsErrAnd result (λ told. told ≡ Desk fault) → Queries g d e (Err fault) says → LeavesDesk g d e result
+leaves_unasked g fault (Ok x) told q = absurd told
+leaves_unasked {B = B} g {d = d} {e = e} fault (Err other) told q = subst (λ (f : FeedFault). LeavesDesk g d e {A = B} (Err f)) (sym told) (leaves_first g fault q)
 
 -- ---- what callers are told
 

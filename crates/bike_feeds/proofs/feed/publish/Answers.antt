@@ -1,9 +1,12 @@
 use Rattle.bike_feeds.proofs.DeskLemmas.{no_want}
-use Rattle.bike_feeds.proofs.FeedLemmas.{nothing_begun, on_err, publish_missing, publish_leaves, publish_whole, publish_front, publish_cause}
+use Rattle.bike_feeds.proofs.FeedLemmas.{leaves_unasked, nothing_begun, on_err, publish_missing, publish_leaves, publish_whole, publish_front, publish_cause}
 use Rattle.bike_feeds.proofs.feed.publish.Goals as goal
 
 pub returns-in_err-system-clause-front : goal.returns-in_err-system-clause-front
 returns-in_err-system-clause-front g c clean s at = on_err _ (nothing_begun s c.args.feed c.args.moment (g.W.Output.contents c.args.out.now).bytes)
+
+pub returns-in_err-system-clause-desk : goal.returns-in_err-system-clause-desk
+returns-in_err-system-clause-desk g c = leaves_unasked g.S.Store c.in_err-system.field-0.0 _ c.from_residual.ensures.1 c.in_err-system.ensures.query
 
 pub returns-in_err-system-clause-takes_none : goal.returns-in_err-system-clause-takes_none
 returns-in_err-system-clause-takes_none g c = no_want c.in_err-system.field-0.0 _ c.from_residual.ensures.1 c.in_err-system.ensures.takes_none
