@@ -1,5 +1,5 @@
 -- How a word over a file ends.
-use Rattle.std.proofs.Common.{◌≡◌, ℕ, true, false, List, Option, Some, Result, Ok, Err, IfOk, sym, subst}
+use Rattle.std.proofs.Common.{ℕ, List, Option, Some, Result, Ok, Err, IfOk, sym, subst}
 use Rattle.sqlite_disk.specs.declared.Disk as disk
 use Rattle.sqlite_wal.specs.Recovery.{Image}
 use Rattle.sqlite_store.specs.declared.store.FileStore.{FileStore}
@@ -10,8 +10,8 @@ use Rattle.bike_command_line.specs.declared.task.FileTask.{FileTask}
 use Rattle.bike_console.specs.declared.end.Fault.{Fault}
 use Rattle.bike_console.specs.declared.closing.Remains.{Remains}
 use Rattle.bike_console.specs.declared.closing.Remains.TheVariants.{Open, Settled, Unsettled}
-use Rattle.bike_console.specs.Closing.{Closes, is_log_kept}
-use Rattle.bike_app.specs.Files.{DoesOverFile, EndsOnFile, IsAlone, settles}
+use Rattle.bike_console.specs.Closing.{Closes}
+use Rattle.bike_app.specs.Files.{DoesOverFile, EndsOnFile, IsAlone}
 
 module _ {D : Type 0} {g : disk.Ghosts D} (image : Image) (input ahead old new : Option (List ℕ)) (task : FileTask) (clock : Option ℕ) (conn : Held (FileStore D g)) (end : Result ℕ Fault)
     (does : HasCleanDisk (file_state conn) → DoesOverFile image input ahead old new task clock conn end) where
