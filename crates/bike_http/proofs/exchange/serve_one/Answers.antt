@@ -66,6 +66,6 @@ returns-in-Err-NoMemory-clause-again g c clean s at first came =
 
 pub returns-in-Ok-Some-clause-tables : goal.returns-in-Ok-Some-clause-tables
 returns-in-Ok-Some-clause-tables g c clean s at =
-    let received = subst (λ (o : Option Asked). IfSome (g.R.Read.remaining c.args.reader.now) (λ bytes. Received bytes o)) c.in-Ok-Some.field-0-is c.in-Ok-Some.ensures in
+    let received = subst (λ (o : Option Asked). IfSome (g.R.Read.remaining c.args.reader.now) (λ bytes. Received bytes o)) c.in-Ok-Some.field-0-is c.in-Ok-Some.ensures.received in
     leaves_tables g.S.Store c.args.desk.now c.respond.new.desk s c.args.moment (g.R.Read.remaining c.args.reader.now) c.in-Ok-Some.asked received
     (c.respond.ensures.rests clean s at)
