@@ -65,7 +65,7 @@ ASKED = [
     "mark-dock a1 3 broken", "mark-dock b2 1 broken", "mark-dock b2 1 working", "mark-bike 11 disabled",
     "set-station c3 false true true", "set-rider 19 blocked", "retire-bike 8",
     "change-system Stadtrad Mo-Su office@example.org Europe/Rome https://bikes.example 60",
-    "move-station c3 -0.000001 180", "move-station c3 45 9.1", "add-docks c3 499", "mark-dock c3 500 broken",
+    "move-station c3 -0.000001 180", "move-station c3 45 9.1", "add-docks c3 4", "mark-dock c3 5 broken",
 ]
 
 
