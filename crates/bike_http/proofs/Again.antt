@@ -66,7 +66,7 @@ module _ {S : Type 0} (g : Ghosts S) (d : DeskValue S) (s : Operator) (t : ℕ) 
 
   sent_again : (sent : Response) → TellsFor g d s t input sent → IsFirstOrNone first sent × (d.is_stopped ≡ false → IsAt g d s)
   sent_again sent told = elim told [
-    | inl none ↦ (inr none.0, λ going. none.1)
+    | inl none ↦ (inr none.0, λ going. none.2)
     | inr some ↦ told_again some.response sent some.next some.answers (tells_any g d s some.answers.asked some.told)
   ]
 
