@@ -8,12 +8,12 @@ use crate::stored::Sums;
 use bike_accepted::{Accepted, Booked, Change};
 use bike_fixed::Moment;
 
-/// The operator's moment and sums, and how many rentals, orders and entries he has.
+/// The operator's moment and sums, and how many rentals, orders and entries it has.
 #[derive(Clone, Copy)]
 pub struct Figures {
     /// The greatest moment of an accepted request.
     pub now: Moment,
-    /// His sums.
+    /// Its sums.
     pub sums: Sums,
     /// How many rentals there are.
     pub rentals: u32,

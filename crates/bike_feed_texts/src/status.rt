@@ -27,7 +27,7 @@ pub struct TypeCount {
 pub struct Counts<'a> {
     /// The bicycles that are fit and in a dock that isn't broken.
     pub available: u32,
-    /// The same of each vehicle type of the system.
+    /// Of these, how many there are of each vehicle type of the system.
     pub by_type: &'a [TypeCount],
     /// The other bicycles in its docks.
     pub disabled: u32,

@@ -25,7 +25,7 @@ use Rattle.bike_http.specs.declared.exchange.ServeFault.TheVariants.{Read, Write
 
 -- ---- the desk
 
--- A request failed: the desk goes on at the operator before it, or it is stopped, and a crash leaves him or the one after it.
+-- A request failed: the desk goes on at the operator before it, or it is stopped, and a crash leaves it or the one after it.
 pub record IsUndone {S : Type 0} (g : Ghosts S) (d : DeskValue S) (s next : Operator) : Type 0 where
   pub goes_on : d.is_stopped ≡ false → IsAt g d s
   pub left : AllLeft (desk_state g d) (TreesStandForEither s next)
@@ -65,7 +65,7 @@ IsDone g d s t input = (response : Response) × (next : Operator) × Answers inp
 
 -- ---- the tables
 
--- what was asked leaves the operator as he is, and isn't a question
+-- what was asked leaves the operator as it is, and isn't a question
 abbrev pub LeavesOperator : Operator → ℕ → Asked → Type 0
 LeavesOperator s t (Reject rejection) = Unit {0}
 LeavesOperator s t (Apply q) = (step s t q).1 ≡ s

@@ -36,13 +36,13 @@ pub fn money_law()
     ensures { (s : Operator) → IsSound s → IsConserved (keys s.riders) s.entries }
 {}
 
-/// The law of money over lists: after every list of requests from the operator of whom nothing was asked, the
+/// The law of money over lists: after every list of requests from the operator of which nothing was asked, the
 /// balances of all riders and the revenue together are the cash.
 pub fn money_law_over_lists()
     ensures { (cs : List Call) → AreCalls cs → IsConserved (keys (after no_operator cs).riders) (after no_operator cs).entries }
 {}
 
-/// The operator of whom nothing was asked yet is sound.
+/// The operator of which nothing was asked yet is sound.
 pub fn no_operator_law()
     ensures { IsSound no_operator }
 {}
