@@ -58,7 +58,8 @@ impl Figures {
     /// operator's.
     pub fn after(&self, now: Moment, accepted: &Accepted<'_>) -> Option<Figures>
         ensures figures { IfSome result (λ figures. figures ≡ figures_after self.entry.now now accepted.now) }
-        ensures some { IfSome accepted.now.entry (λ _. IsBalance self.entry.now.sums.cash × IsBalance self.entry.now.sums.revenue)
+        ensures some { IfSome accepted.now.entry
+            (λ _. IsBalance self.entry.now.sums.cash × IsBalance self.entry.now.sums.revenue)
             → IsSome result }
     {
         let Some(sums) = self.sums.with(&accepted.entry) else {
