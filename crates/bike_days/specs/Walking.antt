@@ -12,7 +12,7 @@ use Rattle.bike_days.specs.declared.fault.DayTableFault.{DayTableFault}
 use Rattle.bike_days.specs.declared.fault.DayTableFault.TheVariants.{Day, Write, Desk}
 use Rattle.bike_days.specs.Ends.{AppendsUntil, LeavesDesk}
 
--- the desk was asked, goes on, and is at the operator at whom it was
+-- the desk was asked, goes on, and is at the operator at which it was
 pub record StaysAt {S : Type 0} (g : Ghosts S) (old new : DeskValue S) : Type 0 where
   pub clean : doubt (desk_state g old).is_clean ≤ doubt (desk_state g new).is_clean
   pub same : HasCleanDisk (desk_state g new) → (s : Operator) → IsAt g old s → IsAt g new s

@@ -59,7 +59,7 @@ pub record IsRemembered (s : Operator) (r : Remembered) : Type 0 where
   pub newest : IsTrue r.newest_tells → NewestTells s
   pub figures : AreFigures r.figures s
 
--- The desk goes on; its tables and all that a crash may leave stand for the operator. What it remembers is so of him.
+-- The desk goes on; its tables and all that a crash may leave stand for the operator. What it remembers is so of that operator.
 pub record IsAt {S : Type 0} (g : Ghosts S) (d : DeskValue S) (s : Operator) : Type 0 where
   pub goes_on : d.is_stopped ≡ false
   pub keeps : Keeps (state g d.conn) s

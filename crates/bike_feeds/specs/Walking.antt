@@ -19,7 +19,7 @@ use Rattle.bike_feeds.specs.declared.fault.FeedFault.{FeedFault}
 use Rattle.bike_feeds.specs.declared.fault.FeedFault.TheVariants.{Write}
 use Rattle.bike_feeds.specs.Publishing.{LeavesDesk, WantsNoMemory, feed_text}
 
--- the desk was asked, goes on, and is at the operator at whom it was
+-- the desk was asked, goes on, and is at the operator at which it was
 pub record StaysAt {S : Type 0} (g : Ghosts S) (old new : DeskValue S) : Type 0 where
   pub clean : doubt (desk_state g old).is_clean ≤ doubt (desk_state g new).is_clean
   pub same : OfOperator g old new (λ s. IsAt g new s)

@@ -25,7 +25,7 @@ use Rattle.bike_http.specs.declared.exchange.ServeFault.TheVariants.{Read, Write
 
 -- ---- the desk
 
--- A request failed: the desk goes on at the operator before it, or it is stopped, and a crash leaves him or the one after it.
+-- A request failed: the desk goes on at the operator before it, or it is stopped, and a crash leaves it or the one after it.
 pub record IsUndone {S : Type 0} (g : Ghosts S) (d : DeskValue S) (s next : Operator) : Type 0 where
   pub goes_on : d.is_stopped ≡ false → IsAt g d s
   pub left : AllLeft (desk_state g d) (TreesStandForEither s next)
