@@ -75,7 +75,7 @@ def setting(table, column, key, value):
 def blamed(tables, table, column, value):
     """The keys of rows that are to get the value, one for each table that has the blame then."""
     found = {}
-    for at, row in enumerate(tables[table]):
+    for at, row in list(enumerate(tables[table]))[-4:]:
         rows = [*tables[table][:at], {**row, column: stored(value)}, *tables[table][at + 1 :]]
         key = [plain(it) for it in list(row.values())[: TABLES[table]]]
         found.setdefault(verdict({**tables, table: rows})[2].split(b" ")[:2][-1], key)
