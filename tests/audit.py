@@ -1,113 +1,63 @@
-"""What `check` has to say of a database file, worked out by Python alone from docs/FORMATS.md, sections 10 and 11. It
-holds no test.
+"""What `check` has to say of a database file, worked out by Python alone from docs/FORMATS.md, sections 10 and 11. The
+tables, their columns and the bounds of each are those of section 10's table. It holds no test.
 """
 
 import contextlib
+import re
 import sqlite3
 
 import formats
-from shared import FOREIGN, SOUND
+from shared import FOREIGN, SOUND, TOP
 
 NEWEST = 3
-TABLES = {
-    "meta": 1, "system": 1, "plans": 1, "segments": 2, "types": 1, "regions": 1, "stations_3": 1, "docks": 2,
-    "bikes": 1, "trucks": 1, "riders": 1, "rentals": 1, "orders": 1, "entries": 1, "kept": 2, "counts": 2,
-    "more_names": 3,
+SECTION = (TOP / "docs/FORMATS.md").read_text(encoding="utf-8").split("## 10. Database", 1)[1].split("\n## ", 1)[0]
+# The columns of each table, each with its mark and its bounds as they are written.
+COLUMNS = {
+    table: re.findall(r"(\w+)([*?]?) \(([^)]+)\)", columns.split(";")[0])
+    for table, columns in re.findall(r"^\| ([a-z_0-9]+) \| (\w+\* \([^|]+)\|", SECTION, re.M)
 }
+TABLES = {table: sum(mark == "*" for _, mark, _ in columns) for table, columns in COLUMNS.items()}
+MAY_BE_NULL = {table: {name for name, mark, _ in columns if mark == "?"} for table, columns in COLUMNS.items()}
+WRITTEN = {table: {name: bounds for name, _, bounds in columns} for table, columns in COLUMNS.items()}
+# What is written for the same bounds of many columns: of numbers, and of texts.
+SPANS = dict(re.findall(r"\*\*(\w+)\*\* (?:is )?(-?[\d,]*\d to -?[\d,]*\d)", " ".join(SECTION.split())))
 TEXTS = {
-    "app", "system_id", "language", "name", "hours", "contact", "zone", "currency", "base_url", "plan_id",
-    "description", "type_id", "form", "propulsion", "region_id", "station_id", "from_station", "to_station", "from_end",
-    "to_end", "caller", "req_key", "command", "reply", "id",
-}
-MAY_BE_NULL = {
-    "segments": {"finish"}, "stations_3": {"region_id"}, "bikes": {"station_id", "dock", "rental", "truck", "ord"},
-    "rentals": {"to_station", "finish", "fare"},
+    "identifier": formats.is_ident, "name": formats.is_name_value, "ASCII": formats.is_ascii_value,
+    "language": formats.is_language, "currency": formats.is_currency, "end": formats.is_end,
+    "caller": formats.is_caller, "key": formats.is_key, "command": lambda it: formats.command_text(it) == it,
+    "reply": lambda it: formats.is_reply(it) and not it.startswith(b"refused"),
 }
 
 
-def is_of_text(table, column):
-    """Whether the column holds texts. An entry's kind is a number, and a name's a word."""
-    return column in TEXTS or (table, column) == ("more_names", "kind")
+def span_of(bounds):
+    """The least and the greatest number of bounds as they are written, or none where they are those of texts."""
+    ends = re.fullmatch(r"(-?[\d,]+)(?: to (-?[\d,]+))?", SPANS.get(bounds, bounds))
+    return ends and tuple(int(it.replace(",", "")) for it in (ends[1], ends[2] or ends[1]))
 
 
-def is_within(least, most):
-    return lambda it: isinstance(it, int) and least <= it <= most
+def words_of(bounds):
+    return [it.encode() for it in re.findall("`([^`]+)`", bounds)]
 
 
-def is_text(good):
+def keeps(bounds):
+    """Whether a value keeps the bounds that are written so."""
+    if span_of(bounds):
+        least, most = span_of(bounds)
+        return lambda it: isinstance(it, int) and least <= it <= most
+    good = words_of(bounds).__contains__ if words_of(bounds) else TEXTS[bounds]
     return lambda it: isinstance(it, bytes) and good(it)
 
 
-ANY = is_within(-(2**63), 2**63 - 1)
-FLAG, MOMENT = is_within(0, 1), is_within(0, formats.LAST_MOMENT)
-NUMBERED, SERIAL, DOCK = is_within(*formats.NUMBERED), is_within(*formats.SERIAL), is_within(1, formats.MOST_DOCKS)
-IDENT, NAME, ASCII, END = (
-    is_text(it) for it in (formats.is_ident, formats.is_name_value, formats.is_ascii_value, formats.is_end)
-)
-FARE = is_within(0, formats.GREATEST_FARE)
+BOUNDS = {table: {name: keeps(bounds) for name, bounds in columns.items()} for table, columns in WRITTEN.items()}
 
 
-def word(*words):
-    return lambda it: it in [word.encode() for word in words]
-
-
-BOUNDS = {
-    "meta": {
-        "one": is_within(1, 1), "app": word("bikeshare"), "version": is_within(NEWEST, NEWEST), "now": MOMENT,
-        "cash": ANY, "revenue": ANY,
-    },
-    "system": {
-        "one": is_within(1, 1), "system_id": IDENT, "language": is_text(formats.is_language), "name": NAME,
-        "hours": ASCII, "contact": ASCII, "zone": ASCII, "currency": is_text(formats.is_currency), "base_url": ASCII,
-        "ttl": is_within(0, 86_400),
-    },
-    "plans": {"plan_id": IDENT, "name": NAME, "price": is_within(0, 1_000_000), "taxable": FLAG, "description": NAME},
-    "segments": {
-        "plan_id": IDENT, "seq": is_within(1, 8), "start": is_within(0, 100_000), "rate": is_within(-100_000, 100_000),
-        "every": is_within(0, 100_000), "finish": is_within(0, 100_000),
-    },
-    "types": {
-        "type_id": IDENT, "name": NAME, "form": word("bicycle", "cargo_bicycle"),
-        "propulsion": word("human", "electric_assist"), "range_m": is_within(0, 1_000_000), "plan_id": IDENT,
-    },
-    "regions": {"region_id": IDENT, "name": NAME},
-    "stations_3": {
-        "station_id": IDENT, "name": NAME, "lat": is_within(-90_000_000, 90_000_000),
-        "lon": is_within(-180_000_000, 180_000_000), "docks": DOCK, "installed": FLAG, "renting": FLAG,
-        "returning": FLAG, "reported": MOMENT, "free": ANY, "broken": ANY, "region_id": IDENT,
-    },
-    "docks": {"station_id": IDENT, "dock": DOCK, "broken": FLAG},
-    "bikes": {
-        "bike": NUMBERED, "type_id": IDENT, "state": is_within(0, 2), "station_id": IDENT, "dock": DOCK,
-        "rental": SERIAL, "truck": NUMBERED, "ord": SERIAL,
-    },
-    "trucks": {"truck": NUMBERED, "capacity": is_within(1, 60)},
-    "riders": {"rider": NUMBERED, "blocked": FLAG, "balance": ANY},
-    "rentals": {
-        "rental": SERIAL, "rider": NUMBERED, "bike": NUMBERED, "plan_id": IDENT, "from_station": IDENT, "start": MOMENT,
-        "to_station": IDENT, "finish": MOMENT, "fare": FARE, "refunded": ANY,
-    },
-    "orders": {
-        "ord": SERIAL, "truck": NUMBERED, "from_end": END, "to_end": END, "type_id": IDENT,
-        "quantity": is_within(1, 60), "delivered": is_within(0, 60), "is_open": FLAG,
-    },
-    "entries": {
-        "entry": SERIAL, "kind": is_within(1, 3), "rider": NUMBERED, "rental": is_within(0, 100_000_000), "amount": ANY,
-        "at": MOMENT,
-    },
-    "kept": {
-        "caller": is_text(formats.is_caller),
-        "req_key": is_text(formats.is_key),
-        "command": is_text(lambda it: formats.command_text(it) == it),
-        "reply": is_text(lambda it: formats.is_reply(it) and not it.startswith(b"refused")),
-    },
-    "counts": {"station_id": IDENT, "type_id": IDENT, "available": ANY, "disabled": ANY},
-    "more_names": {"kind": word(*formats.NAMED), "id": IDENT, "language": is_text(formats.is_language), "name": NAME},
-}
+def is_of_text(table, column):
+    """Whether the column holds texts."""
+    return span_of(WRITTEN[table][column]) is None
 
 
 def agree(table, row):
-    """Conditions within one row, which count as bounds of its fields."""
+    """What the table has behind a semicolon: conditions within one row, which are bounds too."""
     if table == "segments":
         return row["finish"] is None or row["finish"] > row["start"]
     if table == "types":

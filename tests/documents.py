@@ -224,7 +224,7 @@ def test_counts(program):
     texts = {name: " ".join(text.split()) for name, text in documents().items()}
     rules, formats_, reading = (documents()[f"docs/{it}.md"] for it in ("OPERATOR", "FORMATS", "READING"))
     crates = len(list(TOP.glob("crates/*")))
-    tables = len(re.findall(r"^\| [a-z_0-9]+ \| \S+\*, ", formats_.split("## 10. Database", 1)[1], re.M))
+    tables = len(re.findall(r"^\| [a-z_0-9]+ \| \S+\* \(", formats_.split("## 10. Database", 1)[1], re.M))
     commands = len(re.findall(r"^\| \*\*[a-z-]+\*\* \|", rules, re.M))
     replies = formats_.split("## 3. Answer lines", 1)[1].split("\n## ", 1)[0].count("\n| ") - 1
     contracts = len(re.findall(r"^## \d+\. [^`\n]+: `[\w:]+`$", reading, re.M))
