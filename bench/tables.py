@@ -19,6 +19,7 @@ MEASURED = (
 )
 RAM, HTTP = "traffic on a file, RAM disk", "HTTP, RAM disk"
 COMMAND, START = "one command, RAM disk", "a start, RAM disk"
+NAMES = "further names, 5,000 stations,"
 LARGE, GET = "station_status, 5,000 stations, 32 types,", "GET: server's processor us"
 
 # How a run's own tables begin and the row in it; and by what its figures are divided.
@@ -39,6 +40,8 @@ MEASURES = {
     "large-wall": (LARGE, "GET: median, wall us", 1000),
     "large-memory": (LARGE, "`feed`: peak memory, MB"),
     "large-opening": (LARGE, "`lines` of no line: peak memory, MB"),
+    "plain": (NAMES, "station_information, no further names: server's processor us"),
+    "named": (NAMES, "station_information, three for each station: server's processor us"),
     "check": ("opening, RAM disk", "`check`: processor s"),
     "none": (START, "rentals before: none"),
     "many": (START, "rentals before: 4,000"),
@@ -64,7 +67,7 @@ for name, title in {
     MEASURES |= {f"{name}-{it}": (f"growth: {title}", f"{it:,} closed rentals") for it in SIZES}
 
 # Figures beside others of the same program and turn, and what is taken off.
-BESIDE = {"past": ("many", "none", 0)}
+BESIDE = {"past": ("many", "none", 0), "names": ("named", "plain", 0)}
 BESIDE |= {f"audit-{it}": (f"checked-{it}", f"opened-{it}", 1) for it in SIZES}
 KINDS = {
     "median": statistics.median,
@@ -101,7 +104,7 @@ class Row:
         pattern = "".join(re.escape(plain) + (NUMBERS if names else "") for plain, names, _ in self.parts)
         found = re.match(pattern, line)
         if not found:
-            raise ValueError(f"{line}: {pattern}")
+            raise ValueError(f"it isn't a row of the form {pattern}: {line}")
         figures = {}
         for (_, names, _), text in zip((it for it in self.parts if it[1]), found.groups()):
             values = [float(it.replace(",", "")) for it in text.split("; ")]
@@ -204,7 +207,11 @@ GOALS = [
             it["bikeshare.large-wall"] <= 1000 and it["bikeshare.large-memory"] <= it["bikeshare.large-opening"] + 1
         ),
     ),
-    Row("- `station_information` of 5,000, with three further names each, beside none"),
+    Row(
+        "- `station_information` of 5,000, with three further names each, beside none", "twice of it", "", "",
+        "{bikeshare.names:3} times",
+        reached=at_most("bikeshare.names", 2),
+    ),
     Row(
         "8. opening with its audit (`check`): the city", "2 s", "{c.check}", "", "{bikeshare.check} s",
         reached=at_most("bikeshare.check", 2),
@@ -343,7 +350,11 @@ class Found:
 def lines_of(document):
     """The lines of a document's tables, by their first cells."""
     lines = [it for it in document.splitlines() if it.startswith("| ")]
-    return {it[2:].split(" |")[0]: it for it in reversed(lines)}
+    found = {it[2:].split(" |")[0]: it for it in reversed(lines)}
+    for row in itertools.chain(*(rows for _, rows in TABLES.values())):
+        if row.label not in found:
+            raise ValueError(f"the document has no row {row.label}")
+    return found
 
 
 def read(document):

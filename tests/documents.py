@@ -79,7 +79,7 @@ def test_tables_of_figures(program):
         for row in rows.splitlines():
             assert row in text.splitlines(), f"bench/run --document prints, for {title}: {row}"
         assert f"\n\n{rows}\n" in text.split(f"\n## {title}\n", 1)[1].split("\n## ", 1)[0], title
-    assert [why for _, why in kept] == ["that a part measures"] * 2, kept
+    assert [why for _, why in kept] == ["that a part measures"], kept
     pattern = re.sub(r"\\\{\w+\\\}", "(.+)", re.escape(tables.MEASURED))
     assert re.search(pattern, " ".join(text.split())), pattern
     title = "traffic on a file, disk (blocks of 500 requests)"
