@@ -69,6 +69,31 @@ def test_axes_of_pictures(program):
             assert max(each) - min(each) < 0.01 * abs(each[0]), (picture, rows)
 
 
+def test_tables_of_figures(program):
+    """bench/run --document prints the tables of docs/PERFORMANCE.md as they stand there, from the figures that stand in
+    them; other figures where a run has some; and whether a goal is reached by the figures that are shown."""
+    tables, text = loaded(TOP / "bench/tables.py"), documents()["docs/PERFORMANCE.md"]
+    figures, kept = tables.read(text), []
+    assert len(figures) > 150, len(figures)
+    for title, rows in tables.written(figures, text, lambda *it: kept.append(it)).items():
+        for row in rows.splitlines():
+            assert row in text.splitlines(), f"bench/run --document prints, for {title}: {row}"
+        assert f"\n\n{rows}\n" in text.split(f"\n## {title}\n", 1)[1].split("\n## ", 1)[0], title
+    assert [why for _, why in kept] == ["that a part measures"], kept
+    pattern = re.sub(r"\\\{\w+\\\}", "(.+)", re.escape(tables.MEASURED))
+    assert re.search(pattern, " ".join(text.split())), pattern
+    title = "traffic on a file, disk (blocks of 500 requests)"
+    taken = {"c": [200, 300, 500], "python": [300, 600, 500], "bikeshare": [100, 309, 450]}
+    kept, found = [], tables.Found({title: {"wall us a request": taken}})
+    goals = tables.written(found, text, lambda label, _: kept.append(label))["Goals"].splitlines()
+    wanted = "| 2. the same on a disk: wall, microseconds | at most C's | 300 | 1.5 times | 309, 0.90 times | yes |"
+    assert [it for it in goals if it not in text.splitlines()] == [wanted], goals
+    assert len(kept) == sum(len(rows) for _, rows in tables.TABLES.values()) - 1, kept
+    assert tables.shown([0.094, 0.996, 9.96, 99.6, 1036.4], 2) == "0.09; 1.0; 10; 100; 1,036"
+    assert tables.shown([0.996, 9.996, 99.96, 5], 3) == "1.00; 10.0; 100; 5.00"
+    assert tables.shown([2.76, 2.84], 2) == "2.8"
+
+
 def test_wrong_bodies(program):
     """docs/GATE.md lists the must-fail edits that the gate tries, and says how many there are of them and in
     review/."""
