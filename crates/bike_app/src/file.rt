@@ -14,7 +14,9 @@ ghost use Rattle.bike_app.specs.Files.{DoesOverFile, EndsOnFile, IsAlone, IsUnto
 use crate::words::{run_words, run_words_in_memory};
 use bike_adoption::Watch;
 use bike_command_line::FileTask;
-use bike_console::{Fault, NewLog, Remains, may_be_blank, open_blank, open_file, prepare_file, settle};
+use bike_console::{
+    Fault, NewLog, Remains, may_be_blank, open_blank, open_file, prepare_file, settle,
+};
 use bike_fixed::Moment;
 use sqlite::{Connection, FileFrom, FileStore, Start};
 use std::io::{Read, Write};

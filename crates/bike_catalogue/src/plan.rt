@@ -37,7 +37,7 @@ impl Model for Plan {
       price = a.price;
       taxable = a.taxable;
       description = a.description;
-      segments = a.segments.items
+      segments = a.segments.items;
     } };
 
     ghost invariant = { λ a. length a.segments.items ≤ MOST_SEGMENTS };

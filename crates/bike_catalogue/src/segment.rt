@@ -31,7 +31,7 @@ impl Model for Segment {
       start = a.start;
       rate = a.rate;
       interval = a.interval;
-      end = a.end
+      end = a.end;
     }) };
 
     ghost inverse = { λ r. record { start = r.start; rate = r.rate; interval = r.interval; end = r.end } };
@@ -83,8 +83,12 @@ impl Segment {
         interval: u32,
         end: Option<u32>,
     ) -> Result<Segment, FieldFault>
-        ensures { let row : SegmentRow = record { start = start; rate = rate;
-            interval = interval; end = end } in
+        ensures { let row : SegmentRow = record {
+          start = start;
+          rate = rate;
+          interval = interval;
+          end = end;
+        } in
             result ≡ value_or_fault row (segment_fault row) }
     {
         let start: SegmentMinute = in_range(Field::Start, start)?;

@@ -31,7 +31,7 @@ impl Model for Station {
       name = a.name;
       lat = a.lat;
       lon = a.lon;
-      docks = a.docks
+      docks = a.docks;
     } };
 
     ghost invariant = { λ a. IsLatitude a.lat };

@@ -34,7 +34,7 @@ impl Model for VehicleType {
       form = a.form;
       propulsion = a.propulsion;
       max_range = a.max_range;
-      plan_id = a.plan_id
+      plan_id = a.plan_id;
     } };
 
     ghost invariant = { λ a. IsRange a.propulsion a.max_range };

@@ -44,7 +44,7 @@ impl Model for Entry {
       rider = a.rider;
       rental = a.rental;
       amount = a.amount;
-      at = a.at
+      at = a.at;
     } };
 
     ghost invariant = { λ a. IsEntry (record {
@@ -53,7 +53,7 @@ impl Model for Entry {
       rider = a.rider;
       rental = a.rental;
       amount = a.amount;
-      at = a.at
+      at = a.at;
     }) };
 
     ghost inverse = { λ e. record {
@@ -62,15 +62,21 @@ impl Model for Entry {
       rider = e.rider;
       rental = e.rental;
       amount = e.amount;
-      at = e.at
+      at = e.at;
     } };
 }
 
 impl Entry {
     /// The entry of a top-up, of 1 to 1,000,000 hundredths.
     pub fn top_up(number: EntryNumber, rider: RiderNumber, amount: Payment, at: Moment) -> Entry
-        ensures { result ≡ record { number = number; kind = EntryKind.TopUp; rider = rider; rental = 0;
-            amount = pos amount; at = at } }
+        ensures { result ≡ record {
+          number = number;
+          kind = EntryKind.TopUp;
+          rider = rider;
+          rental = 0;
+          amount = pos amount;
+          at = at;
+        } }
     {
         Entry {
             number,
@@ -92,8 +98,14 @@ impl Entry {
     ) -> Entry
         requires low { pos 0 ≤ℤ amount }
         requires high { amount ≤ℤ GREATEST_FARE }
-        ensures { result ≡ record { number = number; kind = EntryKind.Fare; rider = rider; rental = rental;
-            amount = amount; at = at } }
+        ensures { result ≡ record {
+          number = number;
+          kind = EntryKind.Fare;
+          rider = rider;
+          rental = rental;
+          amount = amount;
+          at = at;
+        } }
     {
         let rental = some(rental);
         Entry {
@@ -114,8 +126,14 @@ impl Entry {
         amount: Payment,
         at: Moment,
     ) -> Entry
-        ensures { result ≡ record { number = number; kind = EntryKind.Refund; rider = rider; rental = rental;
-            amount = pos amount; at = at } }
+        ensures { result ≡ record {
+          number = number;
+          kind = EntryKind.Refund;
+          rider = rider;
+          rental = rental;
+          amount = pos amount;
+          at = at;
+        } }
     {
         let rental = some(rental);
         Entry {
