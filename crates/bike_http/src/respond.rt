@@ -59,7 +59,7 @@ fn act<S: Alter>(alloc: Global, desk: &mut Desk<S>, moment: Moment, request: &Re
 {
     // What is booked is a good request at a moment of the program.
     request.bounds();
-    let _ = moment.seconds();
+    moment.bounds();
     match desk.apply(alloc, moment, request) {
         Ok(reply) => Answer::Replied(reply),
         Err(_) => Answer::Unavailable,
