@@ -20,7 +20,6 @@ use Rattle.bike_migrate.specs.Raising.{TreesStandSince}
 use Rattle.bike_recognition.specs.Added.{has_added_unique}
 use Rattle.bike_command_line.specs.declared.task.FileTask.{FileTask}
 use Rattle.bike_command_line.specs.declared.task.FileTask.TheVariants.{Init, Raise, Lines, Import}
-use Rattle.bike_console.specs.declared.blank_file.BlankFile.{BlankFile}
 use Rattle.bike_console.specs.declared.end.Fault.{Fault}
 use Rattle.bike_console.specs.declared.end.Fault.TheVariants.{StoreFailed}
 use Rattle.bike_console.specs.declared.closing.Remains.{Remains}
@@ -81,6 +80,14 @@ pub record EndsSettled {D : Type 0} (g : disk.Ghosts D) (image : Image) (input a
   pub does : HasCleanDisk (file_state last) → DoesOverFile image input ahead old new task clock last end
   pub alone : AreClean g files.log files.db → IsCopied last files
 
+-- The task only looks, the file is blank, and it was done over a database in memory.
+pub record LooksAtBlank {D : Type 0} (g : disk.Ghosts D) (image : Image) (input ahead old new : Option (List ℕ)) (task : FileTask) (clock : Option ℕ)
+    (end : Result ℕ Fault) : Type 0 where
+  pub looks : settles task ≡ false
+  pub files : Files D
+  pub blank : FindsBlank g image files
+  pub does : DoesInMemory input ahead old new task clock end
+
 module _ {D : Type 0} {g : disk.Ghosts D} (image : Image) (input ahead old new : Option (List ℕ)) (task : FileTask) (clock : Option ℕ) where
   -- The task was done over a connection, and its log couldn't be brought into the file.
   pub record EndsUnsettled (store : FileStore D g) (end : Result ℕ Fault) : Type 0 where
@@ -90,16 +97,9 @@ module _ {D : Type 0} {g : disk.Ghosts D} (image : Image) (input ahead old new :
     pub kept : IsClosed last store
     pub told : end ≡ Err StoreFailed
 
-  -- The task only looks, the file is blank, and it was done over a database in memory.
-  pub record LooksAtBlank (end : Result ℕ Fault) : Type 0 where
-    pub looks : settles task ≡ false
-    pub found : BlankFile D g
-    pub blank : FindsBlank image found
-    pub does : DoesInMemory input ahead old new task clock end
-
   -- HOW A WORD OVER A FILE ENDS: by what is left of its connection
   abbrev pub EndsOnFile : Option (Remains D g) → Result ℕ Fault → Type 0
-  EndsOnFile None end = IsNotThere input ahead old new end ⊎ (IsUntouched {D = D} {g = g} image None input ahead old new end ⊎ LooksAtBlank end)
+  EndsOnFile None end = IsNotThere input ahead old new end ⊎ (IsUntouched {D = D} {g = g} image None input ahead old new end ⊎ LooksAtBlank g image input ahead old new task clock end)
   EndsOnFile (Some (remains.Open c)) end = HasCleanDisk (file_state c) → DoesOverFile image input ahead old new task clock c end
   EndsOnFile (Some (remains.Settled files)) end = EndsSettled g image input ahead old new task clock files end
   EndsOnFile (Some (remains.Unsettled store)) end = EndsUnsettled store end

@@ -94,8 +94,9 @@ fn look_at_blank<F: Start, R: Read, W: Write>(
         (W.contents writer.old) (W.contents writer.new) task.now clock result.0 result.1 }
 {
     match open_blank(rt, path, start) {
-        Ok(Some(_)) => {
+        Ok(Some(found)) => {
             let end = run_words_in_memory(rt.alloc(), task, clock, reader, writer);
+            drop(found);
             (None, end)
         }
         // It was written to since its length was looked at, or its log may hold commits.

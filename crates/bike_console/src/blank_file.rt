@@ -4,19 +4,14 @@ ghost use Rattle.std.specs.Prelude.{◌↔◌, IfOk, IfErr, IfSome, IsTrue};
 ghost use Rattle.sqlite.specs.Files.{image_of};
 ghost use Rattle.sqlite_wal.specs.Files.{image_at};
 ghost use Rattle.sqlite_wal.specs.Reads.{AreClean, OnlyReads};
-ghost use Rattle.bike_console.specs.Files.{FindsBlank, IsBlank, IsOpeningFault};
+ghost use Rattle.bike_console.specs.Files.{HoldsBlank, IsBlank, IsOpeningFault};
 
+use crate::closing::Remains;
 use crate::end::Fault;
 use crate::file::{LEAST_LOG, open_pair};
 use crate::place::NewLog;
 use sqlite::{FileFrom, Files, Start};
 use sqlite_disk::Disk;
-
-/// A database file of at most one byte, beside a log that holds no commit. Both are locked.
-#[derive(Drop)]
-pub struct BlankFile<D: Disk> {
-    pub files: Files<D>,
-}
 
 /// Whether the database file has at most one byte, beside a log that holds no commit.
 fn is_blank<D: Disk>(files: &mut Files<D>) -> Result<bool, Fault>
@@ -40,24 +35,28 @@ fn is_blank<D: Disk>(files: &mut Files<D>) -> Result<bool, Fault>
     }
 }
 
-/// The blank file at a path; none where the file has more bytes, or stands beside a log that may hold commits. Both are only read, and
-/// a log that wasn't there isn't left. A fault is that of an opening.
+/// The blank file at a path with its log, both locked; none where the file has more bytes, or stands beside a log that may hold commits.
+/// Both are only read, and a log that wasn't there isn't left. A fault is that of an opening.
 pub fn open_blank<F: Start>(
     rt: &HostRuntime,
     path: &str,
     start: F,
-) -> Result<Option<BlankFile<FileFrom<F>>>, Fault>
-    ensures blank { IfOk result (λ found. IfSome found (FindsBlank (image_at F.Start))) }
+) -> Result<Option<Remains<FileFrom<F>>>, Fault>
+    ensures blank { IfOk result (λ found. IfSome found (HoldsBlank (image_at F.Start))) }
     ensures fault { IfErr result IsOpeningFault }
 {
     let made = NewLog::beside(rt, path);
     let mut files = open_pair(rt, path, start)?;
-    let blank = is_blank(&mut files);
-    // The files are still locked, so that nobody else has opened the log.
-    made.remove(rt);
-    match blank {
-        Ok(true) => Ok(Some(BlankFile { files })),
-        Ok(false) => Ok(None),
+    // The files are still locked where the log is removed, so that nobody else has opened it.
+    match is_blank(&mut files) {
+        Ok(true) => {
+            made.remove(rt);
+            Ok(Some(Remains::Settled(files)))
+        }
+        Ok(false) => {
+            made.remove(rt);
+            Ok(None)
+        }
         Err(fault) => Err(fault),
     }
 }

@@ -13,7 +13,7 @@ mod pieces;
 mod place;
 mod progress;
 
-pub use blank_file::{BlankFile, open_blank};
+pub use blank_file::open_blank;
 pub use closing::{Remains, settle};
 pub use end::{Fault, exit_code};
 pub use file::{LEAST_LOG, open_file};
