@@ -82,7 +82,7 @@ def test_databases_of_others(program):
 
 @quickly
 def test_files_of_a_byte_or_none(program):
-    """They stay so, with a log beside them that holds no commit, and without one; `lines` makes a city of them as ever."""
+    """They stay so, with a log beside them that holds no commit, and without one. `lines` makes a city of them."""
     for data in b"", b"S":
         for log in None, b"", b"x" * 100:
             file = Path(program.folder, "city.db")
