@@ -1,6 +1,6 @@
 //! The words over the database file at a path: how it is opened, what is done over it, and how it is closed.
 
-ghost use Rattle.std.specs.Prelude.{◌≡◌, true, IfSome, IsNone, IfOk};
+ghost use Rattle.std.specs.Prelude.{◌≡◌, true, false, IfSome, IsNone, IfOk};
 ghost use Rattle.sqlite.specs.State.{HasCleanDisk};
 ghost use Rattle.sqlite.specs.Files.{file_state};
 ghost use Rattle.sqlite_wal.specs.Files.{image_at};
